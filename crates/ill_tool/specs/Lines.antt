@@ -1,0 +1,92 @@
+-- The lines that show an APDU.
+use Rattle.std.specs.Prelude.{ℕ, Bool, true, false, List, [], ◌∷◌, ◌++◌, Option, Some, None, codes}
+use Rattle.std.specs.Fmt.{decimal}
+use Rattle.ill_values.specs.declared.apdu.Apdu.{Apdu}
+use Rattle.ill_values.specs.declared.apdu.Body.{Body}
+use Rattle.ill_values.specs.declared.apdu.Body.TheVariants.{IllRequest, IllAnswer, ConditionalReply, Cancel, CancelReply, Shipped, Received, Recall, Returned, CheckedIn, Overdue, Renew, RenewAnswer, Expired}
+use Rattle.ill_values.specs.declared.apdu.AnswerResult.{AnswerResult}
+use Rattle.ill_values.specs.declared.apdu.AnswerResult.TheVariants.{Conditional, Retry, Unfilled, LocationsProvided, WillSupply, HoldPlaced, Estimate}
+use Rattle.ill_values.specs.Day.{Date, date_text}
+use Rattle.ill_values.specs.TxnId.{Qualifiers}
+
+-- a line: a label, a space, a value and a line feed
+unfoldable pub line : List ℕ → List ℕ → List ℕ
+line label value = label ++ 32 ∷ value ++ 10 ∷ []
+
+-- the name of a type of APDU
+abbrev pub name_of : Body → List ℕ
+name_of (IllRequest expiry item) = codes "ILL-Request"
+name_of (IllAnswer result) = codes "ILL-Answer"
+name_of (ConditionalReply answers accepts) = codes "Conditional-Reply"
+name_of Cancel = codes "Cancel"
+name_of (CancelReply answers accepts) = codes "Cancel-Reply"
+name_of (Shipped due) = codes "Shipped"
+name_of Received = codes "Received"
+name_of Recall = codes "Recall"
+name_of Returned = codes "Returned"
+name_of CheckedIn = codes "Checked-In"
+name_of (Overdue due) = codes "Overdue"
+name_of (Renew wished) = codes "Renew"
+name_of (RenewAnswer answers granted) = codes "Renew-Answer"
+name_of Expired = codes "Expired"
+
+-- the word of a result
+abbrev pub word_of : AnswerResult → List ℕ
+word_of Conditional = codes "conditional"
+word_of Retry = codes "retry"
+word_of Unfilled = codes "unfilled"
+word_of LocationsProvided = codes "locations-provided"
+word_of WillSupply = codes "will-supply"
+word_of HoldPlaced = codes "hold-placed"
+word_of Estimate = codes "estimate"
+
+abbrev pub reply_word : Bool → List ℕ
+reply_word true = codes "yes"
+reply_word false = codes "no"
+
+abbrev pub number_line : List ℕ → ℕ → List ℕ
+number_line label n = line label (decimal n)
+
+abbrev pub date_line : Date → List ℕ
+date_line d = line (codes "date") (date_text d)
+
+abbrev pub optional_date_line : Option Date → List ℕ
+optional_date_line None = []
+optional_date_line (Some d) = date_line d
+
+abbrev pub reply_lines : ℕ → Bool → List ℕ
+reply_lines answers accepts = number_line (codes "answers") answers ++ line (codes "reply") (reply_word accepts)
+
+-- a renewal is granted by a date, and refused without one
+abbrev pub grant_lines : ℕ → Option Date → List ℕ
+grant_lines answers None = reply_lines answers false
+grant_lines answers (Some d) = reply_lines answers true ++ date_line d
+
+-- the lines of the further fields
+abbrev pub field_lines : Body → List ℕ
+field_lines (IllRequest expiry item) = optional_date_line expiry ++ line (codes "item") item
+field_lines (IllAnswer result) = line (codes "result") (word_of result)
+field_lines (ConditionalReply answers accepts) = reply_lines answers accepts
+field_lines Cancel = []
+field_lines (CancelReply answers accepts) = reply_lines answers accepts
+field_lines (Shipped due) = date_line due
+field_lines Received = []
+field_lines Recall = []
+field_lines Returned = []
+field_lines CheckedIn = []
+field_lines (Overdue due) = date_line due
+field_lines (Renew wished) = optional_date_line wished
+field_lines (RenewAnswer answers granted) = grant_lines answers granted
+field_lines Expired = []
+
+-- the lines of a transaction id
+abbrev pub id_lines : Qualifiers → List ℕ
+id_lines id = line (codes "group") id.group ++ line (codes "transaction") id.transaction
+
+-- the lines of what each APDU has: its type, its transaction and its number
+abbrev pub head_lines : Apdu → List ℕ
+head_lines apdu = line (codes "apdu") (name_of apdu.body) ++ (id_lines apdu.txn ++ number_line (codes "number") apdu.number)
+
+-- the lines of an APDU
+unfoldable pub shown : Apdu → List ℕ
+shown apdu = head_lines apdu ++ field_lines apdu.body

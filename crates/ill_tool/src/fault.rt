@@ -1,0 +1,49 @@
+//! Why a command stopped.
+
+ghost use Rattle.std.specs.Prelude.{◌≡◌};
+ghost use Rattle.ill_tool.specs.Show.{tool_fault};
+ghost use Rattle.ill_tool.specs.declared.fault.ToolFault.TheVariants.{OutOfMemory};
+
+use crate::der::fault::DerFault;
+use crate::der::stream::ReadFault;
+use std::alloc::AllocError;
+use thiserror::Error;
+
+/// Why a command stopped. What was written before stays written.
+#[derive(Clone, Copy, Debug, PartialEq, Eq, Hash, Error)]
+pub enum ToolFault {
+    /// The input has these bytes where an APDU must stand. This is never `DerFault::OutOfMemory`.
+    #[error("{0}")]
+    Der(DerFault),
+    /// The input has more than 100,000 APDUs.
+    #[error("too-many")]
+    TooMany,
+    /// The reader failed.
+    #[error("read")]
+    Read,
+    /// The writer failed.
+    #[error("write")]
+    Write,
+    #[error("memory")]
+    OutOfMemory,
+}
+
+impl From<ReadFault> for ToolFault {
+    ghost from_gives = { λ fault tool. tool ≡ tool_fault fault };
+
+    fn from(fault: ReadFault) -> ToolFault {
+        match fault {
+            ReadFault::Bytes(fault) => ToolFault::Der(fault),
+            ReadFault::Read => ToolFault::Read,
+            ReadFault::OutOfMemory => ToolFault::OutOfMemory,
+        }
+    }
+}
+
+impl From<AllocError> for ToolFault {
+    ghost from_gives = { λ _ tool. tool ≡ OutOfMemory };
+
+    fn from(_error: AllocError) -> ToolFault {
+        ToolFault::OutOfMemory
+    }
+}

@@ -1,0 +1,85 @@
+//! The command `show`.
+
+ghost use Rattle.ill_tool.specs.Show.{Shows, ShowsNext, EndsFull, WritesFront};
+
+use crate::der::stream::read_apdu;
+use crate::fault::ToolFault;
+use crate::lines::push_apdu;
+use std::alloc::Global;
+use std::io::{Read, Write};
+
+/// The most APDUs of one input.
+const MOST_APDUS: u32 = 100_000;
+
+/// Writes the lines of each APDU of the input, to its end, and answers how many there were.
+///
+/// With a fault of bytes, too many APDUs or a failing reader, the lines of the APDUs before it are
+/// written; without memory, those of a front of them; after a failing writer, a front of that text.
+pub fn run_show<R: Read, W: Write>(
+    alloc: Global,
+    reader: &mut R,
+    writer: &mut W,
+) -> Result<u32, ToolFault>
+    ensures { Shows (R.remaining reader.old) (R.remaining reader.new)
+        (W.contents writer.old) (W.contents writer.new) result }
+{
+    let mut lines = Vec::new(alloc);
+    for count in 0..MOST_APDUS {
+        match show_next(alloc, reader, writer, &mut lines) {
+            Ok(true) => {}
+            Ok(false) => return Ok(count),
+            Err(fault) => return Err(fault),
+        }
+    }
+    end(alloc, reader)
+}
+
+/// Finds the end of an input of which so many APDUs were read as it may have.
+fn end<R: Read>(alloc: Global, reader: &mut R) -> Result<u32, ToolFault>
+    ensures { EndsFull (R.remaining reader.old) (R.remaining reader.new) result }
+{
+    match read_apdu(alloc, reader) {
+        Ok(None) => Ok(MOST_APDUS),
+        Ok(Some(_)) => Err(ToolFault::TooMany),
+        Err(fault) => Err(fault.into()),
+    }
+}
+
+/// Shows the next APDU, by way of the buffer, and answers whether there was one.
+fn show_next<R: Read, W: Write>(
+    alloc: Global,
+    reader: &mut R,
+    writer: &mut W,
+    lines: &mut Vec<u8>,
+) -> Result<bool, ToolFault>
+    ensures { ShowsNext (R.remaining reader.old) (R.remaining reader.new)
+        (W.contents writer.old) (W.contents writer.new) result }
+{
+    match read_apdu(alloc, reader) {
+        Ok(None) => Ok(false),
+        Ok(Some(apdu)) => {
+            lines.clear();
+            push_apdu(lines, &apdu)?;
+            write_whole(writer, lines)?;
+            Ok(true)
+        }
+        Err(fault) => Err(fault.into()),
+    }
+}
+
+/// Writes all of the bytes, or a front of them where the writer fails.
+fn write_whole<W: Write>(writer: &mut W, bytes: &[u8]) -> Result<(), ToolFault>
+    ensures { WritesFront (W.contents writer.old) (W.contents writer.new) bytes.now result }
+{
+    let mut written = 0;
+    for _ in 0..bytes.len() {
+        if written == bytes.len() {
+            return Ok(());
+        }
+        match writer.write(&bytes[written..]) {
+            Ok(count) if count > 0 => written += count,
+            _ => return Err(ToolFault::Write),
+        }
+    }
+    Ok(())
+}

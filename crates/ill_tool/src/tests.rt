@@ -1,0 +1,12 @@
+mod show;
+mod streams;
+mod words;
+
+/// A Cancel, number 2, of transaction G1, T1.
+pub const CANCEL: [u8; 18] = [
+    0x66, 0x10, 0x80, 0x01, 0x01, 0xA1, 0x08, 0x81, 0x02, 0x47, 0x31, 0x82, 0x02, 0x54, 0x31, 0x82,
+    0x01, 0x02,
+];
+
+/// The lines of that Cancel.
+pub const CANCEL_LINES: &str = "apdu Cancel\ngroup G1\ntransaction T1\nnumber 2\n";

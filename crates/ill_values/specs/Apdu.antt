@@ -1,0 +1,36 @@
+-- APDUs whose parts are in range.
+use Rattle.std.specs.Prelude.{ℕ, ◌≤◌, IfSome}
+use Rattle.ill_values.specs.declared.apdu.Apdu.{Apdu}
+use Rattle.ill_values.specs.declared.apdu.Body.{Body}
+use Rattle.ill_values.specs.declared.apdu.Body.TheVariants.{IllRequest, IllAnswer, ConditionalReply, Cancel, CancelReply, Shipped, Received, Recall, Returned, CheckedIn, Overdue, Renew, RenewAnswer, Expired}
+use Rattle.ill_values.specs.Day.{IsDate}
+use Rattle.ill_values.specs.Text.{IsItem}
+use Rattle.ill_values.specs.TxnId.{AreQualifiers}
+
+-- a number of a message
+abbrev pub IsNumber : ℕ → Type 0
+IsNumber n = (1 ≤ n) × (n ≤ 255)
+
+-- the fields of a message are in range
+abbrev pub IsBody : Body → Type 0
+IsBody (IllRequest expiry item) = IfSome expiry IsDate × IsItem item
+IsBody (IllAnswer result) = Unit {0}
+IsBody (ConditionalReply answers answer) = IsNumber answers
+IsBody Cancel = Unit {0}
+IsBody (CancelReply answers answer) = IsNumber answers
+IsBody (Shipped due) = IsDate due
+IsBody Received = Unit {0}
+IsBody Recall = Unit {0}
+IsBody Returned = Unit {0}
+IsBody CheckedIn = Unit {0}
+IsBody (Overdue due) = IsDate due
+IsBody (Renew wished) = IfSome wished IsDate
+IsBody (RenewAnswer answers granted) = IsNumber answers × IfSome granted IsDate
+IsBody Expired = Unit {0}
+
+-- Each part of the message is in range. A clause that ranges over all messages has this as its
+-- premise, since there a number is any number and a text any list.
+pub record IsApdu (apdu : Apdu) : Type 0 where
+  pub txn : AreQualifiers apdu.txn
+  pub number : IsNumber apdu.number
+  pub body : IsBody apdu.body

@@ -1,0 +1,4 @@
+pub mod Day
+pub mod Text
+pub mod TxnId
+pub mod Apdu

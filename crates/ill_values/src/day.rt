@@ -1,0 +1,119 @@
+//! Calendar days.
+
+ghost use Rattle.std.specs.Prelude.{◌≡◌, ◌+◌, ◌-◌, ◌*◌, ◌%◌, ◌<◌, ◌≤◌, length, slice_index, EachIndex};
+ghost use Rattle.std.specs.List.{list_all};
+ghost use Rattle.std.specs.Char.{is_ascii_digit};
+ghost use Rattle.std.specs.Bool.{OnTrue};
+ghost use Rattle.std.specs.Int.{IsInRange};
+ghost use Rattle.ill_values.specs.Day.{Date, IsDate, is_in_year, eight_digits, two_digits_at, date_of, date_text, read_date};
+
+use crate::fault::DayFault;
+use jiff::civil;
+use std::marker::Model;
+
+/// A day of the Gregorian calendar, from 1 January 1900 to 31 December 9999.
+///
+/// Days are ordered as the calendar has them.
+#[derive(Clone, Copy, Debug, PartialEq, Eq, PartialOrd, Ord, Hash)]
+pub struct Day {
+    year: u16,
+    month: u8,
+    day: u8,
+}
+
+impl Model for Day {
+    ghost Value = { Date };
+
+    ghost view = { λ d. record { year = d.year; month = d.month; day = d.day } };
+
+    ghost invariant = { λ d. IsDate (record { year = d.year; month = d.month; day = d.day }) };
+
+    ghost inverse = { λ d. record { year = d.year; month = d.month; day = d.day } };
+}
+
+impl Day {
+    /// The day, where the calendar has it and its year is 1900 to 9999.
+    pub fn new(year: u16, month: u8, day: u8) -> Result<Day, DayFault>
+        ensures { result ≡ date_of year month day }
+    {
+        if year < 1900 || year > 9999 {
+            return Err(DayFault::OutOfRange);
+        }
+        if is_in_calendar(year, month, day) {
+            Ok(Day { year, month, day })
+        } else {
+            Err(DayFault::NotADate)
+        }
+    }
+
+    /// The day that eight digits spell, as `20250315`.
+    pub fn read(text: &[u8]) -> Result<Day, DayFault>
+        ensures { result ≡ read_date text.now }
+    {
+        if !is_eight_digits(text) {
+            return Err(DayFault::NotDigits);
+        }
+        let year = u16::from(two_digits(text, 0)) * 100 + u16::from(two_digits(text, 2));
+        Day::new(year, two_digits(text, 4), two_digits(text, 6))
+    }
+
+    /// The day as eight digits, as `20250315`.
+    pub fn digits(&self) -> [u8; 8]
+        ensures { result ≡ date_text self.now }
+    {
+        [
+            last_digit(self.year / 1000),
+            last_digit(self.year / 100),
+            last_digit(self.year / 10),
+            last_digit(self.year),
+            last_digit(u16::from(self.month / 10)),
+            last_digit(u16::from(self.month)),
+            last_digit(u16::from(self.day / 10)),
+            last_digit(u16::from(self.day)),
+        ]
+    }
+}
+
+/// Whether the calendar has this day, in a year up to 9999.
+fn is_in_calendar(year: u16, month: u8, day: u8) -> bool
+    requires { year ≤ 9999 }
+    ensures { result ≡ is_in_year year month day }
+{
+    if month > 12 || day > 31 {
+        return false;
+    }
+    civil::Date::new(year as i16, month as i8, day as i8).is_ok()
+}
+
+fn is_eight_digits(text: &[u8]) -> bool
+    ensures value { result ≡ eight_digits text.now }
+    ensures length { OnTrue result (length text.now ≡ 8) }
+    ensures digits { OnTrue result (EachIndex text.now (λ k. IsInRange 48 57 (slice_index text.now k))) }
+{
+    text.len() == 8 && is_digits(text)
+}
+
+fn is_digits(text: &[u8]) -> bool
+    ensures value { result ≡ list_all is_ascii_digit text.now }
+    ensures each { OnTrue result (EachIndex text.now (λ k. IsInRange 48 57 (slice_index text.now k))) }
+{
+    text.iter().all(|byte| byte.is_ascii_digit())
+}
+
+/// The number that the two digits from a place on spell.
+fn two_digits(text: &[u8], place: usize) -> u8
+    requires place { place < 7 }
+    requires length { length text.now ≡ 8 }
+    requires digits { EachIndex text.now (λ k. IsInRange 48 57 (slice_index text.now k)) }
+    ensures value { result ≡ two_digits_at text.now place }
+    ensures bound { result ≤ 99 }
+{
+    (text[place] - b'0') * 10 + (text[place + 1] - b'0')
+}
+
+/// The last digit of a number, in ASCII.
+fn last_digit(number: u16) -> u8
+    ensures { result ≡ 48 + number % 10 }
+{
+    b'0' + (number % 10) as u8
+}

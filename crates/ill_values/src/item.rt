@@ -1,0 +1,67 @@
+//! Items.
+
+ghost use Rattle.std.specs.Prelude.{◌≡◌, ℕ, List, is_ok};
+ghost use Rattle.std.specs.Str.{bytes_eq};
+ghost use Rattle.std.specs.Cmp.Rules.{comparing};
+ghost use Rattle.std.proofs.Common.{rules};
+ghost use Rattle.ill_values.specs.Text.{item_check, item_of, IsItem, Gives};
+
+use crate::fault::TextFault;
+use crate::text::check_item;
+use std::alloc::Global;
+use std::marker::Model;
+
+/// What a request asks for: 1 to 200 bytes of UTF-8 without the control characters of ASCII.
+#[derive(Debug, Drop)]
+pub struct Item {
+    text: Vec<u8>,
+}
+
+impl Model for Item {
+    ghost Value = { List ℕ };
+
+    ghost view = { λ item. item.text.items };
+
+    ghost invariant = { λ item. IsItem item.text.items };
+}
+
+impl PartialEq for Item {
+    ghost eq = { bytes_eq };
+
+    ghost laws = { Prim.search (comparing, rules) };
+
+    fn eq(&self, other: &Item) -> bool {
+        self.text == other.text
+    }
+}
+
+impl Eq for Item {
+    ghost laws = { Prim.search (comparing, rules) };
+}
+
+impl Item {
+    /// The item with this text.
+    pub fn new(alloc: Global, text: &[u8]) -> Result<Item, TextFault>
+        ensures { Gives (item_of text.now) result }
+    {
+        check_item(text)?;
+        Ok(Item {
+            text: Vec::from_slice(alloc, text)?,
+        })
+    }
+
+    /// Whether a text is an item.
+    pub fn is_item(text: &[u8]) -> bool
+        ensures { result ≡ is_ok (item_check text.now) }
+    {
+        check_item(text).is_ok()
+    }
+
+    /// The bytes of the item.
+    pub fn text(&self) -> &[u8]
+        ensures bytes { result.now ≡ self.now }
+        ensures item { IsItem self.now }
+    {
+        &self.text
+    }
+}

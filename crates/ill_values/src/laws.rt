@@ -1,0 +1,64 @@
+//! What holds of the values, as contracts of functions that do nothing.
+
+ghost use Rattle.std.specs.Prelude.{◌≡◌, ◌↔◌, ℕ, List, IsTrue, Ok};
+ghost use Rattle.ill_values.specs.TxnId.{Qualifiers};
+ghost use Rattle.ill_values.specs.declared.apdu.Apdu.{Apdu};
+ghost use Rattle.ill_values.specs.declared.apdu.Body.{Body};
+ghost use Rattle.ill_values.specs.declared.apdu.AnswerResult.{AnswerResult};
+ghost use Rattle.ill_values.specs.Day.{Date, IsDate, IsBefore, date_text, read_date};
+
+use crate::apdu::{AnswerResult, Apdu, Body};
+use crate::day::Day;
+use crate::item::Item;
+use crate::number::Number;
+use crate::txn_id::TxnId;
+use std::cmp::Ordering;
+
+/// Transaction ids are equal exactly where both qualifiers are.
+pub fn equal_txn_ids()
+    ensures { (a b : Qualifiers) → IsTrue (⟦<TxnId as PartialEq>⟧.eq a b) ↔ (a ≡ b) }
+{}
+
+/// Items are equal exactly where their bytes are.
+pub fn equal_items()
+    ensures { (a b : List ℕ) → IsTrue (⟦<Item as PartialEq>⟧.eq a b) ↔ (a ≡ b) }
+{}
+
+/// Numbers are equal exactly where what `get` gives is.
+pub fn equal_numbers()
+    ensures { (a b : ℕ) → IsTrue (⟦<Number as PartialEq>⟧.eq a b) ↔ (a ≡ b) }
+{}
+
+/// Days are equal exactly where year, month and day of the month are.
+pub fn equal_days()
+    ensures { (a b : Date) → IsTrue (⟦<Day as PartialEq>⟧.eq a b) ↔ (a ≡ b) }
+{}
+
+/// A day is less than another exactly where it comes before it in the calendar.
+pub fn ordered_days()
+    ensures { (a b : Date) → (⟦<Day as Ord>⟧.cmp a b ≡ Ordering.Less) ↔ IsBefore a b }
+{}
+
+/// Results are equal exactly where they are the same variant.
+pub fn equal_results()
+    ensures { (a b : AnswerResult) → IsTrue (⟦<AnswerResult as PartialEq>⟧.eq a b) ↔ (a ≡ b) }
+{}
+
+/// Bodies are equal exactly where they are the same variant with equal fields.
+pub fn equal_bodies()
+    ensures { (a b : Body) → IsTrue (⟦<Body as PartialEq>⟧.eq a b) ↔ (a ≡ b) }
+{}
+
+/// APDUs are equal exactly where all their parts are.
+pub fn equal_apdus()
+    ensures { (a b : Apdu) → IsTrue (⟦<Apdu as PartialEq>⟧.eq a b) ↔ (a ≡ b) }
+{
+    equal_txn_ids();
+    equal_bodies();
+}
+
+/// The text of a day spells that day, and each text spells one day at most.
+pub fn date_texts()
+    ensures spelled { (d : Date) → IsDate d → read_date (date_text d) ≡ Ok d }
+    ensures read { (text : List ℕ) (d : Date) → read_date text ≡ Ok d → IsDate d × (text ≡ date_text d) }
+{}

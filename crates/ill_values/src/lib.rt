@@ -1,0 +1,25 @@
+//! The values of an interlibrary loan: days, message numbers, transaction ids, items and APDUs.
+//!
+//! Each type holds exactly the values that its constructor accepts, and two values of a type are
+//! equal exactly where what they stand for is.
+#![tactic(auto)]
+
+mod apdu;
+mod day;
+mod fault;
+mod item;
+pub mod laws;
+mod number;
+mod text;
+mod txn_id;
+
+pub use apdu::{AnswerResult, Apdu, Body};
+pub use day::Day;
+pub use fault::{DayFault, TextFault};
+pub use item::Item;
+pub use number::Number;
+pub use std::alloc::AllocError as OutOfMemory;
+pub use txn_id::TxnId;
+
+#[cfg(test)]
+mod tests;

@@ -1,0 +1,46 @@
+//! The numbers of messages.
+
+ghost use Rattle.std.specs.Prelude.{◌≡◌, ℕ, ◌≤◌, ◌<◌, ◌↔◌, IsSome, IfSome};
+
+use std::marker::Model;
+
+/// The number of a message among those that one side issued in a transaction: 1 to 255.
+///
+/// It stands in this profile for the service date and time of ISO 10161-1.
+#[derive(Clone, Copy, Debug, PartialEq, Eq, PartialOrd, Ord, Hash)]
+pub struct Number {
+    value: u8,
+}
+
+impl Model for Number {
+    ghost Value = { ℕ };
+
+    ghost view = { λ n. n.value };
+
+    ghost invariant = { λ n. 1 ≤ n.value };
+
+    ghost inverse = { λ n. record { value = n } };
+}
+
+impl Number {
+    /// The number, or `None` for 0.
+    pub fn new(value: u8) -> Option<Number>
+        ensures numbers { IsSome result ↔ (1 ≤ value) }
+        ensures value { IfSome result (λ n. n ≡ value) }
+    {
+        if value == 0 {
+            None
+        } else {
+            Some(Number { value })
+        }
+    }
+
+    /// The number as it was given to `new`.
+    pub fn get(&self) -> u8
+        ensures value { result ≡ self.now }
+        ensures from { 1 ≤ result }
+        ensures to { result ≤ 255 }
+    {
+        self.value
+    }
+}

@@ -1,0 +1,62 @@
+//! The tests of texts, which take no memory.
+
+ghost use Rattle.std.specs.Prelude.{◌≡◌};
+ghost use Rattle.std.specs.List.{list_all};
+ghost use Rattle.ill_values.specs.Text.{is_printable, is_no_control, is_item_text, qualifier_check, item_check};
+
+use crate::fault::TextFault;
+use std::str;
+
+/// How many bytes a qualifier may have.
+const QUALIFIER_BYTES: usize = 64;
+
+/// How many bytes an item may have.
+const ITEM_BYTES: usize = 200;
+
+/// Whether the text is a qualifier, or else its first fault.
+pub fn check_qualifier(text: &[u8]) -> Result<(), TextFault>
+    ensures { result ≡ qualifier_check text.now }
+{
+    if text.is_empty() {
+        Err(TextFault::Empty)
+    } else if text.len() > QUALIFIER_BYTES {
+        Err(TextFault::TooLong)
+    } else if is_printable_text(text) {
+        Ok(())
+    } else {
+        Err(TextFault::BadByte)
+    }
+}
+
+/// Whether the text is an item, or else its first fault.
+pub fn check_item(text: &[u8]) -> Result<(), TextFault>
+    ensures { result ≡ item_check text.now }
+{
+    if text.is_empty() {
+        Err(TextFault::Empty)
+    } else if text.len() > ITEM_BYTES {
+        Err(TextFault::TooLong)
+    } else if is_item(text) {
+        Ok(())
+    } else {
+        Err(TextFault::BadByte)
+    }
+}
+
+fn is_printable_text(text: &[u8]) -> bool
+    ensures { result ≡ list_all is_printable text.now }
+{
+    text.iter().all(|byte| *byte >= 0x20 && *byte <= 0x7E)
+}
+
+fn is_item(text: &[u8]) -> bool
+    ensures { result ≡ is_item_text text.now }
+{
+    has_no_control(text) && str::from_utf8(text).is_ok()
+}
+
+fn has_no_control(text: &[u8]) -> bool
+    ensures { result ≡ list_all is_no_control text.now }
+{
+    text.iter().all(|byte| *byte >= 0x20 && *byte != 0x7F)
+}

@@ -1,0 +1,80 @@
+//! Transaction ids.
+
+ghost use Rattle.std.specs.Prelude.{◌≡◌, ◌&&◌, is_ok};
+ghost use Rattle.std.specs.Str.{bytes_eq};
+ghost use Rattle.std.specs.Cmp.Rules.{comparing};
+ghost use Rattle.std.proofs.Common.{rules};
+ghost use Rattle.ill_values.specs.Text.{qualifier_check, Gives};
+ghost use Rattle.ill_values.specs.TxnId.{Qualifiers, AreQualifiers, txn_id_of};
+
+use crate::fault::TextFault;
+use crate::text::check_qualifier;
+use std::alloc::Global;
+use std::marker::Model;
+
+/// The id of a transaction: a transaction group qualifier and a transaction qualifier
+/// (ISO 10161-1, Transaction-Id), each of 1 to 64 bytes, 0x20 to 0x7E.
+#[derive(Debug, Drop)]
+pub struct TxnId {
+    group: Vec<u8>,
+    transaction: Vec<u8>,
+}
+
+impl Model for TxnId {
+    ghost Value = { Qualifiers };
+
+    ghost view = { λ id. record { group = id.group.items; transaction = id.transaction.items } };
+
+    ghost invariant = { λ id. AreQualifiers (record { group = id.group.items; transaction = id.transaction.items }) };
+}
+
+impl PartialEq for TxnId {
+    ghost eq = { λ a b. bytes_eq a.group b.group && bytes_eq a.transaction b.transaction };
+
+    ghost laws = { Prim.search (comparing, rules) };
+
+    fn eq(&self, other: &TxnId) -> bool {
+        self.group == other.group && self.transaction == other.transaction
+    }
+}
+
+impl Eq for TxnId {
+    ghost laws = { Prim.search (comparing, rules) };
+}
+
+impl TxnId {
+    /// The id with these qualifiers. The group is judged before the transaction, and memory last.
+    pub fn new(alloc: Global, group: &[u8], transaction: &[u8]) -> Result<TxnId, TextFault>
+        ensures { Gives (txn_id_of group.now transaction.now) result }
+    {
+        check_qualifier(group)?;
+        check_qualifier(transaction)?;
+        Ok(TxnId {
+            group: Vec::from_slice(alloc, group)?,
+            transaction: Vec::from_slice(alloc, transaction)?,
+        })
+    }
+
+    /// Whether a text is a qualifier.
+    pub fn is_qualifier(text: &[u8]) -> bool
+        ensures { result ≡ is_ok (qualifier_check text.now) }
+    {
+        check_qualifier(text).is_ok()
+    }
+
+    /// The transaction group qualifier.
+    pub fn group(&self) -> &[u8]
+        ensures value { result.now ≡ self.now.group }
+        ensures id { AreQualifiers self.now }
+    {
+        &self.group
+    }
+
+    /// The transaction qualifier.
+    pub fn transaction(&self) -> &[u8]
+        ensures value { result.now ≡ self.now.transaction }
+        ensures id { AreQualifiers self.now }
+    {
+        &self.transaction
+    }
+}

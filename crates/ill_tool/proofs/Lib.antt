@@ -1,9 +1,2 @@
-pub mod Steps
-pub mod Bytes
-pub mod Lengths
-pub mod Elements
-pub mod Formats
-pub mod ContentsLaws
-pub mod ShortFormLaws
-pub mod StreamLemmas
+pub mod InputLemmas
 pub mod ShowLemmas

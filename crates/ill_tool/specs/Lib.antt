@@ -1,7 +1,5 @@
-pub mod Contents
-pub mod Format
-pub mod ShortForm
-pub mod Views
-pub mod Stream
 pub mod Lines
+pub mod Input
+pub mod Output
 pub mod Show
+pub mod Check

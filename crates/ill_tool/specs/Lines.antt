@@ -1,4 +1,4 @@
--- The lines that show an APDU.
+-- The lines that the commands write.
 use Rattle.std.specs.Prelude.{ℕ, Bool, true, false, List, [], ◌∷◌, ◌++◌, Option, Some, None, codes}
 use Rattle.std.specs.Fmt.{decimal}
 use Rattle.ill_values.specs.declared.apdu.Apdu.{Apdu}
@@ -90,3 +90,7 @@ head_lines apdu = line (codes "apdu") (name_of apdu.body) ++ (id_lines apdu.txn 
 -- the lines of an APDU
 unfoldable pub shown : Apdu → List ℕ
 shown apdu = head_lines apdu ++ field_lines apdu.body
+
+-- the line of how many APDUs there are
+abbrev pub count_line : ℕ → List ℕ
+count_line n = line (decimal n) (codes "apdus")

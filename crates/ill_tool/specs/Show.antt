@@ -1,25 +1,14 @@
 -- Showing all APDUs of an input.
-use Rattle.std.specs.Prelude.{◌≡◌, ℕ, ◌≤◌, Bool, true, false, List, [], ◌++◌, length, take, Option, Result, Ok, Err}
-use Rattle.std.specs.List.{flat_map, AllByRecursion}
+use Rattle.std.specs.Prelude.{◌≡◌, ℕ, Bool, true, false, List, [], ◌++◌, length, take, Option, Result, Ok, Err}
+use Rattle.std.specs.List.{flat_map}
 use Rattle.std.specs.Io.KnownBytes.{Consumes, Appends, IsAtEnd}
 use Rattle.ill_values.specs.declared.apdu.Apdu.{Apdu}
-use Rattle.ill_tool.specs.declared.der.stream.ReadFault.{ReadFault}
-use Rattle.ill_tool.specs.declared.der.stream.ReadFault.TheVariants as reading
+use Rattle.ill_values.specs.Apdu.{IsApdu}
+use Rattle.ill_der.specs.ShortForm.{spelling}
 use Rattle.ill_tool.specs.declared.fault.ToolFault.{ToolFault}
 use Rattle.ill_tool.specs.declared.fault.ToolFault.TheVariants.{Der, TooMany, Read, Write, OutOfMemory}
-use Rattle.ill_tool.specs.ShortForm.{IsSpelled, spelling, apdu_at}
-use Rattle.ill_tool.specs.Stream.{IsUnfinished, AreUnfinished, SpellsOne, IfShort}
+use Rattle.ill_tool.specs.Input.{Takes, StopsReading}
 use Rattle.ill_tool.specs.Lines.{shown}
-
--- the fault of a command whose reading failed so
-abbrev pub tool_fault : ReadFault → ToolFault
-tool_fault (reading.Bytes fault) = Der fault
-tool_fault reading.Read = Read
-tool_fault reading.OutOfMemory = OutOfMemory
-
--- the bytes of APDUs, one behind another
-abbrev pub spellings : List Apdu → List ℕ
-spellings apdus = flat_map spelling apdus
 
 -- the lines of APDUs, one behind another
 abbrev pub all_shown : List Apdu → List ℕ
@@ -27,16 +16,16 @@ all_shown apdus = flat_map shown apdus
 
 -- the front of the lines of the APDU that these bytes spell
 abbrev pub IsPartShown : List ℕ → List ℕ → Type 0
-IsPartShown bytes text = (apdu : Apdu) × (size : ℕ) × IsSpelled apdu × (bytes ≡ spelling apdu) × (text ≡ take size (shown apdu))
+IsPartShown bytes text = (apdu : Apdu) × (size : ℕ) × IsApdu apdu × (bytes ≡ spelling apdu) × (text ≡ take size (shown apdu))
 
--- What stopped the command: of the bytes that it read behind the APDUs that it showed, of what the
--- reader has left, and of the text that it wrote behind their lines.
+-- What stopped the command: of the number of APDUs that it showed, of the bytes that it read behind
+-- them, of what the reader has left, and of the text that it wrote behind their lines.
 abbrev pub Stopped : ToolFault → ℕ → List ℕ → Option (List ℕ) → List ℕ → Type 0
-Stopped (Der fault) count bytes left text = (apdu_at bytes ≡ Err fault) × AreUnfinished bytes × IfShort fault (IsAtEnd left) × (text ≡ [])
-Stopped TooMany count bytes left text = (count ≡ 100000) × SpellsOne bytes × (text ≡ [])
-Stopped Read count bytes left text = IsUnfinished bytes × (text ≡ [])
+Stopped (Der fault) count bytes left text = StopsReading (Der fault) count bytes left × (text ≡ [])
+Stopped TooMany count bytes left text = StopsReading TooMany count bytes left × (text ≡ [])
+Stopped Read count bytes left text = StopsReading Read count bytes left × (text ≡ [])
 Stopped Write count bytes left text = IsPartShown bytes text
-Stopped OutOfMemory count bytes left text = SpellsOne bytes × (text ≡ [])
+Stopped OutOfMemory count bytes left text = StopsReading OutOfMemory count bytes left × (text ≡ [])
 
 -- how the command ended: at the end of the input, with the number of APDUs, or it was stopped
 abbrev pub Ended : Result ℕ ToolFault → ℕ → List ℕ → Option (List ℕ) → List ℕ → Type 0
@@ -46,9 +35,7 @@ Ended (Err fault) count bytes left text = Stopped fault count bytes left text
 -- The command read the spellings of these APDUs and then these bytes, and wrote the lines of the
 -- APDUs and then this text.
 pub record ShowsApdus (old new : Option (List ℕ)) (before after : Option (List ℕ)) (result : Result ℕ ToolFault) (apdus : List Apdu) (bytes text : List ℕ) : Type 0 where
-  pub spelled : AllByRecursion IsSpelled apdus
-  pub most : length apdus ≤ 100000
-  pub read : Consumes old new (spellings apdus ++ bytes)
+  pub taken : Takes old new apdus bytes
   pub written : Appends before after (all_shown apdus ++ text)
   pub ended : Ended result (length apdus) bytes new text
 
@@ -57,19 +44,8 @@ pub record ShowsApdus (old new : Option (List ℕ)) (before after : Option (List
 abbrev pub Shows : Option (List ℕ) → Option (List ℕ) → Option (List ℕ) → Option (List ℕ) → Result ℕ ToolFault → Type 0
 Shows old new before after result = (apdus : List Apdu) × (bytes : List ℕ) × (text : List ℕ) × ShowsApdus old new before after result apdus bytes text
 
--- ---- its steps
-
--- all bytes were written, or a front of them where the writer failed
-abbrev pub WritesFront : Option (List ℕ) → Option (List ℕ) → List ℕ → Result (Unit {0}) ToolFault → Type 0
-WritesFront before after bytes (Ok done) = Appends before after bytes
-WritesFront before after bytes (Err fault) = (fault ≡ Write) × ((size : ℕ) × Appends before after (take size bytes))
-
 -- the next APDU was shown, or there was none, or the command was stopped
 abbrev pub ShowsNext : Option (List ℕ) → Option (List ℕ) → Option (List ℕ) → Option (List ℕ) → Result Bool ToolFault → Type 0
-ShowsNext old new before after (Ok true) = (apdu : Apdu) × IsSpelled apdu × Consumes old new (spelling apdu) × Appends before after (shown apdu)
+ShowsNext old new before after (Ok true) = (apdu : Apdu) × IsApdu apdu × Consumes old new (spelling apdu) × Appends before after (shown apdu)
 ShowsNext old new before after (Ok false) = Consumes old new [] × IsAtEnd new × Appends before after []
 ShowsNext old new before after (Err fault) = (bytes : List ℕ) × (text : List ℕ) × Consumes old new bytes × Appends before after text × ((count : ℕ) → Stopped fault count bytes new text)
-
--- the end was looked for behind as many APDUs as there may be
-abbrev pub EndsFull : Option (List ℕ) → Option (List ℕ) → Result ℕ ToolFault → Type 0
-EndsFull old new result = (bytes : List ℕ) × Consumes old new bytes × Ended result 100000 bytes new []

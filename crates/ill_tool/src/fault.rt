@@ -1,11 +1,10 @@
 //! Why a command stopped.
 
 ghost use Rattle.std.specs.Prelude.{◌≡◌};
-ghost use Rattle.ill_tool.specs.Show.{tool_fault};
+ghost use Rattle.ill_tool.specs.Input.{tool_fault};
 ghost use Rattle.ill_tool.specs.declared.fault.ToolFault.TheVariants.{OutOfMemory};
 
-use crate::der::fault::DerFault;
-use crate::der::stream::ReadFault;
+use ill_der::{DerFault, ReadFault};
 use std::alloc::AllocError;
 use thiserror::Error;
 

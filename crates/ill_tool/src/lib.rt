@@ -1,15 +1,18 @@
 //! The commands of `ill`, each over a reader and a writer.
 #![tactic(auto)]
 
+mod check;
 mod command_line;
-mod der;
 mod fault;
+mod input;
 mod lines;
+mod output;
 mod show;
 mod words;
 
-pub use der::fault::DerFault;
+pub use check::run_check;
 pub use fault::ToolFault;
+pub use ill_der::DerFault;
 pub use show::run_show;
 pub use words::run_words;
 

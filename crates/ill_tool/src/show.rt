@@ -1,15 +1,14 @@
 //! The command `show`.
 
-ghost use Rattle.ill_tool.specs.Show.{Shows, ShowsNext, EndsFull, WritesFront};
+ghost use Rattle.ill_tool.specs.Show.{Shows, ShowsNext};
 
-use crate::der::stream::read_apdu;
 use crate::fault::ToolFault;
+use crate::input::{MOST_APDUS, end};
 use crate::lines::push_apdu;
+use crate::output::write_whole;
+use ill_der::read_apdu;
 use std::alloc::Global;
 use std::io::{Read, Write};
-
-/// The most APDUs of one input.
-const MOST_APDUS: u32 = 100_000;
 
 /// Writes the lines of each APDU of the input, to its end, and answers how many there were.
 ///
@@ -34,17 +33,6 @@ pub fn run_show<R: Read, W: Write>(
     end(alloc, reader)
 }
 
-/// Finds the end of an input of which so many APDUs were read as it may have.
-fn end<R: Read>(alloc: Global, reader: &mut R) -> Result<u32, ToolFault>
-    ensures { EndsFull (R.remaining reader.old) (R.remaining reader.new) result }
-{
-    match read_apdu(alloc, reader) {
-        Ok(None) => Ok(MOST_APDUS),
-        Ok(Some(_)) => Err(ToolFault::TooMany),
-        Err(fault) => Err(fault.into()),
-    }
-}
-
 /// Shows the next APDU, by way of the buffer, and answers whether there was one.
 fn show_next<R: Read, W: Write>(
     alloc: Global,
@@ -65,21 +53,4 @@ fn show_next<R: Read, W: Write>(
         }
         Err(fault) => Err(fault.into()),
     }
-}
-
-/// Writes all of the bytes, or a front of them where the writer fails.
-fn write_whole<W: Write>(writer: &mut W, bytes: &[u8]) -> Result<(), ToolFault>
-    ensures { WritesFront (W.contents writer.old) (W.contents writer.new) bytes.now result }
-{
-    let mut written = 0;
-    for _ in 0..bytes.len() {
-        if written == bytes.len() {
-            return Ok(());
-        }
-        match writer.write(&bytes[written..]) {
-            Ok(count) if count > 0 => written += count,
-            _ => return Err(ToolFault::Write),
-        }
-    }
-    Ok(())
 }

@@ -1,5 +1,6 @@
 //! One command line, from its words to its exit status.
 
+use crate::check::run_check;
 use crate::command_line::{Request, read_words};
 use crate::fault::ToolFault;
 use crate::show::run_show;
@@ -21,18 +22,26 @@ pub fn run_words<T: Files, R: Read, W: Write, E: Write>(
     errors: &mut E,
 ) -> u8 {
     match read_words(alloc, words) {
-        Ok(Request::Show) => finish(show(alloc, reader, writer), errors),
+        Ok(request) => finish(perform(alloc, request, reader, writer), errors),
         Err(error) => tell(&error, writer, errors),
     }
 }
 
-/// Performs `show`, with a buffer round either stream.
-fn show<R: Read, W: Write>(alloc: Global, reader: &mut R, writer: &mut W) -> Result<(), ToolFault> {
+/// Performs a command, with a buffer round either stream.
+fn perform<R: Read, W: Write>(
+    alloc: Global,
+    request: Request,
+    reader: &mut R,
+    writer: &mut W,
+) -> Result<(), ToolFault> {
     let mut reader = BufReader::new(alloc, reader).map_err(|_| ToolFault::OutOfMemory)?;
     let mut writer = BufWriter::new(alloc, writer).map_err(|_| ToolFault::OutOfMemory)?;
-    let shown = run_show(alloc, &mut reader, &mut writer);
+    let done = match request {
+        Request::Show => run_show(alloc, &mut reader, &mut writer),
+        Request::Check => run_check(alloc, &mut reader, &mut writer),
+    };
     writer.flush().map_err(|_| ToolFault::Write)?;
-    shown?;
+    done?;
     Ok(())
 }
 

@@ -123,7 +123,7 @@ month_at_most year month = grind (arith, common_steps)
 is_digit : (n : ℕ) → is_ascii_digit (48 + n % 10) ≡ true
 is_digit n = and_from (leb 48 (48 + n % 10)) (leb (48 + n % 10) 57) (le-leb 48 (48 + n % 10) (omega arith)) (le-leb (48 + n % 10) 57 (omega arith))
 
-date_made : (d : Date) → IsDate d → date_of d.year d.month d.day ≡ Ok d
+pub date_made : (d : Date) → IsDate d → date_of d.year d.month d.day ≡ Ok d
 date_made d is =
     rw (
       le-leb 1900 d.year is.from_1900,

@@ -1,3 +1,4 @@
 pub mod Texts
 pub mod Dates
 pub mod Equality
+pub mod DaysLater

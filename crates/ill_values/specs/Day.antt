@@ -1,5 +1,5 @@
 -- Days of the Gregorian calendar, from 1 January 1900 to 31 December 9999, and how they are written.
-use Rattle.std.specs.Prelude.{◌≡◌, ℕ, ◌+◌, ◌-◌, ◌*◌, ◌/◌, ◌%◌, ◌<◌, ◌≤◌, ◌⊎◌, Bool, not, ◌&&◌, ◌||◌, ◌==◌, nat_le, if◌then◌else◌, List, [], ◌∷◌, length, slice_index, Result, Ok, Err}
+use Rattle.std.specs.Prelude.{◌≡◌, ℕ, zero, suc, ◌+◌, ◌-◌, ◌*◌, ◌/◌, ◌%◌, ◌<◌, ◌≤◌, ◌⊎◌, Bool, not, ◌&&◌, ◌||◌, ◌==◌, nat_lt, nat_le, if◌then◌else◌, List, [], ◌∷◌, length, slice_index, Result, Ok, Err}
 use Rattle.std.specs.List.{list_all}
 use Rattle.std.specs.Char.{is_ascii_digit}
 use Rattle.ill_values.specs.declared.fault.DayFault.{DayFault}
@@ -11,7 +11,7 @@ pub record Date : Type 0 where
   pub month : ℕ
   pub day : ℕ
 
--- every fourth year is leap, but of the centuries only every fourth (ISO 8601-1, 4.2.1)
+-- every fourth year is leap, but of the centuries only every fourth (the Gregorian calendar)
 abbrev pub is_leap_year : ℕ → Bool
 is_leap_year year = (year % 4 == 0) && (not (year % 100 == 0) || (year % 400 == 0))
 
@@ -44,6 +44,21 @@ abbrev pub date_of : ℕ → ℕ → ℕ → Result Date DayFault
 date_of year month day =
     if is_year year then (if is_in_year year month day then Ok (record { year = year; month = month; day = day }) else Err NotADate)
     else Err OutOfRange
+
+-- the following day: in the month, in the year, or in the next year
+abbrev pub next_day : Date → Date
+next_day d =
+    if nat_lt d.day (days_in_month d.year d.month) then record { year = d.year; month = d.month; day = d.day + 1 }
+    else (if nat_lt d.month 12 then record { year = d.year; month = d.month + 1; day = 1 } else record { year = d.year + 1; month = 1; day = 1 })
+
+-- the day so many days later: the following day, so many times
+unfoldable pub days_later : ℕ → Date → Date
+days_later zero d = d
+days_later (suc n) d = next_day (days_later n d)
+
+-- the day so many days later, refused where that passes 31 December 9999
+abbrev pub day_after : ℕ → Date → Result Date DayFault
+day_after n d = let later = days_later n d in if nat_le later.year 9999 then Ok later else Err OutOfRange
 
 -- the last decimal digit of a number, in ASCII
 abbrev pub last_digit : ℕ → ℕ

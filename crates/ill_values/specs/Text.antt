@@ -29,7 +29,7 @@ text_check most passes text =
     if length text == 0 then Err Empty
     else (if nat_lt most (length text) then Err TooLong else (if passes text then Ok tt else Err BadByte))
 
--- a qualifier (ISO 10161-1, Transaction-Id; the bounds are this profile's own)
+-- a qualifier of a transaction id (this profile's own)
 abbrev pub qualifier_check : List ℕ → Result (Unit {0}) TextFault
 qualifier_check text = text_check 64 (list_all is_printable) text
 

@@ -3,7 +3,7 @@ use Rattle.std.specs.Prelude.{ℕ, List, Result, Ok}
 use Rattle.ill_values.specs.declared.fault.TextFault.{TextFault}
 use Rattle.ill_values.specs.Text.{qualifier_check, IsQualifier, ◌>>=◌}
 
--- a transaction group qualifier and a transaction qualifier (ISO 10161-1, Transaction-Id)
+-- a transaction group qualifier and a transaction qualifier (this profile's own form of the transaction id)
 pub record Qualifiers : Type 0 where
   pub group : List ℕ
   pub transaction : List ℕ

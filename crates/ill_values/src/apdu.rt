@@ -1,16 +1,34 @@
 //! The messages of the protocol.
 
+ghost use Rattle.std.specs.Prelude.{◌≡◌, IfOk};
+
 use crate::day::Day;
 use crate::item::Item;
 use crate::number::Number;
 use crate::txn_id::TxnId;
+use std::alloc::{AllocError as OutOfMemory, Global};
 
-/// One message of the protocol (ISO 10161-1, ILL-APDU), with the fields that this profile keeps.
+/// One message of the interlibrary loan protocol (ISO 10161-1), with the fields that this profile keeps.
 #[derive(Debug, PartialEq, Eq, Drop)]
 pub struct Apdu {
     pub txn: TxnId,
     pub number: Number,
     pub body: Body,
+}
+
+impl Apdu {
+    /// An equal message, on its own memory.
+    pub fn copy(&self, alloc: Global) -> Result<Apdu, OutOfMemory>
+        ensures { IfOk result (λ apdu. apdu ≡ self.now) }
+    {
+        let txn = self.txn.copy(alloc)?;
+        let body = self.body.copy(alloc)?;
+        Ok(Apdu {
+            txn,
+            number: self.number,
+            body,
+        })
+    }
 }
 
 /// What a message says: one of the fourteen types, with exactly its fields.
@@ -54,6 +72,42 @@ pub enum Body {
         granted: Option<Day>,
     },
     Expired,
+}
+
+impl Body {
+    /// An equal body, on its own memory. Only an `IllRequest` takes some.
+    fn copy(&self, alloc: Global) -> Result<Body, OutOfMemory>
+        ensures { IfOk result (λ body. body ≡ self.now) }
+    {
+        Ok(match self {
+            Body::IllRequest { expiry, item } => Body::IllRequest {
+                expiry: *expiry,
+                item: item.copy(alloc)?,
+            },
+            Body::IllAnswer { result } => Body::IllAnswer { result: *result },
+            Body::ConditionalReply { answers, yes } => Body::ConditionalReply {
+                answers: *answers,
+                yes: *yes,
+            },
+            Body::Cancel => Body::Cancel,
+            Body::CancelReply { answers, yes } => Body::CancelReply {
+                answers: *answers,
+                yes: *yes,
+            },
+            Body::Shipped { due } => Body::Shipped { due: *due },
+            Body::Received => Body::Received,
+            Body::Recall => Body::Recall,
+            Body::Returned => Body::Returned,
+            Body::CheckedIn => Body::CheckedIn,
+            Body::Overdue { due } => Body::Overdue { due: *due },
+            Body::Renew { wished } => Body::Renew { wished: *wished },
+            Body::RenewAnswer { answers, granted } => Body::RenewAnswer {
+                answers: *answers,
+                granted: *granted,
+            },
+            Body::Expired => Body::Expired,
+        })
+    }
 }
 
 /// The result of an ILL-Answer.

@@ -1,15 +1,20 @@
 //! Calendar days.
 
-ghost use Rattle.std.specs.Prelude.{◌≡◌, ◌+◌, ◌-◌, ◌*◌, ◌%◌, ◌<◌, ◌≤◌, length, slice_index, EachIndex};
+ghost use Rattle.std.specs.Prelude.{◌≡◌, ◌+◌, ◌-◌, ◌*◌, ◌%◌, ◌<◌, ◌≤◌, pos, ◌≤ℤ◌, unsigned_abs, length, slice_index, EachIndex};
 ghost use Rattle.std.specs.List.{list_all};
 ghost use Rattle.std.specs.Char.{is_ascii_digit};
 ghost use Rattle.std.specs.Bool.{OnTrue};
 ghost use Rattle.std.specs.Int.{IsInRange};
-ghost use Rattle.ill_values.specs.Day.{Date, IsDate, is_in_year, eight_digits, two_digits_at, date_of, date_text, read_date};
+ghost use Rattle.ill_values.specs.Day.{Date, IsDate, is_in_year, eight_digits, two_digits_at, date_of, date_text, read_date, day_after};
+ghost use Rattle.jiff.specs.Words.{IsYmd};
 
 use crate::fault::DayFault;
-use jiff::civil;
+use jiff::{ToSpan, civil};
 use std::marker::Model;
+
+/// The most days that a span of jiff holds. To refuse more loses no day of this profile: even from
+/// its first, 1 January 1900, so many days lead past its last, 31 December 9999.
+const MOST_DAYS: u32 = 7_304_484;
 
 /// A day of the Gregorian calendar, from 1 January 1900 to 31 December 9999.
 ///
@@ -71,6 +76,36 @@ impl Day {
             last_digit(u16::from(self.day / 10)),
             last_digit(u16::from(self.day)),
         ]
+    }
+
+    /// The day so many days later, up to 31 December 9999.
+    pub fn after(&self, days: u32) -> Result<Day, DayFault>
+        ensures { result ≡ day_after days self.now }
+    {
+        let date = self.to_civil();
+        if days > MOST_DAYS {
+            return Err(DayFault::OutOfRange);
+        }
+        match date.checked_add(i64::from(days).days()) {
+            Ok(later) => Day::from_civil(later),
+            Err(_) => Err(DayFault::OutOfRange),
+        }
+    }
+
+    /// This day as a date of jiff.
+    fn to_civil(self) -> civil::Date
+        ensures valid { IsDate self }
+        ensures value { IsYmd (pos self.year) (pos self.month) (pos self.day) result }
+    {
+        civil::date(self.year as i16, self.month as i8, self.day as i8)
+    }
+
+    /// The day that a date of jiff is, where its year is 1900 to 9999.
+    fn from_civil(date: civil::Date) -> Result<Day, DayFault>
+        requires { pos 0 ≤ℤ date.year }
+        ensures { result ≡ date_of (unsigned_abs date.year) date.month date.day }
+    {
+        Day::new(date.year() as u16, date.month() as u8, date.day() as u8)
     }
 }
 

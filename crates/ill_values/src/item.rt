@@ -1,6 +1,6 @@
 //! Items.
 
-ghost use Rattle.std.specs.Prelude.{◌≡◌, ℕ, List, is_ok};
+ghost use Rattle.std.specs.Prelude.{◌≡◌, ◌≤◌, ℕ, List, length, is_ok, IfOk};
 ghost use Rattle.std.specs.Str.{bytes_eq};
 ghost use Rattle.std.specs.Cmp.Rules.{comparing};
 ghost use Rattle.std.proofs.Common.{rules};
@@ -8,7 +8,7 @@ ghost use Rattle.ill_values.specs.Text.{item_check, item_of, IsItem, Gives};
 
 use crate::fault::TextFault;
 use crate::text::check_item;
-use std::alloc::Global;
+use std::alloc::{AllocError as OutOfMemory, Global};
 use std::marker::Model;
 
 /// What a request asks for: 1 to 200 bytes of UTF-8 without the control characters of ASCII.
@@ -50,6 +50,15 @@ impl Item {
         })
     }
 
+    /// An equal item, on its own memory.
+    pub fn copy(&self, alloc: Global) -> Result<Item, OutOfMemory>
+        ensures { IfOk result (λ item. item ≡ self.now) }
+    {
+        Ok(Item {
+            text: Vec::from_slice(alloc, self.text())?,
+        })
+    }
+
     /// Whether a text is an item.
     pub fn is_item(text: &[u8]) -> bool
         ensures { result ≡ is_ok (item_check text.now) }
@@ -61,6 +70,7 @@ impl Item {
     pub fn text(&self) -> &[u8]
         ensures bytes { result.now ≡ self.now }
         ensures item { IsItem self.now }
+        ensures most { length result.now ≤ 200 }
     {
         &self.text
     }

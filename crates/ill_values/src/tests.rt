@@ -134,6 +134,41 @@ fn texts_that_are_no_days(rt: HostRuntime) {
 }
 
 #[test]
+fn days_so_many_days_later(rt: HostRuntime) -> Result<(), Fail> {
+    let cases = [
+        (b"20250315", 0, b"20250315"),
+        (b"20240228", 2, b"20240301"),
+        (b"20231231", 1, b"20240101"),
+        (b"19000228", 1, b"19000301"),
+        (b"19000101", 2_958_463, b"99991231"),
+    ];
+    for (start, days, later) in cases {
+        let found = Day::read(start)?.after(days)?;
+        assert_eq!(rt; found, Day::read(later)?, "{days} days after {start:?}");
+    }
+    Ok(())
+}
+
+#[test]
+fn days_after_the_last(rt: HostRuntime) -> Result<(), Fail> {
+    let cases = [
+        (b"99991231", 1),
+        (b"19000101", 2_958_464),
+        (b"19000101", 7_304_484),
+        (b"19000101", 7_304_485),
+        (b"19000101", u32::MAX),
+    ];
+    for (start, days) in cases {
+        assert_eq!(rt;
+            Day::read(start)?.after(days),
+            Err(DayFault::OutOfRange),
+            "{days} days after {start:?}"
+        );
+    }
+    Ok(())
+}
+
+#[test]
 fn numbers_are_1_to_255(rt: HostRuntime) {
     assert_eq!(rt; Number::new(0), None);
     for value in [1, 255] {

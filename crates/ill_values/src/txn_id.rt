@@ -1,6 +1,6 @@
 //! Transaction ids.
 
-ghost use Rattle.std.specs.Prelude.{◌≡◌, ◌&&◌, is_ok};
+ghost use Rattle.std.specs.Prelude.{◌≡◌, ◌≤◌, ◌&&◌, length, is_ok, IfOk};
 ghost use Rattle.std.specs.Str.{bytes_eq};
 ghost use Rattle.std.specs.Cmp.Rules.{comparing};
 ghost use Rattle.std.proofs.Common.{rules};
@@ -9,11 +9,11 @@ ghost use Rattle.ill_values.specs.TxnId.{Qualifiers, AreQualifiers, txn_id_of};
 
 use crate::fault::TextFault;
 use crate::text::check_qualifier;
-use std::alloc::Global;
+use std::alloc::{AllocError as OutOfMemory, Global};
 use std::marker::Model;
 
-/// The id of a transaction: a transaction group qualifier and a transaction qualifier
-/// (ISO 10161-1, Transaction-Id), each of 1 to 64 bytes, 0x20 to 0x7E.
+/// The id of a transaction: a transaction group qualifier and a transaction qualifier, each of 1 to
+/// 64 bytes, 0x20 to 0x7E (this profile's own).
 #[derive(Debug, Drop)]
 pub struct TxnId {
     group: Vec<u8>,
@@ -55,6 +55,16 @@ impl TxnId {
         })
     }
 
+    /// An equal id, on its own memory.
+    pub fn copy(&self, alloc: Global) -> Result<TxnId, OutOfMemory>
+        ensures { IfOk result (λ id. id ≡ self.now) }
+    {
+        Ok(TxnId {
+            group: Vec::from_slice(alloc, self.group())?,
+            transaction: Vec::from_slice(alloc, self.transaction())?,
+        })
+    }
+
     /// Whether a text is a qualifier.
     pub fn is_qualifier(text: &[u8]) -> bool
         ensures { result ≡ is_ok (qualifier_check text.now) }
@@ -66,6 +76,7 @@ impl TxnId {
     pub fn group(&self) -> &[u8]
         ensures value { result.now ≡ self.now.group }
         ensures id { AreQualifiers self.now }
+        ensures most { length result.now ≤ 64 }
     {
         &self.group
     }
@@ -74,6 +85,7 @@ impl TxnId {
     pub fn transaction(&self) -> &[u8]
         ensures value { result.now ≡ self.now.transaction }
         ensures id { AreQualifiers self.now }
+        ensures most { length result.now ≤ 64 }
     {
         &self.transaction
     }

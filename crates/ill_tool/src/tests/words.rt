@@ -3,6 +3,7 @@
 use super::streams::{FailingReader, FailingWriter, RepeatingReader};
 use super::{CANCEL, CANCEL_LINES};
 use crate::{DerFault, ToolFault, run_words};
+use std::io::{Read, Write};
 use std::test::Fail;
 
 /// What a command line left: its exit status and both texts.
@@ -35,6 +36,17 @@ fn show_writes_the_lines(rt: HostRuntime) {
 }
 
 #[test]
+fn check_writes_its_line(rt: HostRuntime) {
+    let cases: [(&[u8], &str); 2] = [(&CANCEL, "1 apdus\n"), (b"", "0 apdus\n")];
+    for (input, line) in cases {
+        let left = perform(&rt, &["ill", "check"], input);
+        assert_eq!(rt; left.status, 0, "{line}");
+        assert_eq!(rt; left.output.as_slice(), line.as_bytes());
+        assert_eq!(rt; left.errors.as_slice(), b"".as_slice(), "{line}");
+    }
+}
+
+#[test]
 fn faults_of_bytes_have_their_line_and_status(rt: HostRuntime) {
     let cases: [(&[u8], &str); 4] = [
         (&CANCEL[..17], "ill: short at 17\n"),
@@ -45,54 +57,71 @@ fn faults_of_bytes_have_their_line_and_status(rt: HostRuntime) {
             "ill: field at 4\n",
         ),
     ];
-    for (input, line) in cases {
-        let left = perform(&rt, &["ill", "show"], input);
-        assert_eq!(rt; left.status, 2, "{line}");
-        assert_eq!(rt; left.output.as_slice(), b"".as_slice(), "{line}");
-        assert_eq!(rt; left.errors.as_slice(), line.as_bytes());
+    for command in ["show", "check"] {
+        for (input, line) in &cases {
+            let left = perform(&rt, &["ill", command], input);
+            assert_eq!(rt; left.status, 2, "{line}");
+            assert_eq!(rt; left.output.as_slice(), b"".as_slice(), "{line}");
+            assert_eq!(rt; left.errors.as_slice(), line.as_bytes());
+        }
+    }
+}
+
+/// Performs a command over these streams, and answers its exit status and the line of its fault.
+fn perform_over<R: Read, W: Write>(
+    rt: &HostRuntime,
+    command: &str,
+    reader: &mut R,
+    writer: &mut W,
+) -> (u8, Vec<u8>) {
+    let mut errors = Vec::new(rt.alloc());
+    let words = ["ill", command];
+    let status = run_words(rt, rt.alloc(), &words, reader, writer, &mut errors);
+    (status, errors)
+}
+
+#[test]
+fn a_failing_input_has_its_line_and_status(rt: HostRuntime) {
+    for (command, lines) in [("show", CANCEL_LINES), ("check", "")] {
+        let mut output = Vec::new(rt.alloc());
+        let mut reader = FailingReader { bytes: &CANCEL };
+        let (status, errors) = perform_over(&rt, command, &mut reader, &mut output);
+        assert_eq!(rt; status, 3);
+        assert_eq!(rt; errors.as_slice(), b"ill: read\n".as_slice());
+        assert_eq!(rt; output.as_slice(), lines.as_bytes());
     }
 }
 
 #[test]
-fn other_faults_have_their_line_and_status(rt: HostRuntime) {
-    let mut output = Vec::new(rt.alloc());
-    let mut errors = Vec::new(rt.alloc());
-    let mut failing = FailingReader { bytes: &CANCEL };
-    let words = ["ill", "show"];
-    let status = run_words(
-        &rt,
-        rt.alloc(),
-        &words,
-        &mut failing,
-        &mut output,
-        &mut errors,
-    );
-    assert_eq!(rt; status, 3);
-    assert_eq!(rt; output.as_slice(), CANCEL_LINES.as_bytes());
-    assert_eq!(rt; errors.as_slice(), b"ill: read\n".as_slice());
+fn a_failing_output_has_its_line_and_status(rt: HostRuntime) {
+    for (command, front) in [("show", "apdu "), ("check", "1 apd")] {
+        let mut writer = FailingWriter {
+            taken: Vec::new(rt.alloc()),
+            room: 5,
+        };
+        let mut reader = CANCEL.as_slice();
+        let (status, errors) = perform_over(&rt, command, &mut reader, &mut writer);
+        assert_eq!(rt; status, 3);
+        assert_eq!(rt; errors.as_slice(), b"ill: write\n".as_slice());
+        assert_eq!(rt; writer.taken.as_slice(), front.as_bytes());
+    }
+}
 
-    errors.clear();
-    let mut full = FailingWriter {
-        taken: Vec::new(rt.alloc()),
-        room: 5,
-    };
-    let mut reader = CANCEL.as_slice();
-    let status = run_words(&rt, rt.alloc(), &words, &mut reader, &mut full, &mut errors);
-    assert_eq!(rt; status, 3);
-    assert_eq!(rt; errors.as_slice(), b"ill: write\n".as_slice());
-
-    errors.clear();
-    output.clear();
-    let mut many = RepeatingReader {
-        bytes: &CANCEL,
-        times: 100_001,
-        rest: &[],
-        last: &[],
-    };
-    let status = run_words(&rt, rt.alloc(), &words, &mut many, &mut output, &mut errors);
-    assert_eq!(rt; status, 2);
-    assert_eq!(rt; output.len(), 100_000 * CANCEL_LINES.len());
-    assert_eq!(rt; errors.as_slice(), b"ill: too-many\n".as_slice());
+#[test]
+fn too_many_apdus_have_their_line_and_status(rt: HostRuntime) {
+    for (command, size) in [("show", 100_000 * CANCEL_LINES.len()), ("check", 0)] {
+        let mut output = Vec::new(rt.alloc());
+        let mut reader = RepeatingReader {
+            bytes: &CANCEL,
+            times: 100_001,
+            rest: &[],
+            last: &[],
+        };
+        let (status, errors) = perform_over(&rt, command, &mut reader, &mut output);
+        assert_eq!(rt; status, 2);
+        assert_eq!(rt; errors.as_slice(), b"ill: too-many\n".as_slice());
+        assert_eq!(rt; output.len(), size);
+    }
 }
 
 #[test]
@@ -110,10 +139,11 @@ fn want_of_memory_has_its_text(rt: HostRuntime) -> Result<(), Fail> {
 
 #[test]
 fn words_that_are_no_command_are_refused(rt: HostRuntime) {
-    let cases: [&[&str]; 4] = [
+    let cases: [&[&str]; 5] = [
         &["ill"],
         &["ill", "shwo"],
         &["ill", "show", "more"],
+        &["ill", "check", "more"],
         &["ill", "--shwo"],
     ];
     for words in cases {
@@ -126,11 +156,13 @@ fn words_that_are_no_command_are_refused(rt: HostRuntime) {
 
 #[test]
 fn help_that_is_asked_for_is_output(rt: HostRuntime) {
-    let cases: [&[&str]; 5] = [
+    let cases: [&[&str]; 7] = [
         &["ill", "--help"],
         &["ill", "-h"],
         &["ill", "help", "show"],
         &["ill", "show", "--help"],
+        &["ill", "help", "check"],
+        &["ill", "check", "--help"],
         &["ill", "--version"],
     ];
     for words in cases {

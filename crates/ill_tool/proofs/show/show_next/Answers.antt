@@ -1,6 +1,6 @@
 use Rattle.std.proofs.Common.{Option, Ok, subst}
 use Rattle.ill_values.specs.declared.apdu.Apdu.{Apdu}
-use Rattle.ill_tool.specs.Stream.{ReadsApdu}
+use Rattle.ill_der.specs.Stream.{ReadsApdu}
 use Rattle.ill_tool.proofs.ShowLemmas.{no_memory_for, not_read}
 use Rattle.ill_tool.proofs.show.show_next.Goals as goal
 

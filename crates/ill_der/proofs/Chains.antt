@@ -1,0 +1,76 @@
+-- What a step of reading that did not fail says.
+use Rattle.std.proofs.Common.{◌≡◌, ℕ, Bool, true, false, cond, Option, Some, Result, Ok, Err, refl, subst, inl, inr, ◌⊎◌}
+use Rattle.ill_der.specs.declared.fault.DerFault.{DerFault}
+use Rattle.ill_der.specs.declared.fault.DerFault.TheVariants.{Short, Tag, Length, Field, OutOfMemory}
+use Rattle.ill_der.specs.Format.{◌>>=◌}
+
+-- the value of a step
+pub bind_ok : {A B : Type 0} (r : Result A DerFault) (f : A → Result B DerFault) (y : B) → (r >>= f) ≡ Ok y → (x : A) × (r ≡ Ok x) × (f x ≡ Ok y)
+bind_ok (Ok x) f y e = (x, refl, e)
+bind_ok (Err d) f y e = absurd cc
+
+-- where the fault comes from
+pub bind_err : {A B : Type 0} (r : Result A DerFault) (f : A → Result B DerFault) (d : DerFault) → (r >>= f) ≡ Err d → (r ≡ Err d) ⊎ ((x : A) × (r ≡ Ok x) × (f x ≡ Err d))
+bind_err (Ok x) f d e = inr (x, refl, e)
+bind_err (Err c) f d e = inl cc
+
+-- a test that passed
+pub passed : {A : Type 0} (b : Bool) (r : Result A DerFault) (d : DerFault) (x : A) → cond b r (Err d) ≡ Ok x → (b ≡ true) × (r ≡ Ok x)
+passed true r d x e = (refl, e)
+passed false r d x e = absurd cc
+
+-- a test that did not stop the reading
+pub went_on : {A : Type 0} (b : Bool) (r : Result A DerFault) (d : DerFault) (x : A) → cond b (Err d) r ≡ Ok x → (b ≡ false) × (r ≡ Ok x)
+went_on true r d x e = absurd cc
+went_on false r d x e = (refl, e)
+
+-- which way a test went
+pub chosen : {A : Type 0} (b : Bool) (x y z : A) → cond b x y ≡ z → ((b ≡ true) × (x ≡ z)) ⊎ ((b ≡ false) × (y ≡ z))
+chosen true x y z e = inl (refl, e)
+chosen false x y z e = inr (refl, e)
+
+abbrev pub done : {A : Type 0} → A → Result A DerFault
+done x = Ok x
+
+pub ok_is : {A : Type 0} (x y : A) → done x ≡ done y → x ≡ y
+ok_is x y e = cc
+
+abbrev pub there : {A : Type 0} → A → Option A
+there x = Some x
+
+pub some_is : {A : Type 0} (x y : A) → there x ≡ there y → x ≡ y
+some_is x y e = cc
+
+abbrev pub failed : {A : Type 0} → DerFault → Result A DerFault
+failed d = Err d
+
+-- a fault is no value
+pub no_value : {A : Type 0} (d : DerFault) (x : A) → done x ≡ failed d → ⊥
+no_value d x e = cc
+
+-- the faults that are met inside an APDU's contents
+abbrev pub IsInside : DerFault → Type 0
+IsInside (Short n) = ⊥
+IsInside (Tag at) = Unit {0}
+IsInside (Length at) = Unit {0}
+IsInside (Field at) = Unit {0}
+IsInside OutOfMemory = ⊥
+
+-- a fault that is another one
+pub fault_is : {A : Type 0} (c d : DerFault) → failed {A = A} c ≡ failed d → c ≡ d
+fault_is c d e = cc
+
+pub tag_inside : {A : Type 0} (at : ℕ) (d : DerFault) → failed {A = A} (Tag at) ≡ failed d → IsInside d
+tag_inside at d e = subst IsInside (fault_is (Tag at) d e) tt
+
+pub length_inside : {A : Type 0} (at : ℕ) (d : DerFault) → failed {A = A} (Length at) ≡ failed d → IsInside d
+length_inside at d e = subst IsInside (fault_is (Length at) d e) tt
+
+pub field_inside : {A : Type 0} (at : ℕ) (d : DerFault) → failed {A = A} (Field at) ≡ failed d → IsInside d
+field_inside at d e = subst IsInside (fault_is (Field at) d e) tt
+
+pub short_is : {A : Type 0} (m n : ℕ) → failed {A = A} (Short m) ≡ failed (Short n) → m ≡ n
+short_is m n e = cc
+
+pub short_or_memory : {A : Type 0} (n : ℕ) → failed {A = A} (Short n) ≡ failed OutOfMemory → ⊥
+short_or_memory n e = cc

@@ -1,0 +1,291 @@
+-- The laws of a description of fields: what is read is spelled so, what is spelled is read again,
+-- how long it is at most, and that none of its faults is short. They are kept by each way to make a
+-- description of others.
+use Rattle.std.proofs.Common.{Result, ◌≡◌, ℕ, ◌+◌, ◌<◌, ◌≤◌, Bool, false, List, [], ◌++◌, length, Option, Some, None, Ok, Err, refl, sym, ap, subst, ◌∙◌, inl, inr, append_assoc, arith, cond, true}
+use Rattle.std.specs.Prelude.{IfSome}
+use Rattle.std.proofs.lemmas.List.{append-nil, length-append}
+use Rattle.ill_der.specs.declared.fault.DerFault.{DerFault}
+use Rattle.ill_der.specs.Contents.{Contents}
+use Rattle.ill_der.specs.Format.{◌>>=◌, element, Left, left_at, element_at, stands_at, ended, Format, value_of, required, optional, followed_by, where_yes, constructed}
+use Rattle.ill_der.proofs.Chains.{bind_ok, bind_err, chosen, ok_is, no_value, IsInside, field_inside}
+use Rattle.ill_der.specs.Laws.{IsBytes}
+use Rattle.ill_der.proofs.Lengths.{overhead}
+use Rattle.ill_der.proofs.Elements.{element_takes, element_again, element_bound, element_stands, element_faults, ended_faults, ended_is}
+
+-- ---- contents
+
+pub record IsContents {V : Type 0} (P : V → Type 0) (most : ℕ) (kind : Contents V) : Type 0 where
+  pub takes : (bytes : List ℕ) (v : V) → IsBytes bytes → kind.read bytes ≡ Some v → (bytes ≡ kind.spell v) × P v
+  pub again : (v : V) → P v → kind.read (kind.spell v) ≡ Some v
+  pub bound : (v : V) → P v → length (kind.spell v) ≤ most
+
+-- ---- fields
+
+-- a description was read from bytes, and left what follows
+abbrev pub Takes : {V : Type 0} → Format V → (V → Type 0) → List ℕ → V → List ℕ → Type 0
+Takes f P bytes v rest = (bytes ≡ f.spell v ++ rest) × P v × IsBytes rest
+
+-- a spelled value was read again, from whatever place
+abbrev pub ReadsAgain : {V : Type 0} → Format V → V → ℕ → List ℕ → Type 0
+ReadsAgain f v at more = (after : ℕ) × (f.read (left_at at (f.spell v ++ more)) ≡ Ok (v, left_at after more))
+
+pub record IsFormat {V : Type 0} (P : V → Type 0) (Follows : List ℕ → Type 0) (most : ℕ) (f : Format V) : Type 0 where
+  pub takes : (left : Left) (v : V) (rest : Left) → IsBytes left.bytes → f.read left ≡ Ok (v, rest) → Takes f P left.bytes v rest.bytes
+  pub again : (v : V) (at : ℕ) (more : List ℕ) → P v → Follows more → ReadsAgain f v at more
+  pub bound : (v : V) → P v → length (f.spell v) ≤ most
+  pub faults : (left : Left) (d : DerFault) → f.read left ≡ Err d → IsInside d
+
+abbrev pub Any : List ℕ → Type 0
+Any more = Unit {0}
+
+-- ---- a primitive field that must stand
+
+value_found : {V : Type 0} (o : Option V) (at : ℕ) (v : V) → value_of o at ≡ Ok v → o ≡ Some v
+value_found (Some x) at v e = ap Some (ok_is x v e)
+value_found None at v e = absurd cc
+
+value_faults : {V : Type 0} (o : Option V) (at : ℕ) (d : DerFault) → value_of o at ≡ Err d → IsInside d
+value_faults (Some x) at d e = absurd (no_value d x e)
+value_faults None at d e = field_inside at d e
+
+required_takes : {V : Type 0} (P : V → Type 0) (most : ℕ) (kind : Contents V) (identifier : ℕ) → IsContents P most kind
+    → (left : Left) (v : V) (rest : Left) → IsBytes left.bytes → (required identifier kind).read left ≡ Ok (v, rest) → Takes (required identifier kind) P left.bytes v rest.bytes
+required_takes {V} P most kind identifier is left v rest fits e =
+    let part = bind_ok (element_at identifier left) (λ part. value_of (kind.read part.0.bytes) part.0.at >>= λ value. Ok (value, part.1)) (v, rest) e in
+    let found = bind_ok (value_of (kind.read part.0.0.bytes) part.0.0.at) (λ value. Ok (value, part.0.1)) (v, rest) part.2 in
+    let both : (found.0, part.0.1) ≡ (v, rest) = ok_is (found.0, part.0.1) (v, rest) found.2 in
+    let taken = element_takes identifier left part.0.0 part.0.1 fits part.1 in
+    let value = is.takes part.0.0.bytes found.0 taken.inside_fits (value_found (kind.read part.0.0.bytes) part.0.0.at found.0 found.1) in
+    let parts : left.bytes ≡ element identifier (kind.spell found.0) ++ part.0.1.bytes =
+    taken.parts ∙ ap (λ (x : List ℕ). element identifier x ++ part.0.1.bytes) value.0 in
+    subst (λ (x : V × Left). Takes (required identifier kind) P left.bytes x.0 x.1.bytes) both (parts, value.1, taken.rest_fits)
+
+required_again : {V : Type 0} (P : V → Type 0) (most : ℕ) (kind : Contents V) (identifier : ℕ) → most < 65536 → IsContents P most kind
+    → (v : V) (at : ℕ) (more : List ℕ) → P v → ReadsAgain (required identifier kind) v at more
+required_again P most kind identifier small is v at more p =
+    let read = element_again identifier at (kind.spell v) more (omega (arith, is.bound v p)) in
+    (read.1, rw (read.2, is.again v p) refl)
+
+required_faults : {V : Type 0} (kind : Contents V) (identifier : ℕ) (left : Left) (d : DerFault) → (required identifier kind).read left ≡ Err d → IsInside d
+required_faults {V} kind identifier left d e =
+    elim (bind_err (element_at identifier left) (λ part. value_of (kind.read part.0.bytes) part.0.at >>= λ value. Ok (value, part.1)) d e) [
+      | inl h ↦ element_faults identifier left d h
+      | inr h ↦ elim (bind_err (value_of (kind.read h.0.0.bytes) h.0.0.at) (λ value. Ok (value, h.0.1)) d h.2) [
+        | inl g ↦ value_faults (kind.read h.0.0.bytes) h.0.0.at d g
+        | inr g ↦ absurd (no_value d (g.0, h.0.1) g.2)
+      ]
+    ]
+
+pub required_is : {V : Type 0} (P : V → Type 0) (most : ℕ) (kind : Contents V) (identifier : ℕ) → most < 65536 → IsContents P most kind
+    → IsFormat P Any (overhead most + most) (required identifier kind)
+required_is P most kind identifier small is = record {
+  takes = required_takes P most kind identifier is;
+  again = λ v at more p any. required_again P most kind identifier small is v at more p;
+  bound = λ v p. element_bound identifier most (kind.spell v) (is.bound v p);
+  faults = required_faults kind identifier;
+}
+
+-- ---- a primitive field that may stand
+
+-- another element stands here, or none
+abbrev pub Stands : Bool → ℕ → List ℕ → Type 0
+Stands b identifier more = stands_at identifier more ≡ b
+
+optional_takes : {V : Type 0} (P : V → Type 0) (most : ℕ) (kind : Contents V) (identifier : ℕ) → IsContents P most kind
+    → (left : Left) (o : Option V) (rest : Left) → IsBytes left.bytes → (optional identifier kind).read left ≡ Ok (o, rest)
+    → Takes (optional identifier kind) (λ o. IfSome o P) left.bytes o rest.bytes
+optional_takes {V} P most kind identifier is left o rest fits e =
+    elim (chosen (stands_at identifier left.bytes) ((required identifier kind).read left >>= λ field. Ok (Some field.0, field.1)) (Ok (None, left)) (Ok (o, rest)) e) [
+      | inl h ↦
+          let field = bind_ok ((required identifier kind).read left) (λ field. Ok (Some field.0, field.1)) (o, rest) h.1 in
+          let both : (Some field.0.0, field.0.1) ≡ (o, rest) = ok_is (Some field.0.0, field.0.1) (o, rest) field.2 in
+          let taken = required_takes P most kind identifier is left field.0.0 field.0.1 fits field.1 in
+          subst (λ (x : Option V × Left). Takes (optional identifier kind) (λ o. IfSome o P) left.bytes x.0 x.1.bytes) both taken
+      | inr h ↦
+          let both : (None, left) ≡ (o, rest) = ok_is (None, left) (o, rest) h.1 in
+          subst (λ (x : Option V × Left). Takes (optional identifier kind) (λ o. IfSome o P) left.bytes x.0 x.1.bytes) both (refl, tt, fits)
+    ]
+
+optional_again : {V : Type 0} (P : V → Type 0) (most : ℕ) (kind : Contents V) (identifier : ℕ) → most < 65536 → IsContents P most kind
+    → (o : Option V) (at : ℕ) (more : List ℕ) → IfSome o P → Stands false identifier more → ReadsAgain (optional identifier kind) o at more
+optional_again P most kind identifier small is None at more p follows = (at, rw follows refl)
+optional_again P most kind identifier small is (Some v) at more p follows =
+    let read = required_again P most kind identifier small is v at more p in
+    (read.0, rw (element_stands identifier (kind.spell v) more, read.1) refl)
+
+optional_bound : {V : Type 0} (P : V → Type 0) (most : ℕ) (kind : Contents V) (identifier : ℕ) → IsContents P most kind
+    → (o : Option V) → IfSome o P → length ((optional identifier kind).spell o) ≤ overhead most + most
+optional_bound P most kind identifier is None p = omega arith
+optional_bound P most kind identifier is (Some v) p = element_bound identifier most (kind.spell v) (is.bound v p)
+
+optional_faults : {V : Type 0} (kind : Contents V) (identifier : ℕ) (left : Left) (d : DerFault) → (optional identifier kind).read left ≡ Err d → IsInside d
+optional_faults {V} kind identifier left d e =
+    elim (chosen (stands_at identifier left.bytes) ((required identifier kind).read left >>= λ field. Ok (Some field.0, field.1)) (Ok (None, left)) (Err d) e) [
+      | inl h ↦ elim (bind_err ((required identifier kind).read left) (λ field. Ok (Some field.0, field.1)) d h.1) [
+        | inl g ↦ required_faults kind identifier left d g
+        | inr g ↦ absurd (no_value d (Some g.0.0, g.0.1) g.2)
+      ]
+      | inr h ↦ absurd (no_value d (None, left) h.1)
+    ]
+
+pub optional_is : {V : Type 0} (P : V → Type 0) (most : ℕ) (kind : Contents V) (identifier : ℕ) → most < 65536 → IsContents P most kind
+    → IsFormat (λ o. IfSome o P) (Stands false identifier) (overhead most + most) (optional identifier kind)
+optional_is P most kind identifier small is = record {
+  takes = optional_takes P most kind identifier is;
+  again = optional_again P most kind identifier small is;
+  bound = optional_bound P most kind identifier is;
+  faults = optional_faults kind identifier;
+}
+
+-- ---- fields, and then further fields
+
+abbrev pub Both : {V W : Type 0} → (V → Type 0) → (W → Type 0) → V × W → Type 0
+Both P Q v = P v.0 × Q v.1
+
+followed_takes : {V W : Type 0} (P : V → Type 0) (Q : W → Type 0) (F G : List ℕ → Type 0) (m n : ℕ) (f : Format V) (g : Format W) → IsFormat P F m f → IsFormat Q G n g
+    → (left : Left) (v : V × W) (rest : Left) → IsBytes left.bytes → (followed_by f g).read left ≡ Ok (v, rest) → Takes (followed_by f g) (Both P Q) left.bytes v rest.bytes
+followed_takes {V} {W} P Q F G m n f g fs gs left v rest fits e =
+    let a = bind_ok (f.read left) (λ a. g.read a.1 >>= λ b. Ok ((a.0, b.0), b.1)) (v, rest) e in
+    let b = bind_ok (g.read a.0.1) (λ b. Ok ((a.0.0, b.0), b.1)) (v, rest) a.2 in
+    let both : ((a.0.0, b.0.0), b.0.1) ≡ (v, rest) = ok_is ((a.0.0, b.0.0), b.0.1) (v, rest) b.2 in
+    let first = fs.takes left a.0.0 a.0.1 fits a.1 in
+    let second = gs.takes a.0.1 b.0.0 b.0.1 first.2 b.1 in
+    let parts : left.bytes ≡ (f.spell a.0.0 ++ g.spell b.0.0) ++ b.0.1.bytes =
+    first.0 ∙ ap (λ (x : List ℕ). f.spell a.0.0 ++ x) second.0 ∙ sym (append_assoc (f.spell a.0.0) (g.spell b.0.0) b.0.1.bytes) in
+    subst (λ (x : (V × W) × Left). Takes (followed_by f g) (Both P Q) left.bytes x.0 x.1.bytes) both (parts, (first.1, second.1), second.2)
+
+followed_again : {V W : Type 0} (P : V → Type 0) (Q : W → Type 0) (F G : List ℕ → Type 0) (m n : ℕ) (f : Format V) (g : Format W) → IsFormat P F m f → IsFormat Q G n g
+    → ((w : W) (more : List ℕ) → Q w → F (g.spell w ++ more))
+    → (v : V × W) (at : ℕ) (more : List ℕ) → Both P Q v → G more → ReadsAgain (followed_by f g) v at more
+followed_again P Q F G m n f g fs gs joins v at more p follows =
+    let first = fs.again v.0 at (g.spell v.1 ++ more) p.0 (joins v.1 more p.1) in
+    let second = gs.again v.1 first.0 more p.1 follows in
+    (second.0, rw (append_assoc (f.spell v.0) (g.spell v.1) more, first.1, second.1) refl)
+
+followed_faults : {V W : Type 0} (P : V → Type 0) (Q : W → Type 0) (F G : List ℕ → Type 0) (m n : ℕ) (f : Format V) (g : Format W) → IsFormat P F m f → IsFormat Q G n g
+    → (left : Left) (d : DerFault) → (followed_by f g).read left ≡ Err d → IsInside d
+followed_faults P Q F G m n f g fs gs left d e =
+    elim (bind_err (f.read left) (λ a. g.read a.1 >>= λ b. Ok ((a.0, b.0), b.1)) d e) [
+      | inl h ↦ fs.faults left d h
+      | inr h ↦ elim (bind_err (g.read h.0.1) (λ b. Ok ((h.0.0, b.0), b.1)) d h.2) [
+        | inl i ↦ gs.faults h.0.1 d i
+        | inr i ↦ absurd (no_value d ((h.0.0, i.0.0), i.0.1) i.2)
+      ]
+    ]
+
+pub followed_is : {V W : Type 0} (P : V → Type 0) (Q : W → Type 0) (F G : List ℕ → Type 0) (m n : ℕ) (f : Format V) (g : Format W) → IsFormat P F m f → IsFormat Q G n g
+    → ((w : W) (more : List ℕ) → Q w → F (g.spell w ++ more)) → IsFormat (Both P Q) G (m + n) (followed_by f g)
+followed_is P Q F G m n f g fs gs joins = record {
+  takes = followed_takes P Q F G m n f g fs gs;
+  again = followed_again P Q F G m n f g fs gs joins;
+  bound = λ v p. omega (arith, length-append (f.spell v.0) (g.spell v.1), fs.bound v.0 p.0, gs.bound v.1 p.1);
+  faults = followed_faults P Q F G m n f g fs gs;
+}
+
+-- ---- a yes or no, and behind a yes a further field
+
+where_takes : {V : Type 0} (Q : Bool → Type 0) (P : V → Type 0) (F G : List ℕ → Type 0) (m n : ℕ) (answer : Format Bool) (field : Format V) → IsFormat Q F m answer → IsFormat P G n field
+    → (left : Left) (o : Option V) (rest : Left) → IsBytes left.bytes → (where_yes answer field).read left ≡ Ok (o, rest) → Takes (where_yes answer field) (λ o. IfSome o P) left.bytes o rest.bytes
+where_takes {V} Q P F G m n answer field qs fs left o rest fits e =
+    let accepts = bind_ok (answer.read left) (λ accepts. cond accepts.0 (field.read accepts.1 >>= λ found. Ok (Some found.0, found.1)) (Ok (None, accepts.1))) (o, rest) e in
+    let first = qs.takes left accepts.0.0 accepts.0.1 fits accepts.1 in
+    elim (chosen {A = Result (Option V × Left) DerFault} accepts.0.0 (field.read accepts.0.1 >>= λ found. Ok (Some found.0, found.1)) (Ok (None, accepts.0.1)) (Ok (o, rest)) accepts.2) [
+      | inl h ↦
+          let found = bind_ok (field.read accepts.0.1) (λ found. Ok (Some found.0, found.1)) (o, rest) h.1 in
+          let both : (Some found.0.0, found.0.1) ≡ (o, rest) = ok_is (Some found.0.0, found.0.1) (o, rest) found.2 in
+          let second = fs.takes accepts.0.1 found.0.0 found.0.1 first.2 found.1 in
+          let parts : left.bytes ≡ (answer.spell true ++ field.spell found.0.0) ++ found.0.1.bytes =
+          first.0 ∙ ap (λ (b : Bool). answer.spell b ++ accepts.0.1.bytes) h.0
+          ∙ ap (λ (x : List ℕ). answer.spell true ++ x) second.0 ∙ sym (append_assoc (answer.spell true) (field.spell found.0.0) found.0.1.bytes) in
+          subst (λ (x : Option V × Left). Takes (where_yes answer field) (λ o. IfSome o P) left.bytes x.0 x.1.bytes) both (parts, second.1, second.2)
+      | inr h ↦
+          let both : (None, accepts.0.1) ≡ (o, rest) = ok_is (None, accepts.0.1) (o, rest) h.1 in
+          let parts : left.bytes ≡ (answer.spell false ++ []) ++ accepts.0.1.bytes =
+          first.0 ∙ ap (λ (b : Bool). answer.spell b ++ accepts.0.1.bytes) h.0 ∙ ap (λ (x : List ℕ). x ++ accepts.0.1.bytes) (sym (append-nil (answer.spell false))) in
+          subst (λ (x : Option V × Left). Takes (where_yes answer field) (λ o. IfSome o P) left.bytes x.0 x.1.bytes) both (parts, tt, first.2)
+    ]
+
+where_again : {V : Type 0} (Q : Bool → Type 0) (P : V → Type 0) (G : List ℕ → Type 0) (m n : ℕ) (answer : Format Bool) (field : Format V) → IsFormat Q Any m answer → IsFormat P G n field
+    → ((b : Bool) → Q b) → (o : Option V) (at : ℕ) (more : List ℕ) → IfSome o P → G more → ReadsAgain (where_yes answer field) o at more
+where_again Q P G m n answer field qs fs each None at more p follows =
+    let first = qs.again false at more (each false) tt in
+    (first.0, rw (append-nil (answer.spell false), first.1) refl)
+where_again Q P G m n answer field qs fs each (Some v) at more p follows =
+    let first = qs.again true at (field.spell v ++ more) (each true) tt in
+    let second = fs.again v first.0 more p follows in
+    (second.0, rw (append_assoc (answer.spell true) (field.spell v) more, first.1, second.1) refl)
+
+where_bound : {V : Type 0} (Q : Bool → Type 0) (P : V → Type 0) (F G : List ℕ → Type 0) (m n : ℕ) (answer : Format Bool) (field : Format V) → IsFormat Q F m answer → IsFormat P G n field
+    → ((b : Bool) → Q b) → (o : Option V) → IfSome o P → length ((where_yes answer field).spell o) ≤ m + n
+where_bound Q P F G m n answer field qs fs each None p = omega (arith, length-append (answer.spell false) [], qs.bound false (each false))
+where_bound Q P F G m n answer field qs fs each (Some v) p = omega (arith, length-append (answer.spell true) (field.spell v), qs.bound true (each true), fs.bound v p)
+
+where_faults : {V : Type 0} (Q : Bool → Type 0) (P : V → Type 0) (F G : List ℕ → Type 0) (m n : ℕ) (answer : Format Bool) (field : Format V) → IsFormat Q F m answer → IsFormat P G n field
+    → (left : Left) (d : DerFault) → (where_yes answer field).read left ≡ Err d → IsInside d
+where_faults {V} Q P F G m n answer field qs fs left d e =
+    elim (bind_err (answer.read left) (λ accepts. cond accepts.0 (field.read accepts.1 >>= λ found. Ok (Some found.0, found.1)) (Ok (None, accepts.1))) d e) [
+      | inl h ↦ qs.faults left d h
+      | inr h ↦ elim (chosen {A = Result (Option V × Left) DerFault} h.0.0 (field.read h.0.1 >>= λ found. Ok (Some found.0, found.1)) (Ok (None, h.0.1)) (Err d) h.2) [
+        | inl g ↦ elim (bind_err (field.read h.0.1) (λ found. Ok (Some found.0, found.1)) d g.1) [
+          | inl i ↦ fs.faults h.0.1 d i
+          | inr i ↦ absurd (no_value d (Some i.0.0, i.0.1) i.2)
+        ]
+        | inr g ↦ absurd (no_value d (None, h.0.1) g.1)
+      ]
+    ]
+
+pub where_is : {V : Type 0} (Q : Bool → Type 0) (P : V → Type 0) (G : List ℕ → Type 0) (m n : ℕ) (answer : Format Bool) (field : Format V) → IsFormat Q Any m answer → IsFormat P G n field
+    → ((b : Bool) → Q b) → IsFormat (λ o. IfSome o P) G (m + n) (where_yes answer field)
+where_is Q P G m n answer field qs fs each = record {
+  takes = where_takes Q P Any G m n answer field qs fs;
+  again = where_again Q P G m n answer field qs fs each;
+  bound = where_bound Q P Any G m n answer field qs fs each;
+  faults = where_faults Q P Any G m n answer field qs fs;
+}
+
+-- ---- a constructed field
+
+constructed_takes : {V : Type 0} (P : V → Type 0) (F : List ℕ → Type 0) (m : ℕ) (f : Format V) (identifier : ℕ) → IsFormat P F m f
+    → (left : Left) (v : V) (rest : Left) → IsBytes left.bytes → (constructed identifier f).read left ≡ Ok (v, rest) → Takes (constructed identifier f) P left.bytes v rest.bytes
+constructed_takes {V} P F m f identifier fs left v rest fits e =
+    let part = bind_ok (element_at identifier left) (λ part. f.read part.0 >>= λ found. ended found.1 >>= λ _. Ok (found.0, part.1)) (v, rest) e in
+    let found = bind_ok (f.read part.0.0) (λ found. ended found.1 >>= λ _. Ok (found.0, part.0.1)) (v, rest) part.2 in
+    let over = bind_ok (ended found.0.1) (λ _. Ok (found.0.0, part.0.1)) (v, rest) found.2 in
+    let both : (found.0.0, part.0.1) ≡ (v, rest) = ok_is (found.0.0, part.0.1) (v, rest) over.2 in
+    let taken = element_takes identifier left part.0.0 part.0.1 fits part.1 in
+    let inside = fs.takes part.0.0 found.0.0 found.0.1 taken.inside_fits found.1 in
+    let whole : part.0.0.bytes ≡ f.spell found.0.0 = inside.0 ∙ ap (λ (x : List ℕ). f.spell found.0.0 ++ x) (ended_is found.0.1 over.0 over.1) ∙ append-nil (f.spell found.0.0) in
+    let parts : left.bytes ≡ element identifier (f.spell found.0.0) ++ part.0.1.bytes =
+    taken.parts ∙ ap (λ (x : List ℕ). element identifier x ++ part.0.1.bytes) whole in
+    subst (λ (x : V × Left). Takes (constructed identifier f) P left.bytes x.0 x.1.bytes) both (parts, inside.1, taken.rest_fits)
+
+constructed_again : {V : Type 0} (P : V → Type 0) (F : List ℕ → Type 0) (m : ℕ) (f : Format V) (identifier : ℕ) → m < 65536 → IsFormat P F m f → F []
+    → (v : V) (at : ℕ) (more : List ℕ) → P v → ReadsAgain (constructed identifier f) v at more
+constructed_again P F m f identifier small fs closes v at more p =
+    let read = element_again identifier at (f.spell v) more (omega (arith, fs.bound v p)) in
+    let inside = fs.again v read.0 [] p closes in
+    let whole : f.read (left_at read.0 (f.spell v)) ≡ Ok (v, left_at inside.0 []) = ap (λ (x : List ℕ). f.read (left_at read.0 x)) (sym (append-nil (f.spell v))) ∙ inside.1 in
+    (read.1, rw (read.2, whole) refl)
+
+constructed_faults : {V : Type 0} (P : V → Type 0) (F : List ℕ → Type 0) (m : ℕ) (f : Format V) (identifier : ℕ) → IsFormat P F m f
+    → (left : Left) (d : DerFault) → (constructed identifier f).read left ≡ Err d → IsInside d
+constructed_faults P F m f identifier fs left d e =
+    elim (bind_err (element_at identifier left) (λ part. f.read part.0 >>= λ found. ended found.1 >>= λ _. Ok (found.0, part.1)) d e) [
+      | inl h ↦ element_faults identifier left d h
+      | inr h ↦ elim (bind_err (f.read h.0.0) (λ found. ended found.1 >>= λ _. Ok (found.0, h.0.1)) d h.2) [
+        | inl g ↦ fs.faults h.0.0 d g
+        | inr g ↦ elim (bind_err (ended g.0.1) (λ _. Ok (g.0.0, h.0.1)) d g.2) [
+          | inl k ↦ ended_faults g.0.1 d k
+          | inr k ↦ absurd (no_value d (g.0.0, h.0.1) k.2)
+        ]
+      ]
+    ]
+
+pub constructed_is : {V : Type 0} (P : V → Type 0) (F : List ℕ → Type 0) (m : ℕ) (f : Format V) (identifier : ℕ) → m < 65536 → IsFormat P F m f → F []
+    → IsFormat P Any (overhead m + m) (constructed identifier f)
+constructed_is P F m f identifier small fs closes = record {
+  takes = constructed_takes P F m f identifier fs;
+  again = λ v at more p any. constructed_again P F m f identifier small fs closes v at more p;
+  bound = λ v p. element_bound identifier m (f.spell v) (fs.bound v p);
+  faults = constructed_faults P F m f identifier fs;
+}

@@ -1,0 +1,11 @@
+pub mod Chains
+pub mod Bytes
+pub mod Lengths
+pub mod Elements
+pub mod Formats
+pub mod ContentsLaws
+pub mod ShortFormLaws
+pub mod StreamLemmas
+pub mod Sizes
+pub mod WriteLemmas
+pub mod SpellingLaws

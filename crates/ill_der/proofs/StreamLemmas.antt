@@ -1,0 +1,95 @@
+-- Reading one byte after another.
+use Rattle.std.proofs.Common.{◌≡◌, ℕ, zero, suc, ◌<◌, ◌≤◌, List, [], ◌∷◌, ◌++◌, length, get_or, take, drop, Option, Some, None, Result, Ok, Err, ◌⊎◌, inl, inr, refl, sym, ap, subst, ◌∙◌, append_assoc, arith}
+use Rattle.std.specs.Io.KnownBytes.{Consumes}
+use Rattle.std.proofs.lemmas.Bool.{cases_lt}
+use Rattle.std.proofs.lemmas.List.{append-nil, take_at, take-append-le, length-append, length-take}
+use Rattle.ill_values.specs.declared.apdu.Apdu.{Apdu}
+use Rattle.ill_der.specs.declared.fault.DerFault.{DerFault}
+use Rattle.ill_der.specs.declared.fault.DerFault.TheVariants.{Short, OutOfMemory}
+use Rattle.ill_values.specs.Apdu.{IsApdu}
+use Rattle.ill_der.specs.ShortForm.{spelling, apdu_at, Decodes}
+use Rattle.ill_der.specs.Stream.{IsUnfinished, AreUnfinished, SpellsOne}
+use Rattle.ill_der.proofs.Chains.{no_value}
+use Rattle.ill_der.specs.Laws.{IsBytes}
+use Rattle.ill_der.proofs.ShortFormLaws.{apdu_takes, apdu_again, apdu_short, apdu_memory}
+
+take-nil : (n : ℕ) → take {A = ℕ} n [] ≡ []
+take-nil zero = refl
+take-nil (suc n) = refl
+
+-- what a read of one byte put into a buffer of one byte
+pub one_read : (count : ℕ) (buffer : List ℕ) → length buffer ≡ 1 → 1 ≤ count → take count buffer ≡ get_or buffer 0 0 ∷ []
+one_read count [] e h = absurd (omega arith)
+one_read zero (x ∷ rest) e h = absurd (omega arith)
+one_read (suc count) (x ∷ []) e h = ap (λ (rest : List ℕ). x ∷ rest) (take-nil count)
+one_read (suc count) (x ∷ y ∷ rest) e h = absurd (omega arith)
+
+-- ---- what decoding a front says
+
+decodes_ok : (bytes : List ℕ) (read : Result (Apdu × List ℕ) DerFault) (found : Apdu × ℕ) → Decodes bytes read (Ok found) → read ≡ Ok (found.0, drop found.1 bytes)
+decodes_ok bytes (Ok x) found h = ap Ok h.1
+decodes_ok bytes (Err fault) found h = absurd cc
+
+decodes_err : (bytes : List ℕ) (read : Result (Apdu × List ℕ) DerFault) (fault : DerFault) → Decodes bytes read (Err fault)
+    → (read ≡ Err fault) ⊎ ((fault ≡ OutOfMemory) × ((x : Apdu × List ℕ) × (read ≡ Ok x)))
+decodes_err bytes (Ok x) fault h = inr (h, (x, refl))
+decodes_err bytes (Err f) fault h = inl (let e : f ≡ fault = cc in ap Err e)
+
+-- all of the bytes are the APDU, where each shorter front is unfinished
+exact : (bytes rest : List ℕ) (apdu : Apdu) → IsBytes bytes → AreUnfinished bytes → apdu_at bytes ≡ Ok (apdu, rest) → IsApdu apdu × (bytes ≡ spelling apdu)
+exact bytes [] apdu fits fronts e =
+    let taken = apdu_takes bytes apdu [] fits e in
+    (taken.0, taken.1 ∙ append-nil (spelling apdu))
+exact bytes (x ∷ rest) apdu fits fronts e =
+    let taken = apdu_takes bytes apdu (x ∷ rest) fits e in
+    let text = spelling apdu in
+    let longer : length text < length bytes = omega (arith, ap length taken.1, length-append text (x ∷ rest)) in
+    let front : take (length text) bytes ≡ text = ap (take (length text)) taken.1 ∙ take_at text (x ∷ rest) (length text) refl in
+    let again : apdu_at text ≡ Ok (apdu, []) = ap apdu_at (sym (append-nil text)) ∙ apdu_again apdu [] taken.0 in
+    absurd (no_value (Short (length (take (length text) bytes))) (apdu, []) (sym again ∙ ap apdu_at (sym front) ∙ fronts (length text) longer))
+
+pub spelled_exactly : (bytes : List ℕ) (found : Apdu × ℕ) → IsBytes bytes → AreUnfinished bytes → Decodes bytes (apdu_at bytes) (Ok found) → IsApdu found.0 × (bytes ≡ spelling found.0)
+spelled_exactly bytes found fits fronts h = exact bytes (drop found.1 bytes) found.0 fits fronts (decodes_ok bytes (apdu_at bytes) found h)
+
+short_no_memory : (n : ℕ) → Short n ≡ OutOfMemory → ⊥
+short_no_memory n e = cc
+
+pub spelled_without_memory : (bytes : List ℕ) → IsBytes bytes → AreUnfinished bytes → Decodes bytes (apdu_at bytes) (Err OutOfMemory) → SpellsOne bytes
+spelled_without_memory bytes fits fronts h =
+    elim (decodes_err bytes (apdu_at bytes) OutOfMemory h) [
+      | inl e ↦ absurd (apdu_memory bytes e)
+      | inr e ↦ let is = exact bytes e.1.0.1 e.1.0.0 fits fronts e.1.1 in (e.1.0.0, is.0, is.1)
+    ]
+
+pub short_is_unfinished : (bytes : List ℕ) (n : ℕ) → Decodes bytes (apdu_at bytes) (Err (Short n)) → IsUnfinished bytes
+short_is_unfinished bytes n h =
+    elim (decodes_err bytes (apdu_at bytes) (Short n) h) [
+      | inl e ↦ e ∙ ap (λ (k : ℕ). Err (Short k)) (apdu_short bytes n e).0
+      | inr e ↦ absurd (short_no_memory n e.0)
+    ]
+
+-- ---- a loop that reads one more byte
+
+pub more_unfinished : (front : List ℕ) (byte : ℕ) → AreUnfinished front → IsUnfinished front → AreUnfinished (front ++ byte ∷ [])
+more_unfinished front byte fronts last size lt =
+    elim (cases_lt size (length front)) [
+      | inl shorter ↦ subst IsUnfinished (sym (take-append-le size front (byte ∷ []) (omega arith))) (fronts size shorter)
+      | inr le ↦
+          let is : length front ≡ size = omega (arith, length-append front (byte ∷ [])) in
+          subst IsUnfinished (sym (take_at front (byte ∷ []) size is)) last
+    ]
+
+pub consumes_more : (old middle new : Option (List ℕ)) (front bytes : List ℕ) → Consumes old middle front → Consumes middle new bytes → Consumes old new (front ++ bytes)
+consumes_more None middle new front bytes first second = tt
+consumes_more (Some xs) None new front bytes first second = absurd first
+consumes_more (Some xs) (Some ys) None front bytes first second = absurd second
+consumes_more (Some xs) (Some ys) (Some zs) front bytes first second = first ∙ ap (λ (x : List ℕ). front ++ x) second ∙ sym (append_assoc front bytes zs)
+
+pub consumes_nothing : (old middle new : Option (List ℕ)) (front : List ℕ) → Consumes old middle front → Consumes middle new [] → Consumes old new front
+consumes_nothing old middle new front first second = subst (Consumes old new) (append-nil front) (consumes_more old middle new front [] first second)
+
+-- no more bytes are unfinished than 358
+pub not_so_many : (bytes : List ℕ) → 360 ≤ length bytes → AreUnfinished bytes → ⊥
+not_so_many bytes many fronts =
+    let size : length (take 359 bytes) ≡ 359 = omega (arith, length-take 359 bytes) in
+    omega (arith, size, (apdu_short (take 359 bytes) (length (take 359 bytes)) (fronts 359 (omega arith))).1)

@@ -1,0 +1,5 @@
+use Rattle.ill_der.proofs.ShortFormLaws.{fault_stays}
+use Rattle.ill_der.proofs.laws.fault_stays.Goals as goal
+
+pub returns : goal.returns
+returns c = fault_stays

@@ -1,0 +1,5 @@
+use Rattle.ill_der.proofs.SpellingLaws.{no_prefix}
+use Rattle.ill_der.proofs.laws.no_prefix.Goals as goal
+
+pub returns : goal.returns
+returns c = no_prefix

@@ -1,0 +1,19 @@
+use Rattle.std.proofs.Common.{ℕ, List, length, take, ap, subst, arith}
+use Rattle.std.specs.Io.KnownBytes.{Appends}
+use Rattle.std.proofs.lemmas.List.{length-drop}
+use Rattle.ill_der.proofs.WriteLemmas.{appends_from, whole_rest}
+use Rattle.ill_der.proofs.writing.write_bytes_counted.Goals as goal
+
+pub loop-preserved : goal.loop-preserved
+loop-preserved g c =
+    let bytes = c.args.bytes.now in
+    let written = c.loop.written in
+    let count = c.in-Ok.count in
+    let rest = whole_rest written bytes in
+    let taken = subst (λ (x : List ℕ). Appends (g.W.Write.contents c.loop.writer) (g.W.Write.contents c.write.new.self) (take count x)) rest c.in-Ok.ensures.bytes in
+    record {
+      front = omega (arith, c.in-Ok.ensures.bound, ap length rest, length-drop written bytes);
+      turns = omega arith;
+      ticks = omega (arith, c.tick.ensures, c.loop.invariant.ticks);
+      appended = appends_from _ _ _ written count bytes c.loop.invariant.appended taken;
+    }

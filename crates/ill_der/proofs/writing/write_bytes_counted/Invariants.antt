@@ -1,0 +1,12 @@
+use Rattle.std.proofs.Common.{◌≡◌, ◌+◌, ◌≤◌, length, take}
+use Rattle.std.specs.Io.KnownBytes.{Appends}
+use Rattle.ill_der.proofs.writing.write_bytes_counted.Given as goal
+
+-- a front was written, with a byte for each turn or more
+abbrev pub invariant-loop : goal.invariant-loop
+invariant-loop g l = record {
+  front : l.written ≤ length l.bytes;
+  turns : l.counter ≤ l.written;
+  ticks : l.steps ≡ l.initial.steps + l.counter;
+  appended : Appends (g.W.Write.contents l.initial.writer) (g.W.Write.contents l.writer) (take l.written l.bytes);
+}

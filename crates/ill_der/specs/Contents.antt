@@ -1,0 +1,81 @@
+-- The contents of the primitive fields of an APDU, for both directions.
+use Rattle.std.specs.Prelude.{ℕ, Bool, true, false, ◌&&◌, ◌==◌, nat_lt, nat_le, if◌then◌else◌, List, [], ◌∷◌, Option, Some, None, is_ok, find}
+use Rattle.std.specs.Str.{bytes_eq}
+use Rattle.std.specs.Result.{result_ok}
+use Rattle.ill_values.specs.declared.apdu.AnswerResult.{AnswerResult}
+use Rattle.ill_values.specs.declared.apdu.AnswerResult.TheVariants.{Conditional, Retry, Unfilled, LocationsProvided, WillSupply, HoldPlaced, Estimate}
+use Rattle.ill_values.specs.Day.{Date, date_text, read_date}
+use Rattle.ill_values.specs.Text.{qualifier_check, item_check}
+
+-- how one kind of contents stands for values: the contents of a value, and the value of contents
+pub record Contents (V : Type 0) : Type 0 where
+  pub spell : V → List ℕ
+  pub read : List ℕ → Option V
+
+-- an INTEGER of one or two octets, minimal in two's complement (X.690 8.3): 1 to 255
+abbrev pub number_octets : ℕ → List ℕ
+number_octets n = if nat_lt n 128 then n ∷ [] else 0 ∷ n ∷ []
+
+abbrev pub number_from : List ℕ → Option ℕ
+number_from [] = None
+number_from (n ∷ []) = if nat_le 1 n && nat_lt n 128 then Some n else None
+number_from (high ∷ n ∷ []) = if (high == 0) && nat_le 128 n then Some n else None
+number_from (high ∷ n ∷ more ∷ rest) = None
+
+abbrev pub number : Contents ℕ
+number = record { spell = number_octets; read = number_from }
+
+-- version 1 of this profile: the one octet 01
+abbrev pub version_from : List ℕ → Option (Unit {0})
+version_from bytes = if bytes_eq bytes (1 ∷ []) then Some tt else None
+
+abbrev pub version : Contents (Unit {0})
+version = record { spell = λ _. 1 ∷ []; read = version_from }
+
+-- a qualifier, as its own bytes
+abbrev pub qualifier_from : List ℕ → Option (List ℕ)
+qualifier_from bytes = if is_ok (qualifier_check bytes) then Some bytes else None
+
+abbrev pub qualifier : Contents (List ℕ)
+qualifier = record { spell = λ text. text; read = qualifier_from }
+
+-- an item, as its own bytes
+abbrev pub item_from : List ℕ → Option (List ℕ)
+item_from bytes = if is_ok (item_check bytes) then Some bytes else None
+
+abbrev pub item : Contents (List ℕ)
+item = record { spell = λ text. text; read = item_from }
+
+-- a day, as its date text
+abbrev pub date : Contents Date
+date = record { spell = date_text; read = λ bytes. result_ok (read_date bytes) }
+
+-- the octet of a result (this profile's own)
+abbrev pub code_of : AnswerResult → ℕ
+code_of Conditional = 1
+code_of Retry = 2
+code_of Unfilled = 3
+code_of LocationsProvided = 4
+code_of WillSupply = 5
+code_of HoldPlaced = 6
+code_of Estimate = 7
+
+abbrev pub all_results : List AnswerResult
+all_results = Conditional ∷ Retry ∷ Unfilled ∷ LocationsProvided ∷ WillSupply ∷ HoldPlaced ∷ Estimate ∷ []
+
+abbrev pub result_from : List ℕ → Option AnswerResult
+result_from [] = None
+result_from (code ∷ []) = find (λ result. code == code_of result) all_results
+result_from (code ∷ more ∷ rest) = None
+
+abbrev pub answer_result : Contents AnswerResult
+answer_result = record { spell = λ result. code_of result ∷ []; read = result_from }
+
+-- a BOOLEAN: the octet 00 for no, and FF for yes (X.690 8.2, 11.1)
+abbrev pub yes_no_from : List ℕ → Option Bool
+yes_no_from [] = None
+yes_no_from (octet ∷ []) = if octet == 0 then Some false else (if octet == 0xFF then Some true else None)
+yes_no_from (octet ∷ more ∷ rest) = None
+
+abbrev pub yes_no : Contents Bool
+yes_no = record { spell = λ accepts. (if accepts then 0xFF else 0) ∷ []; read = yes_no_from }

@@ -1,0 +1,147 @@
+-- Elements of DER, and fields that stand one after another: how they are spelled and how they are
+-- read, in one description for both directions.
+use Rattle.std.specs.Prelude.{◌≡◌, ℕ, ◌+◌, ◌*◌, ◌/◌, ◌%◌, ◌≤◌, Bool, false, ◌==◌, nat_lt, if◌then◌else◌, List, [], ◌∷◌, ◌++◌, length, take, drop, Option, Some, None, is_some, Result, Ok, Err}
+use Rattle.ill_der.specs.declared.fault.DerFault.{DerFault}
+use Rattle.ill_der.specs.declared.fault.DerFault.TheVariants.{Tag, Length, Field}
+use Rattle.ill_der.specs.declared.length.LengthForm.{LengthForm}
+use Rattle.ill_der.specs.declared.length.LengthForm.TheVariants.{Cut, Wrong, Is}
+use Rattle.ill_der.specs.Contents.{Contents}
+
+-- one step after another, up to the first fault
+infixl 10 ◌>>=◌
+abbrev pub ◌>>=◌ : {A B : Type 0} → Result A DerFault → (A → Result B DerFault) → Result B DerFault
+(Ok value) >>= next = next value
+(Err fault) >>= next = Err fault
+
+-- ---- lengths
+
+-- the length octets of a number of contents octets, in the shortest form (X.690 8.1.3, 10.1)
+unfoldable pub length_octets : ℕ → List ℕ
+length_octets n =
+    if nat_lt n 128 then n ∷ []
+    else (if nat_lt n 256 then 0x81 ∷ n ∷ [] else 0x82 ∷ n / 256 ∷ n % 256 ∷ [])
+
+-- what stands behind the octet 81: a length from 128 on
+abbrev pub one_octet_length : List ℕ → LengthForm
+one_octet_length [] = Cut
+one_octet_length (n ∷ rest) = if nat_lt n 128 then Wrong else Is n 2
+
+-- what stands behind the octet 82: a length from 256 on
+abbrev pub two_octet_length : List ℕ → LengthForm
+two_octet_length [] = Cut
+two_octet_length (high ∷ []) = Cut
+two_octet_length (high ∷ low ∷ rest) = if high == 0 then Wrong else Is (256 * high + low) 3
+
+-- The length that octets begin with, and of how many octets it is. It is wrong where it is none of
+-- the three shortest forms, and cut where the octets end within it.
+unfoldable pub length_of : List ℕ → LengthForm
+length_of [] = Cut
+length_of (first ∷ rest) =
+    if nat_lt first 128 then Is first 1
+    else (if first == 0x81 then one_octet_length rest else (if first == 0x82 then two_octet_length rest else Wrong))
+
+-- a length that is cut ends within two octets, and no length has more than three
+abbrev pub IsFew : LengthForm → ℕ → Type 0
+IsFew Cut bytes = bytes ≤ 2
+IsFew Wrong bytes = Unit {0}
+IsFew (Is n octets) bytes = octets ≤ 3
+
+-- ---- elements
+
+-- an element: its identifier octet, its length and its contents (X.690 8.1.1)
+unfoldable pub element : ℕ → List ℕ → List ℕ
+element identifier contents = identifier ∷ (length_octets (length contents) ++ contents)
+
+-- What is left to read of an element: its bytes, and the place of the first of them, which is
+-- counted from the first byte of the APDU.
+pub record Left : Type 0 where
+  pub at : ℕ
+  pub bytes : List ℕ
+
+abbrev pub left_at : ℕ → List ℕ → Left
+left_at at bytes = record { at = at; bytes = bytes }
+
+-- the contents of the element whose identifier stands just before the bytes, and what follows it
+abbrev pub contents_by : LengthForm → Left → Result (Left × Left) DerFault
+contents_by (Is n octets) left =
+    if nat_lt (length left.bytes) (octets + n) then Err (Length left.at)
+    else Ok (left_at (left.at + octets) (take n (drop octets left.bytes)), left_at (left.at + (octets + n)) (drop (octets + n) left.bytes))
+contents_by Cut left = Err (Length left.at)
+contents_by Wrong left = Err (Length left.at)
+
+-- whether the element with this identifier stands here
+abbrev pub stands_at : ℕ → List ℕ → Bool
+stands_at identifier [] = false
+stands_at identifier (first ∷ rest) = first == identifier
+
+-- the contents of the element with this identifier that must stand here, and what follows it
+unfoldable pub element_at : ℕ → Left → Result (Left × Left) DerFault
+element_at identifier left =
+    if stands_at identifier left.bytes then contents_by (length_of (drop 1 left.bytes)) (left_at (left.at + 1) (drop 1 left.bytes))
+    else Err (Tag left.at)
+
+-- nothing is left
+abbrev pub ended : Left → Result (Unit {0}) DerFault
+ended left = if length left.bytes == 0 then Ok tt else Err (Tag left.at)
+
+-- ---- descriptions of fields
+
+-- how a value is spelled, and how it is read from what is left
+pub record Format (V : Type 0) : Type 0 where
+  pub spell : V → List ℕ
+  pub read : Left → Result (V × Left) DerFault
+
+-- the value of contents, or the fault at the place of the first contents octet
+abbrev pub value_of : {V : Type 0} → Option V → ℕ → Result V DerFault
+value_of (Some value) at = Ok value
+value_of None at = Err (Field at)
+
+-- a primitive field that must stand
+abbrev pub required : {V : Type 0} → ℕ → Contents V → Format V
+required identifier kind = record {
+  spell = λ value. element identifier (kind.spell value);
+  read = λ left. element_at identifier left >>= λ part. value_of (kind.read part.0.bytes) part.0.at >>= λ value. Ok (value, part.1);
+}
+
+abbrev pub spell_some : {V : Type 0} → (V → List ℕ) → Option V → List ℕ
+spell_some spell None = []
+spell_some spell (Some value) = spell value
+
+-- a primitive field that may stand
+abbrev pub optional : {V : Type 0} → ℕ → Contents V → Format (Option V)
+optional identifier kind = record {
+  spell = spell_some (required identifier kind).spell;
+  read = λ left. if stands_at identifier left.bytes then ((required identifier kind).read left >>= λ field. Ok (Some field.0, field.1)) else Ok (None, left);
+}
+
+-- fields, and then further fields
+abbrev pub followed_by : {V W : Type 0} → Format V → Format W → Format (V × W)
+followed_by first second = record {
+  spell = λ value. first.spell value.0 ++ second.spell value.1;
+  read = λ left. first.read left >>= λ a. second.read a.1 >>= λ b. Ok ((a.0, b.0), b.1);
+}
+
+-- a yes or no, and behind a yes a further field
+abbrev pub where_yes : {V : Type 0} → Format Bool → Format V → Format (Option V)
+where_yes answer field = record {
+  spell = λ o. answer.spell (is_some o) ++ spell_some field.spell o;
+  read = λ left. answer.read left >>= λ accepts. if accepts.0 then (field.read accepts.1 >>= λ found. Ok (Some found.0, found.1)) else Ok (None, accepts.1);
+}
+
+-- no field
+abbrev pub nothing : Format (Unit {0})
+nothing = record { spell = λ _. []; read = λ left. Ok (tt, left) }
+
+-- a constructed field that must stand, with these fields and nothing else in it
+abbrev pub constructed : {V : Type 0} → ℕ → Format V → Format V
+constructed identifier inside = record {
+  spell = λ value. element identifier (inside.spell value);
+  read = λ left. element_at identifier left >>= λ part. inside.read part.0 >>= λ found. ended found.1 >>= λ _. Ok (found.0, part.1);
+}
+
+-- ---- what the code gives
+
+-- A reader gave what reading gives, its value seen by view, and left the cursor where reading does.
+abbrev pub Reads : {X V : Type 0} → (X → V) → Result X DerFault → Left → Result (V × Left) DerFault → Type 0
+Reads view (Ok value) left read = read ≡ Ok (view value, left)
+Reads view (Err fault) left read = read ≡ Err fault

@@ -1,0 +1,6 @@
+pub mod Types
+pub mod Contents
+pub mod Format
+pub mod ShortForm
+pub mod Stream
+pub mod Laws

@@ -1,0 +1,192 @@
+//! What is left to read of an element's contents.
+
+ghost use Rattle.std.specs.Prelude.{◌≡◌, ◌+◌, ◌≤◌, length, IfOk, OnOk, Option};
+ghost use Rattle.ill_values.specs.Text.{IsQualifier, IsItem};
+ghost use Rattle.ill_der.specs.Contents.{number, number_from, version, qualifier, date, item, answer_result, result_from, yes_no};
+ghost use Rattle.ill_der.specs.Format.{Left, left_at, element_at, stands_at, ended, required, optional, Reads};
+
+use crate::fault::DerFault;
+use crate::length::{LengthForm, length_at_front};
+use ill_values::{AnswerResult, Day, Item, Number, TxnId};
+use std::marker::Model;
+
+/// The bytes of an element's contents that are not read yet, and the place of the first of them.
+#[derive(Debug, Drop)]
+pub struct Cursor<'a> {
+    at: u16,
+    bytes: &'a [u8],
+}
+
+impl<'a> Model for Cursor<'a> {
+    ghost Value = { Left };
+
+    ghost view = { λ c. record { at = c.at; bytes = c.bytes.now } };
+
+    ghost invariant = { λ c. c.at + length c.bytes.now ≤ 359 };
+}
+
+impl<'a> Cursor<'a> {
+    /// These bytes, of which the first stands at this place in the APDU.
+    pub fn new(at: u16, bytes: &'a [u8]) -> Cursor<'a>
+        requires { at + length bytes.now ≤ 359 }
+        ensures { result ≡ left_at at bytes.entry.now }
+    {
+        Cursor { at, bytes }
+    }
+
+    /// Nothing, if nothing is left.
+    pub fn ended(&self) -> Result<(), DerFault>
+        ensures { result ≡ ended self.now }
+    {
+        if self.bytes.is_empty() {
+            Ok(())
+        } else {
+            Err(DerFault::Tag(self.at))
+        }
+    }
+
+    /// Whether the element with this identifier stands here.
+    fn has(&self, identifier: u8) -> bool
+        ensures { result ≡ stands_at identifier self.now.bytes }
+    {
+        match self.bytes {
+            [first, ..] => *first == identifier,
+            [] => false,
+        }
+    }
+
+    /// Reads the contents of the element with this identifier, which must stand here.
+    #[tactic(auto, unfolding(crate::specs::Format::element_at))]
+    pub fn element(&mut self, identifier: u8) -> Result<Cursor<'a>, DerFault>
+        ensures { Reads (λ inside. inside) result self.new (element_at identifier self.old) }
+    {
+        if !self.has(identifier) {
+            return Err(DerFault::Tag(self.at));
+        }
+        let at = self.at + 1;
+        let bytes = &self.bytes[1..];
+        match length_at_front(bytes) {
+            LengthForm::Is(length, octets) => {
+                let (start, end) = (octets as usize, octets as usize + length as usize);
+                if bytes.len() < end {
+                    return Err(DerFault::Length(at));
+                }
+                self.at = at + octets + length;
+                self.bytes = &bytes[end..];
+                Ok(Cursor::new(at + octets, &bytes[start..end]))
+            }
+            LengthForm::Cut | LengthForm::Wrong => Err(DerFault::Length(at)),
+        }
+    }
+
+    /// Reads the version, which has the one value 1.
+    pub fn version(&mut self, identifier: u8) -> Result<(), DerFault>
+        ensures { Reads (λ v. v) result self.new ((required identifier version).read self.old) }
+    {
+        let inside = self.element(identifier)?;
+        match inside.bytes {
+            [1] => Ok(()),
+            _ => Err(DerFault::Field(inside.at)),
+        }
+    }
+
+    /// Reads the number of a message.
+    pub fn number(&mut self, identifier: u8) -> Result<Number, DerFault>
+        ensures { Reads (λ n. n) result self.new ((required identifier number).read self.old) }
+    {
+        let inside = self.element(identifier)?;
+        number_of(inside.bytes).ok_or(DerFault::Field(inside.at))
+    }
+
+    /// Reads a qualifier of a transaction id.
+    pub fn qualifier(&mut self, identifier: u8) -> Result<&'a [u8], DerFault>
+        ensures read { Reads (λ text. text.now) result self.new ((required identifier qualifier).read self.old) }
+        ensures qualifier { IfOk result (λ text. IsQualifier text.now) }
+    {
+        let inside = self.element(identifier)?;
+        if TxnId::is_qualifier(inside.bytes) {
+            Ok(inside.bytes)
+        } else {
+            Err(DerFault::Field(inside.at))
+        }
+    }
+
+    /// Reads an item.
+    pub fn item(&mut self, identifier: u8) -> Result<&'a [u8], DerFault>
+        ensures read { Reads (λ text. text.now) result self.new ((required identifier item).read self.old) }
+        ensures item { IfOk result (λ text. IsItem text.now) }
+    {
+        let inside = self.element(identifier)?;
+        if Item::is_item(inside.bytes) {
+            Ok(inside.bytes)
+        } else {
+            Err(DerFault::Field(inside.at))
+        }
+    }
+
+    /// Reads a day.
+    pub fn date(&mut self, identifier: u8) -> Result<Day, DerFault>
+        ensures { Reads (λ d. d) result self.new ((required identifier date).read self.old) }
+    {
+        let inside = self.element(identifier)?;
+        Day::read(inside.bytes).map_err(|_| DerFault::Field(inside.at))
+    }
+
+    /// Reads a result.
+    pub fn answer_result(&mut self, identifier: u8) -> Result<AnswerResult, DerFault>
+        ensures { Reads (λ r. r) result self.new ((required identifier answer_result).read self.old) }
+    {
+        let inside = self.element(identifier)?;
+        result_of(inside.bytes).ok_or(DerFault::Field(inside.at))
+    }
+
+    /// Reads a yes or no.
+    pub fn yes_no(&mut self, identifier: u8) -> Result<bool, DerFault>
+        ensures { Reads (λ b. b) result self.new ((required identifier yes_no).read self.old) }
+    {
+        let inside = self.element(identifier)?;
+        match inside.bytes {
+            [0x00] => Ok(false),
+            [0xFF] => Ok(true),
+            _ => Err(DerFault::Field(inside.at)),
+        }
+    }
+
+    /// Reads a day, if one stands here.
+    pub fn optional_date(&mut self, identifier: u8) -> Result<Option<Day>, DerFault>
+        ensures { Reads (λ d. d) result self.new ((optional identifier date).read self.old) }
+    {
+        if self.has(identifier) {
+            Ok(Some(self.date(identifier)?))
+        } else {
+            Ok(None)
+        }
+    }
+}
+
+/// The number that an INTEGER of these contents has, if it is one of a message (X.690 8.3).
+fn number_of(contents: &[u8]) -> Option<Number>
+    ensures { result ≡ number_from contents.now }
+{
+    match contents {
+        [value] if *value < 0x80 => Number::new(*value),
+        [0, value] if *value >= 0x80 => Number::new(*value),
+        _ => None,
+    }
+}
+
+/// The result that one octet stands for.
+fn result_of(contents: &[u8]) -> Option<AnswerResult>
+    ensures { result ≡ result_from contents.now }
+{
+    match contents {
+        [1] => Some(AnswerResult::Conditional),
+        [2] => Some(AnswerResult::Retry),
+        [3] => Some(AnswerResult::Unfilled),
+        [4] => Some(AnswerResult::LocationsProvided),
+        [5] => Some(AnswerResult::WillSupply),
+        [6] => Some(AnswerResult::HoldPlaced),
+        [7] => Some(AnswerResult::Estimate),
+        _ => None,
+    }
+}

@@ -1,0 +1,180 @@
+//! Decoding of one APDU from the front of bytes.
+
+ghost use Rattle.std.specs.Prelude.{◌≡◌, ◌≢◌, ◌+◌, ◌≤◌, length, IfOk};
+ghost use Rattle.ill_der.specs.Contents.{yes_no, date, number};
+ghost use Rattle.ill_der.specs.Format.{Reads, length_of, required, where_yes};
+ghost use Rattle.ill_der.specs.ShortForm.{outer_view, outer_at, outer_by, read_body, reply, body_of, inside_of, apdu_at, Finds, Gives, Decodes};
+
+use crate::cursor::Cursor;
+use crate::fault::DerFault;
+use crate::kind::Kind;
+use crate::length::{LengthForm, length_at_front};
+use crate::tags;
+use ill_values::{Apdu, Body, Day, Item, Number, TxnId};
+use std::alloc::Global;
+
+/// The most contents octets of an APDU.
+const MOST_CONTENTS: u16 = 355;
+
+/// An APDU that is all there: its type, its contents, and the number of its bytes.
+#[derive(Drop)]
+struct Outer<'a> {
+    kind: Kind,
+    inside: Cursor<'a>,
+    size: usize,
+}
+
+/// The APDU at the front of the bytes and the number of its bytes, whatever follows it.
+///
+/// Every check is made before memory is taken.
+#[tactic(auto, unfolding(crate::specs::ShortForm::apdu_at))]
+pub fn decode(alloc: Global, bytes: &[u8]) -> Result<(Apdu, usize), DerFault>
+    ensures { Decodes bytes.now (apdu_at bytes.now) result }
+{
+    let mut outer = whole(bytes)?;
+    let apdu = apdu_inside(alloc, outer.kind, &mut outer.inside)?;
+    Ok((apdu, outer.size))
+}
+
+/// The identifier, the length and all of the contents.
+#[tactic(auto, unfolding(crate::specs::ShortForm::outer_at))]
+fn whole(bytes: &[u8]) -> Result<Outer<'_>, DerFault>
+    ensures read { Finds outer_view result (outer_at bytes.now) }
+    ensures size { IfOk result (λ outer. outer.size ≤ length bytes.now) }
+{
+    match bytes {
+        [] => Err(DerFault::Short(0)),
+        [octet, behind @ ..] => match Kind::with_octet(*octet) {
+            Some(kind) => contents(kind, behind),
+            None => Err(DerFault::Tag(0)),
+        },
+    }
+}
+
+/// The length and all of the contents of an APDU of this type, behind its identifier.
+fn contents(kind: Kind, bytes: &[u8]) -> Result<Outer<'_>, DerFault>
+    ensures read { Finds outer_view result (outer_by kind (length_of bytes.now) bytes.now) }
+    ensures size { IfOk result (λ outer. outer.size ≤ length bytes.now + 1) }
+{
+    match length_at_front(bytes) {
+        LengthForm::Cut => Err(DerFault::Short(bytes.len() as u16 + 1)),
+        LengthForm::Wrong => Err(DerFault::Length(1)),
+        LengthForm::Is(length, octets) => {
+            if length > MOST_CONTENTS {
+                return Err(DerFault::Length(1));
+            }
+            let (start, end) = (octets as usize, octets as usize + length as usize);
+            if bytes.len() < end {
+                return Err(DerFault::Short(bytes.len() as u16 + 1));
+            }
+            let inside = Cursor::new(1 + octets, &bytes[start..end]);
+            Ok(Outer {
+                kind,
+                inside,
+                size: 1 + end,
+            })
+        }
+    }
+}
+
+/// The APDU of this type that all of its contents spell.
+#[tactic(auto, unfolding(crate::specs::ShortForm::inside_of))]
+fn apdu_inside(alloc: Global, kind: Kind, inside: &mut Cursor<'_>) -> Result<Apdu, DerFault>
+    ensures { Gives (inside_of kind inside.old) result }
+{
+    inside.version(tags::VERSION)?;
+    let mut id = inside.element(tags::TRANSACTION_ID)?;
+    let group = id.qualifier(tags::GROUP_QUALIFIER)?;
+    let transaction = id.qualifier(tags::TRANSACTION_QUALIFIER)?;
+    id.ended()?;
+    let number = inside.number(tags::NUMBER)?;
+    let body = body_inside(alloc, kind, inside)?;
+    let txn = TxnId::new(alloc, group, transaction).map_err(|_| DerFault::OutOfMemory)?;
+    Ok(Apdu { txn, number, body })
+}
+
+/// The body of this type that all of what is left spells.
+#[tactic(auto, unfolding(crate::specs::ShortForm::body_of))]
+fn body_inside(alloc: Global, kind: Kind, inside: &mut Cursor<'_>) -> Result<Body, DerFault>
+    ensures { Gives (body_of kind inside.old) result }
+{
+    if kind == Kind::IllRequest {
+        return request_inside(alloc, inside);
+    }
+    let body = body_without_text(kind, inside)?;
+    inside.ended()?;
+    Ok(body)
+}
+
+/// The ILL-Request that all of what is left spells.
+#[tactic(auto, unfolding(crate::specs::ShortForm::body_of))]
+fn request_inside(alloc: Global, inside: &mut Cursor<'_>) -> Result<Body, DerFault>
+    ensures { Gives (body_of Kind.IllRequest inside.old) result }
+{
+    let expiry = inside.optional_date(tags::DATE)?;
+    let text = inside.item(tags::ITEM)?;
+    inside.ended()?;
+    let item = Item::new(alloc, text).map_err(|_| DerFault::OutOfMemory)?;
+    Ok(Body::IllRequest { expiry, item })
+}
+
+/// The further fields of a type that has no text.
+fn body_without_text(kind: Kind, inside: &mut Cursor<'_>) -> Result<Body, DerFault>
+    requires { kind ≢ Kind.IllRequest }
+    ensures { Reads (λ body. body) result inside.new (read_body kind inside.old) }
+{
+    match kind {
+        Kind::IllRequest => unreachable!(),
+        Kind::Shipped => Ok(Body::Shipped {
+            due: inside.date(tags::DATE)?,
+        }),
+        Kind::IllAnswer => Ok(Body::IllAnswer {
+            result: inside.answer_result(tags::RESULT)?,
+        }),
+        Kind::ConditionalReply => {
+            let (answers, yes) = reply_inside(inside)?;
+            Ok(Body::ConditionalReply { answers, yes })
+        }
+        Kind::Cancel => Ok(Body::Cancel),
+        Kind::CancelReply => {
+            let (answers, yes) = reply_inside(inside)?;
+            Ok(Body::CancelReply { answers, yes })
+        }
+        Kind::Received => Ok(Body::Received),
+        Kind::Recall => Ok(Body::Recall),
+        Kind::Returned => Ok(Body::Returned),
+        Kind::CheckedIn => Ok(Body::CheckedIn),
+        Kind::Overdue => Ok(Body::Overdue {
+            due: inside.date(tags::DATE)?,
+        }),
+        Kind::Renew => Ok(Body::Renew {
+            wished: inside.optional_date(tags::DATE)?,
+        }),
+        Kind::RenewAnswer => {
+            let answers = inside.number(tags::ANSWERS)?;
+            let granted = granted_inside(inside)?;
+            Ok(Body::RenewAnswer { answers, granted })
+        }
+        Kind::Expired => Ok(Body::Expired),
+    }
+}
+
+/// The number of the message answered, and yes or no.
+fn reply_inside(inside: &mut Cursor<'_>) -> Result<(Number, bool), DerFault>
+    ensures { Reads (λ found. found) result inside.new (reply.read inside.old) }
+{
+    let answers = inside.number(tags::ANSWERS)?;
+    let yes = inside.yes_no(tags::YES_NO)?;
+    Ok((answers, yes))
+}
+
+/// The new due date where the answer is yes.
+fn granted_inside(inside: &mut Cursor<'_>) -> Result<Option<Day>, DerFault>
+    ensures { Reads (λ found. found) result inside.new ((where_yes (required 0x84 yes_no) (required 0x85 date)).read inside.old) }
+{
+    if inside.yes_no(tags::YES_NO)? {
+        Ok(Some(inside.date(tags::DATE)?))
+    } else {
+        Ok(None)
+    }
+}

@@ -1,0 +1,155 @@
+//! Encoding of one APDU: its one spelling.
+
+ghost use Rattle.std.specs.Prelude.{◌≡◌, ◌<◌, ◌≤◌, ◌++◌, ◌∷◌, [], length, IfOk, OnOk};
+ghost use Rattle.ill_der.specs.Contents.{answer_result, code_of, date, number, number_octets, yes_no};
+ghost use Rattle.ill_der.specs.Format.{element, length_octets, optional, required};
+ghost use Rattle.ill_der.specs.ShortForm.{due_date, grant, head_of, reply, spell_body, spelling, txn_id};
+
+use crate::kind::Kind;
+use crate::sizing::{contents_size, qualifiers_size, size};
+use crate::tags;
+use ill_values::{AnswerResult, Apdu, Body, Day, Number, OutOfMemory, TxnId};
+use std::alloc::Global;
+
+/// The spelling of an APDU, in one growth.
+#[tactic(auto, unfolding(crate::specs::ShortForm::spelling, crate::specs::Format::element))]
+pub fn encode(alloc: Global, apdu: &Apdu) -> Result<Vec<u8>, OutOfMemory>
+    ensures spelled { IfOk result (λ bytes. bytes.items ≡ spelling apdu.now) }
+    ensures most { IfOk result (λ bytes. length bytes.items ≤ 359) }
+{
+    let mut bytes = Vec::with_capacity(alloc, size(apdu))?;
+    push_start(
+        &mut bytes,
+        Kind::of(&apdu.body).octet(),
+        contents_size(apdu),
+    )?;
+    push_head(&mut bytes, apdu)?;
+    push_body(&mut bytes, &apdu.body)?;
+    Ok(bytes)
+}
+
+/// Adds the fields that each APDU has.
+fn push_head(bytes: &mut Vec<u8>, apdu: &Apdu) -> Result<(), OutOfMemory>
+    ensures { OnOk result (bytes.new.items ≡ bytes.old.items ++ head_of apdu.now) }
+{
+    push_element(bytes, tags::VERSION, &[1])?;
+    push_id(bytes, &apdu.txn)?;
+    push_number(bytes, tags::NUMBER, apdu.number)
+}
+
+#[tactic(auto, unfolding(crate::specs::Format::element))]
+fn push_id(bytes: &mut Vec<u8>, id: &TxnId) -> Result<(), OutOfMemory>
+    ensures { OnOk result (bytes.new.items ≡ bytes.old.items ++ txn_id.spell (id.now.group, id.now.transaction)) }
+{
+    push_start(bytes, tags::TRANSACTION_ID, qualifiers_size(id))?;
+    push_element(bytes, tags::GROUP_QUALIFIER, id.group())?;
+    push_element(bytes, tags::TRANSACTION_QUALIFIER, id.transaction())
+}
+
+/// Adds the further fields.
+fn push_body(bytes: &mut Vec<u8>, body: &Body) -> Result<(), OutOfMemory>
+    ensures { OnOk result (bytes.new.items ≡ bytes.old.items ++ spell_body body.now) }
+{
+    match body {
+        Body::IllRequest { expiry, item } => {
+            push_optional_date(bytes, *expiry)?;
+            push_element(bytes, tags::ITEM, item.text())
+        }
+        Body::IllAnswer { result } => push_element(bytes, tags::RESULT, &[code(*result)]),
+        Body::ConditionalReply { answers, yes } => push_reply(bytes, *answers, *yes),
+        Body::CancelReply { answers, yes } => push_reply(bytes, *answers, *yes),
+        Body::Shipped { due } => push_date(bytes, *due),
+        Body::Overdue { due } => push_date(bytes, *due),
+        Body::Renew { wished } => push_optional_date(bytes, *wished),
+        Body::RenewAnswer { answers, granted } => push_grant(bytes, *answers, *granted),
+        Body::Cancel
+        | Body::Received
+        | Body::Recall
+        | Body::Returned
+        | Body::CheckedIn
+        | Body::Expired => Ok(()),
+    }
+}
+
+fn push_grant(bytes: &mut Vec<u8>, answers: Number, granted: Option<Day>) -> Result<(), OutOfMemory>
+    ensures { OnOk result (bytes.new.items ≡ bytes.old.items ++ grant.spell (answers, granted)) }
+{
+    push_reply(bytes, answers, granted.is_some())?;
+    push_optional_date(bytes, granted)
+}
+
+fn push_reply(bytes: &mut Vec<u8>, answers: Number, yes: bool) -> Result<(), OutOfMemory>
+    ensures { OnOk result (bytes.new.items ≡ bytes.old.items ++ reply.spell (answers, yes)) }
+{
+    push_number(bytes, tags::ANSWERS, answers)?;
+    push_element(bytes, tags::YES_NO, &[if yes { 0xFF } else { 0 }])
+}
+
+fn push_optional_date(bytes: &mut Vec<u8>, day: Option<Day>) -> Result<(), OutOfMemory>
+    ensures { OnOk result (bytes.new.items ≡ bytes.old.items ++ (optional 0x85 date).spell day) }
+{
+    match day {
+        None => Ok(()),
+        Some(day) => push_date(bytes, day),
+    }
+}
+
+fn push_date(bytes: &mut Vec<u8>, day: Day) -> Result<(), OutOfMemory>
+    ensures { OnOk result (bytes.new.items ≡ bytes.old.items ++ due_date.spell day) }
+{
+    push_element(bytes, tags::DATE, &day.digits())
+}
+
+/// Adds a number, as an INTEGER (X.690 8.3).
+fn push_number(bytes: &mut Vec<u8>, identifier: u8, number: Number) -> Result<(), OutOfMemory>
+    ensures { OnOk result (bytes.new.items ≡ bytes.old.items ++ element identifier (number_octets number)) }
+{
+    let octet = number.get();
+    if octet < 0x80 {
+        push_element(bytes, identifier, &[octet])
+    } else {
+        push_element(bytes, identifier, &[0, octet])
+    }
+}
+
+/// Adds an element (X.690 8.1.1).
+#[tactic(auto, unfolding(crate::specs::Format::element))]
+fn push_element(bytes: &mut Vec<u8>, identifier: u8, contents: &[u8]) -> Result<(), OutOfMemory>
+    requires { length contents.now < 65536 }
+    ensures { OnOk result (bytes.new.items ≡ bytes.old.items ++ element identifier contents.now) }
+{
+    push_start(bytes, identifier, contents.len())?;
+    bytes.extend_from_slice(contents)
+}
+
+/// Adds the identifier and the length of an element with so many contents octets (X.690 8.1.3, 10.1).
+#[tactic(auto, unfolding(crate::specs::Format::length_octets))]
+fn push_start(bytes: &mut Vec<u8>, identifier: u8, contents: usize) -> Result<(), OutOfMemory>
+    requires { contents < 65536 }
+    ensures { OnOk result (bytes.new.items ≡ bytes.old.items ++ identifier ∷ length_octets contents) }
+{
+    bytes.push(identifier)?;
+    if contents < 0x80 {
+        bytes.push(contents as u8)?;
+    } else if contents < 0x100 {
+        bytes.extend_from_slice(&[0x81, contents as u8])?;
+    } else {
+        bytes.extend_from_slice(&[0x82, (contents / 256) as u8, (contents % 256) as u8])?;
+    }
+    Ok(())
+}
+
+/// The octet of a result.
+fn code(answer: AnswerResult) -> u8
+    ensures { result ≡ code_of answer }
+{
+    match answer {
+        AnswerResult::Conditional => 1,
+        AnswerResult::Retry => 2,
+        AnswerResult::Unfilled => 3,
+        AnswerResult::LocationsProvided => 4,
+        AnswerResult::WillSupply => 5,
+        AnswerResult::HoldPlaced => 6,
+        AnswerResult::Estimate => 7,
+    }
+}

@@ -1,0 +1,50 @@
+//! What holds of the short form, as contracts of functions that do nothing.
+
+ghost use Rattle.std.specs.Prelude.{◌≡◌, ◌≤◌, ◌++◌, ℕ, List, [], length, Ok, Err};
+ghost use Rattle.ill_values.specs.declared.apdu.Apdu.{Apdu};
+ghost use Rattle.ill_values.specs.Apdu.{IsApdu};
+ghost use Rattle.ill_der.specs.declared.fault.DerFault.{DerFault};
+ghost use Rattle.ill_der.specs.declared.fault.DerFault.TheVariants.{Short};
+ghost use Rattle.ill_der.specs.ShortForm.{spelling, apdu_at};
+ghost use Rattle.ill_der.specs.Stream.{IfShort};
+ghost use Rattle.ill_der.specs.Laws.{IsBytes, BeginsWithOne};
+
+/// An APDU is read from its spelling, whatever follows: with this, `decode` gives back what `encode` spelled.
+pub fn read_again()
+    ensures { (apdu : Apdu) (rest : List ℕ) → IsApdu apdu →
+        apdu_at (spelling apdu ++ rest) ≡ Ok (apdu, rest) }
+{}
+
+/// No bytes spell two APDUs.
+pub fn one_apdu()
+    ensures { (a b : Apdu) → IsApdu a → IsApdu b → spelling a ≡ spelling b → a ≡ b }
+{}
+
+/// No spelling is a proper prefix of another.
+pub fn no_prefix()
+    ensures { (a b : Apdu) (rest : List ℕ) → IsApdu a → IsApdu b →
+        spelling b ≡ spelling a ++ rest → rest ≡ [] }
+{}
+
+/// The longest spelling has 359 bytes.
+pub fn longest()
+    ensures most { (apdu : Apdu) → IsApdu apdu → length (spelling apdu) ≤ 359 }
+    ensures reached { (apdu : Apdu) × IsApdu apdu × (length (spelling apdu) ≡ 359) }
+{}
+
+/// Bytes have either one spelled prefix or one fault.
+pub fn prefix_or_fault()
+    ensures { (bytes : List ℕ) → IsBytes bytes → BeginsWithOne bytes (apdu_at bytes) }
+{}
+
+/// A fault other than Short is the fault of the bytes followed by anything.
+pub fn fault_stays()
+    ensures { (bytes more : List ℕ) (fault : DerFault) → IfShort fault ⊥ →
+        apdu_at bytes ≡ Err fault → apdu_at (bytes ++ more) ≡ Err fault }
+{}
+
+/// Short has the number of the bytes, which is below 359.
+pub fn short_has_the_size()
+    ensures { (bytes : List ℕ) (n : ℕ) → apdu_at bytes ≡ Err (Short n) →
+        (n ≡ length bytes) × (n ≤ 358) }
+{}

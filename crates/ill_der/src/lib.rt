@@ -1,0 +1,26 @@
+//! The short form of interlibrary loan messages: DER (X.690) with this profile's application tags.
+#![tactic(auto)]
+
+mod cursor;
+mod decoding;
+mod encoding;
+mod fault;
+mod kind;
+pub mod laws;
+mod length;
+mod reading;
+mod sizing;
+mod steps;
+mod tags;
+mod writing;
+
+pub use decoding::decode;
+pub use encoding::encode;
+pub use fault::{DerFault, ReadFault, WriteFault};
+pub use reading::{read_apdu, read_apdu_counted};
+pub use sizing::size;
+pub use steps::Steps;
+pub use writing::{write_apdu, write_apdu_counted, write_bytes};
+
+#[cfg(test)]
+mod tests;

@@ -1,0 +1,17 @@
+//! What the commands share that write.
+
+ghost use Rattle.ill_tool.specs.Output.{WritesFront};
+
+use crate::fault::ToolFault;
+use ill_der::write_bytes;
+use std::io::Write;
+
+/// Writes all of the bytes, or a front of them where the writer fails.
+pub fn write_whole<W: Write>(writer: &mut W, bytes: &[u8]) -> Result<(), ToolFault>
+    ensures { WritesFront (W.contents writer.old) (W.contents writer.new) bytes.now result }
+{
+    match write_bytes(writer, bytes) {
+        Ok(()) => Ok(()),
+        Err(_) => Err(ToolFault::Write),
+    }
+}

@@ -9,3 +9,4 @@ pub mod StreamLemmas
 pub mod Sizes
 pub mod WriteLemmas
 pub mod SpellingLaws
+pub mod MissingLemmas

@@ -253,7 +253,7 @@ contents_bound apdu is =
     let front : Unit {0} × ((List ℕ × List ℕ) × ℕ) = (tt, ((apdu.txn.group, apdu.txn.transaction), apdu.number)) in
     omega (arith, length-append (head.spell front) (spell_body apdu.body), head_is.bound front (tt, ((is.txn.group, is.txn.transaction), is.number)), body_bound apdu.body is.body)
 
-inside_faults : (kind : Kind) (left : Left) (d : DerFault) → inside_of kind left ≡ Err d → IsInside d
+pub inside_faults : (kind : Kind) (left : Left) (d : DerFault) → inside_of kind left ≡ Err d → IsInside d
 unfolding inside_of
 inside_faults kind left d e =
     elim (bind_err (head.read left) (λ front. body_of kind front.1 >>= λ body. Ok (made front.0 body)) d e) [
@@ -290,7 +290,7 @@ record IsOuter (bytes : List ℕ) (outer : Outer) : Type 0 where
   parts : bytes ≡ element (octet_of outer.kind) outer.inside.bytes ++ drop outer.size bytes
   inside_fits : IsBytes outer.inside.bytes
 
-abbrev outer_with : Kind → ℕ → ℕ → List ℕ → Outer
+abbrev pub outer_with : Kind → ℕ → ℕ → List ℕ → Outer
 outer_with kind n octets bytes = record { kind = kind; inside = left_at (1 + octets) (take n (drop octets bytes)); size = 1 + (octets + n) }
 
 outer_by_takes : (first : ℕ) (kind : Kind) (form : LengthForm) (bytes : List ℕ) (outer : Outer) → IsBytes bytes → first ≡ octet_of kind → length_of bytes ≡ form → outer_by kind form bytes ≡ Ok outer → IsOuter (first ∷ bytes) outer
@@ -446,7 +446,7 @@ apdu_memory bytes e =
 
 -- ---- bytes followed by anything
 
-abbrev IsFinal : LengthForm → Type 0
+abbrev pub IsFinal : LengthForm → Type 0
 IsFinal Cut = ⊥
 IsFinal Wrong = Unit {0}
 IsFinal (Is n octets) = Unit {0}
@@ -463,7 +463,7 @@ form_of_two false true two x y z w final = refl
 form_of_two false false true x y z w final = absurd final
 form_of_two false false false x y z w final = refl
 
-length_more : (bytes more : List ℕ) → IsFinal (length_of bytes) → length_of (bytes ++ more) ≡ length_of bytes
+pub length_more : (bytes more : List ℕ) → IsFinal (length_of bytes) → length_of (bytes ++ more) ≡ length_of bytes
 unfolding length_of
 length_more [] more final = absurd final
 length_more (first ∷ []) more final =

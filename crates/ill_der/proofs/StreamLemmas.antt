@@ -1,28 +1,16 @@
 -- Reading one byte after another.
-use Rattle.std.proofs.Common.{◌≡◌, ℕ, zero, suc, ◌<◌, ◌≤◌, List, [], ◌∷◌, ◌++◌, length, get_or, take, drop, Option, Some, None, Result, Ok, Err, ◌⊎◌, inl, inr, refl, sym, ap, subst, ◌∙◌, append_assoc, arith}
-use Rattle.std.specs.Io.KnownBytes.{Consumes}
-use Rattle.std.proofs.lemmas.Bool.{cases_lt}
-use Rattle.std.proofs.lemmas.List.{append-nil, take_at, take-append-le, length-append, length-take}
+use Rattle.std.proofs.Common.{◌≡◌, ℕ, ◌<◌, List, [], ◌∷◌, ◌++◌, length, take, drop, Option, Some, None, Result, Ok, Err, ◌⊎◌, inl, inr, refl, sym, ap, subst, ◌∙◌, append_assoc, arith}
+use Rattle.std.specs.Io.KnownBytes.{Consumes, Keeps}
+use Rattle.std.proofs.lemmas.List.{append-nil, take_at, length-append}
 use Rattle.ill_values.specs.declared.apdu.Apdu.{Apdu}
 use Rattle.ill_der.specs.declared.fault.DerFault.{DerFault}
 use Rattle.ill_der.specs.declared.fault.DerFault.TheVariants.{Short, OutOfMemory}
 use Rattle.ill_values.specs.Apdu.{IsApdu}
 use Rattle.ill_der.specs.ShortForm.{spelling, apdu_at, Decodes}
-use Rattle.ill_der.specs.Stream.{IsUnfinished, AreUnfinished, SpellsOne}
+use Rattle.ill_der.specs.Stream.{AreUnfinished, SpellsOne}
 use Rattle.ill_der.proofs.Chains.{no_value}
 use Rattle.ill_der.specs.Laws.{IsBytes}
-use Rattle.ill_der.proofs.ShortFormLaws.{apdu_takes, apdu_again, apdu_short, apdu_memory}
-
-take-nil : (n : ℕ) → take {A = ℕ} n [] ≡ []
-take-nil zero = refl
-take-nil (suc n) = refl
-
--- what a read of one byte put into a buffer of one byte
-pub one_read : (count : ℕ) (buffer : List ℕ) → length buffer ≡ 1 → 1 ≤ count → take count buffer ≡ get_or buffer 0 0 ∷ []
-one_read count [] e h = absurd (omega arith)
-one_read zero (x ∷ rest) e h = absurd (omega arith)
-one_read (suc count) (x ∷ []) e h = ap (λ (rest : List ℕ). x ∷ rest) (take-nil count)
-one_read (suc count) (x ∷ y ∷ rest) e h = absurd (omega arith)
+use Rattle.ill_der.proofs.ShortFormLaws.{apdu_takes, apdu_again, apdu_memory}
 
 -- ---- what decoding a front says
 
@@ -30,7 +18,7 @@ decodes_ok : (bytes : List ℕ) (read : Result (Apdu × List ℕ) DerFault) (fou
 decodes_ok bytes (Ok x) found h = ap Ok h.1
 decodes_ok bytes (Err fault) found h = absurd cc
 
-decodes_err : (bytes : List ℕ) (read : Result (Apdu × List ℕ) DerFault) (fault : DerFault) → Decodes bytes read (Err fault)
+pub decodes_err : (bytes : List ℕ) (read : Result (Apdu × List ℕ) DerFault) (fault : DerFault) → Decodes bytes read (Err fault)
     → (read ≡ Err fault) ⊎ ((fault ≡ OutOfMemory) × ((x : Apdu × List ℕ) × (read ≡ Ok x)))
 decodes_err bytes (Ok x) fault h = inr (h, (x, refl))
 decodes_err bytes (Err f) fault h = inl (let e : f ≡ fault = cc in ap Err e)
@@ -51,9 +39,6 @@ exact bytes (x ∷ rest) apdu fits fronts e =
 pub spelled_exactly : (bytes : List ℕ) (found : Apdu × ℕ) → IsBytes bytes → AreUnfinished bytes → Decodes bytes (apdu_at bytes) (Ok found) → IsApdu found.0 × (bytes ≡ spelling found.0)
 spelled_exactly bytes found fits fronts h = exact bytes (drop found.1 bytes) found.0 fits fronts (decodes_ok bytes (apdu_at bytes) found h)
 
-short_no_memory : (n : ℕ) → Short n ≡ OutOfMemory → ⊥
-short_no_memory n e = cc
-
 pub spelled_without_memory : (bytes : List ℕ) → IsBytes bytes → AreUnfinished bytes → Decodes bytes (apdu_at bytes) (Err OutOfMemory) → SpellsOne bytes
 spelled_without_memory bytes fits fronts h =
     elim (decodes_err bytes (apdu_at bytes) OutOfMemory h) [
@@ -61,23 +46,7 @@ spelled_without_memory bytes fits fronts h =
       | inr e ↦ let is = exact bytes e.1.0.1 e.1.0.0 fits fronts e.1.1 in (e.1.0.0, is.0, is.1)
     ]
 
-pub short_is_unfinished : (bytes : List ℕ) (n : ℕ) → Decodes bytes (apdu_at bytes) (Err (Short n)) → IsUnfinished bytes
-short_is_unfinished bytes n h =
-    elim (decodes_err bytes (apdu_at bytes) (Short n) h) [
-      | inl e ↦ e ∙ ap (λ (k : ℕ). Err (Short k)) (apdu_short bytes n e).0
-      | inr e ↦ absurd (short_no_memory n e.0)
-    ]
-
--- ---- a loop that reads one more byte
-
-pub more_unfinished : (front : List ℕ) (byte : ℕ) → AreUnfinished front → IsUnfinished front → AreUnfinished (front ++ byte ∷ [])
-more_unfinished front byte fronts last size lt =
-    elim (cases_lt size (length front)) [
-      | inl shorter ↦ subst IsUnfinished (sym (take-append-le size front (byte ∷ []) (omega arith))) (fronts size shorter)
-      | inr le ↦
-          let is : length front ≡ size = omega (arith, length-append front (byte ∷ [])) in
-          subst IsUnfinished (sym (take_at front (byte ∷ []) size is)) last
-    ]
+-- ---- what was read
 
 pub consumes_more : (old middle new : Option (List ℕ)) (front bytes : List ℕ) → Consumes old middle front → Consumes middle new bytes → Consumes old new (front ++ bytes)
 consumes_more None middle new front bytes first second = tt
@@ -88,8 +57,9 @@ consumes_more (Some xs) (Some ys) (Some zs) front bytes first second = first ∙
 pub consumes_nothing : (old middle new : Option (List ℕ)) (front : List ℕ) → Consumes old middle front → Consumes middle new [] → Consumes old new front
 consumes_nothing old middle new front first second = subst (Consumes old new) (append-nil front) (consumes_more old middle new front [] first second)
 
--- no more bytes are unfinished than 358
-pub not_so_many : (bytes : List ℕ) → 360 ≤ length bytes → AreUnfinished bytes → ⊥
-not_so_many bytes many fronts =
-    let size : length (take 359 bytes) ≡ 359 = omega (arith, length-take 359 bytes) in
-    omega (arith, size, (apdu_short (take 359 bytes) (length (take 359 bytes)) (fronts 359 (omega arith))).1)
+-- a reader that kept its bytes
+pub consumes_kept : (old middle new : Option (List ℕ)) (front : List ℕ) → Consumes old middle front → Keeps middle new → Consumes old new front
+consumes_kept None middle new front first second = tt
+consumes_kept (Some xs) None new front first second = absurd first
+consumes_kept (Some xs) (Some ys) None front first second = absurd second
+consumes_kept (Some xs) (Some ys) (Some zs) front first second = first ∙ ap (λ (x : List ℕ). front ++ x) (sym second)

@@ -1,5 +1,5 @@
 -- Reading one APDU from a stream, and writing one.
-use Rattle.std.specs.Prelude.{◌≡◌, ℕ, ◌<◌, List, [], ◌∷◌, length, take, Option, Some, None, Result, Ok, Err}
+use Rattle.std.specs.Prelude.{◌≡◌, ℕ, ◌+◌, ◌-◌, ◌<◌, nat_lt, if◌then◌else◌, is_some, List, [], ◌∷◌, length, take, Option, Some, None, Result, Ok, Err}
 use Rattle.std.specs.Io.KnownBytes.{Consumes, Appends, IsAtEnd}
 use Rattle.ill_values.specs.declared.apdu.Apdu.{Apdu}
 use Rattle.ill_der.specs.declared.fault.DerFault.{DerFault}
@@ -9,6 +9,10 @@ use Rattle.ill_der.specs.declared.fault.ReadFault.TheVariants as faults
 use Rattle.ill_der.specs.declared.fault.WriteFault.{WriteFault}
 use Rattle.ill_der.specs.declared.fault.WriteFault.TheVariants as writing
 use Rattle.ill_values.specs.Apdu.{IsApdu}
+use Rattle.ill_der.specs.declared.length.LengthForm.{LengthForm}
+use Rattle.ill_der.specs.declared.length.LengthForm.TheVariants.{Cut, Wrong, Is}
+use Rattle.ill_der.specs.Format.{length_of}
+use Rattle.ill_der.specs.Types.{kind_with}
 use Rattle.ill_der.specs.ShortForm.{spelling, apdu_at}
 
 -- the bytes are less than an APDU, and more may complete them
@@ -44,20 +48,25 @@ IsAnswer bytes left (Err faults.OutOfMemory) = SpellsOne bytes
 abbrev pub ReadsApdu : Option (List ℕ) → Option (List ℕ) → Result (Option Apdu) ReadFault → Type 0
 ReadsApdu old new result = (bytes : List ℕ) × Consumes old new bytes × IsAnswer bytes new result
 
--- What the bytes say that were read so far, where each shorter front of them is unfinished: their
--- APDU, their fault, or nothing yet.
-abbrev pub IsJudged : List ℕ → Option (Result Apdu ReadFault) → Type 0
-IsJudged bytes None = IsUnfinished bytes
-IsJudged bytes (Some (Ok apdu)) = IsApdu apdu × (bytes ≡ spelling apdu)
-IsJudged bytes (Some (Err (faults.Bytes fault))) = (apdu_at bytes ≡ Err fault) × IfShort fault ⊥
-IsJudged bytes (Some (Err faults.Read)) = ⊥
-IsJudged bytes (Some (Err faults.OutOfMemory)) = SpellsOne bytes
+-- What bytes say that are not short, where each proper front of them is unfinished: their APDU or
+-- their fault.
+abbrev pub IsJudged : List ℕ → Result (Option Apdu) ReadFault → Type 0
+IsJudged bytes (Ok (Some apdu)) = IsApdu apdu × (bytes ≡ spelling apdu)
+IsJudged bytes (Ok None) = ⊥
+IsJudged bytes (Err (faults.Bytes fault)) = (apdu_at bytes ≡ Err fault) × IfShort fault ⊥
+IsJudged bytes (Err faults.Read) = ⊥
+IsJudged bytes (Err faults.OutOfMemory) = SpellsOne bytes
 
--- one byte was read, or none at the end
-abbrev pub IsByteAnswer : {E : Type 0} → Option (List ℕ) → Option (List ℕ) → Result (Option ℕ) E → Type 0
-IsByteAnswer old new (Ok (Some byte)) = Consumes old new (byte ∷ [])
-IsByteAnswer old new (Ok None) = Consumes old new [] × IsAtEnd new
-IsByteAnswer old new (Err error) = Consumes old new []
+-- how many bytes are surely missing behind an identifier, of a length and of so many bytes
+abbrev pub missing_by : LengthForm → ℕ → ℕ
+missing_by Cut size = 1
+missing_by Wrong size = 0
+missing_by (Is n octets) size = if nat_lt 355 n then 0 else octets + n - size
+
+-- how many bytes are surely missing of an APDU that begins with these
+unfoldable pub missing_of : List ℕ → ℕ
+missing_of [] = 1
+missing_of (first ∷ bytes) = if is_some (kind_with first) then missing_by (length_of bytes) (length bytes) else 0
 
 -- Bytes were written, from what a writer held to what it holds: all of them, a front where the writer
 -- failed, or none for want of memory.

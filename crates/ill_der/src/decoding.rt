@@ -14,7 +14,7 @@ use ill_values::{Apdu, Body, Day, Item, Number, TxnId};
 use std::alloc::Global;
 
 /// The most contents octets of an APDU.
-const MOST_CONTENTS: u16 = 355;
+pub const MOST_CONTENTS: u16 = 355;
 
 /// An APDU that is all there: its type, its contents, and the number of its bytes.
 #[derive(Drop)]

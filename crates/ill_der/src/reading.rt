@@ -1,20 +1,25 @@
 //! Reading of one APDU from a stream.
 
-ghost use Rattle.std.specs.Prelude.{◌≡◌, ◌+◌, ◌≤◌};
-ghost use Rattle.ill_der.specs.Stream.{AreUnfinished, IsByteAnswer, IsJudged, ReadsApdu};
+ghost use Rattle.std.specs.Prelude.{◌≡◌, ◌+◌, ◌≤◌, length};
+ghost use Rattle.ill_der.specs.Format.{length_of};
+ghost use Rattle.ill_der.specs.Stream.{AreUnfinished, IsJudged, ReadsApdu, missing_by, missing_of};
 
-use crate::decoding::decode;
+use crate::decoding::{MOST_CONTENTS, decode};
 use crate::fault::{DerFault, ReadFault};
+use crate::kind::Kind;
+use crate::length::{LengthForm, length_at_front};
 use crate::steps::Steps;
 use ill_values::Apdu;
 use std::alloc::Global;
-use std::io;
 use std::io::Read;
 use std::marker::Brand;
 use std::sync::ledger::{Blank, Ledger};
 
-/// How many bytes the longest APDU has, and one more read that finds the end.
-const READS: usize = 360;
+/// How many bytes the longest APDU has.
+const MOST: usize = 359;
+
+/// A read for each byte, and one that finds the end.
+const READS: usize = MOST + 1;
 
 /// Reads one APDU, or `None` at the end.
 ///
@@ -48,47 +53,62 @@ pub fn read_apdu_counted<R: Read, L: Ledger>(
     ensures read { ReadsApdu (R.remaining reader.old) (R.remaining reader.new) result }
     ensures reads { steps.new ≤ steps.old + 360 }
 {
-    let mut bytes = [0; READS];
-    for size in 0..READS {
-        match judge(alloc, &bytes[..size]) {
-            Some(Ok(apdu)) => return Ok(Some(apdu)),
-            Some(Err(fault)) => return Err(fault),
-            None => {}
+    let mut bytes = [0; MOST];
+    let mut size = 0;
+    for _ in 0..READS {
+        let missing = missing(&bytes[..size]);
+        if missing == 0 {
+            return judge(alloc, &bytes[..size]);
         }
-        match read_byte(reader, steps) {
-            Ok(Some(byte)) => bytes[size] = byte,
-            Ok(None) if size == 0 => return Ok(None),
-            Ok(None) => return Err(ReadFault::Bytes(DerFault::Short(size as u16))),
+        steps.tick();
+        match reader.read(&mut bytes[size..size + missing]) {
+            Ok(0) if size == 0 => return Ok(None),
+            Ok(0) => return Err(ReadFault::Bytes(DerFault::Short(size as u16))),
+            Ok(count) => size += count,
             Err(_) => return Err(ReadFault::Read),
         }
     }
     unreachable!()
 }
 
-/// The APDU or the fault of the bytes that were read so far, or `None` where more may complete them.
-fn judge(alloc: Global, bytes: &[u8]) -> Option<Result<Apdu, ReadFault>>
-    requires { AreUnfinished bytes.now }
-    ensures { IsJudged bytes.now result }
+/// How many bytes are surely missing of an APDU that begins with these: none where they are one, or
+/// have a fault.
+#[tactic(auto, unfolding(crate::specs::Stream::missing_of))]
+fn missing(bytes: &[u8]) -> usize
+    ensures { result ≡ missing_of bytes.now }
 {
-    match decode(alloc, bytes) {
-        Ok((apdu, _)) => Some(Ok(apdu)),
-        Err(DerFault::Short(_)) => None,
-        Err(DerFault::OutOfMemory) => Some(Err(ReadFault::OutOfMemory)),
-        Err(fault) => Some(Err(ReadFault::Bytes(fault))),
+    match bytes {
+        [] => 1,
+        [octet, behind @ ..] => match Kind::with_octet(*octet) {
+            Some(_) => missing_behind(behind),
+            None => 0,
+        },
     }
 }
 
-/// Reads one byte, or `None` at the end.
-fn read_byte<R: Read, L: Ledger>(reader: &mut R, steps: &mut Steps<L>) -> io::Result<Option<u8>>
-    ensures answer { IsByteAnswer (R.remaining reader.old) (R.remaining reader.new) result }
-    ensures reads { steps.new ≡ steps.old + 1 }
+/// The same, of the bytes behind an identifier.
+fn missing_behind(bytes: &[u8]) -> usize
+    ensures { result ≡ missing_by (length_of bytes.now) (length bytes.now) }
 {
-    steps.tick();
-    let mut byte = [0];
-    let count = reader.read(&mut byte)?;
-    if count == 0 {
-        Ok(None)
-    } else {
-        Ok(Some(byte[0]))
+    match length_at_front(bytes) {
+        LengthForm::Cut => 1,
+        LengthForm::Wrong => 0,
+        LengthForm::Is(length, _) if length > MOST_CONTENTS => 0,
+        LengthForm::Is(length, octets) => {
+            (octets as usize + length as usize).saturating_sub(bytes.len())
+        }
+    }
+}
+
+/// The APDU or the fault of bytes that are not short.
+fn judge(alloc: Global, bytes: &[u8]) -> Result<Option<Apdu>, ReadFault>
+    requires unfinished { AreUnfinished bytes.now }
+    requires enough { missing_of bytes.now ≡ 0 }
+    ensures { IsJudged bytes.now result }
+{
+    match decode(alloc, bytes) {
+        Ok((apdu, _)) => Ok(Some(apdu)),
+        Err(DerFault::OutOfMemory) => Err(ReadFault::OutOfMemory),
+        Err(fault) => Err(ReadFault::Bytes(fault)),
     }
 }

@@ -1,0 +1,174 @@
+-- How many bytes are surely missing: shorter bytes are short, and bytes of which none is missing are not.
+use Rattle.std.proofs.Common.{◌≡◌, ℕ, ◌+◌, ◌-◌, ◌<◌, ◌≤◌, Bool, true, false, cond, ltb, List, [], ◌∷◌, ◌++◌, length, take, drop, Option, Some, None, is_some, Ok, Err, inl, inr, refl, sym, ap, subst, ◌∙◌, arith}
+use Rattle.std.proofs.lemmas.Bool.{cases_lt, ltb-true, ltb-false, lt-ltb}
+use Rattle.std.proofs.lemmas.List.{append-nil, length-append, length-take-le, length-drop, take-append-le, take-append-drop}
+use Rattle.std.proofs.lemmas.Slice.{take-put_mid, drop-put_mid}
+use Rattle.std.proofs.Math.Seq.{take-append-add}
+use borrow.Rule.Slice.PartMut.{put_mid}
+use Rattle.ill_der.specs.declared.fault.DerFault.{DerFault}
+use Rattle.ill_der.specs.declared.fault.DerFault.TheVariants.{Short, Length, Tag, Field, OutOfMemory}
+use Rattle.ill_der.specs.declared.kind.Kind.{Kind}
+use Rattle.ill_der.specs.declared.length.LengthForm.{LengthForm}
+use Rattle.ill_der.specs.declared.length.LengthForm.TheVariants.{Cut, Wrong, Is}
+use Rattle.ill_der.specs.Format.{◌>>=◌, length_of, IsFew}
+use Rattle.ill_der.specs.Types.{kind_with}
+use Rattle.ill_der.specs.ShortForm.{outer_by, outer_of, outer_at, inside_of, apdu_at, Decodes}
+use Rattle.ill_der.specs.Stream.{IsUnfinished, AreUnfinished, IfShort, missing_by, missing_of}
+use Rattle.ill_der.proofs.Chains.{bind_err, chosen, no_value, tag_inside, length_inside}
+use Rattle.ill_der.proofs.Lengths.{length_few}
+use Rattle.ill_der.proofs.StreamLemmas.{decodes_err}
+use Rattle.ill_der.proofs.ShortFormLaws.{IsFinal, length_more, outer_with, inside_faults}
+
+-- ---- bytes of which some are missing, with fewer behind them
+
+wanted_is : (kind : Kind) (n octets : ℕ) (large : Bool) (bytes more : List ℕ) → ltb 355 n ≡ large → length_of bytes ≡ Is n octets
+    → length more < cond large 0 (octets + n - length bytes) → outer_by kind (length_of (bytes ++ more)) (bytes ++ more) ≡ Err (Short (length (bytes ++ more) + 1))
+wanted_is kind n octets true bytes more large e lt = absurd (omega (arith, lt))
+wanted_is kind n octets false bytes more large e lt =
+    let same : length_of (bytes ++ more) ≡ Is n octets = length_more bytes more (subst IsFinal (sym e) tt) ∙ e in
+    let few : ltb (length (bytes ++ more)) (octets + n) ≡ true = lt-ltb _ _ (omega (arith, lt, length-append bytes more)) in
+    rw (same, large, few) refl
+
+wanted_by : (kind : Kind) (form : LengthForm) (bytes more : List ℕ) → length_of bytes ≡ form → length more < missing_by form (length bytes)
+    → outer_by kind (length_of (bytes ++ more)) (bytes ++ more) ≡ Err (Short (length (bytes ++ more) + 1))
+wanted_by kind Cut bytes [] e lt = rw (append-nil bytes, e) refl
+wanted_by kind Cut bytes (x ∷ more) e lt = absurd (omega (arith, lt))
+wanted_by kind Wrong bytes more e lt = absurd (omega (arith, lt))
+wanted_by kind (Is n octets) bytes more e lt = wanted_is kind n octets (ltb 355 n) bytes more refl e lt
+
+wanted_of : (o : Option Kind) (bytes more : List ℕ) → length more < cond (is_some o) (missing_by (length_of bytes) (length bytes)) 0
+    → outer_of o (bytes ++ more) ≡ Err (Short (length (bytes ++ more) + 1))
+wanted_of None bytes more lt = absurd (omega (arith, lt))
+wanted_of (Some kind) bytes more lt = wanted_by kind (length_of bytes) bytes more refl lt
+
+wanted_outer : (bytes more : List ℕ) → length more < missing_of bytes → outer_at (bytes ++ more) ≡ Err (Short (length (bytes ++ more)))
+unfolding missing_of outer_at
+wanted_outer [] [] lt = refl
+wanted_outer [] (x ∷ more) lt = absurd (omega (arith, lt))
+wanted_outer (first ∷ bytes) more lt = wanted_of (kind_with first) bytes more lt ∙ ap (λ (k : ℕ). Err (Short k)) (omega arith)
+
+pub wanted : (bytes more : List ℕ) → length more < missing_of bytes → IsUnfinished (bytes ++ more)
+unfolding apdu_at
+wanted bytes more lt = rw (wanted_outer bytes more lt) refl
+
+-- ---- bytes of which none is missing
+
+enough_by : (kind : Kind) (form : LengthForm) (bytes : List ℕ) (n : ℕ) → missing_by form (length bytes) ≡ 0 → outer_by kind form bytes ≡ Err (Short n) → ⊥
+enough_by kind Cut bytes n none e = omega (arith, none)
+enough_by kind Wrong bytes n none e = length_inside 1 (Short n) e
+enough_by kind (Is m octets) bytes n none e =
+    elim (chosen (ltb 355 m) (Err (Length 1)) (cond (ltb (length bytes) (octets + m)) (Err (Short (length bytes + 1))) (Ok (outer_with kind m octets bytes))) (Err (Short n)) e) [
+      | inl h ↦ length_inside 1 (Short n) h.1
+      | inr h ↦ elim (chosen (ltb (length bytes) (octets + m)) (Err (Short (length bytes + 1))) (Ok (outer_with kind m octets bytes)) (Err (Short n)) h.1) [
+        | inl g ↦
+            let left : octets + m - length bytes ≡ 0 = subst (λ (large : Bool). cond large 0 (octets + m - length bytes) ≡ 0) h.0 none in
+            omega (arith, left, ltb-true (length bytes) (octets + m) g.0)
+        | inr g ↦ no_value (Short n) (outer_with kind m octets bytes) g.1
+      ]
+    ]
+
+enough_of : (o : Option Kind) (bytes : List ℕ) (n : ℕ) → cond (is_some o) (missing_by (length_of bytes) (length bytes)) 0 ≡ 0 → outer_of o bytes ≡ Err (Short n) → ⊥
+enough_of None bytes n none e = tag_inside 0 (Short n) e
+enough_of (Some kind) bytes n none e = enough_by kind (length_of bytes) bytes n none e
+
+enough_outer : (bytes : List ℕ) (n : ℕ) → missing_of bytes ≡ 0 → outer_at bytes ≡ Err (Short n) → ⊥
+unfolding missing_of outer_at
+enough_outer [] n none e = omega (arith, none)
+enough_outer (first ∷ bytes) n none e = enough_of (kind_with first) bytes n none e
+
+enough : (bytes : List ℕ) (n : ℕ) → missing_of bytes ≡ 0 → apdu_at bytes ≡ Err (Short n) → ⊥
+unfolding apdu_at
+enough bytes n none e =
+    elim (bind_err (outer_at bytes) (λ outer. inside_of outer.kind outer.inside >>= λ apdu. Ok (apdu, drop outer.size bytes)) (Short n) e) [
+      | inl h ↦ enough_outer bytes n none h
+      | inr h ↦ elim (bind_err (inside_of h.0.kind h.0.inside) (λ apdu. Ok (apdu, drop h.0.size bytes)) (Short n) h.2) [
+        | inl g ↦ inside_faults h.0.kind h.0.inside (Short n) g
+        | inr g ↦ no_value (Short n) (g.0, drop h.0.size bytes) g.2
+      ]
+    ]
+
+-- a fault of bytes of which none is missing is not Short
+pub not_short : (bytes : List ℕ) (fault : DerFault) → missing_of bytes ≡ 0 → apdu_at bytes ≡ Err fault → IfShort fault ⊥
+not_short bytes (Short n) none e = enough bytes n none e
+not_short bytes (Tag at) none e = tt
+not_short bytes (Length at) none e = tt
+not_short bytes (Field at) none e = tt
+not_short bytes OutOfMemory none e = tt
+
+-- a fault other than want of memory, of bytes of which none is missing
+pub refused : (bytes : List ℕ) (fault : DerFault) → (fault ≡ OutOfMemory → ⊥) → missing_of bytes ≡ 0 → Decodes bytes (apdu_at bytes) (Err fault)
+    → (apdu_at bytes ≡ Err fault) × IfShort fault ⊥
+refused bytes fault other none h =
+    elim (decodes_err bytes (apdu_at bytes) fault h) [
+      | inl e ↦ (e, not_short bytes fault none e)
+      | inr e ↦ absurd (other e.0)
+    ]
+
+-- ---- no APDU is longer than 359 bytes
+
+most_is : (n octets size : ℕ) (large : Bool) → ltb 355 n ≡ large → octets ≤ 3 → 0 < cond large 0 (octets + n - size) → size + cond large 0 (octets + n - size) ≤ 358
+most_is n octets size true e few some = absurd (omega (arith, some))
+most_is n octets size false e few some = omega (arith, few, some, ltb-false 355 n e)
+
+most_by : (form : LengthForm) (size : ℕ) → IsFew form size → 0 < missing_by form size → size + missing_by form size ≤ 358
+most_by Cut size few some = omega (arith, few)
+most_by Wrong size few some = absurd (omega (arith, some))
+most_by (Is n octets) size few some = most_is n octets size (ltb 355 n) refl few some
+
+most_of : (o : Option Kind) (bytes : List ℕ) → 0 < cond (is_some o) (missing_by (length_of bytes) (length bytes)) 0
+    → length bytes + cond (is_some o) (missing_by (length_of bytes) (length bytes)) 0 ≤ 358
+most_of None bytes some = absurd (omega (arith, some))
+most_of (Some kind) bytes some = most_by (length_of bytes) (length bytes) (length_few bytes) some
+
+pub most_missing : (bytes : List ℕ) → 0 < missing_of bytes → length bytes + missing_of bytes ≤ 359
+unfolding missing_of
+most_missing [] some = omega arith
+most_missing (first ∷ bytes) some = omega (arith, most_of (kind_with first) bytes some)
+
+-- ---- what was read, and a read of no more than is missing
+
+pub unfinished_alone : (bytes : List ℕ) → 0 < missing_of bytes → IsUnfinished bytes
+unfinished_alone bytes some = subst IsUnfinished (append-nil bytes) (wanted bytes [] some)
+
+pub read_on : (front more : List ℕ) → AreUnfinished front → length more ≤ missing_of front → AreUnfinished (front ++ more)
+read_on front more fronts few size lt =
+    elim (cases_lt size (length front)) [
+      | inl shorter ↦ subst IsUnfinished (sym (take-append-le size front more (omega arith))) (fronts size shorter)
+      | inr le ↦
+          let k = size - length front in
+          let is : take size (front ++ more) ≡ front ++ take k more =
+          ap (λ (m : ℕ). take m (front ++ more)) (let e : size ≡ length front + k = omega (arith, le) in e) ∙ take-append-add front more k in
+          let fewer : k < length more = omega (arith, le, lt, length-append front more) in
+          subst IsUnfinished (sym is) (wanted front (take k more) (omega (arith, few, fewer, length-take-le k more (omega (arith, fewer)))))
+    ]
+
+-- the front of a buffer that a read has filled further
+pub filled : (size k count : ℕ) (bytes buffer : List ℕ) → size ≤ length bytes → count ≤ length buffer
+    → take (size + count) (put_mid size k bytes buffer) ≡ take size bytes ++ take count buffer
+filled size k count bytes buffer fits few =
+    let all = put_mid size k bytes buffer in
+    let n = size + length buffer in
+    let front = take size bytes in
+    let long : length front ≡ size = length-take-le size bytes fits in
+    let whole : take n all ≡ front ++ buffer = take-put_mid size k bytes buffer n refl fits in
+    let parts : all ≡ (front ++ buffer) ++ drop n all = sym (take-append-drop n all) ∙ ap (λ (x : List ℕ). x ++ drop n all) whole in
+    ap (take (size + count)) parts ∙ take-append-le (size + count) (front ++ buffer) (drop n all) (omega (arith, long, few, length-append front buffer))
+    ∙ ap (λ (m : ℕ). take (m + count) (front ++ buffer)) (sym long) ∙ take-append-add front buffer count
+
+pub filled_length : (size k : ℕ) (bytes buffer : List ℕ) → length buffer ≡ k → size + k ≤ length bytes → length (put_mid size k bytes buffer) ≡ length bytes
+filled_length size k bytes buffer room fits =
+    let all = put_mid size k bytes buffer in
+    let n = size + length buffer in
+    let within : size ≤ length bytes = omega (arith, fits) in
+    omega (
+      arith,
+      ap length (take-append-drop n all),
+      length-append (take n all) (drop n all),
+      ap length (take-put_mid size k bytes buffer n refl within),
+      length-append (take size bytes) buffer,
+      length-take-le size bytes within,
+      ap length (drop-put_mid size k bytes buffer n (omega (arith, room)) within room),
+      length-drop n bytes,
+      room,
+      fits,
+    )

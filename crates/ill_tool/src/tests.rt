@@ -1,4 +1,5 @@
 mod check;
+mod growths;
 mod show;
 mod streams;
 mod words;

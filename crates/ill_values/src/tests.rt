@@ -245,3 +245,25 @@ fn equal_and_unequal_results(rt: HostRuntime) {
     assert_eq!(rt; AnswerResult::Retry, AnswerResult::Retry);
     assert_ne!(rt; AnswerResult::Retry, AnswerResult::Unfilled);
 }
+
+#[test]
+fn copies_are_equal(rt: HostRuntime) -> Result<(), Fail> {
+    let alloc = rt.alloc();
+    let id = TxnId::new(alloc, b"G1", b"T1")?;
+    assert_eq!(rt; id.copy(alloc)?, id);
+    let item = Item::new(alloc, &[b'M'; 200])?;
+    assert_eq!(rt; item.copy(alloc)?, item);
+    let due = Day::read(b"20250315")?;
+    for body in [
+        Body::Cancel,
+        Body::Shipped { due },
+        Body::IllRequest {
+            expiry: Some(due),
+            item,
+        },
+    ] {
+        let message = one_message(alloc, body)?;
+        assert_eq!(rt; message.copy(alloc)?, message);
+    }
+    Ok(())
+}

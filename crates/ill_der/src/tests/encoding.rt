@@ -140,3 +140,16 @@ fn a_writer_that_takes_no_byte_has_failed(rt: HostRuntime) -> Result<(), Fail> {
     );
     Ok(())
 }
+
+/// Prints what `encode` gives for each body, in hexadecimal, for another reader of DER.
+#[test]
+fn spellings_for_another_reader(rt: HostRuntime) -> Result<(), Fail> {
+    for (_, body) in bodies(rt.alloc())? {
+        let apdu = apdu(rt.alloc(), 1, body)?;
+        for byte in encode(rt.alloc(), &apdu)? {
+            print!(rt; "{byte:02X}")?;
+        }
+        println!(rt)?;
+    }
+    Ok(())
+}

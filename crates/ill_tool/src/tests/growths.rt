@@ -3,6 +3,7 @@
 //! each allocation of this test in turn reads the lines.
 
 use super::CANCEL;
+use ill_core::{Refusal, Requester, State, Wish};
 use ill_der::{DerFault, ReadFault, WriteFault, decode, encode, read_apdu, write_apdu};
 use ill_values::{Apdu, Body, Item, Number, TextFault, TxnId};
 use std::alloc::{AllocError, Global};
@@ -90,5 +91,23 @@ fn codec(rt: HostRuntime) -> Result<(), Fail> {
     report(&rt, "write_apdu", &written, &(), &WriteFault::OutOfMemory)?;
     let expected = if written.is_ok() { REQUEST } else { &[] };
     assert_eq!(rt; output.as_slice(), expected);
+    Ok(())
+}
+
+#[test]
+fn requester(rt: HostRuntime) -> Result<(), Fail> {
+    let alloc = rt.alloc();
+    let mut requester = Requester::idle(alloc, TxnId::new(alloc, b"G1", b"T1")?);
+    let item = Item::new(alloc, b"Maps")?;
+    let wish = Wish::Request { expiry: None, item };
+    let acted = requester.act(alloc, &wish);
+    report(&rt, "Requester::act", &acted, &(), &Refusal::OutOfMemory)?;
+    let (state, count) = if acted.is_ok() {
+        (State::Pending, 1)
+    } else {
+        (State::Idle, 0)
+    };
+    assert_eq!(rt; requester.state(), state);
+    assert_eq!(rt; requester.issued_count(), count);
     Ok(())
 }

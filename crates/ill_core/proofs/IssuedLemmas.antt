@@ -1,0 +1,125 @@
+-- What one more APDU changes in a list of issued ones.
+use Rattle.std.proofs.Common.{rules, arith, ◌≡◌, ℕ, ◌+◌, ◌<◌, ◌≤◌, Bool, true, false, not, ◌&&◌, ◌||◌, nat_eq, List, [], ◌∷◌, ◌++◌, length, drop, Option, Some, None, Ok, Err, nat_lt, if◌then◌else◌, refl, ap, append-nil, length-append, eq-eqb, subst, sym, ◌∙◌}
+use native.Mathlib.Numerals.{unary_clauses}
+use Rattle.std.proofs.lemmas.Bool.{and_parts, and_from, or_from}
+use Rattle.std.proofs.Math.Bool.{or-false}
+use Rattle.std.specs.List.{list_all, filter_map, cons_option, last_or}
+use Rattle.std.specs.Option.{option_or}
+use Rattle.std.proofs.Math.ListN.{get_or}
+use Rattle.std.proofs.Math.Seq.{drop-cons}
+use Rattle.std.proofs.lemmas.List.{at_drop_all}
+use Rattle.std.proofs.lemmas.List.Elements.{filter_map-append}
+use Rattle.std.proofs.lemmas.List.Folds.{list_any-append, list_all-append}
+use Rattle.ill_values.specs.TxnId.{Qualifiers}
+use Rattle.ill_values.specs.declared.apdu.Apdu.{Apdu}
+use Rattle.ill_values.specs.declared.apdu.Body.{Body}
+use Rattle.ill_core.specs.declared.refusal.Refusal.TheVariants.{NumbersUsed}
+use Rattle.ill_core.specs.Issued.{next_number, are_numbered, is_same_txn, has, last_of, is_ill_request}
+use Rattle.ill_core.specs.Requester.{begins_with_request, is_none}
+
+numbered_cons : (txn : Qualifiers) (number : ℕ) (a : Apdu) (apdus : List Apdu)
+    → are_numbered txn number (a ∷ apdus) ≡ ((is_same_txn a.txn txn && (nat_eq a.number number)) && are_numbered txn (number + 1) apdus)
+unfolding are_numbered
+numbered_cons txn number a apdus = refl
+
+-- the element at a place, and those behind it
+front_at : {X : Type 0} → (xs : List X) (i : ℕ) (d : X) → i < length xs → drop i xs ≡ get_or xs i d ∷ drop (i + 1) xs
+front_at xs i d within = simp unary_clauses (drop-cons xs i d within)
+
+pub numbered_none : (txn : Qualifiers) (number : ℕ) → are_numbered txn number [] ≡ true
+unfolding are_numbered
+numbered_none txn number = refl
+
+-- the APDU at a place is judged, and then those behind it
+pub numbered_at : (txn : Qualifiers) (apdus : List Apdu) (i : ℕ) (a : Apdu) (judged : Bool) → i < length apdus → a ≡ get_or apdus i a
+    → judged ≡ (is_same_txn a.txn txn && nat_eq a.number (i + 1))
+    → are_numbered txn (i + 1) (drop i apdus) ≡ (judged && are_numbered txn (i + 1 + 1) (drop (i + 1) apdus))
+numbered_at txn apdus i a judged within there is =
+    let front : are_numbered txn (i + 1) (drop i apdus) ≡ are_numbered txn (i + 1) (get_or apdus i a ∷ drop (i + 1) apdus) = ap (are_numbered txn (i + 1)) (front_at apdus i a within) in
+    let same : are_numbered txn (i + 1) (get_or apdus i a ∷ drop (i + 1) apdus) ≡ are_numbered txn (i + 1) (a ∷ drop (i + 1) apdus) = ap (λ b. are_numbered txn (i + 1) (b ∷ drop (i + 1) apdus)) (sym there) in
+    front ∙ (same ∙ (numbered_cons txn (i + 1) a (drop (i + 1) apdus) ∙ ap (λ b. b && are_numbered txn (i + 1 + 1) (drop (i + 1) apdus)) (sym is)))
+
+-- behind the last there is none to judge
+pub numbered_end : (txn : Qualifiers) (apdus : List Apdu) (i : ℕ) → length apdus ≤ i → are_numbered txn (i + 1) (drop i apdus) ≡ true
+numbered_end txn apdus i all = at_drop_all (are_numbered txn (i + 1)) apdus i all ∙ numbered_none txn (i + 1)
+
+found_first : {X : Type 0} (o found : Option X) (others : List X) → last_or o (cons_option found others) ≡ last_or (option_or found o) others
+found_first o None others = refl
+found_first o (Some x) others = refl
+
+-- what the APDU at a place has goes before what was found, and what those behind it have goes before both
+pub last_at : {X : Type 0} (f : Apdu → Option X) (o : Option X) (apdus : List Apdu) (i : ℕ) (d : Apdu) → i < length apdus
+    → last_or o (filter_map f (drop i apdus)) ≡ last_or (option_or (f (get_or apdus i d)) o) (filter_map f (drop (i + 1) apdus))
+last_at f o apdus i d within =
+    let front : last_or o (filter_map f (drop i apdus)) ≡ last_or o (filter_map f (get_or apdus i d ∷ drop (i + 1) apdus)) = ap (λ xs. last_or o (filter_map f xs)) (front_at apdus i d within) in
+    front ∙ found_first o (f (get_or apdus i d)) (filter_map f (drop (i + 1) apdus))
+
+-- the next APDU keeps the numbering
+pub numbered_next : (txn : Qualifiers) (number : ℕ) (apdus : List Apdu) (a : Apdu)
+    → are_numbered txn number apdus ≡ true → is_same_txn a.txn txn ≡ true → a.number ≡ number + length apdus
+    → are_numbered txn number (apdus ++ a ∷ []) ≡ true
+unfolding are_numbered
+numbered_next txn number [] a numbered same next =
+    and_from _ _ (and_from _ _ same (eq-eqb a.number number (omega (arith, next)))) refl
+numbered_next txn number (b ∷ apdus) a numbered same next =
+    let parts = and_parts _ _ numbered in
+    and_from _ _ parts.0 (numbered_next txn (number + 1) apdus a parts.1 same (omega (arith, next)))
+
+pub not_true : (b : Bool) → not b ≡ true → b ≡ false
+not_true b h = search rules
+
+next_of : (n number : ℕ) → (if nat_lt n 255 then Ok (n + 1) else Err NumbersUsed) ≡ Ok number → (number ≡ n + 1) × (n < 255)
+next_of n number h = search rules
+
+pub same_txn : (txn : Qualifiers) → is_same_txn txn txn ≡ true
+same_txn txn = search rules
+
+-- an issued APDU keeps the numbering, and there are 255 at most
+pub numbered_issue : (txn : Qualifiers) (apdus : List Apdu) (a : Apdu) (number : ℕ) → are_numbered txn 1 apdus ≡ true
+    → next_number apdus ≡ Ok number → a.txn ≡ txn → a.number ≡ number
+    → (are_numbered txn 1 (apdus ++ a ∷ []) ≡ true) × (length (apdus ++ a ∷ []) ≤ 255)
+numbered_issue txn apdus a number numbered next same is =
+    let n = next_of (length apdus) number next in (
+      numbered_next txn 1 apdus a numbered (subst (λ t. is_same_txn t txn ≡ true) (sym same) (same_txn txn)) (omega (arith, n.0, is)),
+      omega (arith, n.1, length-append apdus (a ∷ [])),
+    )
+
+-- one more APDU may say it
+pub has_more : (says : Body → Bool) (apdus : List Apdu) (a : Apdu) → has says (apdus ++ a ∷ []) ≡ (has says apdus || says a.body)
+has_more says apdus a =
+    list_any-append (λ (b : Apdu). says b.body) apdus (a ∷ []) ∙ ap (λ b. has says apdus || b) (or-false (says a.body))
+
+pub all_more : (says : Body → Bool) (apdus : List Apdu) (a : Apdu) → list_all (λ b. says b.body) apdus ≡ true → says a.body ≡ true
+    → list_all (λ b. says b.body) (apdus ++ a ∷ []) ≡ true
+all_more says apdus a old next =
+    list_all-append (λ (b : Apdu). says b.body) apdus (a ∷ []) ∙ and_from _ _ old (and_from _ _ next refl)
+
+pub none_more : (apdus : List Apdu) (a : Apdu) → is_none (apdus ++ a ∷ []) ≡ false
+none_more [] a = refl
+none_more (b ∷ apdus) a = refl
+
+-- the first is an ILL-Request, and no other
+pub begins_more : (apdus : List Apdu) (a : Apdu) → begins_with_request apdus ≡ true → is_ill_request a.body ≡ is_none apdus
+    → begins_with_request (apdus ++ a ∷ []) ≡ true
+begins_more [] a old is = and_from _ _ is refl
+begins_more (b ∷ apdus) a old is =
+    let parts = and_parts _ _ old in
+    and_from _ _ parts.0 (ap not (has_more is_ill_request apdus a ∙ or_from _ _ (not_true _ parts.1) is))
+
+last_more : {X : Type 0} (o : Option X) (xs : List X) (x : X) → last_or o (xs ++ x ∷ []) ≡ Some x
+last_more o [] x = refl
+last_more o (y ∷ xs) x = last_more (Some y) xs x
+
+-- one more APDU in which nothing is found
+pub found_none : {X : Type 0} (f : Apdu → Option X) (apdus : List Apdu) (a : Apdu) → f a ≡ None → filter_map f (apdus ++ a ∷ []) ≡ filter_map f apdus
+found_none f apdus a none =
+    filter_map-append f apdus (a ∷ []) ∙ (ap (λ o. filter_map f apdus ++ cons_option o []) none ∙ append-nil (filter_map f apdus))
+
+-- one more APDU in which something is found
+pub found_more : {X : Type 0} (f : Apdu → Option X) (apdus : List Apdu) (a : Apdu) (x : X) → f a ≡ Some x
+    → filter_map f (apdus ++ a ∷ []) ≡ filter_map f apdus ++ x ∷ []
+found_more f apdus a x there = filter_map-append f apdus (a ∷ []) ∙ ap (λ o. filter_map f apdus ++ cons_option o []) there
+
+-- what is found in the APDU issued last is the last
+pub last_of_more : {X : Type 0} (f : Apdu → Option X) (apdus : List Apdu) (a : Apdu) (x : X) → f a ≡ Some x → last_of f (apdus ++ a ∷ []) ≡ Some x
+last_of_more f apdus a x there = ap (last_or None) (found_more f apdus a x there) ∙ last_more None (filter_map f apdus) x

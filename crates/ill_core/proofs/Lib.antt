@@ -1,0 +1,5 @@
+pub mod IssuedLemmas
+pub mod RequesterKept
+pub mod RequesterRows
+pub mod RequesterLaws
+pub mod RequesterAnswers

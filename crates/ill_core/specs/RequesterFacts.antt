@@ -1,0 +1,118 @@
+-- What a requester's record shows to have come, and which APDU of a responder tells it (this profile's own).
+use Rattle.std.specs.Prelude.{◌≡◌, ◌⊎◌, ℕ, Bool, true, false, not, ◌&&◌, ◌==◌, nat_lt, ◌+◌, List, [], ◌∷◌, ◌++◌, length, Option, Some, None}
+use Rattle.ill_values.specs.Day.{Date}
+use Rattle.ill_values.specs.declared.apdu.Apdu.{Apdu}
+use Rattle.ill_values.specs.declared.apdu.Body.{Body}
+use Rattle.ill_values.specs.declared.apdu.Body.TheVariants as types
+use Rattle.ill_values.specs.declared.apdu.AnswerResult.{AnswerResult}
+use Rattle.ill_values.specs.declared.apdu.AnswerResult.TheVariants as results
+use Rattle.ill_core.specs.declared.state.State.TheVariants as states
+use Rattle.ill_core.specs.State.{is_among}
+use Rattle.ill_core.specs.Issued.{was, is_cancel, is_the, is_at_most, has, declines}
+use Rattle.ill_core.specs.Requester.{RequesterRecord, accepted, last_cancel, later}
+use Rattle.ill_core.specs.RequesterDeliveries.{is_after_due}
+use Rattle.ill_core.specs.declared.state.State.{State}
+use Rattle.ill_core.specs.declared.taking.Taking.{Taking}
+use Rattle.ill_core.specs.declared.taking.Taking.TheVariants.{Taken, Repeat}
+use Rattle.std.specs.Option.{unwrap_or}
+use Rattle.std.specs.List.{list_all, list_any, filter_map}
+
+-- what a message of the responder may tell
+pub data RequesterFact : Type 0 where
+  Cancelled : RequesterFact  -- a Cancel was accepted
+  Ended : RequesterFact  -- the item is not supplied
+  Granted : (due : Date) → RequesterFact  -- the item may be kept until that day
+  Refused : (cancel : ℕ) → RequesterFact  -- the Cancel with that number was refused
+  GivenBack : RequesterFact  -- the item is back
+
+-- A Cancel is open while it is the last one, in the states that wait for its answer or have the answer yes.
+abbrev pub is_open : RequesterRecord → ℕ → Bool
+is_open x c = is_among (states.CancelPending ∷ states.Cancelled ∷ []) x.state && is_the c (last_cancel x)
+
+-- A record shows that a Cancel was refused where it issued that one, the Cancel is not open, and no other end has come.
+abbrev pub shows_refused : RequesterRecord → ℕ → Type 0
+shows_refused x c = (was is_cancel x.issued c ≡ true) × (is_among (states.NotSupplied ∷ later) x.state ≡ false) × (is_open x c ≡ false)
+
+abbrev pub Shows : RequesterRecord → RequesterFact → Type 0
+Shows x Cancelled = x.state ≡ states.Cancelled
+Shows x Ended = x.state ≡ states.NotSupplied
+Shows x (Granted due) = x.due ≡ Some due
+Shows x (Refused cancel) = shows_refused x cancel
+Shows x GivenBack = x.checked_in ≡ true
+
+-- the results of an ILL-Answer that end a request
+abbrev pub is_final : AnswerResult → Bool
+is_final results.Conditional = false
+is_final results.WillSupply = false
+is_final results.HoldPlaced = false
+is_final other = true
+
+abbrev pub Tells : Body → RequesterFact → Type 0
+Tells (types.CancelReply c true) Cancelled = Unit {0}
+Tells (types.IllAnswer answer) Ended = is_final answer ≡ true
+Tells types.Expired Ended = Unit {0}
+Tells (types.Shipped d) (Granted due) = d ≡ due
+Tells (types.RenewAnswer c (Some d)) (Granted due) = d ≡ due
+Tells (types.CancelReply c false) (Refused cancel) = c ≡ cancel
+Tells types.CheckedIn GivenBack = Unit {0}
+Tells other fact = ⊥
+
+-- a due date is there, and it is after another
+abbrev pub is_raised : Option Date → Option Date → Bool
+is_raised old None = false
+is_raised old (Some d) = is_after_due d old
+
+-- a due date that was there is kept or raised
+abbrev pub KeepsDue : Option Date → Option Date → Type 0
+KeepsDue old new = (old ≡ None) ⊎ (new ≡ old) ⊎ (is_raised old new ≡ true)
+
+-- Conditions are held that were not: in PENDING, with the number of the message, above those accepted.
+abbrev pub HoldsNew : RequesterRecord → ℕ → RequesterRecord → Type 0
+HoldsNew x k new = (x.state ≡ states.Pending) × (new.state ≡ states.Conditional) × (new.held ≡ Some k) × (is_at_most k (accepted x) ≡ false)
+
+-- Conditions are held as they were, in the same state or another than CONDITIONAL; or no more; or new ones are.
+abbrev pub Holds : RequesterRecord → ℕ → RequesterRecord → Type 0
+Holds x k new =
+    ((new.held ≡ x.held) × ((new.state ≡ x.state) ⊎ (is_among (states.Conditional ∷ []) new.state ≡ false)))
+    ⊎ ((new.held ≡ None) × (is_among (states.Conditional ∷ []) new.state ≡ false))
+    ⊎ HoldsNew x k new
+
+-- one more APDU is issued, with the next number
+abbrev pub IssuesNext : RequesterRecord → RequesterRecord → Type 0
+IssuesNext x new = (a : Apdu) × (a.txn ≡ x.txn) × (a.number ≡ length x.issued + 1) × (new.issued ≡ x.issued ++ a ∷ [])
+
+-- A Conditional-Reply that is issued answers the conditions that are held, in CONDITIONAL, and they were not declined.
+abbrev pub Replies : RequesterRecord → RequesterRecord → Type 0
+Replies x new =
+    (a : Apdu) (n : ℕ) (answer : Bool) → new.issued ≡ x.issued ++ a ∷ [] → a.body ≡ types.ConditionalReply n answer
+    → (is_among (states.Conditional ∷ []) x.state ≡ true) × (has declines x.issued ≡ false) × (n ≡ unwrap_or x.held 0)
+
+-- taken or a repeat, and the record after it is in one of these states
+abbrev pub LeadsTo : List State → Taking × RequesterRecord → Type 0
+LeadsTo states answer = ((answer.0 ≡ Taken) ⊎ (answer.0 ≡ Repeat)) × (is_among states answer.1.state ≡ true)
+
+-- the number of the conditions that a Conditional-Reply answers
+abbrev pub replied : Body → Option ℕ
+replied (types.ConditionalReply answers accepts) = Some answers
+replied other = None
+
+-- the numbers of the conditions that were answered, in the order of the answers
+abbrev pub replies : List Apdu → List ℕ
+replies apdus = filter_map (λ a. replied a.body) apdus
+
+-- no number stands twice in the list
+unfoldable pub are_distinct : List ℕ → Bool
+are_distinct [] = true
+are_distinct (n ∷ ns) = not (list_any (λ m. m == n) ns) && are_distinct ns
+
+-- there is a number, and n is below it
+abbrev pub is_below : ℕ → Option ℕ → Bool
+is_below n None = false
+is_below n (Some m) = nat_lt n m
+
+-- Conditions are answered once. Until some are declined, those answered are at most the accepted ones, and below the
+-- ones that are held.
+pub record AnswersOnce (x : RequesterRecord) : Type 0 where
+  pub distinct : are_distinct (replies x.issued) ≡ true
+  pub above : has declines x.issued ≡ false → list_all (λ n. is_at_most n (accepted x)) (replies x.issued) ≡ true
+  pub held : is_among (states.Conditional ∷ []) x.state ≡ true → has declines x.issued ≡ false → list_all (λ n. is_below n x.held) (replies x.issued) ≡ true

@@ -1,0 +1,185 @@
+//! What a side has issued, with what both roles do alike.
+
+ghost use Rattle.std.specs.Prelude.{◌≡◌, ◌≤◌, ◌<◌, ◌==◌, ◌&&◌, true, length, [], Ok, Some, is_some, IfOk, IfErr, IfSome, OnOk, OnErr, option_map};
+ghost use Rattle.ill_core.specs.declared.refusal.Refusal.TheVariants as refusals;
+ghost use Rattle.ill_core.specs.Issued.{IssuedList, is_same_txn, are_numbered, message, is_requesters, next_number, with_next, refused_before, Admits, last_of, found};
+
+use crate::refusal::Refusal;
+use ill_values::{Apdu, Body, Number, TxnId};
+use std::alloc::Global;
+use std::marker::Model;
+
+/// A transaction, and the APDUs that a side has issued in it: the n-th has number n.
+#[derive(Debug, Drop)]
+pub struct Issued {
+    txn: TxnId,
+    apdus: Vec<Apdu>,
+}
+
+/// What is looked for among the APDUs: the last number of this kind.
+#[derive(Clone, Copy, Debug, PartialEq, Eq, Hash)]
+pub enum Sought {
+    /// The number that a Conditional-Reply yes answers.
+    Accepted,
+    /// The number of a Cancel.
+    CancelNumber,
+    /// The number of a Renew.
+    RenewNumber,
+}
+
+impl Model for Issued {
+    ghost Value = { IssuedList };
+
+    ghost view = { λ i. record { txn = i.txn; apdus = i.apdus.items } };
+
+    ghost invariant = { λ i. (are_numbered i.txn 1 i.apdus.items ≡ true) × (length i.apdus.items ≤ 255) };
+}
+
+impl Sought {
+    fn find(self, apdu: &Apdu) -> Option<Number>
+        ensures { result ≡ found self apdu.now }
+    {
+        match (self, &apdu.body) {
+            (Sought::Accepted, Body::ConditionalReply { answers, yes: true }) => Some(*answers),
+            (Sought::CancelNumber, Body::Cancel) => Some(apdu.number),
+            (Sought::RenewNumber, Body::Renew { .. }) => Some(apdu.number),
+            _ => None,
+        }
+    }
+}
+
+impl Issued {
+    /// None yet.
+    #[tactic(auto, unfolding(crate::specs::Issued::are_numbered))]
+    pub fn none(alloc: Global, txn: TxnId) -> Issued
+        ensures { result ≡ record { txn = txn; apdus = [] } }
+    {
+        Issued {
+            txn,
+            apdus: Vec::new(alloc),
+        }
+    }
+
+    /// These APDUs, each of the transaction, the n-th with number n.
+    pub fn of_numbered(txn: TxnId, apdus: Vec<Apdu>) -> Issued
+        requires numbered { are_numbered txn 1 apdus.items ≡ true }
+        requires few { length apdus.items ≤ 255 }
+        ensures { result ≡ record { txn = txn; apdus = apdus.items } }
+    {
+        Issued { txn, apdus }
+    }
+
+    /// The transaction.
+    pub fn txn(&self) -> &TxnId
+        ensures { result.now ≡ self.now.txn }
+    {
+        &self.txn
+    }
+
+    /// The APDUs, in their order.
+    pub fn apdus(&self) -> &[Apdu]
+        ensures value { result.now ≡ self.now.apdus }
+        ensures numbered { are_numbered self.now.txn 1 self.now.apdus ≡ true }
+    {
+        &self.apdus
+    }
+
+    /// How many there are.
+    pub fn count(&self) -> u8
+        ensures { result ≡ length self.now.apdus }
+    {
+        self.apdus.len() as u8
+    }
+
+    /// APDU number n.
+    pub fn get(&self, number: Number) -> Option<&Apdu>
+        ensures { option_map (λ a. a.now) result ≡ message self.now.apdus number }
+    {
+        self.apdus.get(usize::from(number.get()) - 1)
+    }
+
+    /// The last number of what is sought.
+    #[tactic(auto, using(crate::proofs::IssuedLemmas::last_at))]
+    pub fn last(&self, sought: Sought) -> Option<Number>
+        ensures { result ≡ last_of (found sought) self.now.apdus }
+    {
+        let mut last = None;
+        for apdu in &self.apdus {
+            last = sought.find(apdu).or(last);
+        }
+        last
+    }
+
+    /// The number of the next APDU.
+    pub fn next_number(&self) -> Result<Number, Refusal>
+        ensures { result ≡ next_number self.now.apdus }
+    {
+        self.count()
+            .checked_add(1)
+            .and_then(Number::new)
+            .ok_or(Refusal::NumbersUsed)
+    }
+
+    /// Issues the next APDU, or changes nothing.
+    #[tactic(auto, using(crate::proofs::IssuedLemmas::numbered_issue))]
+    pub fn issue(&mut self, alloc: Global, number: Number, body: Body) -> Result<(), Refusal>
+        requires next { next_number self.old.apdus ≡ Ok number }
+        ensures txn { self.new.txn ≡ self.old.txn }
+        ensures issued { OnOk result (self.new.apdus ≡ with_next self.old.txn self.old.apdus body) }
+        ensures unchanged { OnErr result (self.new ≡ self.old) }
+        ensures memory { IfErr result (λ refusal. refusal ≡ refusals.OutOfMemory) }
+    {
+        let txn = self.txn.copy(alloc)?;
+        self.apdus.push(Apdu { txn, number, body })?;
+        Ok(())
+    }
+
+    /// Refuses an APDU of another transaction, and then one of a type that this role issues.
+    pub fn admit(&self, apdu: &Apdu, is_own: bool) -> Result<(), Refusal>
+        ensures { Admits (refused_before self.now.txn is_own apdu.now) result }
+    {
+        if apdu.txn != self.txn {
+            Err(Refusal::OtherTransaction)
+        } else if is_own {
+            Err(Refusal::WrongRole)
+        } else {
+            Ok(())
+        }
+    }
+}
+
+/// Whether each APDU is of the transaction, and the n-th has number n.
+pub fn are_numbered(txn: &TxnId, apdus: &[Apdu]) -> bool
+    ensures value { result ≡ are_numbered txn.now 1 apdus.now }
+    ensures few { result ≡ true → length apdus.now ≤ 255 }
+{
+    for (index, apdu) in apdus.iter().enumerate() {
+        if !is_message(apdu, txn, index + 1) {
+            return false;
+        }
+    }
+    true
+}
+
+/// Whether the APDU is of the transaction and has this number.
+fn is_message(apdu: &Apdu, txn: &TxnId, number: usize) -> bool
+    ensures value { result ≡ (is_same_txn apdu.now.txn txn.now && (apdu.now.number == number)) }
+    ensures few { result ≡ true → number ≤ 255 }
+{
+    apdu.txn == *txn && usize::from(apdu.number.get()) == number
+}
+
+/// Whether a requester issues APDUs of this type. A responder issues the others.
+pub fn is_requesters(body: &Body) -> bool
+    ensures { result ≡ is_requesters body.now }
+{
+    match body {
+        Body::IllRequest { .. }
+        | Body::ConditionalReply { .. }
+        | Body::Cancel
+        | Body::Received
+        | Body::Renew { .. }
+        | Body::Returned => true,
+        _ => false,
+    }
+}

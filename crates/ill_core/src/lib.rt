@@ -1,0 +1,19 @@
+//! Both sides of an interlibrary loan, as records that act and take messages by tables.
+//!
+//! Each side is a value of its own: `act` is what its library decides, and `take` what a message does.
+#![tactic(auto)]
+
+mod issued;
+pub mod laws;
+mod refusal;
+mod requester;
+mod state;
+mod taking;
+
+pub use refusal::Refusal;
+pub use requester::{Requester, Wish};
+pub use state::State;
+pub use taking::Taking;
+
+#[cfg(test)]
+mod tests;

@@ -1,0 +1,187 @@
+//! The requester.
+
+mod actions;
+mod deliveries;
+mod rules;
+
+ghost use Rattle.std.specs.Prelude.{◌≡◌, ◌↔◌, [], None, false, length, IsSome, IfSome, option_map};
+ghost use Rattle.ill_core.specs.declared.state.State.TheVariants as State;
+ghost use Rattle.ill_core.specs.Issued.{message};
+ghost use Rattle.ill_core.specs.Requester.{RequesterRecord, IsRequester, accepted, is_declined, is_received_by};
+ghost use Rattle.ill_core.specs.RequesterActions.{Acts};
+ghost use Rattle.ill_core.specs.RequesterDeliveries.{takes};
+
+use crate::issued::{Issued, Sought, are_numbered, is_requesters};
+use crate::refusal::Refusal;
+use crate::state::State;
+use crate::taking::Taking;
+use ill_values::{Apdu, Day, Item, Number, TxnId};
+use std::alloc::Global;
+use std::marker::Model;
+
+/// The side that asks for an item.
+#[derive(Debug, Drop)]
+pub struct Requester {
+    state: State,
+    held: Option<Number>,
+    checked_in: bool,
+    due: Option<Day>,
+    issued: Issued,
+}
+
+/// What the library of a requester decides.
+#[derive(Debug, PartialEq, Eq, Drop)]
+pub enum Wish {
+    Request { expiry: Option<Day>, item: Item },
+    Cancel,
+    Reply { yes: bool },
+    Receive,
+    Renew { wished: Option<Day> },
+    Return,
+}
+
+impl Model for Requester {
+    ghost Value = { RequesterRecord };
+
+    ghost view = { λ r. record { txn = r.issued.txn; state = r.state; held = r.held; checked_in = r.checked_in; due = r.due; issued = r.issued.apdus } };
+
+    ghost invariant = { λ r. IsRequester (record { txn = r.issued.txn; state = r.state; held = r.held; checked_in = r.checked_in; due = r.due; issued = r.issued.apdus }) };
+}
+
+impl Requester {
+    /// The requester before its first message.
+    pub fn idle(alloc: Global, txn: TxnId) -> Requester
+        ensures { result ≡ record { txn = txn; state = State.Idle; held = None; checked_in = false; due = None; issued = [] } }
+    {
+        Requester {
+            state: State::Idle,
+            held: None,
+            checked_in: false,
+            due: None,
+            issued: Issued::none(alloc, txn),
+        }
+    }
+
+    /// The requester with these parts, or `None` where no requester has them.
+    pub fn of_parts(
+        txn: TxnId,
+        state: State,
+        held: Option<Number>,
+        checked_in: bool,
+        due: Option<Day>,
+        issued: Vec<Apdu>,
+    ) -> Option<Requester>
+        ensures some { IsSome result ↔ IsRequester (record { txn = txn; state = state; held = held; checked_in = checked_in; due = due; issued = issued.items }) }
+        ensures value { IfSome result (λ r. r ≡ record { txn = txn; state = state; held = held; checked_in = checked_in; due = due; issued = issued.items }) }
+    {
+        if !are_numbered(&txn, &issued) {
+            return None;
+        }
+        if !rules::are_kept(state, held.is_some(), checked_in, due.is_some(), &issued) {
+            return None;
+        }
+        Some(Requester {
+            state,
+            held,
+            checked_in,
+            due,
+            issued: Issued::of_numbered(txn, issued),
+        })
+    }
+
+    /// Does what its library decides, and issues the message that tells it.
+    #[tactic(auto, using(crate::proofs::RequesterKept::wish_kept))]
+    pub fn act(&mut self, alloc: Global, wish: &Wish) -> Result<(), Refusal>
+        ensures { Acts self.old wish.now result self.new }
+    {
+        let Some(next) = actions::next_state(self, wish) else {
+            return Err(Refusal::NotNow(self.state));
+        };
+        let number = self.issued.next_number()?;
+        let body = actions::body_of(self, alloc, wish)?;
+        let held = actions::held_after(self, wish);
+        self.issued.issue(alloc, number, body)?;
+        self.state = next;
+        self.held = held;
+        Ok(())
+    }
+
+    /// Takes a message of the responder.
+    pub fn take(&mut self, apdu: &Apdu) -> Result<Taking, Refusal>
+        ensures { (result, self.new) ≡ takes self.old apdu.now }
+    {
+        self.issued.admit(apdu, is_requesters(&apdu.body))?;
+        Ok(deliveries::comes(self, apdu.number, &apdu.body))
+    }
+
+    /// The transaction.
+    pub fn txn(&self) -> &TxnId
+        ensures { result.now ≡ self.now.txn }
+    {
+        self.issued.txn()
+    }
+
+    /// The state.
+    pub fn state(&self) -> State
+        ensures value { result ≡ self.now.state }
+        ensures requester { IsRequester self.now }
+    {
+        self.state
+    }
+
+    /// The day on which the item is due.
+    pub fn due(&self) -> Option<Day>
+        ensures { result ≡ self.now.due }
+    {
+        self.due
+    }
+
+    /// How many messages were issued.
+    pub fn issued_count(&self) -> u8
+        ensures { result ≡ length self.now.issued }
+    {
+        self.issued.count()
+    }
+
+    /// The message that was issued with this number.
+    pub fn issued(&self, number: Number) -> Option<&Apdu>
+        ensures { option_map (λ a. a.now) result ≡ message self.now.issued number }
+    {
+        self.issued.get(number)
+    }
+
+    /// Whether a Received was issued.
+    pub fn is_received(&self) -> bool
+        ensures { result ≡ is_received_by self.now }
+    {
+        rules::has_received(self.issued.apdus())
+    }
+
+    /// The number that the last Conditional-Reply yes answered.
+    pub fn accepted(&self) -> Option<Number>
+        ensures { result ≡ accepted self.now }
+    {
+        self.issued.last(Sought::Accepted)
+    }
+
+    /// The number of the ILL-Answer that named the conditions, while they stand.
+    pub fn held(&self) -> Option<Number>
+        ensures { result ≡ self.now.held }
+    {
+        self.held
+    }
+
+    /// Whether conditions stand that were declined.
+    pub fn is_declined(&self) -> bool
+        ensures { result ≡ is_declined self.now }
+    {
+        self.state == State::Conditional && rules::has_declined(self.issued.apdus())
+    }
+
+    /// Whether the responder has said that the item is back.
+    pub fn is_checked_in(&self) -> bool
+        ensures { result ≡ self.now.checked_in }
+    {
+        self.checked_in
+    }
+}

@@ -15,7 +15,8 @@ use Rattle.ill_values.specs.declared.apdu.Apdu.{Apdu}
 use Rattle.ill_values.specs.declared.apdu.Body.{Body}
 use Rattle.ill_core.specs.declared.refusal.Refusal.TheVariants.{NumbersUsed}
 use Rattle.ill_core.specs.Issued.{next_number, are_numbered, is_same_txn, has, last_of, is_ill_request}
-use Rattle.ill_core.specs.Requester.{begins_with_request, is_none}
+use Rattle.ill_core.specs.Requester.{begins_with_request}
+use Rattle.ill_core.specs.Issued.{is_none}
 
 numbered_cons : (txn : Qualifiers) (number : ℕ) (a : Apdu) (apdus : List Apdu)
     → are_numbered txn number (a ∷ apdus) ≡ ((is_same_txn a.txn txn && (nat_eq a.number number)) && are_numbered txn (number + 1) apdus)
@@ -23,7 +24,7 @@ unfolding are_numbered
 numbered_cons txn number a apdus = refl
 
 -- the element at a place, and those behind it
-front_at : {X : Type 0} → (xs : List X) (i : ℕ) (d : X) → i < length xs → drop i xs ≡ get_or xs i d ∷ drop (i + 1) xs
+pub front_at : {X : Type 0} → (xs : List X) (i : ℕ) (d : X) → i < length xs → drop i xs ≡ get_or xs i d ∷ drop (i + 1) xs
 front_at xs i d within = simp unary_clauses (drop-cons xs i d within)
 
 pub numbered_none : (txn : Qualifiers) (number : ℕ) → are_numbered txn number [] ≡ true

@@ -3,3 +3,5 @@ pub mod RequesterKept
 pub mod RequesterRows
 pub mod RequesterLaws
 pub mod RequesterAnswers
+pub mod ResponderLists
+pub mod ResponderKept

@@ -10,7 +10,8 @@ use Rattle.ill_core.specs.declared.requester.Wish.{Wish}
 use Rattle.ill_core.specs.declared.requester.Wish.TheVariants as wishes
 use Rattle.ill_core.specs.State.{is_among}
 use Rattle.ill_core.specs.Issued.{has, with_next, declines, is_requesters, is_ill_request, is_cancel, is_received, is_renew, is_returned}
-use Rattle.ill_core.specs.Requester.{RequesterRecord, IsRequester, PartsFit, IssuedFit, is_none, implies}
+use Rattle.ill_core.specs.Requester.{RequesterRecord, IsRequester, PartsFit, IssuedFit}
+use Rattle.ill_core.specs.Issued.{is_none, implies}
 use Rattle.ill_core.specs.RequesterActions.{next_state, body_of, held_after}
 use Rattle.ill_core.proofs.IssuedLemmas.{numbered_next, same_txn, has_more, all_more, none_more, begins_more}
 

@@ -12,7 +12,8 @@ use Rattle.ill_core.specs.declared.taking.Taking.TheVariants as takings
 use Rattle.ill_core.specs.State.{is_among}
 use Rattle.ill_core.specs.Issued.{refused_before, is_requesters, is_at_most, is_the, was, is_cancel, is_renew}
 use Rattle.ill_core.specs.Requester.{RequesterRecord, later, accepted, last_cancel, last_renew}
-use Rattle.ill_core.specs.RequesterDeliveries.{comes, takes, takes_to, is_after_due, is_due_on, end_comes, cancel_reply_comes, renew_answer_comes, renewal_comes, unless}
+use Rattle.ill_core.specs.RequesterDeliveries.{comes, takes, takes_to, end_comes, cancel_reply_comes, renew_answer_comes, renewal_comes, unless}
+use Rattle.ill_core.specs.Dates.{is_after_due, is_due_on}
 use Rattle.ill_core.specs.declared.refusal.Refusal.{Refusal}
 use Rattle.ill_core.specs.RequesterFacts.{KeepsDue, Holds, Tells, shows_refused}
 use Rattle.ill_core.specs.RequesterFacts as facts

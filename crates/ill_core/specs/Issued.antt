@@ -1,11 +1,13 @@
 -- What a side has issued in a transaction, and what both roles ask of it (this profile's own).
-use Rattle.std.specs.Prelude.{◌≡◌, ℕ, zero, suc, ◌+◌, Bool, true, false, ◌&&◌, ◌==◌, nat_lt, nat_le, List, [], ◌∷◌, ◌++◌, length, slice_get, Option, Some, None, Result, Ok, Err, if◌then◌else◌}
+use Rattle.std.specs.Prelude.{◌≡◌, ℕ, zero, suc, ◌+◌, Bool, true, false, not, ◌&&◌, ◌||◌, ◌==◌, nat_lt, nat_le, List, [], ◌∷◌, ◌++◌, length, slice_get, Option, Some, None, Result, Ok, Err, if◌then◌else◌}
 use Rattle.std.specs.List.{list_any, filter_map, last_or}
 use Rattle.std.specs.Str.{bytes_eq}
 use Rattle.ill_values.specs.TxnId.{Qualifiers}
 use Rattle.ill_values.specs.declared.apdu.Apdu.{Apdu}
 use Rattle.ill_values.specs.declared.apdu.Body.{Body}
-use Rattle.ill_values.specs.declared.apdu.Body.TheVariants.{IllRequest, ConditionalReply, Cancel, Received, Renew, Returned}
+use Rattle.ill_values.specs.declared.apdu.Body.TheVariants.{IllRequest, IllAnswer, ConditionalReply, Cancel, Shipped, Received, Returned, CheckedIn, Renew, RenewAnswer}
+use Rattle.ill_values.specs.declared.apdu.AnswerResult.TheVariants.{Conditional}
+use Rattle.ill_values.specs.Day.{Date}
 use Rattle.ill_core.specs.declared.issued.Sought.{Sought}
 use Rattle.ill_core.specs.declared.issued.Sought.TheVariants.{Accepted, CancelNumber, RenewNumber}
 use Rattle.ill_core.specs.declared.refusal.Refusal.{Refusal}
@@ -29,6 +31,14 @@ are_numbered txn number (a ∷ apdus) = (is_same_txn a.txn txn && (a.number == n
 abbrev pub message : List Apdu → ℕ → Option Apdu
 message apdus zero = None
 message apdus (suc n) = slice_get apdus n
+
+-- nothing has been issued
+abbrev pub is_none : List Apdu → Bool
+is_none [] = true
+is_none (a ∷ apdus) = false
+
+abbrev pub implies : Bool → Bool → Bool
+implies a b = not a || b
 
 -- one of the APDUs says this
 abbrev pub has : (Body → Bool) → List Apdu → Bool
@@ -66,6 +76,33 @@ is_renew other = false
 abbrev pub is_returned : Body → Bool
 is_returned Returned = true
 is_returned other = false
+
+abbrev pub is_shipped : Body → Bool
+is_shipped (Shipped due) = true
+is_shipped other = false
+
+abbrev pub is_checked_in : Body → Bool
+is_checked_in CheckedIn = true
+is_checked_in other = false
+
+-- an ILL-Answer conditional
+abbrev pub names_conditions : Body → Bool
+names_conditions (IllAnswer Conditional) = true
+names_conditions other = false
+
+-- a Renew-Answer yes
+abbrev pub is_renewal : Body → Bool
+is_renewal (RenewAnswer answers (Some due)) = true
+is_renewal other = false
+
+-- the date that a Shipped or a Renew-Answer yes grants
+abbrev pub date_granted : Body → Option Date
+date_granted (Shipped due) = Some due
+date_granted (RenewAnswer answers due) = due
+date_granted other = None
+
+abbrev pub granted : Apdu → Option Date
+granted a = date_granted a.body
 
 -- a Conditional-Reply no
 abbrev pub declines : Body → Bool

@@ -1,6 +1,10 @@
 pub mod State
+pub mod Dates
 pub mod Issued
 pub mod Requester
 pub mod RequesterActions
 pub mod RequesterDeliveries
 pub mod RequesterFacts
+pub mod Responder
+pub mod ResponderActions
+pub mod ResponderDeliveries

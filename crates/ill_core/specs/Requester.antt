@@ -1,5 +1,5 @@
 -- The record of a requester in a transaction (this profile's own).
-use Rattle.std.specs.Prelude.{◌≡◌, ℕ, Bool, true, false, not, ◌&&◌, ◌||◌, List, [], ◌∷◌, Option, is_some}
+use Rattle.std.specs.Prelude.{◌≡◌, ℕ, Bool, true, false, not, ◌&&◌, List, [], ◌∷◌, Option, is_some}
 use Rattle.std.specs.List.{list_all}
 use Rattle.ill_values.specs.Day.{Date}
 use Rattle.ill_values.specs.TxnId.{Qualifiers}
@@ -7,7 +7,7 @@ use Rattle.ill_values.specs.declared.apdu.Apdu.{Apdu}
 use Rattle.ill_core.specs.declared.state.State.{State}
 use Rattle.ill_core.specs.declared.state.State.TheVariants.{Idle, Pending, InProcess, Conditional, CancelPending, Cancelled, Shipped, Received, RenewPending, Overdue, RenewOverdue, NotReceivedOverdue, Recall, Returned, CheckedIn}
 use Rattle.ill_core.specs.State.{is_among}
-use Rattle.ill_core.specs.Issued.{are_numbered, has, last_of, declines, is_requesters, is_ill_request, is_cancel, is_received, is_renew, is_returned, number_of_cancel, number_of_renew, answered_yes}
+use Rattle.ill_core.specs.Issued.{implies, is_none, are_numbered, has, last_of, declines, is_requesters, is_ill_request, is_cancel, is_received, is_renew, is_returned, number_of_cancel, number_of_renew, answered_yes}
 
 pub record RequesterRecord : Type 0 where
   pub txn : Qualifiers
@@ -43,14 +43,6 @@ later = Shipped ∷ Received ∷ RenewPending ∷ Overdue ∷ RenewOverdue ∷ N
 abbrev pub begins_with_request : List Apdu → Bool
 begins_with_request [] = true
 begins_with_request (a ∷ apdus) = is_ill_request a.body && not (has is_ill_request apdus)
-
-abbrev pub implies : Bool → Bool → Bool
-implies a b = not a || b
-
--- nothing has been issued
-abbrev pub is_none : List Apdu → Bool
-is_none [] = true
-is_none (a ∷ apdus) = false
 
 -- A state has the parts that it wants, and no others: whether conditions are held, a due date is there and the item
 -- was checked in.

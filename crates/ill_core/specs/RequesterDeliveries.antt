@@ -1,6 +1,6 @@
 -- What the messages of a responder do to a requester: its table of deliveries (this profile's own).
 -- The first line that fits decides; an APDU that no line fits is a conflict with the present state.
-use Rattle.std.specs.Prelude.{ℕ, Bool, true, false, not, ◌&&◌, ◌==◌, nat_lt, [], ◌∷◌, Option, Some, None, Result, Ok, Err, if◌then◌else◌}
+use Rattle.std.specs.Prelude.{ℕ, Bool, true, not, ◌&&◌, [], ◌∷◌, Option, Some, None, Result, Ok, Err, if◌then◌else◌}
 use Rattle.ill_values.specs.Day.{Date}
 use Rattle.ill_values.specs.declared.apdu.Apdu.{Apdu}
 use Rattle.ill_values.specs.declared.apdu.Body.{Body}
@@ -13,6 +13,7 @@ use Rattle.ill_core.specs.declared.refusal.Refusal.{Refusal}
 use Rattle.ill_core.specs.declared.taking.Taking.{Taking}
 use Rattle.ill_core.specs.declared.taking.Taking.TheVariants.{Taken, Repeat, Stale, Conflict}
 use Rattle.ill_core.specs.State.{is_among}
+use Rattle.ill_core.specs.Dates.{is_due_on, is_after_due}
 use Rattle.ill_core.specs.Issued.{was, is_cancel, is_renew, is_requesters, is_the, is_at_most, refused_before}
 use Rattle.ill_core.specs.Requester.{RequesterRecord, accepted, last_cancel, last_renew, later}
 
@@ -59,15 +60,6 @@ shipped_comes x d =
     else if is_among later x.state then repeats x
     else conflicts x
 
--- two days are the same
-abbrev pub is_same_day : Date → Date → Bool
-is_same_day a b = (a.year == b.year) && ((a.month == b.month) && (a.day == b.day))
-
--- this day is the due date
-abbrev pub is_due_on : Date → Option Date → Bool
-is_due_on d None = false
-is_due_on d (Some due) = is_same_day d due
-
 abbrev pub overdue_comes : RequesterRecord → Date → Taking × RequesterRecord
 overdue_comes x d =
     if is_among later x.state && not (is_due_on d x.due) then is_stale x
@@ -76,17 +68,6 @@ overdue_comes x d =
     else if is_among (RenewPending ∷ []) x.state then takes_to RenewOverdue x
     else if is_among (NotReceivedOverdue ∷ Overdue ∷ RenewOverdue ∷ []) x.state then repeats x
     else conflicts x
-
--- a day is before another
-abbrev pub is_before : Date → Date → Bool
-is_before a b =
-    if a.year == b.year then (if a.month == b.month then nat_lt a.day b.day else nat_lt a.month b.month)
-    else nat_lt a.year b.year
-
--- this day is after the due date
-abbrev pub is_after_due : Date → Option Date → Bool
-is_after_due d None = false
-is_after_due d (Some due) = is_before due d
 
 -- the answer to the open Renew
 abbrev pub renewal_comes : RequesterRecord → Option Date → Taking × RequesterRecord

@@ -10,7 +10,7 @@ use Rattle.ill_core.specs.declared.state.State.TheVariants as states
 use Rattle.ill_core.specs.State.{is_among}
 use Rattle.ill_core.specs.Issued.{was, is_cancel, is_the, is_at_most, has, declines}
 use Rattle.ill_core.specs.Requester.{RequesterRecord, accepted, last_cancel, later}
-use Rattle.ill_core.specs.RequesterDeliveries.{is_after_due}
+use Rattle.ill_core.specs.Dates.{is_after_due}
 use Rattle.ill_core.specs.declared.state.State.{State}
 use Rattle.ill_core.specs.declared.taking.Taking.{Taking}
 use Rattle.ill_core.specs.declared.taking.Taking.TheVariants.{Taken, Repeat}

@@ -2,10 +2,10 @@
 
 ghost use Rattle.std.specs.Prelude.{◌≡◌, ◌≤◌, ◌<◌, ◌==◌, ◌&&◌, true, length, [], Ok, Some, is_some, IfOk, IfErr, IfSome, OnOk, OnErr, option_map};
 ghost use Rattle.ill_core.specs.declared.refusal.Refusal.TheVariants as refusals;
-ghost use Rattle.ill_core.specs.Issued.{IssuedList, is_same_txn, are_numbered, message, is_requesters, next_number, with_next, refused_before, Admits, last_of, found};
+ghost use Rattle.ill_core.specs.Issued.{IssuedList, is_same_txn, are_numbered, message, is_requesters, next_number, with_next, refused_before, Admits, last_of, found, granted};
 
 use crate::refusal::Refusal;
-use ill_values::{Apdu, Body, Number, TxnId};
+use ill_values::{Apdu, Body, Day, Number, TxnId};
 use std::alloc::Global;
 use std::marker::Model;
 
@@ -110,6 +110,18 @@ impl Issued {
         last
     }
 
+    /// The date of the last Shipped or Renew-Answer yes.
+    #[tactic(auto, using(crate::proofs::IssuedLemmas::last_at))]
+    pub fn last_granted(&self) -> Option<Day>
+        ensures { result ≡ last_of granted self.now.apdus }
+    {
+        let mut last = None;
+        for apdu in &self.apdus {
+            last = granted(apdu).or(last);
+        }
+        last
+    }
+
     /// The number of the next APDU.
     pub fn next_number(&self) -> Result<Number, Refusal>
         ensures { result ≡ next_number self.now.apdus }
@@ -145,6 +157,17 @@ impl Issued {
         } else {
             Ok(())
         }
+    }
+}
+
+/// The date that a message grants.
+pub fn granted(apdu: &Apdu) -> Option<Day>
+    ensures { result ≡ granted apdu.now }
+{
+    match &apdu.body {
+        Body::Shipped { due } => Some(*due),
+        Body::RenewAnswer { granted, .. } => *granted,
+        _ => None,
     }
 }
 

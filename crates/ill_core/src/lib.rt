@@ -7,11 +7,13 @@ mod issued;
 pub mod laws;
 mod refusal;
 mod requester;
+mod responder;
 mod state;
 mod taking;
 
 pub use refusal::Refusal;
 pub use requester::{Requester, Wish};
+pub use responder::{Deed, Responder};
 pub use state::State;
 pub use taking::Taking;
 

@@ -1,9 +1,14 @@
-//! Tests of the states and of the requester, against tables that were read a second time.
+//! Tests of the states and of both sides, against tables that were read a second time.
 
 mod requester_deliveries;
 mod requester_parts;
 mod requester_rows;
 mod requester_wishes;
+mod responder_deeds;
+mod responder_deliveries;
+mod responder_parts;
+mod responder_rows;
+mod responder_samples;
 mod samples;
 
 use crate::State;

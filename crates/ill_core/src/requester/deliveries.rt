@@ -4,7 +4,8 @@ ghost use Rattle.std.specs.Prelude.{◌≡◌, true, [], ◌∷◌};
 ghost use Rattle.ill_core.specs.declared.state.State.TheVariants as State;
 ghost use Rattle.ill_core.specs.Issued.{was, is_cancel, is_renew, is_at_most};
 ghost use Rattle.ill_core.specs.Requester.{later};
-ghost use Rattle.ill_core.specs.RequesterDeliveries.{comes, answer_comes, conditions_come, promise_comes, end_comes, cancel_reply_comes, shipped_comes, overdue_comes, renew_answer_comes, renewal_comes, recall_comes, checked_in_comes, is_due_on};
+ghost use Rattle.ill_core.specs.RequesterDeliveries.{comes, answer_comes, conditions_come, promise_comes, end_comes, cancel_reply_comes, shipped_comes, overdue_comes, renew_answer_comes, renewal_comes, recall_comes, checked_in_comes};
+ghost use Rattle.ill_core.specs.Dates.{is_due_on};
 ghost use Rattle.ill_core.specs.State.{is_among};
 
 use super::Requester;

@@ -1,0 +1,232 @@
+-- A responder's record keeps its rules.
+use Rattle.std.proofs.Common.{rules, arith, ◌≡◌, ℕ, ◌+◌, Bool, true, false, not, ◌||◌, List, [], ◌∷◌, ◌++◌, length, Option, Some, None, is_some, Result, Ok, if◌then◌else◌, refl, ap, sym, subst, ◌∙◌}
+use Rattle.std.specs.List.{filter_map, last_or}
+use Rattle.std.proofs.lemmas.Bool.{and_from, eqb-true}
+use Rattle.ill_values.specs.Day.{Date}
+use Rattle.ill_values.specs.TxnId.{Qualifiers}
+use Rattle.ill_values.specs.declared.apdu.Apdu.{Apdu}
+use Rattle.ill_values.specs.declared.apdu.Body.{Body}
+use Rattle.ill_values.specs.declared.apdu.Body.TheVariants as types
+use Rattle.ill_values.specs.declared.apdu.AnswerResult.TheVariants as results
+use Rattle.ill_core.specs.declared.state.State.{State}
+use Rattle.ill_core.specs.declared.state.State.TheVariants.{Idle, InProcess, Conditional, CancelPending, Cancelled, NotSupplied, Shipped, RenewPending, Overdue, RenewOverdue, Recall, Returned, CheckedIn}
+use Rattle.ill_core.specs.declared.responder.Deed.{Deed}
+use Rattle.ill_core.specs.declared.responder.Deed.TheVariants as deeds
+use Rattle.ill_core.specs.State.{is_among}
+use Rattle.ill_core.specs.Dates.{is_after_due}
+use Rattle.ill_core.specs.Issued.{is_the, was, is_same_txn, is_ill_request, with_next, is_requesters, implies, is_shipped, is_checked_in, names_conditions, is_renewal, granted, date_granted}
+use Rattle.ill_core.specs.Responder.{ResponderRecord, outstanding, is_named, IsResponder, ResponderIssuedFits, ResponderPartsFit, responder_later, are_rising, ships_first, due_of}
+use Rattle.ill_core.specs.ResponderActions.{deed_leads, date_refusal, body_issued, issues_to}
+use Rattle.ill_core.specs.declared.refusal.Refusal.{Refusal}
+use Rattle.ill_core.specs.declared.taking.Taking.{Taking}
+use Rattle.ill_core.specs.Issued.{Admits, refused_before}
+use Rattle.ill_core.specs.ResponderDeliveries.{Comes, ResponderTakes, message_comes, takes_memory, responder_takes, unless_refused}
+use Rattle.ill_core.proofs.IssuedLemmas.{numbered_next, same_txn, has_more, all_more, none_more, found_none, found_more}
+use Rattle.ill_core.proofs.ResponderLists.{shipped_more, ends_more, named_more, rise_more, ships_more, ships_renewed, no_grants, due_there}
+
+-- the number of Shipped that a state wants
+abbrev pub shipped_in : State → ℕ
+shipped_in state = if is_among responder_later state then 1 else 0
+
+-- a state fits a record that issues one more APDU
+pub record FitsNext (y : ResponderRecord) (body : Body) (state : State) : Type 0 where
+  pub parts : ResponderPartsFit state (is_some y.request) (is_some y.accepted) (is_some y.last_cancel) (is_some y.last_renew) y.received false
+  pub role : not (is_requesters body) ≡ true
+  pub shipped : shipped_in y.state + (if is_shipped body then 1 else 0) ≡ shipped_in state
+  pub checked_in : (is_among (CheckedIn ∷ []) y.state || is_checked_in body) ≡ is_among (CheckedIn ∷ []) state
+  pub conditions : implies (is_among (Conditional ∷ []) state) (names_conditions body) ≡ true
+
+-- the dates that were granted, where one more APDU is issued: none more, a first one, or one after the last
+pub data Grants (y : ResponderRecord) (body : Body) : Type 0 where
+  none : date_granted body ≡ None → is_renewal body ≡ false → Grants y body
+  first : (d : Date) → body ≡ types.Shipped d → is_among responder_later y.state ≡ false → Grants y body
+  later : (d : Date) → date_granted body ≡ Some d → is_among responder_later y.state ≡ true → is_after_due d (due_of y) ≡ true → Grants y body
+
+or_right : (a b : Bool) → b ≡ true → a || b ≡ true
+or_right true b h = refl
+or_right false b h = h
+
+rising_next : (y : ResponderRecord) (a : Apdu) → IsResponder y → Grants y a.body → are_rising (filter_map granted (y.issued ++ a ∷ [])) ≡ true
+rising_next y a h (none silent _) = ap are_rising (found_none granted y.issued a silent) ∙ h.rising
+rising_next y a h (first d is away) =
+    let nothing = no_grants y.issued h.ships_first (h.issued.shipped ∙ ap (λ b. if b then 1 else 0) away) in
+    ap are_rising (found_more granted y.issued a d (ap date_granted is))
+    ∙ rise_more None (filter_map granted y.issued) d h.rising (ap (λ ds. not (is_some (last_or None ds)) || is_after_due d (last_or None ds)) nothing)
+rising_next y a h (later d is here after) =
+    ap are_rising (found_more granted y.issued a d is) ∙ rise_more None (filter_map granted y.issued) d h.rising (or_right _ _ after)
+
+ships_next : (y : ResponderRecord) (a : Apdu) → IsResponder y → Grants y a.body → ships_first (y.issued ++ a ∷ []) ≡ true
+ships_next y a h (none _ no_renewal) = ships_more y.issued a h.ships_first no_renewal
+ships_next y a h (first d is away) = ships_more y.issued a h.ships_first (ap is_renewal is)
+ships_next y a h (later d is here after) =
+    ships_renewed y.issued a h.ships_first (omega (arith, h.issued.shipped ∙ ap (λ b. if b then 1 else 0) here))
+
+-- the record with one more APDU, in a state that fits, is a responder's
+pub next_kept : (y : ResponderRecord) (body : Body) (state : State) → IsResponder y → FitsNext y body state → Grants y body → IsResponder (issues_to y body state)
+next_kept y body state h fits grants =
+    let a : Apdu = record { txn = y.txn; number = length y.issued + 1; body = body } in
+    record {
+      numbered = numbered_next y.txn 1 y.issued a h.numbered (same_txn y.txn) (omega arith);
+      role = all_more (λ b. not (is_requesters b)) y.issued a h.role fits.role;
+      request = h.request;
+      parts = subst (ResponderPartsFit state (is_some y.request) (is_some y.accepted) (is_some y.last_cancel) (is_some y.last_renew) y.received) (sym (none_more y.issued a)) fits.parts;
+      issued = record {
+        shipped = shipped_more y.issued a ∙ (ap (λ n. n + (if is_shipped body then 1 else 0)) h.issued.shipped ∙ fits.shipped);
+        checked_in = has_more is_checked_in y.issued a ∙ (ap (λ b. b || is_checked_in body) h.issued.checked_in ∙ fits.checked_in);
+        conditions = ap (implies (is_among (Conditional ∷ []) state)) (ends_more y.issued a) ∙ fits.conditions;
+      };
+      accepted = named_more y.accepted y.issued a h.accepted;
+      rising = rising_next y a h grants;
+      ships_first = ships_next y a h grants;
+    }
+
+abbrev made : Qualifiers → State → Option ℕ → Option ℕ → Option ℕ → Bool → Option Apdu → List Apdu → ResponderRecord
+made txn state accepted last_cancel last_renew received request issued =
+    record { txn = txn; state = state; accepted = accepted; last_cancel = last_cancel; last_renew = last_renew; received = received; request = request; issued = issued }
+
+-- where a deed leads fits
+deed_fits : (txn : Qualifiers) (state : State) (accepted last_cancel last_renew : Option ℕ) (received : Bool) (request : Option Apdu) (issued : List Apdu) (deed : Deed) (next : State)
+    → IsResponder (made txn state accepted last_cancel last_renew received request issued) → deed_leads (made txn state accepted last_cancel last_renew received request issued) deed ≡ Some next
+    → FitsNext (made txn state accepted last_cancel last_renew received request issued) (body_issued (made txn state accepted last_cancel last_renew received request issued) deed) next
+deed_fits txn InProcess accepted last_cancel last_renew received request issued (deeds.Answer results.Conditional) Conditional h leads = search rules
+deed_fits txn InProcess accepted last_cancel last_renew received request issued (deeds.Answer results.WillSupply) InProcess h leads = search rules
+deed_fits txn InProcess accepted last_cancel last_renew received request issued (deeds.Answer results.HoldPlaced) InProcess h leads = search rules
+deed_fits txn InProcess accepted last_cancel last_renew received request issued (deeds.Answer answer) NotSupplied h leads = search rules
+deed_fits txn CancelPending accepted last_cancel last_renew received request issued (deeds.CancelReply true) Cancelled h leads = search rules
+deed_fits txn CancelPending accepted last_cancel last_renew received request issued (deeds.CancelReply false) InProcess h leads = search rules
+deed_fits txn InProcess accepted last_cancel last_renew received request issued (deeds.Ship due) Shipped h leads = search rules
+deed_fits txn RenewPending accepted last_cancel last_renew received request issued (deeds.RenewAnswer (Some d)) Shipped h leads = search rules
+deed_fits txn RenewOverdue accepted last_cancel last_renew received request issued (deeds.RenewAnswer (Some d)) Shipped h leads = search rules
+deed_fits txn RenewPending accepted last_cancel last_renew received request issued (deeds.RenewAnswer None) Shipped h leads = search rules
+deed_fits txn RenewOverdue accepted last_cancel last_renew received request issued (deeds.RenewAnswer None) Overdue h leads = search rules
+deed_fits txn Shipped accepted last_cancel last_renew received request issued deeds.Overdue Overdue h leads = search rules
+deed_fits txn RenewPending accepted last_cancel last_renew received request issued deeds.Overdue RenewOverdue h leads = search rules
+deed_fits txn Shipped accepted last_cancel last_renew received request issued deeds.Recall Recall h leads = search rules
+deed_fits txn Overdue accepted last_cancel last_renew received request issued deeds.Recall Recall h leads = search rules
+deed_fits txn Returned accepted last_cancel last_renew received request issued deeds.CheckIn CheckedIn h leads = search rules
+deed_fits txn InProcess accepted last_cancel last_renew received request issued deeds.Expire NotSupplied h leads = search rules
+deed_fits txn Conditional accepted last_cancel last_renew received request issued deeds.Expire NotSupplied h leads = search rules
+deed_fits txn state accepted last_cancel last_renew received request issued deed next h leads = search rules
+
+-- the dates of a deed that today allows
+deed_grants : (y : ResponderRecord) (deed : Deed) (next : State) (today : Date) → deed_leads y deed ≡ Some next → date_refusal y deed today ≡ None → Grants y (body_issued y deed)
+deed_grants y (deeds.Answer answer) next today leads allowed = none refl refl
+deed_grants y (deeds.CancelReply answer) next today leads allowed = none refl refl
+deed_grants y (deeds.Ship due) next today leads allowed = first due refl (search rules)
+deed_grants y (deeds.RenewAnswer None) next today leads allowed = none refl refl
+deed_grants y (deeds.RenewAnswer (Some d)) next today leads allowed = later d refl (search rules) (search rules)
+deed_grants y deeds.Overdue next today leads allowed = none refl refl
+deed_grants y deeds.Recall next today leads allowed = none refl refl
+deed_grants y deeds.CheckIn next today leads allowed = none refl refl
+deed_grants y deeds.Expire next today leads allowed = none refl refl
+
+-- A deed that has a place, and that today allows, leads to a responder's record.
+pub deed_kept : (y : ResponderRecord) (deed : Deed) (next : State) (today : Date) → IsResponder y → deed_leads y deed ≡ Some next → date_refusal y deed today ≡ None
+    → IsResponder (issues_to y (body_issued y deed) next)
+deed_kept y deed next today h leads allowed =
+    next_kept y (body_issued y deed) next h
+    (deed_fits y.txn y.state y.accepted y.last_cancel y.last_renew y.received y.request y.issued deed next h leads)
+    (deed_grants y deed next today leads allowed)
+
+no_fits : (txn : Qualifiers) (state : State) (accepted last_cancel last_renew : Option ℕ) (received : Bool) (request : Option Apdu) (issued : List Apdu)
+    → IsResponder (made txn state accepted last_cancel last_renew received request issued) → is_among (InProcess ∷ Conditional ∷ []) state ≡ true
+    → FitsNext (made txn state accepted last_cancel last_renew received request issued) (types.IllAnswer results.Unfilled) NotSupplied
+no_fits txn InProcess accepted last_cancel last_renew received request issued h waits = search rules
+no_fits txn Conditional accepted last_cancel last_renew received request issued h waits = search rules
+no_fits txn state accepted last_cancel last_renew received request issued h waits = search rules
+
+-- a no is answered
+pub no_kept : (y : ResponderRecord) → IsResponder y → is_among (InProcess ∷ Conditional ∷ []) y.state ≡ true
+    → IsResponder (issues_to y (types.IllAnswer results.Unfilled) NotSupplied)
+no_kept y h waits =
+    next_kept y (types.IllAnswer results.Unfilled) NotSupplied h
+    (no_fits y.txn y.state y.accepted y.last_cancel y.last_renew y.received y.request y.issued h waits) (none refl refl)
+
+-- the outstanding conditions are the last message
+outstanding_named : (txn : Qualifiers) (state : State) (accepted last_cancel last_renew : Option ℕ) (received : Bool) (request : Option Apdu) (issued : List Apdu) (c : ℕ)
+    → IsResponder (made txn state accepted last_cancel last_renew received request issued) → is_the c (outstanding (made txn state accepted last_cancel last_renew received request issued)) ≡ true
+    → (is_among (Conditional ∷ []) state ≡ true) × (is_named (Some c) issued ≡ true)
+outstanding_named txn Conditional accepted last_cancel last_renew received request [] c h is = search rules
+outstanding_named txn Conditional accepted last_cancel last_renew received request (a ∷ issued) c h is =
+    (refl, subst (λ n. was names_conditions (a ∷ issued) n ≡ true) (sym (eqb-true c (length (a ∷ issued)) is)) h.issued.conditions)
+outstanding_named txn state accepted last_cancel last_renew received request issued c h is = search rules
+
+-- IN-PROCESS wants no more than CONDITIONAL and IDLE have
+parts_in_process : (state : State) (r a c n m z : Bool) → ResponderPartsFit state r a c n m z → is_among (Conditional ∷ []) state ≡ true → ResponderPartsFit InProcess r true c n m z
+parts_in_process Conditional r a c n m z fits is = search rules
+parts_in_process state r a c n m z fits is = search rules
+
+parts_requested : (state : State) (r a c n m z : Bool) → ResponderPartsFit state r a c n m z → is_among (Idle ∷ []) state ≡ true → ResponderPartsFit InProcess true a c n m z
+parts_requested Idle r a c n m z fits is = search rules
+parts_requested state r a c n m z fits is = search rules
+
+issued_in_process : (state : State) (apdus : List Apdu) → ResponderIssuedFits state apdus → is_among (Idle ∷ Conditional ∷ []) state ≡ true → ResponderIssuedFits InProcess apdus
+issued_in_process Idle apdus fits is = search rules
+issued_in_process Conditional apdus fits is = search rules
+issued_in_process state apdus fits is = search rules
+
+one_of_two : (state : State) → is_among (Conditional ∷ []) state ≡ true → is_among (Idle ∷ Conditional ∷ []) state ≡ true
+one_of_two state is = search rules
+
+first_of_two : (state : State) → is_among (Idle ∷ []) state ≡ true → is_among (Idle ∷ Conditional ∷ []) state ≡ true
+first_of_two state is = search rules
+
+-- conditions are accepted
+pub yes_kept : (y : ResponderRecord) (c : ℕ) → IsResponder y → is_the c (outstanding y) ≡ true
+    → IsResponder (record y { state = InProcess; accepted = Some c })
+yes_kept y c h is =
+    let named = outstanding_named y.txn y.state y.accepted y.last_cancel y.last_renew y.received y.request y.issued c h is in
+    record {
+      numbered = h.numbered;
+      role = h.role;
+      request = h.request;
+      parts = parts_in_process y.state _ _ _ _ _ _ h.parts named.0;
+      issued = issued_in_process y.state y.issued h.issued (one_of_two y.state named.0);
+      accepted = named.1;
+      rising = h.rising;
+      ships_first = h.ships_first;
+    }
+
+-- a request is kept
+pub request_kept : (y : ResponderRecord) (a : Apdu) → IsResponder y → is_among (Idle ∷ []) y.state ≡ true → is_same_txn a.txn y.txn ≡ true → is_ill_request a.body ≡ true
+    → IsResponder (record y { state = InProcess; request = Some a })
+request_kept y a h idle same is =
+    record {
+      numbered = h.numbered;
+      role = h.role;
+      request = and_from _ _ same is;
+      parts = parts_requested y.state _ _ _ _ _ _ h.parts idle;
+      issued = issued_in_process y.state y.issued h.issued (first_of_two y.state idle);
+      accepted = h.accepted;
+      rising = h.rising;
+      ships_first = h.ships_first;
+    }
+
+-- an item that is overdue has a due date
+later_due : (y : ResponderRecord) → IsResponder y → is_among responder_later y.state ≡ true → is_some (due_of y) ≡ true
+later_due y h is = due_there y.issued (omega (arith, h.issued.shipped ∙ ap (λ b. if b then 1 else 0) is))
+
+overdue_later : (y : ResponderRecord) (next : State) → deed_leads y deeds.Overdue ≡ Some next → is_among responder_later y.state ≡ true
+overdue_later y next leads = search rules
+
+pub overdue_due : (y : ResponderRecord) (next : State) → IsResponder y → deed_leads y deeds.Overdue ≡ Some next → is_some (due_of y) ≡ true
+overdue_due y next h leads = later_due y h (overdue_later y next leads)
+
+-- a record whose parts are those of one that issued one APDU more
+pub with_issue : (y : ResponderRecord) (state : State) (body : Body) (txn : Qualifiers) (issued : List Apdu) → IsResponder (issues_to y body state)
+    → txn ≡ y.txn → issued ≡ with_next y.txn y.issued body
+    → IsResponder (record { txn = txn; state = state; accepted = y.accepted; last_cancel = y.last_cancel; last_renew = y.last_renew; received = y.received; request = y.request; issued = issued })
+with_issue y state body txn issued h same_txn more =
+    let parts : (txn, issued) ≡ (y.txn, with_next y.txn y.issued body) = cc in
+    subst (λ (p : Qualifiers × List Apdu). IsResponder (record { txn = p.0; state = state; accepted = y.accepted; last_cancel = y.last_cancel; last_renew = y.last_renew; received = y.received; request = y.request; issued = p.1 })) (sym parts) h
+
+pub admits_none : (o : Option Refusal) → Admits o (Ok tt) → o ≡ None
+admits_none None h = refl
+admits_none (Some refusal) h = search rules
+
+-- an APDU that is admitted does what its row says
+pub takes_admitted : (y new : ResponderRecord) (a : Apdu) (answer : Result Taking Refusal) → refused_before y.txn (not (is_requesters a.body)) a ≡ None
+    → Comes (message_comes y a a.body) (takes_memory y a.body) y answer new → ResponderTakes y a answer new
+takes_admitted y new a answer admitted comes =
+    let same : responder_takes y a ≡ message_comes y a a.body = ap (λ o. unless_refused o y (message_comes y a a.body)) admitted in
+    subst (λ expected. Comes expected (takes_memory y a.body) y answer new) (sym same) comes

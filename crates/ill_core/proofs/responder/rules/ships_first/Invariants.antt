@@ -1,0 +1,7 @@
+use Rattle.std.proofs.Common.{◌≡◌, drop}
+use Rattle.ill_core.specs.Responder.{ships_first}
+use Rattle.ill_core.proofs.responder.rules.ships_first.Given as goal
+
+-- what is left decides
+abbrev pub invariant-loop-apdu : goal.invariant-loop-apdu
+invariant-loop-apdu l = ships_first l.apdus ≡ ships_first (drop l.apdu-index l.apdus)

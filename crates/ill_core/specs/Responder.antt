@@ -1,0 +1,93 @@
+-- The record of a responder in a transaction (this profile's own).
+use Rattle.std.specs.Prelude.{◌≡◌, ℕ, Bool, true, false, not, ◌&&◌, ◌||◌, List, [], ◌∷◌, length, Option, Some, None, is_some, if◌then◌else◌}
+use Rattle.std.specs.List.{list_all, filter_map, count_by}
+use Rattle.ill_values.specs.Day.{Date}
+use Rattle.ill_values.specs.TxnId.{Qualifiers}
+use Rattle.ill_values.specs.declared.apdu.Apdu.{Apdu}
+use Rattle.ill_core.specs.declared.state.State.{State}
+use Rattle.ill_core.specs.declared.state.State.TheVariants.{Idle, Pending, Conditional, CancelPending, Cancelled, Shipped, Received, RenewPending, Overdue, RenewOverdue, NotReceivedOverdue, Recall, Returned, CheckedIn}
+use Rattle.ill_core.specs.State.{is_among}
+use Rattle.ill_core.specs.Dates.{is_after_due}
+use Rattle.ill_core.specs.Issued.{are_numbered, is_same_txn, has, was, last_of, is_none, implies, is_requesters, is_ill_request, is_shipped, is_checked_in, names_conditions, granted, is_renewal}
+
+pub record ResponderRecord : Type 0 where
+  pub txn : Qualifiers
+  pub state : State
+  pub accepted : Option ℕ  -- the number of the conditions that the last Conditional-Reply yes taken answered
+  pub last_cancel : Option ℕ  -- the number of the last Cancel taken
+  pub last_renew : Option ℕ  -- the number of the last Renew taken
+  pub received : Bool  -- the requester has the item
+  pub request : Option Apdu
+  pub issued : List Apdu
+
+-- the date of the last Shipped or Renew-Answer yes
+abbrev pub due_of : ResponderRecord → Option Date
+due_of y = last_of granted y.issued
+
+-- the number of the conditions that wait for an answer: in CONDITIONAL alone, that of the last APDU issued
+abbrev pub outstanding : ResponderRecord → Option ℕ
+outstanding y = if is_among (Conditional ∷ []) y.state then (if is_none y.issued then None else Some (length y.issued)) else None
+
+-- SHIPPED or later
+abbrev pub responder_later : List State
+responder_later = Shipped ∷ RenewPending ∷ Overdue ∷ RenewOverdue ∷ Recall ∷ Returned ∷ CheckedIn ∷ []
+
+-- no date comes, or the first, or one that is after the last
+abbrev pub rises : Option Date → Option Date → Bool
+rises last None = true
+rises last (Some d) = not (is_some last) || is_after_due d last
+
+-- each date is after the one before it
+unfoldable pub rise_from : Option Date → List Date → Bool
+rise_from last [] = true
+rise_from last (d ∷ dates) = rises last (Some d) && rise_from (Some d) dates
+
+abbrev pub are_rising : List Date → Bool
+are_rising dates = rise_from None dates
+
+-- no date is granted before a Shipped
+unfoldable pub ships_first : List Apdu → Bool
+ships_first [] = true
+ships_first (a ∷ apdus) = is_shipped a.body || (not (is_renewal a.body) && ships_first apdus)
+
+-- the last APDU names conditions
+abbrev pub ends_with_conditions : List Apdu → Bool
+ends_with_conditions apdus = was names_conditions apdus (length apdus)
+
+-- there is no such number, or message n of that number names conditions
+abbrev pub is_named : Option ℕ → List Apdu → Bool
+is_named None apdus = true
+is_named (Some c) apdus = was names_conditions apdus c
+
+-- there is no request exactly in IDLE; it is an ILL-Request of the transaction
+abbrev pub is_request_of : Qualifiers → Option Apdu → Bool
+is_request_of txn None = true
+is_request_of txn (Some a) = is_same_txn a.txn txn && is_ill_request a.body
+
+-- A state has the numbers and the mark that it wants, and in IDLE none: whether a request is there, a number of each
+-- kind, the mark, and whether nothing was issued.
+pub record ResponderPartsFit (state : State) (has_request has_accepted has_cancel has_renew is_marked none : Bool) : Type 0 where
+  pub role : is_among (Pending ∷ Received ∷ NotReceivedOverdue ∷ []) state ≡ false
+  pub idle : has_request ≡ not (is_among (Idle ∷ []) state)
+  pub empty : implies (is_among (Idle ∷ []) state) (not has_accepted && (not has_cancel && (not has_renew && (not is_marked && none)))) ≡ true
+  pub marked : implies is_marked (is_among responder_later state) ≡ true
+  pub cancel : implies (is_among (CancelPending ∷ Cancelled ∷ []) state) has_cancel ≡ true
+  pub renew : implies (is_among (RenewPending ∷ RenewOverdue ∷ []) state) has_renew ≡ true
+
+-- What was issued fits the state: one Shipped in SHIPPED or later and none elsewhere, a Checked-In in CHECKED-IN, and
+-- conditions last in CONDITIONAL.
+pub record ResponderIssuedFits (state : State) (apdus : List Apdu) : Type 0 where
+  pub shipped : count_by (λ a. is_shipped a.body) apdus ≡ (if is_among responder_later state then 1 else 0)
+  pub checked_in : has is_checked_in apdus ≡ is_among (CheckedIn ∷ []) state
+  pub conditions : implies (is_among (Conditional ∷ []) state) (ends_with_conditions apdus) ≡ true
+
+-- A record is a responder's where it keeps these rules.
+pub record IsResponder (y : ResponderRecord) : Type 0 where
+  pub numbered : are_numbered y.txn 1 y.issued ≡ true
+  pub role : list_all (λ a. not (is_requesters a.body)) y.issued ≡ true
+  pub request : is_request_of y.txn y.request ≡ true
+  pub parts : ResponderPartsFit y.state (is_some y.request) (is_some y.accepted) (is_some y.last_cancel) (is_some y.last_renew) y.received (is_none y.issued)
+  pub issued : ResponderIssuedFits y.state y.issued
+  pub accepted : is_named y.accepted y.issued ≡ true
+  pub rising : are_rising (filter_map granted y.issued) ≡ true
+  pub ships_first : ships_first y.issued ≡ true

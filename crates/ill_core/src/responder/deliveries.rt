@@ -1,0 +1,198 @@
+//! What the messages of a requester do.
+
+ghost use Rattle.std.specs.Prelude.{◌≡◌, true, Ok, [], ◌∷◌};
+ghost use Rattle.ill_core.specs.declared.state.State.TheVariants as states;
+ghost use Rattle.ill_core.specs.State.{is_among};
+ghost use Rattle.ill_core.specs.Issued.{is_same_txn, is_ill_request, was, names_conditions, is_at_most};
+ghost use Rattle.ill_core.specs.Responder.{responder_later};
+ghost use Rattle.ill_core.specs.ResponderDeliveries.{Comes, takes_memory, message_comes, request_comes, yes_comes, no_comes, cancel_comes, received_comes, renew_comes, returned_comes};
+
+use super::Responder;
+use crate::refusal::Refusal;
+use crate::state::State;
+use crate::taking::Taking;
+use ill_values::{AnswerResult, Apdu, Body, Number};
+use std::alloc::Global;
+
+/// What a message does. Only an ILL-Request that is kept and a Conditional-Reply no take memory.
+pub fn comes(responder: &mut Responder, alloc: Global, apdu: &Apdu) -> Result<Taking, Refusal>
+    requires same { is_same_txn apdu.now.txn responder.old.txn ≡ true }
+    ensures { Comes (message_comes responder.old apdu.now apdu.now.body) (takes_memory responder.old apdu.now.body) responder.old result responder.new }
+{
+    match &apdu.body {
+        Body::IllRequest { .. } => request_comes(responder, alloc, apdu),
+        Body::ConditionalReply { answers, yes: true } => Ok(yes_comes(responder, *answers)),
+        Body::ConditionalReply { yes: false, .. } => no_comes(responder, alloc),
+        Body::Cancel => Ok(cancel_comes(responder, apdu.number)),
+        Body::Received => Ok(received_comes(responder)),
+        Body::Renew { .. } => Ok(renew_comes(responder, apdu.number)),
+        Body::Returned => Ok(returned_comes(responder)),
+        _ => Ok(Taking::Conflict(responder.state)),
+    }
+}
+
+#[tactic(auto, using(crate::proofs::ResponderKept::request_kept))]
+fn request_comes(responder: &mut Responder, alloc: Global, apdu: &Apdu) -> Result<Taking, Refusal>
+    requires same { is_same_txn apdu.now.txn responder.old.txn ≡ true }
+    requires request { is_ill_request apdu.now.body ≡ true }
+    ensures { Comes (request_comes responder.old apdu.now) (is_among (states.Idle ∷ []) responder.old.state) responder.old result responder.new }
+{
+    if responder.state != State::Idle {
+        return Ok(Taking::Repeat);
+    }
+    let request = apdu.copy(alloc)?;
+    responder.request = Some(request);
+    responder.state = State::InProcess;
+    Ok(Taking::Taken)
+}
+
+#[tactic(auto, using(crate::proofs::ResponderKept::yes_kept))]
+fn yes_comes(responder: &mut Responder, answers: Number) -> Taking
+    ensures { (Ok result, responder.new) ≡ yes_comes responder.old answers }
+{
+    if responder.outstanding() == Some(answers) {
+        responder.state = State::InProcess;
+        responder.accepted = Some(answers);
+        return Taking::Taken;
+    }
+    if responder.accepted == Some(answers) {
+        return Taking::Repeat;
+    }
+    if was_conditional(responder, answers) {
+        return Taking::Stale;
+    }
+    Taking::Conflict(responder.state)
+}
+
+#[tactic(auto, using(crate::proofs::ResponderKept::no_kept))]
+fn no_comes(responder: &mut Responder, alloc: Global) -> Result<Taking, Refusal>
+    ensures { Comes (no_comes responder.old) (is_among (states.InProcess ∷ states.Conditional ∷ []) responder.old.state) responder.old result responder.new }
+{
+    match responder.state {
+        State::InProcess | State::Conditional => {
+            let number = responder.issued.next_number()?;
+            let result = AnswerResult::Unfilled;
+            responder
+                .issued
+                .issue(alloc, number, Body::IllAnswer { result })?;
+            responder.state = State::NotSupplied;
+            Ok(Taking::Taken)
+        }
+        State::NotSupplied => Ok(Taking::Repeat),
+        state => Ok(Taking::Conflict(state)),
+    }
+}
+
+fn cancel_comes(responder: &mut Responder, number: Number) -> Taking
+    ensures { (Ok result, responder.new) ≡ cancel_comes responder.old number }
+{
+    if is_at_most(number, responder.last_cancel) {
+        return Taking::Repeat;
+    }
+    match responder.state {
+        State::InProcess | State::Conditional => {
+            responder.state = State::CancelPending;
+            responder.last_cancel = Some(number);
+            Taking::Taken
+        }
+        state => Taking::Conflict(state),
+    }
+}
+
+fn received_comes(responder: &mut Responder) -> Taking
+    ensures { (Ok result, responder.new) ≡ received_comes responder.old }
+{
+    if !is_later(responder.state) {
+        return Taking::Conflict(responder.state);
+    }
+    if responder.received {
+        return Taking::Repeat;
+    }
+    responder.received = true;
+    Taking::Taken
+}
+
+fn renew_comes(responder: &mut Responder, number: Number) -> Taking
+    ensures { (Ok result, responder.new) ≡ renew_comes responder.old number }
+{
+    if is_at_most(number, responder.last_renew) {
+        return Taking::Repeat;
+    }
+    match responder.state {
+        State::Shipped => {
+            responder.state = State::RenewPending;
+            responder.last_renew = Some(number);
+            Taking::Taken
+        }
+        State::Overdue => {
+            responder.state = State::RenewOverdue;
+            responder.last_renew = Some(number);
+            Taking::Taken
+        }
+        state => Taking::Conflict(state),
+    }
+}
+
+fn returned_comes(responder: &mut Responder) -> Taking
+    ensures { (Ok result, responder.new) ≡ returned_comes responder.old }
+{
+    match responder.state {
+        State::Shipped
+        | State::RenewPending
+        | State::Overdue
+        | State::RenewOverdue
+        | State::Recall => {
+            responder.state = State::Returned;
+            Taking::Taken
+        }
+        State::Returned | State::CheckedIn => Taking::Repeat,
+        state => Taking::Conflict(state),
+    }
+}
+
+/// Whether there is a number, and this one is at most that.
+fn is_at_most(number: Number, most: Option<Number>) -> bool
+    ensures { result ≡ is_at_most number most }
+{
+    match most {
+        Some(most) => number <= most,
+        None => false,
+    }
+}
+
+fn was_conditional(responder: &Responder, number: Number) -> bool
+    ensures { result ≡ was names_conditions responder.now.issued number }
+{
+    match responder.issued.get(number) {
+        Some(apdu) => is_conditional(&apdu.body),
+        None => false,
+    }
+}
+
+/// Whether a message names conditions.
+pub fn is_conditional(body: &Body) -> bool
+    ensures { result ≡ names_conditions body.now }
+{
+    matches!(
+        body,
+        Body::IllAnswer {
+            result: AnswerResult::Conditional
+        }
+    )
+}
+
+/// SHIPPED or later, of a responder.
+pub fn is_later(state: State) -> bool
+    ensures { result ≡ is_among responder_later state }
+{
+    matches!(
+        state,
+        State::Shipped
+            | State::RenewPending
+            | State::Overdue
+            | State::RenewOverdue
+            | State::Recall
+            | State::Returned
+            | State::CheckedIn
+    )
+}

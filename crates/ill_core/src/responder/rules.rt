@@ -1,0 +1,199 @@
+//! Which parts make a responder.
+
+ghost use Rattle.std.specs.Prelude.{◌≡◌, ◌↔◌, true, false, not, ◌&&◌, is_some};
+ghost use Rattle.std.specs.List.{list_all, filter_map, count_by};
+ghost use Rattle.ill_core.specs.Issued.{is_requesters, is_shipped, is_renewal, is_checked_in, is_none, names_conditions, granted, has};
+ghost use Rattle.ill_core.specs.Responder.{rises, ResponderPartsFit, ResponderIssuedFits, is_request_of, is_named, are_rising, ships_first, ends_with_conditions};
+
+use super::deliveries::{is_conditional, is_later};
+use crate::issued::{granted, is_requesters};
+use crate::state::State;
+use ill_values::{Apdu, Body, Day, Number, TxnId};
+
+/// Whether what was issued keeps the rules.
+pub fn are_kept(state: State, accepted: &Option<Number>, apdus: &[Apdu]) -> bool
+    ensures { (result ≡ true) ↔ (list_all (λ a. not (is_requesters a.body)) apdus.now ≡ true) × ResponderIssuedFits state apdus.now × (is_named accepted.now apdus.now ≡ true) × (are_rising (filter_map granted apdus.now) ≡ true) × (ships_first apdus.now ≡ true) }
+{
+    if !is_role(apdus) {
+        return false;
+    }
+    if !issued_fits(state, apdus) {
+        return false;
+    }
+    if !is_named(accepted, apdus) {
+        return false;
+    }
+    if !dates_rise(apdus) {
+        return false;
+    }
+    ships_first(apdus)
+}
+
+/// Whether there is no request, or it is an ILL-Request of the transaction.
+pub fn is_request_of(txn: &TxnId, request: &Option<Apdu>) -> bool
+    ensures { result ≡ is_request_of txn.now request.now }
+{
+    match request {
+        Some(apdu) => apdu.txn == *txn && matches!(apdu.body, Body::IllRequest { .. }),
+        None => true,
+    }
+}
+
+/// Whether a responder issues each of them.
+pub fn is_role(apdus: &[Apdu]) -> bool
+    ensures { result ≡ list_all (λ a. not (is_requesters a.body)) apdus.now }
+{
+    apdus.iter().all(|apdu| !is_requesters(&apdu.body))
+}
+
+/// Which parts are there.
+#[derive(Clone, Copy, Debug, PartialEq, Eq, Hash)]
+pub struct Present {
+    pub request: bool,
+    pub accepted: bool,
+    pub last_cancel: bool,
+    pub last_renew: bool,
+    pub received: bool,
+    pub nothing_issued: bool,
+}
+
+/// Whether the state has the parts that it wants.
+pub fn parts_fit(state: State, present: Present) -> bool
+    ensures { (result ≡ true) ↔ ResponderPartsFit state present.request present.accepted present.last_cancel present.last_renew present.received present.nothing_issued }
+{
+    match state {
+        State::Pending | State::Received | State::NotReceivedOverdue => false,
+        State::Idle => is_empty(present),
+        _ if !present.request => false,
+        State::CancelPending | State::Cancelled => present.last_cancel && !present.received,
+        State::RenewPending | State::RenewOverdue => present.last_renew,
+        _ => !present.received || is_later(state),
+    }
+}
+
+fn is_empty(present: Present) -> bool
+    ensures { result ≡ (not present.request && (not present.accepted && (not present.last_cancel && (not present.last_renew && (not present.received && present.nothing_issued))))) }
+{
+    !present.request
+        && !present.accepted
+        && !present.last_cancel
+        && !present.last_renew
+        && !present.received
+        && present.nothing_issued
+}
+
+/// Whether there is no number, or it is that of conditions that were issued.
+pub fn is_named(accepted: &Option<Number>, apdus: &[Apdu]) -> bool
+    ensures { result ≡ is_named accepted.now apdus.now }
+{
+    match accepted {
+        Some(number) => match apdus.get(usize::from(number.get()) - 1) {
+            Some(apdu) => is_conditional(&apdu.body),
+            None => false,
+        },
+        None => true,
+    }
+}
+
+/// Whether what was issued fits the state.
+pub fn issued_fits(state: State, apdus: &[Apdu]) -> bool
+    ensures { (result ≡ true) ↔ ResponderIssuedFits state apdus.now }
+{
+    if shipped_count(apdus) != usize::from(is_later(state)) {
+        return false;
+    }
+    if has_checked_in(apdus) != (state == State::CheckedIn) {
+        return false;
+    }
+    match state {
+        State::Conditional => ends_with_conditions(apdus),
+        _ => true,
+    }
+}
+
+fn shipped_count(apdus: &[Apdu]) -> usize
+    ensures { result ≡ count_by (λ a. is_shipped a.body) apdus.now }
+{
+    apdus.iter().filter(|apdu| is_shipped(&apdu.body)).count()
+}
+
+fn has_checked_in(apdus: &[Apdu]) -> bool
+    ensures { result ≡ has is_checked_in apdus.now }
+{
+    apdus
+        .iter()
+        .any(|apdu| matches!(apdu.body, Body::CheckedIn))
+}
+
+/// Whether the last of them names conditions.
+fn ends_with_conditions(apdus: &[Apdu]) -> bool
+    ensures { result ≡ ends_with_conditions apdus.now }
+{
+    if apdus.is_empty() {
+        return false;
+    }
+    match apdus.get(apdus.len() - 1) {
+        Some(apdu) => is_conditional(&apdu.body),
+        None => false,
+    }
+}
+
+/// Whether each date that was granted is after those before it.
+#[tactic(auto, using(crate::proofs::ResponderLists::rise_end))]
+pub fn dates_rise(apdus: &[Apdu]) -> bool
+    ensures { result ≡ are_rising (filter_map granted apdus.now) }
+{
+    let mut last = None;
+    for apdu in apdus {
+        let found = granted(apdu);
+        if !may_follow(&found, &last) {
+            return false;
+        }
+        last = found.or(last);
+    }
+    true
+}
+
+/// Whether no date comes, or the first, or one that is after the last.
+fn may_follow(found: &Option<Day>, last: &Option<Day>) -> bool
+    ensures { result ≡ rises last.now found.now }
+{
+    match (found, last) {
+        (Some(due), Some(last)) => *last < *due,
+        _ => true,
+    }
+}
+
+/// Whether no date was granted before a Shipped.
+#[tactic(auto, using(crate::proofs::ResponderLists::ships_end))]
+pub fn ships_first(apdus: &[Apdu]) -> bool
+    ensures { result ≡ ships_first apdus.now }
+{
+    for apdu in apdus {
+        if is_shipped(&apdu.body) {
+            return true;
+        }
+        if is_renewal(&apdu.body) {
+            return false;
+        }
+    }
+    true
+}
+
+fn is_shipped(body: &Body) -> bool
+    ensures { result ≡ is_shipped body.now }
+{
+    matches!(body, Body::Shipped { .. })
+}
+
+fn is_renewal(body: &Body) -> bool
+    ensures { result ≡ is_renewal body.now }
+{
+    matches!(
+        body,
+        Body::RenewAnswer {
+            granted: Some(_),
+            ..
+        }
+    )
+}

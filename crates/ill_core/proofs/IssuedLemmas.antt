@@ -7,14 +7,14 @@ use Rattle.std.specs.List.{list_all, filter_map, cons_option, last_or}
 use Rattle.std.specs.Option.{option_or}
 use Rattle.std.proofs.Math.ListN.{get_or}
 use Rattle.std.proofs.Math.Seq.{drop-cons}
-use Rattle.std.proofs.lemmas.List.{at_drop_all}
+use Rattle.std.proofs.lemmas.List.{at_drop_all, append_cancel_left}
 use Rattle.std.proofs.lemmas.List.Elements.{filter_map-append}
 use Rattle.std.proofs.lemmas.List.Folds.{list_any-append, list_all-append}
 use Rattle.ill_values.specs.TxnId.{Qualifiers}
 use Rattle.ill_values.specs.declared.apdu.Apdu.{Apdu}
 use Rattle.ill_values.specs.declared.apdu.Body.{Body}
 use Rattle.ill_core.specs.declared.refusal.Refusal.TheVariants.{NumbersUsed}
-use Rattle.ill_core.specs.Issued.{next_number, are_numbered, is_same_txn, has, last_of, is_ill_request}
+use Rattle.ill_core.specs.Issued.{next_number, with_next, next_apdu, are_numbered, is_same_txn, has, last_of, is_ill_request}
 use Rattle.ill_core.specs.Requester.{begins_with_request}
 use Rattle.ill_core.specs.Issued.{is_none}
 
@@ -124,3 +124,18 @@ found_more f apdus a x there = filter_map-append f apdus (a ∷ []) ∙ ap (λ o
 -- what is found in the APDU issued last is the last
 pub last_of_more : {X : Type 0} (f : Apdu → Option X) (apdus : List Apdu) (a : Apdu) (x : X) → f a ≡ Some x → last_of f (apdus ++ a ∷ []) ≡ Some x
 last_of_more f apdus a x there = ap (last_or None) (found_more f apdus a x there) ∙ last_more None (filter_map f apdus) x
+
+same_body : (a b : Apdu) → ◌≡◌ {A = List Apdu} (a ∷ []) (b ∷ []) → a.body ≡ b.body
+same_body a b same = search rules
+
+-- what an APDU that was issued says
+pub issued_body : (txn : Qualifiers) (apdus : List Apdu) (body : Body) (a : Apdu) → with_next txn apdus body ≡ apdus ++ a ∷ [] → body ≡ a.body
+issued_body txn apdus body a same = same_body (next_apdu txn apdus body) a (append_cancel_left apdus _ _ same)
+
+more_than_itself : (n : ℕ) → n ≡ n + 1 → ⊥
+more_than_itself n h = omega (arith, h)
+
+-- a list is no longer than itself
+pub not_longer : {P : Type 0} (old new : List Apdu) (a : Apdu) → new ≡ old → new ≡ old ++ a ∷ [] → P
+not_longer old new a same longer =
+    absurd (more_than_itself (length old) (ap length (sym same ∙ longer) ∙ length-append old (a ∷ [])))

@@ -5,3 +5,5 @@ pub mod RequesterLaws
 pub mod RequesterAnswers
 pub mod ResponderLists
 pub mod ResponderKept
+pub mod ResponderRows
+pub mod ResponderLaws

@@ -1,9 +1,8 @@
 -- Conditions are answered once.
-use Rattle.std.proofs.Common.{rules, ◌≡◌, inl, inr, ℕ, ◌+◌, Bool, true, false, not, ◌||◌, nat_eq, List, [], ◌∷◌, ◌++◌, length, Option, Some, None, is_some, Ok, if◌then◌else◌, refl, ap, sym, subst, ◌∙◌}
+use Rattle.std.proofs.Common.{rules, ◌≡◌, inl, inr, ℕ, Bool, true, false, not, ◌||◌, nat_eq, List, [], ◌∷◌, ◌++◌, Option, Some, None, is_some, Ok, if◌then◌else◌, refl, ap, sym, subst, ◌∙◌}
 use Rattle.std.specs.List.{list_all, filter_map, last_or}
 use Rattle.std.specs.Option.{unwrap_or}
 use Rattle.std.proofs.lemmas.Bool.{and_parts, and_from, or_from}
-use Rattle.std.proofs.lemmas.List.{append_cancel_left}
 use Rattle.std.proofs.lemmas.List.Folds.{list_all-append, list_any-append}
 use Rattle.std.proofs.Math.Bool.{or-false, or-true}
 use Rattle.ill_values.specs.declared.apdu.Apdu.{Apdu}
@@ -14,34 +13,34 @@ use Rattle.ill_core.specs.declared.state.State.TheVariants.{Pending, Conditional
 use Rattle.ill_core.specs.declared.requester.Wish.{Wish}
 use Rattle.ill_core.specs.declared.requester.Wish.TheVariants as wishes
 use Rattle.ill_core.specs.State.{is_among}
-use Rattle.ill_core.specs.Issued.{is_at_most, has, declines, accepts, answered_yes, last_of, with_next}
-use Rattle.ill_core.specs.Requester.{RequesterRecord, accepted}
+use Rattle.ill_core.specs.Issued.{is_at_most, is_below, are_distinct, has, declines, accepts, answered_yes, last_of, with_next, next_apdu}
+use Rattle.ill_core.specs.Requester.{RequesterRecord, requester_of, accepted}
 use Rattle.ill_core.specs.RequesterActions.{acts, next_state, moved, body_of}
 use Rattle.ill_core.specs.RequesterDeliveries.{takes}
-use Rattle.ill_core.specs.RequesterFacts.{AnswersOnce, replies, replied, are_distinct, is_below, Replies, Holds}
+use Rattle.ill_core.specs.RequesterFacts.{AnswersOnce, replies, replied, Replies, Holds}
 use Rattle.ill_core.proofs.RequesterLaws.{takes_issues, takes_holds, of_acts}
-use Rattle.ill_core.proofs.IssuedLemmas.{found_none, found_more, last_of_more, has_more, not_true}
+use Rattle.ill_core.proofs.IssuedLemmas.{issued_body, found_none, found_more, last_of_more, has_more, not_true}
 
-all_weaker : (p q : ℕ → Bool) → ((n : ℕ) → p n ≡ true → q n ≡ true) → (ns : List ℕ) → list_all p ns ≡ true → list_all q ns ≡ true
+pub all_weaker : (p q : ℕ → Bool) → ((n : ℕ) → p n ≡ true → q n ≡ true) → (ns : List ℕ) → list_all p ns ≡ true → list_all q ns ≡ true
 all_weaker p q weaker [] all = refl
 all_weaker p q weaker (n ∷ ns) all =
     let parts = and_parts _ _ all in
     and_from _ _ (weaker n parts.0) (all_weaker p q weaker ns parts.1)
 
 -- what is at most the accepted number is below any that is not
-below_new : (k : ℕ) (last : Option ℕ) → is_at_most k last ≡ false → (n : ℕ) → is_at_most n last ≡ true → is_below n (Some k) ≡ true
+pub below_new : (k : ℕ) (last : Option ℕ) → is_at_most k last ≡ false → (n : ℕ) → is_at_most n last ≡ true → is_below n (Some k) ≡ true
 below_new k None above n most = search rules
 below_new k (Some m) above n most = search rules
 
 -- what is below a number is at most that
-at_most_below : (k n : ℕ) → is_below n (Some k) ≡ true → is_at_most n (Some k) ≡ true
+pub at_most_below : (k n : ℕ) → is_below n (Some k) ≡ true → is_at_most n (Some k) ≡ true
 at_most_below k n below = search rules
 
 above_not_same : (m n : ℕ) → is_below m (Some n) ≡ true → nat_eq n m ≡ false
 above_not_same m n below = search rules
 
 -- a number above all others stands there once
-distinct_more : (ns : List ℕ) (n : ℕ) → are_distinct ns ≡ true → list_all (λ m. is_below m (Some n)) ns ≡ true → are_distinct (ns ++ n ∷ []) ≡ true
+pub distinct_more : (ns : List ℕ) (n : ℕ) → are_distinct ns ≡ true → list_all (λ m. is_below m (Some n)) ns ≡ true → are_distinct (ns ++ n ∷ []) ≡ true
 unfolding are_distinct
 distinct_more [] n distinct below = refl
 distinct_more (m ∷ ns) n distinct below =
@@ -76,9 +75,9 @@ takes_once x a = still_once x (takes x a).1 a.number (takes_issues x a) (takes_h
 -- an APDU that is no answer to conditions
 silent_once : (x : RequesterRecord) (body : Body) (state : State) (held : Option ℕ) → replied body ≡ None → accepts body ≡ None → declines body ≡ false
     → is_among (Conditional ∷ []) state ≡ false → AnswersOnce x
-    → AnswersOnce (record { txn = x.txn; state = state; held = held; checked_in = x.checked_in; due = x.due; issued = with_next x.txn x.issued body })
+    → AnswersOnce (requester_of x.txn state held x.checked_in x.due (with_next x.txn x.issued body))
 silent_once x body state held silent accepts_none declines_not away once =
-    let a : Apdu = record { txn = x.txn; number = length x.issued + 1; body = body } in
+    let a : Apdu = next_apdu x.txn x.issued body in
     let same : replies (x.issued ++ a ∷ []) ≡ replies x.issued = found_none (λ b. replied b.body) x.issued a silent in
     let same_yes : filter_map answered_yes (x.issued ++ a ∷ []) ≡ filter_map answered_yes x.issued = found_none answered_yes x.issued a accepts_none in
     let no : has declines (x.issued ++ a ∷ []) ≡ has declines x.issued = has_more declines x.issued a ∙ (ap (λ b. has declines x.issued || b) declines_not ∙ or-false _) in
@@ -96,9 +95,9 @@ below_held x n is here undeclined once = subst (λ o. list_all (λ m. is_below m
 
 -- a yes to the conditions that are held
 yes_once : (x : RequesterRecord) (n : ℕ) → x.held ≡ Some n → is_among (Conditional ∷ []) x.state ≡ true → has declines x.issued ≡ false → AnswersOnce x
-    → AnswersOnce (record { txn = x.txn; state = Pending; held = None; checked_in = x.checked_in; due = x.due; issued = with_next x.txn x.issued (types.ConditionalReply n true) })
+    → AnswersOnce (requester_of x.txn Pending None x.checked_in x.due (with_next x.txn x.issued (types.ConditionalReply n true)))
 yes_once x n is here undeclined once =
-    let a : Apdu = record { txn = x.txn; number = length x.issued + 1; body = types.ConditionalReply n true } in
+    let a : Apdu = next_apdu x.txn x.issued (types.ConditionalReply n true) in
     let more : replies (x.issued ++ a ∷ []) ≡ replies x.issued ++ n ∷ [] = found_more (λ b. replied b.body) x.issued a n refl in
     let below = below_held x n is here undeclined once in
     record {
@@ -112,9 +111,9 @@ yes_once x n is here undeclined once =
 
 -- a no to the conditions that are held
 no_once : (x : RequesterRecord) (n : ℕ) → x.held ≡ Some n → is_among (Conditional ∷ []) x.state ≡ true → has declines x.issued ≡ false → AnswersOnce x
-    → AnswersOnce (record { txn = x.txn; state = Conditional; held = x.held; checked_in = x.checked_in; due = x.due; issued = with_next x.txn x.issued (types.ConditionalReply n false) })
+    → AnswersOnce (requester_of x.txn Conditional x.held x.checked_in x.due (with_next x.txn x.issued (types.ConditionalReply n false)))
 no_once x n is here undeclined once =
-    let a : Apdu = record { txn = x.txn; number = length x.issued + 1; body = types.ConditionalReply n false } in
+    let a : Apdu = next_apdu x.txn x.issued (types.ConditionalReply n false) in
     let more : replies (x.issued ++ a ∷ []) ≡ replies x.issued ++ n ∷ [] = found_more (λ b. replied b.body) x.issued a n refl in
     let declined : has declines (x.issued ++ a ∷ []) ≡ true = has_more declines x.issued a ∙ or-true _ in
     record {
@@ -149,9 +148,6 @@ wish_once x wishes.Return next held once leads = silent_once x types.Returned ne
 pub acts_once : (x new : RequesterRecord) (wish : Wish) → acts x wish ≡ Ok new → is_some x.held ≡ is_among (Conditional ∷ []) x.state → AnswersOnce x → AnswersOnce new
 acts_once x new wish acted held once = of_acts AnswersOnce x new wish (λ next leads. wish_once x wish next held once leads) acted
 
-same_body : (a b : Apdu) → ◌≡◌ {A = List Apdu} (a ∷ []) (b ∷ []) → a.body ≡ b.body
-same_body a b same = search rules
-
 -- what a wish issues where it issues an answer to conditions
 answer_of : (x : RequesterRecord) (wish : Wish) (next : State) (n : ℕ) (answer : Bool) → next_state x wish ≡ Some next → body_of x wish ≡ types.ConditionalReply n answer
     → (is_among (Conditional ∷ []) x.state ≡ true) × (has declines x.issued ≡ false) × (n ≡ unwrap_or x.held 0)
@@ -166,4 +162,4 @@ answer_of x wishes.Return next n answer leads is = search rules
 
 pub acts_reply : (x new : RequesterRecord) (wish : Wish) → acts x wish ≡ Ok new → Replies x new
 acts_reply x new wish acted = of_acts (Replies x) x new wish (λ next leads a n answer same is.
-    answer_of x wish next n answer leads (same_body (record { txn = x.txn; number = length x.issued + 1; body = body_of x wish }) a (append_cancel_left x.issued _ _ same) ∙ is)) acted
+    answer_of x wish next n answer leads (issued_body x.txn x.issued (body_of x wish) a same ∙ is)) acted

@@ -13,8 +13,8 @@ use Rattle.ill_core.specs.declared.requester.Wish.TheVariants as wishes
 use Rattle.ill_core.specs.declared.taking.Taking.{Taking}
 use Rattle.ill_core.specs.declared.taking.Taking.TheVariants as takings
 use Rattle.ill_core.specs.State.{is_among}
-use Rattle.ill_core.specs.Issued.{was, is_cancel, is_the, next_number, number_of_cancel, last_of}
-use Rattle.ill_core.specs.Requester.{RequesterRecord, later}
+use Rattle.ill_core.specs.Issued.{was, is_cancel, is_the, next_number, next_apdu, number_of_cancel, last_of}
+use Rattle.ill_core.specs.Requester.{RequesterRecord, requester_of, later}
 use Rattle.ill_core.specs.RequesterActions.{acts, acts_to, next_state, moved}
 use Rattle.ill_core.specs.RequesterDeliveries.{comes, takes}
 use Rattle.ill_core.specs.RequesterFacts.{RequesterFact, Shows, Tells, KeepsDue, Holds, shows_refused}
@@ -87,10 +87,10 @@ older_cancel c size last old is_last other (inr (same, h)) = search rules
 
 -- where a wish leads, an open Cancel is open, and a refused one was refused
 wish_refused : (txn : Qualifiers) (state : State) (held : Option ℕ) (checked_in : Bool) (due : Option Date) (issued : List Apdu) (wish : Wish) (next : State) (c : ℕ)
-    → next_state (record { txn = txn; state = state; held = held; checked_in = checked_in; due = due; issued = issued }) wish ≡ Some next → shows_refused (moved (record { txn = txn; state = state; held = held; checked_in = checked_in; due = due; issued = issued }) wish next) c → shows_refused (record { txn = txn; state = state; held = held; checked_in = checked_in; due = due; issued = issued }) c
+    → next_state (requester_of txn state held checked_in due issued) wish ≡ Some next → shows_refused (moved (requester_of txn state held checked_in due issued) wish next) c → shows_refused (requester_of txn state held checked_in due issued) c
 wish_refused txn Idle held checked_in due issued (wishes.Request expiry item) Pending c leads shown = (still_cancel issued _ c refl shown.0, refl, refl)
 wish_refused txn Pending held checked_in due issued wishes.Cancel CancelPending c leads shown =
-    let a : Apdu = record { txn = txn; number = length issued + 1; body = types.Cancel } in (
+    let a : Apdu = next_apdu txn issued types.Cancel in (
       older_cancel c (length issued + 1) (last_of number_of_cancel (issued ++ a ∷ [])) (was is_cancel issued c) (last_cancel_more issued a refl) shown.2
           (was_more is_cancel issued a c shown.0),
       refl,

@@ -1,6 +1,6 @@
 -- What each delivery leaves of a requester's record.
 use Rattle.std.proofs.Common.{rules, ◌≡◌, ◌⊎◌, ℕ, Bool, true, false, not, ◌&&◌, [], ◌∷◌, Option, Some, None, is_some, Result, Ok, Err, if◌then◌else◌, refl}
-use Rattle.std.proofs.lemmas.Bool.{and_parts}
+use Rattle.std.proofs.lemmas.Bool.{and_parts, cond_both}
 use Rattle.ill_values.specs.Day.{Date}
 use Rattle.ill_values.specs.declared.apdu.Apdu.{Apdu}
 use Rattle.ill_values.specs.declared.apdu.Body.{Body}
@@ -17,11 +17,6 @@ use Rattle.ill_core.specs.Dates.{is_after_due, is_due_on}
 use Rattle.ill_core.specs.declared.refusal.Refusal.{Refusal}
 use Rattle.ill_core.specs.RequesterFacts.{KeepsDue, Holds, Tells, shows_refused}
 use Rattle.ill_core.specs.RequesterFacts as facts
-
--- what holds in both branches holds of the choice
-by_if : {A : Type 0} (P : A → Type 0) (b : Bool) (p q : A) → (b ≡ true → P p) → (b ≡ false → P q) → P (if b then p else q)
-by_if P true p q then_holds else_holds = then_holds refl
-by_if P false p q then_holds else_holds = else_holds refl
 
 pub record Leaves (x : RequesterRecord) (k : ℕ) (body : Body) (answer : Taking × RequesterRecord) : Type 0 where
   pub issued : answer.1.issued ≡ x.issued
@@ -78,7 +73,7 @@ cancel_refused x k c is = search rules
 -- the first line that fits decides
 line : (x : RequesterRecord) (k : ℕ) (body : Body) (fits : Bool) (here others : Taking × RequesterRecord)
     → (fits ≡ true → Leaves x k body here) → (fits ≡ false → Leaves x k body others) → Leaves x k body (if fits then here else others)
-line x k body fits here others = by_if (Leaves x k body) fits here others
+line x k body fits here others = cond_both fits here others (Leaves x k body)
 
 end_leaves : (x : RequesterRecord) (k : ℕ) (body : Body) → Tells body facts.Ended → Leaves x k body (end_comes x)
 end_leaves x k body told =

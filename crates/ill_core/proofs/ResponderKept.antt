@@ -9,20 +9,20 @@ use Rattle.ill_values.specs.declared.apdu.Body.{Body}
 use Rattle.ill_values.specs.declared.apdu.Body.TheVariants as types
 use Rattle.ill_values.specs.declared.apdu.AnswerResult.TheVariants as results
 use Rattle.ill_core.specs.declared.state.State.{State}
-use Rattle.ill_core.specs.declared.state.State.TheVariants.{Idle, InProcess, Conditional, CancelPending, Cancelled, NotSupplied, Shipped, RenewPending, Overdue, RenewOverdue, Recall, Returned, CheckedIn}
+use Rattle.ill_core.specs.declared.state.State.TheVariants.{Idle, InProcess, Conditional, NotSupplied, CheckedIn}
 use Rattle.ill_core.specs.declared.responder.Deed.{Deed}
 use Rattle.ill_core.specs.declared.responder.Deed.TheVariants as deeds
 use Rattle.ill_core.specs.State.{is_among}
 use Rattle.ill_core.specs.Dates.{is_after_due}
-use Rattle.ill_core.specs.Issued.{is_the, was, is_same_txn, is_ill_request, with_next, is_requesters, implies, is_shipped, is_checked_in, names_conditions, is_renewal, granted, date_granted}
-use Rattle.ill_core.specs.Responder.{ResponderRecord, outstanding, is_named, IsResponder, ResponderIssuedFits, ResponderPartsFit, responder_later, are_rising, ships_first, due_of}
+use Rattle.ill_core.specs.Issued.{is_the, was, is_same_txn, is_ill_request, with_next, next_apdu, is_requesters, implies, is_shipped, is_checked_in, names_conditions, is_renewal, granted, date_granted}
+use Rattle.ill_core.specs.Responder.{ResponderRecord, responder_of, outstanding, is_named, IsResponder, ResponderIssuedFits, ResponderPartsFit, responder_later, are_rising, ships_first, due_of}
 use Rattle.ill_core.specs.ResponderActions.{deed_leads, date_refusal, body_issued, issues_to}
 use Rattle.ill_core.specs.declared.refusal.Refusal.{Refusal}
 use Rattle.ill_core.specs.declared.taking.Taking.{Taking}
 use Rattle.ill_core.specs.Issued.{Admits, refused_before}
 use Rattle.ill_core.specs.ResponderDeliveries.{Comes, ResponderTakes, message_comes, takes_memory, responder_takes, unless_refused}
 use Rattle.ill_core.proofs.IssuedLemmas.{numbered_next, same_txn, has_more, all_more, none_more, found_none, found_more}
-use Rattle.ill_core.proofs.ResponderLists.{shipped_more, ends_more, named_more, rise_more, ships_more, ships_renewed, no_grants, due_there}
+use Rattle.ill_core.proofs.ResponderLists.{count_more, ends_more, named_more, rise_more, ships_more, ships_renewed, no_grants, due_there}
 
 -- the number of Shipped that a state wants
 abbrev pub shipped_in : State → ℕ
@@ -64,14 +64,14 @@ ships_next y a h (later d is here after) =
 -- the record with one more APDU, in a state that fits, is a responder's
 pub next_kept : (y : ResponderRecord) (body : Body) (state : State) → IsResponder y → FitsNext y body state → Grants y body → IsResponder (issues_to y body state)
 next_kept y body state h fits grants =
-    let a : Apdu = record { txn = y.txn; number = length y.issued + 1; body = body } in
+    let a : Apdu = next_apdu y.txn y.issued body in
     record {
       numbered = numbered_next y.txn 1 y.issued a h.numbered (same_txn y.txn) (omega arith);
       role = all_more (λ b. not (is_requesters b)) y.issued a h.role fits.role;
       request = h.request;
       parts = subst (ResponderPartsFit state (is_some y.request) (is_some y.accepted) (is_some y.last_cancel) (is_some y.last_renew) y.received) (sym (none_more y.issued a)) fits.parts;
       issued = record {
-        shipped = shipped_more y.issued a ∙ (ap (λ n. n + (if is_shipped body then 1 else 0)) h.issued.shipped ∙ fits.shipped);
+        shipped = count_more is_shipped y.issued a ∙ (ap (λ n. n + (if is_shipped body then 1 else 0)) h.issued.shipped ∙ fits.shipped);
         checked_in = has_more is_checked_in y.issued a ∙ (ap (λ b. b || is_checked_in body) h.issued.checked_in ∙ fits.checked_in);
         conditions = ap (implies (is_among (Conditional ∷ []) state)) (ends_more y.issued a) ∙ fits.conditions;
       };
@@ -80,32 +80,11 @@ next_kept y body state h fits grants =
       ships_first = ships_next y a h grants;
     }
 
-abbrev made : Qualifiers → State → Option ℕ → Option ℕ → Option ℕ → Bool → Option Apdu → List Apdu → ResponderRecord
-made txn state accepted last_cancel last_renew received request issued =
-    record { txn = txn; state = state; accepted = accepted; last_cancel = last_cancel; last_renew = last_renew; received = received; request = request; issued = issued }
-
 -- where a deed leads fits
 deed_fits : (txn : Qualifiers) (state : State) (accepted last_cancel last_renew : Option ℕ) (received : Bool) (request : Option Apdu) (issued : List Apdu) (deed : Deed) (next : State)
-    → IsResponder (made txn state accepted last_cancel last_renew received request issued) → deed_leads (made txn state accepted last_cancel last_renew received request issued) deed ≡ Some next
-    → FitsNext (made txn state accepted last_cancel last_renew received request issued) (body_issued (made txn state accepted last_cancel last_renew received request issued) deed) next
+    → IsResponder (responder_of txn state accepted last_cancel last_renew received request issued) → deed_leads (responder_of txn state accepted last_cancel last_renew received request issued) deed ≡ Some next
+    → FitsNext (responder_of txn state accepted last_cancel last_renew received request issued) (body_issued (responder_of txn state accepted last_cancel last_renew received request issued) deed) next
 deed_fits txn InProcess accepted last_cancel last_renew received request issued (deeds.Answer results.Conditional) Conditional h leads = search rules
-deed_fits txn InProcess accepted last_cancel last_renew received request issued (deeds.Answer results.WillSupply) InProcess h leads = search rules
-deed_fits txn InProcess accepted last_cancel last_renew received request issued (deeds.Answer results.HoldPlaced) InProcess h leads = search rules
-deed_fits txn InProcess accepted last_cancel last_renew received request issued (deeds.Answer answer) NotSupplied h leads = search rules
-deed_fits txn CancelPending accepted last_cancel last_renew received request issued (deeds.CancelReply true) Cancelled h leads = search rules
-deed_fits txn CancelPending accepted last_cancel last_renew received request issued (deeds.CancelReply false) InProcess h leads = search rules
-deed_fits txn InProcess accepted last_cancel last_renew received request issued (deeds.Ship due) Shipped h leads = search rules
-deed_fits txn RenewPending accepted last_cancel last_renew received request issued (deeds.RenewAnswer (Some d)) Shipped h leads = search rules
-deed_fits txn RenewOverdue accepted last_cancel last_renew received request issued (deeds.RenewAnswer (Some d)) Shipped h leads = search rules
-deed_fits txn RenewPending accepted last_cancel last_renew received request issued (deeds.RenewAnswer None) Shipped h leads = search rules
-deed_fits txn RenewOverdue accepted last_cancel last_renew received request issued (deeds.RenewAnswer None) Overdue h leads = search rules
-deed_fits txn Shipped accepted last_cancel last_renew received request issued deeds.Overdue Overdue h leads = search rules
-deed_fits txn RenewPending accepted last_cancel last_renew received request issued deeds.Overdue RenewOverdue h leads = search rules
-deed_fits txn Shipped accepted last_cancel last_renew received request issued deeds.Recall Recall h leads = search rules
-deed_fits txn Overdue accepted last_cancel last_renew received request issued deeds.Recall Recall h leads = search rules
-deed_fits txn Returned accepted last_cancel last_renew received request issued deeds.CheckIn CheckedIn h leads = search rules
-deed_fits txn InProcess accepted last_cancel last_renew received request issued deeds.Expire NotSupplied h leads = search rules
-deed_fits txn Conditional accepted last_cancel last_renew received request issued deeds.Expire NotSupplied h leads = search rules
 deed_fits txn state accepted last_cancel last_renew received request issued deed next h leads = search rules
 
 -- the dates of a deed that today allows
@@ -129,10 +108,9 @@ deed_kept y deed next today h leads allowed =
     (deed_grants y deed next today leads allowed)
 
 no_fits : (txn : Qualifiers) (state : State) (accepted last_cancel last_renew : Option ℕ) (received : Bool) (request : Option Apdu) (issued : List Apdu)
-    → IsResponder (made txn state accepted last_cancel last_renew received request issued) → is_among (InProcess ∷ Conditional ∷ []) state ≡ true
-    → FitsNext (made txn state accepted last_cancel last_renew received request issued) (types.IllAnswer results.Unfilled) NotSupplied
+    → IsResponder (responder_of txn state accepted last_cancel last_renew received request issued) → is_among (InProcess ∷ Conditional ∷ []) state ≡ true
+    → FitsNext (responder_of txn state accepted last_cancel last_renew received request issued) (types.IllAnswer results.Unfilled) NotSupplied
 no_fits txn InProcess accepted last_cancel last_renew received request issued h waits = search rules
-no_fits txn Conditional accepted last_cancel last_renew received request issued h waits = search rules
 no_fits txn state accepted last_cancel last_renew received request issued h waits = search rules
 
 -- a no is answered
@@ -144,7 +122,7 @@ no_kept y h waits =
 
 -- the outstanding conditions are the last message
 outstanding_named : (txn : Qualifiers) (state : State) (accepted last_cancel last_renew : Option ℕ) (received : Bool) (request : Option Apdu) (issued : List Apdu) (c : ℕ)
-    → IsResponder (made txn state accepted last_cancel last_renew received request issued) → is_the c (outstanding (made txn state accepted last_cancel last_renew received request issued)) ≡ true
+    → IsResponder (responder_of txn state accepted last_cancel last_renew received request issued) → is_the c (outstanding (responder_of txn state accepted last_cancel last_renew received request issued)) ≡ true
     → (is_among (Conditional ∷ []) state ≡ true) × (is_named (Some c) issued ≡ true)
 outstanding_named txn Conditional accepted last_cancel last_renew received request [] c h is = search rules
 outstanding_named txn Conditional accepted last_cancel last_renew received request (a ∷ issued) c h is =
@@ -215,10 +193,10 @@ overdue_due y next h leads = later_due y h (overdue_later y next leads)
 -- a record whose parts are those of one that issued one APDU more
 pub with_issue : (y : ResponderRecord) (state : State) (body : Body) (txn : Qualifiers) (issued : List Apdu) → IsResponder (issues_to y body state)
     → txn ≡ y.txn → issued ≡ with_next y.txn y.issued body
-    → IsResponder (record { txn = txn; state = state; accepted = y.accepted; last_cancel = y.last_cancel; last_renew = y.last_renew; received = y.received; request = y.request; issued = issued })
+    → IsResponder (responder_of txn state y.accepted y.last_cancel y.last_renew y.received y.request issued)
 with_issue y state body txn issued h same_txn more =
     let parts : (txn, issued) ≡ (y.txn, with_next y.txn y.issued body) = cc in
-    subst (λ (p : Qualifiers × List Apdu). IsResponder (record { txn = p.0; state = state; accepted = y.accepted; last_cancel = y.last_cancel; last_renew = y.last_renew; received = y.received; request = y.request; issued = p.1 })) (sym parts) h
+    subst (λ (p : Qualifiers × List Apdu). IsResponder (responder_of p.0 state y.accepted y.last_cancel y.last_renew y.received y.request p.1)) (sym parts) h
 
 pub admits_none : (o : Option Refusal) → Admits o (Ok tt) → o ≡ None
 admits_none None h = refl

@@ -15,8 +15,9 @@ use Rattle.ill_core.specs.Issued.{was, is_shipped, is_renewal, names_conditions,
 use Rattle.ill_core.specs.Responder.{rises, rise_from, ships_first, ends_with_conditions, is_named}
 use Rattle.ill_core.proofs.IssuedLemmas.{not_true, front_at}
 
-pub shipped_more : (apdus : List Apdu) (a : Apdu) → count_by (λ b. is_shipped b.body) (apdus ++ a ∷ []) ≡ count_by (λ b. is_shipped b.body) apdus + (if is_shipped a.body then 1 else 0)
-shipped_more apdus a = search (rules, sum_by-append (λ (b : Apdu). cond (is_shipped b.body) 1 0) apdus (a ∷ []))
+-- one more APDU may count
+pub count_more : (says : Body → Bool) (apdus : List Apdu) (a : Apdu) → count_by (λ b. says b.body) (apdus ++ a ∷ []) ≡ count_by (λ b. says b.body) apdus + (if says a.body then 1 else 0)
+count_more says apdus a = search (rules, sum_by-append (λ (b : Apdu). cond (says b.body) 1 0) apdus (a ∷ []))
 
 last_message : (says : Body → Bool) (apdus : List Apdu) (a : Apdu) → was says (apdus ++ a ∷ []) (suc (length apdus)) ≡ says a.body
 last_message says [] a = refl

@@ -6,7 +6,8 @@ use Rattle.ill_values.specs.TxnId.{Qualifiers}
 use Rattle.ill_values.specs.declared.apdu.Apdu.{Apdu}
 use Rattle.ill_values.specs.declared.apdu.Body.{Body}
 use Rattle.ill_values.specs.declared.apdu.Body.TheVariants.{IllRequest, IllAnswer, ConditionalReply, Cancel, Shipped, Received, Returned, CheckedIn, Renew, RenewAnswer}
-use Rattle.ill_values.specs.declared.apdu.AnswerResult.TheVariants.{Conditional}
+use Rattle.ill_values.specs.declared.apdu.AnswerResult.{AnswerResult}
+use Rattle.ill_values.specs.declared.apdu.AnswerResult.TheVariants.{Conditional, WillSupply, HoldPlaced}
 use Rattle.ill_values.specs.Day.{Date}
 use Rattle.ill_core.specs.declared.issued.Sought.{Sought}
 use Rattle.ill_core.specs.declared.issued.Sought.TheVariants.{Accepted, CancelNumber, RenewNumber}
@@ -90,6 +91,13 @@ abbrev pub names_conditions : Body → Bool
 names_conditions (IllAnswer Conditional) = true
 names_conditions other = false
 
+-- the results of an ILL-Answer that end a request
+abbrev pub is_final : AnswerResult → Bool
+is_final Conditional = false
+is_final WillSupply = false
+is_final HoldPlaced = false
+is_final other = true
+
 -- a Renew-Answer yes
 abbrev pub is_renewal : Body → Bool
 is_renewal (RenewAnswer answers (Some due)) = true
@@ -143,9 +151,17 @@ is_requesters other = false
 abbrev pub next_number : List Apdu → Result ℕ Refusal
 next_number apdus = if nat_lt (length apdus) 255 then Ok (length apdus + 1) else Err NumbersUsed
 
+-- the next APDU
+abbrev pub next_apdu : Qualifiers → List Apdu → Body → Apdu
+next_apdu txn apdus body = record { txn = txn; number = length apdus + 1; body = body }
+
 -- the APDUs and the next one
 abbrev pub with_next : Qualifiers → List Apdu → Body → List Apdu
-with_next txn apdus body = apdus ++ record { txn = txn; number = length apdus + 1; body = body } ∷ []
+with_next txn apdus body = apdus ++ next_apdu txn apdus body ∷ []
+
+-- one more APDU is issued, with the next number
+abbrev pub IssuesNext : Qualifiers → List Apdu → List Apdu → Type 0
+IssuesNext txn old new = (body : Body) × (new ≡ with_next txn old body)
 
 -- Before its table a side refuses an APDU of another transaction, and then one that its own role issues.
 abbrev pub refused_before : Qualifiers → Bool → Apdu → Option Refusal
@@ -168,3 +184,13 @@ is_the n (Some m) = n == m
 abbrev pub is_at_most : ℕ → Option ℕ → Bool
 is_at_most n None = false
 is_at_most n (Some m) = nat_le n m
+
+-- there is a number, and n is below it
+abbrev pub is_below : ℕ → Option ℕ → Bool
+is_below n None = false
+is_below n (Some m) = nat_lt n m
+
+-- no number stands twice in the list
+unfoldable pub are_distinct : List ℕ → Bool
+are_distinct [] = true
+are_distinct (n ∷ ns) = not (list_any (λ m. m == n) ns) && are_distinct ns

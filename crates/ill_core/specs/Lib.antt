@@ -8,3 +8,4 @@ pub mod RequesterFacts
 pub mod Responder
 pub mod ResponderActions
 pub mod ResponderDeliveries
+pub mod ResponderFacts

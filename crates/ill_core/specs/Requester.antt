@@ -17,6 +17,11 @@ pub record RequesterRecord : Type 0 where
   pub due : Option Date
   pub issued : List Apdu
 
+-- the record of these parts
+abbrev pub requester_of : Qualifiers → State → Option ℕ → Bool → Option Date → List Apdu → RequesterRecord
+requester_of txn state held checked_in due issued =
+    record { txn = txn; state = state; held = held; checked_in = checked_in; due = due; issued = issued }
+
 -- the number answered by the last Conditional-Reply yes
 abbrev pub accepted : RequesterRecord → Option ℕ
 accepted x = last_of answered_yes x.issued

@@ -1,21 +1,19 @@
 -- What a requester's record shows to have come, and which APDU of a responder tells it (this profile's own).
-use Rattle.std.specs.Prelude.{◌≡◌, ◌⊎◌, ℕ, Bool, true, false, not, ◌&&◌, ◌==◌, nat_lt, ◌+◌, List, [], ◌∷◌, ◌++◌, length, Option, Some, None}
+use Rattle.std.specs.Prelude.{◌≡◌, ◌⊎◌, ℕ, Bool, true, false, ◌&&◌, List, [], ◌∷◌, ◌++◌, Option, Some, None}
 use Rattle.ill_values.specs.Day.{Date}
 use Rattle.ill_values.specs.declared.apdu.Apdu.{Apdu}
 use Rattle.ill_values.specs.declared.apdu.Body.{Body}
 use Rattle.ill_values.specs.declared.apdu.Body.TheVariants as types
-use Rattle.ill_values.specs.declared.apdu.AnswerResult.{AnswerResult}
-use Rattle.ill_values.specs.declared.apdu.AnswerResult.TheVariants as results
 use Rattle.ill_core.specs.declared.state.State.TheVariants as states
 use Rattle.ill_core.specs.State.{is_among}
-use Rattle.ill_core.specs.Issued.{was, is_cancel, is_the, is_at_most, has, declines}
+use Rattle.ill_core.specs.Issued.{was, is_cancel, is_the, is_at_most, is_below, are_distinct, has, declines, is_final}
 use Rattle.ill_core.specs.Requester.{RequesterRecord, accepted, last_cancel, later}
 use Rattle.ill_core.specs.Dates.{is_after_due}
 use Rattle.ill_core.specs.declared.state.State.{State}
 use Rattle.ill_core.specs.declared.taking.Taking.{Taking}
 use Rattle.ill_core.specs.declared.taking.Taking.TheVariants.{Taken, Repeat}
 use Rattle.std.specs.Option.{unwrap_or}
-use Rattle.std.specs.List.{list_all, list_any, filter_map}
+use Rattle.std.specs.List.{list_all, filter_map}
 
 -- what a message of the responder may tell
 pub data RequesterFact : Type 0 where
@@ -39,13 +37,6 @@ Shows x Ended = x.state ≡ states.NotSupplied
 Shows x (Granted due) = x.due ≡ Some due
 Shows x (Refused cancel) = shows_refused x cancel
 Shows x GivenBack = x.checked_in ≡ true
-
--- the results of an ILL-Answer that end a request
-abbrev pub is_final : AnswerResult → Bool
-is_final results.Conditional = false
-is_final results.WillSupply = false
-is_final results.HoldPlaced = false
-is_final other = true
 
 abbrev pub Tells : Body → RequesterFact → Type 0
 Tells (types.CancelReply c true) Cancelled = Unit {0}
@@ -77,10 +68,6 @@ Holds x k new =
     ⊎ ((new.held ≡ None) × (is_among (states.Conditional ∷ []) new.state ≡ false))
     ⊎ HoldsNew x k new
 
--- one more APDU is issued, with the next number
-abbrev pub IssuesNext : RequesterRecord → RequesterRecord → Type 0
-IssuesNext x new = (a : Apdu) × (a.txn ≡ x.txn) × (a.number ≡ length x.issued + 1) × (new.issued ≡ x.issued ++ a ∷ [])
-
 -- A Conditional-Reply that is issued answers the conditions that are held, in CONDITIONAL, and they were not declined.
 abbrev pub Replies : RequesterRecord → RequesterRecord → Type 0
 Replies x new =
@@ -99,16 +86,6 @@ replied other = None
 -- the numbers of the conditions that were answered, in the order of the answers
 abbrev pub replies : List Apdu → List ℕ
 replies apdus = filter_map (λ a. replied a.body) apdus
-
--- no number stands twice in the list
-unfoldable pub are_distinct : List ℕ → Bool
-are_distinct [] = true
-are_distinct (n ∷ ns) = not (list_any (λ m. m == n) ns) && are_distinct ns
-
--- there is a number, and n is below it
-abbrev pub is_below : ℕ → Option ℕ → Bool
-is_below n None = false
-is_below n (Some m) = nat_lt n m
 
 -- Conditions are answered once. Until some are declined, those answered are at most the accepted ones, and below the
 -- ones that are held.

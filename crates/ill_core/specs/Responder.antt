@@ -20,6 +20,20 @@ pub record ResponderRecord : Type 0 where
   pub request : Option Apdu
   pub issued : List Apdu
 
+-- the record of these parts
+abbrev pub responder_of : Qualifiers → State → Option ℕ → Option ℕ → Option ℕ → Bool → Option Apdu → List Apdu → ResponderRecord
+responder_of txn state accepted last_cancel last_renew received request issued =
+    record {
+      txn = txn;
+      state = state;
+      accepted = accepted;
+      last_cancel = last_cancel;
+      last_renew = last_renew;
+      received = received;
+      request = request;
+      issued = issued;
+    }
+
 -- the date of the last Shipped or Renew-Answer yes
 abbrev pub due_of : ResponderRecord → Option Date
 due_of y = last_of granted y.issued

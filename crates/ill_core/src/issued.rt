@@ -2,7 +2,7 @@
 
 ghost use Rattle.std.specs.Prelude.{◌≡◌, ◌≤◌, ◌<◌, ◌==◌, ◌&&◌, true, length, [], Ok, Some, is_some, IfOk, IfErr, IfSome, OnOk, OnErr, option_map};
 ghost use Rattle.ill_core.specs.declared.refusal.Refusal.TheVariants as refusals;
-ghost use Rattle.ill_core.specs.Issued.{IssuedList, is_same_txn, are_numbered, message, is_requesters, next_number, with_next, refused_before, Admits, last_of, found, granted};
+ghost use Rattle.ill_core.specs.Issued.{IssuedList, is_same_txn, are_numbered, message, is_requesters, next_number, with_next, refused_before, Admits, last_of, found, granted, is_at_most};
 
 use crate::refusal::Refusal;
 use ill_values::{Apdu, Body, Day, Number, TxnId};
@@ -204,5 +204,15 @@ pub fn is_requesters(body: &Body) -> bool
         | Body::Renew { .. }
         | Body::Returned => true,
         _ => false,
+    }
+}
+
+/// Whether there is a number, and this one is at most that.
+pub fn is_at_most(number: Number, most: Option<Number>) -> bool
+    ensures { result ≡ is_at_most number most }
+{
+    match most {
+        Some(most) => number <= most,
+        None => false,
     }
 }

@@ -7,7 +7,7 @@ mod rules;
 ghost use Rattle.std.specs.Prelude.{◌≡◌, ◌↔◌, [], None, false, length, IsSome, IfSome, option_map};
 ghost use Rattle.ill_core.specs.declared.state.State.TheVariants as State;
 ghost use Rattle.ill_core.specs.Issued.{message};
-ghost use Rattle.ill_core.specs.Requester.{RequesterRecord, IsRequester, accepted, is_declined, is_received_by};
+ghost use Rattle.ill_core.specs.Requester.{RequesterRecord, requester_of, IsRequester, accepted, is_declined, is_received_by};
 ghost use Rattle.ill_core.specs.RequesterActions.{Acts};
 ghost use Rattle.ill_core.specs.RequesterDeliveries.{takes};
 
@@ -43,15 +43,15 @@ pub enum Wish {
 impl Model for Requester {
     ghost Value = { RequesterRecord };
 
-    ghost view = { λ r. record { txn = r.issued.txn; state = r.state; held = r.held; checked_in = r.checked_in; due = r.due; issued = r.issued.apdus } };
+    ghost view = { λ r. requester_of r.issued.txn r.state r.held r.checked_in r.due r.issued.apdus };
 
-    ghost invariant = { λ r. IsRequester (record { txn = r.issued.txn; state = r.state; held = r.held; checked_in = r.checked_in; due = r.due; issued = r.issued.apdus }) };
+    ghost invariant = { λ r. IsRequester (requester_of r.issued.txn r.state r.held r.checked_in r.due r.issued.apdus) };
 }
 
 impl Requester {
     /// The requester before its first message.
     pub fn idle(alloc: Global, txn: TxnId) -> Requester
-        ensures { result ≡ record { txn = txn; state = State.Idle; held = None; checked_in = false; due = None; issued = [] } }
+        ensures { result ≡ requester_of txn State.Idle None false None [] }
     {
         Requester {
             state: State::Idle,
@@ -71,8 +71,8 @@ impl Requester {
         due: Option<Day>,
         issued: Vec<Apdu>,
     ) -> Option<Requester>
-        ensures some { IsSome result ↔ IsRequester (record { txn = txn; state = state; held = held; checked_in = checked_in; due = due; issued = issued.items }) }
-        ensures value { IfSome result (λ r. r ≡ record { txn = txn; state = state; held = held; checked_in = checked_in; due = due; issued = issued.items }) }
+        ensures some { IsSome result ↔ IsRequester (requester_of txn state held checked_in due issued.items) }
+        ensures value { IfSome result (λ r. r ≡ requester_of txn state held checked_in due issued.items) }
     {
         if !are_numbered(&txn, &issued) {
             return None;

@@ -7,7 +7,7 @@ mod rules;
 ghost use Rattle.std.specs.Prelude.{◌≡◌, ◌↔◌, [], None, false, length, IsSome, IfSome, option_map};
 ghost use Rattle.ill_core.specs.declared.state.State.TheVariants as State;
 ghost use Rattle.ill_core.specs.Issued.{message};
-ghost use Rattle.ill_core.specs.Responder.{ResponderRecord, IsResponder, due_of, outstanding};
+ghost use Rattle.ill_core.specs.Responder.{ResponderRecord, responder_of, IsResponder, due_of, outstanding};
 ghost use Rattle.ill_core.specs.ResponderActions.{DeedActs};
 ghost use Rattle.ill_core.specs.ResponderDeliveries.{ResponderTakes};
 
@@ -48,16 +48,16 @@ pub enum Deed {
 impl Model for Responder {
     ghost Value = { ResponderRecord };
 
-    ghost view = { λ r. record { txn = r.issued.txn; state = r.state; accepted = r.accepted; last_cancel = r.last_cancel; last_renew = r.last_renew; received = r.received; request = r.request; issued = r.issued.apdus } };
+    ghost view = { λ r. responder_of r.issued.txn r.state r.accepted r.last_cancel r.last_renew r.received r.request r.issued.apdus };
 
-    ghost invariant = { λ r. IsResponder (record { txn = r.issued.txn; state = r.state; accepted = r.accepted; last_cancel = r.last_cancel; last_renew = r.last_renew; received = r.received; request = r.request; issued = r.issued.apdus }) };
+    ghost invariant = { λ r. IsResponder (responder_of r.issued.txn r.state r.accepted r.last_cancel r.last_renew r.received r.request r.issued.apdus) };
 }
 
 impl Responder {
     /// The responder before its first message.
     #[tactic(auto, unfolding(crate::specs::Issued::are_numbered, crate::specs::Responder::rise_from, crate::specs::Responder::ships_first))]
     pub fn idle(alloc: Global, txn: TxnId) -> Responder
-        ensures { result ≡ record { txn = txn; state = State.Idle; accepted = None; last_cancel = None; last_renew = None; received = false; request = None; issued = [] } }
+        ensures { result ≡ responder_of txn State.Idle None None None false None [] }
     {
         Responder {
             state: State::Idle,
@@ -81,8 +81,8 @@ impl Responder {
         request: Option<Apdu>,
         issued: Vec<Apdu>,
     ) -> Option<Responder>
-        ensures some { IsSome result ↔ IsResponder (record { txn = txn; state = state; accepted = accepted; last_cancel = last_cancel; last_renew = last_renew; received = received; request = request; issued = issued.items }) }
-        ensures value { IfSome result (λ r. r ≡ record { txn = txn; state = state; accepted = accepted; last_cancel = last_cancel; last_renew = last_renew; received = received; request = request; issued = issued.items }) }
+        ensures some { IsSome result ↔ IsResponder (responder_of txn state accepted last_cancel last_renew received request issued.items) }
+        ensures value { IfSome result (λ r. r ≡ responder_of txn state accepted last_cancel last_renew received request issued.items) }
     {
         let present = rules::Present {
             request: request.is_some(),

@@ -2,14 +2,14 @@
 
 ghost use Rattle.std.specs.Prelude.{◌≡◌, true, [], ◌∷◌};
 ghost use Rattle.ill_core.specs.declared.state.State.TheVariants as State;
-ghost use Rattle.ill_core.specs.Issued.{was, is_cancel, is_renew, is_at_most};
+ghost use Rattle.ill_core.specs.Issued.{was, is_cancel, is_renew};
 ghost use Rattle.ill_core.specs.Requester.{later};
 ghost use Rattle.ill_core.specs.RequesterDeliveries.{comes, answer_comes, conditions_come, promise_comes, end_comes, cancel_reply_comes, shipped_comes, overdue_comes, renew_answer_comes, renewal_comes, recall_comes, checked_in_comes};
 ghost use Rattle.ill_core.specs.Dates.{is_due_on};
 ghost use Rattle.ill_core.specs.State.{is_among};
 
 use super::Requester;
-use crate::issued::Sought;
+use crate::issued::{Sought, is_at_most};
 use crate::state::State;
 use crate::taking::Taking;
 use ill_values::{AnswerResult, Body, Day, Number};
@@ -202,16 +202,6 @@ fn checked_in_comes(requester: &mut Requester) -> Taking
             Taking::Taken
         }
         state => Taking::Conflict(state),
-    }
-}
-
-/// Whether there is a number, and this one is at most that.
-fn is_at_most(number: Number, most: Option<Number>) -> bool
-    ensures { result ≡ is_at_most number most }
-{
-    match most {
-        Some(most) => number <= most,
-        None => false,
     }
 }
 

@@ -3,11 +3,12 @@
 ghost use Rattle.std.specs.Prelude.{◌≡◌, true, Ok, [], ◌∷◌};
 ghost use Rattle.ill_core.specs.declared.state.State.TheVariants as states;
 ghost use Rattle.ill_core.specs.State.{is_among};
-ghost use Rattle.ill_core.specs.Issued.{is_same_txn, is_ill_request, was, names_conditions, is_at_most};
+ghost use Rattle.ill_core.specs.Issued.{is_same_txn, is_ill_request, was, names_conditions};
 ghost use Rattle.ill_core.specs.Responder.{responder_later};
 ghost use Rattle.ill_core.specs.ResponderDeliveries.{Comes, takes_memory, message_comes, request_comes, yes_comes, no_comes, cancel_comes, received_comes, renew_comes, returned_comes};
 
 use super::Responder;
+use crate::issued::is_at_most;
 use crate::refusal::Refusal;
 use crate::state::State;
 use crate::taking::Taking;
@@ -147,16 +148,6 @@ fn returned_comes(responder: &mut Responder) -> Taking
         }
         State::Returned | State::CheckedIn => Taking::Repeat,
         state => Taking::Conflict(state),
-    }
-}
-
-/// Whether there is a number, and this one is at most that.
-fn is_at_most(number: Number, most: Option<Number>) -> bool
-    ensures { result ≡ is_at_most number most }
-{
-    match most {
-        Some(most) => number <= most,
-        None => false,
     }
 }
 

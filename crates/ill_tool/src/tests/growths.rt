@@ -3,9 +3,9 @@
 //! each allocation of this test in turn reads the lines.
 
 use super::CANCEL;
-use ill_core::{Refusal, Requester, State, Wish};
+use ill_core::{Deed, Refusal, Requester, Responder, State, Taking, Wish};
 use ill_der::{DerFault, ReadFault, WriteFault, decode, encode, read_apdu, write_apdu};
-use ill_values::{Apdu, Body, Item, Number, TextFault, TxnId};
+use ill_values::{AnswerResult, Apdu, Body, Day, Item, Number, TextFault, TxnId};
 use std::alloc::{AllocError, Global};
 use std::fmt::Debug;
 use std::io::Print;
@@ -37,13 +37,16 @@ fn report<T: Debug + PartialEq, F: Debug + PartialEq>(
 const REQUEST: &[u8] = b"\x61\x16\x80\x01\x01\xA1\x08\x81\x02G1\x82\x02T1\x82\x01\x01\x86\x04Maps";
 
 fn request(alloc: Global) -> Result<Apdu, Fail> {
+    let item = Item::new(alloc, b"Maps")?;
+    apdu(alloc, 1, Body::IllRequest { expiry: None, item })
+}
+
+/// An APDU of transaction G1, T1.
+fn apdu(alloc: Global, number: u8, body: Body) -> Result<Apdu, Fail> {
     Ok(Apdu {
         txn: TxnId::new(alloc, b"G1", b"T1")?,
-        number: Number::new(1).ok_or("1 is a number")?,
-        body: Body::IllRequest {
-            expiry: None,
-            item: Item::new(alloc, b"Maps")?,
-        },
+        number: Number::new(number).ok_or("0 is no number")?,
+        body,
     })
 }
 
@@ -109,5 +112,93 @@ fn requester(rt: HostRuntime) -> Result<(), Fail> {
     };
     assert_eq!(rt; requester.state(), state);
     assert_eq!(rt; requester.issued_count(), count);
+    Ok(())
+}
+
+/// A responder that has taken the request, and has issued these.
+fn responder(alloc: Global, state: State, issued: Vec<Apdu>) -> Result<Responder, Fail> {
+    let txn = TxnId::new(alloc, b"G1", b"T1")?;
+    let request = Some(request(alloc)?);
+    let made = Responder::of_parts(txn, state, None, None, None, false, request, issued);
+    Ok(made.ok_or("a responder")?)
+}
+
+/// Expects that the responder is in this state, and has issued so many messages.
+fn expect_shown(rt: &impl Abort, responder: &Responder, shown: (State, u8)) -> Result<(), Fail> {
+    let (state, count) = shown;
+    assert_eq!(rt; responder.state(), state);
+    assert_eq!(rt; responder.issued_count(), count);
+    Ok(())
+}
+
+#[test]
+fn responder_is_asked(rt: HostRuntime) -> Result<(), Fail> {
+    let alloc = rt.alloc();
+    let mut responder = Responder::idle(alloc, TxnId::new(alloc, b"G1", b"T1")?);
+    let apdu = request(alloc)?;
+
+    let taken = responder.take(alloc, &apdu);
+    report(
+        &rt,
+        "Responder::take(ILL-Request)",
+        &taken,
+        &Taking::Taken,
+        &Refusal::OutOfMemory,
+    )?;
+    let (state, kept) = if taken.is_ok() {
+        (State::InProcess, Some(&apdu))
+    } else {
+        (State::Idle, None)
+    };
+    expect_shown(&rt, &responder, (state, 0))?;
+    assert_eq!(rt; responder.request(), kept);
+    Ok(())
+}
+
+#[test]
+fn responder_acts(rt: HostRuntime) -> Result<(), Fail> {
+    let alloc = rt.alloc();
+    let mut responder = responder(alloc, State::InProcess, Vec::new(alloc))?;
+    let conditions = Deed::Answer(AnswerResult::Conditional);
+
+    let acted = responder.act(alloc, &conditions, Day::read(b"20250301")?);
+    report(&rt, "Responder::act", &acted, &(), &Refusal::OutOfMemory)?;
+    let shown = if acted.is_ok() {
+        (State::Conditional, 1)
+    } else {
+        (State::InProcess, 0)
+    };
+    expect_shown(&rt, &responder, shown)
+}
+
+#[test]
+fn responder_is_declined(rt: HostRuntime) -> Result<(), Fail> {
+    let alloc = rt.alloc();
+    let result = AnswerResult::Conditional;
+    let conditions = apdu(alloc, 1, Body::IllAnswer { result })?;
+    let (answers, yes) = (conditions.number, false);
+    let no = apdu(alloc, 2, Body::ConditionalReply { answers, yes })?;
+    let result = AnswerResult::Unfilled;
+    let unfilled = apdu(alloc, 2, Body::IllAnswer { result })?;
+    // There is no room for a second message.
+    let mut issued = Vec::with_capacity(alloc, 1)?;
+    issued.push(conditions)?;
+    let mut responder = responder(alloc, State::Conditional, issued)?;
+
+    let taken = responder.take(alloc, &no);
+    report(
+        &rt,
+        "Responder::take(Conditional-Reply)",
+        &taken,
+        &Taking::Taken,
+        &Refusal::OutOfMemory,
+    )?;
+    let (shown, last) = if taken.is_ok() {
+        ((State::NotSupplied, 2), Some(&unfilled))
+    } else {
+        ((State::Conditional, 1), None)
+    };
+    expect_shown(&rt, &responder, shown)?;
+    assert_eq!(rt; responder.issued(unfilled.number), last);
     Ok(())
 }

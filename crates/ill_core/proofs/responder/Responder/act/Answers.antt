@@ -1,5 +1,5 @@
 use Rattle.std.proofs.Common.{rules, ◌≡◌, Some, None, sym, subst}
-use Rattle.ill_core.specs.Responder.{ResponderRecord, IsResponder}
+use Rattle.ill_core.specs.Responder.{ResponderRecord, responder_of, IsResponder}
 use Rattle.ill_core.specs.ResponderActions.{deed_leads, date_refusal, body_issued, issues_to}
 use Rattle.ill_core.proofs.ResponderKept.{deed_kept, with_issue}
 use Rattle.ill_core.proofs.responder.Responder.act.Goals as goal
@@ -7,7 +7,7 @@ use Rattle.ill_core.proofs.responder.Responder.act.Goals as goal
 pub invariant_of-self-2 : goal.invariant_of-self-2
 invariant_of-self-2 c =
     let r = c.self.inside in
-    let y : ResponderRecord = record { txn = r.issued.txn; state = r.state; accepted = r.accepted; last_cancel = r.last_cancel; last_renew = r.last_renew; received = r.received; request = r.request; issued = r.issued.apdus } in
+    let y : ResponderRecord = responder_of r.issued.txn r.state r.accepted r.last_cancel r.last_renew r.received r.request r.issued.apdus in
     let leads : deed_leads y c.args.deed.now ≡ Some c.in-Some.next = search rules in
     let allowed : date_refusal y c.args.deed.now c.args.today ≡ None = search rules in
     let body : c.body_of-body.result ≡ body_issued y c.args.deed.now = search rules in

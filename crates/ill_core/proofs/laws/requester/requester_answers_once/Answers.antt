@@ -1,5 +1,5 @@
 use Rattle.ill_core.proofs.RequesterAnswers.{acts_once, takes_once}
-use Rattle.ill_core.proofs.laws.requester_answers_once.Goals as goal
+use Rattle.ill_core.proofs.laws.requester.requester_answers_once.Goals as goal
 
 pub returns-clause-acts : goal.returns-clause-acts
 returns-clause-acts c = acts_once

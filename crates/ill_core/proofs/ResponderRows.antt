@@ -1,0 +1,195 @@
+-- What each row of a responder's two tables changes.
+use Rattle.std.proofs.Common.{rules, ◌≡◌, ◌⊎◌, inl, inr, ℕ, ◌+◌, Bool, true, false, not, ◌&&◌, ◌||◌, List, [], ◌∷◌, Option, Some, None, Result, Ok, Err, if◌then◌else◌, refl, ap, sym, subst}
+use Rattle.std.specs.Option.{unwrap_or}
+use Rattle.std.proofs.lemmas.Bool.{cond_both}
+use Rattle.ill_values.specs.Day.{Date}
+use Rattle.ill_values.specs.TxnId.{Qualifiers}
+use Rattle.ill_values.specs.declared.apdu.Apdu.{Apdu}
+use Rattle.ill_values.specs.declared.apdu.Body.{Body}
+use Rattle.ill_values.specs.declared.apdu.Body.TheVariants as types
+use Rattle.ill_values.specs.declared.apdu.AnswerResult.TheVariants as results
+use Rattle.ill_core.specs.declared.state.State.{State}
+use Rattle.ill_core.specs.declared.state.State.TheVariants.{Idle, InProcess, Conditional, CancelPending, Cancelled, NotSupplied, Shipped, RenewPending, Overdue, RenewOverdue, Recall, Returned, CheckedIn}
+use Rattle.ill_core.specs.declared.refusal.Refusal.{Refusal}
+use Rattle.ill_core.specs.declared.responder.Deed.{Deed}
+use Rattle.ill_core.specs.declared.responder.Deed.TheVariants as deeds
+use Rattle.ill_core.specs.declared.taking.Taking.{Taking}
+use Rattle.ill_core.specs.declared.taking.Taking.TheVariants.{Taken}
+use Rattle.ill_core.specs.State.{is_among}
+use Rattle.ill_core.specs.Issued.{refused_before, next_number, is_requesters, is_the, is_at_most, was, names_conditions, declines, is_shipped}
+use Rattle.ill_core.specs.Responder.{ResponderRecord, responder_of, responder_later, outstanding}
+use Rattle.ill_core.specs.ResponderActions.{deed_leads, deed_acts, deed_acts_to, date_refusal, body_issued, issues_to}
+use Rattle.ill_core.specs.ResponderDeliveries.{responder_takes, message_comes, unless_refused, answers_no}
+use Rattle.ill_core.specs.ResponderFacts.{TellsResponder, Requested, Accepted, CancelAsked, Arrived, SentBack, Question, KeepsLast, TakesNew, answered, last_asked, waits, is_unsupplied, is_cancelled, is_end, ended, ends_in}
+
+-- a row that issues this, and leads to this state
+pub record Issues (y : ResponderRecord) (body : Body) (state : State) : Type 0 where
+  pub begun : is_among (Idle ∷ []) y.state ≡ false
+  pub final : is_among (NotSupplied ∷ Cancelled ∷ CheckedIn ∷ []) y.state ≡ false
+  pub unsupplied : (is_among (NotSupplied ∷ []) y.state || is_unsupplied body) ≡ is_among (NotSupplied ∷ []) state
+  pub cancelled : (is_among (Cancelled ∷ []) y.state || is_cancelled body) ≡ is_among (Cancelled ∷ []) state
+  pub shipped : (is_among responder_later y.state || is_shipped body) ≡ is_among responder_later state
+  pub once : (if is_among ended y.state then 1 else 0) + (if is_end body then 1 else 0) ≡ (if is_among ended state then 1 else 0)
+  pub ends : is_end body ≡ true → (is_among (InProcess ∷ Conditional ∷ CancelPending ∷ []) y.state ≡ true) × (ends_in body state ≡ true)
+  pub enters : is_among ended state ≡ true → (is_among ended y.state ≡ true) ⊎ (ends_in body state ≡ true)
+  pub sent_back : is_among (Returned ∷ CheckedIn ∷ []) state ≡ is_among (Returned ∷ CheckedIn ∷ []) y.state
+  pub asked : (question : Question) → waits question state ≡ true → waits question y.state ≡ true
+  pub answers : (question : Question) (n : ℕ) → answered question body ≡ Some n
+      → (waits question y.state ≡ true) × (waits question state ≡ false) × (n ≡ unwrap_or (last_asked question y) 0)
+
+-- a row that issues nothing
+pub record Moves (y : ResponderRecord) (number : ℕ) (body : Body) (new : ResponderRecord) : Type 0 where
+  pub issued : new.issued ≡ y.issued
+  pub final : is_among (NotSupplied ∷ Cancelled ∷ CheckedIn ∷ []) y.state ≡ true → new.state ≡ y.state
+  pub unsupplied : is_among (NotSupplied ∷ []) y.state ≡ is_among (NotSupplied ∷ []) new.state
+  pub cancelled : is_among (Cancelled ∷ []) y.state ≡ is_among (Cancelled ∷ []) new.state
+  pub shipped : is_among responder_later y.state ≡ is_among responder_later new.state
+  pub ended : is_among ended y.state ≡ is_among ended new.state
+  pub returned : is_among (Returned ∷ []) y.state ≡ true → new.state ≡ y.state
+  pub asked : (question : Question) → KeepsLast question y new ⊎ TakesNew question number body y new
+  pub requested : is_among (Idle ∷ []) new.state ≡ false → (is_among (Idle ∷ []) y.state ≡ false) ⊎ TellsResponder number body Requested
+  pub accepted : (c : ℕ) → new.accepted ≡ Some c → (y.accepted ≡ Some c) ⊎ TellsResponder number body (Accepted c)
+  pub cancel_asked : (c : ℕ) → new.last_cancel ≡ Some c → (y.last_cancel ≡ Some c) ⊎ TellsResponder number body (CancelAsked c)
+  pub arrived : new.received ≡ true → (y.received ≡ true) ⊎ TellsResponder number body Arrived
+  pub sent_back : is_among (Returned ∷ CheckedIn ∷ []) new.state ≡ true → (is_among (Returned ∷ CheckedIn ∷ []) y.state ≡ true) ⊎ TellsResponder number body SentBack
+
+issues : (txn : Qualifiers) (state : State) (accepted last_cancel last_renew : Option ℕ) (received : Bool) (request : Option Apdu) (issued : List Apdu) (deed : Deed) (next : State)
+    → deed_leads (responder_of txn state accepted last_cancel last_renew received request issued) deed ≡ Some next
+    → Issues (responder_of txn state accepted last_cancel last_renew received request issued) (body_issued (responder_of txn state accepted last_cancel last_renew received request issued) deed) next
+issues txn InProcess accepted last_cancel last_renew received request issued (deeds.Answer results.Conditional) Conditional leads = search rules
+issues txn state accepted last_cancel last_renew received request issued deed next leads = search rules
+
+-- a no is answered
+issues_no : (txn : Qualifiers) (state : State) (accepted last_cancel last_renew : Option ℕ) (received : Bool) (request : Option Apdu) (issued : List Apdu)
+    → is_among (InProcess ∷ Conditional ∷ []) state ≡ true
+    → Issues (responder_of txn state accepted last_cancel last_renew received request issued) (types.IllAnswer results.Unfilled) NotSupplied
+issues_no txn InProcess accepted last_cancel last_renew received request issued waiting = search rules
+issues_no txn state accepted last_cancel last_renew received request issued waiting = search rules
+
+left : (y : ResponderRecord) (number : ℕ) (body : Body) → Moves y number body y
+left y number body = search rules
+
+requested : (txn : Qualifiers) (state : State) (accepted last_cancel last_renew : Option ℕ) (received : Bool) (request kept : Option Apdu) (issued : List Apdu) (number : ℕ) (expiry : Option Date) (item : List ℕ)
+    → is_among (Idle ∷ []) state ≡ true
+    → Moves (responder_of txn state accepted last_cancel last_renew received request issued) number (types.IllRequest expiry item) (responder_of txn InProcess accepted last_cancel last_renew received kept issued)
+requested txn Idle accepted last_cancel last_renew received request kept issued number expiry item idle = search rules
+requested txn state accepted last_cancel last_renew received request kept issued number expiry item idle = search rules
+
+accepts : (txn : Qualifiers) (state : State) (accepted last_cancel last_renew : Option ℕ) (received : Bool) (request : Option Apdu) (issued : List Apdu) (number c : ℕ)
+    → is_the c (outstanding (responder_of txn state accepted last_cancel last_renew received request issued)) ≡ true
+    → Moves (responder_of txn state accepted last_cancel last_renew received request issued) number (types.ConditionalReply c true) (responder_of txn InProcess (Some c) last_cancel last_renew received request issued)
+accepts txn Conditional accepted last_cancel last_renew received request issued number c there = search rules
+accepts txn state accepted last_cancel last_renew received request issued number c there = search rules
+
+cancel_asked : (txn : Qualifiers) (state : State) (accepted last_cancel last_renew : Option ℕ) (received : Bool) (request : Option Apdu) (issued : List Apdu) (number : ℕ)
+    → is_at_most number last_cancel ≡ false → is_among (InProcess ∷ Conditional ∷ []) state ≡ true
+    → Moves (responder_of txn state accepted last_cancel last_renew received request issued) number types.Cancel (responder_of txn CancelPending accepted (Some number) last_renew received request issued)
+cancel_asked txn InProcess accepted last_cancel last_renew received request issued number above waiting = search rules
+cancel_asked txn state accepted last_cancel last_renew received request issued number above waiting = search rules
+
+arrived : (y : ResponderRecord) (number : ℕ) → Moves y number types.Received (record y { received = true })
+arrived y number = search rules
+
+renew_asked : (txn : Qualifiers) (state next : State) (accepted last_cancel last_renew : Option ℕ) (received : Bool) (request : Option Apdu) (issued : List Apdu) (number : ℕ) (wished : Option Date)
+    → is_at_most number last_renew ≡ false → is_among (Shipped ∷ Overdue ∷ []) state ≡ true → is_among (RenewPending ∷ RenewOverdue ∷ []) next ≡ true
+    → Moves (responder_of txn state accepted last_cancel last_renew received request issued) number (types.Renew wished) (responder_of txn next accepted last_cancel (Some number) received request issued)
+renew_asked txn Shipped RenewPending accepted last_cancel last_renew received request issued number wished above here there = search rules
+renew_asked txn state next accepted last_cancel last_renew received request issued number wished above here there = search rules
+
+sent_back : (txn : Qualifiers) (state : State) (accepted last_cancel last_renew : Option ℕ) (received : Bool) (request : Option Apdu) (issued : List Apdu) (number : ℕ)
+    → is_among (Shipped ∷ RenewPending ∷ Overdue ∷ RenewOverdue ∷ Recall ∷ []) state ≡ true
+    → Moves (responder_of txn state accepted last_cancel last_renew received request issued) number types.Returned (responder_of txn Returned accepted last_cancel last_renew received request issued)
+sent_back txn Shipped accepted last_cancel last_renew received request issued number out = search rules
+sent_back txn state accepted last_cancel last_renew received request issued number out = search rules
+
+-- a row of deliveries: it moves or leaves the record, or answers a no
+data Row (y : ResponderRecord) (number : ℕ) (body : Body) (answer : Result Taking Refusal × ResponderRecord) : Type 0 where
+  moves : (answer.0 ≡ Ok Taken) ⊎ (answer.1 ≡ y) → Moves y number body answer.1 → Row y number body answer
+  answers : declines body ≡ true → answer ≡ (Ok Taken, issues_to y (types.IllAnswer results.Unfilled) NotSupplied)
+      → Issues y (types.IllAnswer results.Unfilled) NotSupplied → Row y number body answer
+
+leaves : (y : ResponderRecord) (number : ℕ) (body : Body) (answer : Result Taking Refusal) → Row y number body (answer, y)
+leaves y number body answer = moves (inr refl) (left y number body)
+
+-- the first line that fits decides
+line : (y : ResponderRecord) (number : ℕ) (body : Body) (fits : Bool) (here others : Result Taking Refusal × ResponderRecord)
+    → (fits ≡ true → Row y number body here) → (fits ≡ false → Row y number body others) → Row y number body (if fits then here else others)
+line y number body fits here others = cond_both fits here others (Row y number body)
+
+answers_row : (y : ResponderRecord) (number c : ℕ) (next : Result ℕ Refusal) → is_among (InProcess ∷ Conditional ∷ []) y.state ≡ true
+    → Row y number (types.ConditionalReply c false) (answers_no y next)
+answers_row y number c (Ok n) waiting =
+    answers refl refl (issues_no y.txn y.state y.accepted y.last_cancel y.last_renew y.received y.request y.issued waiting)
+answers_row y number c (Err refusal) waiting = leaves y number _ _
+
+comes : (y : ResponderRecord) (a : Apdu) (body : Body) → Row y a.number body (message_comes y a body)
+comes y a (types.IllRequest expiry item) =
+    line y _ _ (is_among (Idle ∷ []) y.state) _ _ (λ idle. moves (inl refl) (requested y.txn y.state y.accepted y.last_cancel y.last_renew y.received y.request (Some a) y.issued a.number expiry item idle)) (λ _.
+    leaves y _ _ _)
+comes y a (types.ConditionalReply c true) =
+    line y _ _ (is_the c (outstanding y)) _ _ (λ there. moves (inl refl) (accepts y.txn y.state y.accepted y.last_cancel y.last_renew y.received y.request y.issued a.number c there)) (λ _.
+    line y _ _ (is_the c y.accepted) _ _ (λ _. leaves y _ _ _) (λ _.
+    line y _ _ (was names_conditions y.issued c) _ _ (λ _. leaves y _ _ _) (λ _. leaves y _ _ _)))
+comes y a (types.ConditionalReply c false) =
+    line y _ _ (is_among (InProcess ∷ Conditional ∷ []) y.state) _ _ (answers_row y a.number c (next_number y.issued)) (λ _.
+    line y _ _ (is_among (NotSupplied ∷ []) y.state) _ _ (λ _. leaves y _ _ _) (λ _. leaves y _ _ _))
+comes y a types.Cancel =
+    line y _ _ (is_at_most a.number y.last_cancel) _ _ (λ _. leaves y _ _ _) (λ above.
+    line y _ _ (is_among (InProcess ∷ Conditional ∷ []) y.state) _ _ (λ waiting. moves (inl refl) (cancel_asked y.txn y.state y.accepted y.last_cancel y.last_renew y.received y.request y.issued a.number above waiting)) (λ _.
+    leaves y _ _ _))
+comes y a types.Received =
+    line y _ _ (is_among responder_later y.state && not y.received) _ _ (λ _. moves (inl refl) (arrived y a.number)) (λ _.
+    line y _ _ (is_among responder_later y.state) _ _ (λ _. leaves y _ _ _) (λ _. leaves y _ _ _))
+comes y a (types.Renew wished) =
+    line y _ _ (is_at_most a.number y.last_renew) _ _ (λ _. leaves y _ _ _) (λ above.
+    line y _ _ (is_among (Shipped ∷ []) y.state) _ _ (λ here. moves (inl refl) (renew_asked y.txn y.state RenewPending y.accepted y.last_cancel y.last_renew y.received y.request y.issued a.number wished above (search (rules, here)) refl)) (λ _.
+    line y _ _ (is_among (Overdue ∷ []) y.state) _ _ (λ here. moves (inl refl) (renew_asked y.txn y.state RenewOverdue y.accepted y.last_cancel y.last_renew y.received y.request y.issued a.number wished above (search (rules, here)) refl)) (λ _.
+    leaves y _ _ _)))
+comes y a types.Returned =
+    line y _ _ (is_among (Shipped ∷ RenewPending ∷ Overdue ∷ RenewOverdue ∷ Recall ∷ []) y.state) _ _ (λ out. moves (inl refl) (sent_back y.txn y.state y.accepted y.last_cancel y.last_renew y.received y.request y.issued a.number out)) (λ _.
+    line y _ _ (is_among (Returned ∷ CheckedIn ∷ []) y.state) _ _ (λ _. leaves y _ _ _) (λ _. leaves y _ _ _))
+comes y a other = leaves y a.number _ _
+
+by_admission : (y : ResponderRecord) (number : ℕ) (body : Body) (refused : Option Refusal) (answer : Result Taking Refusal × ResponderRecord)
+    → Row y number body answer → Row y number body (unless_refused refused y answer)
+by_admission y number body None answer row = row
+by_admission y number body (Some refusal) answer row = leaves y number body (Err refusal)
+
+takes : (y : ResponderRecord) (a : Apdu) → Row y a.number a.body (responder_takes y a)
+takes y a = by_admission y a.number a.body (refused_before y.txn (not (is_requesters a.body)) a) (message_comes y a a.body) (comes y a a.body)
+
+of_row : (P : ResponderRecord → Type 0) (y : ResponderRecord) (number : ℕ) (body : Body) (answer : Result Taking Refusal × ResponderRecord) → Row y number body answer
+    → (Moves y number body answer.1 → P answer.1)
+    → (declines body ≡ true → Issues y (types.IllAnswer results.Unfilled) NotSupplied → P (issues_to y (types.IllAnswer results.Unfilled) NotSupplied)) → P answer.1
+of_row P y number body answer (moves quiet how) where_moved where_answered = where_moved how
+of_row P y number body answer (answers said same how) where_moved where_answered = subst (λ r. P r.1) (sym same) (where_answered said how)
+
+-- What holds where a message moves the record, and where it is answered, holds after every message.
+pub of_takes : (P : ResponderRecord → Type 0) (y : ResponderRecord) (a : Apdu)
+    → (Moves y a.number a.body (responder_takes y a).1 → P (responder_takes y a).1)
+    → (declines a.body ≡ true → Issues y (types.IllAnswer results.Unfilled) NotSupplied → P (issues_to y (types.IllAnswer results.Unfilled) NotSupplied)) → P (responder_takes y a).1
+of_takes P y a = of_row P y a.number a.body (responder_takes y a) (takes y a)
+
+row_quiet : (y : ResponderRecord) (number : ℕ) (body : Body) (answer : Result Taking Refusal × ResponderRecord) → Row y number body answer → (answer.0 ≡ Ok Taken) ⊎ (answer.1 ≡ y)
+row_quiet y number body answer (moves quiet how) = quiet
+row_quiet y number body answer (answers said same how) = inl (ap (λ r. r.0) same)
+
+pub takes_quiet : (y : ResponderRecord) (a : Apdu) → ((responder_takes y a).0 ≡ Ok Taken) ⊎ ((responder_takes y a).1 ≡ y)
+takes_quiet y a = row_quiet y a.number a.body (responder_takes y a) (takes y a)
+
+ok_is : (x y : ResponderRecord) → ◌≡◌ {A = Result ResponderRecord Refusal} (Ok x) (Ok y) → x ≡ y
+ok_is x y h = search rules
+
+done_by : (P : ResponderRecord → Type 0) (y new : ResponderRecord) (deed : Deed) (state : Option State) (dates : Option Refusal) (number : Result ℕ Refusal)
+    → ((next : State) → state ≡ Some next → P (issues_to y (body_issued y deed) next)) → deed_acts_to y deed state dates number ≡ Ok new → P new
+done_by P y new deed None dates number leads done = search rules
+done_by P y new deed (Some next) (Some refusal) number leads done = search rules
+done_by P y new deed (Some next) None (Err refusal) leads done = search rules
+done_by P y new deed (Some next) None (Ok n) leads done = subst P (ok_is (issues_to y (body_issued y deed) next) new done) (leads next refl)
+
+-- What holds wherever an APDU is issued holds after a deed.
+pub of_deeds : (P : ResponderRecord → Type 0) (y new : ResponderRecord) (deed : Deed) (today : Date)
+    → ((body : Body) (next : State) → Issues y body next → P (issues_to y body next)) → deed_acts y deed today ≡ Ok new → P new
+of_deeds P y new deed today leads done =
+    done_by P y new deed (deed_leads y deed) (date_refusal y deed today) (next_number y.issued) (λ next leads_there.
+    leads (body_issued y deed) next (issues y.txn y.state y.accepted y.last_cancel y.last_renew y.received y.request y.issued deed next leads_there)) done

@@ -1,0 +1,157 @@
+-- What a responder's record shows to have come, which APDU of a requester tells it, and what its rows keep (this
+-- profile's own).
+use Rattle.std.specs.Prelude.{◌≡◌, ◌⊎◌, ℕ, Bool, true, false, ◌&&◌, ◌||◌, ◌==◌, List, [], ◌∷◌, ◌++◌, Option, Some, None, Result, Ok, if◌then◌else◌}
+use Rattle.std.specs.List.{list_all, filter_map, count_by}
+use Rattle.std.specs.Option.{unwrap_or}
+use Rattle.ill_values.specs.declared.apdu.Apdu.{Apdu}
+use Rattle.ill_values.specs.declared.apdu.Body.{Body}
+use Rattle.ill_values.specs.declared.apdu.Body.TheVariants as types
+use Rattle.ill_values.specs.declared.apdu.AnswerResult.TheVariants.{Unfilled}
+use Rattle.ill_core.specs.declared.state.State.{State}
+use Rattle.ill_core.specs.declared.state.State.TheVariants.{Idle, InProcess, Conditional, CancelPending, Cancelled, NotSupplied, RenewPending, RenewOverdue, Returned, CheckedIn}
+use Rattle.ill_core.specs.declared.refusal.Refusal.{Refusal}
+use Rattle.ill_core.specs.declared.taking.Taking.{Taking}
+use Rattle.ill_core.specs.declared.taking.Taking.TheVariants.{Taken, Repeat}
+use Rattle.ill_core.specs.State.{is_among}
+use Rattle.ill_core.specs.Issued.{has, with_next, is_at_most, is_below, are_distinct, is_final, is_shipped, is_cancel, is_renew, declines}
+use Rattle.ill_core.specs.Responder.{ResponderRecord, responder_later}
+
+-- what a message of the requester may tell
+pub data ResponderFact : Type 0 where
+  Requested : ResponderFact  -- the item was asked for
+  Accepted : (conditions : ℕ) → ResponderFact  -- the conditions with that number were accepted
+  CancelAsked : (cancel : ℕ) → ResponderFact  -- there is a Cancel with that number
+  Arrived : ResponderFact  -- the requester has the item
+  SentBack : ResponderFact  -- the requester has sent the item back
+
+-- a Cancel-Reply yes to the Cancel with this number
+abbrev pub cancels : ℕ → Body → Bool
+cancels n (types.CancelReply c true) = c == n
+cancels n other = false
+
+abbrev pub ResponderShows : ResponderRecord → ResponderFact → Type 0
+ResponderShows y Requested = is_among (Idle ∷ []) y.state ≡ false
+ResponderShows y (Accepted conditions) = y.accepted ≡ Some conditions
+ResponderShows y (CancelAsked cancel) = (y.last_cancel ≡ Some cancel) ⊎ (has (cancels cancel) y.issued ≡ true)
+ResponderShows y Arrived = y.received ≡ true
+ResponderShows y SentBack = is_among (Returned ∷ CheckedIn ∷ []) y.state ≡ true
+
+-- what an APDU with this number tells
+abbrev pub TellsResponder : ℕ → Body → ResponderFact → Type 0
+TellsResponder number (types.IllRequest expiry item) Requested = Unit {0}
+TellsResponder number (types.ConditionalReply c true) (Accepted conditions) = c ≡ conditions
+TellsResponder number types.Cancel (CancelAsked cancel) = number ≡ cancel
+TellsResponder number types.Received Arrived = Unit {0}
+TellsResponder number types.Returned SentBack = Unit {0}
+TellsResponder number other fact = ⊥
+
+-- An APDU issues one ILL-Answer unfilled, where it is a Conditional-Reply no, or none.
+abbrev pub IssuesUnfilled : ResponderRecord → Body → ResponderRecord → Type 0
+IssuesUnfilled y body new =
+    (new.issued ≡ y.issued) ⊎ ((declines body ≡ true) × (new.issued ≡ with_next y.txn y.issued (types.IllAnswer Unfilled)))
+
+-- SHIPPED or later stays so, and RETURNED stays or is left for CHECKED-IN.
+abbrev pub StaysLater : ResponderRecord → ResponderRecord → Type 0
+StaysLater y new =
+    (is_among responder_later y.state ≡ true → is_among responder_later new.state ≡ true)
+    × (is_among (Returned ∷ []) y.state ≡ true → is_among (Returned ∷ CheckedIn ∷ []) new.state ≡ true)
+
+-- The ends of a request: the item is not supplied, the request is cancelled, or the item is shipped.
+abbrev pub is_unsupplied : Body → Bool
+is_unsupplied (types.IllAnswer answer) = is_final answer
+is_unsupplied types.Expired = true
+is_unsupplied other = false
+
+abbrev pub is_cancelled : Body → Bool
+is_cancelled (types.CancelReply c true) = true
+is_cancelled other = false
+
+abbrev pub is_end : Body → Bool
+is_end body = is_unsupplied body || (is_cancelled body || is_shipped body)
+
+-- the states in which an end was issued
+abbrev pub ended : List State
+ended = NotSupplied ∷ Cancelled ∷ responder_later
+
+-- the state is one that an end leads to
+abbrev pub ends_in : Body → State → Bool
+ends_in body state =
+    (is_unsupplied body && is_among (NotSupplied ∷ []) state)
+    || ((is_cancelled body && is_among (Cancelled ∷ []) state) || (is_shipped body && is_among responder_later state))
+
+-- An end is issued only while the request is open, and leads to its state.
+abbrev pub Ends : ResponderRecord → ResponderRecord → Type 0
+Ends y new =
+    (a : Apdu) → new.issued ≡ y.issued ++ a ∷ [] → is_end a.body ≡ true
+    → (is_among (InProcess ∷ Conditional ∷ CancelPending ∷ []) y.state ≡ true) × (ends_in a.body new.state ≡ true)
+
+-- The state of an end is entered only by issuing that end.
+abbrev pub EntersByEnd : ResponderRecord → ResponderRecord → Type 0
+EntersByEnd y new =
+    is_among ended new.state ≡ true
+    → (is_among ended y.state ≡ true) ⊎ ((a : Apdu) × (new.issued ≡ y.issued ++ a ∷ []) × (ends_in a.body new.state ≡ true))
+
+-- A request ends once, and its state says how.
+pub record EndsOnce (y : ResponderRecord) : Type 0 where
+  pub unsupplied : has is_unsupplied y.issued ≡ is_among (NotSupplied ∷ []) y.state
+  pub cancelled : has is_cancelled y.issued ≡ is_among (Cancelled ∷ []) y.state
+  pub shipped : has is_shipped y.issued ≡ is_among responder_later y.state
+  pub once : count_by (λ a. is_end a.body) y.issued ≡ (if is_among ended y.state then 1 else 0)
+
+-- what a requester asks, and a responder answers yes or no
+pub data Question : Type 0 where
+  MayCancel : Question
+  MayRenew : Question
+
+abbrev pub asks : Question → Body → Bool
+asks MayCancel body = is_cancel body
+asks MayRenew body = is_renew body
+
+-- the number of the question that an APDU answers
+abbrev pub answered : Question → Body → Option ℕ
+answered MayCancel (types.CancelReply c accepts) = Some c
+answered MayRenew (types.RenewAnswer c granted) = Some c
+answered question other = None
+
+-- the number of the last such question taken
+abbrev pub last_asked : Question → ResponderRecord → Option ℕ
+last_asked MayCancel y = y.last_cancel
+last_asked MayRenew y = y.last_renew
+
+-- the question waits for its answer
+abbrev pub waits : Question → State → Bool
+waits MayCancel state = is_among (CancelPending ∷ []) state
+waits MayRenew state = is_among (RenewPending ∷ RenewOverdue ∷ []) state
+
+-- A question is answered only while it waits, and then no more; the answer names the last one taken.
+abbrev pub AnswersLast : Question → ResponderRecord → ResponderRecord → Type 0
+AnswersLast question y new =
+    (a : Apdu) (n : ℕ) → new.issued ≡ y.issued ++ a ∷ [] → answered question a.body ≡ Some n
+    → (waits question y.state ≡ true) × (waits question new.state ≡ false) × (n ≡ unwrap_or (last_asked question y) 0)
+
+-- The last question is the same, and no question waits that did not.
+abbrev pub KeepsLast : Question → ResponderRecord → ResponderRecord → Type 0
+KeepsLast question y new =
+    (last_asked question new ≡ last_asked question y) × (waits question new.state ≡ true → waits question y.state ≡ true)
+
+-- A question with a number above the last one's is the last one now.
+abbrev pub TakesNew : Question → ℕ → Body → ResponderRecord → ResponderRecord → Type 0
+TakesNew question number body y new =
+    (asks question body ≡ true) × (is_at_most number (last_asked question y) ≡ false) × (last_asked question new ≡ Some number)
+
+-- the numbers of the questions that were answered, in the order of the answers
+abbrev pub answers_to : Question → List Apdu → List ℕ
+answers_to question apdus = filter_map (λ a. answered question a.body) apdus
+
+-- No question is answered twice. Those answered are at most the last one, and below it while it waits.
+pub record EachAnsweredOnce (answers : List ℕ) (last : Option ℕ) (is_waiting : Bool) : Type 0 where
+  pub distinct : are_distinct answers ≡ true
+  pub most : list_all (λ n. is_at_most n last) answers ≡ true
+  pub below : is_waiting ≡ true → list_all (λ n. is_below n last) answers ≡ true
+
+abbrev pub AnswersEachOnce : Question → ResponderRecord → Type 0
+AnswersEachOnce question y = EachAnsweredOnce (answers_to question y.issued) (last_asked question y) (waits question y.state)
+
+-- taken or a repeat, and the record after it is in one of these states
+abbrev pub ResponderLeadsTo : List State → Result Taking Refusal × ResponderRecord → Type 0
+ResponderLeadsTo states answer = ((answer.0 ≡ Ok Taken) ⊎ (answer.0 ≡ Ok Repeat)) × (is_among states answer.1.state ≡ true)

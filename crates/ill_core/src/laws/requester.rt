@@ -1,0 +1,97 @@
+//! The requester's rows.
+
+ghost use Rattle.std.specs.Prelude.{◌≡◌, ◌⊎◌, ◌+◌, ◌&&◌, ℕ, List, [], ◌∷◌, ◌++◌, length, Option, Some, is_some, true, false, Ok};
+ghost use Rattle.ill_values.specs.Day.{Date};
+ghost use Rattle.ill_values.specs.declared.apdu.Apdu.{Apdu};
+ghost use Rattle.ill_values.specs.declared.apdu.Body.{Body};
+ghost use Rattle.ill_values.specs.declared.apdu.Body.TheVariants as types;
+ghost use Rattle.ill_core.specs.declared.requester.Wish.{Wish};
+ghost use Rattle.ill_core.specs.declared.state.State.TheVariants as states;
+ghost use Rattle.ill_core.specs.declared.taking.Taking.TheVariants.{Taken};
+ghost use Rattle.ill_core.specs.State.{is_among};
+ghost use Rattle.ill_core.specs.Issued.{is_the, IssuesNext};
+ghost use Rattle.ill_core.specs.Requester.{RequesterRecord, later, last_cancel};
+ghost use Rattle.ill_core.specs.RequesterActions.{acts};
+ghost use Rattle.ill_core.specs.RequesterDeliveries.{comes, takes};
+ghost use Rattle.ill_core.specs.RequesterFacts.{RequesterFact, Shows, Tells, KeepsDue, Holds, Replies, LeadsTo, AnswersOnce};
+ghost use Rattle.ill_core.specs.RequesterFacts as facts;
+
+/// A wish issues exactly one APDU, with the next number, and a message none.
+#[tactic(auto, using(crate::proofs::RequesterLaws::takes_issues))]
+pub fn requester_issues()
+    ensures acts { (x new : RequesterRecord) (wish : Wish) → acts x wish ≡ Ok new → IssuesNext x.txn x.issued new.issued }
+    ensures takes { (x : RequesterRecord) (a : Apdu) → (takes x a).1.issued ≡ x.issued }
+{}
+
+/// A message that is not taken changes nothing.
+#[tactic(auto, using(crate::proofs::RequesterLaws::takes_quiet))]
+pub fn requester_is_quiet()
+    ensures { (x : RequesterRecord) (a : Apdu) → ((takes x a).0 ≡ Ok Taken) ⊎ ((takes x a).1 ≡ x) }
+{}
+
+/// CANCELLED, NOT-SUPPLIED and RETURNED are final.
+#[tactic(auto, using(crate::proofs::RequesterLaws::takes_final))]
+pub fn requester_is_final()
+    ensures acts { (x new : RequesterRecord) (wish : Wish) → acts x wish ≡ Ok new →
+        is_among (states.Cancelled ∷ states.NotSupplied ∷ states.Returned ∷ []) x.state ≡ true → new.state ≡ x.state }
+    ensures takes { (x : RequesterRecord) (a : Apdu) →
+        is_among (states.Cancelled ∷ states.NotSupplied ∷ states.Returned ∷ []) x.state ≡ true → (takes x a).1.state ≡ x.state }
+{}
+
+/// A requester in SHIPPED or later stays there.
+#[tactic(auto, using(crate::proofs::RequesterLaws::takes_later))]
+pub fn requester_stays_later()
+    ensures acts { (x new : RequesterRecord) (wish : Wish) → acts x wish ≡ Ok new →
+        is_among later x.state ≡ true → is_among later new.state ≡ true }
+    ensures takes { (x : RequesterRecord) (a : Apdu) →
+        is_among later x.state ≡ true → is_among later (takes x a).1.state ≡ true }
+{}
+
+/// A due date is kept or raised, where it is there exactly in SHIPPED or later.
+#[tactic(auto, using(crate::proofs::RequesterLaws::takes_due))]
+pub fn requester_keeps_due()
+    ensures acts { (x new : RequesterRecord) (wish : Wish) → acts x wish ≡ Ok new → new.due ≡ x.due }
+    ensures takes { (x : RequesterRecord) (a : Apdu) →
+        is_some x.due ≡ is_among later x.state → KeepsDue x.due (takes x a).1.due }
+{}
+
+/// What a record shows to have come was shown before, or is told by the message that it took.
+#[tactic(auto, using(crate::proofs::RequesterLaws::takes_shows, crate::proofs::RequesterLaws::acts_shows))]
+pub fn requester_shows()
+    ensures acts { (x new : RequesterRecord) (wish : Wish) (fact : RequesterFact) → acts x wish ≡ Ok new →
+        Shows new fact → Shows x fact }
+    ensures takes { (x : RequesterRecord) (a : Apdu) (fact : RequesterFact) →
+        Shows (takes x a).1 fact → Shows x fact ⊎ Tells a.body fact }
+{}
+
+/// A Conditional-Reply is issued only in CONDITIONAL, to the conditions held, which were not declined.
+#[tactic(auto, using(crate::proofs::RequesterAnswers::acts_reply))]
+pub fn requester_replies()
+    ensures { (x new : RequesterRecord) (wish : Wish) → acts x wish ≡ Ok new → Replies x new }
+{}
+
+/// Conditions are held as they were, or no more, or are new ones in PENDING, above those accepted.
+#[tactic(auto, using(crate::proofs::RequesterLaws::takes_holds))]
+pub fn requester_holds()
+    ensures { (x : RequesterRecord) (a : Apdu) → Holds x a.number (takes x a).1 }
+{}
+
+/// Conditions are answered once, where they are held exactly in CONDITIONAL.
+pub fn requester_answers_once()
+    ensures acts { (x new : RequesterRecord) (wish : Wish) → acts x wish ≡ Ok new →
+        is_some x.held ≡ is_among (states.Conditional ∷ []) x.state → AnswersOnce x → AnswersOnce new }
+    ensures takes { (x : RequesterRecord) (a : Apdu) → AnswersOnce x → AnswersOnce (takes x a).1 }
+{}
+
+/// Where the loan can still end so, Shipped leads to SHIPPED or later, the end of the request to
+/// NOT-SUPPLIED, and the yes to the last Cancel to CANCELLED.
+pub fn requester_follows()
+    ensures shipped { (x : RequesterRecord) (k : ℕ) (due : Date) →
+        is_among (states.Pending ∷ states.Conditional ∷ states.CancelPending ∷ later) x.state ≡ true → LeadsTo later (comes x k (types.Shipped due)) }
+    ensures ended { (x : RequesterRecord) (k : ℕ) (body : Body) → Tells body facts.Ended →
+        is_among (states.Pending ∷ states.Conditional ∷ states.CancelPending ∷ states.NotSupplied ∷ []) x.state ≡ true →
+        LeadsTo (states.NotSupplied ∷ []) (comes x k body) }
+    ensures cancelled { (x : RequesterRecord) (k c : ℕ) → is_the c (last_cancel x) ≡ true →
+        is_among (states.CancelPending ∷ states.Cancelled ∷ []) x.state ≡ true →
+        LeadsTo (states.Cancelled ∷ []) (comes x k (types.CancelReply c true)) }
+{}

@@ -5,22 +5,22 @@ use Rattle.ill_der.specs.declared.fault.DerFault.TheVariants.{Short, Tag, Length
 use Rattle.ill_der.specs.Format.{◌>>=◌}
 
 -- the value of a step
-pub bind_ok : {A B : Type 0} (r : Result A DerFault) (f : A → Result B DerFault) (y : B) → (r >>= f) ≡ Ok y → (x : A) × (r ≡ Ok x) × (f x ≡ Ok y)
+pub bind_ok : {E A B : Type 0} (r : Result A E) (f : A → Result B E) (y : B) → (r >>= f) ≡ Ok y → (x : A) × (r ≡ Ok x) × (f x ≡ Ok y)
 bind_ok (Ok x) f y e = (x, refl, e)
 bind_ok (Err d) f y e = absurd cc
 
 -- where the fault comes from
-pub bind_err : {A B : Type 0} (r : Result A DerFault) (f : A → Result B DerFault) (d : DerFault) → (r >>= f) ≡ Err d → (r ≡ Err d) ⊎ ((x : A) × (r ≡ Ok x) × (f x ≡ Err d))
+pub bind_err : {E A B : Type 0} (r : Result A E) (f : A → Result B E) (d : E) → (r >>= f) ≡ Err d → (r ≡ Err d) ⊎ ((x : A) × (r ≡ Ok x) × (f x ≡ Err d))
 bind_err (Ok x) f d e = inr (x, refl, e)
 bind_err (Err c) f d e = inl cc
 
 -- a test that passed
-pub passed : {A : Type 0} (b : Bool) (r : Result A DerFault) (d : DerFault) (x : A) → cond b r (Err d) ≡ Ok x → (b ≡ true) × (r ≡ Ok x)
+pub passed : {E A : Type 0} (b : Bool) (r : Result A E) (d : E) (x : A) → cond b r (Err d) ≡ Ok x → (b ≡ true) × (r ≡ Ok x)
 passed true r d x e = (refl, e)
 passed false r d x e = absurd cc
 
 -- a test that did not stop the reading
-pub went_on : {A : Type 0} (b : Bool) (r : Result A DerFault) (d : DerFault) (x : A) → cond b (Err d) r ≡ Ok x → (b ≡ false) × (r ≡ Ok x)
+pub went_on : {E A : Type 0} (b : Bool) (r : Result A E) (d : E) (x : A) → cond b (Err d) r ≡ Ok x → (b ≡ false) × (r ≡ Ok x)
 went_on true r d x e = absurd cc
 went_on false r d x e = (refl, e)
 
@@ -29,10 +29,10 @@ pub chosen : {A : Type 0} (b : Bool) (x y z : A) → cond b x y ≡ z → ((b �
 chosen true x y z e = inl (refl, e)
 chosen false x y z e = inr (refl, e)
 
-abbrev pub done : {A : Type 0} → A → Result A DerFault
+abbrev pub done : {E A : Type 0} → A → Result A E
 done x = Ok x
 
-pub ok_is : {A : Type 0} (x y : A) → done x ≡ done y → x ≡ y
+pub ok_is : {E A : Type 0} (x y : A) → done {E = E} x ≡ done y → x ≡ y
 ok_is x y e = cc
 
 abbrev pub there : {A : Type 0} → A → Option A
@@ -41,11 +41,11 @@ there x = Some x
 pub some_is : {A : Type 0} (x y : A) → there x ≡ there y → x ≡ y
 some_is x y e = cc
 
-abbrev pub failed : {A : Type 0} → DerFault → Result A DerFault
+abbrev pub failed : {E A : Type 0} → E → Result A E
 failed d = Err d
 
 -- a fault is no value
-pub no_value : {A : Type 0} (d : DerFault) (x : A) → done x ≡ failed d → ⊥
+pub no_value : {E A : Type 0} (d : E) (x : A) → done x ≡ failed d → ⊥
 no_value d x e = cc
 
 -- the faults that are met inside an APDU's contents

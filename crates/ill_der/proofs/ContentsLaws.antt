@@ -20,7 +20,7 @@ use Rattle.ill_der.proofs.Chains.{chosen, some_is}
 use Rattle.ill_der.specs.Laws.{IsBytes}
 use Rattle.ill_der.proofs.Formats.{IsContents}
 
-some_passed : {A : Type 0} (b : Bool) (x y : A) → cond b (Some x) None ≡ Some y → (b ≡ true) × (x ≡ y)
+pub some_passed : {A : Type 0} (b : Bool) (x y : A) → cond b (Some x) None ≡ Some y → (b ≡ true) × (x ≡ y)
 some_passed true x y e = (refl, some_is x y e)
 some_passed false x y e = absurd cc
 
@@ -94,13 +94,13 @@ checked : (r : Result (Unit {0}) TextFault) → is_ok r ≡ true → r ≡ Ok tt
 checked (Ok x) e = refl
 checked (Err f) e = absurd cc
 
-abbrev fault : TextFault → Result (Unit {0}) TextFault
+abbrev pub fault : TextFault → Result (Unit {0}) TextFault
 fault f = Err f
 
-no_fault : (f : TextFault) → fault f ≡ Ok tt → ⊥
+pub no_fault : (f : TextFault) → fault f ≡ Ok tt → ⊥
 no_fault f e = cc
 
-text_bound : (most : ℕ) (passes : List ℕ → Bool) (text : List ℕ) → text_check most passes text ≡ Ok tt → length text ≤ most
+pub text_bound : (most : ℕ) (passes : List ℕ → Bool) (text : List ℕ) → text_check most passes text ≡ Ok tt → length text ≤ most
 text_bound most passes text e =
     let rest : Result (Unit {0}) TextFault = cond (ltb most (length text)) (fault TooLong) (cond (passes text) (Ok tt) (fault BadByte)) in
     elim (chosen (eqb (length text) 0) (fault Empty) rest (Ok tt) e) [

@@ -105,7 +105,7 @@ made_takes P F n f make kind fs spells ranges kinds left body rest fits e =
     subst (λ (x : Body × Left). TakesBody kind left.bytes x.0 x.1.bytes) both (parts, ranges fields.0.0 taken.1, kinds fields.0.0, taken.2)
 
 -- a body with no fields
-plain_takes : (make body : Body) (kind : Kind) (left rest : Left) → spell_body make ≡ [] → IsBody make → kind_of make ≡ kind → IsBytes left.bytes → done {A = Body × Left} (make, left) ≡ done (body, rest)
+plain_takes : (make body : Body) (kind : Kind) (left rest : Left) → spell_body make ≡ [] → IsBody make → kind_of make ≡ kind → IsBytes left.bytes → done {E = DerFault} {A = Body × Left} (make, left) ≡ done (body, rest)
     → TakesBody kind left.bytes body rest.bytes
 plain_takes make body kind left rest spells is k fits e =
     let both : (make, left) ≡ (body, rest) = ok_is (make, left) (body, rest) e in

@@ -9,7 +9,7 @@ use Rattle.ill_der.specs.Contents.{Contents}
 
 -- one step after another, up to the first fault
 infixl 10 ◌>>=◌
-abbrev pub ◌>>=◌ : {A B : Type 0} → Result A DerFault → (A → Result B DerFault) → Result B DerFault
+abbrev pub ◌>>=◌ : {E A B : Type 0} → Result A E → (A → Result B E) → Result B E
 (Ok value) >>= next = next value
 (Err fault) >>= next = Err fault
 

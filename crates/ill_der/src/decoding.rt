@@ -29,7 +29,8 @@ struct Outer<'a> {
 /// Every check is made before memory is taken.
 #[tactic(auto, unfolding(crate::specs::ShortForm::apdu_at))]
 pub fn decode(alloc: Global, bytes: &[u8]) -> Result<(Apdu, usize), DerFault>
-    ensures { Decodes bytes.now (apdu_at bytes.now) result }
+    ensures read { Decodes bytes.now (apdu_at bytes.now) result }
+    ensures most { IfOk result (λ found. found.1 ≤ 359) }
 {
     let mut outer = whole(bytes)?;
     let apdu = apdu_inside(alloc, outer.kind, &mut outer.inside)?;
@@ -41,6 +42,7 @@ pub fn decode(alloc: Global, bytes: &[u8]) -> Result<(Apdu, usize), DerFault>
 fn whole(bytes: &[u8]) -> Result<Outer<'_>, DerFault>
     ensures read { Finds outer_view result (outer_at bytes.now) }
     ensures size { IfOk result (λ outer. outer.size ≤ length bytes.now) }
+    ensures most { IfOk result (λ outer. outer.size ≤ 359) }
 {
     match bytes {
         [] => Err(DerFault::Short(0)),
@@ -55,6 +57,7 @@ fn whole(bytes: &[u8]) -> Result<Outer<'_>, DerFault>
 fn contents(kind: Kind, bytes: &[u8]) -> Result<Outer<'_>, DerFault>
     ensures read { Finds outer_view result (outer_by kind (length_of bytes.now) bytes.now) }
     ensures size { IfOk result (λ outer. outer.size ≤ length bytes.now + 1) }
+    ensures most { IfOk result (λ outer. outer.size ≤ 359) }
 {
     match length_at_front(bytes) {
         LengthForm::Cut => Err(DerFault::Short(bytes.len() as u16 + 1)),

@@ -8,15 +8,15 @@ use Rattle.ill_der.proofs.reading.judge.Goals as goal
 
 pub returns-in-Ok : goal.returns-in-Ok
 returns-in-Ok c =
-    spelled_exactly c.args.bytes.now (c.in-Ok.apdu, c.in-Ok.field-0-1) (λ i. omega (arith, c.type_inv.bytes i)) c.requires.unfinished c.in-Ok.ensures
+    spelled_exactly c.args.bytes.now (c.in-Ok.apdu, c.in-Ok.field-0-1) (λ i. omega (arith, c.type_inv.bytes i)) c.requires.unfinished c.in-Ok.ensures.read
 
 pub returns-in-Err-OutOfMemory : goal.returns-in-Err-OutOfMemory
 returns-in-Err-OutOfMemory c =
     let bytes = c.args.bytes.now in
-    let decoded = subst (λ (fault : DerFault). Decodes bytes (apdu_at bytes) (Err fault)) c.in-Err-OutOfMemory.field-0-is c.in-Err-OutOfMemory.ensures in
+    let decoded = subst (λ (fault : DerFault). Decodes bytes (apdu_at bytes) (Err fault)) c.in-Err-OutOfMemory.field-0-is c.in-Err-OutOfMemory.ensures.read in
     spelled_without_memory bytes (λ i. omega (arith, c.type_inv.bytes i)) c.requires.unfinished decoded
 
 pub returns-in-Err : goal.returns-in-Err
 returns-in-Err c =
     let other : c.in-Err.fault ≡ OutOfMemory → ⊥ = search rules in
-    refused c.args.bytes.now c.in-Err.fault other c.requires.enough c.in-Err.ensures
+    refused c.args.bytes.now c.in-Err.fault other c.requires.enough c.in-Err.ensures.read

@@ -1,0 +1,333 @@
+-- The laws of a description of fields: what is read is spelled so, and what is spelled is read again. They are kept by
+-- each way to make a description of others.
+use Rattle.std.proofs.Common.{◌≡◌, ℕ, zero, suc, ◌+◌, ◌<◌, ◌≤◌, Bool, true, false, cond, ◌&&◌, eqb, leb, ltb, List, [], ◌∷◌, ◌++◌, length, take, drop, Option, Some, None, Result, Ok, Err, refl, sym, ap, subst, ◌∙◌, inl, inr, append_assoc, length-append, arith, rules}
+use Rattle.std.specs.Prelude.{IfSome}
+use Rattle.std.specs.List.{list_all}
+use Rattle.std.proofs.lemmas.Bool.{eqb-true, eq-eqb, leb-true, le-leb, and_parts, ltb-false, le-ltb}
+use Rattle.std.proofs.lemmas.List.{take_at, drop_at, take-append-drop, length-take-le}
+use Rattle.ill_values.specs.declared.apdu.Apdu.{Apdu}
+use Rattle.ill_values.specs.declared.fault.TextFault.TheVariants.{Empty}
+use Rattle.ill_values.specs.Apdu.{IsApdu, IsNumber}
+use Rattle.ill_values.specs.Text.{IsQualifier, is_printable, text_check}
+use Rattle.ill_der.specs.declared.fault.DerFault.{DerFault}
+use Rattle.ill_der.specs.declared.fault.DerFault.TheVariants as der
+use Rattle.ill_der.specs.Contents.{Contents, qualifier}
+use Rattle.ill_der.specs.Format.{◌>>=◌, Left, left_at}
+use Rattle.ill_der.specs.ShortForm.{spelling, apdu_at}
+use Rattle.ill_der.specs.Laws.{IsBytes}
+use Rattle.ill_der.proofs.Bytes.{IsBytes-take, IsBytes-rest}
+use Rattle.ill_der.proofs.Chains.{bind_ok, passed, went_on, chosen, ok_is, some_is}
+use Rattle.ill_der.proofs.ContentsLaws.{qualifier_is, some_passed, text_bound, no_fault, found_with}
+use Rattle.ill_der.proofs.ShortFormLaws.{apdu_takes, apdu_again}
+use Rattle.ill_core.specs.declared.state.State.{State}
+use Rattle.ill_core.specs.Issued.{is_ill_request}
+use Rattle.ill_saved.specs.declared.fault.LayoutFault.{LayoutFault}
+use Rattle.ill_saved.specs.declared.fault.LayoutFault.TheVariants.{Short, Bad}
+use Rattle.ill_saved.specs.Layout.{Field, bytes_at, value_at, sized, one_octet, octet, followed_by, constant, count, number_octet, optional_number, mark, text_size, counted_text, apdu_by, apdu, ill_request, marked, spell_all, read_all, counted}
+use Rattle.ill_saved.specs.Records.{state_code, state_with, state_in}
+use Rattle.ill_saved.specs.Ranges.{Each}
+
+-- a spelled value is read again, from whatever place
+abbrev pub ReadsAgain : {V : Type 0} → Field V → V → ℕ → List ℕ → Type 0
+ReadsAgain f v at more = (after : ℕ) × (f.read (left_at at (f.spell v ++ more)) ≡ Ok (v, left_at after more))
+
+abbrev pub Takes : {V : Type 0} → Field V → (V → Type 0) → List ℕ → V → List ℕ → Type 0
+Takes f P bytes v rest = (bytes ≡ f.spell v ++ rest) × P v
+
+pub record IsField {V : Type 0} (P : V → Type 0) (f : Field V) : Type 0 where
+  pub takes : (left : Left) (v : V) (rest : Left) → IsBytes left.bytes → f.read left ≡ Ok (v, rest) → Takes f P left.bytes v rest.bytes
+  pub again : (v : V) (at : ℕ) (more : List ℕ) → P v → ReadsAgain f v at more
+
+pub rest_fits : {V : Type 0} (P : V → Type 0) (f : Field V) → IsField P f → (left : Left) (v : V) (rest : Left) → IsBytes left.bytes → f.read left ≡ Ok (v, rest) → IsBytes rest.bytes
+rest_fits P f is left v rest fits e = IsBytes-rest left.bytes (f.spell v) rest.bytes (is.takes left v rest fits e).0 fits
+
+-- ---- so many bytes
+
+value_found : {V : Type 0} (at : ℕ) (o : Option V) (v : V) → value_at at o ≡ Ok v → o ≡ Some v
+value_found at (Some x) v e = ap Some (ok_is x v e)
+value_found at None v e = absurd cc
+
+-- contents of so many bytes
+pub record IsSized {V : Type 0} (P : V → Type 0) (n : ℕ) (contents : Contents V) : Type 0 where
+  pub takes : (bytes : List ℕ) (v : V) → IsBytes bytes → length bytes ≡ n → contents.read bytes ≡ Some v → (bytes ≡ contents.spell v) × P v
+  pub again : (v : V) → P v → (contents.read (contents.spell v) ≡ Some v) × (length (contents.spell v) ≡ n)
+
+sized_takes : {V : Type 0} (P : V → Type 0) (n : ℕ) (contents : Contents V) → IsSized P n contents
+    → (left : Left) (v : V) (rest : Left) → IsBytes left.bytes → (sized n contents).read left ≡ Ok (v, rest) → Takes (sized n contents) P left.bytes v rest.bytes
+sized_takes {V} P n contents is left v rest fits e =
+    let whole : List ℕ × Left = (take n left.bytes, left_at (left.at + n) (drop n left.bytes)) in
+    let part = bind_ok (bytes_at n left) (λ part. value_at left.at (contents.read part.0) >>= λ value. Ok (value, part.1)) (v, rest) e in
+    let found = bind_ok (value_at left.at (contents.read part.0.0)) (λ value. Ok (value, part.0.1)) (v, rest) part.2 in
+    let both : (found.0, part.0.1) ≡ (v, rest) = ok_is (found.0, part.0.1) (v, rest) found.2 in
+    let there = went_on (ltb (length left.bytes) n) (Ok whole) Short part.0 part.1 in
+    let taken : whole ≡ part.0 = ok_is whole part.0 there.1 in
+    let read = ap (λ (p : List ℕ × Left). contents.read p.0) taken ∙ value_found left.at (contents.read part.0.0) found.0 found.1 in
+    let value = is.takes (take n left.bytes) found.0 (IsBytes-take n left.bytes fits) (length-take-le n left.bytes (ltb-false (length left.bytes) n there.0)) read in
+    let parts : left.bytes ≡ contents.spell found.0 ++ part.0.1.bytes =
+    sym (take-append-drop n left.bytes) ∙ ap (λ (x : List ℕ). x ++ drop n left.bytes) value.0
+    ∙ ap (λ (p : List ℕ × Left). contents.spell found.0 ++ p.1.bytes) taken in
+    subst (λ (x : V × Left). Takes (sized n contents) P left.bytes x.0 x.1.bytes) both (parts, value.1)
+
+sized_again : {V : Type 0} (P : V → Type 0) (n : ℕ) (contents : Contents V) → IsSized P n contents → (v : V) (at : ℕ) (more : List ℕ) → P v → ReadsAgain (sized n contents) v at more
+sized_again P n contents is v at more p =
+    let text = contents.spell v in
+    let read = is.again v p in
+    let enough : ltb (length (text ++ more)) n ≡ false = le-ltb (length (text ++ more)) n (omega (arith, length-append text more, read.1)) in
+    (at + n, rw (enough, take_at text more n read.1, drop_at text more n read.1, read.0) refl)
+
+pub sized_is : {V : Type 0} (P : V → Type 0) (n : ℕ) (contents : Contents V) → IsSized P n contents → IsField P (sized n contents)
+sized_is P n contents is = record { takes = sized_takes P n contents is; again = sized_again P n contents is }
+
+-- ---- one octet
+
+one_takes : {V : Type 0} (P : V → Type 0) (code : V → ℕ) (value_of : ℕ → Option V) → ((n : ℕ) (v : V) → n < 256 → value_of n ≡ Some v → (n ≡ code v) × P v)
+    → (bytes : List ℕ) (v : V) → IsBytes bytes → one_octet value_of bytes ≡ Some v → (bytes ≡ code v ∷ []) × P v
+one_takes P code value_of takes [] v fits e = absurd cc
+one_takes P code value_of takes (n ∷ []) v fits e =
+    let is = takes n v (fits 0) e in
+    (ap (λ (x : ℕ). x ∷ []) is.0, is.1)
+one_takes P code value_of takes (n ∷ more ∷ rest) v fits e = absurd cc
+
+pub octet_is : {V : Type 0} (P : V → Type 0) (code : V → ℕ) (value_of : ℕ → Option V) → ((n : ℕ) (v : V) → n < 256 → value_of n ≡ Some v → (n ≡ code v) × P v)
+    → ((v : V) → P v → value_of (code v) ≡ Some v) → IsField P (octet code value_of)
+octet_is P code value_of takes again =
+    sized_is P 1 _ (record { takes = λ bytes v fits one e. one_takes P code value_of takes bytes v fits e; again = λ v p. (again v p, refl) })
+
+abbrev pub Any : {V : Type 0} → V → Type 0
+Any v = Unit {0}
+
+constant_takes : (wanted n : ℕ) (v : Unit {0}) → n < 256 → cond (eqb n wanted) (Some tt) None ≡ Some v → (n ≡ wanted) × Any v
+constant_takes wanted n v small e = (eqb-true n wanted (some_passed (eqb n wanted) tt v e).0, tt)
+
+pub constant_is : (n : ℕ) → IsField Any (constant n)
+constant_is n = octet_is Any (λ _. n) (λ m. cond (eqb m n) (Some tt) None) (constant_takes n) (λ v p. rw (eq-eqb n n refl) refl)
+
+pub count_is : IsField (λ n. n < 256) count
+count_is = octet_is (λ n. n < 256) (λ n. n) Some (λ n v small e. (some_is n v e, subst (λ m. m < 256) (some_is n v e) small)) (λ v p. refl)
+
+number_takes : (n : ℕ) (o : Option ℕ) → n < 256 → Some (cond (eqb n 0) None (Some n)) ≡ Some o → (n ≡ number_octet o) × IfSome o IsNumber
+number_takes n o small e = search rules
+
+number_again : (o : Option ℕ) → IfSome o IsNumber → Some (cond (eqb (number_octet o) 0) None (Some (number_octet o))) ≡ Some o
+number_again None p = refl
+number_again (Some n) p = search rules
+
+pub optional_number_is : IsField (λ o. IfSome o IsNumber) optional_number
+optional_number_is = octet_is (λ o. IfSome o IsNumber) number_octet (λ n. Some (cond (eqb n 0) None (Some n))) number_takes number_again
+
+mark_takes : (n : ℕ) (b : Bool) → n < 256 → cond (eqb n 0) (Some false) (cond (eqb n 1) (Some true) None) ≡ Some b → (n ≡ cond b 1 0) × Any b
+mark_takes n b small e =
+    elim (chosen (eqb n 0) (Some false) (cond (eqb n 1) (Some true) None) (Some b) e) [
+      | inl h ↦ subst (λ (x : Bool). (n ≡ cond x 1 0) × Any x) (some_is false b h.1) (eqb-true n 0 h.0, tt)
+      | inr h ↦
+          let is = some_passed (eqb n 1) true b h.1 in
+          subst (λ (x : Bool). (n ≡ cond x 1 0) × Any x) is.1 (eqb-true n 1 is.0, tt)
+    ]
+
+mark_again : (b : Bool) → Any b → cond (eqb (cond b 1 0) 0) (Some false) (cond (eqb (cond b 1 0) 1) (Some true) None) ≡ Some b
+mark_again true p = refl
+mark_again false p = refl
+
+pub mark_is : IsField Any mark
+mark_is = octet_is Any (λ b. cond b 1 0) (λ n. cond (eqb n 0) (Some false) (cond (eqb n 1) (Some true) None)) mark_takes mark_again
+
+abbrev pub IsTextSize : ℕ → Type 0
+IsTextSize n = (1 ≤ n) × (n ≤ 64)
+
+text_size_takes : (n v : ℕ) → n < 256 → cond (leb 1 n && leb n 64) (Some n) None ≡ Some v → (n ≡ v) × IsTextSize v
+text_size_takes n v small e =
+    let is = some_passed (leb 1 n && leb n 64) n v e in
+    let range = and_parts (leb 1 n) (leb n 64) is.0 in
+    subst (λ (x : ℕ). (n ≡ x) × IsTextSize x) is.1 (refl, (leb-true 1 n range.0, leb-true n 64 range.1))
+
+text_size_is : IsField IsTextSize text_size
+text_size_is = octet_is IsTextSize (λ n. n) (λ n. cond (leb 1 n && leb n 64) (Some n) None) text_size_takes (λ v p. rw (le-leb 1 v p.0, le-leb v 64 p.1) refl)
+
+-- a state of a role
+abbrev pub IsAmong : List State → State → Type 0
+IsAmong states state = state_with states (state_code state) ≡ Some state
+
+state_takes : (states : List State) (n : ℕ) (state : State) → n < 256 → state_with states n ≡ Some state → (n ≡ state_code state) × IsAmong states state
+state_takes states n state small e =
+    let same = found_with state_code n states state e in
+    (same, sym (ap (state_with states) same) ∙ e)
+
+pub state_is : (states : List State) → IsField (IsAmong states) (state_in states)
+state_is states = octet_is (IsAmong states) state_code (state_with states) (state_takes states) (λ v p. p)
+
+-- ---- a field and then another
+
+abbrev pub Both : {V W : Type 0} → (V → Type 0) → (W → Type 0) → V × W → Type 0
+Both P Q v = P v.0 × Q v.1
+
+followed_takes : {V W : Type 0} (P : V → Type 0) (Q : W → Type 0) (f : Field V) (g : Field W) → IsField P f → IsField Q g
+    → (left : Left) (v : V × W) (rest : Left) → IsBytes left.bytes → (followed_by f g).read left ≡ Ok (v, rest) → Takes (followed_by f g) (Both P Q) left.bytes v rest.bytes
+followed_takes {V} {W} P Q f g fs gs left v rest fits e =
+    let a = bind_ok (f.read left) (λ a. g.read a.1 >>= λ b. Ok ((a.0, b.0), b.1)) (v, rest) e in
+    let b = bind_ok (g.read a.0.1) (λ b. Ok ((a.0.0, b.0), b.1)) (v, rest) a.2 in
+    let both : ((a.0.0, b.0.0), b.0.1) ≡ (v, rest) = ok_is ((a.0.0, b.0.0), b.0.1) (v, rest) b.2 in
+    let first = fs.takes left a.0.0 a.0.1 fits a.1 in
+    let second = gs.takes a.0.1 b.0.0 b.0.1 (rest_fits P f fs left a.0.0 a.0.1 fits a.1) b.1 in
+    let parts : left.bytes ≡ (f.spell a.0.0 ++ g.spell b.0.0) ++ b.0.1.bytes =
+    first.0 ∙ ap (λ (x : List ℕ). f.spell a.0.0 ++ x) second.0 ∙ sym (append_assoc (f.spell a.0.0) (g.spell b.0.0) b.0.1.bytes) in
+    subst (λ (x : (V × W) × Left). Takes (followed_by f g) (Both P Q) left.bytes x.0 x.1.bytes) both (parts, (first.1, second.1))
+
+followed_again : {V W : Type 0} (P : V → Type 0) (Q : W → Type 0) (f : Field V) (g : Field W) → IsField P f → IsField Q g
+    → (v : V × W) (at : ℕ) (more : List ℕ) → Both P Q v → ReadsAgain (followed_by f g) v at more
+followed_again P Q f g fs gs v at more p =
+    let first = fs.again v.0 at (g.spell v.1 ++ more) p.0 in
+    let second = gs.again v.1 first.0 more p.1 in
+    (second.0, rw (append_assoc (f.spell v.0) (g.spell v.1) more, first.1, second.1) refl)
+
+pub followed_is : {V W : Type 0} (P : V → Type 0) (Q : W → Type 0) (f : Field V) (g : Field W) → IsField P f → IsField Q g → IsField (Both P Q) (followed_by f g)
+followed_is P Q f g fs gs = record { takes = followed_takes P Q f g fs gs; again = followed_again P Q f g fs gs }
+
+-- ---- a qualifier behind its length
+
+qualifier_sized : (n : ℕ) → IsSized (λ text. IsQualifier text × (length text ≡ n)) n qualifier
+qualifier_sized n = record {
+  takes = λ bytes v fits size e.
+      let is = qualifier_is.takes bytes v fits e in
+      (is.0, (is.1, ap length (sym is.0) ∙ size));
+  again = λ v p. (qualifier_is.again v p.0, p.1);
+}
+
+not_empty : (most : ℕ) (passes : List ℕ → Bool) (text : List ℕ) → text_check most passes text ≡ Ok tt → 1 ≤ length text
+not_empty most passes [] e = absurd (no_fault Empty e)
+not_empty most passes (byte ∷ text) e = omega arith
+
+text_takes : (left : Left) (v : List ℕ) (rest : Left) → IsBytes left.bytes → counted_text.read left ≡ Ok (v, rest) → Takes counted_text IsQualifier left.bytes v rest.bytes
+text_takes left v rest fits e =
+    let size = bind_ok (text_size.read left) (λ size. (sized size.0 qualifier).read size.1) (v, rest) e in
+    let first = text_size_is.takes left size.0.0 size.0.1 fits size.1 in
+    let second = (sized_is _ size.0.0 qualifier (qualifier_sized size.0.0)).takes size.0.1 v rest (rest_fits IsTextSize text_size text_size_is left size.0.0 size.0.1 fits size.1) size.2 in
+    (first.0 ∙ ap (λ (x : List ℕ). size.0.0 ∷ x) second.0 ∙ ap (λ (n : ℕ). n ∷ (v ++ rest.bytes)) (sym second.1.1), second.1.0)
+
+text_again : (v : List ℕ) (at : ℕ) (more : List ℕ) → IsQualifier v → ReadsAgain counted_text v at more
+text_again v at more p =
+    let size = text_size_is.again (length v) at (v ++ more) (not_empty 64 (list_all is_printable) v p, text_bound 64 (list_all is_printable) v p) in
+    let text = (sized_is _ (length v) qualifier (qualifier_sized (length v))).again v size.0 more (p, refl) in
+    (text.0, rw (size.1, text.1) refl)
+
+pub counted_text_is : IsField IsQualifier counted_text
+counted_text_is = record { takes = text_takes; again = text_again }
+
+-- ---- APDUs
+
+apdu_found : (left : Left) (r : Result (Apdu × List ℕ) DerFault) (v : Apdu) (rest : Left) → apdu_by left r ≡ Ok (v, rest) → r ≡ Ok (v, rest.bytes)
+apdu_found left (Ok found) v rest e =
+    let both = ok_is (found.0, left_at _ found.1) (v, rest) e in
+    ap (λ (x : Apdu × Left). Ok (x.0, x.1.bytes)) both
+apdu_found left (Err (der.Short n)) v rest e = absurd cc
+apdu_found left (Err (der.Tag at)) v rest e = absurd cc
+apdu_found left (Err (der.Length at)) v rest e = absurd cc
+apdu_found left (Err (der.Field at)) v rest e = absurd cc
+apdu_found left (Err der.OutOfMemory) v rest e = absurd cc
+
+one_taken : (left : Left) (v : Apdu) (rest : Left) → IsBytes left.bytes → apdu.read left ≡ Ok (v, rest) → Takes apdu IsApdu left.bytes v rest.bytes
+one_taken left v rest fits e =
+    let is = apdu_takes left.bytes v rest.bytes fits (apdu_found left (apdu_at left.bytes) v rest e) in
+    (is.1, is.0)
+
+pub apdu_is : IsField IsApdu apdu
+apdu_is = record { takes = one_taken; again = λ v at more p. (_, ap (apdu_by (left_at at (spelling v ++ more))) (apdu_again v more p)) }
+
+abbrev pub IsRequest : Apdu → Type 0
+IsRequest a = IsApdu a × (is_ill_request a.body ≡ true)
+
+request_takes : (left : Left) (v : Apdu) (rest : Left) → IsBytes left.bytes → ill_request.read left ≡ Ok (v, rest) → Takes ill_request IsRequest left.bytes v rest.bytes
+request_takes left v rest fits e =
+    let found = bind_ok (apdu.read left) (λ found. cond (is_ill_request found.0.body) (Ok found) (Err (Bad left.at))) (v, rest) e in
+    let is = passed (is_ill_request found.0.0.body) (Ok found.0) (Bad left.at) (v, rest) found.2 in
+    let both : found.0 ≡ (v, rest) = ok_is found.0 (v, rest) is.1 in
+    let taken = apdu_is.takes left v rest fits (found.1 ∙ ap Ok both) in
+    (taken.0, (taken.1, ap (λ (x : Apdu × Left). is_ill_request x.0.body) (sym both) ∙ is.0))
+
+request_again : (v : Apdu) (at : ℕ) (more : List ℕ) → IsRequest v → ReadsAgain ill_request v at more
+request_again v at more p =
+    let read = apdu_is.again v at more p.0 in
+    (read.0, rw (read.1, p.1) refl)
+
+pub ill_request_is : IsField IsRequest ill_request
+ill_request_is = record { takes = request_takes; again = request_again }
+
+-- ---- a field behind a mark
+
+marked_takes : {V : Type 0} (P : V → Type 0) (f : Field V) → IsField P f → (left : Left) (o : Option V) (rest : Left) → IsBytes left.bytes → (marked f).read left ≡ Ok (o, rest)
+    → Takes (marked f) (λ o. IfSome o P) left.bytes o rest.bytes
+marked_takes {V} P f fs left o rest fits e =
+    let is = bind_ok (mark.read left) (λ is. cond is.0 (f.read is.1 >>= λ found. Ok (Some found.0, found.1)) (Ok (None, is.1))) (o, rest) e in
+    let first = mark_is.takes left is.0.0 is.0.1 fits is.1 in
+    let behind_fits = rest_fits Any mark mark_is left is.0.0 is.0.1 fits is.1 in
+    elim (chosen {A = Result (Option V × Left) LayoutFault} is.0.0 (f.read is.0.1 >>= λ found. Ok (Some found.0, found.1)) (Ok (None, is.0.1)) (Ok (o, rest)) is.2) [
+      | inl h ↦
+          let found = bind_ok (f.read is.0.1) (λ found. Ok (Some found.0, found.1)) (o, rest) h.1 in
+          let both : (Some found.0.0, found.0.1) ≡ (o, rest) = ok_is (Some found.0.0, found.0.1) (o, rest) found.2 in
+          let second = fs.takes is.0.1 found.0.0 found.0.1 behind_fits found.1 in
+          let parts : left.bytes ≡ (mark.spell true ++ f.spell found.0.0) ++ found.0.1.bytes =
+          first.0 ∙ ap (λ (b : Bool). mark.spell b ++ is.0.1.bytes) h.0 ∙ ap (λ (x : List ℕ). mark.spell true ++ x) second.0 in
+          subst (λ (x : Option V × Left). Takes (marked f) (λ o. IfSome o P) left.bytes x.0 x.1.bytes) both (parts, second.1)
+      | inr h ↦
+          let both : (None, is.0.1) ≡ (o, rest) = ok_is (None, is.0.1) (o, rest) h.1 in
+          let parts : left.bytes ≡ mark.spell false ++ is.0.1.bytes = first.0 ∙ ap (λ (b : Bool). mark.spell b ++ is.0.1.bytes) h.0 in
+          subst (λ (x : Option V × Left). Takes (marked f) (λ o. IfSome o P) left.bytes x.0 x.1.bytes) both (parts, tt)
+    ]
+
+marked_again : {V : Type 0} (P : V → Type 0) (f : Field V) → IsField P f → (o : Option V) (at : ℕ) (more : List ℕ) → IfSome o P → ReadsAgain (marked f) o at more
+marked_again P f fs None at more p =
+    let is = mark_is.again false at more tt in
+    (is.0, rw is.1 refl)
+marked_again P f fs (Some v) at more p =
+    let is = mark_is.again true at (f.spell v ++ more) tt in
+    let found = fs.again v is.0 more p in
+    (found.0, rw (is.1, found.1) refl)
+
+pub marked_is : {V : Type 0} (P : V → Type 0) (f : Field V) → IsField P f → IsField (λ o. IfSome o P) (marked f)
+marked_is P f fs = record { takes = marked_takes P f fs; again = marked_again P f fs }
+
+-- ---- so many of a field
+
+all_takes : {V : Type 0} (P : V → Type 0) (f : Field V) → IsField P f → (n : ℕ) (left : Left) (vs : List V) (rest : Left) → IsBytes left.bytes → read_all f n left ≡ Ok (vs, rest)
+    → (left.bytes ≡ spell_all f.spell vs ++ rest.bytes) × Each P vs × (length vs ≡ n)
+unfolding read_all spell_all Each
+all_takes {V} P f fs zero left vs rest fits e =
+    let both : ([], left) ≡ (vs, rest) = ok_is ([], left) (vs, rest) e in
+    subst (λ (x : List V × Left). (left.bytes ≡ spell_all f.spell x.0 ++ x.1.bytes) × Each P x.0 × (length x.0 ≡ zero)) both (refl, tt, refl)
+all_takes {V} P f fs (suc n) left vs rest fits e =
+    let first = bind_ok (f.read left) (λ first. read_all f n first.1 >>= λ others. Ok (first.0 ∷ others.0, others.1)) (vs, rest) e in
+    let others = bind_ok (read_all f n first.0.1) (λ others. Ok (first.0.0 ∷ others.0, others.1)) (vs, rest) first.2 in
+    let both : (first.0.0 ∷ others.0.0, others.0.1) ≡ (vs, rest) = ok_is (first.0.0 ∷ others.0.0, others.0.1) (vs, rest) others.2 in
+    let one = fs.takes left first.0.0 first.0.1 fits first.1 in
+    let more = all_takes P f fs n first.0.1 others.0.0 others.0.1 (rest_fits P f fs left first.0.0 first.0.1 fits first.1) others.1 in
+    let parts : left.bytes ≡ (f.spell first.0.0 ++ spell_all f.spell others.0.0) ++ others.0.1.bytes =
+    one.0 ∙ ap (λ (x : List ℕ). f.spell first.0.0 ++ x) more.0 ∙ sym (append_assoc (f.spell first.0.0) (spell_all f.spell others.0.0) others.0.1.bytes) in
+    subst (λ (x : List V × Left). (left.bytes ≡ spell_all f.spell x.0 ++ x.1.bytes) × Each P x.0 × (length x.0 ≡ suc n)) both (parts, (one.1, more.1), ap suc more.2)
+
+all_again : {V : Type 0} (P : V → Type 0) (f : Field V) → IsField P f → (vs : List V) (at : ℕ) (more : List ℕ) → Each P vs
+    → (after : ℕ) × (read_all f (length vs) (left_at at (spell_all f.spell vs ++ more)) ≡ Ok (vs, left_at after more))
+unfolding read_all spell_all Each
+all_again P f fs [] at more p = (at, refl)
+all_again P f fs (v ∷ vs) at more p =
+    let first = fs.again v at (spell_all f.spell vs ++ more) p.0 in
+    let others = all_again P f fs vs first.0 more p.1 in
+    (others.0, rw (append_assoc (f.spell v) (spell_all f.spell vs) more, first.1, others.1) refl)
+
+abbrev pub Counted : {V : Type 0} → (V → Type 0) → List V → Type 0
+Counted P vs = Each P vs × (length vs < 256)
+
+counted_takes : {V : Type 0} (P : V → Type 0) (f : Field V) → IsField P f → (left : Left) (vs : List V) (rest : Left) → IsBytes left.bytes → (counted f).read left ≡ Ok (vs, rest)
+    → Takes (counted f) (Counted P) left.bytes vs rest.bytes
+counted_takes P f fs left vs rest fits e =
+    let n = bind_ok (count.read left) (λ n. read_all f n.0 n.1) (vs, rest) e in
+    let first = count_is.takes left n.0.0 n.0.1 fits n.1 in
+    let others = all_takes P f fs n.0.0 n.0.1 vs rest (rest_fits (λ m. m < 256) count count_is left n.0.0 n.0.1 fits n.1) n.2 in
+    (first.0 ∙ ap (λ (x : List ℕ). n.0.0 ∷ x) others.0 ∙ ap (λ (m : ℕ). m ∷ (spell_all f.spell vs ++ rest.bytes)) (sym others.2), (others.1, subst (λ m. m < 256) (sym others.2) first.1))
+
+counted_again : {V : Type 0} (P : V → Type 0) (f : Field V) → IsField P f → (vs : List V) (at : ℕ) (more : List ℕ) → Counted P vs → ReadsAgain (counted f) vs at more
+counted_again P f fs vs at more p =
+    let n = count_is.again (length vs) at (spell_all f.spell vs ++ more) p.1 in
+    let others = all_again P f fs vs n.0 more p.0 in
+    (others.0, rw (n.1, others.1) refl)
+
+pub counted_is : {V : Type 0} (P : V → Type 0) (f : Field V) → IsField P f → IsField (Counted P) (counted f)
+counted_is P f fs = record { takes = counted_takes P f fs; again = counted_again P f fs }

@@ -1,0 +1,4 @@
+pub mod Lists
+pub mod Records
+pub mod Fields
+pub mod RecordLaws

@@ -1,0 +1,146 @@
+-- Fields of a saved record that stand one after another: how they are spelled and how they are read, in one
+-- description for both directions (this profile's own).
+use Rattle.std.specs.Prelude.{◌≡◌, ℕ, zero, suc, ◌+◌, ◌-◌, Bool, true, false, ◌==◌, nat_lt, nat_le, ◌&&◌, if◌then◌else◌, List, [], ◌∷◌, ◌++◌, length, take, drop, Option, Some, None, Result, Ok, Err}
+use Rattle.ill_values.specs.declared.apdu.Apdu.{Apdu}
+use Rattle.ill_der.specs.declared.fault.DerFault.{DerFault}
+use Rattle.ill_der.specs.declared.fault.DerFault.TheVariants as der
+use Rattle.ill_der.specs.Contents.{Contents, qualifier}
+use Rattle.ill_der.specs.Format.{◌>>=◌, Left, left_at}
+use Rattle.ill_der.specs.ShortForm.{spelling, apdu_at}
+use Rattle.ill_core.specs.Issued.{is_ill_request}
+use Rattle.ill_saved.specs.declared.fault.LayoutFault.{LayoutFault}
+use Rattle.ill_saved.specs.declared.fault.LayoutFault.TheVariants.{Short, Bad}
+use Rattle.ill_saved.specs.declared.fault.RecordFault.{RecordFault}
+use Rattle.ill_saved.specs.declared.fault.RecordFault.TheVariants as faults
+
+-- how a value is spelled, and how it is read from what is left of a record
+pub record Field (V : Type 0) : Type 0 where
+  pub spell : V → List ℕ
+  pub read : Left → Result (V × Left) LayoutFault
+
+-- so many bytes, which must stand
+abbrev pub bytes_at : ℕ → Left → Result (List ℕ × Left) LayoutFault
+bytes_at n left =
+    if nat_lt (length left.bytes) n then Err Short else Ok (take n left.bytes, left_at (left.at + n) (drop n left.bytes))
+
+-- the value, or that it is wrong at its first byte
+abbrev pub value_at : {V : Type 0} → ℕ → Option V → Result V LayoutFault
+value_at at (Some value) = Ok value
+value_at at None = Err (Bad at)
+
+-- so many bytes with these contents
+abbrev pub sized : {V : Type 0} → ℕ → Contents V → Field V
+sized n contents = record {
+  spell = contents.spell;
+  read = λ left. bytes_at n left >>= λ part. value_at left.at (contents.read part.0) >>= λ value. Ok (value, part.1);
+}
+
+-- one octet that stands for a value
+abbrev pub one_octet : {V : Type 0} → (ℕ → Option V) → List ℕ → Option V
+one_octet value_of [] = None
+one_octet value_of (n ∷ []) = value_of n
+one_octet value_of (n ∷ more ∷ rest) = None
+
+abbrev pub octet : {V : Type 0} → (V → ℕ) → (ℕ → Option V) → Field V
+octet code value_of = sized 1 (record { spell = λ value. code value ∷ []; read = one_octet value_of })
+
+-- a field and then another
+abbrev pub followed_by : {V W : Type 0} → Field V → Field W → Field (V × W)
+followed_by first second = record {
+  spell = λ value. first.spell value.0 ++ second.spell value.1;
+  read = λ left. first.read left >>= λ a. second.read a.1 >>= λ b. Ok ((a.0, b.0), b.1);
+}
+
+-- one octet of one value alone
+abbrev pub constant : ℕ → Field (Unit {0})
+constant n = octet (λ _. n) (λ m. if m == n then Some tt else None)
+
+-- a count, from 0 to 255
+abbrev pub count : Field ℕ
+count = octet (λ n. n) Some
+
+-- a number of a message, or 0 where there is none
+abbrev pub number_octet : Option ℕ → ℕ
+number_octet None = 0
+number_octet (Some n) = n
+
+abbrev pub optional_number : Field (Option ℕ)
+optional_number = octet number_octet (λ n. Some (if n == 0 then None else Some n))
+
+-- 1 for yes and 0 for no
+abbrev pub mark : Field Bool
+mark = octet (λ is. if is then 1 else 0) (λ n. if n == 0 then Some false else (if n == 1 then Some true else None))
+
+-- the length of a qualifier and the qualifier
+abbrev pub text_size : Field ℕ
+text_size = octet (λ n. n) (λ n. if nat_le 1 n && nat_le n 64 then Some n else None)
+
+abbrev pub counted_text : Field (List ℕ)
+counted_text = record {
+  spell = λ text. text_size.spell (length text) ++ text;
+  read = λ left. text_size.read left >>= λ size. (sized size.0 qualifier).read size.1;
+}
+
+-- an APDU in its short form, where the bytes begin with one
+abbrev pub apdu_by : Left → Result (Apdu × List ℕ) DerFault → Result (Apdu × Left) LayoutFault
+apdu_by left (Ok found) = Ok (found.0, left_at (left.at + (length left.bytes - length found.1)) found.1)
+apdu_by left (Err (der.Short n)) = Err Short
+apdu_by left (Err other) = Err (Bad left.at)
+
+abbrev pub apdu : Field Apdu
+apdu = record { spell = spelling; read = λ left. apdu_by left (apdu_at left.bytes) }
+
+-- an ILL-Request
+abbrev pub ill_request : Field Apdu
+ill_request = record {
+  spell = spelling;
+  read = λ left. apdu.read left >>= λ found. if is_ill_request found.0.body then Ok found else Err (Bad left.at);
+}
+
+-- a mark, and the field where it says yes
+abbrev pub spell_marked : {V : Type 0} → (V → List ℕ) → Option V → List ℕ
+spell_marked spell None = mark.spell false
+spell_marked spell (Some value) = mark.spell true ++ spell value
+
+abbrev pub marked : {V : Type 0} → Field V → Field (Option V)
+marked field = record {
+  spell = spell_marked field.spell;
+  read = λ left. mark.read left >>= λ is. if is.0 then (field.read is.1 >>= λ found. Ok (Some found.0, found.1)) else Ok (None, is.1);
+}
+
+-- so many of a field
+unfoldable pub spell_all : {V : Type 0} → (V → List ℕ) → List V → List ℕ
+spell_all spell [] = []
+spell_all spell (v ∷ values) = spell v ++ spell_all spell values
+
+unfoldable pub read_all : {V : Type 0} → Field V → ℕ → Left → Result (List V × Left) LayoutFault
+read_all field zero left = Ok ([], left)
+read_all field (suc n) left = field.read left >>= λ first. read_all field n first.1 >>= λ others. Ok (first.0 ∷ others.0, others.1)
+
+-- their count, and so many of a field
+abbrev pub counted : {V : Type 0} → Field V → Field (List V)
+counted field = record {
+  spell = λ values. count.spell (length values) ++ spell_all field.spell values;
+  read = λ left. count.read left >>= λ n. read_all field n.0 n.1;
+}
+
+-- nothing is left
+abbrev pub ended : Left → Result (Unit {0}) LayoutFault
+ended left = if length left.bytes == 0 then Ok tt else Err (Bad left.at)
+
+-- A reader gave what reading gives, its value seen by view, and left the cursor where reading does.
+abbrev pub Reads : {X V : Type 0} → (X → V) → Result X LayoutFault → Left → Result (V × Left) LayoutFault → Type 0
+Reads view (Ok value) left read = read ≡ Ok (view value, left)
+Reads view (Err fault) left read = read ≡ Err fault
+
+abbrev pub record_fault : LayoutFault → RecordFault
+record_fault Short = faults.Short
+record_fault (Bad at) = faults.Bad at
+
+-- The same of a reader that takes memory, which it may want.
+abbrev pub ReadsInMemory : {X V : Type 0} → (X → V) → Result X RecordFault → Left → Result (V × Left) LayoutFault → Type 0
+ReadsInMemory view (Ok value) left read = read ≡ Ok (view value, left)
+ReadsInMemory view (Err faults.Short) left read = read ≡ Err Short
+ReadsInMemory view (Err (faults.Bad at)) left read = read ≡ Err (Bad at)
+ReadsInMemory view (Err faults.Inconsistent) left read = ⊥
+ReadsInMemory view (Err faults.OutOfMemory) left read = Unit {0}

@@ -1,0 +1,40 @@
+-- Sides whose parts are in range.
+use Rattle.std.specs.Prelude.{◌≤◌, List, [], ◌∷◌, length, IfSome}
+use Rattle.ill_values.specs.Day.{IsDate}
+use Rattle.ill_values.specs.TxnId.{AreQualifiers}
+use Rattle.ill_values.specs.Apdu.{IsApdu, IsNumber}
+use Rattle.ill_core.specs.Requester.{RequesterRecord}
+use Rattle.ill_core.specs.Responder.{ResponderRecord}
+use Rattle.ill_saved.specs.declared.side.Side.{Side}
+use Rattle.ill_saved.specs.declared.side.Side.TheVariants as sides
+use Rattle.ill_saved.specs.Records.{IsConsistent}
+
+-- each of the values
+unfoldable pub Each : {V : Type 0} → (V → Type 0) → List V → Type 0
+Each P [] = Unit {0}
+Each P (v ∷ values) = P v × Each P values
+
+-- The parts of a requester are in range: in a clause that ranges over all records, a number is any number.
+pub record RequesterInRange (x : RequesterRecord) : Type 0 where
+  pub txn : AreQualifiers x.txn
+  pub held : IfSome x.held IsNumber
+  pub due : IfSome x.due IsDate
+  pub issued : Each IsApdu x.issued
+  pub few : length x.issued ≤ 255
+
+pub record ResponderInRange (y : ResponderRecord) : Type 0 where
+  pub txn : AreQualifiers y.txn
+  pub accepted : IfSome y.accepted IsNumber
+  pub last_cancel : IfSome y.last_cancel IsNumber
+  pub last_renew : IfSome y.last_renew IsNumber
+  pub request : IfSome y.request IsApdu
+  pub issued : Each IsApdu y.issued
+  pub few : length y.issued ≤ 255
+
+abbrev pub IsInRange : Side → Type 0
+IsInRange (sides.Requester x) = RequesterInRange x
+IsInRange (sides.Responder y) = ResponderInRange y
+
+-- a side that there can be
+abbrev pub IsSide : Side → Type 0
+IsSide side = IsConsistent side × IsInRange side

@@ -1,0 +1,261 @@
+//! What is left to read of a saved record.
+
+ghost use Rattle.std.specs.Prelude.{◌≡◌, ◌+◌, ◌*◌, ◌≤◌, length, IfOk, OnOk};
+ghost use Rattle.ill_values.specs.Text.{IsQualifier};
+ghost use Rattle.ill_der.specs.Contents.{qualifier};
+ghost use Rattle.ill_der.specs.Format.{Left, left_at};
+ghost use Rattle.ill_saved.specs.Layout.{Reads, ReadsInMemory, bytes_at, sized, constant, count, optional_number, mark, text_size, counted_text, apdu, ill_request, marked, counted, ended};
+ghost use Rattle.ill_saved.specs.Records.{state_in, requester_states, responder_states, due};
+
+use crate::fault::{LayoutFault, RecordFault};
+use ill_core::State;
+use ill_der::{DerFault, decode};
+use ill_values::{Apdu, Body, Day, Number, TxnId};
+use std::alloc::Global;
+use std::marker::Model;
+
+/// The bytes of a record that are not read yet, and the place of the first of them.
+#[derive(Debug, Drop)]
+pub struct Cursor<'a> {
+    at: u32,
+    bytes: &'a [u8],
+}
+
+impl<'a> Model for Cursor<'a> {
+    ghost Value = { Left };
+
+    ghost view = { λ c. record { at = c.at; bytes = c.bytes.now } };
+}
+
+impl<'a> Cursor<'a> {
+    /// The bytes of a record from its first on.
+    pub fn new(bytes: &'a [u8]) -> Cursor<'a>
+        ensures { result ≡ left_at 0 bytes.entry.now }
+    {
+        Cursor { at: 0, bytes }
+    }
+
+    /// Nothing, if nothing is left.
+    pub fn ended(&self) -> Result<(), LayoutFault>
+        ensures { result ≡ ended self.now }
+    {
+        if self.bytes.is_empty() {
+            Ok(())
+        } else {
+            Err(LayoutFault::Bad(self.at))
+        }
+    }
+
+    /// Reads so many bytes.
+    fn bytes(&mut self, size: usize) -> Result<&'a [u8], LayoutFault>
+        requires room { self.old.at ≤ 2000000 }
+        requires few { size ≤ 1000 }
+        ensures read { Reads (λ part. part.now) result self.new (bytes_at size self.old) }
+        ensures near { OnOk result (self.new.at ≡ self.old.at + size) }
+    {
+        if self.bytes.len() < size {
+            return Err(LayoutFault::Short);
+        }
+        let part = &self.bytes[..size];
+        self.bytes = &self.bytes[size..];
+        self.at += size as u32;
+        Ok(part)
+    }
+
+    /// Reads an octet of any value.
+    pub fn octet(&mut self) -> Result<u8, LayoutFault>
+        requires room { self.old.at ≤ 2000000 }
+        ensures read { Reads (λ n. n) result self.new (count.read self.old) }
+        ensures near { OnOk result (self.new.at ≡ self.old.at + 1) }
+    {
+        match self.bytes {
+            [octet, behind @ ..] => {
+                self.at += 1;
+                self.bytes = behind;
+                Ok(*octet)
+            }
+            [] => Err(LayoutFault::Short),
+        }
+    }
+
+    /// Reads an octet of this one value.
+    pub fn constant(&mut self, value: u8) -> Result<(), LayoutFault>
+        requires room { self.old.at ≤ 2000000 }
+        ensures read { Reads (λ v. v) result self.new ((constant value).read self.old) }
+        ensures near { OnOk result (self.new.at ≡ self.old.at + 1) }
+    {
+        let at = self.at;
+        if self.octet()? == value {
+            Ok(())
+        } else {
+            Err(LayoutFault::Bad(at))
+        }
+    }
+
+    /// Reads a yes or no.
+    pub fn mark(&mut self) -> Result<bool, LayoutFault>
+        requires room { self.old.at ≤ 2000000 }
+        ensures read { Reads (λ b. b) result self.new (mark.read self.old) }
+        ensures near { OnOk result (self.new.at ≡ self.old.at + 1) }
+    {
+        let at = self.at;
+        match self.octet()? {
+            0 => Ok(false),
+            1 => Ok(true),
+            _ => Err(LayoutFault::Bad(at)),
+        }
+    }
+
+    /// Reads the number of a message, if there is one.
+    pub fn optional_number(&mut self) -> Result<Option<Number>, LayoutFault>
+        requires room { self.old.at ≤ 2000000 }
+        ensures read { Reads (λ n. n) result self.new (optional_number.read self.old) }
+        ensures near { OnOk result (self.new.at ≡ self.old.at + 1) }
+    {
+        Ok(Number::new(self.octet()?))
+    }
+
+    /// Reads the state of a requester.
+    pub fn requester_state(&mut self) -> Result<State, LayoutFault>
+        requires room { self.old.at ≤ 2000000 }
+        ensures read { Reads (λ s. s) result self.new ((state_in requester_states).read self.old) }
+        ensures near { OnOk result (self.new.at ≡ self.old.at + 1) }
+    {
+        let at = self.at;
+        match self.octet()? {
+            0 => Ok(State::Idle),
+            1 => Ok(State::Pending),
+            2 => Ok(State::Conditional),
+            3 => Ok(State::CancelPending),
+            4 => Ok(State::Cancelled),
+            5 => Ok(State::NotSupplied),
+            6 => Ok(State::Shipped),
+            7 => Ok(State::Received),
+            8 => Ok(State::RenewPending),
+            9 => Ok(State::Overdue),
+            10 => Ok(State::RenewOverdue),
+            11 => Ok(State::NotReceivedOverdue),
+            12 => Ok(State::Recall),
+            13 => Ok(State::Returned),
+            _ => Err(LayoutFault::Bad(at)),
+        }
+    }
+
+    /// Reads the state of a responder.
+    pub fn responder_state(&mut self) -> Result<State, LayoutFault>
+        requires room { self.old.at ≤ 2000000 }
+        ensures read { Reads (λ s. s) result self.new ((state_in responder_states).read self.old) }
+        ensures near { OnOk result (self.new.at ≡ self.old.at + 1) }
+    {
+        let at = self.at;
+        match self.octet()? {
+            0 => Ok(State::Idle),
+            1 => Ok(State::InProcess),
+            2 => Ok(State::Conditional),
+            3 => Ok(State::CancelPending),
+            4 => Ok(State::Cancelled),
+            5 => Ok(State::NotSupplied),
+            6 => Ok(State::Shipped),
+            8 => Ok(State::RenewPending),
+            9 => Ok(State::Overdue),
+            10 => Ok(State::RenewOverdue),
+            12 => Ok(State::Recall),
+            13 => Ok(State::Returned),
+            14 => Ok(State::CheckedIn),
+            _ => Err(LayoutFault::Bad(at)),
+        }
+    }
+
+    /// Reads a qualifier behind its length.
+    pub fn counted_text(&mut self) -> Result<&'a [u8], LayoutFault>
+        requires room { self.old.at ≤ 1000000 }
+        ensures read { Reads (λ text. text.now) result self.new (counted_text.read self.old) }
+        ensures qualifier { IfOk result (λ text. IsQualifier text.now) }
+        ensures near { OnOk result (self.new.at ≤ self.old.at + 65) }
+    {
+        let size = self.text_size()?;
+        let at = self.at;
+        let text = self.bytes(size)?;
+        if TxnId::is_qualifier(text) {
+            Ok(text)
+        } else {
+            Err(LayoutFault::Bad(at))
+        }
+    }
+
+    fn text_size(&mut self) -> Result<usize, LayoutFault>
+        requires room { self.old.at ≤ 2000000 }
+        ensures read { Reads (λ n. n) result self.new (text_size.read self.old) }
+        ensures few { IfOk result (λ size. size ≤ 64) }
+        ensures near { OnOk result (self.new.at ≡ self.old.at + 1) }
+    {
+        let at = self.at;
+        let size = self.octet()?;
+        if size == 0 || size > 64 {
+            Err(LayoutFault::Bad(at))
+        } else {
+            Ok(usize::from(size))
+        }
+    }
+
+    /// Reads a due date, if there is one.
+    pub fn due(&mut self) -> Result<Option<Day>, LayoutFault>
+        requires room { self.old.at ≤ 2000000 }
+        ensures read { Reads (λ d. d) result self.new (due.read self.old) }
+        ensures near { OnOk result (self.new.at ≡ self.old.at + 8) }
+    {
+        let at = self.at;
+        let text = self.bytes(8)?;
+        if text == b"00000000".as_slice() {
+            return Ok(None);
+        }
+        match Day::read(text) {
+            Ok(day) => Ok(Some(day)),
+            Err(_) => Err(LayoutFault::Bad(at)),
+        }
+    }
+
+    /// Reads an APDU.
+    pub fn apdu(&mut self, alloc: Global) -> Result<Apdu, RecordFault>
+        requires room { self.old.at ≤ 2000000 }
+        ensures read { ReadsInMemory (λ a. a) result self.new (apdu.read self.old) }
+        ensures near { OnOk result (self.new.at ≤ self.old.at + 359) }
+    {
+        match decode(alloc, self.bytes) {
+            Ok((apdu, size)) => {
+                self.at += size as u32;
+                self.bytes = &self.bytes[size..];
+                Ok(apdu)
+            }
+            Err(DerFault::Short(_)) => Err(RecordFault::Short),
+            Err(DerFault::OutOfMemory) => Err(RecordFault::OutOfMemory),
+            Err(_) => Err(RecordFault::Bad(self.at)),
+        }
+    }
+
+    /// Reads an ILL-Request, if there is one.
+    pub fn request(&mut self, alloc: Global) -> Result<Option<Apdu>, RecordFault>
+        requires room { self.old.at ≤ 1000000 }
+        ensures read { ReadsInMemory (λ a. a) result self.new ((marked ill_request).read self.old) }
+        ensures near { OnOk result (self.new.at ≤ self.old.at + 360) }
+    {
+        if self.mark()? {
+            Ok(Some(self.ill_request(alloc)?))
+        } else {
+            Ok(None)
+        }
+    }
+
+    fn ill_request(&mut self, alloc: Global) -> Result<Apdu, RecordFault>
+        requires room { self.old.at ≤ 2000000 }
+        ensures read { ReadsInMemory (λ a. a) result self.new (ill_request.read self.old) }
+        ensures near { OnOk result (self.new.at ≤ self.old.at + 359) }
+    {
+        let at = self.at;
+        let apdu = self.apdu(alloc)?;
+        match apdu.body {
+            Body::IllRequest { .. } => Ok(apdu),
+            _ => Err(RecordFault::Bad(at)),
+        }
+    }
+}

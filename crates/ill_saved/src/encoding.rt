@@ -1,0 +1,172 @@
+//! Encoding of a saved record.
+
+ghost use Rattle.std.specs.Prelude.{◌≡◌, ◌≤◌, ◌++◌, true, false, length, IfOk, OnOk, option_map};
+ghost use Rattle.ill_der.specs.ShortForm.{spelling};
+ghost use Rattle.ill_saved.specs.Layout.{spell_all, number_octet, mark, marked, counted, counted_text, apdu, ill_request};
+ghost use Rattle.ill_saved.specs.Records.{state_code, due, due_text, front, requester_states, spell_start, spell_requester, spell_responder, record_spelling};
+
+use crate::side::Side;
+use ill_core::{Requester, Responder, State};
+use ill_der::encode;
+use ill_values::{Apdu, Day, Number, OutOfMemory, TxnId};
+use std::alloc::Global;
+
+/// The one spelling of a side as a record.
+#[tactic(auto, unfolding(crate::specs::Records::record_spelling))]
+pub fn encode_record(alloc: Global, side: &Side) -> Result<Vec<u8>, OutOfMemory>
+    ensures { IfOk result (λ bytes. bytes.items ≡ record_spelling side.now) }
+{
+    let mut bytes = Vec::new(alloc);
+    match side {
+        Side::Requester(requester) => push_requester(alloc, &mut bytes, requester)?,
+        Side::Responder(responder) => push_responder(alloc, &mut bytes, responder)?,
+    }
+    Ok(bytes)
+}
+
+fn push_requester(
+    alloc: Global,
+    bytes: &mut Vec<u8>,
+    requester: &Requester,
+) -> Result<(), OutOfMemory>
+    ensures { OnOk result (bytes.new.items ≡ bytes.old.items ++ (spell_start false ++ spell_requester requester.now)) }
+{
+    bytes.extend_from_slice(b"ILL1\x00")?;
+    push_front(bytes, requester.state(), requester.txn())?;
+    let mark = u8::from(requester.is_checked_in());
+    bytes.extend_from_slice(&[octet_of_number(requester.held()), mark])?;
+    push_due(bytes, requester.due())?;
+    push_issued(alloc, bytes, requester.issued_count(), requester.messages())
+}
+
+fn push_responder(
+    alloc: Global,
+    bytes: &mut Vec<u8>,
+    responder: &Responder,
+) -> Result<(), OutOfMemory>
+    ensures { OnOk result (bytes.new.items ≡ bytes.old.items ++ (spell_start true ++ spell_responder responder.now)) }
+{
+    bytes.extend_from_slice(b"ILL1\x01")?;
+    push_front(bytes, responder.state(), responder.txn())?;
+    let numbers = [
+        octet_of_number(responder.accepted()),
+        octet_of_number(responder.last_cancel()),
+        octet_of_number(responder.last_renew()),
+    ];
+    bytes.extend_from_slice(&numbers)?;
+    bytes.push(u8::from(responder.is_received()))?;
+    push_request(alloc, bytes, responder.request())?;
+    push_issued(alloc, bytes, responder.issued_count(), responder.messages())
+}
+
+/// Adds the state and the qualifiers of the transaction.
+fn push_front(bytes: &mut Vec<u8>, state: State, txn: &TxnId) -> Result<(), OutOfMemory>
+    ensures { OnOk result (bytes.new.items ≡ bytes.old.items ++ (front requester_states).spell (state, (txn.now.group, txn.now.transaction))) }
+{
+    bytes.push(code(state))?;
+    push_text(bytes, txn.group())?;
+    push_text(bytes, txn.transaction())
+}
+
+/// Adds a qualifier behind its length.
+fn push_text(bytes: &mut Vec<u8>, text: &[u8]) -> Result<(), OutOfMemory>
+    requires few { length text.now ≤ 64 }
+    ensures { OnOk result (bytes.new.items ≡ bytes.old.items ++ counted_text.spell text.now) }
+{
+    bytes.push(text.len() as u8)?;
+    bytes.extend_from_slice(text)?;
+    Ok(())
+}
+
+fn push_due(bytes: &mut Vec<u8>, due: Option<Day>) -> Result<(), OutOfMemory>
+    ensures { OnOk result (bytes.new.items ≡ bytes.old.items ++ due_text due) }
+{
+    match due {
+        Some(day) => bytes.extend_from_slice(&day.digits())?,
+        None => bytes.extend_from_slice(b"00000000")?,
+    }
+    Ok(())
+}
+
+/// Adds the ILL-Request, if there is one.
+fn push_request(
+    alloc: Global,
+    bytes: &mut Vec<u8>,
+    request: Option<&Apdu>,
+) -> Result<(), OutOfMemory>
+    ensures { OnOk result (bytes.new.items ≡ bytes.old.items ++ (marked ill_request).spell (option_map (λ a. a.now) request.entry)) }
+{
+    match request {
+        Some(apdu) => {
+            bytes.push(1)?;
+            push_apdu(alloc, bytes, apdu)
+        }
+        None => {
+            bytes.push(0)?;
+            Ok(())
+        }
+    }
+}
+
+/// Adds the count of the APDUs and these.
+fn push_issued(
+    alloc: Global,
+    bytes: &mut Vec<u8>,
+    count: u8,
+    apdus: &[Apdu],
+) -> Result<(), OutOfMemory>
+    requires { count ≡ length apdus.now }
+    ensures { OnOk result (bytes.new.items ≡ bytes.old.items ++ (counted apdu).spell apdus.now) }
+{
+    bytes.push(count)?;
+    push_apdus(alloc, bytes, apdus)
+}
+
+fn push_apdus(alloc: Global, bytes: &mut Vec<u8>, apdus: &[Apdu]) -> Result<(), OutOfMemory>
+    ensures { OnOk result (bytes.new.items ≡ bytes.old.items ++ spell_all spelling apdus.now) }
+{
+    for apdu in apdus {
+        push_apdu(alloc, bytes, apdu)?;
+    }
+    Ok(())
+}
+
+fn push_apdu(alloc: Global, bytes: &mut Vec<u8>, apdu: &Apdu) -> Result<(), OutOfMemory>
+    ensures { OnOk result (bytes.new.items ≡ bytes.old.items ++ spelling apdu.now) }
+{
+    bytes.extend_from_slice(&encode(alloc, apdu)?)?;
+    Ok(())
+}
+
+/// The octet of a number, or 0 where there is none.
+fn octet_of_number(number: Option<Number>) -> u8
+    ensures { result ≡ number_octet number }
+{
+    match number {
+        Some(number) => number.get(),
+        None => 0,
+    }
+}
+
+/// The octet of a state.
+fn code(state: State) -> u8
+    ensures { result ≡ state_code state }
+{
+    match state {
+        State::Idle => 0,
+        State::Pending | State::InProcess => 1,
+        State::Conditional => 2,
+        State::CancelPending => 3,
+        State::Cancelled => 4,
+        State::NotSupplied => 5,
+        State::Shipped => 6,
+        State::Received => 7,
+        State::RenewPending => 8,
+        State::Overdue => 9,
+        State::RenewOverdue => 10,
+        State::NotReceivedOverdue => 11,
+        State::Recall => 12,
+        State::Returned => 13,
+        State::CheckedIn => 14,
+    }
+}

@@ -1,0 +1,25 @@
+//! What holds of saved records, as contracts of functions that do nothing.
+
+ghost use Rattle.std.specs.Prelude.{◌≡◌, ℕ, List, Ok};
+ghost use Rattle.ill_der.specs.Laws.{IsBytes};
+ghost use Rattle.ill_saved.specs.declared.side.Side.{Side};
+ghost use Rattle.ill_saved.specs.Records.{record_at, record_spelling};
+ghost use Rattle.ill_saved.specs.Ranges.{IsInRange, IsSide};
+
+/// A side is read from its spelling: with this, `decode_record` gives back what `encode_record` spelled.
+#[tactic(auto, using(crate::proofs::RecordLaws::side_again))]
+pub fn read_again()
+    ensures { (side : Side) → IsSide side → record_at (record_spelling side) ≡ Ok side }
+{}
+
+/// What is read as a side is the spelling of that side.
+pub fn spelled()
+    ensures { (bytes : List ℕ) (side : Side) → IsBytes bytes → record_at bytes ≡ Ok side →
+        (bytes ≡ record_spelling side) × IsInRange side }
+{}
+
+/// No bytes spell two sides.
+#[tactic(auto, using(crate::proofs::RecordLaws::one_side))]
+pub fn one_side()
+    ensures { (s t : Side) → IsSide s → IsSide t → record_spelling s ≡ record_spelling t → s ≡ t }
+{}

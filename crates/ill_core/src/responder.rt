@@ -168,13 +168,6 @@ impl Responder {
         self.issued.count()
     }
 
-    /// The messages that were issued, in their order.
-    pub fn messages(&self) -> &[Apdu]
-        ensures { result.now ≡ self.now.issued }
-    {
-        self.issued.apdus()
-    }
-
     /// The message that was issued with this number.
     pub fn issued(&self, number: Number) -> Option<&Apdu>
         ensures { option_map (λ a. a.now) result ≡ message self.now.issued number }

@@ -1,3 +1,4 @@
 pub mod Layout
 pub mod Records
 pub mod Ranges
+pub mod Store

@@ -116,6 +116,11 @@ abbrev pub is_responder : Side → Bool
 is_responder (sides.Requester x) = false
 is_responder (sides.Responder y) = true
 
+-- the APDUs that a side has issued
+abbrev pub issued_of : Side → List Apdu
+issued_of (sides.Requester x) = x.issued
+issued_of (sides.Responder y) = y.issued
+
 abbrev pub spell_fields : Side → List ℕ
 spell_fields (sides.Requester x) = spell_requester x
 spell_fields (sides.Responder y) = spell_responder y

@@ -3,9 +3,9 @@
 ghost use Rattle.std.specs.Prelude.{◌≡◌, ◌≤◌, ◌++◌, true, false, length, IfOk, OnOk, option_map};
 ghost use Rattle.ill_der.specs.ShortForm.{spelling};
 ghost use Rattle.ill_saved.specs.Layout.{spell_all, number_octet, mark, marked, counted, counted_text, apdu, ill_request};
-ghost use Rattle.ill_saved.specs.Records.{state_code, due, due_text, front, requester_states, spell_start, spell_requester, spell_responder, record_spelling};
+ghost use Rattle.ill_saved.specs.Records.{state_code, due, due_text, front, requester_states, spell_start, spell_requester, spell_responder, issued_of, record_spelling};
 
-use crate::side::Side;
+use crate::side::{Side, issued, issued_count};
 use ill_core::{Requester, Responder, State};
 use ill_der::encode;
 use ill_values::{Apdu, Day, Number, OutOfMemory, TxnId};
@@ -18,33 +18,31 @@ pub fn encode_record(alloc: Global, side: &Side) -> Result<Vec<u8>, OutOfMemory>
 {
     let mut bytes = Vec::new(alloc);
     match side {
-        Side::Requester(requester) => push_requester(alloc, &mut bytes, requester)?,
+        Side::Requester(requester) => push_requester(&mut bytes, requester)?,
         Side::Responder(responder) => push_responder(alloc, &mut bytes, responder)?,
     }
+    push_issued(alloc, &mut bytes, side)?;
     Ok(bytes)
 }
 
-fn push_requester(
-    alloc: Global,
-    bytes: &mut Vec<u8>,
-    requester: &Requester,
-) -> Result<(), OutOfMemory>
-    ensures { OnOk result (bytes.new.items ≡ bytes.old.items ++ (spell_start false ++ spell_requester requester.now)) }
+/// Adds all that stands before the messages issued.
+fn push_requester(bytes: &mut Vec<u8>, requester: &Requester) -> Result<(), OutOfMemory>
+    ensures { OnOk result (bytes.new.items ++ (counted apdu).spell requester.now.issued ≡ bytes.old.items ++ (spell_start false ++ spell_requester requester.now)) }
 {
     bytes.extend_from_slice(b"ILL1\x00")?;
     push_front(bytes, requester.state(), requester.txn())?;
     let mark = u8::from(requester.is_checked_in());
     bytes.extend_from_slice(&[octet_of_number(requester.held()), mark])?;
-    push_due(bytes, requester.due())?;
-    push_issued(alloc, bytes, requester.issued_count(), requester.messages())
+    push_due(bytes, requester.due())
 }
 
+/// Adds all that stands before the messages issued.
 fn push_responder(
     alloc: Global,
     bytes: &mut Vec<u8>,
     responder: &Responder,
 ) -> Result<(), OutOfMemory>
-    ensures { OnOk result (bytes.new.items ≡ bytes.old.items ++ (spell_start true ++ spell_responder responder.now)) }
+    ensures { OnOk result (bytes.new.items ++ (counted apdu).spell responder.now.issued ≡ bytes.old.items ++ (spell_start true ++ spell_responder responder.now)) }
 {
     bytes.extend_from_slice(b"ILL1\x01")?;
     push_front(bytes, responder.state(), responder.txn())?;
@@ -55,8 +53,7 @@ fn push_responder(
     ];
     bytes.extend_from_slice(&numbers)?;
     bytes.push(u8::from(responder.is_received()))?;
-    push_request(alloc, bytes, responder.request())?;
-    push_issued(alloc, bytes, responder.issued_count(), responder.messages())
+    push_request(alloc, bytes, responder.request())
 }
 
 /// Adds the state and the qualifiers of the transaction.
@@ -108,25 +105,18 @@ fn push_request(
     }
 }
 
-/// Adds the count of the APDUs and these.
-fn push_issued(
-    alloc: Global,
-    bytes: &mut Vec<u8>,
-    count: u8,
-    apdus: &[Apdu],
-) -> Result<(), OutOfMemory>
-    requires { count ≡ length apdus.now }
-    ensures { OnOk result (bytes.new.items ≡ bytes.old.items ++ (counted apdu).spell apdus.now) }
+/// Adds the count of the messages issued, and these.
+fn push_issued(alloc: Global, bytes: &mut Vec<u8>, side: &Side) -> Result<(), OutOfMemory>
+    ensures { OnOk result (bytes.new.items ≡ bytes.old.items ++ (counted apdu).spell (issued_of side.now)) }
 {
+    let count = issued_count(side);
     bytes.push(count)?;
-    push_apdus(alloc, bytes, apdus)
-}
-
-fn push_apdus(alloc: Global, bytes: &mut Vec<u8>, apdus: &[Apdu]) -> Result<(), OutOfMemory>
-    ensures { OnOk result (bytes.new.items ≡ bytes.old.items ++ spell_all spelling apdus.now) }
-{
-    for apdu in apdus {
-        push_apdu(alloc, bytes, apdu)?;
+    for index in 0..count {
+        let number = Number::new(index + 1);
+        match number.and_then(|number| issued(side, number)) {
+            Some(apdu) => push_apdu(alloc, bytes, apdu)?,
+            None => unreachable!(),
+        }
     }
     Ok(())
 }

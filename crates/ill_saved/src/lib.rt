@@ -6,9 +6,13 @@ mod decoding;
 mod encoding;
 mod fault;
 pub mod laws;
+mod memory_store;
 mod side;
+mod store;
 
 pub use decoding::decode_record;
 pub use encoding::encode_record;
 pub use fault::RecordFault;
-pub use side::Side;
+pub use memory_store::MemoryStore;
+pub use side::{Action, Side};
+pub use store::{NextCall, Store, StoreFault};

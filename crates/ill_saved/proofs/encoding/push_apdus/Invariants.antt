@@ -1,9 +1,0 @@
-use Rattle.std.proofs.Common.{◌≡◌, ◌++◌, drop}
-use Rattle.ill_der.specs.ShortForm.{spelling}
-use Rattle.ill_saved.specs.Layout.{spell_all}
-use Rattle.ill_saved.proofs.encoding.push_apdus.Given as goal
-
--- with what is left to spell, all is there
-abbrev pub invariant-loop-apdu : goal.invariant-loop-apdu
-invariant-loop-apdu l =
-    l.bytes.items ++ spell_all spelling (drop l.apdu-index l.apdus) ≡ l.fn.bytes.items ++ spell_all spelling l.apdus

@@ -1,0 +1,90 @@
+//! A store in memory, whose failures are planned.
+
+ghost use Rattle.std.specs.Prelude.{◌≡◌, true, None, Some, option_map};
+ghost use Rattle.ill_saved.specs.declared.store.NextCall.TheVariants as plans;
+ghost use Rattle.ill_saved.specs.Store.{Memory};
+
+use crate::store::{NextCall, Store, StoreFault};
+use std::alloc::Global;
+use std::marker::Model;
+
+/// A store in memory. It fails only where its next call is planned to.
+#[derive(Debug, Drop)]
+pub struct MemoryStore {
+    alloc: Global,
+    landed: Option<Vec<u8>>,
+    failures: u64,
+    next: NextCall,
+}
+
+impl Model for MemoryStore {
+    ghost Value = { Memory };
+
+    ghost view = { λ m. record { landed = option_map (λ b. b.items) m.landed; failures = m.failures; next = m.next } };
+}
+
+impl MemoryStore {
+    /// A store in which nothing has landed.
+    pub fn new(alloc: Global) -> MemoryStore
+        ensures { result ≡ record { landed = None; failures = 0; next = plans.Works } }
+    {
+        MemoryStore {
+            alloc,
+            landed: None,
+            failures: 0,
+            next: NextCall::Works,
+        }
+    }
+
+    /// Plans the next call.
+    pub fn set_next(&mut self, next: NextCall)
+        ensures { self.new ≡ record self.old { next = next } }
+    {
+        self.next = next;
+    }
+
+    /// The plan of this call, which is spent.
+    fn take_plan(&mut self) -> NextCall
+        ensures plan { result ≡ self.old.next }
+        ensures spent { self.new ≡ record self.old { next = plans.Works } }
+    {
+        let plan = self.next;
+        self.next = NextCall::Works;
+        plan
+    }
+}
+
+impl Store for MemoryStore {
+    ghost landed = { λ m. m.landed };
+
+    ghost failures = { λ m. m.failures };
+
+    ghost is_honest = { λ _. true };
+
+    ghost plan = { λ m. Some m.next };
+
+    fn load(&mut self, alloc: Global) -> Result<Option<Vec<u8>>, StoreFault> {
+        match self.take_plan() {
+            NextCall::Works => match &self.landed {
+                Some(bytes) => Ok(Some(Vec::from_slice(alloc, bytes)?)),
+                None => Ok(None),
+            },
+            NextCall::FailsOld | NextCall::FailsNew => {
+                self.failures = self.failures.saturating_add(1);
+                Err(StoreFault::Failed)
+            }
+        }
+    }
+
+    fn save(&mut self, alloc: Global, bytes: &[u8]) -> Result<(), StoreFault> {
+        let plan = self.take_plan();
+        if plan != NextCall::FailsOld {
+            self.landed = Some(Vec::from_slice(alloc, bytes)?);
+        }
+        if plan == NextCall::Works {
+            return Ok(());
+        }
+        self.failures = self.failures.saturating_add(1);
+        Err(StoreFault::Failed)
+    }
+}

@@ -14,5 +14,5 @@ pub use decoding::decode_record;
 pub use encoding::encode_record;
 pub use fault::RecordFault;
 pub use memory_store::MemoryStore;
-pub use side::{Action, Side};
+pub use side::Side;
 pub use store::{NextCall, Store, StoreFault};

@@ -16,3 +16,6 @@ pub use fault::RecordFault;
 pub use memory_store::MemoryStore;
 pub use side::Side;
 pub use store::{NextCall, Store, StoreFault};
+
+#[cfg(test)]
+mod tests;

@@ -5,6 +5,7 @@
 use super::CANCEL;
 use ill_core::{Deed, Refusal, Requester, Responder, State, Taking, Wish};
 use ill_der::{DerFault, ReadFault, WriteFault, decode, encode, read_apdu, write_apdu};
+use ill_saved::{MemoryStore, RecordFault, Side, Store, StoreFault, decode_record, encode_record};
 use ill_values::{AnswerResult, Apdu, Body, Day, Item, Number, TextFault, TxnId};
 use std::alloc::{AllocError, Global};
 use std::fmt::Debug;
@@ -200,5 +201,67 @@ fn responder_is_declined(rt: HostRuntime) -> Result<(), Fail> {
     };
     expect_shown(&rt, &responder, shown)?;
     assert_eq!(rt; responder.issued(unfilled.number), last);
+    Ok(())
+}
+
+/// The record of the requester that has issued `REQUEST`.
+const RECORD: &[u8] =
+    b"ILL1\x00\x01\x02G1\x02T1\x00\x0000000000\x01\x61\x16\x80\x01\x01\xA1\x08\x81\x02G1\x82\x02T1\x82\x01\x01\x86\x04Maps";
+
+fn state_of(side: &Side) -> State {
+    match side {
+        Side::Requester(requester) => requester.state(),
+        Side::Responder(responder) => responder.state(),
+    }
+}
+
+#[test]
+fn records(rt: HostRuntime) -> Result<(), Fail> {
+    let alloc = rt.alloc();
+    let mut requester = Requester::idle(alloc, TxnId::new(alloc, b"G1", b"T1")?);
+    let item = Item::new(alloc, b"Maps")?;
+    requester.act(alloc, &Wish::Request { expiry: None, item })?;
+    let side = Side::Requester(requester);
+    let bytes = Vec::from_slice(alloc, RECORD)?;
+
+    let encoded = encode_record(alloc, &side);
+    report(&rt, "encode_record", &encoded, &bytes, &AllocError)?;
+    let decoded = decode_record(alloc, RECORD).map(|side| state_of(&side));
+    report(
+        &rt,
+        "decode_record",
+        &decoded,
+        &State::Pending,
+        &RecordFault::OutOfMemory,
+    )
+}
+
+#[test]
+fn store(rt: HostRuntime) -> Result<(), Fail> {
+    let alloc = rt.alloc();
+    let bytes = Vec::from_slice(alloc, RECORD)?;
+    let mut full = MemoryStore::new(alloc);
+    full.save(alloc, RECORD)?;
+    let mut empty = MemoryStore::new(alloc);
+
+    let loaded = full.load(alloc);
+    report(
+        &rt,
+        "MemoryStore::load",
+        &loaded,
+        &Some(bytes),
+        &StoreFault::OutOfMemory,
+    )?;
+    let saved = empty.save(alloc, RECORD);
+    report(
+        &rt,
+        "MemoryStore::save",
+        &saved,
+        &(),
+        &StoreFault::OutOfMemory,
+    )?;
+    if saved.is_err() {
+        assert_eq!(rt; empty.load(alloc)?, None);
+    }
     Ok(())
 }

@@ -1,0 +1,3 @@
+//! Tests of saved records and stores.
+
+mod stores;

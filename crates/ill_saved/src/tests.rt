@@ -1,3 +1,15 @@
-//! Tests of saved records and stores.
+//! Tests of saved records against bytes that were made by hand.
 
+mod bad;
+mod messages;
+mod order;
+mod qualifiers;
+mod records;
+mod requester_fields;
+mod requester_records;
+mod requester_rules;
+mod responder_fields;
+mod responder_records;
+mod responder_rules;
+mod short;
 mod stores;

@@ -25,6 +25,9 @@ use Rattle.ill_core.proofs.IssuedLemmas.{last_of_more}
 pub takes_issues : (x : RequesterRecord) (a : Apdu) → (takes x a).1.issued ≡ x.issued
 takes_issues x a = of_takes (λ r. r.1.issued ≡ x.issued) x a (λ _. refl) (leaves x a.number a.body).issued
 
+pub takes_txn : (x : RequesterRecord) (a : Apdu) → (takes x a).1.txn ≡ x.txn
+takes_txn x a = of_takes (λ r. r.1.txn ≡ x.txn) x a (λ _. refl) (leaves x a.number a.body).txn
+
 abbrev Quiet : RequesterRecord → Result Taking Refusal × RequesterRecord → Type 0
 Quiet x r = (r.0 ≡ Ok takings.Taken) ⊎ (r.1 ≡ x)
 

@@ -19,6 +19,7 @@ use Rattle.ill_core.specs.RequesterFacts.{KeepsDue, Holds, Tells, shows_refused}
 use Rattle.ill_core.specs.RequesterFacts as facts
 
 pub record Leaves (x : RequesterRecord) (k : ℕ) (body : Body) (answer : Taking × RequesterRecord) : Type 0 where
+  pub txn : answer.1.txn ≡ x.txn
   pub issued : answer.1.issued ≡ x.issued
   pub quiet : (answer.0 ≡ takings.Taken) ⊎ (answer.1 ≡ x)
   pub final : is_among (Cancelled ∷ NotSupplied ∷ Returned ∷ []) x.state ≡ true → answer.1.state ≡ x.state

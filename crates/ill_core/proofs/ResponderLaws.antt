@@ -29,6 +29,12 @@ deeds_issue y new deed today = of_deeds (λ r. IssuesNext y.txn y.issued r.issue
 pub takes_issue : (y : ResponderRecord) (a : Apdu) → IssuesUnfilled y a.body (responder_takes y a).1
 takes_issue y a = of_takes (IssuesUnfilled y a.body) y a (λ how. inl how.issued) (λ said how. inr (said, refl))
 
+pub deeds_txn : (y new : ResponderRecord) (deed : Deed) (today : Date) → deed_acts y deed today ≡ Ok new → new.txn ≡ y.txn
+deeds_txn y new deed today = of_deeds (λ r. r.txn ≡ y.txn) y new deed today (λ body next how. refl)
+
+pub takes_txn : (y : ResponderRecord) (a : Apdu) → (responder_takes y a).1.txn ≡ y.txn
+takes_txn y a = of_takes (λ r. r.txn ≡ y.txn) y a (λ how. how.txn) (λ said how. refl)
+
 not_both : {P : Type 0} (b : Bool) → b ≡ false → b ≡ true → P
 not_both b is_false is_true = search rules
 

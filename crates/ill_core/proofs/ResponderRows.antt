@@ -39,6 +39,7 @@ pub record Issues (y : ResponderRecord) (body : Body) (state : State) : Type 0 w
 
 -- a row that issues nothing
 pub record Moves (y : ResponderRecord) (number : ℕ) (body : Body) (new : ResponderRecord) : Type 0 where
+  pub txn : new.txn ≡ y.txn
   pub issued : new.issued ≡ y.issued
   pub final : is_among (NotSupplied ∷ Cancelled ∷ CheckedIn ∷ []) y.state ≡ true → new.state ≡ y.state
   pub unsupplied : is_among (NotSupplied ∷ []) y.state ≡ is_among (NotSupplied ∷ []) new.state

@@ -1,6 +1,9 @@
 //! Encoding of one APDU: its one spelling.
 
-ghost use Rattle.std.specs.Prelude.{◌≡◌, ◌<◌, ◌≤◌, ◌++◌, ◌∷◌, [], length, IfOk, OnOk};
+ghost use Rattle.std.specs.Prelude.{◌≡◌, ◌<◌, ◌≤◌, ◌++◌, ◌∷◌, [], length, IfOk, OnOk, IfSome};
+ghost use Rattle.ill_values.specs.Day.{IsDate};
+ghost use Rattle.ill_values.specs.TxnId.{AreQualifiers};
+ghost use Rattle.ill_values.specs.Apdu.{IsApdu, IsBody, IsNumber};
 ghost use Rattle.ill_der.specs.Contents.{answer_result, code_of, date, number, number_octets, yes_no};
 ghost use Rattle.ill_der.specs.Format.{element, length_octets, optional, required};
 ghost use Rattle.ill_der.specs.ShortForm.{due_date, grant, head_of, reply, spell_body, spelling, txn_id};
@@ -16,6 +19,7 @@ use std::alloc::Global;
 pub fn encode(alloc: Global, apdu: &Apdu) -> Result<Vec<u8>, OutOfMemory>
     ensures spelled { IfOk result (λ bytes. bytes.items ≡ spelling apdu.now) }
     ensures most { IfOk result (λ bytes. length bytes.items ≤ 359) }
+    ensures range { OnOk result (IsApdu apdu.now) }
 {
     let mut bytes = Vec::with_capacity(alloc, size(apdu))?;
     push_start(
@@ -30,7 +34,8 @@ pub fn encode(alloc: Global, apdu: &Apdu) -> Result<Vec<u8>, OutOfMemory>
 
 /// Adds the fields that each APDU has.
 fn push_head(bytes: &mut Vec<u8>, apdu: &Apdu) -> Result<(), OutOfMemory>
-    ensures { OnOk result (bytes.new.items ≡ bytes.old.items ++ head_of apdu.now) }
+    ensures bytes { OnOk result (bytes.new.items ≡ bytes.old.items ++ head_of apdu.now) }
+    ensures range { OnOk result (AreQualifiers apdu.now.txn × IsNumber apdu.now.number) }
 {
     push_element(bytes, tags::VERSION, &[1])?;
     push_id(bytes, &apdu.txn)?;
@@ -39,7 +44,8 @@ fn push_head(bytes: &mut Vec<u8>, apdu: &Apdu) -> Result<(), OutOfMemory>
 
 #[tactic(auto, unfolding(crate::specs::Format::element))]
 fn push_id(bytes: &mut Vec<u8>, id: &TxnId) -> Result<(), OutOfMemory>
-    ensures { OnOk result (bytes.new.items ≡ bytes.old.items ++ txn_id.spell (id.now.group, id.now.transaction)) }
+    ensures bytes { OnOk result (bytes.new.items ≡ bytes.old.items ++ txn_id.spell (id.now.group, id.now.transaction)) }
+    ensures range { OnOk result (AreQualifiers id.now) }
 {
     push_start(bytes, tags::TRANSACTION_ID, qualifiers_size(id))?;
     push_element(bytes, tags::GROUP_QUALIFIER, id.group())?;
@@ -48,7 +54,8 @@ fn push_id(bytes: &mut Vec<u8>, id: &TxnId) -> Result<(), OutOfMemory>
 
 /// Adds the further fields.
 fn push_body(bytes: &mut Vec<u8>, body: &Body) -> Result<(), OutOfMemory>
-    ensures { OnOk result (bytes.new.items ≡ bytes.old.items ++ spell_body body.now) }
+    ensures bytes { OnOk result (bytes.new.items ≡ bytes.old.items ++ spell_body body.now) }
+    ensures range { OnOk result (IsBody body.now) }
 {
     match body {
         Body::IllRequest { expiry, item } => {
@@ -72,21 +79,24 @@ fn push_body(bytes: &mut Vec<u8>, body: &Body) -> Result<(), OutOfMemory>
 }
 
 fn push_grant(bytes: &mut Vec<u8>, answers: Number, granted: Option<Day>) -> Result<(), OutOfMemory>
-    ensures { OnOk result (bytes.new.items ≡ bytes.old.items ++ grant.spell (answers, granted)) }
+    ensures bytes { OnOk result (bytes.new.items ≡ bytes.old.items ++ grant.spell (answers, granted)) }
+    ensures range { OnOk result (IsNumber answers × IfSome granted IsDate) }
 {
     push_reply(bytes, answers, granted.is_some())?;
     push_optional_date(bytes, granted)
 }
 
 fn push_reply(bytes: &mut Vec<u8>, answers: Number, yes: bool) -> Result<(), OutOfMemory>
-    ensures { OnOk result (bytes.new.items ≡ bytes.old.items ++ reply.spell (answers, yes)) }
+    ensures bytes { OnOk result (bytes.new.items ≡ bytes.old.items ++ reply.spell (answers, yes)) }
+    ensures range { OnOk result (IsNumber answers) }
 {
     push_number(bytes, tags::ANSWERS, answers)?;
     push_element(bytes, tags::YES_NO, &[if yes { 0xFF } else { 0 }])
 }
 
 fn push_optional_date(bytes: &mut Vec<u8>, day: Option<Day>) -> Result<(), OutOfMemory>
-    ensures { OnOk result (bytes.new.items ≡ bytes.old.items ++ (optional 0x85 date).spell day) }
+    ensures bytes { OnOk result (bytes.new.items ≡ bytes.old.items ++ (optional 0x85 date).spell day) }
+    ensures range { OnOk result (IfSome day IsDate) }
 {
     match day {
         None => Ok(()),
@@ -95,14 +105,16 @@ fn push_optional_date(bytes: &mut Vec<u8>, day: Option<Day>) -> Result<(), OutOf
 }
 
 fn push_date(bytes: &mut Vec<u8>, day: Day) -> Result<(), OutOfMemory>
-    ensures { OnOk result (bytes.new.items ≡ bytes.old.items ++ due_date.spell day) }
+    ensures bytes { OnOk result (bytes.new.items ≡ bytes.old.items ++ due_date.spell day) }
+    ensures range { OnOk result (IsDate day) }
 {
     push_element(bytes, tags::DATE, &day.digits())
 }
 
 /// Adds a number, as an INTEGER (X.690 8.3).
 fn push_number(bytes: &mut Vec<u8>, identifier: u8, number: Number) -> Result<(), OutOfMemory>
-    ensures { OnOk result (bytes.new.items ≡ bytes.old.items ++ element identifier (number_octets number)) }
+    ensures bytes { OnOk result (bytes.new.items ≡ bytes.old.items ++ element identifier (number_octets number)) }
+    ensures range { OnOk result (IsNumber number) }
 {
     let octet = number.get();
     if octet < 0x80 {

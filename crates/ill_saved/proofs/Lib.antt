@@ -2,3 +2,4 @@ pub mod Lists
 pub mod Records
 pub mod Fields
 pub mod RecordLaws
+pub mod Desks

@@ -1,5 +1,5 @@
 -- Fields that stand one after another.
-use Rattle.std.proofs.Common.{◌≡◌, ℕ, suc, ◌+◌, ◌<◌, ◌≤◌, length, drop, List, [], ◌∷◌, ◌++◌, Result, Ok, Err, refl, ap, sym, ◌∙◌, append_assoc, append-nil}
+use Rattle.std.proofs.Common.{◌≡◌, ℕ, suc, ◌+◌, ◌<◌, ◌≤◌, length, drop, List, [], ◌∷◌, ◌++◌, Result, Ok, Err, refl, ap, sym, subst, ◌∙◌, append_assoc, append-nil}
 use Rattle.ill_der.specs.Format.{◌>>=◌, Left}
 use Rattle.ill_saved.specs.declared.fault.LayoutFault.{LayoutFault}
 use Rattle.ill_saved.specs.declared.fault.LayoutFault.TheVariants.{Short, Bad}
@@ -9,6 +9,7 @@ use Rattle.ill_saved.specs.Layout.{Field, read_all, spell_all, ReadsInMemory}
 use Rattle.std.proofs.Math.ListN.{get_or}
 use Rattle.std.proofs.lemmas.List.{at_drop_all}
 use Rattle.ill_core.proofs.IssuedLemmas.{front_at}
+use Rattle.ill_saved.specs.Ranges.{Each}
 
 -- further values behind those that were read
 abbrev pub behind : {V : Type 0} → List V → Result (List V × Left) LayoutFault → Result (List V × Left) LayoutFault
@@ -76,3 +77,15 @@ one_spelled spell bytes values i v within there =
     let front : drop i values ≡ v ∷ drop (i + 1) values = front_at values i v within ∙ ap (λ x. x ∷ drop (i + 1) values) (sym there) in
     append_assoc bytes (spell v) (spell_all spell (drop (i + 1) values))
     ∙ ap (λ t. bytes ++ t) (sym (spell_more spell v (drop (i + 1) values)) ∙ ap (spell_all spell) (sym front))
+
+-- one more of those behind
+pub one_each : {V : Type 0} (P : V → Type 0) (values : List V) (i : ℕ) (v : V) → i < length values → v ≡ get_or values i v → P v → Each P (drop (i + 1) values) → Each P (drop i values)
+unfolding Each
+one_each P values i v within there is others =
+    let front : drop i values ≡ v ∷ drop (i + 1) values = front_at values i v within ∙ ap (λ x. x ∷ drop (i + 1) values) (sym there) in
+    subst (Each P) (sym front) (is, others)
+
+-- behind the last there is none
+pub none_each : {V : Type 0} (P : V → Type 0) (values : List V) (i : ℕ) → length values ≤ i → Each P (drop i values)
+unfolding Each
+none_each P values i all = subst (Each P) (sym (at_drop_all (λ xs. xs) values i all)) tt

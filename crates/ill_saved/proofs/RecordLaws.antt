@@ -127,9 +127,11 @@ requester_takes left side rest fits e =
       refl,
       is.0,
       record {
-        txn = record { group = is.1.0.1.0; transaction = is.1.0.1.1 };
-        held = is.1.1.0;
-        due = is.1.1.1.1.0;
+        parts = record {
+          txn = record { group = is.1.0.1.0; transaction = is.1.0.1.1 };
+          held = is.1.1.0;
+          due = is.1.1.1.1.0;
+        };
         issued = is.1.1.1.1.1.0;
         few = omega (arith, is.1.1.1.1.1.1);
       },
@@ -144,11 +146,13 @@ responder_takes left side rest fits e =
       refl,
       is.0,
       record {
-        txn = record { group = is.1.0.1.0; transaction = is.1.0.1.1 };
-        accepted = is.1.1.0;
-        last_cancel = is.1.1.1.0;
-        last_renew = is.1.1.1.1.0;
-        request = request_in_range _ is.1.1.1.1.1.1.0;
+        parts = record {
+          txn = record { group = is.1.0.1.0; transaction = is.1.0.1.1 };
+          accepted = is.1.1.0;
+          last_cancel = is.1.1.1.0;
+          last_renew = is.1.1.1.1.0;
+          request = request_in_range _ is.1.1.1.1.1.1.0;
+        };
         issued = is.1.1.1.1.1.1.1.0;
         few = omega (arith, is.1.1.1.1.1.1.1.1);
       },
@@ -189,14 +193,14 @@ fields_again : (side : Side) (at : ℕ) (more : List ℕ) → IsSide side → (a
 fields_again (sides.Requester x) at more is =
     let range = is.1 in
     let read = requester_fields_is.again ((x.state, (x.txn.group, x.txn.transaction)), (x.held, (x.checked_in, (x.due, x.issued)))) at more
-    ((requester_state_is x.state is.0.parts.role, (range.txn.group, range.txn.transaction)), (range.held, (tt, (range.due, (range.issued, omega (arith, range.few)))))) in
+    ((requester_state_is x.state is.0.parts.role, (range.parts.txn.group, range.parts.txn.transaction)), (range.parts.held, (tt, (range.parts.due, (range.issued, omega (arith, range.few)))))) in
     (read.0, rw read.1 refl)
 fields_again (sides.Responder y) at more is =
     let range = is.1 in
     let read = responder_fields_is.again
     ((y.state, (y.txn.group, y.txn.transaction)), (y.accepted, (y.last_cancel, (y.last_renew, (y.received, (y.request, y.issued)))))) at more (
-      (responder_state_is y.state is.0.parts.role, (range.txn.group, range.txn.transaction)),
-      (range.accepted, (range.last_cancel, (range.last_renew, (tt, (request_is y.txn y.request is.0.request range.request, (range.issued, omega (arith, range.few))))))),
+      (responder_state_is y.state is.0.parts.role, (range.parts.txn.group, range.parts.txn.transaction)),
+      (range.parts.accepted, (range.parts.last_cancel, (range.parts.last_renew, (tt, (request_is y.txn y.request is.0.request range.parts.request, (range.issued, omega (arith, range.few))))))),
     ) in
     (read.0, rw read.1 refl)
 

@@ -2,3 +2,5 @@ pub mod Layout
 pub mod Records
 pub mod Ranges
 pub mod Store
+pub mod Faults
+pub mod Desk

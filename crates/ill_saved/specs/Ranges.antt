@@ -7,7 +7,7 @@ use Rattle.ill_core.specs.Requester.{RequesterRecord}
 use Rattle.ill_core.specs.Responder.{ResponderRecord}
 use Rattle.ill_saved.specs.declared.side.Side.{Side}
 use Rattle.ill_saved.specs.declared.side.Side.TheVariants as sides
-use Rattle.ill_saved.specs.Records.{IsConsistent}
+use Rattle.ill_saved.specs.Records.{issued_of, IsConsistent}
 
 -- each of the values
 unfoldable pub Each : {V : Type 0} → (V → Type 0) → List V → Type 0
@@ -19,8 +19,6 @@ pub record RequesterInRange (x : RequesterRecord) : Type 0 where
   pub txn : AreQualifiers x.txn
   pub held : IfSome x.held IsNumber
   pub due : IfSome x.due IsDate
-  pub issued : Each IsApdu x.issued
-  pub few : length x.issued ≤ 255
 
 pub record ResponderInRange (y : ResponderRecord) : Type 0 where
   pub txn : AreQualifiers y.txn
@@ -28,12 +26,16 @@ pub record ResponderInRange (y : ResponderRecord) : Type 0 where
   pub last_cancel : IfSome y.last_cancel IsNumber
   pub last_renew : IfSome y.last_renew IsNumber
   pub request : IfSome y.request IsApdu
-  pub issued : Each IsApdu y.issued
-  pub few : length y.issued ≤ 255
 
-abbrev pub IsInRange : Side → Type 0
-IsInRange (sides.Requester x) = RequesterInRange x
-IsInRange (sides.Responder y) = ResponderInRange y
+abbrev pub PartsInRange : Side → Type 0
+PartsInRange (sides.Requester x) = RequesterInRange x
+PartsInRange (sides.Responder y) = ResponderInRange y
+
+-- and so is each APDU that was issued
+pub record IsInRange (side : Side) : Type 0 where
+  pub parts : PartsInRange side
+  pub issued : Each IsApdu (issued_of side)
+  pub few : length (issued_of side) ≤ 255
 
 -- a side that there can be
 abbrev pub IsSide : Side → Type 0

@@ -1,9 +1,15 @@
 //! Encoding of a saved record.
 
-ghost use Rattle.std.specs.Prelude.{◌≡◌, ◌≤◌, ◌++◌, true, false, length, IfOk, OnOk, option_map};
+ghost use Rattle.std.specs.Prelude.{◌≡◌, ◌≤◌, ◌++◌, true, false, length, IfOk, OnOk, IfSome, option_map};
+ghost use Rattle.ill_values.specs.Day.{IsDate};
+ghost use Rattle.ill_values.specs.TxnId.{AreQualifiers};
+ghost use Rattle.ill_values.specs.Apdu.{IsApdu, IsNumber};
 ghost use Rattle.ill_der.specs.ShortForm.{spelling};
+ghost use Rattle.ill_core.specs.Requester.{IsRequester};
+ghost use Rattle.ill_core.specs.Responder.{IsResponder};
 ghost use Rattle.ill_saved.specs.Layout.{spell_all, number_octet, mark, marked, counted, counted_text, apdu, ill_request};
 ghost use Rattle.ill_saved.specs.Records.{state_code, due, due_text, front, requester_states, spell_start, spell_requester, spell_responder, issued_of, record_spelling};
+ghost use Rattle.ill_saved.specs.Ranges.{Each, RequesterInRange, ResponderInRange, IsSide};
 
 use crate::side::{Side, issued, issued_count};
 use ill_core::{Requester, Responder, State};
@@ -14,7 +20,8 @@ use std::alloc::Global;
 /// The one spelling of a side as a record.
 #[tactic(auto, unfolding(crate::specs::Records::record_spelling))]
 pub fn encode_record(alloc: Global, side: &Side) -> Result<Vec<u8>, OutOfMemory>
-    ensures { IfOk result (λ bytes. bytes.items ≡ record_spelling side.now) }
+    ensures bytes { IfOk result (λ bytes. bytes.items ≡ record_spelling side.now) }
+    ensures side { OnOk result (IsSide side.now) }
 {
     let mut bytes = Vec::new(alloc);
     match side {
@@ -27,10 +34,13 @@ pub fn encode_record(alloc: Global, side: &Side) -> Result<Vec<u8>, OutOfMemory>
 
 /// Adds all that stands before the messages issued.
 fn push_requester(bytes: &mut Vec<u8>, requester: &Requester) -> Result<(), OutOfMemory>
-    ensures { OnOk result (bytes.new.items ++ (counted apdu).spell requester.now.issued ≡ bytes.old.items ++ (spell_start false ++ spell_requester requester.now)) }
+    ensures bytes { OnOk result (bytes.new.items ++ (counted apdu).spell requester.now.issued ≡ bytes.old.items ++ (spell_start false ++ spell_requester requester.now)) }
+    ensures range { OnOk result (RequesterInRange requester.now) }
+    ensures consistent { IsRequester requester.now }
 {
+    let state = requester.state();
     bytes.extend_from_slice(b"ILL1\x00")?;
-    push_front(bytes, requester.state(), requester.txn())?;
+    push_front(bytes, state, requester.txn())?;
     let mark = u8::from(requester.is_checked_in());
     bytes.extend_from_slice(&[octet_of_number(requester.held()), mark])?;
     push_due(bytes, requester.due())
@@ -42,10 +52,13 @@ fn push_responder(
     bytes: &mut Vec<u8>,
     responder: &Responder,
 ) -> Result<(), OutOfMemory>
-    ensures { OnOk result (bytes.new.items ++ (counted apdu).spell responder.now.issued ≡ bytes.old.items ++ (spell_start true ++ spell_responder responder.now)) }
+    ensures bytes { OnOk result (bytes.new.items ++ (counted apdu).spell responder.now.issued ≡ bytes.old.items ++ (spell_start true ++ spell_responder responder.now)) }
+    ensures range { OnOk result (ResponderInRange responder.now) }
+    ensures consistent { IsResponder responder.now }
 {
+    let state = responder.state();
     bytes.extend_from_slice(b"ILL1\x01")?;
-    push_front(bytes, responder.state(), responder.txn())?;
+    push_front(bytes, state, responder.txn())?;
     let numbers = [
         octet_of_number(responder.accepted()),
         octet_of_number(responder.last_cancel()),
@@ -58,7 +71,8 @@ fn push_responder(
 
 /// Adds the state and the qualifiers of the transaction.
 fn push_front(bytes: &mut Vec<u8>, state: State, txn: &TxnId) -> Result<(), OutOfMemory>
-    ensures { OnOk result (bytes.new.items ≡ bytes.old.items ++ (front requester_states).spell (state, (txn.now.group, txn.now.transaction))) }
+    ensures bytes { OnOk result (bytes.new.items ≡ bytes.old.items ++ (front requester_states).spell (state, (txn.now.group, txn.now.transaction))) }
+    ensures range { OnOk result (AreQualifiers txn.now) }
 {
     bytes.push(code(state))?;
     push_text(bytes, txn.group())?;
@@ -76,7 +90,8 @@ fn push_text(bytes: &mut Vec<u8>, text: &[u8]) -> Result<(), OutOfMemory>
 }
 
 fn push_due(bytes: &mut Vec<u8>, due: Option<Day>) -> Result<(), OutOfMemory>
-    ensures { OnOk result (bytes.new.items ≡ bytes.old.items ++ due_text due) }
+    ensures bytes { OnOk result (bytes.new.items ≡ bytes.old.items ++ due_text due) }
+    ensures range { OnOk result (IfSome due IsDate) }
 {
     match due {
         Some(day) => bytes.extend_from_slice(&day.digits())?,
@@ -91,7 +106,8 @@ fn push_request(
     bytes: &mut Vec<u8>,
     request: Option<&Apdu>,
 ) -> Result<(), OutOfMemory>
-    ensures { OnOk result (bytes.new.items ≡ bytes.old.items ++ (marked ill_request).spell (option_map (λ a. a.now) request.entry)) }
+    ensures bytes { OnOk result (bytes.new.items ≡ bytes.old.items ++ (marked ill_request).spell (option_map (λ a. a.now) request.entry)) }
+    ensures range { OnOk result (IfSome (option_map (λ a. a.now) request.entry) IsApdu) }
 {
     match request {
         Some(apdu) => {
@@ -107,7 +123,8 @@ fn push_request(
 
 /// Adds the count of the messages issued, and these.
 fn push_issued(alloc: Global, bytes: &mut Vec<u8>, side: &Side) -> Result<(), OutOfMemory>
-    ensures { OnOk result (bytes.new.items ≡ bytes.old.items ++ (counted apdu).spell (issued_of side.now)) }
+    ensures bytes { OnOk result (bytes.new.items ≡ bytes.old.items ++ (counted apdu).spell (issued_of side.now)) }
+    ensures range { OnOk result (Each IsApdu (issued_of side.now) × (length (issued_of side.now) ≤ 255)) }
 {
     let count = issued_count(side);
     bytes.push(count)?;
@@ -122,7 +139,8 @@ fn push_issued(alloc: Global, bytes: &mut Vec<u8>, side: &Side) -> Result<(), Ou
 }
 
 fn push_apdu(alloc: Global, bytes: &mut Vec<u8>, apdu: &Apdu) -> Result<(), OutOfMemory>
-    ensures { OnOk result (bytes.new.items ≡ bytes.old.items ++ spelling apdu.now) }
+    ensures bytes { OnOk result (bytes.new.items ≡ bytes.old.items ++ spelling apdu.now) }
+    ensures range { OnOk result (IsApdu apdu.now) }
 {
     bytes.extend_from_slice(&encode(alloc, apdu)?)?;
     Ok(())
@@ -130,7 +148,8 @@ fn push_apdu(alloc: Global, bytes: &mut Vec<u8>, apdu: &Apdu) -> Result<(), OutO
 
 /// The octet of a number, or 0 where there is none.
 fn octet_of_number(number: Option<Number>) -> u8
-    ensures { result ≡ number_octet number }
+    ensures bytes { result ≡ number_octet number }
+    ensures range { IfSome number IsNumber }
 {
     match number {
         Some(number) => number.get(),

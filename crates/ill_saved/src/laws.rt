@@ -3,7 +3,8 @@
 ghost use Rattle.std.specs.Prelude.{◌≡◌, ℕ, List, Ok};
 ghost use Rattle.ill_der.specs.Laws.{IsBytes};
 ghost use Rattle.ill_saved.specs.declared.side.Side.{Side};
-ghost use Rattle.ill_saved.specs.Records.{record_at, record_spelling};
+ghost use Rattle.ill_saved.specs.Records.{issued_of, record_at, record_spelling};
+ghost use Rattle.ill_saved.specs.Desk.{Follows, IsFrontOf};
 ghost use Rattle.ill_saved.specs.Ranges.{IsInRange, IsSide};
 
 /// A side is read from its spelling: with this, `decode_record` gives back what `encode_record` spelled.
@@ -19,7 +20,11 @@ pub fn spelled()
 {}
 
 /// No bytes spell two sides.
-#[tactic(auto, using(crate::proofs::RecordLaws::one_side))]
 pub fn one_side()
     ensures { (s t : Side) → IsSide s → IsSide t → record_spelling s ≡ record_spelling t → s ≡ t }
+{}
+
+/// What a side has issued is the front of what a side that follows from it has issued.
+pub fn follows_issues()
+    ensures { (old new : Side) → Follows old new → IsFrontOf (issued_of old) (issued_of new) }
 {}

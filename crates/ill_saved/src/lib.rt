@@ -3,6 +3,7 @@
 
 mod cursor;
 mod decoding;
+mod desk;
 mod encoding;
 mod fault;
 pub mod laws;
@@ -11,10 +12,11 @@ mod side;
 mod store;
 
 pub use decoding::decode_record;
+pub use desk::Desk1;
 pub use encoding::encode_record;
-pub use fault::RecordFault;
+pub use fault::{DeskFault, RecordFault};
 pub use memory_store::MemoryStore;
-pub use side::Side;
+pub use side::{Action, Side};
 pub use store::{NextCall, Store, StoreFault};
 
 #[cfg(test)]

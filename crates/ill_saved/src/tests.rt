@@ -1,6 +1,10 @@
-//! Tests of saved records against bytes that were made by hand.
+//! Tests of saved records, against bytes that were made by hand, and of desks.
 
 mod bad;
+mod desk_faults;
+mod desk_samples;
+mod desk_starts;
+mod desks;
 mod messages;
 mod order;
 mod qualifiers;

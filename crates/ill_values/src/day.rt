@@ -64,7 +64,8 @@ impl Day {
 
     /// The day as eight digits, as `20250315`.
     pub fn digits(&self) -> [u8; 8]
-        ensures { result ≡ date_text self.now }
+        ensures value { result ≡ date_text self.now }
+        ensures date { IsDate self.now }
     {
         [
             last_digit(self.year / 1000),

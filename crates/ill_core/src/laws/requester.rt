@@ -23,6 +23,13 @@ pub fn requester_issues()
     ensures takes { (x : RequesterRecord) (a : Apdu) → (takes x a).1.issued ≡ x.issued }
 {}
 
+/// The transaction stays.
+#[tactic(auto, using(crate::proofs::RequesterLaws::takes_txn))]
+pub fn requester_keeps_txn()
+    ensures acts { (x new : RequesterRecord) (wish : Wish) → acts x wish ≡ Ok new → new.txn ≡ x.txn }
+    ensures takes { (x : RequesterRecord) (a : Apdu) → (takes x a).1.txn ≡ x.txn }
+{}
+
 /// A message that is not taken changes nothing.
 #[tactic(auto, using(crate::proofs::RequesterLaws::takes_quiet))]
 pub fn requester_is_quiet()

@@ -22,6 +22,13 @@ pub fn responder_issues()
     ensures takes { (y : ResponderRecord) (a : Apdu) → IssuesUnfilled y a.body (responder_takes y a).1 }
 {}
 
+/// The transaction stays.
+#[tactic(auto, using(crate::proofs::ResponderLaws::deeds_txn, crate::proofs::ResponderLaws::takes_txn))]
+pub fn responder_keeps_txn()
+    ensures acts { (y new : ResponderRecord) (deed : Deed) (today : Date) → deed_acts y deed today ≡ Ok new → new.txn ≡ y.txn }
+    ensures takes { (y : ResponderRecord) (a : Apdu) → (responder_takes y a).1.txn ≡ y.txn }
+{}
+
 /// A message that is not taken changes nothing.
 #[tactic(auto, using(crate::proofs::ResponderRows::takes_quiet))]
 pub fn responder_is_quiet()

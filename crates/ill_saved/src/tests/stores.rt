@@ -8,7 +8,7 @@ use std::test::Fail;
 const PLANS: [NextCall; 3] = [NextCall::Works, NextCall::FailsOld, NextCall::FailsNew];
 
 /// A store in which these bytes have landed, with this plan.
-fn store(alloc: Global, landed: Option<&[u8]>, plan: NextCall) -> Result<MemoryStore, Fail> {
+pub fn store(alloc: Global, landed: Option<&[u8]>, plan: NextCall) -> Result<MemoryStore, Fail> {
     let mut store = MemoryStore::new(alloc);
     if let Some(bytes) = landed {
         store.save(alloc, bytes)?;

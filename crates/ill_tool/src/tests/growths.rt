@@ -5,7 +5,10 @@
 use super::CANCEL;
 use ill_core::{Deed, Refusal, Requester, Responder, State, Taking, Wish};
 use ill_der::{DerFault, ReadFault, WriteFault, decode, encode, read_apdu, write_apdu};
-use ill_saved::{MemoryStore, RecordFault, Side, Store, StoreFault, decode_record, encode_record};
+use ill_saved::{
+    Action, Desk1, DeskFault, MemoryStore, RecordFault, Side, Store, StoreFault, decode_record,
+    encode_record,
+};
 use ill_values::{AnswerResult, Apdu, Body, Day, Item, Number, TextFault, TxnId};
 use std::alloc::{AllocError, Global};
 use std::fmt::Debug;
@@ -264,4 +267,70 @@ fn store(rt: HostRuntime) -> Result<(), Fail> {
         assert_eq!(rt; empty.load(alloc)?, None);
     }
     Ok(())
+}
+
+/// A Shipped of the responder, until 15 March 2025.
+const SHIPPED: &[u8] =
+    b"\x63\x1A\x80\x01\x01\xA1\x08\x81\x02G1\x82\x02T1\x82\x01\x01\x85\x0820250315";
+
+/// A desk with the side of `RECORD`.
+fn desk(alloc: Global) -> Result<Desk1<MemoryStore>, Fail> {
+    let mut store = MemoryStore::new(alloc);
+    store.save(alloc, RECORD)?;
+    match Desk1::start(alloc, store) {
+        Ok(desk) => Ok(desk),
+        Err(_) => Err("no desk")?,
+    }
+}
+
+#[test]
+fn desk_in_memory(rt: HostRuntime) -> Result<(), Fail> {
+    let alloc = rt.alloc();
+    let mut acting = desk(alloc)?;
+    let mut taking = desk(alloc)?;
+    let acted = acting.act(alloc, &Action::Wish(Wish::Cancel));
+    report(&rt, "Desk1::act", &acted, &(), &DeskFault::OutOfMemory)?;
+    let taken = taking.take_bytes(alloc, SHIPPED);
+    report(
+        &rt,
+        "Desk1::take_bytes",
+        &taken,
+        &Taking::Taken,
+        &DeskFault::OutOfMemory,
+    )
+}
+
+#[test]
+fn desk_in_store(rt: HostRuntime) -> Result<(), Fail> {
+    let alloc = rt.alloc();
+    let first = Number::new(1).ok_or("1 is a number")?;
+    let mut desk = desk(alloc)?;
+    let sent = Vec::from_slice(alloc, REQUEST)?;
+    let mut store = MemoryStore::new(alloc);
+    store.save(alloc, RECORD)?;
+
+    let message = desk.message(alloc, first);
+    report(
+        &rt,
+        "Desk1::message",
+        &message,
+        &sent,
+        &DeskFault::OutOfMemory,
+    )?;
+    let saved = desk.save(alloc);
+    report(&rt, "Desk1::save", &saved, &(), &DeskFault::OutOfMemory)?;
+    let restarted = desk.restart(alloc);
+    report(
+        &rt,
+        "Desk1::restart",
+        &restarted,
+        &(),
+        &DeskFault::OutOfMemory,
+    )?;
+    assert_eq!(rt; desk.released(), 1);
+    let started = match Desk1::start(alloc, store) {
+        Ok(desk) => Ok(desk.released()),
+        Err((fault, _)) => Err(fault),
+    };
+    report(&rt, "Desk1::start", &started, &1, &DeskFault::OutOfMemory)
 }

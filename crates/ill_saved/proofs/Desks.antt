@@ -1,0 +1,262 @@
+-- A desk keeps its rules.
+use Rattle.std.proofs.Common.{rules, arith, ◌≡◌, ◌⊎◌, ℕ, ◌+◌, ◌≤◌, Bool, true, List, [], ◌∷◌, ◌++◌, length, Option, Some, None, Result, Ok, Err, refl, ap, sym, subst, ◌∙◌, inl, inr, length-append, append-nil, append_assoc, drop}
+use Rattle.ill_values.specs.Day.{Date}
+use Rattle.ill_values.specs.declared.apdu.Apdu.{Apdu}
+use Rattle.ill_core.specs.declared.refusal.Refusal.{Refusal}
+use Rattle.ill_core.specs.declared.taking.Taking.{Taking}
+use Rattle.std.proofs.lemmas.List.{length-drop}
+use Rattle.ill_der.specs.declared.fault.DerFault.{DerFault}
+use Rattle.ill_der.specs.declared.fault.DerFault.TheVariants as der
+use Rattle.ill_der.specs.ShortForm.{apdu_at, Decodes}
+use Rattle.ill_der.proofs.ShortFormLaws.{apdu_memory}
+use Rattle.ill_core.specs.declared.requester.Wish.{Wish}
+use Rattle.ill_core.specs.declared.responder.Deed.{Deed}
+use Rattle.ill_core.specs.Issued.{are_numbered}
+use Rattle.ill_core.specs.Requester.{RequesterRecord}
+use Rattle.ill_core.specs.RequesterActions.{acts}
+use Rattle.ill_core.specs.RequesterDeliveries.{takes}
+use Rattle.ill_core.specs.Responder.{ResponderRecord, rise_from, ships_first}
+use Rattle.ill_core.specs.ResponderActions.{deed_acts}
+use Rattle.ill_core.specs.ResponderDeliveries.{responder_takes}
+use Rattle.ill_core.specs.ResponderFacts.{IssuesUnfilled}
+use Rattle.ill_core.proofs.RequesterLaws as requester
+use Rattle.ill_core.proofs.ResponderLaws as responder
+use Rattle.ill_core.proofs.ResponderRows.{of_deeds}
+use Rattle.ill_saved.specs.declared.fault.DeskFault.{DeskFault}
+use Rattle.ill_saved.specs.declared.fault.DeskFault.TheVariants as faults
+use Rattle.ill_saved.specs.declared.fault.LayoutFault.{LayoutFault}
+use Rattle.ill_saved.specs.declared.side.Side.{Side}
+use Rattle.ill_saved.specs.declared.side.Side.TheVariants as sides
+use Rattle.ill_saved.specs.declared.side.Action.{Action}
+use Rattle.ill_saved.specs.declared.side.Action.TheVariants as actions
+use Rattle.ill_saved.specs.declared.store.StoreFault.{StoreFault}
+use Rattle.ill_saved.specs.declared.store.StoreFault.TheVariants as stores
+use Rattle.ill_saved.specs.declared.store.NextCall.{NextCall}
+use Rattle.ill_saved.specs.declared.store.NextCall.TheVariants as plans
+use Rattle.ill_saved.specs.Records.{issued_of, record_spelling, IsConsistent}
+use Rattle.ill_saved.specs.Ranges.{IsSide}
+use Rattle.ill_saved.specs.Store.{LandsAtSave, Allows}
+use Rattle.ill_saved.proofs.RecordLaws.{side_again}
+use Rattle.ill_saved.specs.Desk.{idle_of, done_by, side_acts, side_takes, IsRow, IsFrontOf, acted, took, Follows, same, further, landed_side, IsBackedBy, IsBackedByRead, IsBacked, DeskActs, DeskTakes, IsOneApdu, LoadsSide, IsFoundOrIdle}
+
+-- a row keeps the role and the transaction, and takes no message away
+abbrev Grows : Side → Side → Type 0
+Grows old new = (idle_of new ≡ idle_of old) × IsFrontOf (issued_of old) (issued_of new)
+
+one_more : (apdus : List Apdu) (a : Apdu) → IsFrontOf apdus (apdus ++ a ∷ [])
+one_more apdus a = (a ∷ [], refl)
+
+none_more : (old new : List Apdu) → new ≡ old → IsFrontOf old new
+none_more old new e = ([], e ∙ sym (append-nil old))
+
+no_less : (old new : List Apdu) → IsFrontOf old new → length old ≤ length new
+no_less old new front = omega (arith, ap length front.1 ∙ length-append old front.0)
+
+done_is : {R : Type 0} (make : R → Side) (r : Result R Refusal) (new : Side) → done_by make r ≡ Ok new → (made : R) × (r ≡ Ok made) × (make made ≡ new)
+done_is make (Ok made) new e = (made, refl, search rules)
+done_is make (Err refusal) new e = search rules
+
+requester_grows : (x made : RequesterRecord) → made.txn ≡ x.txn → IsFrontOf x.issued made.issued → Grows (sides.Requester x) (sides.Requester made)
+requester_grows x made txn more = (ap (λ t. idle_of (sides.Requester (record x { txn = t }))) txn, more)
+
+responder_grows : (y made : ResponderRecord) → made.txn ≡ y.txn → IsFrontOf y.issued made.issued → Grows (sides.Responder y) (sides.Responder made)
+responder_grows y made txn more = (ap (λ t. idle_of (sides.Responder (record y { txn = t }))) txn, more)
+
+wish_grows : (x made : RequesterRecord) (wish : Wish) → acts x wish ≡ Ok made → Grows (sides.Requester x) (sides.Requester made)
+wish_grows x made wish e =
+    requester.of_acts (λ r. Grows (sides.Requester x) (sides.Requester r)) x made wish (λ next leads. (refl, one_more x.issued _)) e
+
+deed_grows : (y made : ResponderRecord) (deed : Deed) (today : Date) → deed_acts y deed today ≡ Ok made → Grows (sides.Responder y) (sides.Responder made)
+deed_grows y made deed today e =
+    of_deeds (λ r. Grows (sides.Responder y) (sides.Responder r)) y made deed today (λ body next how. (refl, one_more y.issued _)) e
+
+acts_grow : (old new : Side) (action : Action) → side_acts old action ≡ Ok new → Grows old new
+acts_grow (sides.Requester x) new (actions.Wish wish) e =
+    let is = done_is sides.Requester (acts x wish) new e in
+    subst (Grows (sides.Requester x)) is.2 (wish_grows x is.0 wish is.1)
+acts_grow (sides.Responder y) new (actions.Deed deed today) e =
+    let is = done_is sides.Responder (deed_acts y deed today) new e in
+    subst (Grows (sides.Responder y)) is.2 (deed_grows y is.0 deed today is.1)
+acts_grow (sides.Requester x) new (actions.Deed deed today) e = search rules
+acts_grow (sides.Responder y) new (actions.Wish wish) e = search rules
+
+unfilled_grows : (y new : ResponderRecord) (a : Apdu) → IssuesUnfilled y a.body new → IsFrontOf y.issued new.issued
+unfilled_grows y new a (inl none) = none_more y.issued new.issued none
+unfilled_grows y new a (inr more) = subst (IsFrontOf y.issued) (sym more.1) (one_more y.issued _)
+
+takes_grow : (old : Side) (a : Apdu) → Grows old (side_takes old a).1
+takes_grow (sides.Requester x) a = requester_grows x (takes x a).1 (requester.takes_txn x a) (none_more x.issued (takes x a).1.issued (requester.takes_issues x a))
+takes_grow (sides.Responder y) a = responder_grows y (responder_takes y a).1 (responder.takes_txn y a) (unfilled_grows y (responder_takes y a).1 a (responder.takes_issue y a))
+
+row_grows : (old new : Side) → IsRow old new → Grows old new
+row_grows old new (acted action e) = acts_grow old new action e
+row_grows old new (took a e) = subst (Grows old) e (takes_grow old a)
+
+-- what a side has issued is the front of what a side that follows from it has issued
+pub follows_issues : (old new : Side) → Follows old new → IsFrontOf (issued_of old) (issued_of new)
+follows_issues old _ same = none_more (issued_of old) (issued_of old) refl
+follows_issues old _ (further between new follows row) =
+    let before = follows_issues old between follows in
+    let after = (row_grows between new row).1 in
+    (before.0 ++ after.0, after.1 ∙ (ap (λ l. l ++ after.0) before.1 ∙ append_assoc (issued_of old) before.0 after.0))
+
+-- ---- what has landed backs the side after a row
+
+read_backs : (read : Result Side LayoutFault) (old new : Side) (released : ℕ) → IsRow old new → IsBackedByRead read old released → IsBackedByRead read new released
+read_backs (Ok side) old new released row backed =
+    record { consistent = backed.consistent; follows = further old new backed.follows row; has-released = backed.has-released }
+read_backs (Err fault) old new released row backed = backed
+
+pub row_backs : (landed : Option (List ℕ)) (old new : Side) (released : ℕ) → IsRow old new → IsBacked landed old released → IsBacked landed new released
+row_backs None old new released row backed =
+    subst (λ side. IsBackedByRead (Ok side) new released) (sym (row_grows old new row).0) (read_backs (Ok (idle_of old)) old new released row backed)
+row_backs (Some bytes) old new released row backed = read_backs (landed_side (Some bytes) old) old new released row backed
+
+-- the rules of a desk
+abbrev pub Kept : Bool → Option (List ℕ) → Side → ℕ → Type 0
+Kept honest landed live released = (released ≤ length (issued_of live)) × (honest ≡ true → IsBacked landed live released)
+
+pub row_kept : (honest : Bool) (landed : Option (List ℕ)) (old new : Side) (released : ℕ) → IsRow old new → Kept honest landed old released → Kept honest landed new released
+row_kept honest landed old new released row kept = (omega (arith, kept.0, no_less _ _ (row_grows old new row).1), λ is. row_backs landed old new released row (kept.1 is))
+
+same_kept : (honest : Bool) (landed : Option (List ℕ)) (old new : Side) (released : ℕ) → new ≡ old → Kept honest landed old released → Kept honest landed new released
+same_kept honest landed old new released e kept = subst (λ side. Kept honest landed side released) (sym e) kept
+
+pub acts_kept : (honest : Bool) (landed : Option (List ℕ)) (old new : Side) (released : ℕ) (action : Action) (answer : Result (Unit {0}) DeskFault)
+    → DeskActs old action answer new → Kept honest landed old released → Kept honest landed new released
+acts_kept honest landed old new released action (Ok done) acts kept = row_kept honest landed old new released (acted action acts) kept
+acts_kept honest landed old new released action (Err (faults.Core refusal)) acts kept = same_kept honest landed old new released acts.1 kept
+acts_kept honest landed old new released action (Err faults.OutOfMemory) acts kept = same_kept honest landed old new released acts.1 kept
+acts_kept honest landed old new released action (Err other) acts kept = absurd acts
+
+pub takes_kept : (honest : Bool) (landed : Option (List ℕ)) (old new : Side) (released : ℕ) (read : Result (Apdu × List ℕ) DerFault) (answer : Result Taking DeskFault)
+    → DeskTakes old read answer new → Kept honest landed old released → Kept honest landed new released
+takes_kept honest landed old new released (Err fault) answer takes kept = same_kept honest landed old new released takes.1 kept
+takes_kept honest landed old new released (Ok found) (Err faults.OutOfMemory) takes kept = same_kept honest landed old new released takes kept
+takes_kept honest landed old new released (Ok (a, [])) (Ok answered) takes kept =
+    row_kept honest landed old new released (took a (ap (λ (r : Result Taking Refusal × Side). r.1) takes)) kept
+takes_kept honest landed old new released (Ok (a, [])) (Err (faults.Core refusal)) takes kept =
+    row_kept honest landed old new released (took a (ap (λ (r : Result Taking Refusal × Side). r.1) takes)) kept
+takes_kept honest landed old new released (Ok (a, byte ∷ rest)) (Err faults.Trailing) takes kept = same_kept honest landed old new released takes kept
+takes_kept honest landed old new released (Ok found) answer takes kept = search rules
+
+-- ---- one APDU
+
+memory_is : (fault : DerFault) → ◌≡◌ {A = Result (Apdu × ℕ) DerFault} (Err der.OutOfMemory) (Err fault) → fault ≡ der.OutOfMemory
+memory_is fault e = search rules
+
+pub memory_alone : (bytes : List ℕ) (read : Result (Apdu × List ℕ) DerFault) → apdu_at bytes ≡ read → Decodes bytes read (Err der.OutOfMemory) → IsOneApdu read (Err faults.OutOfMemory)
+memory_alone bytes (Ok found) e decodes = tt
+memory_alone bytes (Err fault) e decodes = absurd (apdu_memory bytes (e ∙ ap Err (memory_is fault decodes)))
+
+behind_one : (a : Apdu) (rest : List ℕ) → 1 ≤ length rest → IsOneApdu (Ok (a, rest)) (Err faults.Trailing)
+behind_one a [] more = absurd (omega (arith, more))
+behind_one a (byte ∷ rest) more = tt
+
+pub trailing_alone : (bytes : List ℕ) (read : Result (Apdu × List ℕ) DerFault) (found : Apdu × ℕ) → found.1 + 1 ≤ length bytes → Decodes bytes read (Ok found) → IsOneApdu read (Err faults.Trailing)
+trailing_alone bytes (Ok apdu) found less decodes =
+    subst (λ r. IsOneApdu (Ok r) (Err faults.Trailing)) (sym decodes.1) (behind_one found.0 (drop found.1 bytes) (omega (arith, length-drop found.1 bytes, less)))
+trailing_alone bytes (Err fault) found less decodes = search rules
+
+-- ---- saving
+
+saved_backs : (live : Side) (released : ℕ) → IsSide live → released ≤ length (issued_of live) → IsBacked (Some (record_spelling live)) live released
+saved_backs live released is few =
+    subst (λ read. IsBackedByRead read live released) (sym (side_again live is)) (record { consistent = is.0; follows = same; has-released = few })
+
+landed_backs : (bytes : List ℕ) (landed : Option (List ℕ)) (live : Side) (released : ℕ) → IsSide live → bytes ≡ record_spelling live → landed ≡ Some bytes → released ≤ length (issued_of live)
+    → IsBacked landed live released
+landed_backs bytes landed live released is spelled e few =
+    subst (λ o. IsBacked o live released) (sym (e ∙ ap Some spelled)) (saved_backs live released is few)
+
+-- what was encoded has landed
+pub save_kept : (old_honest honest : Bool) (landed : Option (List ℕ)) (bytes : List ℕ) (live : Side) (count : ℕ) → honest ≡ old_honest → IsSide live → bytes ≡ record_spelling live
+    → (old_honest ≡ true → landed ≡ Some bytes) → count ≡ length (issued_of live) → Kept honest landed live count
+save_kept old_honest honest landed bytes live count stays is spelled lands all = (
+  omega (arith, all),
+  λ now. landed_backs bytes landed live count is spelled (lands (sym stays ∙ now)) (omega (arith, all)),
+)
+
+either_backs : (old new : Option (List ℕ)) (bytes : List ℕ) (live : Side) (released : ℕ) → IsSide live → bytes ≡ record_spelling live → released ≤ length (issued_of live)
+    → IsBacked old live released → (new ≡ old) ⊎ (new ≡ Some bytes) → IsBacked new live released
+either_backs old new bytes live released is spelled few backed (inl e) = subst (λ o. IsBacked o live released) (sym e) backed
+either_backs old new bytes live released is spelled few backed (inr e) = landed_backs bytes new live released is spelled e few
+
+old_or_new : (plan : Option NextCall) (bytes : List ℕ) (fault : StoreFault) (old new : Option (List ℕ)) → LandsAtSave plan bytes (Err fault) old new → (new ≡ old) ⊎ (new ≡ Some bytes)
+old_or_new (Some plans.FailsOld) bytes stores.Failed old new lands = inl lands
+old_or_new (Some plans.FailsNew) bytes stores.Failed old new lands = inr lands
+old_or_new (Some plans.Works) bytes stores.Failed old new lands = lands
+old_or_new None bytes stores.Failed old new lands = lands
+old_or_new plan bytes stores.TooLarge old new lands = absurd lands
+old_or_new plan bytes stores.OutOfMemory old new lands = inl lands
+
+-- the old record or the new one has landed
+pub fault_kept : (old_honest honest : Bool) (plan : Option NextCall) (old new : Option (List ℕ)) (bytes : List ℕ) (live : Side) (released : ℕ) (fault : StoreFault) → honest ≡ old_honest
+    → IsSide live → bytes ≡ record_spelling live → (old_honest ≡ true → LandsAtSave plan bytes (Err fault) old new) → Kept old_honest old live released → Kept honest new live released
+fault_kept old_honest honest plan old new bytes live released fault stays is spelled lands kept = (
+  kept.0,
+  λ now.
+      let was = sym stays ∙ now in
+      either_backs old new bytes live released is spelled kept.0 (kept.1 was) (old_or_new plan bytes fault old new (lands was)),
+)
+
+-- ---- loading
+
+idle_twice : (live : Side) → idle_of (idle_of live) ≡ idle_of live
+idle_twice (sides.Requester x) = refl
+idle_twice (sides.Responder y) = refl
+
+pub idle_consistent : (live : Side) → IsConsistent (idle_of live)
+unfolding are_numbered rise_from ships_first
+idle_consistent (sides.Requester x) = search rules
+idle_consistent (sides.Responder y) = search rules
+
+itself_backs : (side : Side) (count : ℕ) → IsConsistent side → count ≡ length (issued_of side) → IsBackedBy side side count
+itself_backs side count is all = record { consistent = is; follows = same; has-released = omega (arith, all) }
+
+idle_backs : (live side : Side) (count : ℕ) → side ≡ idle_of live → count ≡ length (issued_of side) → IsBacked None side count
+idle_backs live side count e all =
+    subst (λ s. count ≡ length (issued_of s) → IsBacked None s count) (sym e)
+    (λ every. subst (λ s. IsBackedBy s (idle_of live) count) (sym (idle_twice live)) (itself_backs (idle_of live) count (idle_consistent live) every)) all
+
+loaded_backs : (landed : Option (List ℕ)) (plan : Option NextCall) (found : Option Side) (live side : Side) (count : ℕ) → LoadsSide landed plan (Ok found) → IsFoundOrIdle found live side
+    → count ≡ length (issued_of side) → IsBacked landed side count
+loaded_backs None plan None live side count loads is all = idle_backs live side count is all
+loaded_backs (Some bytes) plan (Some found) live side count loads is all =
+    subst (λ read. IsBackedByRead read side count) (sym (loads.0 ∙ ap Ok (sym is))) (itself_backs side count (subst IsConsistent (sym is) loads.1) all)
+loaded_backs None plan (Some found) live side count loads is all = absurd loads
+loaded_backs (Some bytes) plan None live side count loads is all = absurd loads
+
+-- the side that has landed is live
+pub loaded_kept : (old_honest honest : Bool) (old_landed landed : Option (List ℕ)) (plan : Option NextCall) (found : Option Side) (live side : Side) (count : ℕ) → honest ≡ old_honest
+    → (old_honest ≡ true → landed ≡ old_landed) → (old_honest ≡ true → LoadsSide old_landed plan (Ok found)) → IsFoundOrIdle found live side → count ≡ length (issued_of side)
+    → Kept honest landed side count
+loaded_kept old_honest honest old_landed landed plan found live side count stays keeps loads is all = (
+  omega (arith, all),
+  λ now.
+      let was = sym stays ∙ now in
+      subst (λ o. IsBacked o side count) (sym (keeps was)) (loaded_backs old_landed plan found live side count (loads was) is all),
+)
+
+-- what a restart leads to
+pub restarts_to : (landed : Option (List ℕ)) (plan : Option NextCall) (found : Option Side) (live side : Side) → LoadsSide landed plan (Ok found) → IsFoundOrIdle found live side
+    → (landed_side landed live ≡ Ok side) × Allows {X = Unit {0}} plan (Ok tt)
+restarts_to None plan None live side loads is = (ap Ok (sym is), loads)
+restarts_to (Some bytes) plan (Some found) live side loads is = (loads.0 ∙ ap Ok (sym is), loads.2)
+restarts_to None plan (Some found) live side loads is = absurd loads
+restarts_to (Some bytes) plan None live side loads is = absurd loads
+
+nothing_issued : (live : Side) → length (issued_of (idle_of live)) ≡ 0
+nothing_issued (sides.Requester x) = refl
+nothing_issued (sides.Responder y) = refl
+
+-- a side that begins
+pub create_kept : (old_honest honest : Bool) (old_landed landed : Option (List ℕ)) (first : Side) → honest ≡ old_honest → (old_honest ≡ true → landed ≡ old_landed)
+    → (old_honest ≡ true → None ≡ old_landed) → first ≡ idle_of first → Kept honest landed first 0
+create_kept old_honest honest old_landed landed first stays keeps none idle = (
+  omega arith,
+  λ now.
+      let was = sym stays ∙ now in
+      let all : 0 ≡ length (issued_of first) = sym (ap (λ s. length (issued_of s)) idle ∙ nothing_issued first) in
+      subst (λ o. IsBacked o first 0) (none was ∙ sym (keeps was)) (idle_backs first first 0 idle all),
+)

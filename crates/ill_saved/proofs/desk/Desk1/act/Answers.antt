@@ -1,0 +1,7 @@
+use Rattle.ill_saved.proofs.Desks.{acts_kept}
+use Rattle.ill_saved.proofs.desk.Desk1.act.Goals as goal
+
+pub invariant_of-self : goal.invariant_of-self
+invariant_of-self g c =
+    let desk = c.self.inside in
+    acts_kept (g.S.Store.is_honest desk.store) (g.S.Store.landed desk.store) desk.live c.act.new.side desk.released c.args.action.now c.act.result c.act.ensures c.self.invariant

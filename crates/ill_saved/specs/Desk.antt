@@ -1,0 +1,238 @@
+-- One side with its store (this profile's own).
+use Rattle.std.specs.Prelude.{◌≡◌, ◌⊎◌, ℕ, ◌≤◌, List, [], ◌∷◌, ◌++◌, length, Bool, Option, Some, None, is_ok, Result, Ok, Err, MatchResult, true, false}
+use Rattle.ill_values.specs.declared.apdu.Apdu.{Apdu}
+use Rattle.ill_der.specs.declared.fault.DerFault.{DerFault}
+use Rattle.ill_der.specs.ShortForm.{spelling}
+use Rattle.ill_core.specs.declared.state.State.TheVariants.{Idle}
+use Rattle.ill_core.specs.declared.refusal.Refusal.{Refusal}
+use Rattle.ill_core.specs.declared.refusal.Refusal.TheVariants as refusals
+use Rattle.ill_core.specs.declared.taking.Taking.{Taking}
+use Rattle.ill_core.specs.Requester.{requester_of}
+use Rattle.ill_core.specs.RequesterActions.{acts}
+use Rattle.ill_core.specs.RequesterDeliveries.{takes}
+use Rattle.ill_core.specs.Responder.{responder_of}
+use Rattle.ill_core.specs.ResponderActions.{deed_acts}
+use Rattle.ill_core.specs.ResponderDeliveries.{responder_takes}
+use Rattle.ill_saved.specs.declared.fault.RecordFault.TheVariants as records
+use Rattle.ill_saved.specs.declared.fault.LayoutFault.{LayoutFault}
+use Rattle.ill_saved.specs.declared.side.Side.{Side}
+use Rattle.ill_saved.specs.declared.side.Side.TheVariants as sides
+use Rattle.ill_saved.specs.declared.side.Action.{Action}
+use Rattle.ill_saved.specs.declared.side.Action.TheVariants as actions
+use Rattle.ill_saved.specs.declared.store.StoreFault.TheVariants as stores
+use Rattle.ill_saved.specs.declared.store.NextCall.{NextCall}
+use Rattle.ill_saved.specs.declared.fault.DeskFault.{DeskFault}
+use Rattle.ill_saved.specs.declared.fault.DeskFault.TheVariants.{Core, Bytes, Trailing, NoSuchMessage, NotSaved, Exists, NoRecord, Store, Saved, OutOfMemory}
+use Rattle.ill_saved.specs.Records.{issued_of, record_at, begins_as_record, IsConsistent, Decodes}
+use Rattle.ill_saved.specs.Store.{Allows, LandsAtFailure, CountsFailure, spent}
+
+-- the side in memory, its store, and how many of its messages may be sent
+pub record DeskOf (S : Type 0) : Type 0 where
+  pub live : Side
+  pub store : S
+  pub released : ℕ
+
+-- the side of the same role and transaction before its first message
+abbrev pub idle_of : Side → Side
+idle_of (sides.Requester x) = sides.Requester (requester_of x.txn Idle None false None [])
+idle_of (sides.Responder y) = sides.Responder (responder_of y.txn Idle None None None false None [])
+
+-- ---- rows
+
+abbrev pub done_by : {R : Type 0} → (R → Side) → Result R Refusal → Result Side Refusal
+done_by make (Ok new) = Ok (make new)
+done_by make (Err refusal) = Err refusal
+
+-- The side after an action, or why it is refused. A requester has wishes, and a responder deeds.
+abbrev pub side_acts : Side → Action → Result Side Refusal
+side_acts (sides.Requester x) (actions.Wish wish) = done_by sides.Requester (acts x wish)
+side_acts (sides.Responder y) (actions.Deed deed today) = done_by sides.Responder (deed_acts y deed today)
+side_acts side action = Err refusals.WrongRole
+
+-- what an APDU does to a side
+abbrev pub side_takes : Side → Apdu → Result Taking Refusal × Side
+side_takes (sides.Requester x) a = ((takes x a).0, sides.Requester (takes x a).1)
+side_takes (sides.Responder y) a = ((responder_takes y a).0, sides.Responder (responder_takes y a).1)
+
+-- one row of its tables leads a side to another
+pub data IsRow (old new : Side) : Type 0 where
+  acted : (action : Action) → side_acts old action ≡ Ok new → IsRow old new
+  took : (a : Apdu) → (side_takes old a).1 ≡ new → IsRow old new
+
+-- rows lead a side to another, one after another
+pub data Follows (old : Side) : Side → Type 0 where
+  same : Follows old old
+  further : (between new : Side) → Follows old between → IsRow between new → Follows old new
+
+-- one list is the front of another
+abbrev pub IsFrontOf : List Apdu → List Apdu → Type 0
+IsFrontOf front apdus = (more : List Apdu) × (apdus ≡ front ++ more)
+
+-- ---- what a desk keeps
+
+-- the side that landed bytes stand for: nothing for the idle side
+abbrev pub landed_side : Option (List ℕ) → Side → Result Side LayoutFault
+landed_side None live = Ok (idle_of live)
+landed_side (Some bytes) live = record_at bytes
+
+-- The side that has landed has each released message, and the live side follows from it by rows.
+pub record IsBackedBy (side live : Side) (released : ℕ) : Type 0 where
+  pub consistent : IsConsistent side
+  pub follows : Follows side live
+  pub has-released : released ≤ length (issued_of side)
+
+abbrev pub IsBackedByRead : Result Side LayoutFault → Side → ℕ → Type 0
+IsBackedByRead (Ok side) live released = IsBackedBy side live released
+IsBackedByRead (Err fault) live released = ⊥
+
+abbrev pub IsBacked : Option (List ℕ) → Side → ℕ → Type 0
+IsBacked landed live released = IsBackedByRead (landed_side landed live) live released
+
+-- ---- answers
+
+-- what an action answers, and the side after it
+abbrev pub DeskActs : Side → Action → Result (Unit {0}) DeskFault → Side → Type 0
+DeskActs old action (Ok done) new = side_acts old action ≡ Ok new
+DeskActs old action (Err (Core refusal)) new = (side_acts old action ≡ Err refusal) × (new ≡ old)
+DeskActs old action (Err OutOfMemory) new = (is_ok (side_acts old action) ≡ true) × (new ≡ old)
+DeskActs old action (Err other) new = ⊥
+
+-- What bytes do, by what stands at their front: exactly one APDU is handed to the side. Want of memory changes nothing.
+abbrev pub DeskTakes : Side → Result (Apdu × List ℕ) DerFault → Result Taking DeskFault → Side → Type 0
+DeskTakes old (Err fault) answer new = (answer ≡ Err (Bytes fault)) × (new ≡ old)
+DeskTakes old (Ok found) (Err OutOfMemory) new = new ≡ old
+DeskTakes old (Ok (a, [])) (Ok taking) new = side_takes old a ≡ (Ok taking, new)
+DeskTakes old (Ok (a, [])) (Err (Core refusal)) new = side_takes old a ≡ (Err refusal, new)
+DeskTakes old (Ok (a, byte ∷ rest)) (Err Trailing) new = new ≡ old
+DeskTakes old (Ok found) answer new = ⊥
+
+-- what an APDU does to a side, which may want memory
+abbrev pub SideTakes : Side → Apdu → Result Taking Refusal → Side → Type 0
+SideTakes old a (Err refusals.OutOfMemory) new = new ≡ old
+SideTakes old a answer new = side_takes old a ≡ (answer, new)
+
+-- the one APDU that bytes are, by what stands at their front; or want of memory
+abbrev pub IsOneApdu : Result (Apdu × List ℕ) DerFault → Result Apdu DeskFault → Type 0
+IsOneApdu (Err fault) answer = answer ≡ Err (Bytes fault)
+IsOneApdu (Ok found) (Err OutOfMemory) = Unit {0}
+IsOneApdu (Ok (a, [])) (Ok found) = found ≡ a
+IsOneApdu (Ok (a, byte ∷ rest)) (Err Trailing) = Unit {0}
+IsOneApdu (Ok found) answer = ⊥
+
+-- What asking for a message gives: its bytes, where it was issued and is released; or want of memory.
+abbrev pub Sends : {X : Type 0} → (X → List ℕ) → Option Apdu → Bool → Result X DeskFault → Type 0
+Sends view None is_released answer = answer ≡ Err NoSuchMessage
+Sends view (Some a) false answer = answer ≡ Err NotSaved
+Sends view (Some a) true answer = MatchResult answer (λ bytes. view bytes ≡ spelling a) (λ fault. fault ≡ OutOfMemory)
+
+-- after a save all messages are released; after a fault those that were
+abbrev pub released_after : Result (Unit {0}) DeskFault → Side → ℕ → ℕ
+released_after (Ok done) live released = length (issued_of live)
+released_after (Err fault) live released = released
+
+-- what has landed after the save of a desk, whose store is honest
+abbrev pub SaveLands : Option NextCall → List ℕ → Result (Unit {0}) DeskFault → Option (List ℕ) → Option (List ℕ) → Type 0
+SaveLands plan bytes (Ok done) old new = (new ≡ Some bytes) × Allows {X = Unit {0}} plan (Ok tt)
+SaveLands plan bytes (Err (Store stores.Failed)) old new = LandsAtFailure plan bytes old new × Allows {X = Unit {0}} plan (Err stores.Failed)
+SaveLands plan bytes (Err OutOfMemory) old new = new ≡ old
+SaveLands plan bytes (Err other) old new = ⊥
+
+-- the plan is spent; want of memory may come before the store is called
+abbrev pub PlanAfter : Result (Unit {0}) DeskFault → Option NextCall → Option NextCall → Type 0
+PlanAfter (Err OutOfMemory) old new = (new ≡ spent old) ⊎ (new ≡ old)
+PlanAfter answer old new = new ≡ spent old
+
+-- the only faults of a save
+abbrev pub IsSaveFault : Result (Unit {0}) DeskFault → Type 0
+IsSaveFault (Ok done) = Unit {0}
+IsSaveFault (Err (Store stores.Failed)) = Unit {0}
+IsSaveFault (Err OutOfMemory) = Unit {0}
+IsSaveFault (Err other) = ⊥
+
+-- ---- loading
+
+-- What the store of a desk gives, of an honest one: the consistent side that has landed, if any, or a fault.
+abbrev pub LoadsSide : Option (List ℕ) → Option NextCall → Result (Option Side) DeskFault → Type 0
+LoadsSide None plan (Ok None) = Allows {X = Unit {0}} plan (Ok tt)
+LoadsSide (Some bytes) plan (Ok (Some side)) = (record_at bytes ≡ Ok side) × IsConsistent side × Allows {X = Unit {0}} plan (Ok tt)
+LoadsSide landed plan (Err (Store fault)) = Allows {X = Unit {0}} plan (Err fault)
+LoadsSide (Some bytes) plan (Err (Saved fault)) = Decodes (record_at bytes) (begins_as_record bytes) (Err fault) × Allows {X = Unit {0}} plan (Ok tt)
+LoadsSide landed plan (Err OutOfMemory) = Unit {0}
+LoadsSide landed plan answer = ⊥
+
+-- the side that was found, or else the idle one
+abbrev pub IsFoundOrIdle : Option Side → Side → Side → Type 0
+IsFoundOrIdle None live side = side ≡ idle_of live
+IsFoundOrIdle (Some found) live side = side ≡ found
+
+-- the only faults of loading
+abbrev pub IsLoadFault : DeskFault → Type 0
+IsLoadFault (Store stores.Failed) = Unit {0}
+IsLoadFault (Store stores.TooLarge) = Unit {0}
+IsLoadFault (Saved records.Short) = Unit {0}
+IsLoadFault (Saved (records.Bad at)) = Unit {0}
+IsLoadFault (Saved records.Inconsistent) = Unit {0}
+IsLoadFault OutOfMemory = Unit {0}
+IsLoadFault other = ⊥
+
+-- What a restart answers, of an honest store: the side that has landed, or a fault of the store.
+abbrev pub Restarts : Result Side LayoutFault → Option NextCall → Result (Unit {0}) DeskFault → Side → Type 0
+Restarts landed plan (Ok done) new = (landed ≡ Ok new) × Allows {X = Unit {0}} plan (Ok tt)
+Restarts landed plan (Err (Store fault)) new = Allows {X = Unit {0}} plan (Err fault)
+Restarts landed plan (Err OutOfMemory) new = Unit {0}
+Restarts landed plan (Err other) new = ⊥
+
+-- the side and what is released after a restart
+abbrev pub IsWhole : {S : Type 0} → DeskOf S → Type 0
+IsWhole desk = desk.released ≡ length (issued_of desk.live)
+
+abbrev pub RestartLeaves : {S : Type 0} → Result (Unit {0}) DeskFault → DeskOf S → DeskOf S → Type 0
+RestartLeaves (Ok done) old new = IsWhole new
+RestartLeaves (Err fault) old new = (new.live ≡ old.live) × (new.released ≡ old.released) × IsLoadFault fault
+
+-- a desk fails only where its store has counted a failure
+abbrev pub CountsDeskFailure : {X : Type 0} → Result X DeskFault → ℕ → ℕ → Type 0
+CountsDeskFailure (Err (Store stores.Failed)) old new = CountsFailure {X = Unit {0}} (Err stores.Failed) old new
+CountsDeskFailure answer old new = Unit {0}
+
+-- ---- beginning
+
+-- what a call answers that hands the store back with a fault
+abbrev pub answer_of : {S : Type 0} → Result (DeskOf S) (DeskFault × S) → Result (Unit {0}) DeskFault
+answer_of (Ok desk) = Ok tt
+answer_of (Err fault) = Err fault.0
+
+-- the store after it
+abbrev pub store_of : {S : Type 0} → Result (DeskOf S) (DeskFault × S) → S
+store_of (Ok desk) = desk.store
+store_of (Err fault) = fault.1
+
+-- What creating a desk answers, over an honest store: done where nothing has landed.
+abbrev pub Creates : Option (List ℕ) → Option NextCall → Result (Unit {0}) DeskFault → Type 0
+Creates None plan (Ok done) = Allows {X = Unit {0}} plan (Ok tt)
+Creates (Some bytes) plan (Err Exists) = Allows {X = Unit {0}} plan (Ok tt)
+Creates landed plan (Err (Store fault)) = Allows {X = Unit {0}} plan (Err fault)
+Creates landed plan (Err OutOfMemory) = Unit {0}
+Creates landed plan answer = ⊥
+
+abbrev pub IsCreateAnswer : Result (Unit {0}) DeskFault → Type 0
+IsCreateAnswer (Ok done) = Unit {0}
+IsCreateAnswer (Err Exists) = Unit {0}
+IsCreateAnswer (Err (Store stores.Failed)) = Unit {0}
+IsCreateAnswer (Err (Store stores.TooLarge)) = Unit {0}
+IsCreateAnswer (Err OutOfMemory) = Unit {0}
+IsCreateAnswer (Err other) = ⊥
+
+-- What starting a desk answers, over an honest store: the consistent side that has landed.
+abbrev pub Starts : {S : Type 0} → Option (List ℕ) → Option NextCall → Result (DeskOf S) (DeskFault × S) → Type 0
+Starts (Some bytes) plan (Ok desk) = (record_at bytes ≡ Ok desk.live) × IsConsistent desk.live × Allows {X = Unit {0}} plan (Ok tt)
+Starts None plan (Err (NoRecord, store)) = Allows {X = Unit {0}} plan (Ok tt)
+Starts landed plan (Err (Store fault, store)) = Allows {X = Unit {0}} plan (Err fault)
+Starts (Some bytes) plan (Err (Saved fault, store)) = Decodes (record_at bytes) (begins_as_record bytes) (Err fault) × Allows {X = Unit {0}} plan (Ok tt)
+Starts landed plan (Err (OutOfMemory, store)) = Unit {0}
+Starts landed plan answer = ⊥
+
+abbrev pub IsStartAnswer : Result (Unit {0}) DeskFault → Type 0
+IsStartAnswer (Ok done) = Unit {0}
+IsStartAnswer (Err NoRecord) = Unit {0}
+IsStartAnswer (Err fault) = IsLoadFault fault

@@ -1,0 +1,21 @@
+-- What a fault of a lower layer is to a desk: want of memory is the desk's own (this profile's own).
+use Rattle.ill_core.specs.declared.refusal.Refusal.{Refusal}
+use Rattle.ill_core.specs.declared.refusal.Refusal.TheVariants as refusals
+use Rattle.ill_saved.specs.declared.store.StoreFault.{StoreFault}
+use Rattle.ill_saved.specs.declared.store.StoreFault.TheVariants as stores
+use Rattle.ill_saved.specs.declared.fault.RecordFault.{RecordFault}
+use Rattle.ill_saved.specs.declared.fault.RecordFault.TheVariants as records
+use Rattle.ill_saved.specs.declared.fault.DeskFault.{DeskFault}
+use Rattle.ill_saved.specs.declared.fault.DeskFault.TheVariants.{Core, Store, Saved, OutOfMemory}
+
+abbrev pub of_core : Refusal → DeskFault
+of_core refusals.OutOfMemory = OutOfMemory
+of_core other = Core other
+
+abbrev pub of_store : StoreFault → DeskFault
+of_store stores.OutOfMemory = OutOfMemory
+of_store other = Store other
+
+abbrev pub of_record : RecordFault → DeskFault
+of_record records.OutOfMemory = OutOfMemory
+of_record other = Saved other

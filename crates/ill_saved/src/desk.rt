@@ -1,0 +1,259 @@
+//! One side with its store.
+
+ghost use Rattle.std.specs.Prelude.{◌≡◌, ◌≤◌, true, length, nat_le, IfOk, IfErr};
+ghost use Rattle.ill_core.specs.Issued.{message};
+ghost use Rattle.ill_saved.specs.Records.{issued_of, record_spelling};
+ghost use Rattle.ill_saved.specs.Desk.{DeskOf, IsBacked, DeskActs, DeskTakes, SideTakes, IsOneApdu, Sends, released_after, SaveLands, PlanAfter, IsSaveFault, landed_side, LoadsSide, IsLoadFault, Restarts, RestartLeaves, idle_of, IsFoundOrIdle, answer_of, store_of, Creates, IsCreateAnswer, Starts, IsStartAnswer, IsWhole, CountsDeskFailure};
+ghost use Rattle.ill_saved.specs.Store.{spent};
+ghost use Rattle.ill_der.specs.ShortForm.{apdu_at};
+
+use crate::decoding::decode_record;
+use crate::encoding::encode_record;
+use crate::fault::DeskFault;
+use crate::memory_store::MemoryStore;
+use crate::side::{Action, Side, issued, issued_count};
+use crate::store::{NextCall, Store};
+use ill_core::{Refusal, Requester, Responder, Taking};
+use ill_der::{DerFault, decode, encode};
+use ill_values::{Apdu, Number, OutOfMemory};
+use std::alloc::Global;
+use std::marker::Model;
+
+/// One side of a transaction, in memory and in a store. A message may be sent once the store has it.
+#[derive(Debug, Drop)]
+pub struct Desk1<S: Store> {
+    live: Side,
+    store: S,
+    released: u8,
+}
+
+impl<S: Store> Model for Desk1<S> {
+    ghost Value = { DeskOf S };
+
+    ghost view = { λ d. record { live = d.live; store = d.store; released = d.released } };
+
+    ghost invariant = { λ d. (d.released ≤ length (issued_of d.live)) × (S.is_honest d.store ≡ true → IsBacked (S.landed d.store) d.live d.released) };
+}
+
+impl<S: Store> Desk1<S> {
+    /// A desk whose side begins, over a store that has no record. Nothing is saved yet.
+    pub fn create(alloc: Global, store: S, first: Side) -> Result<Desk1<S>, (DeskFault, S)>
+        requires idle { first ≡ idle_of first }
+        ensures creates { S.is_honest store ≡ true → Creates (S.landed store) (S.plan store) (answer_of result) }
+        ensures begins { IfOk result (λ desk. (desk.live ≡ first) × (desk.released ≡ 0)) }
+        ensures faults { IsCreateAnswer (answer_of result) }
+        ensures landed { S.is_honest store ≡ true → S.landed (store_of result) ≡ S.landed store }
+        ensures plan { S.plan (store_of result) ≡ spent (S.plan store) }
+        ensures counted { CountsDeskFailure (answer_of result) (S.failures store) (S.failures (store_of result)) }
+        ensures honest { S.is_honest (store_of result) ≡ S.is_honest store }
+    {
+        let mut store = store;
+        match store.load(alloc) {
+            Ok(None) => Ok(Desk1 {
+                live: first,
+                store,
+                released: 0,
+            }),
+            Ok(Some(_)) => Err((DeskFault::Exists, store)),
+            Err(fault) => Err((DeskFault::from(fault), store)),
+        }
+    }
+
+    /// A desk with the side that a store has. All its messages are released.
+    pub fn start(alloc: Global, store: S) -> Result<Desk1<S>, (DeskFault, S)>
+        ensures starts { S.is_honest store ≡ true → Starts (S.landed store) (S.plan store) result }
+        ensures whole { IfOk result IsWhole }
+        ensures faults { IsStartAnswer (answer_of result) }
+        ensures landed { S.is_honest store ≡ true → S.landed (store_of result) ≡ S.landed store }
+        ensures plan { S.plan (store_of result) ≡ spent (S.plan store) }
+        ensures counted { CountsDeskFailure (answer_of result) (S.failures store) (S.failures (store_of result)) }
+        ensures honest { S.is_honest (store_of result) ≡ S.is_honest store }
+    {
+        let mut store = store;
+        match load_side(&mut store, alloc) {
+            Ok(Some(live)) => {
+                let released = issued_count(&live);
+                Ok(Desk1 {
+                    live,
+                    store,
+                    released,
+                })
+            }
+            Ok(None) => Err((DeskFault::NoRecord, store)),
+            Err(fault) => Err((fault, store)),
+        }
+    }
+
+    /// Does what the library of this side decides.
+    pub fn act(&mut self, alloc: Global, action: &Action) -> Result<(), DeskFault>
+        ensures acts { DeskActs self.old.live action.now result self.new.live }
+        ensures store { self.new.store ≡ self.old.store }
+        ensures released { self.new.released ≡ self.old.released }
+    {
+        act(&mut self.live, alloc, action)
+    }
+
+    /// Takes the APDU that the bytes are, and nothing else.
+    pub fn take_bytes(&mut self, alloc: Global, bytes: &[u8]) -> Result<Taking, DeskFault>
+        ensures takes { DeskTakes self.old.live (apdu_at bytes.now) result self.new.live }
+        ensures store { self.new.store ≡ self.old.store }
+        ensures released { self.new.released ≡ self.old.released }
+    {
+        take_bytes(&mut self.live, alloc, bytes)
+    }
+
+    /// Saves the side, and releases all its messages; or leaves the side and what is released.
+    pub fn save(&mut self, alloc: Global) -> Result<(), DeskFault>
+        ensures live { self.new.live ≡ self.old.live }
+        ensures released { self.new.released ≡ released_after result self.old.live self.old.released }
+        ensures landed { S.is_honest self.old.store ≡ true → SaveLands (S.plan self.old.store) (record_spelling self.old.live) result (S.landed self.old.store) (S.landed self.new.store) }
+        ensures plan { PlanAfter result (S.plan self.old.store) (S.plan self.new.store) }
+        ensures faults { IsSaveFault result }
+        ensures counted { CountsDeskFailure result (S.failures self.old.store) (S.failures self.new.store) }
+        ensures honest { S.is_honest self.new.store ≡ S.is_honest self.old.store }
+    {
+        let bytes = encode_record(alloc, &self.live)?;
+        self.store.save(alloc, &bytes)?;
+        self.released = issued_count(&self.live);
+        Ok(())
+    }
+
+    /// Goes back to the side that has landed, all of whose messages are released; or changes nothing of
+    /// the side and of what is released.
+    pub fn restart(&mut self, alloc: Global) -> Result<(), DeskFault>
+        ensures restarts { S.is_honest self.old.store ≡ true → Restarts (landed_side (S.landed self.old.store) self.old.live) (S.plan self.old.store) result self.new.live }
+        ensures leaves { RestartLeaves result self.old self.new }
+        ensures landed { S.is_honest self.old.store ≡ true → S.landed self.new.store ≡ S.landed self.old.store }
+        ensures plan { S.plan self.new.store ≡ spent (S.plan self.old.store) }
+        ensures counted { CountsDeskFailure result (S.failures self.old.store) (S.failures self.new.store) }
+        ensures honest { S.is_honest self.new.store ≡ S.is_honest self.old.store }
+    {
+        let found = load_side(&mut self.store, alloc)?;
+        let side = or_idle(alloc, found, &self.live)?;
+        self.released = issued_count(&side);
+        self.live = side;
+        Ok(())
+    }
+
+    /// The bytes of the message with this number, where it is released.
+    pub fn message(&self, alloc: Global, number: Number) -> Result<Vec<u8>, DeskFault>
+        ensures { Sends (λ bytes. bytes.items) (message (issued_of self.now.live) number) (nat_le number self.now.released) result }
+    {
+        let Some(apdu) = issued(&self.live, number) else {
+            return Err(DeskFault::NoSuchMessage);
+        };
+        if number.get() > self.released {
+            return Err(DeskFault::NotSaved);
+        }
+        Ok(encode(alloc, apdu)?)
+    }
+
+    /// The side.
+    pub fn side(&self) -> &Side
+        ensures value { result.now ≡ self.now.live }
+        ensures issued { self.now.released ≤ length (issued_of self.now.live) }
+        ensures backed { S.is_honest self.now.store ≡ true → IsBacked (S.landed self.now.store) self.now.live self.now.released }
+    {
+        &self.live
+    }
+
+    /// How many messages may be sent: those up to this number.
+    pub fn released(&self) -> u8
+        ensures { result ≡ self.now.released }
+    {
+        self.released
+    }
+}
+
+impl Desk1<MemoryStore> {
+    /// Plans the next call of the store.
+    pub fn set_next(&mut self, next: NextCall)
+        ensures { self.new ≡ record self.old { store = record self.old.store { next = next } } }
+    {
+        self.store.set_next(next);
+    }
+}
+
+/// Does on a side what its library decides.
+fn act(side: &mut Side, alloc: Global, action: &Action) -> Result<(), DeskFault>
+    ensures { DeskActs side.old action.now result side.new }
+{
+    match (side, action) {
+        (Side::Requester(requester), Action::Wish(wish)) => Ok(requester.act(alloc, wish)?),
+        (Side::Responder(responder), Action::Deed(deed, today)) => {
+            Ok(responder.act(alloc, deed, *today)?)
+        }
+        _ => Err(DeskFault::Core(Refusal::WrongRole)),
+    }
+}
+
+/// Hands the APDU that the bytes are to a side.
+fn take_bytes(side: &mut Side, alloc: Global, bytes: &[u8]) -> Result<Taking, DeskFault>
+    ensures { DeskTakes side.old (apdu_at bytes.now) result side.new }
+{
+    let apdu = one_apdu(alloc, bytes)?;
+    Ok(take(side, alloc, &apdu)?)
+}
+
+/// The APDU that the bytes are.
+fn one_apdu(alloc: Global, bytes: &[u8]) -> Result<Apdu, DeskFault>
+    ensures { IsOneApdu (apdu_at bytes.now) result }
+{
+    match decode(alloc, bytes) {
+        Ok((apdu, size)) if size == bytes.len() => Ok(apdu),
+        Ok(_) => Err(DeskFault::Trailing),
+        Err(DerFault::OutOfMemory) => Err(DeskFault::OutOfMemory),
+        Err(fault) => Err(DeskFault::Bytes(fault)),
+    }
+}
+
+/// Hands an APDU to a side.
+fn take(side: &mut Side, alloc: Global, apdu: &Apdu) -> Result<Taking, Refusal>
+    ensures { SideTakes side.old apdu.now result side.new }
+{
+    match side {
+        Side::Requester(requester) => requester.take(apdu),
+        Side::Responder(responder) => responder.take(alloc, apdu),
+    }
+}
+
+/// The side that has landed in a store, if any.
+fn load_side<S: Store>(store: &mut S, alloc: Global) -> Result<Option<Side>, DeskFault>
+    ensures loads { S.is_honest store.old ≡ true → LoadsSide (S.landed store.old) (S.plan store.old) result }
+    ensures faults { IfErr result IsLoadFault }
+    ensures landed { S.is_honest store.old ≡ true → S.landed store.new ≡ S.landed store.old }
+    ensures plan { S.plan store.new ≡ spent (S.plan store.old) }
+    ensures counted { CountsDeskFailure result (S.failures store.old) (S.failures store.new) }
+    ensures honest { S.is_honest store.new ≡ S.is_honest store.old }
+{
+    match store.load(alloc)? {
+        Some(bytes) => Ok(Some(decode_record(alloc, &bytes)?)),
+        None => Ok(None),
+    }
+}
+
+/// The side that was found, or else the side of the same role and transaction before its first message.
+fn or_idle(alloc: Global, found: Option<Side>, live: &Side) -> Result<Side, OutOfMemory>
+    ensures { IfOk result (λ side. IsFoundOrIdle found live.now side) }
+{
+    match found {
+        Some(side) => Ok(side),
+        None => idle_again(alloc, live),
+    }
+}
+
+/// The side of the same role and transaction before its first message.
+fn idle_again(alloc: Global, side: &Side) -> Result<Side, OutOfMemory>
+    ensures { IfOk result (λ idle. idle ≡ idle_of side.now) }
+{
+    match side {
+        Side::Requester(requester) => {
+            let txn = requester.txn().copy(alloc)?;
+            Ok(Side::Requester(Requester::idle(alloc, txn)))
+        }
+        Side::Responder(responder) => {
+            let txn = responder.txn().copy(alloc)?;
+            Ok(Side::Responder(Responder::idle(alloc, txn)))
+        }
+    }
+}

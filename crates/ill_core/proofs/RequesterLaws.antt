@@ -14,11 +14,12 @@ use Rattle.ill_core.specs.declared.taking.Taking.{Taking}
 use Rattle.ill_core.specs.declared.taking.Taking.TheVariants as takings
 use Rattle.ill_core.specs.State.{is_among}
 use Rattle.ill_core.specs.Issued.{was, is_cancel, is_the, next_number, next_apdu, number_of_cancel, last_of}
-use Rattle.ill_core.specs.Requester.{RequesterRecord, requester_of, later}
-use Rattle.ill_core.specs.RequesterActions.{acts, acts_to, next_state, moved}
+use Rattle.ill_core.specs.Requester.{RequesterRecord, IsRequester, requester_of, later}
+use Rattle.ill_core.specs.RequesterActions.{acts, acts_to, next_state, body_of, held_after, moved}
 use Rattle.ill_core.specs.RequesterDeliveries.{comes, takes}
 use Rattle.ill_core.specs.RequesterFacts.{RequesterFact, Shows, Tells, KeepsDue, Holds, shows_refused}
 use Rattle.ill_core.specs.RequesterFacts as facts
+use Rattle.ill_core.proofs.RequesterKept.{wish_kept}
 use Rattle.ill_core.proofs.RequesterRows.{leaves, of_takes}
 use Rattle.ill_core.proofs.IssuedLemmas.{last_of_more}
 
@@ -27,6 +28,9 @@ takes_issues x a = of_takes (λ r. r.1.issued ≡ x.issued) x a (λ _. refl) (le
 
 pub takes_txn : (x : RequesterRecord) (a : Apdu) → (takes x a).1.txn ≡ x.txn
 takes_txn x a = of_takes (λ r. r.1.txn ≡ x.txn) x a (λ _. refl) (leaves x a.number a.body).txn
+
+pub takes_kept : (x : RequesterRecord) (a : Apdu) → IsRequester x → IsRequester (takes x a).1
+takes_kept x a h = of_takes (λ r. IsRequester r.1) x a (λ _. h) ((leaves x a.number a.body).kept h)
 
 abbrev Quiet : RequesterRecord → Result Taking Refusal × RequesterRecord → Type 0
 Quiet x r = (r.0 ≡ Ok takings.Taken) ⊎ (r.1 ≡ x)
@@ -135,3 +139,7 @@ of_acts P x new wish leads acted = acts_to_by P x new wish (next_state x wish) (
 
 pub acts_shows : (x new : RequesterRecord) (wish : Wish) (fact : RequesterFact) → acts x wish ≡ Ok new → Shows new fact → Shows x fact
 acts_shows x new wish fact acted = of_acts (λ r. Shows r fact → Shows x fact) x new wish (λ next leads. wish_shows x wish next fact leads) acted
+
+pub acts_kept : (x new : RequesterRecord) (wish : Wish) → acts x wish ≡ Ok new → IsRequester x → IsRequester new
+acts_kept x new wish acted h =
+    of_acts IsRequester x new wish (λ next leads. wish_kept x wish next x.txn (held_after x wish) (moved x wish next).issued (body_of x wish) h leads refl refl refl refl) acted

@@ -11,7 +11,7 @@ use Rattle.ill_core.specs.declared.taking.Taking.{Taking}
 use Rattle.ill_core.specs.declared.taking.Taking.TheVariants as takings
 use Rattle.ill_core.specs.State.{is_among}
 use Rattle.ill_core.specs.Issued.{refused_before, is_requesters, is_at_most, is_the, was, is_cancel, is_renew}
-use Rattle.ill_core.specs.Requester.{RequesterRecord, later, accepted, last_cancel, last_renew}
+use Rattle.ill_core.specs.Requester.{RequesterRecord, IsRequester, later, accepted, last_cancel, last_renew}
 use Rattle.ill_core.specs.RequesterDeliveries.{comes, takes, takes_to, end_comes, cancel_reply_comes, renew_answer_comes, renewal_comes, unless}
 use Rattle.ill_core.specs.Dates.{is_after_due, is_due_on}
 use Rattle.ill_core.specs.declared.refusal.Refusal.{Refusal}
@@ -21,6 +21,7 @@ use Rattle.ill_core.specs.RequesterFacts as facts
 pub record Leaves (x : RequesterRecord) (k : ℕ) (body : Body) (answer : Taking × RequesterRecord) : Type 0 where
   pub txn : answer.1.txn ≡ x.txn
   pub issued : answer.1.issued ≡ x.issued
+  pub kept : IsRequester x → IsRequester answer.1
   pub quiet : (answer.0 ≡ takings.Taken) ⊎ (answer.1 ≡ x)
   pub final : is_among (Cancelled ∷ NotSupplied ∷ Returned ∷ []) x.state ≡ true → answer.1.state ≡ x.state
   pub stays : is_among later x.state ≡ true → is_among later answer.1.state ≡ true

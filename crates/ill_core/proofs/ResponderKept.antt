@@ -1,7 +1,7 @@
 -- A responder's record keeps its rules.
-use Rattle.std.proofs.Common.{rules, arith, ◌≡◌, ℕ, ◌+◌, Bool, true, false, not, ◌||◌, List, [], ◌∷◌, ◌++◌, length, Option, Some, None, is_some, Result, Ok, if◌then◌else◌, refl, ap, sym, subst, ◌∙◌}
+use Rattle.std.proofs.Common.{rules, arith, ◌≡◌, ℕ, ◌+◌, Bool, true, false, not, ◌&&◌, ◌||◌, List, [], ◌∷◌, ◌++◌, length, Option, Some, None, is_some, Result, Ok, Err, if◌then◌else◌, refl, ap, sym, subst, ◌∙◌}
 use Rattle.std.specs.List.{filter_map, last_or}
-use Rattle.std.proofs.lemmas.Bool.{and_from, eqb-true}
+use Rattle.std.proofs.lemmas.Bool.{and_from, eqb-true, cond_both}
 use Rattle.ill_values.specs.Day.{Date}
 use Rattle.ill_values.specs.TxnId.{Qualifiers}
 use Rattle.ill_values.specs.declared.apdu.Apdu.{Apdu}
@@ -9,18 +9,19 @@ use Rattle.ill_values.specs.declared.apdu.Body.{Body}
 use Rattle.ill_values.specs.declared.apdu.Body.TheVariants as types
 use Rattle.ill_values.specs.declared.apdu.AnswerResult.TheVariants as results
 use Rattle.ill_core.specs.declared.state.State.{State}
-use Rattle.ill_core.specs.declared.state.State.TheVariants.{Idle, InProcess, Conditional, NotSupplied, CheckedIn}
+use Rattle.ill_core.specs.declared.state.State.TheVariants.{Idle, InProcess, Conditional, CancelPending, NotSupplied, Shipped, RenewPending, Overdue, RenewOverdue, Recall, Returned, CheckedIn}
 use Rattle.ill_core.specs.declared.responder.Deed.{Deed}
 use Rattle.ill_core.specs.declared.responder.Deed.TheVariants as deeds
 use Rattle.ill_core.specs.State.{is_among}
 use Rattle.ill_core.specs.Dates.{is_after_due}
-use Rattle.ill_core.specs.Issued.{is_the, was, is_same_txn, is_ill_request, with_next, next_apdu, is_requesters, implies, is_shipped, is_checked_in, names_conditions, is_renewal, granted, date_granted}
+use Rattle.ill_core.specs.Issued.{is_the, is_at_most, next_number, was, is_same_txn, is_ill_request, with_next, next_apdu, is_requesters, implies, is_shipped, is_checked_in, names_conditions, is_renewal, granted, date_granted}
 use Rattle.ill_core.specs.Responder.{ResponderRecord, responder_of, outstanding, is_named, IsResponder, ResponderIssuedFits, ResponderPartsFit, responder_later, are_rising, ships_first, due_of}
 use Rattle.ill_core.specs.ResponderActions.{deed_leads, date_refusal, body_issued, issues_to}
 use Rattle.ill_core.specs.declared.refusal.Refusal.{Refusal}
+use Rattle.ill_core.specs.declared.refusal.Refusal.TheVariants.{OtherTransaction, WrongRole}
 use Rattle.ill_core.specs.declared.taking.Taking.{Taking}
 use Rattle.ill_core.specs.Issued.{Admits, refused_before}
-use Rattle.ill_core.specs.ResponderDeliveries.{Comes, ResponderTakes, message_comes, takes_memory, responder_takes, unless_refused}
+use Rattle.ill_core.specs.ResponderDeliveries.{Comes, answers_no, ResponderTakes, message_comes, takes_memory, responder_takes, unless_refused}
 use Rattle.ill_core.proofs.IssuedLemmas.{numbered_next, same_txn, has_more, all_more, none_more, found_none, found_more}
 use Rattle.ill_core.proofs.ResponderLists.{count_more, ends_more, named_more, rise_more, ships_more, ships_renewed, no_grants, due_there}
 
@@ -208,3 +209,82 @@ pub takes_admitted : (y new : ResponderRecord) (a : Apdu) (answer : Result Takin
 takes_admitted y new a answer admitted comes =
     let same : responder_takes y a ≡ message_comes y a a.body = ap (λ o. unless_refused o y (message_comes y a a.body)) admitted in
     subst (λ expected. Comes expected (takes_memory y a.body) y answer new) (sym same) comes
+
+-- ---- a delivery keeps the rules
+
+cancel_asked_kept : (txn : Qualifiers) (state : State) (accepted last_cancel last_renew : Option ℕ) (received : Bool) (request : Option Apdu) (issued : List Apdu) (number : ℕ)
+    → IsResponder (responder_of txn state accepted last_cancel last_renew received request issued) → is_among (InProcess ∷ Conditional ∷ []) state ≡ true
+    → IsResponder (responder_of txn CancelPending accepted (Some number) last_renew received request issued)
+cancel_asked_kept txn InProcess accepted last_cancel last_renew received request issued number h is = search rules
+cancel_asked_kept txn state accepted last_cancel last_renew received request issued number h is = search rules
+
+arrived_kept : (y : ResponderRecord) → IsResponder y → is_among responder_later y.state && not y.received ≡ true → IsResponder (record y { received = true })
+arrived_kept y h is = search rules
+
+renew_asked_kept : (txn : Qualifiers) (state next : State) (accepted last_cancel last_renew : Option ℕ) (received : Bool) (request : Option Apdu) (issued : List Apdu) (number : ℕ)
+    → IsResponder (responder_of txn state accepted last_cancel last_renew received request issued) → is_among (Shipped ∷ Overdue ∷ []) state ≡ true
+    → is_among (RenewPending ∷ RenewOverdue ∷ []) next ≡ true → IsResponder (responder_of txn next accepted last_cancel (Some number) received request issued)
+renew_asked_kept txn Shipped RenewPending accepted last_cancel last_renew received request issued number h is there = search rules
+renew_asked_kept txn state next accepted last_cancel last_renew received request issued number h is there = search rules
+
+sent_back_kept : (txn : Qualifiers) (state : State) (accepted last_cancel last_renew : Option ℕ) (received : Bool) (request : Option Apdu) (issued : List Apdu)
+    → IsResponder (responder_of txn state accepted last_cancel last_renew received request issued)
+    → is_among (Shipped ∷ RenewPending ∷ Overdue ∷ RenewOverdue ∷ Recall ∷ []) state ≡ true
+    → IsResponder (responder_of txn Returned accepted last_cancel last_renew received request issued)
+sent_back_kept txn Shipped accepted last_cancel last_renew received request issued h is = search rules
+sent_back_kept txn state accepted last_cancel last_renew received request issued h is = search rules
+
+-- the first line that fits decides
+line : (fits : Bool) (here others : Result Taking Refusal × ResponderRecord) → (fits ≡ true → IsResponder here.1) → (fits ≡ false → IsResponder others.1)
+    → IsResponder (if fits then here else others).1
+line fits here others = cond_both fits here others (λ r. IsResponder r.1)
+
+answer_kept : (y : ResponderRecord) (next : Result ℕ Refusal) → IsResponder y → is_among (InProcess ∷ Conditional ∷ []) y.state ≡ true → IsResponder (answers_no y next).1
+answer_kept y (Ok number) h waits = no_kept y h waits
+answer_kept y (Err refusal) h waits = h
+
+comes_kept : (y : ResponderRecord) (a : Apdu) (body : Body) → IsResponder y → is_same_txn a.txn y.txn ≡ true → is_ill_request a.body ≡ is_ill_request body → IsResponder (message_comes y a body).1
+comes_kept y a (types.IllRequest expiry item) h same is =
+    line (is_among (Idle ∷ []) y.state) _ _ (λ idle. request_kept y a h idle same is) (λ _. h)
+comes_kept y a (types.ConditionalReply c true) h same is =
+    line (is_the c (outstanding y)) _ _ (λ there. yes_kept y c h there) (λ _.
+    line (is_the c y.accepted) _ _ (λ _. h) (λ _.
+    line (was names_conditions y.issued c) _ _ (λ _. h) (λ _. h)))
+comes_kept y a (types.ConditionalReply c false) h same is =
+    line (is_among (InProcess ∷ Conditional ∷ []) y.state) _ _ (answer_kept y (next_number y.issued) h) (λ _.
+    line (is_among (NotSupplied ∷ []) y.state) _ _ (λ _. h) (λ _. h))
+comes_kept y a types.Cancel h same is =
+    line (is_at_most a.number y.last_cancel) _ _ (λ _. h) (λ _.
+    line (is_among (InProcess ∷ Conditional ∷ []) y.state) _ _
+    (cancel_asked_kept y.txn y.state y.accepted y.last_cancel y.last_renew y.received y.request y.issued a.number h) (λ _. h))
+comes_kept y a types.Received h same is =
+    line (is_among responder_later y.state && not y.received) _ _ (arrived_kept y h) (λ _.
+    line (is_among responder_later y.state) _ _ (λ _. h) (λ _. h))
+comes_kept y a (types.Renew wished) h same is =
+    let asked = renew_asked_kept y.txn y.state in
+    line (is_at_most a.number y.last_renew) _ _ (λ _. h) (λ _.
+    line (is_among (Shipped ∷ []) y.state) _ _
+    (λ here. asked RenewPending y.accepted y.last_cancel y.last_renew y.received y.request y.issued a.number h (search (rules, here)) refl) (λ _.
+    line (is_among (Overdue ∷ []) y.state) _ _
+    (λ here. asked RenewOverdue y.accepted y.last_cancel y.last_renew y.received y.request y.issued a.number h (search (rules, here)) refl) (λ _. h)))
+comes_kept y a types.Returned h same is =
+    line (is_among (Shipped ∷ RenewPending ∷ Overdue ∷ RenewOverdue ∷ Recall ∷ []) y.state) _ _
+    (sent_back_kept y.txn y.state y.accepted y.last_cancel y.last_renew y.received y.request y.issued h) (λ _.
+    line (is_among (Returned ∷ CheckedIn ∷ []) y.state) _ _ (λ _. h) (λ _. h))
+comes_kept y a other h same is = h
+
+-- an APDU that is admitted is of the transaction
+admitted_same : (same is_own : Bool) → (if same then (if is_own then Some WrongRole else None) else Some OtherTransaction) ≡ None → same ≡ true
+admitted_same true is_own h = refl
+admitted_same false is_own h = search rules
+
+unless_kept : (refused : Option Refusal) (y : ResponderRecord) (answer : Result Taking Refusal × ResponderRecord) → IsResponder y → (refused ≡ None → IsResponder answer.1)
+    → IsResponder (unless_refused refused y answer).1
+unless_kept (Some refusal) y answer h admitted = h
+unless_kept None y answer h admitted = admitted refl
+
+-- A delivery leads to a responder's record.
+pub takes_kept : (y : ResponderRecord) (a : Apdu) → IsResponder y → IsResponder (responder_takes y a).1
+takes_kept y a h =
+    unless_kept (refused_before y.txn (not (is_requesters a.body)) a) y (message_comes y a a.body) h
+    (λ admitted. comes_kept y a a.body h (admitted_same (is_same_txn a.txn y.txn) (not (is_requesters a.body)) admitted) refl)

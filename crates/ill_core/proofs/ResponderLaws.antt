@@ -13,14 +13,15 @@ use Rattle.ill_core.specs.declared.state.State.{State}
 use Rattle.ill_core.specs.declared.state.State.TheVariants.{InProcess, Conditional, CancelPending, Cancelled, NotSupplied, Returned, CheckedIn}
 use Rattle.ill_core.specs.declared.responder.Deed.{Deed}
 use Rattle.ill_core.specs.State.{is_among}
-use Rattle.ill_core.specs.Issued.{has, implies, with_next, next_apdu, IssuesNext, is_at_most, is_below, is_shipped}
-use Rattle.ill_core.specs.Responder.{ResponderRecord}
-use Rattle.ill_core.specs.ResponderActions.{deed_acts, issues_to}
+use Rattle.ill_core.specs.Issued.{has, implies, next_number, with_next, next_apdu, IssuesNext, is_at_most, is_below, is_shipped}
+use Rattle.ill_core.specs.Responder.{ResponderRecord, IsResponder}
+use Rattle.ill_core.specs.ResponderActions.{deed_acts, deed_leads, date_refusal, issues_to}
 use Rattle.ill_core.specs.ResponderDeliveries.{responder_takes}
 use Rattle.ill_core.specs.ResponderFacts.{ResponderFact, ResponderShows, TellsResponder, Requested, Accepted, CancelAsked, Arrived, SentBack, cancels, IssuesUnfilled, StaysLater, Ends, EntersByEnd, EndsOnce, is_unsupplied, is_cancelled, is_end, ended, ends_in, Question, MayCancel, MayRenew, answered, last_asked, waits, answers_to, AnswersLast, KeepsLast, TakesNew, EachAnsweredOnce, AnswersEachOnce}
 use Rattle.ill_core.proofs.IssuedLemmas.{issued_body, not_longer, has_more, found_none, found_more}
 use Rattle.ill_core.proofs.ResponderLists.{count_more}
-use Rattle.ill_core.proofs.ResponderRows.{Issues, Moves, of_takes, of_deeds}
+use Rattle.ill_core.proofs.ResponderKept.{deed_kept}
+use Rattle.ill_core.proofs.ResponderRows.{Issues, Moves, of_takes, of_deeds, done_by}
 use Rattle.ill_core.proofs.RequesterAnswers.{all_weaker, below_new, at_most_below, distinct_more}
 
 pub deeds_issue : (y new : ResponderRecord) (deed : Deed) (today : Date) → deed_acts y deed today ≡ Ok new → IssuesNext y.txn y.issued new.issued
@@ -34,6 +35,10 @@ deeds_txn y new deed today = of_deeds (λ r. r.txn ≡ y.txn) y new deed today (
 
 pub takes_txn : (y : ResponderRecord) (a : Apdu) → (responder_takes y a).1.txn ≡ y.txn
 takes_txn y a = of_takes (λ r. r.txn ≡ y.txn) y a (λ how. how.txn) (λ said how. refl)
+
+pub deeds_kept : (y new : ResponderRecord) (deed : Deed) (today : Date) → deed_acts y deed today ≡ Ok new → IsResponder y → IsResponder new
+deeds_kept y new deed today done h =
+    done_by IsResponder y new deed (deed_leads y deed) (date_refusal y deed today) (next_number y.issued) (λ next leads allowed. deed_kept y deed next today h leads allowed) done
 
 not_both : {P : Type 0} (b : Bool) → b ≡ false → b ≡ true → P
 not_both b is_false is_true = search rules

@@ -181,16 +181,16 @@ takes_quiet y a = row_quiet y a.number a.body (responder_takes y a) (takes y a)
 ok_is : (x y : ResponderRecord) → ◌≡◌ {A = Result ResponderRecord Refusal} (Ok x) (Ok y) → x ≡ y
 ok_is x y h = search rules
 
-done_by : (P : ResponderRecord → Type 0) (y new : ResponderRecord) (deed : Deed) (state : Option State) (dates : Option Refusal) (number : Result ℕ Refusal)
-    → ((next : State) → state ≡ Some next → P (issues_to y (body_issued y deed) next)) → deed_acts_to y deed state dates number ≡ Ok new → P new
+pub done_by : (P : ResponderRecord → Type 0) (y new : ResponderRecord) (deed : Deed) (state : Option State) (dates : Option Refusal) (number : Result ℕ Refusal)
+    → ((next : State) → state ≡ Some next → dates ≡ None → P (issues_to y (body_issued y deed) next)) → deed_acts_to y deed state dates number ≡ Ok new → P new
 done_by P y new deed None dates number leads done = search rules
 done_by P y new deed (Some next) (Some refusal) number leads done = search rules
 done_by P y new deed (Some next) None (Err refusal) leads done = search rules
-done_by P y new deed (Some next) None (Ok n) leads done = subst P (ok_is (issues_to y (body_issued y deed) next) new done) (leads next refl)
+done_by P y new deed (Some next) None (Ok n) leads done = subst P (ok_is (issues_to y (body_issued y deed) next) new done) (leads next refl refl)
 
 -- What holds wherever an APDU is issued holds after a deed.
 pub of_deeds : (P : ResponderRecord → Type 0) (y new : ResponderRecord) (deed : Deed) (today : Date)
     → ((body : Body) (next : State) → Issues y body next → P (issues_to y body next)) → deed_acts y deed today ≡ Ok new → P new
 of_deeds P y new deed today leads done =
-    done_by P y new deed (deed_leads y deed) (date_refusal y deed today) (next_number y.issued) (λ next leads_there.
+    done_by P y new deed (deed_leads y deed) (date_refusal y deed today) (next_number y.issued) (λ next leads_there _.
     leads (body_issued y deed) next (issues y.txn y.state y.accepted y.last_cancel y.last_renew y.received y.request y.issued deed next leads_there)) done

@@ -1,5 +1,5 @@
 -- What a requester's record shows to have come, and which APDU of a responder tells it (this profile's own).
-use Rattle.std.specs.Prelude.{◌≡◌, ◌⊎◌, ℕ, Bool, true, false, ◌&&◌, List, [], ◌∷◌, ◌++◌, Option, Some, None}
+use Rattle.std.specs.Prelude.{◌≡◌, ◌⊎◌, ℕ, Bool, true, false, ◌&&◌, List, [], ◌∷◌, ◌++◌, Option, Some, None, Result, Ok}
 use Rattle.ill_values.specs.Day.{Date}
 use Rattle.ill_values.specs.declared.apdu.Apdu.{Apdu}
 use Rattle.ill_values.specs.declared.apdu.Body.{Body}
@@ -10,6 +10,7 @@ use Rattle.ill_core.specs.Issued.{was, is_cancel, is_the, is_at_most, is_below, 
 use Rattle.ill_core.specs.Requester.{RequesterRecord, accepted, last_cancel, later}
 use Rattle.ill_core.specs.Dates.{is_after_due}
 use Rattle.ill_core.specs.declared.state.State.{State}
+use Rattle.ill_core.specs.declared.refusal.Refusal.{Refusal}
 use Rattle.ill_core.specs.declared.taking.Taking.{Taking}
 use Rattle.ill_core.specs.declared.taking.Taking.TheVariants.{Taken, Repeat}
 use Rattle.std.specs.Option.{unwrap_or}
@@ -75,8 +76,8 @@ Replies x new =
     → (is_among (states.Conditional ∷ []) x.state ≡ true) × (has declines x.issued ≡ false) × (n ≡ unwrap_or x.held 0)
 
 -- taken or a repeat, and the record after it is in one of these states
-abbrev pub LeadsTo : List State → Taking × RequesterRecord → Type 0
-LeadsTo states answer = ((answer.0 ≡ Taken) ⊎ (answer.0 ≡ Repeat)) × (is_among states answer.1.state ≡ true)
+abbrev pub LeadsTo : List State → Result Taking Refusal × RequesterRecord → Type 0
+LeadsTo states answer = ((answer.0 ≡ Ok Taken) ⊎ (answer.0 ≡ Ok Repeat)) × (is_among states answer.1.state ≡ true)
 
 -- the number of the conditions that a Conditional-Reply answers
 abbrev pub replied : Body → Option ℕ

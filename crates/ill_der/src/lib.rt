@@ -1,6 +1,7 @@
 //! The short form of interlibrary loan messages: DER (X.690) with this profile's application tags.
 #![tactic(auto)]
 
+mod counted;
 mod cursor;
 mod decoding;
 mod encoding;

@@ -4,6 +4,7 @@ ghost use Rattle.std.specs.Prelude.{◌≡◌, ◌+◌, ◌≤◌, length};
 ghost use Rattle.ill_der.specs.Format.{length_of};
 ghost use Rattle.ill_der.specs.Stream.{AreUnfinished, IsJudged, ReadsApdu, missing_by, missing_of};
 
+use crate::counted::CountedRead;
 use crate::decoding::{MOST_CONTENTS, decode};
 use crate::fault::{DerFault, ReadFault};
 use crate::kind::Kind;
@@ -53,6 +54,18 @@ pub fn read_apdu_counted<R: Read, L: Ledger>(
     ensures read { ReadsApdu (R.remaining reader.old) (R.remaining reader.new) result }
     ensures reads { steps.new ≤ steps.old + 360 }
 {
+    read_counted(alloc, reader, steps)
+}
+
+/// The same, of a reader whose every read is counted.
+fn read_counted<C: CountedRead, L: Ledger>(
+    alloc: Global,
+    reader: &mut C,
+    steps: &mut Steps<L>,
+) -> Result<Option<Apdu>, ReadFault>
+    ensures read { ReadsApdu (C.remaining reader.old) (C.remaining reader.new) result }
+    ensures reads { steps.new ≤ steps.old + 360 }
+{
     let mut bytes = [0; MOST];
     let mut size = 0;
     for _ in 0..READS {
@@ -60,8 +73,7 @@ pub fn read_apdu_counted<R: Read, L: Ledger>(
         if missing == 0 {
             return judge(alloc, &bytes[..size]);
         }
-        steps.tick();
-        match reader.read(&mut bytes[size..size + missing]) {
+        match reader.read_once(&mut bytes[size..size + missing], steps) {
             Ok(0) if size == 0 => return Ok(None),
             Ok(0) => return Err(ReadFault::Bytes(DerFault::Short(size as u16))),
             Ok(count) => size += count,

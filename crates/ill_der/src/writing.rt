@@ -5,6 +5,7 @@ ghost use Rattle.ill_der.specs.declared.fault.WriteFault.TheVariants as faults;
 ghost use Rattle.ill_der.specs.ShortForm.{spelling};
 ghost use Rattle.ill_der.specs.Stream.{Writes};
 
+use crate::counted::CountedWrite;
 use crate::encoding::encode;
 use crate::fault::WriteFault;
 use crate::steps::Steps;
@@ -73,12 +74,13 @@ fn write_bytes_uncounted<L: Ledger, W: Write>(
     write_bytes_counted(writer, bytes, &mut Steps::<L>::new(blank))
 }
 
-fn write_bytes_counted<W: Write, L: Ledger>(
-    writer: &mut W,
+/// The same, of a writer whose every write is counted.
+fn write_bytes_counted<C: CountedWrite, L: Ledger>(
+    writer: &mut C,
     bytes: &[u8],
     steps: &mut Steps<L>,
 ) -> Result<(), WriteFault>
-    ensures written { Writes (W.contents writer.old) (W.contents writer.new) bytes.now result }
+    ensures written { Writes (C.contents writer.old) (C.contents writer.new) bytes.now result }
     ensures fault { IfErr result (λ fault. fault ≡ faults.Write) }
     ensures writes { steps.new ≤ steps.old + length bytes.now }
 {
@@ -87,8 +89,7 @@ fn write_bytes_counted<W: Write, L: Ledger>(
         if written == bytes.len() {
             return Ok(());
         }
-        steps.tick();
-        match writer.write(&bytes[written..]) {
+        match writer.write_once(&bytes[written..], steps) {
             Ok(count) if count > 0 => written += count,
             _ => return Err(WriteFault::Write),
         }

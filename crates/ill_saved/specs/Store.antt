@@ -1,5 +1,5 @@
 -- What a store of one record promises (this profile's own).
-use Rattle.std.specs.Prelude.{◌≡◌, ◌⊎◌, ℕ, ◌<◌, ◌≤◌, List, Option, Some, None, Result, Ok, Err}
+use Rattle.std.specs.Prelude.{◌≡◌, ◌⊎◌, ℕ, ◌+◌, ◌<◌, ◌≤◌, min, true, List, Option, Some, None, is_some, option_map, Result, Ok, Err}
 use Rattle.ill_saved.specs.declared.store.StoreFault.{StoreFault}
 use Rattle.ill_saved.specs.declared.store.StoreFault.TheVariants.{Failed, TooLarge, OutOfMemory}
 use Rattle.ill_saved.specs.declared.store.NextCall.{NextCall}
@@ -45,8 +45,37 @@ abbrev pub IsNotTooLarge : Result (Unit {0}) StoreFault → Type 0
 IsNotTooLarge (Err TooLarge) = ⊥
 IsNotTooLarge answer = Unit {0}
 
--- a store in memory: what has landed, the count of failures, and the plan of the next call
+-- ---- a store in memory
+
+-- what has landed, the count of failures, and the plan of the next call
 pub record Memory : Type 0 where
   pub landed : Option (List ℕ)
   pub failures : ℕ
   pub next : NextCall
+
+-- A call has spent the plan.
+abbrev pub called : Memory → Memory
+called store = record store { next = Works }
+
+-- A call has failed as planned: the count rises by one, up to the most.
+abbrev pub failed : Memory → Memory
+failed store = record store { failures = min (store.failures + 1) most_failures; next = Works }
+
+-- What a load answers by its plan, and the store after it. Only a load that works takes memory, where something has
+-- landed.
+abbrev pub MemoryLoads : {X : Type 0} → (X → List ℕ) → NextCall → Memory → Result (Option X) StoreFault → Memory → Type 0
+MemoryLoads bytes_of Works old (Ok found) new = (option_map bytes_of found ≡ old.landed) × (new ≡ called old)
+MemoryLoads bytes_of Works old (Err OutOfMemory) new = (is_some old.landed ≡ true) × (new ≡ called old)
+MemoryLoads bytes_of Works old (Err other) new = ⊥
+MemoryLoads bytes_of FailsOld old answer new = (answer ≡ Err Failed) × (new ≡ failed old)
+MemoryLoads bytes_of FailsNew old answer new = (answer ≡ Err Failed) × (new ≡ failed old)
+
+-- What a save answers by its plan, and the store after it. One that is to fail and leave the old bytes takes no memory.
+abbrev pub MemorySaves : NextCall → List ℕ → Memory → Result (Unit {0}) StoreFault → Memory → Type 0
+MemorySaves Works bytes old (Ok done) new = new ≡ called (record old { landed = Some bytes })
+MemorySaves Works bytes old (Err OutOfMemory) new = new ≡ called old
+MemorySaves Works bytes old (Err other) new = ⊥
+MemorySaves FailsOld bytes old answer new = (answer ≡ Err Failed) × (new ≡ failed old)
+MemorySaves FailsNew bytes old (Err Failed) new = new ≡ failed (record old { landed = Some bytes })
+MemorySaves FailsNew bytes old (Err OutOfMemory) new = new ≡ called old
+MemorySaves FailsNew bytes old answer new = ⊥

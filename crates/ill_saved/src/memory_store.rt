@@ -1,8 +1,9 @@
 //! A store in memory, whose failures are planned.
 
 ghost use Rattle.std.specs.Prelude.{◌≡◌, true, None, Some, option_map};
+ghost use Rattle.ill_saved.specs.declared.store.StoreFault.TheVariants.{Failed};
 ghost use Rattle.ill_saved.specs.declared.store.NextCall.TheVariants as plans;
-ghost use Rattle.ill_saved.specs.Store.{Memory};
+ghost use Rattle.ill_saved.specs.Store.{Memory, MemoryLoads, MemorySaves, failed};
 
 use crate::store::{NextCall, Store, StoreFault};
 use std::alloc::Global;
@@ -52,8 +53,21 @@ impl MemoryStore {
         self.next = NextCall::Works;
         plan
     }
+
+    /// Fails this call, and counts that.
+    fn fail(&mut self) -> StoreFault
+        ensures fault { result ≡ Failed }
+        ensures counted { self.new ≡ failed self.old }
+    {
+        self.next = NextCall::Works;
+        self.failures = self.failures.saturating_add(1);
+        StoreFault::Failed
+    }
 }
 
+/// A `load` fails only under a plan to fail, and takes memory under none of these. A `save` that is planned
+/// to fail and to leave the old bytes takes no memory; one that leaves the new ones lands them first, or
+/// answers want of memory.
 impl Store for MemoryStore {
     ghost landed = { λ m. m.landed };
 
@@ -63,20 +77,21 @@ impl Store for MemoryStore {
 
     ghost plan = { λ m. Some m.next };
 
-    fn load(&mut self, alloc: Global) -> Result<Option<Vec<u8>>, StoreFault> {
+    fn load(&mut self, alloc: Global) -> Result<Option<Vec<u8>>, StoreFault>
+        ensures { MemoryLoads (λ b. b.items) self.old.next self.old result self.new }
+    {
         match self.take_plan() {
             NextCall::Works => match &self.landed {
                 Some(bytes) => Ok(Some(Vec::from_slice(alloc, bytes)?)),
                 None => Ok(None),
             },
-            NextCall::FailsOld | NextCall::FailsNew => {
-                self.failures = self.failures.saturating_add(1);
-                Err(StoreFault::Failed)
-            }
+            NextCall::FailsOld | NextCall::FailsNew => Err(self.fail()),
         }
     }
 
-    fn save(&mut self, alloc: Global, bytes: &[u8]) -> Result<(), StoreFault> {
+    fn save(&mut self, alloc: Global, bytes: &[u8]) -> Result<(), StoreFault>
+        ensures { MemorySaves self.old.next bytes.now self.old result self.new }
+    {
         let plan = self.take_plan();
         if plan != NextCall::FailsOld {
             self.landed = Some(Vec::from_slice(alloc, bytes)?);
@@ -84,7 +99,6 @@ impl Store for MemoryStore {
         if plan == NextCall::Works {
             return Ok(());
         }
-        self.failures = self.failures.saturating_add(1);
-        Err(StoreFault::Failed)
+        Err(self.fail())
     }
 }

@@ -81,7 +81,8 @@ impl Day {
 
     /// The day so many days later, up to 31 December 9999.
     pub fn after(&self, days: u32) -> Result<Day, DayFault>
-        ensures { result ≡ day_after days self.now }
+        ensures value { result ≡ day_after days self.now }
+        ensures date { IsDate self.now }
     {
         let date = self.to_civil();
         if days > MOST_DAYS {

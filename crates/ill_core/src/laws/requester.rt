@@ -9,10 +9,10 @@ ghost use Rattle.ill_core.specs.declared.requester.Wish.{Wish};
 ghost use Rattle.ill_core.specs.declared.state.State.TheVariants as states;
 ghost use Rattle.ill_core.specs.declared.taking.Taking.TheVariants.{Taken};
 ghost use Rattle.ill_core.specs.State.{is_among};
-ghost use Rattle.ill_core.specs.Issued.{is_the, IssuesNext};
-ghost use Rattle.ill_core.specs.Requester.{RequesterRecord, later, last_cancel};
+ghost use Rattle.ill_core.specs.Issued.{is_the, is_same_txn, IssuesNext};
+ghost use Rattle.ill_core.specs.Requester.{RequesterRecord, IsRequester, later, last_cancel};
 ghost use Rattle.ill_core.specs.RequesterActions.{acts};
-ghost use Rattle.ill_core.specs.RequesterDeliveries.{comes, takes};
+ghost use Rattle.ill_core.specs.RequesterDeliveries.{takes};
 ghost use Rattle.ill_core.specs.RequesterFacts.{RequesterFact, Shows, Tells, KeepsDue, Holds, Replies, LeadsTo, AnswersOnce};
 ghost use Rattle.ill_core.specs.RequesterFacts as facts;
 
@@ -28,6 +28,12 @@ pub fn requester_issues()
 pub fn requester_keeps_txn()
     ensures acts { (x new : RequesterRecord) (wish : Wish) → acts x wish ≡ Ok new → new.txn ≡ x.txn }
     ensures takes { (x : RequesterRecord) (a : Apdu) → (takes x a).1.txn ≡ x.txn }
+{}
+
+/// A record that keeps the rules of a requester keeps them.
+pub fn requester_keeps_rules()
+    ensures acts { (x new : RequesterRecord) (wish : Wish) → acts x wish ≡ Ok new → IsRequester x → IsRequester new }
+    ensures takes { (x : RequesterRecord) (a : Apdu) → IsRequester x → IsRequester (takes x a).1 }
 {}
 
 /// A message that is not taken changes nothing.
@@ -90,15 +96,15 @@ pub fn requester_answers_once()
     ensures takes { (x : RequesterRecord) (a : Apdu) → AnswersOnce x → AnswersOnce (takes x a).1 }
 {}
 
-/// Where the loan can still end so, Shipped leads to SHIPPED or later, the end of the request to
-/// NOT-SUPPLIED, and the yes to the last Cancel to CANCELLED.
+/// Where the loan can still end so, and the message is of the transaction, Shipped leads to SHIPPED or later,
+/// the end of the request to NOT-SUPPLIED, and the yes to the last Cancel to CANCELLED.
 pub fn requester_follows()
-    ensures shipped { (x : RequesterRecord) (k : ℕ) (due : Date) →
-        is_among (states.Pending ∷ states.Conditional ∷ states.CancelPending ∷ later) x.state ≡ true → LeadsTo later (comes x k (types.Shipped due)) }
-    ensures ended { (x : RequesterRecord) (k : ℕ) (body : Body) → Tells body facts.Ended →
+    ensures shipped { (x : RequesterRecord) (a : Apdu) (due : Date) → is_same_txn a.txn x.txn ≡ true → a.body ≡ types.Shipped due →
+        is_among (states.Pending ∷ states.Conditional ∷ states.CancelPending ∷ later) x.state ≡ true → LeadsTo later (takes x a) }
+    ensures ended { (x : RequesterRecord) (a : Apdu) → is_same_txn a.txn x.txn ≡ true → Tells a.body facts.Ended →
         is_among (states.Pending ∷ states.Conditional ∷ states.CancelPending ∷ states.NotSupplied ∷ []) x.state ≡ true →
-        LeadsTo (states.NotSupplied ∷ []) (comes x k body) }
-    ensures cancelled { (x : RequesterRecord) (k c : ℕ) → is_the c (last_cancel x) ≡ true →
-        is_among (states.CancelPending ∷ states.Cancelled ∷ []) x.state ≡ true →
-        LeadsTo (states.Cancelled ∷ []) (comes x k (types.CancelReply c true)) }
+        LeadsTo (states.NotSupplied ∷ []) (takes x a) }
+    ensures cancelled { (x : RequesterRecord) (a : Apdu) (c : ℕ) → is_same_txn a.txn x.txn ≡ true → a.body ≡ types.CancelReply c true →
+        is_the c (last_cancel x) ≡ true → is_among (states.CancelPending ∷ states.Cancelled ∷ []) x.state ≡ true →
+        LeadsTo (states.Cancelled ∷ []) (takes x a) }
 {}

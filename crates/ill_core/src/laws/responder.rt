@@ -8,10 +8,10 @@ ghost use Rattle.ill_core.specs.declared.responder.Deed.{Deed};
 ghost use Rattle.ill_core.specs.declared.state.State.TheVariants as states;
 ghost use Rattle.ill_core.specs.declared.taking.Taking.TheVariants.{Taken};
 ghost use Rattle.ill_core.specs.State.{is_among};
-ghost use Rattle.ill_core.specs.Issued.{implies, IssuesNext};
-ghost use Rattle.ill_core.specs.Responder.{ResponderRecord, responder_later};
+ghost use Rattle.ill_core.specs.Issued.{implies, is_same_txn, IssuesNext};
+ghost use Rattle.ill_core.specs.Responder.{ResponderRecord, IsResponder, responder_later};
 ghost use Rattle.ill_core.specs.ResponderActions.{deed_acts};
-ghost use Rattle.ill_core.specs.ResponderDeliveries.{message_comes, responder_takes};
+ghost use Rattle.ill_core.specs.ResponderDeliveries.{responder_takes};
 ghost use Rattle.ill_core.specs.ResponderFacts.{ResponderFact, ResponderShows, TellsResponder, IssuesUnfilled, StaysLater, Ends, EntersByEnd, EndsOnce, Question, MayCancel, waits, last_asked, AnswersLast, KeepsLast, TakesNew, AnswersEachOnce, ResponderLeadsTo};
 
 /// A deed issues exactly one APDU, with the next number; a message none, or to a Conditional-Reply no
@@ -27,6 +27,12 @@ pub fn responder_issues()
 pub fn responder_keeps_txn()
     ensures acts { (y new : ResponderRecord) (deed : Deed) (today : Date) → deed_acts y deed today ≡ Ok new → new.txn ≡ y.txn }
     ensures takes { (y : ResponderRecord) (a : Apdu) → (responder_takes y a).1.txn ≡ y.txn }
+{}
+
+/// A record that keeps the rules of a responder keeps them.
+pub fn responder_keeps_rules()
+    ensures acts { (y new : ResponderRecord) (deed : Deed) (today : Date) → deed_acts y deed today ≡ Ok new → IsResponder y → IsResponder new }
+    ensures takes { (y : ResponderRecord) (a : Apdu) → IsResponder y → IsResponder (responder_takes y a).1 }
 {}
 
 /// A message that is not taken changes nothing.
@@ -100,8 +106,8 @@ pub fn responder_shows()
         ResponderShows (responder_takes y a).1 fact → ResponderShows y fact ⊎ TellsResponder a.number a.body fact }
 {}
 
-/// Where the item was shipped, Returned leads to RETURNED, or the item is checked in already.
+/// Where the item was shipped, a Returned of the transaction leads to RETURNED, or the item is checked in already.
 pub fn responder_follows()
-    ensures { (y : ResponderRecord) (a : Apdu) → is_among responder_later y.state ≡ true →
-        ResponderLeadsTo (states.Returned ∷ states.CheckedIn ∷ []) (message_comes y a types.Returned) }
+    ensures { (y : ResponderRecord) (a : Apdu) → is_same_txn a.txn y.txn ≡ true → a.body ≡ types.Returned → is_among responder_later y.state ≡ true →
+        ResponderLeadsTo (states.Returned ∷ states.CheckedIn ∷ []) (responder_takes y a) }
 {}

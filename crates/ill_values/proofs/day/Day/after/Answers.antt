@@ -13,8 +13,8 @@ span_of_days n given s few e only =
     let fits : FitsSigned w64 given = rw e (omega (arith, signed_arith)) in
     rw e at (simp to_z-of_z at only)
 
-pub returns-then-days-gt-MOST_DAYS : goal.returns-then-days-gt-MOST_DAYS
-returns-then-days-gt-MOST_DAYS c = refused_too_many c.args.days c.args.self.now c.to_civil-date.ensures.valid c.if-days-gt-MOST_DAYS.true
+pub returns-then-days-gt-MOST_DAYS-clause-value : goal.returns-then-days-gt-MOST_DAYS-clause-value
+returns-then-days-gt-MOST_DAYS-clause-value c = refused_too_many c.args.days c.args.self.now c.to_civil-date.ensures.valid c.if-days-gt-MOST_DAYS.true
 
 pub from_civil-requires : goal.from_civil-requires
 from_civil-requires c =
@@ -23,15 +23,15 @@ from_civil-requires c =
     let number = c.in-Ok.ensures.value ∙ date_add-days date.result (pos c.args.days) c.days.result span in
     reached_year c.args.days c.args.self.now date.result c.in-Ok.later date.ensures.valid date.ensures.value number
 
-pub returns-in-Ok : goal.returns-in-Ok
-returns-in-Ok c =
+pub returns-in-Ok-clause-value : goal.returns-in-Ok-clause-value
+returns-in-Ok-clause-value c =
     let date = c.to_civil-date in
     let span = span_of_days c.args.days c.from.result c.days.result c.if-days-gt-MOST_DAYS.false c.from.ensures c.days.ensures in
     let number = c.in-Ok.ensures.value ∙ date_add-days date.result (pos c.args.days) c.days.result span in
     c.from_civil.ensures ∙ reached c.args.days c.args.self.now date.result c.in-Ok.later date.ensures.valid date.ensures.value number
 
-pub returns-in-Err : goal.returns-in-Err
-returns-in-Err c =
+pub returns-in-Err-clause-value : goal.returns-in-Err-clause-value
+returns-in-Err-clause-value c =
     let date = c.to_civil-date in
     let span = span_of_days c.args.days c.from.result c.days.result c.if-days-gt-MOST_DAYS.false c.from.ensures c.days.ensures in
     let can = can_add-days date.result (pos c.args.days) c.days.result span in

@@ -5,7 +5,7 @@ use Rattle.ill_der.specs.declared.fault.DerFault.TheVariants.{Short}
 use Rattle.ill_der.specs.Stream.{AreUnfinished}
 use Rattle.ill_der.proofs.StreamLemmas.{consumes_more, consumes_nothing, consumes_kept}
 use Rattle.ill_der.proofs.MissingLemmas.{unfinished_alone, most_missing, read_on, filled, filled_length}
-use Rattle.ill_der.proofs.reading.read_apdu_counted.Goals as goal
+use Rattle.ill_der.proofs.reading.read_counted.Goals as goal
 
 pub overflow_add-size : goal.overflow_add-size
 overflow_add-size g c =
@@ -24,13 +24,13 @@ slice_bounds-bytes-end-in-loop g c =
 
 pub returns-in-Ok-eq0-2-clause-read : goal.returns-in-Ok-eq0-2-clause-read
 returns-in-Ok-eq0-2-clause-read g c =
-    let remaining = g.R.Read.remaining in
+    let remaining = g.C.CountedRead.remaining in
     let front = take c.loop.size c.loop.bytes in
     let is = c.loop.invariant in
     let long = length-take-le c.loop.size c.loop.bytes (omega (arith, is.room, is.size)) in
-    let room : length c.read.new.buf ≡ c.missing-missing.result = search rules in
+    let room : length c.read_once.new.buffer ≡ c.missing-missing.result = search rules in
     let alone = unfinished_alone front (omega (arith, c.missing-missing.ensures, c.if-missing-eq0.false)) in
-    let taken = subst (λ (n : ℕ). Consumes (remaining c.loop.reader) (remaining c.read.new.self) (take n c.read.new.buf)) c.in-Ok-eq0.field-0-test c.in-Ok-eq0.ensures.bytes.0 in (
+    let taken = subst (λ (n : ℕ). Consumes (remaining c.loop.reader) (remaining c.read_once.new.self) (take n c.read_once.new.buffer)) c.in-Ok-eq0.field-0-test c.in-Ok-eq0.ensures.bytes.0 in (
       front,
       consumes_nothing _ _ _ front is.read taken,
       (
@@ -48,24 +48,24 @@ returns-in-Err-clause-read g c =
 
 pub loop-preserved : goal.loop-preserved
 loop-preserved g c =
-    let remaining = g.R.Read.remaining in
+    let remaining = g.C.CountedRead.remaining in
     let front = take c.loop.size c.loop.bytes in
     let is = c.loop.invariant in
     let count = c.in-Ok.count in
-    let more = take count c.read.new.buf in
+    let more = take count c.read_once.new.buffer in
     let long = length-take-le c.loop.size c.loop.bytes (omega (arith, is.room, is.size)) in
-    let room : length c.read.new.buf ≡ c.missing-missing.result = search rules in
-    let few : count ≤ length c.read.new.buf = search rules in
+    let room : length c.read_once.new.buffer ≡ c.missing-missing.result = search rules in
+    let few : count ≤ length c.read_once.new.buffer = search rules in
     let some : count ≡ 0 → ⊥ = search rules in
     let most = most_missing front (omega (arith, c.missing-missing.ensures, c.if-missing-eq0.false)) in
-    let now = filled c.loop.size (c.loop.size + c.missing-missing.result - c.loop.size) count c.loop.bytes c.read.new.buf (omega (arith, is.room, is.size)) few in
+    let now = filled c.loop.size (c.loop.size + c.missing-missing.result - c.loop.size) count c.loop.bytes c.read_once.new.buffer (omega (arith, is.room, is.size)) few in
     record {
       room =
-          filled_length c.loop.size (c.loop.size + c.missing-missing.result - c.loop.size) c.loop.bytes c.read.new.buf
+          filled_length c.loop.size (c.loop.size + c.missing-missing.result - c.loop.size) c.loop.bytes c.read_once.new.buffer
           (omega (arith, room)) (omega (arith, most, long, is.room, c.missing-missing.ensures)) ∙ is.room;
       size = omega (arith, most, long, room, few, c.missing-missing.ensures);
       turns = omega (arith, is.turns, some);
-      ticks = omega (arith, c.tick.ensures, is.ticks);
-      read = subst (Consumes (remaining c.args.reader.now) (remaining c.read.new.self)) (sym now) (consumes_more _ _ _ front more is.read c.in-Ok.ensures.bytes.0);
-      unfinished = subst AreUnfinished (sym now) (read_on front more is.unfinished (omega (arith, length-take-le count c.read.new.buf few, few, room, c.missing-missing.ensures)));
+      ticks = omega (arith, c.read_once.ensures.count, is.ticks);
+      read = subst (Consumes (remaining c.args.reader.now) (remaining c.read_once.new.self)) (sym now) (consumes_more _ _ _ front more is.read c.in-Ok.ensures.bytes.0);
+      unfinished = subst AreUnfinished (sym now) (read_on front more is.unfinished (omega (arith, length-take-le count c.read_once.new.buffer few, few, room, c.missing-missing.ensures)));
     }

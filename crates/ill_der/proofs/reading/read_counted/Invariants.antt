@@ -1,7 +1,7 @@
 use Rattle.std.proofs.Common.{◌≡◌, ◌+◌, ◌≤◌, length, take}
 use Rattle.std.specs.Io.KnownBytes.{Consumes}
 use Rattle.ill_der.specs.Stream.{AreUnfinished}
-use Rattle.ill_der.proofs.reading.read_apdu_counted.Given as goal
+use Rattle.ill_der.proofs.reading.read_counted.Given as goal
 
 -- what was read is the front of the buffer, each proper front of that is unfinished, and each turn
 -- has read a byte
@@ -11,6 +11,6 @@ invariant-loop g l = record {
   size : l.size ≤ 359;
   turns : l.counter ≤ l.size;
   ticks : l.steps ≡ l.initial.steps + l.counter;
-  read : Consumes (g.R.Read.remaining l.initial.reader) (g.R.Read.remaining l.reader) (take l.size l.bytes);
+  read : Consumes (g.C.CountedRead.remaining l.initial.reader) (g.C.CountedRead.remaining l.reader) (take l.size l.bytes);
   unfinished : AreUnfinished (take l.size l.bytes);
 }

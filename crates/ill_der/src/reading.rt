@@ -58,12 +58,12 @@ pub fn read_apdu_counted<R: Read, L: Ledger>(
 }
 
 /// The same, of a reader whose every read is counted.
-fn read_counted<C: CountedRead, L: Ledger>(
+fn read_counted<R: CountedRead, L: Ledger>(
     alloc: Global,
-    reader: &mut C,
+    reader: &mut R,
     steps: &mut Steps<L>,
 ) -> Result<Option<Apdu>, ReadFault>
-    ensures read { ReadsApdu (C.remaining reader.old) (C.remaining reader.new) result }
+    ensures read { ReadsApdu (R.remaining reader.old) (R.remaining reader.new) result }
     ensures reads { steps.new ≤ steps.old + 360 }
 {
     let mut bytes = [0; MOST];

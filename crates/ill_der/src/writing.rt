@@ -75,12 +75,12 @@ fn write_bytes_uncounted<L: Ledger, W: Write>(
 }
 
 /// The same, of a writer whose every write is counted.
-fn write_bytes_counted<C: CountedWrite, L: Ledger>(
-    writer: &mut C,
+fn write_bytes_counted<W: CountedWrite, L: Ledger>(
+    writer: &mut W,
     bytes: &[u8],
     steps: &mut Steps<L>,
 ) -> Result<(), WriteFault>
-    ensures written { Writes (C.contents writer.old) (C.contents writer.new) bytes.now result }
+    ensures written { Writes (W.contents writer.old) (W.contents writer.new) bytes.now result }
     ensures fault { IfErr result (λ fault. fault ≡ faults.Write) }
     ensures writes { steps.new ≤ steps.old + length bytes.now }
 {

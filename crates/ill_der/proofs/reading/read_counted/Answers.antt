@@ -24,7 +24,7 @@ slice_bounds-bytes-end-in-loop g c =
 
 pub returns-in-Ok-eq0-2-clause-read : goal.returns-in-Ok-eq0-2-clause-read
 returns-in-Ok-eq0-2-clause-read g c =
-    let remaining = g.C.CountedRead.remaining in
+    let remaining = g.R.CountedRead.remaining in
     let front = take c.loop.size c.loop.bytes in
     let is = c.loop.invariant in
     let long = length-take-le c.loop.size c.loop.bytes (omega (arith, is.room, is.size)) in
@@ -48,7 +48,7 @@ returns-in-Err-clause-read g c =
 
 pub loop-preserved : goal.loop-preserved
 loop-preserved g c =
-    let remaining = g.C.CountedRead.remaining in
+    let remaining = g.R.CountedRead.remaining in
     let front = take c.loop.size c.loop.bytes in
     let is = c.loop.invariant in
     let count = c.in-Ok.count in

@@ -11,6 +11,6 @@ invariant-loop g l = record {
   size : l.size ≤ 359;
   turns : l.counter ≤ l.size;
   ticks : l.steps ≡ l.initial.steps + l.counter;
-  read : Consumes (g.C.CountedRead.remaining l.initial.reader) (g.C.CountedRead.remaining l.reader) (take l.size l.bytes);
+  read : Consumes (g.R.CountedRead.remaining l.initial.reader) (g.R.CountedRead.remaining l.reader) (take l.size l.bytes);
   unfinished : AreUnfinished (take l.size l.bytes);
 }

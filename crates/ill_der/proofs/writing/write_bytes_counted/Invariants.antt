@@ -8,5 +8,5 @@ invariant-loop g l = record {
   front : l.written ≤ length l.bytes;
   turns : l.counter ≤ l.written;
   ticks : l.steps ≡ l.initial.steps + l.counter;
-  appended : Appends (g.C.CountedWrite.contents l.initial.writer) (g.C.CountedWrite.contents l.writer) (take l.written l.bytes);
+  appended : Appends (g.W.CountedWrite.contents l.initial.writer) (g.W.CountedWrite.contents l.writer) (take l.written l.bytes);
 }

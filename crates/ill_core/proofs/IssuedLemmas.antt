@@ -1,5 +1,5 @@
 -- What one more APDU changes in a list of issued ones.
-use Rattle.std.proofs.Common.{rules, arith, ◌≡◌, ℕ, ◌+◌, ◌<◌, ◌≤◌, Bool, true, false, not, ◌&&◌, ◌||◌, nat_eq, List, [], ◌∷◌, ◌++◌, length, drop, Option, Some, None, Ok, Err, nat_lt, if◌then◌else◌, refl, ap, append-nil, length-append, eq-eqb, subst, sym, ◌∙◌}
+use Rattle.std.proofs.Common.{rules, arith, ◌≡◌, ◌⊎◌, inl, inr, ℕ, zero, suc, ◌+◌, ◌<◌, ◌≤◌, Bool, true, false, not, ◌&&◌, ◌||◌, nat_eq, List, [], ◌∷◌, ◌++◌, length, drop, Option, Some, None, Ok, Err, nat_lt, if◌then◌else◌, refl, ap, append-nil, length-append, eq-eqb, subst, sym, ◌∙◌}
 use native.Mathlib.Numerals.{unary_clauses}
 use Rattle.std.proofs.lemmas.Bool.{and_parts, and_from, or_from}
 use Rattle.std.proofs.Math.Bool.{or-false}
@@ -14,7 +14,7 @@ use Rattle.ill_values.specs.TxnId.{Qualifiers}
 use Rattle.ill_values.specs.declared.apdu.Apdu.{Apdu}
 use Rattle.ill_values.specs.declared.apdu.Body.{Body}
 use Rattle.ill_core.specs.declared.refusal.Refusal.TheVariants.{NumbersUsed}
-use Rattle.ill_core.specs.Issued.{next_number, with_next, next_apdu, are_numbered, is_same_txn, has, last_of, is_ill_request}
+use Rattle.ill_core.specs.Issued.{was, is_cancel, is_the, number_of_cancel, next_number, with_next, next_apdu, are_numbered, is_same_txn, has, last_of, is_ill_request}
 use Rattle.ill_core.specs.Requester.{begins_with_request}
 use Rattle.ill_core.specs.Issued.{is_none}
 
@@ -139,3 +139,33 @@ more_than_itself n h = omega (arith, h)
 pub not_longer : {P : Type 0} (old new : List Apdu) (a : Apdu) → new ≡ old → new ≡ old ++ a ∷ [] → P
 not_longer old new a same longer =
     absurd (more_than_itself (length old) (ap length (sym same ∙ longer) ∙ length-append old (a ∷ [])))
+
+-- ---- which message is a Cancel
+
+one_further : (says : Bool) (old : Bool) (n size : ℕ) → (old ≡ true) ⊎ ((suc n ≡ size + 1) × (says ≡ true))
+    → (old ≡ true) ⊎ ((suc (suc n) ≡ suc size + 1) × (says ≡ true))
+one_further says old n size (inl is) = inl is
+one_further says old n size (inr (at, is)) = inr (omega (arith, at), is)
+
+-- a message of a list that has one more is an old one or the new one
+pub was_more : (says : Body → Bool) (apdus : List Apdu) (a : Apdu) (c : ℕ) → was says (apdus ++ a ∷ []) c ≡ true
+    → (was says apdus c ≡ true) ⊎ ((c ≡ length apdus + 1) × (says a.body ≡ true))
+was_more says apdus a zero h = search rules
+was_more says [] a (suc zero) h = search rules
+was_more says [] a (suc (suc n)) h = search rules
+was_more says (b ∷ apdus) a (suc zero) h = inl h
+was_more says (b ∷ apdus) a (suc (suc n)) h = one_further (says a.body) (was says apdus (suc n)) n (length apdus) (was_more says apdus a (suc n) h)
+
+-- another message than a Cancel is none
+pub still_cancel : (apdus : List Apdu) (a : Apdu) (c : ℕ) → is_cancel a.body ≡ false → was is_cancel (apdus ++ a ∷ []) c ≡ true → was is_cancel apdus c ≡ true
+still_cancel apdus a c other h = search (rules, was_more is_cancel apdus a c h)
+
+-- the last Cancel is the one that was issued last
+pub last_cancel_more : (apdus : List Apdu) (a : Apdu) → is_cancel a.body ≡ true → last_of number_of_cancel (apdus ++ a ∷ []) ≡ Some a.number
+last_cancel_more apdus a is = last_of_more number_of_cancel apdus a a.number (ap (λ b. if b then Some a.number else None) is)
+
+-- a Cancel that is not the last one is an older one
+pub older_cancel : (c size : ℕ) (last : Option ℕ) (old : Bool) → last ≡ Some size → is_the c last ≡ false → (old ≡ true) ⊎ ((c ≡ size) × (true ≡ true)) → old ≡ true
+older_cancel c size last old is_last other (inl is) = is
+older_cancel c size last old is_last other (inr (same, h)) = search rules
+

@@ -1,8 +1,9 @@
 pub mod IssuedLemmas
+pub mod NumberLemmas
 pub mod RequesterKept
+pub mod RequesterAnswers
 pub mod RequesterRows
 pub mod RequesterLaws
-pub mod RequesterAnswers
 pub mod ResponderLists
 pub mod ResponderKept
 pub mod ResponderRows

@@ -1,21 +1,26 @@
 -- A wish keeps the rules of a requester's record.
-use Rattle.std.proofs.Common.{rules, arith, ◌≡◌, ℕ, Bool, true, false, not, ◌||◌, List, [], ◌∷◌, Option, Some, is_some, ap, subst, sym, ◌∙◌}
+use Rattle.std.proofs.Common.{rules, arith, ◌≡◌, ℕ, Bool, true, false, not, ◌||◌, if◌then◌else◌, List, [], ◌∷◌, Option, Some, is_some, IsOk, Result, Ok, Err, refl, ap, subst, sym, ◌∙◌}
 use Rattle.ill_values.specs.Day.{Date}
 use Rattle.ill_values.specs.TxnId.{Qualifiers}
 use Rattle.ill_values.specs.declared.apdu.Apdu.{Apdu}
 use Rattle.ill_values.specs.declared.apdu.Body.{Body}
+use Rattle.ill_values.specs.declared.apdu.Body.TheVariants as types
 use Rattle.ill_core.specs.declared.state.State.{State}
 use Rattle.ill_core.specs.declared.state.State.TheVariants.{Idle, Pending, Conditional, CancelPending, Cancelled, Received, RenewPending, Overdue, RenewOverdue, Recall, Returned}
 use Rattle.ill_core.specs.declared.requester.Wish.{Wish}
 use Rattle.ill_core.specs.declared.requester.Wish.TheVariants as wishes
+use Rattle.ill_core.specs.declared.requester.actions.Row.{Row}
 use Rattle.ill_core.specs.State.{is_among}
 use Rattle.ill_core.specs.Issued.{has, is_none, implies, with_next, next_apdu, declines, is_requesters, is_ill_request, is_cancel, is_received, is_renew, is_returned}
 use Rattle.ill_core.specs.Requester.{RequesterRecord, requester_of, IsRequester, PartsFit, IssuedFit}
-use Rattle.ill_core.specs.RequesterActions.{next_state, body_of, held_after}
-use Rattle.ill_core.proofs.IssuedLemmas.{numbered_next, same_txn, has_more, all_more, none_more, begins_more}
+use Rattle.ill_core.specs.declared.refusal.Refusal.{Refusal}
+use Rattle.ill_core.specs.declared.refusal.Refusal.TheVariants as refusals
+use Rattle.ill_core.specs.Issued.{next_number}
+use Rattle.ill_core.specs.RequesterActions.{answer_held, row_of, acts_by, FindsRow, Acts}
+use Rattle.ill_core.proofs.IssuedLemmas.{numbered_next, not_true, same_txn, has_more, all_more, none_more, begins_more}
 
 -- a state fits a record that has issued one more APDU
-abbrev FitsWith : State → Option ℕ → RequesterRecord → Body → Type 0
+abbrev pub FitsWith : State → Option ℕ → RequesterRecord → Body → Type 0
 FitsWith state held x body =
     PartsFit state (is_some held) (is_some x.due) x.checked_in
     × IssuedFit state false (has is_received x.issued || is_received body) (has is_cancel x.issued || is_cancel body)
@@ -44,22 +49,69 @@ kept x body state held h fits =
       };
     }
 
--- where a wish leads fits
-fits : (txn : Qualifiers) (state : State) (held : Option ℕ) (checked_in : Bool) (due : Option Date) (issued : List Apdu) (wish : Wish) (next : State)
-    → IsRequester (requester_of txn state held checked_in due issued) → next_state (requester_of txn state held checked_in due issued) wish ≡ Some next
-    → FitsWith next (held_after (requester_of txn state held checked_in due issued) wish) (requester_of txn state held checked_in due issued) (body_of (requester_of txn state held checked_in due issued) wish)
-fits txn Idle held checked_in due issued (wishes.Request expiry item) Pending h leads = search rules
-fits txn Conditional held checked_in due issued (wishes.Reply true) Pending h leads = search rules
-fits txn Conditional held checked_in due issued (wishes.Reply false) Conditional h leads = search rules
-fits txn Recall held checked_in due issued wishes.Receive Recall h leads = search rules
-fits txn Recall held checked_in due issued wishes.Return Returned h leads = search rules
-fits txn state held checked_in due issued wish next h leads = search rules
+row_is : (here row : Row) → ◌≡◌ {A = Result Row Refusal} (Ok here) (Ok row) → here ≡ row
+row_is here row e = search rules
 
--- A wish that has a place leads to a requester's record.
-pub wish_kept : (x : RequesterRecord) (wish : Wish) (next : State) (txn : Qualifiers) (held : Option ℕ) (issued : List Apdu) (body : Body)
-    → IsRequester x → next_state x wish ≡ Some next → txn ≡ x.txn → held ≡ held_after x wish → body ≡ body_of x wish → issued ≡ with_next x.txn x.issued body
-    → IsRequester (requester_of txn next held x.checked_in x.due issued)
-wish_kept x wish next txn held issued body h leads same_txn same_held same_body more =
-    let parts : (txn, held, issued) ≡ (x.txn, held_after x wish, with_next x.txn x.issued (body_of x wish)) = cc in
-    subst (λ (p : Qualifiers × Option ℕ × List Apdu). IsRequester (requester_of p.0 next p.1 x.checked_in x.due p.2)) (sym parts)
-    (kept x (body_of x wish) next (held_after x wish) h (fits x.txn x.state x.held x.checked_in x.due x.issued wish next h leads))
+-- a row of the table, or those behind it
+pub at_line : (P : Row → Type 0) (is_here : Bool) (here : Row) (others : Result Row Refusal) (row : Row) → (is_here ≡ true → P here) → (others ≡ Ok row → P row)
+    → (if is_here then Ok here else others) ≡ Ok row → P row
+at_line P true here others row leads behind e = subst P (row_is here row e) (leads refl)
+at_line P false here others row leads behind e = behind e
+
+pub no_more : (P : Row → Type 0) (refusal : Refusal) (row : Row) → Err refusal ≡ Ok row → P row
+no_more P refusal row e = search rules
+
+reply_fits : (txn : Qualifiers) (held : Option ℕ) (checked_in : Bool) (due : Option Date) (issued : List Apdu) (answer : Bool)
+    → IsRequester (requester_of txn Conditional held checked_in due issued) → has declines issued ≡ false
+    → (let x : RequesterRecord = requester_of txn Conditional held checked_in due issued in FitsWith (answer_held x answer).next (answer_held x answer).held x (answer_held x answer).body)
+reply_fits txn held checked_in due issued true h undeclined = search rules
+reply_fits txn held checked_in due issued false h undeclined = search rules
+
+receive_fits : (txn : Qualifiers) (held : Option ℕ) (checked_in : Bool) (due : Option Date) (issued : List Apdu)
+    → IsRequester (requester_of txn Recall held checked_in due issued) → has is_received issued ≡ false
+    → FitsWith Recall held (requester_of txn Recall held checked_in due issued) types.Received
+receive_fits txn held checked_in due issued h unreceived = search rules
+
+return_fits : (txn : Qualifiers) (held : Option ℕ) (checked_in : Bool) (due : Option Date) (issued : List Apdu)
+    → IsRequester (requester_of txn Recall held checked_in due issued) → has is_received issued ≡ true
+    → FitsWith Returned held (requester_of txn Recall held checked_in due issued) types.Returned
+return_fits txn held checked_in due issued h received = search rules
+
+-- where a wish leads fits
+pub fits : (txn : Qualifiers) (state : State) (held : Option ℕ) (checked_in : Bool) (due : Option Date) (issued : List Apdu) (wish : Wish) (row : Row)
+    → IsRequester (requester_of txn state held checked_in due issued) → row_of (requester_of txn state held checked_in due issued) wish ≡ Ok row
+    → FitsWith row.next row.held (requester_of txn state held checked_in due issued) row.body
+fits txn Idle held checked_in due issued (wishes.Request expiry item) row h leads = search rules
+fits txn Conditional held checked_in due issued (wishes.Reply answer) row h leads =
+    let x : RequesterRecord = requester_of txn Conditional held checked_in due issued in
+    at_line (λ r. FitsWith r.next r.held x r.body) (not (has declines issued)) _ _ row (λ undeclined. reply_fits txn held checked_in due issued answer h (not_true _ undeclined))
+    (no_more (λ r. FitsWith r.next r.held x r.body) _ row) leads
+fits txn Recall held checked_in due issued wishes.Receive row h leads =
+    let x : RequesterRecord = requester_of txn Recall held checked_in due issued in
+    at_line (λ r. FitsWith r.next r.held x r.body) (not (has is_received issued)) _ _ row (λ is. receive_fits txn held checked_in due issued h (not_true _ is))
+    (no_more (λ r. FitsWith r.next r.held x r.body) _ row) leads
+fits txn Recall held checked_in due issued wishes.Return row h leads =
+    let x : RequesterRecord = requester_of txn Recall held checked_in due issued in
+    at_line (λ r. FitsWith r.next r.held x r.body) (has is_received issued) _ _ row (return_fits txn held checked_in due issued h)
+    (no_more (λ r. FitsWith r.next r.held x r.body) _ row) leads
+fits txn state held checked_in due issued wish row h leads = search rules
+
+-- The record after a row that fits is a requester's.
+pub row_kept : (x : RequesterRecord) (row : Row) (txn : Qualifiers) (issued : List Apdu) → IsRequester x → FitsWith row.next row.held x row.body
+    → txn ≡ x.txn → issued ≡ with_next x.txn x.issued row.body → IsRequester (requester_of txn row.next row.held x.checked_in x.due issued)
+row_kept x row txn issued h fits same more =
+    let parts : (txn, issued) ≡ (x.txn, with_next x.txn x.issued row.body) = cc in
+    subst (λ (p : Qualifiers × List Apdu). IsRequester (requester_of p.0 row.next row.held x.checked_in x.due p.1)) (sym parts)
+    (kept x row.body row.next row.held h fits)
+
+first_number : (apdus : List Apdu) → is_none apdus ≡ true → next_number apdus ≡ Ok 1
+first_number [] none = refl
+first_number (a ∷ apdus) none = search rules
+
+acts_first : (x : RequesterRecord) (found : Result Row Refusal) → IsOk found → next_number x.issued ≡ Ok 1 → IsOk (acts_by x found (next_number x.issued))
+acts_first x found is first = subst (λ n. IsOk (acts_by x found n)) (sym first) (search rules)
+
+-- a wish whose row is not found is refused so; where memory is wanted a number is left, since none is used
+pub not_found : (x : RequesterRecord) (wish : Wish) (refusal : Refusal) → IsRequester x → FindsRow x wish (Err refusal) → Acts x wish (Err refusal) x
+not_found x wish refusals.OutOfMemory h (is, idle) = (acts_first x (row_of x wish) is (first_number x.issued (h.issued.idle ∙ idle)), refl)
+not_found x wish other h found = search rules

@@ -1,28 +1,44 @@
--- What each delivery leaves of a requester's record.
-use Rattle.std.proofs.Common.{rules, ◌≡◌, ◌⊎◌, ℕ, Bool, true, false, not, ◌&&◌, [], ◌∷◌, Option, Some, None, is_some, Result, Ok, Err, if◌then◌else◌, refl}
+-- What each row of a requester's two tables changes.
+use Rattle.std.proofs.Common.{rules, ◌≡◌, ◌⊎◌, ℕ, ◌+◌, Bool, true, false, not, ◌&&◌, [], ◌∷◌, ◌++◌, length, Option, Some, None, is_some, Result, Ok, Err, if◌then◌else◌, refl, subst, ◌∙◌}
+use Rattle.std.specs.Option.{unwrap_or}
 use Rattle.std.proofs.lemmas.Bool.{and_parts, cond_both}
 use Rattle.ill_values.specs.Day.{Date}
 use Rattle.ill_values.specs.declared.apdu.Apdu.{Apdu}
 use Rattle.ill_values.specs.declared.apdu.Body.{Body}
 use Rattle.ill_values.specs.declared.apdu.Body.TheVariants as types
 use Rattle.ill_values.specs.declared.apdu.AnswerResult.TheVariants as results
-use Rattle.ill_core.specs.declared.state.State.TheVariants.{Pending, Conditional, CancelPending, Cancelled, NotSupplied, Shipped, Received, RenewPending, Overdue, RenewOverdue, NotReceivedOverdue, Recall, Returned}
+use Rattle.ill_core.specs.declared.state.State.{State}
+use Rattle.ill_core.specs.declared.requester.Wish.{Wish}
+use Rattle.ill_core.specs.declared.requester.Wish.TheVariants as wishes
+use Rattle.ill_core.specs.declared.requester.actions.Row.{Row}
+use Rattle.ill_core.specs.declared.state.State.TheVariants.{Idle, Pending, Conditional, CancelPending, Cancelled, NotSupplied, Shipped, Received, RenewPending, Overdue, RenewOverdue, NotReceivedOverdue, Recall, Returned}
 use Rattle.ill_core.specs.declared.taking.Taking.{Taking}
 use Rattle.ill_core.specs.declared.taking.Taking.TheVariants as takings
 use Rattle.ill_core.specs.State.{is_among}
-use Rattle.ill_core.specs.Issued.{refused_before, is_requesters, is_at_most, is_the, was, is_cancel, is_renew}
-use Rattle.ill_core.specs.Requester.{RequesterRecord, IsRequester, later, accepted, last_cancel, last_renew}
-use Rattle.ill_core.specs.RequesterDeliveries.{comes, takes, takes_to, end_comes, cancel_reply_comes, renew_answer_comes, renewal_comes, unless}
+use Rattle.ill_core.specs.Issued.{refused_before, is_requesters, is_at_most, is_the, was, has, is_cancel, is_renew, declines, accepts, next_number, next_apdu, number_of_cancel, last_of}
+use Rattle.ill_core.specs.Requester.{RequesterRecord, IsRequester, later, accepted, is_declined, is_received_by, last_cancel, last_renew}
+use Rattle.ill_core.specs.RequesterActions.{acts, acts_by, row_of, record_after, answer_held}
+use Rattle.ill_core.specs.Answers.{taken, unless_refused}
+use Rattle.ill_core.specs.RequesterDeliveries.{take_message, takes, take_end, take_cancel_reply, take_renew_answer, take_renewal}
 use Rattle.ill_core.specs.Dates.{is_after_due, is_due_on}
 use Rattle.ill_core.specs.declared.refusal.Refusal.{Refusal}
-use Rattle.ill_core.specs.RequesterFacts.{KeepsDue, Holds, Tells, shows_refused}
+use Rattle.ill_core.specs.RequesterFacts.{RequesterFact, Shows, Tells, KeepsDue, Holds, ShowsRefused, AnswersOnce, replied}
 use Rattle.ill_core.specs.RequesterFacts as facts
+use Rattle.ill_core.proofs.IssuedLemmas.{was_more, still_cancel, last_cancel_more, older_cancel}
+use Rattle.ill_core.proofs.RequesterKept.{at_line, no_more}
+use Rattle.ill_core.proofs.RequesterAnswers.{silent_once, yes_once, no_once, held_number}
 
-pub record Leaves (x : RequesterRecord) (k : ℕ) (body : Body) (answer : Taking × RequesterRecord) : Type 0 where
+not_both : {P : Type 0} (b : Bool) → b ≡ false → b ≡ true → P
+not_both b is_false is_true = search rules
+
+-- ---- deliveries
+
+-- a row that issues nothing
+pub record Moves (x : RequesterRecord) (k : ℕ) (body : Body) (answer : Result Taking Refusal × RequesterRecord) : Type 0 where
   pub txn : answer.1.txn ≡ x.txn
   pub issued : answer.1.issued ≡ x.issued
   pub kept : IsRequester x → IsRequester answer.1
-  pub quiet : (answer.0 ≡ takings.Taken) ⊎ (answer.1 ≡ x)
+  pub quiet : (answer.0 ≡ Ok takings.Taken) ⊎ (answer.1 ≡ x)
   pub final : is_among (Cancelled ∷ NotSupplied ∷ Returned ∷ []) x.state ≡ true → answer.1.state ≡ x.state
   pub stays : is_among later x.state ≡ true → is_among later answer.1.state ≡ true
   pub due : is_some x.due ≡ is_among later x.state → KeepsDue x.due answer.1.due
@@ -30,110 +46,225 @@ pub record Leaves (x : RequesterRecord) (k : ℕ) (body : Body) (answer : Taking
   pub cancelled : answer.1.state ≡ Cancelled → (x.state ≡ Cancelled) ⊎ Tells body facts.Cancelled
   pub ended : answer.1.state ≡ NotSupplied → (x.state ≡ NotSupplied) ⊎ Tells body facts.Ended
   pub granted : (d : Date) → answer.1.due ≡ Some d → (x.due ≡ Some d) ⊎ Tells body (facts.Granted d)
-  pub refused : (c : ℕ) → shows_refused answer.1 c → shows_refused x c ⊎ Tells body (facts.Refused c)
+  pub refused : (c : ℕ) → ShowsRefused answer.1 c → ShowsRefused x c ⊎ Tells body (facts.Refused c)
   pub given_back : answer.1.checked_in ≡ true → (x.checked_in ≡ true) ⊎ Tells body facts.GivenBack
 
-left : (x : RequesterRecord) (k : ℕ) (body : Body) (answer : Taking) → Leaves x k body (answer, x)
+left : (x : RequesterRecord) (k : ℕ) (body : Body) (answer : Result Taking Refusal) → Moves x k body (answer, x)
 left x k body answer = search rules
 
-conditions_held : (x : RequesterRecord) (k : ℕ) (body : Body) → is_among (Pending ∷ []) x.state ≡ true → is_at_most k (accepted x) ≡ false → Leaves x k body (takes_to Conditional (record x { held = Some k }))
+conditions_held : (x : RequesterRecord) (k : ℕ) (body : Body) → is_among (Pending ∷ []) x.state ≡ true → is_at_most k (accepted x) ≡ false → Moves x k body (taken (record x { state = Conditional; held = Some k }))
 conditions_held x k body is above = search rules
 
-ended : (x : RequesterRecord) (k : ℕ) (body : Body) → Tells body facts.Ended → is_among (Pending ∷ Conditional ∷ CancelPending ∷ []) x.state ≡ true → Leaves x k body (takes_to NotSupplied (record x { held = None }))
+ended : (x : RequesterRecord) (k : ℕ) (body : Body) → Tells body facts.Ended → is_among (Pending ∷ Conditional ∷ CancelPending ∷ []) x.state ≡ true → Moves x k body (taken (record x { state = NotSupplied; held = None }))
 ended x k body told is = search rules
 
-cancelled : (x : RequesterRecord) (k : ℕ) (c : ℕ) → is_among (CancelPending ∷ []) x.state && is_the c (last_cancel x) ≡ true → Leaves x k (types.CancelReply c true) (takes_to Cancelled x)
+cancelled : (x : RequesterRecord) (k : ℕ) (c : ℕ) → is_among (CancelPending ∷ []) x.state && is_the c (last_cancel x) ≡ true → Moves x k (types.CancelReply c true) (taken (record x { state = Cancelled }))
 cancelled x k c is = search rules
 
-not_received : (x : RequesterRecord) (k : ℕ) (body : Body) → is_among (Shipped ∷ []) x.state ≡ true → Leaves x k body (takes_to NotReceivedOverdue x)
+not_received : (x : RequesterRecord) (k : ℕ) (body : Body) → is_among (Shipped ∷ []) x.state ≡ true → Moves x k body (taken (record x { state = NotReceivedOverdue }))
 not_received x k body is = search rules
 
-overdue : (x : RequesterRecord) (k : ℕ) (body : Body) → is_among (Received ∷ []) x.state ≡ true → Leaves x k body (takes_to Overdue x)
+overdue : (x : RequesterRecord) (k : ℕ) (body : Body) → is_among (Received ∷ []) x.state ≡ true → Moves x k body (taken (record x { state = Overdue }))
 overdue x k body is = search rules
 
-renewal_overdue : (x : RequesterRecord) (k : ℕ) (body : Body) → is_among (RenewPending ∷ []) x.state ≡ true → Leaves x k body (takes_to RenewOverdue x)
+renewal_overdue : (x : RequesterRecord) (k : ℕ) (body : Body) → is_among (RenewPending ∷ []) x.state ≡ true → Moves x k body (taken (record x { state = RenewOverdue }))
 renewal_overdue x k body is = search rules
 
-not_renewed : (x : RequesterRecord) (k : ℕ) (body : Body) → is_among (RenewPending ∷ RenewOverdue ∷ []) x.state ≡ true → Leaves x k body (takes_to (if is_among (RenewPending ∷ []) x.state then Received else Overdue) x)
+not_renewed : (x : RequesterRecord) (k : ℕ) (body : Body) → is_among (RenewPending ∷ RenewOverdue ∷ []) x.state ≡ true → Moves x k body (taken (record x { state = (if is_among (RenewPending ∷ []) x.state then Received else Overdue) }))
 not_renewed x k body is = search rules
 
-recalled : (x : RequesterRecord) (k : ℕ) (body : Body) → is_among (Shipped ∷ NotReceivedOverdue ∷ Received ∷ Overdue ∷ RenewPending ∷ RenewOverdue ∷ []) x.state ≡ true → Leaves x k body (takes_to Recall x)
+recalled : (x : RequesterRecord) (k : ℕ) (body : Body) → is_among (Shipped ∷ NotReceivedOverdue ∷ Received ∷ Overdue ∷ RenewPending ∷ RenewOverdue ∷ []) x.state ≡ true → Moves x k body (taken (record x { state = Recall }))
 recalled x k body is = search rules
 
-given_back : (x : RequesterRecord) (k : ℕ) → is_among (Returned ∷ []) x.state ≡ true → Leaves x k types.CheckedIn ((takings.Taken, record x { checked_in = true }))
+given_back : (x : RequesterRecord) (k : ℕ) → is_among (Returned ∷ []) x.state ≡ true → Moves x k types.CheckedIn (taken (record x { checked_in = true }))
 given_back x k is = search rules
 
-shipped : (x : RequesterRecord) (k : ℕ) (d : Date) → is_among (Pending ∷ Conditional ∷ CancelPending ∷ []) x.state ≡ true → Leaves x k (types.Shipped d) (takes_to Shipped (record x { due = Some d; held = None }))
+shipped : (x : RequesterRecord) (k : ℕ) (d : Date) → is_among (Pending ∷ Conditional ∷ CancelPending ∷ []) x.state ≡ true → Moves x k (types.Shipped d) (taken (record x { state = Shipped; due = Some d; held = None }))
 shipped x k d is = search rules
 
-renewed : (x : RequesterRecord) (k : ℕ) (c : ℕ) (d : Date) → is_among (RenewPending ∷ RenewOverdue ∷ []) x.state ≡ true → is_after_due d x.due ≡ true → Leaves x k (types.RenewAnswer c (Some d)) (takes_to Received (record x { due = Some d }))
+renewed : (x : RequesterRecord) (k : ℕ) (c : ℕ) (d : Date) → is_among (RenewPending ∷ RenewOverdue ∷ []) x.state ≡ true → is_after_due d x.due ≡ true → Moves x k (types.RenewAnswer c (Some d)) (taken (record x { state = Received; due = Some d }))
 renewed x k c d is after = search rules
 
-cancel_refused : (x : RequesterRecord) (k c : ℕ) → is_among (CancelPending ∷ []) x.state && is_the c (last_cancel x) ≡ true → Leaves x k (types.CancelReply c false) (takes_to Pending x)
+cancel_refused : (x : RequesterRecord) (k c : ℕ) → is_among (CancelPending ∷ []) x.state && is_the c (last_cancel x) ≡ true → Moves x k (types.CancelReply c false) (taken (record x { state = Pending }))
 cancel_refused x k c is = search rules
 
 -- the first line that fits decides
-line : (x : RequesterRecord) (k : ℕ) (body : Body) (fits : Bool) (here others : Taking × RequesterRecord)
-    → (fits ≡ true → Leaves x k body here) → (fits ≡ false → Leaves x k body others) → Leaves x k body (if fits then here else others)
-line x k body fits here others = cond_both fits here others (Leaves x k body)
+line : (x : RequesterRecord) (k : ℕ) (body : Body) (fits : Bool) (here others : Result Taking Refusal × RequesterRecord)
+    → (fits ≡ true → Moves x k body here) → (fits ≡ false → Moves x k body others) → Moves x k body (if fits then here else others)
+line x k body fits here others = cond_both fits here others (Moves x k body)
 
-end_leaves : (x : RequesterRecord) (k : ℕ) (body : Body) → Tells body facts.Ended → Leaves x k body (end_comes x)
-end_leaves x k body told =
+end_row : (x : RequesterRecord) (k : ℕ) (body : Body) → Tells body facts.Ended → Moves x k body (take_end x)
+end_row x k body told =
     line x k _ (is_among (NotSupplied ∷ []) x.state) _ _ (λ _. left x k _ _) (λ _.
     line x k _ (is_among (Pending ∷ Conditional ∷ CancelPending ∷ []) x.state) _ _ (ended x k body told) (λ _. left x k _ _))
 
-cancel_reply_leaves : (x : RequesterRecord) (k c : ℕ) (answer : Bool)
-    → (is_among (CancelPending ∷ []) x.state && is_the c (last_cancel x) ≡ true → Leaves x k (types.CancelReply c answer) (takes_to (if answer then Cancelled else Pending) x))
-    → Leaves x k (types.CancelReply c answer) (cancel_reply_comes x c answer)
-cancel_reply_leaves x k c answer decided =
+cancel_reply_row : (x : RequesterRecord) (k c : ℕ) (answer : Bool)
+    → (is_among (CancelPending ∷ []) x.state && is_the c (last_cancel x) ≡ true → Moves x k (types.CancelReply c answer) (taken (record x { state = (if answer then Cancelled else Pending) })))
+    → Moves x k (types.CancelReply c answer) (take_cancel_reply x c answer)
+cancel_reply_row x k c answer decided =
     line x k _ (is_among (CancelPending ∷ []) x.state && is_the c (last_cancel x)) _ _ decided (λ _.
     line x k _ (is_among (Cancelled ∷ []) x.state && (answer && is_the c (last_cancel x))) _ _ (λ _. left x k _ _) (λ _.
     line x k _ (was is_cancel x.issued c) _ _ (λ _. left x k _ _) (λ _. left x k _ _)))
 
-renew_answer_leaves : (x : RequesterRecord) (k c : ℕ) (granted : Option Date)
-    → (is_among (RenewPending ∷ RenewOverdue ∷ []) x.state ≡ true → Leaves x k (types.RenewAnswer c granted) (renewal_comes x granted))
-    → Leaves x k (types.RenewAnswer c granted) (renew_answer_comes x c granted)
-renew_answer_leaves x k c granted decided =
+renew_answer_row : (x : RequesterRecord) (k c : ℕ) (granted : Option Date)
+    → (is_among (RenewPending ∷ RenewOverdue ∷ []) x.state ≡ true → Moves x k (types.RenewAnswer c granted) (take_renewal x granted))
+    → Moves x k (types.RenewAnswer c granted) (take_renew_answer x c granted)
+renew_answer_row x k c granted decided =
     line x k _ (is_among (RenewPending ∷ RenewOverdue ∷ []) x.state && is_the c (last_renew x)) _ _ (λ is. decided (and_parts _ _ is).0) (λ _.
     line x k _ (was is_renew x.issued c) _ _ (λ _. left x k _ _) (λ _. left x k _ _))
 
-pub leaves : (x : RequesterRecord) (k : ℕ) (body : Body) → Leaves x k body (comes x k body)
-leaves x k (types.IllAnswer results.Conditional) =
-    line x k _ (is_at_most k (accepted x)) _ _ (λ _. left x k _ _) (λ above.
-    line x k _ (is_among (Conditional ∷ []) x.state && is_the k x.held) _ _ (λ _. left x k _ _) (λ _.
-    line x k _ (is_among (Pending ∷ []) x.state) _ _ (λ is. conditions_held x k _ is above) (λ _. left x k _ _)))
-leaves x k (types.IllAnswer results.WillSupply) = line x k _ (is_among (Pending ∷ []) x.state) _ _ (λ _. left x k _ _) (λ _. left x k _ _)
-leaves x k (types.IllAnswer results.HoldPlaced) = line x k _ (is_among (Pending ∷ []) x.state) _ _ (λ _. left x k _ _) (λ _. left x k _ _)
-leaves x k (types.IllAnswer other) = end_leaves x k _ refl
-leaves x k types.Expired = end_leaves x k _ tt
-leaves x k (types.CancelReply c true) = cancel_reply_leaves x k c true (cancelled x k c)
-leaves x k (types.CancelReply c false) = cancel_reply_leaves x k c false (cancel_refused x k c)
-leaves x k (types.Shipped d) =
-    line x k _ (is_among (Pending ∷ Conditional ∷ CancelPending ∷ []) x.state) _ _ (shipped x k d) (λ _.
-    line x k _ (is_among later x.state) _ _ (λ _. left x k _ _) (λ _. left x k _ _))
-leaves x k (types.Overdue d) =
-    line x k _ (is_among later x.state && not (is_due_on d x.due)) _ _ (λ _. left x k _ _) (λ _.
-    line x k _ (is_among (Shipped ∷ []) x.state) _ _ (not_received x k _) (λ _.
-    line x k _ (is_among (Received ∷ []) x.state) _ _ (overdue x k _) (λ _.
-    line x k _ (is_among (RenewPending ∷ []) x.state) _ _ (renewal_overdue x k _) (λ _.
-    line x k _ (is_among (NotReceivedOverdue ∷ Overdue ∷ RenewOverdue ∷ []) x.state) _ _ (λ _. left x k _ _) (λ _. left x k _ _)))))
-leaves x k (types.RenewAnswer c (Some d)) =
-    renew_answer_leaves x k c (Some d) (λ is. line x k _ (is_after_due d x.due) _ _ (renewed x k c d is) (λ _. left x k _ _))
-leaves x k (types.RenewAnswer c None) = renew_answer_leaves x k c None (not_renewed x k _)
-leaves x k types.Recall =
-    line x k _ (is_among (Shipped ∷ NotReceivedOverdue ∷ Received ∷ Overdue ∷ RenewPending ∷ RenewOverdue ∷ []) x.state) _ _ (recalled x k _) (λ _.
-    line x k _ (is_among (Recall ∷ []) x.state) _ _ (λ _. left x k _ _) (λ _. left x k _ _))
-leaves x k types.CheckedIn =
-    line x k _ (is_among (Returned ∷ []) x.state && not x.checked_in) _ _ (λ is. given_back x k (and_parts _ _ is).0) (λ _.
-    line x k _ (is_among (Returned ∷ []) x.state) _ _ (λ _. left x k _ _) (λ _. left x k _ _))
-leaves x k other = left x k _ _
-
-by_admission : (P : Result Taking Refusal × RequesterRecord → Type 0) (refused : Option Refusal) (x : RequesterRecord) (answer : Taking × RequesterRecord)
-    → ((refusal : Refusal) → P (Err refusal, x)) → P (Ok answer.0, answer.1) → P (unless refused x answer)
-by_admission P None x answer when_refused when_admitted = when_admitted
-by_admission P (Some refusal) x answer when_refused when_admitted = when_refused refusal
+pub message_row : (x : RequesterRecord) (a : Apdu) (body : Body) → Moves x a.number body (take_message x a body)
+message_row x a (types.IllAnswer results.Conditional) =
+    line x a.number _ (is_at_most a.number (accepted x)) _ _ (λ _. left x a.number _ _) (λ above.
+    line x a.number _ (is_among (Conditional ∷ []) x.state && is_the a.number x.held) _ _ (λ _. left x a.number _ _) (λ _.
+    line x a.number _ (is_among (Pending ∷ []) x.state) _ _ (λ is. conditions_held x a.number _ is above) (λ _. left x a.number _ _)))
+message_row x a (types.IllAnswer results.WillSupply) = line x a.number _ (is_among (Pending ∷ []) x.state) _ _ (λ _. left x a.number _ _) (λ _. left x a.number _ _)
+message_row x a (types.IllAnswer results.HoldPlaced) = line x a.number _ (is_among (Pending ∷ []) x.state) _ _ (λ _. left x a.number _ _) (λ _. left x a.number _ _)
+message_row x a (types.IllAnswer other) = end_row x a.number _ refl
+message_row x a types.Expired = end_row x a.number _ tt
+message_row x a (types.CancelReply c true) = cancel_reply_row x a.number c true (cancelled x a.number c)
+message_row x a (types.CancelReply c false) = cancel_reply_row x a.number c false (cancel_refused x a.number c)
+message_row x a (types.Shipped d) =
+    line x a.number _ (is_among (Pending ∷ Conditional ∷ CancelPending ∷ []) x.state) _ _ (shipped x a.number d) (λ _.
+    line x a.number _ (is_among later x.state) _ _ (λ _. left x a.number _ _) (λ _. left x a.number _ _))
+message_row x a (types.Overdue d) =
+    line x a.number _ (is_among later x.state && not (is_due_on d x.due)) _ _ (λ _. left x a.number _ _) (λ _.
+    line x a.number _ (is_among (Shipped ∷ []) x.state) _ _ (not_received x a.number _) (λ _.
+    line x a.number _ (is_among (Received ∷ []) x.state) _ _ (overdue x a.number _) (λ _.
+    line x a.number _ (is_among (RenewPending ∷ []) x.state) _ _ (renewal_overdue x a.number _) (λ _.
+    line x a.number _ (is_among (NotReceivedOverdue ∷ Overdue ∷ RenewOverdue ∷ []) x.state) _ _ (λ _. left x a.number _ _) (λ _. left x a.number _ _)))))
+message_row x a (types.RenewAnswer c (Some d)) =
+    renew_answer_row x a.number c (Some d) (λ is. line x a.number _ (is_after_due d x.due) _ _ (renewed x a.number c d is) (λ _. left x a.number _ _))
+message_row x a (types.RenewAnswer c None) = renew_answer_row x a.number c None (not_renewed x a.number _)
+message_row x a types.Recall =
+    line x a.number _ (is_among (Shipped ∷ NotReceivedOverdue ∷ Received ∷ Overdue ∷ RenewPending ∷ RenewOverdue ∷ []) x.state) _ _ (recalled x a.number _) (λ _.
+    line x a.number _ (is_among (Recall ∷ []) x.state) _ _ (λ _. left x a.number _ _) (λ _. left x a.number _ _))
+message_row x a types.CheckedIn =
+    line x a.number _ (is_among (Returned ∷ []) x.state && not x.checked_in) _ _ (λ is. given_back x a.number (and_parts _ _ is).0) (λ _.
+    line x a.number _ (is_among (Returned ∷ []) x.state) _ _ (λ _. left x a.number _ _) (λ _. left x a.number _ _))
+message_row x a other = left x a.number _ _
 
 -- a refused APDU leaves the record, and an admitted one does what its row says
-pub of_takes : (P : Result Taking Refusal × RequesterRecord → Type 0) (x : RequesterRecord) (a : Apdu)
-    → ((refusal : Refusal) → P (Err refusal, x)) → P (Ok (comes x a.number a.body).0, (comes x a.number a.body).1) → P (takes x a)
-of_takes P x a = by_admission P (refused_before x.txn (is_requesters a.body) a) x (comes x a.number a.body)
+admitted : (x : RequesterRecord) (k : ℕ) (body : Body) (refused : Option Refusal) (answer : Result Taking Refusal × RequesterRecord)
+    → Moves x k body answer → Moves x k body (unless_refused refused x answer)
+admitted x k body None answer row = row
+admitted x k body (Some refusal) answer row = left x k body (Err refusal)
+
+pub delivery_row : (x : RequesterRecord) (a : Apdu) → Moves x a.number a.body (takes x a)
+delivery_row x a = admitted x a.number a.body (refused_before x.txn (is_requesters a.body) a) (take_message x a a.body) (message_row x a a.body)
+
+-- ---- actions
+
+-- a row that issues an APDU
+pub record Issues (x : RequesterRecord) (row : Row) : Type 0 where
+  pub final : is_among (Cancelled ∷ NotSupplied ∷ Returned ∷ []) x.state ≡ true → row.next ≡ x.state
+  pub stays : is_among later x.state ≡ true → is_among later row.next ≡ true
+  pub shows : (fact : RequesterFact) → Shows (record_after x row) fact → Shows x fact
+  pub replies : (n : ℕ) (answer : Bool) → row.body ≡ types.ConditionalReply n answer
+      → (is_among (Conditional ∷ []) x.state ≡ true) × (has declines x.issued ≡ false) × (n ≡ unwrap_or x.held 0)
+  pub once : is_some x.held ≡ is_among (Conditional ∷ []) x.state → AnswersOnce x → AnswersOnce (record_after x row)
+
+-- no wish leads to CANCELLED or NOT-SUPPLIED
+goes_on : (x : RequesterRecord) (row : Row) → is_among (Cancelled ∷ NotSupplied ∷ []) row.next ≡ false
+    → ((c : ℕ) → ShowsRefused (record_after x row) c → ShowsRefused x c) → (fact : RequesterFact) → Shows (record_after x row) fact → Shows x fact
+goes_on x row away refused facts.Cancelled shown = search rules
+goes_on x row away refused facts.Ended shown = search rules
+goes_on x row away refused (facts.Granted due) shown = shown
+goes_on x row away refused (facts.Refused cancel) shown = refused cancel shown
+goes_on x row away refused facts.GivenBack shown = shown
+
+no_reply : {P : Type 0} (body : Body) (n : ℕ) (answer : Bool) → replied body ≡ None → body ≡ types.ConditionalReply n answer → P
+no_reply body n answer silent is = search rules
+
+-- a row that answers no conditions
+silent_row : (x : RequesterRecord) (next : State) (body : Body) → replied body ≡ None → accepts body ≡ None → declines body ≡ false
+    → is_among (Conditional ∷ []) next ≡ false → is_among (Cancelled ∷ NotSupplied ∷ []) next ≡ false → is_among (Cancelled ∷ NotSupplied ∷ Returned ∷ []) x.state ≡ false
+    → (is_among later x.state ≡ true → is_among later next ≡ true)
+    → ((c : ℕ) → ShowsRefused (record_after x (record { next = next; body = body; held = x.held })) c → ShowsRefused x c)
+    → Issues x (record { next = next; body = body; held = x.held })
+silent_row x next body silent accepts_none declines_not held_no_more on open stays refused =
+    record {
+      final = λ is. not_both _ open is;
+      stays = stays;
+      shows = goes_on x (record { next = next; body = body; held = x.held }) on refused;
+      replies = λ n answer is. no_reply body n answer silent is;
+      once = λ held once. silent_once x body next x.held silent accepts_none declines_not held_no_more once;
+    }
+
+-- a row of a loan
+loan_row : (x : RequesterRecord) (next : State) (body : Body) → replied body ≡ None → accepts body ≡ None → declines body ≡ false
+    → is_among (Shipped ∷ Received ∷ RenewPending ∷ Overdue ∷ RenewOverdue ∷ NotReceivedOverdue ∷ Recall ∷ []) x.state ≡ true → is_among later next ≡ true
+    → Issues x (record { next = next; body = body; held = x.held })
+loan_row x next body silent accepts_none declines_not here there =
+    silent_row x next body silent accepts_none declines_not (search rules) (search rules) (search rules) (λ _. there) (λ c shown. search rules)
+
+cancel_refused_before : (x : RequesterRecord) (c : ℕ) → is_among (Pending ∷ []) x.state ≡ true
+    → ShowsRefused (record_after x (record { next = CancelPending; body = types.Cancel; held = x.held })) c → ShowsRefused x c
+cancel_refused_before x c is shown =
+    let a : Apdu = next_apdu x.txn x.issued types.Cancel in (
+      older_cancel c (length x.issued + 1) (last_of number_of_cancel (x.issued ++ a ∷ [])) (was is_cancel x.issued c) (last_cancel_more x.issued a refl) shown.2
+          (was_more is_cancel x.issued a c shown.0),
+      search (rules, is),
+      search (rules, is),
+    )
+
+answers_held : (x : RequesterRecord) (answer : Bool) → is_among (Conditional ∷ []) x.state ≡ true → has declines x.issued ≡ false → Issues x (answer_held x answer)
+answers_held x true here undeclined =
+    record {
+      final = λ is. search rules;
+      stays = λ is. search rules;
+      shows = goes_on x (answer_held x true) refl (λ c shown. (still_cancel x.issued _ c refl shown.0, search (rules, here), search (rules, here)));
+      replies = λ n answer is. (here, undeclined, search rules);
+      once = λ held once. yes_once x (unwrap_or x.held 0) (held_number x.held (held ∙ here)) here undeclined once;
+    }
+answers_held x false here undeclined =
+    record {
+      final = λ is. search rules;
+      stays = λ is. search rules;
+      shows = goes_on x (answer_held x false) refl (λ c shown. (still_cancel x.issued _ c refl shown.0, search (rules, here), search (rules, here)));
+      replies = λ n answer is. (here, undeclined, search rules);
+      once = λ held once. no_once x (unwrap_or x.held 0) (held_number x.held (held ∙ here)) here undeclined once;
+    }
+
+undeclined_there : (conditional declined : Bool) → conditional && not (conditional && declined) ≡ true → (conditional ≡ true) × (declined ≡ false)
+undeclined_there true false h = (refl, refl)
+undeclined_there conditional declined h = search rules
+
+wish_row : (x : RequesterRecord) (wish : Wish) (row : Row) → row_of x wish ≡ Ok row → Issues x row
+wish_row x (wishes.Request expiry item) row =
+    at_line (Issues x) (is_among (Idle ∷ []) x.state) _ _ row (λ is.
+    silent_row x Pending (types.IllRequest expiry item) refl refl refl refl refl (search (rules, is)) (search (rules, is))
+    (λ c shown. (still_cancel x.issued _ c refl shown.0, search (rules, is), search (rules, is)))) (no_more (Issues x) _ row)
+wish_row x wishes.Cancel row =
+    at_line (Issues x) (is_among (Pending ∷ []) x.state) _ _ row (λ is.
+    silent_row x CancelPending types.Cancel refl refl refl refl refl (search (rules, is)) (search (rules, is)) (λ c. cancel_refused_before x c is)) (no_more (Issues x) _ row)
+wish_row x (wishes.Reply answer) row =
+    at_line (Issues x) (is_among (Conditional ∷ []) x.state && not (is_declined x)) _ _ row
+    (λ is. let there = undeclined_there (is_among (Conditional ∷ []) x.state) (has declines x.issued) is in answers_held x answer there.0 there.1) (no_more (Issues x) _ row)
+wish_row x wishes.Receive row =
+    at_line (Issues x) (is_among (Shipped ∷ []) x.state) _ _ row (λ is. loan_row x Received types.Received refl refl refl (search (rules, is)) refl) (
+    at_line (Issues x) (is_among (NotReceivedOverdue ∷ []) x.state) _ _ row (λ is. loan_row x Overdue types.Received refl refl refl (search (rules, is)) refl) (
+    at_line (Issues x) (is_among (Recall ∷ []) x.state && not (is_received_by x)) _ _ row
+    (λ is. loan_row x Recall types.Received refl refl refl (search (rules, (and_parts _ _ is).0)) refl) (no_more (Issues x) _ row)))
+wish_row x (wishes.Renew wished) row =
+    at_line (Issues x) (is_among (Received ∷ []) x.state) _ _ row (λ is. loan_row x RenewPending (types.Renew wished) refl refl refl (search (rules, is)) refl) (
+    at_line (Issues x) (is_among (Overdue ∷ []) x.state) _ _ row (λ is. loan_row x RenewOverdue (types.Renew wished) refl refl refl (search (rules, is)) refl)
+    (no_more (Issues x) _ row))
+wish_row x wishes.Return row =
+    at_line (Issues x) (is_among (Received ∷ RenewPending ∷ Overdue ∷ RenewOverdue ∷ []) x.state) _ _ row (λ is. loan_row x Returned types.Returned refl refl refl (search (rules, is)) refl) (
+    at_line (Issues x) (is_among (Recall ∷ []) x.state && is_received_by x) _ _ row
+    (λ is. loan_row x Returned types.Returned refl refl refl (search (rules, (and_parts _ _ is).0)) refl) (no_more (Issues x) _ row))
+
+ok_is : (x y : RequesterRecord) → ◌≡◌ {A = Result RequesterRecord Refusal} (Ok x) (Ok y) → x ≡ y
+ok_is x y h = search rules
+
+by_row : (P : RequesterRecord → Type 0) (x new : RequesterRecord) (found : Result Row Refusal) (number : Result ℕ Refusal)
+    → ((row : Row) → found ≡ Ok row → P (record_after x row)) → acts_by x found number ≡ Ok new → P new
+by_row P x new (Err refusal) number leads acted = search rules
+by_row P x new (Ok row) (Err refusal) leads acted = search rules
+by_row P x new (Ok row) (Ok n) leads acted = subst P (ok_is (record_after x row) new acted) (leads row refl)
+
+-- What holds after every row holds after a wish.
+pub of_acts : (P : RequesterRecord → Type 0) (x new : RequesterRecord) (wish : Wish)
+    → ((row : Row) → row_of x wish ≡ Ok row → Issues x row → P (record_after x row)) → acts x wish ≡ Ok new → P new
+of_acts P x new wish leads acted = by_row P x new (row_of x wish) (next_number x.issued) (λ row there. leads row there (wish_row x wish row there)) acted

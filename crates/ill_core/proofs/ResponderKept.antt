@@ -15,23 +15,23 @@ use Rattle.ill_core.specs.declared.responder.Deed.TheVariants as deeds
 use Rattle.ill_core.specs.State.{is_among}
 use Rattle.ill_core.specs.Dates.{is_after_due}
 use Rattle.ill_core.specs.Issued.{is_the, is_at_most, next_number, was, is_same_txn, is_ill_request, with_next, next_apdu, is_requesters, implies, is_shipped, is_checked_in, names_conditions, is_renewal, granted, date_granted}
-use Rattle.ill_core.specs.Responder.{ResponderRecord, responder_of, outstanding, is_named, IsResponder, ResponderIssuedFits, ResponderPartsFit, responder_later, are_rising, ships_first, due_of}
-use Rattle.ill_core.specs.ResponderActions.{deed_leads, date_refusal, body_issued, issues_to}
+use Rattle.ill_core.specs.Responder.{ResponderRecord, responder_of, outstanding, is_named, IsResponder, IssuedFits, PartsFit, later, are_rising, ships_first, due_of}
+use Rattle.ill_core.specs.ResponderActions.{next_state, date_refusal, body_of, issues_to}
 use Rattle.ill_core.specs.declared.refusal.Refusal.{Refusal}
 use Rattle.ill_core.specs.declared.refusal.Refusal.TheVariants.{OtherTransaction, WrongRole}
 use Rattle.ill_core.specs.declared.taking.Taking.{Taking}
 use Rattle.ill_core.specs.Issued.{Admits, refused_before}
-use Rattle.ill_core.specs.ResponderDeliveries.{Comes, answers_no, ResponderTakes, message_comes, takes_memory, responder_takes, unless_refused}
+use Rattle.ill_core.specs.ResponderDeliveries.{Comes, answers_no, Takes, take_message, takes_memory, takes, unless_refused}
 use Rattle.ill_core.proofs.IssuedLemmas.{numbered_next, same_txn, has_more, all_more, none_more, found_none, found_more}
 use Rattle.ill_core.proofs.ResponderLists.{count_more, ends_more, named_more, rise_more, ships_more, ships_renewed, no_grants, due_there}
 
 -- the number of Shipped that a state wants
 abbrev pub shipped_in : State → ℕ
-shipped_in state = if is_among responder_later state then 1 else 0
+shipped_in state = if is_among later state then 1 else 0
 
 -- a state fits a record that issues one more APDU
 pub record FitsNext (y : ResponderRecord) (body : Body) (state : State) : Type 0 where
-  pub parts : ResponderPartsFit state (is_some y.request) (is_some y.accepted) (is_some y.last_cancel) (is_some y.last_renew) y.received false
+  pub parts : PartsFit state (is_some y.request) (is_some y.accepted) (is_some y.last_cancel) (is_some y.last_renew) y.received false
   pub role : not (is_requesters body) ≡ true
   pub shipped : shipped_in y.state + (if is_shipped body then 1 else 0) ≡ shipped_in state
   pub checked_in : (is_among (CheckedIn ∷ []) y.state || is_checked_in body) ≡ is_among (CheckedIn ∷ []) state
@@ -40,8 +40,8 @@ pub record FitsNext (y : ResponderRecord) (body : Body) (state : State) : Type 0
 -- the dates that were granted, where one more APDU is issued: none more, a first one, or one after the last
 pub data Grants (y : ResponderRecord) (body : Body) : Type 0 where
   none : date_granted body ≡ None → is_renewal body ≡ false → Grants y body
-  first : (d : Date) → body ≡ types.Shipped d → is_among responder_later y.state ≡ false → Grants y body
-  later : (d : Date) → date_granted body ≡ Some d → is_among responder_later y.state ≡ true → is_after_due d (due_of y) ≡ true → Grants y body
+  first : (d : Date) → body ≡ types.Shipped d → is_among later y.state ≡ false → Grants y body
+  later : (d : Date) → date_granted body ≡ Some d → is_among later y.state ≡ true → is_after_due d (due_of y) ≡ true → Grants y body
 
 or_right : (a b : Bool) → b ≡ true → a || b ≡ true
 or_right true b h = refl
@@ -70,7 +70,7 @@ next_kept y body state h fits grants =
       numbered = numbered_next y.txn 1 y.issued a h.numbered (same_txn y.txn) (omega arith);
       role = all_more (λ b. not (is_requesters b)) y.issued a h.role fits.role;
       request = h.request;
-      parts = subst (ResponderPartsFit state (is_some y.request) (is_some y.accepted) (is_some y.last_cancel) (is_some y.last_renew) y.received) (sym (none_more y.issued a)) fits.parts;
+      parts = subst (PartsFit state (is_some y.request) (is_some y.accepted) (is_some y.last_cancel) (is_some y.last_renew) y.received) (sym (none_more y.issued a)) fits.parts;
       issued = record {
         shipped = count_more is_shipped y.issued a ∙ (ap (λ n. n + (if is_shipped body then 1 else 0)) h.issued.shipped ∙ fits.shipped);
         checked_in = has_more is_checked_in y.issued a ∙ (ap (λ b. b || is_checked_in body) h.issued.checked_in ∙ fits.checked_in);
@@ -83,13 +83,13 @@ next_kept y body state h fits grants =
 
 -- where a deed leads fits
 deed_fits : (txn : Qualifiers) (state : State) (accepted last_cancel last_renew : Option ℕ) (received : Bool) (request : Option Apdu) (issued : List Apdu) (deed : Deed) (next : State)
-    → IsResponder (responder_of txn state accepted last_cancel last_renew received request issued) → deed_leads (responder_of txn state accepted last_cancel last_renew received request issued) deed ≡ Some next
-    → FitsNext (responder_of txn state accepted last_cancel last_renew received request issued) (body_issued (responder_of txn state accepted last_cancel last_renew received request issued) deed) next
+    → IsResponder (responder_of txn state accepted last_cancel last_renew received request issued) → next_state (responder_of txn state accepted last_cancel last_renew received request issued) deed ≡ Some next
+    → FitsNext (responder_of txn state accepted last_cancel last_renew received request issued) (body_of (responder_of txn state accepted last_cancel last_renew received request issued) deed) next
 deed_fits txn InProcess accepted last_cancel last_renew received request issued (deeds.Answer results.Conditional) Conditional h leads = search rules
 deed_fits txn state accepted last_cancel last_renew received request issued deed next h leads = search rules
 
 -- the dates of a deed that today allows
-deed_grants : (y : ResponderRecord) (deed : Deed) (next : State) (today : Date) → deed_leads y deed ≡ Some next → date_refusal y deed today ≡ None → Grants y (body_issued y deed)
+deed_grants : (y : ResponderRecord) (deed : Deed) (next : State) (today : Date) → next_state y deed ≡ Some next → date_refusal y deed today ≡ None → Grants y (body_of y deed)
 deed_grants y (deeds.Answer answer) next today leads allowed = none refl refl
 deed_grants y (deeds.CancelReply answer) next today leads allowed = none refl refl
 deed_grants y (deeds.Ship due) next today leads allowed = first due refl (search rules)
@@ -101,10 +101,10 @@ deed_grants y deeds.CheckIn next today leads allowed = none refl refl
 deed_grants y deeds.Expire next today leads allowed = none refl refl
 
 -- A deed that has a place, and that today allows, leads to a responder's record.
-pub deed_kept : (y : ResponderRecord) (deed : Deed) (next : State) (today : Date) → IsResponder y → deed_leads y deed ≡ Some next → date_refusal y deed today ≡ None
-    → IsResponder (issues_to y (body_issued y deed) next)
+pub deed_kept : (y : ResponderRecord) (deed : Deed) (next : State) (today : Date) → IsResponder y → next_state y deed ≡ Some next → date_refusal y deed today ≡ None
+    → IsResponder (issues_to y (body_of y deed) next)
 deed_kept y deed next today h leads allowed =
-    next_kept y (body_issued y deed) next h
+    next_kept y (body_of y deed) next h
     (deed_fits y.txn y.state y.accepted y.last_cancel y.last_renew y.received y.request y.issued deed next h leads)
     (deed_grants y deed next today leads allowed)
 
@@ -131,15 +131,15 @@ outstanding_named txn Conditional accepted last_cancel last_renew received reque
 outstanding_named txn state accepted last_cancel last_renew received request issued c h is = search rules
 
 -- IN-PROCESS wants no more than CONDITIONAL and IDLE have
-parts_in_process : (state : State) (r a c n m z : Bool) → ResponderPartsFit state r a c n m z → is_among (Conditional ∷ []) state ≡ true → ResponderPartsFit InProcess r true c n m z
+parts_in_process : (state : State) (r a c n m z : Bool) → PartsFit state r a c n m z → is_among (Conditional ∷ []) state ≡ true → PartsFit InProcess r true c n m z
 parts_in_process Conditional r a c n m z fits is = search rules
 parts_in_process state r a c n m z fits is = search rules
 
-parts_requested : (state : State) (r a c n m z : Bool) → ResponderPartsFit state r a c n m z → is_among (Idle ∷ []) state ≡ true → ResponderPartsFit InProcess true a c n m z
+parts_requested : (state : State) (r a c n m z : Bool) → PartsFit state r a c n m z → is_among (Idle ∷ []) state ≡ true → PartsFit InProcess true a c n m z
 parts_requested Idle r a c n m z fits is = search rules
 parts_requested state r a c n m z fits is = search rules
 
-issued_in_process : (state : State) (apdus : List Apdu) → ResponderIssuedFits state apdus → is_among (Idle ∷ Conditional ∷ []) state ≡ true → ResponderIssuedFits InProcess apdus
+issued_in_process : (state : State) (apdus : List Apdu) → IssuedFits state apdus → is_among (Idle ∷ Conditional ∷ []) state ≡ true → IssuedFits InProcess apdus
 issued_in_process Idle apdus fits is = search rules
 issued_in_process Conditional apdus fits is = search rules
 issued_in_process state apdus fits is = search rules
@@ -182,13 +182,13 @@ request_kept y a h idle same is =
     }
 
 -- an item that is overdue has a due date
-later_due : (y : ResponderRecord) → IsResponder y → is_among responder_later y.state ≡ true → is_some (due_of y) ≡ true
+later_due : (y : ResponderRecord) → IsResponder y → is_among later y.state ≡ true → is_some (due_of y) ≡ true
 later_due y h is = due_there y.issued (omega (arith, h.issued.shipped ∙ ap (λ b. if b then 1 else 0) is))
 
-overdue_later : (y : ResponderRecord) (next : State) → deed_leads y deeds.Overdue ≡ Some next → is_among responder_later y.state ≡ true
+overdue_later : (y : ResponderRecord) (next : State) → next_state y deeds.Overdue ≡ Some next → is_among later y.state ≡ true
 overdue_later y next leads = search rules
 
-pub overdue_due : (y : ResponderRecord) (next : State) → IsResponder y → deed_leads y deeds.Overdue ≡ Some next → is_some (due_of y) ≡ true
+pub overdue_due : (y : ResponderRecord) (next : State) → IsResponder y → next_state y deeds.Overdue ≡ Some next → is_some (due_of y) ≡ true
 overdue_due y next h leads = later_due y h (overdue_later y next leads)
 
 -- a record whose parts are those of one that issued one APDU more
@@ -205,9 +205,9 @@ admits_none (Some refusal) h = search rules
 
 -- an APDU that is admitted does what its row says
 pub takes_admitted : (y new : ResponderRecord) (a : Apdu) (answer : Result Taking Refusal) → refused_before y.txn (not (is_requesters a.body)) a ≡ None
-    → Comes (message_comes y a a.body) (takes_memory y a.body) y answer new → ResponderTakes y a answer new
+    → Comes (take_message y a a.body) (takes_memory y a.body) y answer new → Takes y a answer new
 takes_admitted y new a answer admitted comes =
-    let same : responder_takes y a ≡ message_comes y a a.body = ap (λ o. unless_refused o y (message_comes y a a.body)) admitted in
+    let same : takes y a ≡ take_message y a a.body = ap (λ o. unless_refused o y (take_message y a a.body)) admitted in
     subst (λ expected. Comes expected (takes_memory y a.body) y answer new) (sym same) comes
 
 -- ---- a delivery keeps the rules
@@ -218,7 +218,7 @@ cancel_asked_kept : (txn : Qualifiers) (state : State) (accepted last_cancel las
 cancel_asked_kept txn InProcess accepted last_cancel last_renew received request issued number h is = search rules
 cancel_asked_kept txn state accepted last_cancel last_renew received request issued number h is = search rules
 
-arrived_kept : (y : ResponderRecord) → IsResponder y → is_among responder_later y.state && not y.received ≡ true → IsResponder (record y { received = true })
+arrived_kept : (y : ResponderRecord) → IsResponder y → is_among later y.state && not y.received ≡ true → IsResponder (record y { received = true })
 arrived_kept y h is = search rules
 
 renew_asked_kept : (txn : Qualifiers) (state next : State) (accepted last_cancel last_renew : Option ℕ) (received : Bool) (request : Option Apdu) (issued : List Apdu) (number : ℕ)
@@ -243,7 +243,7 @@ answer_kept : (y : ResponderRecord) (next : Result ℕ Refusal) → IsResponder 
 answer_kept y (Ok number) h waits = no_kept y h waits
 answer_kept y (Err refusal) h waits = h
 
-comes_kept : (y : ResponderRecord) (a : Apdu) (body : Body) → IsResponder y → is_same_txn a.txn y.txn ≡ true → is_ill_request a.body ≡ is_ill_request body → IsResponder (message_comes y a body).1
+comes_kept : (y : ResponderRecord) (a : Apdu) (body : Body) → IsResponder y → is_same_txn a.txn y.txn ≡ true → is_ill_request a.body ≡ is_ill_request body → IsResponder (take_message y a body).1
 comes_kept y a (types.IllRequest expiry item) h same is =
     line (is_among (Idle ∷ []) y.state) _ _ (λ idle. request_kept y a h idle same is) (λ _. h)
 comes_kept y a (types.ConditionalReply c true) h same is =
@@ -258,8 +258,8 @@ comes_kept y a types.Cancel h same is =
     line (is_among (InProcess ∷ Conditional ∷ []) y.state) _ _
     (cancel_asked_kept y.txn y.state y.accepted y.last_cancel y.last_renew y.received y.request y.issued a.number h) (λ _. h))
 comes_kept y a types.Received h same is =
-    line (is_among responder_later y.state && not y.received) _ _ (arrived_kept y h) (λ _.
-    line (is_among responder_later y.state) _ _ (λ _. h) (λ _. h))
+    line (is_among later y.state && not y.received) _ _ (arrived_kept y h) (λ _.
+    line (is_among later y.state) _ _ (λ _. h) (λ _. h))
 comes_kept y a (types.Renew wished) h same is =
     let asked = renew_asked_kept y.txn y.state in
     line (is_at_most a.number y.last_renew) _ _ (λ _. h) (λ _.
@@ -284,7 +284,7 @@ unless_kept (Some refusal) y answer h admitted = h
 unless_kept None y answer h admitted = admitted refl
 
 -- A delivery leads to a responder's record.
-pub takes_kept : (y : ResponderRecord) (a : Apdu) → IsResponder y → IsResponder (responder_takes y a).1
+pub takes_kept : (y : ResponderRecord) (a : Apdu) → IsResponder y → IsResponder (takes y a).1
 takes_kept y a h =
-    unless_kept (refused_before y.txn (not (is_requesters a.body)) a) y (message_comes y a a.body) h
+    unless_kept (refused_before y.txn (not (is_requesters a.body)) a) y (take_message y a a.body) h
     (λ admitted. comes_kept y a a.body h (admitted_same (is_same_txn a.txn y.txn) (not (is_requesters a.body)) admitted) refl)

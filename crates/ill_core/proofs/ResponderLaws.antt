@@ -15,30 +15,30 @@ use Rattle.ill_core.specs.declared.responder.Deed.{Deed}
 use Rattle.ill_core.specs.State.{is_among}
 use Rattle.ill_core.specs.Issued.{has, implies, next_number, with_next, next_apdu, IssuesNext, is_at_most, is_below, is_shipped}
 use Rattle.ill_core.specs.Responder.{ResponderRecord, IsResponder}
-use Rattle.ill_core.specs.ResponderActions.{deed_acts, deed_leads, date_refusal, issues_to}
-use Rattle.ill_core.specs.ResponderDeliveries.{responder_takes}
-use Rattle.ill_core.specs.ResponderFacts.{ResponderFact, ResponderShows, TellsResponder, Requested, Accepted, CancelAsked, Arrived, SentBack, cancels, IssuesUnfilled, StaysLater, Ends, EntersByEnd, EndsOnce, is_unsupplied, is_cancelled, is_end, ended, ends_in, Question, MayCancel, MayRenew, answered, last_asked, waits, answers_to, AnswersLast, KeepsLast, TakesNew, EachAnsweredOnce, AnswersEachOnce}
+use Rattle.ill_core.specs.ResponderActions.{acts, next_state, date_refusal, issues_to}
+use Rattle.ill_core.specs.ResponderDeliveries.{takes}
+use Rattle.ill_core.specs.ResponderFacts.{ResponderFact, Shows, Tells, Requested, Accepted, CancelAsked, Arrived, SentBack, cancels, IssuesUnfilled, StaysLater, Ends, EntersByEnd, EndsOnce, is_unsupplied, is_cancelled, is_end, ended, ends_in, Question, MayCancel, MayRenew, answered, last_asked, waits, answers_to, AnswersLast, KeepsLast, TakesNew, AnsweredOnce, AnswersOnce}
 use Rattle.ill_core.proofs.IssuedLemmas.{issued_body, not_longer, has_more, found_none, found_more}
 use Rattle.ill_core.proofs.ResponderLists.{count_more}
 use Rattle.ill_core.proofs.ResponderKept.{deed_kept}
 use Rattle.ill_core.proofs.ResponderRows.{Issues, Moves, of_takes, of_deeds, done_by}
 use Rattle.ill_core.proofs.RequesterAnswers.{all_weaker, below_new, at_most_below, distinct_more}
 
-pub deeds_issue : (y new : ResponderRecord) (deed : Deed) (today : Date) → deed_acts y deed today ≡ Ok new → IssuesNext y.txn y.issued new.issued
+pub deeds_issue : (y new : ResponderRecord) (deed : Deed) (today : Date) → acts y deed today ≡ Ok new → IssuesNext y.txn y.issued new.issued
 deeds_issue y new deed today = of_deeds (λ r. IssuesNext y.txn y.issued r.issued) y new deed today (λ body next how. (body, refl))
 
-pub takes_issue : (y : ResponderRecord) (a : Apdu) → IssuesUnfilled y a.body (responder_takes y a).1
+pub takes_issue : (y : ResponderRecord) (a : Apdu) → IssuesUnfilled y a.body (takes y a).1
 takes_issue y a = of_takes (IssuesUnfilled y a.body) y a (λ how. inl how.issued) (λ said how. inr (said, refl))
 
-pub deeds_txn : (y new : ResponderRecord) (deed : Deed) (today : Date) → deed_acts y deed today ≡ Ok new → new.txn ≡ y.txn
+pub deeds_txn : (y new : ResponderRecord) (deed : Deed) (today : Date) → acts y deed today ≡ Ok new → new.txn ≡ y.txn
 deeds_txn y new deed today = of_deeds (λ r. r.txn ≡ y.txn) y new deed today (λ body next how. refl)
 
-pub takes_txn : (y : ResponderRecord) (a : Apdu) → (responder_takes y a).1.txn ≡ y.txn
+pub takes_txn : (y : ResponderRecord) (a : Apdu) → (takes y a).1.txn ≡ y.txn
 takes_txn y a = of_takes (λ r. r.txn ≡ y.txn) y a (λ how. how.txn) (λ said how. refl)
 
-pub deeds_kept : (y new : ResponderRecord) (deed : Deed) (today : Date) → deed_acts y deed today ≡ Ok new → IsResponder y → IsResponder new
+pub deeds_kept : (y new : ResponderRecord) (deed : Deed) (today : Date) → acts y deed today ≡ Ok new → IsResponder y → IsResponder new
 deeds_kept y new deed today done h =
-    done_by IsResponder y new deed (deed_leads y deed) (date_refusal y deed today) (next_number y.issued) (λ next leads allowed. deed_kept y deed next today h leads allowed) done
+    done_by IsResponder y new deed (next_state y deed) (date_refusal y deed today) (next_number y.issued) (λ next leads allowed. deed_kept y deed next today h leads allowed) done
 
 not_both : {P : Type 0} (b : Bool) → b ≡ false → b ≡ true → P
 not_both b is_false is_true = search rules
@@ -47,10 +47,10 @@ not_both b is_false is_true = search rules
 abbrev final : List State
 final = NotSupplied ∷ Cancelled ∷ CheckedIn ∷ []
 
-pub deeds_final : (y new : ResponderRecord) (deed : Deed) (today : Date) → deed_acts y deed today ≡ Ok new → is_among final y.state ≡ true → new.state ≡ y.state
+pub deeds_final : (y new : ResponderRecord) (deed : Deed) (today : Date) → acts y deed today ≡ Ok new → is_among final y.state ≡ true → new.state ≡ y.state
 deeds_final y new deed today = of_deeds (λ r. is_among final y.state ≡ true → r.state ≡ y.state) y new deed today (λ body next how. not_both _ how.final)
 
-pub takes_final : (y : ResponderRecord) (a : Apdu) → is_among final y.state ≡ true → (responder_takes y a).1.state ≡ y.state
+pub takes_final : (y : ResponderRecord) (a : Apdu) → is_among final y.state ≡ true → (takes y a).1.state ≡ y.state
 takes_final y a = of_takes (λ r. is_among final y.state ≡ true → r.state ≡ y.state) y a (λ how. how.final) (λ said how. not_both _ how.final)
 
 returned_or_later : (state : State) → is_among (Returned ∷ []) state ≡ true → is_among (Returned ∷ CheckedIn ∷ []) state ≡ true
@@ -62,10 +62,10 @@ issues_stays y body next how = (
   λ is. how.sent_back ∙ returned_or_later y.state is,
 )
 
-pub deeds_stay : (y new : ResponderRecord) (deed : Deed) (today : Date) → deed_acts y deed today ≡ Ok new → StaysLater y new
+pub deeds_stay : (y new : ResponderRecord) (deed : Deed) (today : Date) → acts y deed today ≡ Ok new → StaysLater y new
 deeds_stay y new deed today = of_deeds (StaysLater y) y new deed today (issues_stays y)
 
-pub takes_stay : (y : ResponderRecord) (a : Apdu) → StaysLater y (responder_takes y a).1
+pub takes_stay : (y : ResponderRecord) (a : Apdu) → StaysLater y (takes y a).1
 takes_stay y a =
     of_takes (StaysLater y) y a
     (λ how. (λ is. sym how.shipped ∙ is, λ is. returned_or_later _ (ap (is_among (Returned ∷ [])) (how.returned is) ∙ is)))
@@ -76,10 +76,10 @@ issues_ends y body next how a same is =
     let said = issued_body y.txn y.issued body a same in
     subst (λ b. (is_among (InProcess ∷ Conditional ∷ CancelPending ∷ []) y.state ≡ true) × (ends_in b next ≡ true)) said (how.ends (ap is_end said ∙ is))
 
-pub deeds_end : (y new : ResponderRecord) (deed : Deed) (today : Date) → deed_acts y deed today ≡ Ok new → Ends y new
+pub deeds_end : (y new : ResponderRecord) (deed : Deed) (today : Date) → acts y deed today ≡ Ok new → Ends y new
 deeds_end y new deed today = of_deeds (Ends y) y new deed today (issues_ends y)
 
-pub takes_end : (y : ResponderRecord) (a : Apdu) → Ends y (responder_takes y a).1
+pub takes_end : (y : ResponderRecord) (a : Apdu) → Ends y (takes y a).1
 takes_end y a = of_takes (Ends y) y a (λ how b same is. not_longer y.issued _ b how.issued same) (λ said how. issues_ends y _ _ how)
 
 by_end : (y new : ResponderRecord) (a : Apdu) → new.issued ≡ y.issued ++ a ∷ [] → (is_among ended y.state ≡ true) ⊎ (ends_in a.body new.state ≡ true)
@@ -90,10 +90,10 @@ by_end y new a same (inr is) = inr (a, same, is)
 issues_enters : (y : ResponderRecord) (body : Body) (next : State) → Issues y body next → EntersByEnd y (issues_to y body next)
 issues_enters y body next how is = by_end y (issues_to y body next) (next_apdu y.txn y.issued body) refl (how.enters is)
 
-pub deeds_enter : (y new : ResponderRecord) (deed : Deed) (today : Date) → deed_acts y deed today ≡ Ok new → EntersByEnd y new
+pub deeds_enter : (y new : ResponderRecord) (deed : Deed) (today : Date) → acts y deed today ≡ Ok new → EntersByEnd y new
 deeds_enter y new deed today = of_deeds (EntersByEnd y) y new deed today (issues_enters y)
 
-pub takes_enter : (y : ResponderRecord) (a : Apdu) → EntersByEnd y (responder_takes y a).1
+pub takes_enter : (y : ResponderRecord) (a : Apdu) → EntersByEnd y (takes y a).1
 takes_enter y a = of_takes (EntersByEnd y) y a (λ how is. inl (how.ended ∙ is)) (λ said how. issues_enters y _ _ how)
 
 issues_once : (y : ResponderRecord) (body : Body) (next : State) → Issues y body next → EndsOnce y → EndsOnce (issues_to y body next)
@@ -115,20 +115,20 @@ moves_once y new number body how h =
       once = ap (count_by (λ a. is_end a.body)) how.issued ∙ (h.once ∙ ap (λ b. if b then 1 else 0) how.ended);
     }
 
-pub deeds_end_once : (y new : ResponderRecord) (deed : Deed) (today : Date) → deed_acts y deed today ≡ Ok new → EndsOnce y → EndsOnce new
+pub deeds_end_once : (y new : ResponderRecord) (deed : Deed) (today : Date) → acts y deed today ≡ Ok new → EndsOnce y → EndsOnce new
 deeds_end_once y new deed today = of_deeds (λ r. EndsOnce y → EndsOnce r) y new deed today (issues_once y)
 
-pub takes_end_once : (y : ResponderRecord) (a : Apdu) → EndsOnce y → EndsOnce (responder_takes y a).1
-takes_end_once y a = of_takes (λ r. EndsOnce y → EndsOnce r) y a (moves_once y (responder_takes y a).1 a.number a.body) (λ said how. issues_once y _ _ how)
+pub takes_end_once : (y : ResponderRecord) (a : Apdu) → EndsOnce y → EndsOnce (takes y a).1
+takes_end_once y a = of_takes (λ r. EndsOnce y → EndsOnce r) y a (moves_once y (takes y a).1 a.number a.body) (λ said how. issues_once y _ _ how)
 
 issues_answer : (question : Question) (y : ResponderRecord) (body : Body) (next : State) → Issues y body next → AnswersLast question y (issues_to y body next)
 issues_answer question y body next how a n same is =
     how.answers question n (ap (answered question) (issued_body y.txn y.issued body a same) ∙ is)
 
-pub deeds_answer : (question : Question) (y new : ResponderRecord) (deed : Deed) (today : Date) → deed_acts y deed today ≡ Ok new → AnswersLast question y new
+pub deeds_answer : (question : Question) (y new : ResponderRecord) (deed : Deed) (today : Date) → acts y deed today ≡ Ok new → AnswersLast question y new
 deeds_answer question y new deed today = of_deeds (AnswersLast question y) y new deed today (issues_answer question y)
 
-pub takes_answer : (question : Question) (y : ResponderRecord) (a : Apdu) → AnswersLast question y (responder_takes y a).1
+pub takes_answer : (question : Question) (y : ResponderRecord) (a : Apdu) → AnswersLast question y (takes y a).1
 takes_answer question y a =
     of_takes (AnswersLast question y) y a (λ how b n same is. not_longer y.issued _ b how.issued same) (λ said how. issues_answer question y _ _ how)
 
@@ -139,20 +139,20 @@ last_same MayRenew y body next = refl
 issues_keeps : (question : Question) (y : ResponderRecord) (body : Body) (next : State) → Issues y body next → KeepsLast question y (issues_to y body next)
 issues_keeps question y body next how = (last_same question y body next, how.asked question)
 
-pub deeds_keep : (question : Question) (y new : ResponderRecord) (deed : Deed) (today : Date) → deed_acts y deed today ≡ Ok new → KeepsLast question y new
+pub deeds_keep : (question : Question) (y new : ResponderRecord) (deed : Deed) (today : Date) → acts y deed today ≡ Ok new → KeepsLast question y new
 deeds_keep question y new deed today = of_deeds (KeepsLast question y) y new deed today (issues_keeps question y)
 
 pub takes_keep : (question : Question) (y : ResponderRecord) (a : Apdu)
-    → KeepsLast question y (responder_takes y a).1 ⊎ TakesNew question a.number a.body y (responder_takes y a).1
+    → KeepsLast question y (takes y a).1 ⊎ TakesNew question a.number a.body y (takes y a).1
 takes_keep question y a =
     of_takes (λ r. KeepsLast question y r ⊎ TakesNew question a.number a.body y r) y a (λ how. how.asked question) (λ said how. inl (issues_keeps question y _ _ how))
 
 -- no question waits that did not
-each_kept : (ns : List ℕ) (last : Option ℕ) (waited waiting : Bool) → (waiting ≡ true → waited ≡ true) → EachAnsweredOnce ns last waited → EachAnsweredOnce ns last waiting
+each_kept : (ns : List ℕ) (last : Option ℕ) (waited waiting : Bool) → (waiting ≡ true → waited ≡ true) → AnsweredOnce ns last waited → AnsweredOnce ns last waiting
 each_kept ns last waited waiting still h = record { distinct = h.distinct; most = h.most; below = λ is. h.below (still is) }
 
 -- a new question is above those that were answered
-each_asked : (ns : List ℕ) (last : Option ℕ) (waited waiting : Bool) (n : ℕ) → is_at_most n last ≡ false → EachAnsweredOnce ns last waited → EachAnsweredOnce ns (Some n) waiting
+each_asked : (ns : List ℕ) (last : Option ℕ) (waited waiting : Bool) (n : ℕ) → is_at_most n last ≡ false → AnsweredOnce ns last waited → AnsweredOnce ns (Some n) waiting
 each_asked ns last waited waiting n above h =
     let below = all_weaker (λ m. is_at_most m last) (λ m. is_below m (Some n)) (below_new n last above) ns h.most in
     record {
@@ -165,7 +165,7 @@ most_itself : (n : ℕ) → is_at_most n (Some n) ≡ true
 most_itself n = search rules
 
 -- the last question is answered
-each_answered : (ns : List ℕ) (n : ℕ) → EachAnsweredOnce ns (Some n) true → EachAnsweredOnce (ns ++ n ∷ []) (Some n) false
+each_answered : (ns : List ℕ) (n : ℕ) → AnsweredOnce ns (Some n) true → AnsweredOnce (ns ++ n ∷ []) (Some n) false
 each_answered ns n h =
     let below = h.below refl in
     record {
@@ -178,57 +178,57 @@ known : (o : Option ℕ) (n : ℕ) (waiting : Bool) → implies waiting (is_some
 known o n waiting there is same = search rules
 
 answer_issued : (question : Question) (y : ResponderRecord) (body : Body) (next : State) (o : Option ℕ) → answered question body ≡ o → Issues y body next
-    → implies (waits question y.state) (is_some (last_asked question y)) ≡ true → AnswersEachOnce question y
-    → EachAnsweredOnce (answers_to question (with_next y.txn y.issued body)) (last_asked question y) (waits question next)
+    → implies (waits question y.state) (is_some (last_asked question y)) ≡ true → AnswersOnce question y
+    → AnsweredOnce (answers_to question (with_next y.txn y.issued body)) (last_asked question y) (waits question next)
 answer_issued question y body next None none how there h =
-    subst (λ ns. EachAnsweredOnce ns (last_asked question y) (waits question next)) (sym (found_none (λ a. answered question a.body) y.issued (next_apdu y.txn y.issued body) none))
+    subst (λ ns. AnsweredOnce ns (last_asked question y) (waits question next)) (sym (found_none (λ a. answered question a.body) y.issued (next_apdu y.txn y.issued body) none))
     (each_kept _ _ _ _ (how.asked question) h)
 answer_issued question y body next (Some n) some how there h =
     let row = how.answers question n some in
     let last = known (last_asked question y) n (waits question y.state) there row.0 row.2 in
-    let before : EachAnsweredOnce (answers_to question y.issued) (Some n) true = subst (λ o. EachAnsweredOnce (answers_to question y.issued) o true) last
-    (subst (λ b. EachAnsweredOnce (answers_to question y.issued) (last_asked question y) b) row.0 h) in
-    let after : EachAnsweredOnce (answers_to question y.issued ++ n ∷ []) (last_asked question y) (waits question next) =
-    subst (λ o. EachAnsweredOnce (answers_to question y.issued ++ n ∷ []) o (waits question next)) (sym last)
-    (subst (λ b. EachAnsweredOnce (answers_to question y.issued ++ n ∷ []) (Some n) b) (sym row.1) (each_answered _ n before)) in
-    subst (λ ns. EachAnsweredOnce ns (last_asked question y) (waits question next)) (sym (found_more (λ a. answered question a.body) y.issued (next_apdu y.txn y.issued body) n some)) after
+    let before : AnsweredOnce (answers_to question y.issued) (Some n) true = subst (λ o. AnsweredOnce (answers_to question y.issued) o true) last
+    (subst (λ b. AnsweredOnce (answers_to question y.issued) (last_asked question y) b) row.0 h) in
+    let after : AnsweredOnce (answers_to question y.issued ++ n ∷ []) (last_asked question y) (waits question next) =
+    subst (λ o. AnsweredOnce (answers_to question y.issued ++ n ∷ []) o (waits question next)) (sym last)
+    (subst (λ b. AnsweredOnce (answers_to question y.issued ++ n ∷ []) (Some n) b) (sym row.1) (each_answered _ n before)) in
+    subst (λ ns. AnsweredOnce ns (last_asked question y) (waits question next)) (sym (found_more (λ a. answered question a.body) y.issued (next_apdu y.txn y.issued body) n some)) after
 
 issues_each : (question : Question) (y : ResponderRecord) (body : Body) (next : State) → Issues y body next
-    → implies (waits question y.state) (is_some (last_asked question y)) ≡ true → AnswersEachOnce question y → AnswersEachOnce question (issues_to y body next)
+    → implies (waits question y.state) (is_some (last_asked question y)) ≡ true → AnswersOnce question y → AnswersOnce question (issues_to y body next)
 issues_each question y body next how there h =
-    subst (λ o. EachAnsweredOnce (answers_to question (with_next y.txn y.issued body)) o (waits question next)) (sym (last_same question y body next))
+    subst (λ o. AnsweredOnce (answers_to question (with_next y.txn y.issued body)) o (waits question next)) (sym (last_same question y body next))
     (answer_issued question y body next (answered question body) refl how there h)
 
-pub deeds_answer_once : (question : Question) (y new : ResponderRecord) (deed : Deed) (today : Date) → deed_acts y deed today ≡ Ok new
-    → implies (waits question y.state) (is_some (last_asked question y)) ≡ true → AnswersEachOnce question y → AnswersEachOnce question new
+pub deeds_answer_once : (question : Question) (y new : ResponderRecord) (deed : Deed) (today : Date) → acts y deed today ≡ Ok new
+    → implies (waits question y.state) (is_some (last_asked question y)) ≡ true → AnswersOnce question y → AnswersOnce question new
 deeds_answer_once question y new deed today done there =
-    of_deeds (λ r. AnswersEachOnce question y → AnswersEachOnce question r) y new deed today (λ body next how. issues_each question y body next how there) done
+    of_deeds (λ r. AnswersOnce question y → AnswersOnce question r) y new deed today (λ body next how. issues_each question y body next how there) done
 
 moves_each : (question : Question) (y new : ResponderRecord) (number : ℕ) (body : Body) → new.issued ≡ y.issued → KeepsLast question y new ⊎ TakesNew question number body y new
-    → AnswersEachOnce question y → AnswersEachOnce question new
+    → AnswersOnce question y → AnswersOnce question new
 moves_each question y new number body same (inl keeps) h =
-    subst (λ apdus. EachAnsweredOnce (answers_to question apdus) (last_asked question new) (waits question new.state)) (sym same)
-    (subst (λ o. EachAnsweredOnce (answers_to question y.issued) o (waits question new.state)) (sym keeps.0) (each_kept _ _ _ _ keeps.1 h))
+    subst (λ apdus. AnsweredOnce (answers_to question apdus) (last_asked question new) (waits question new.state)) (sym same)
+    (subst (λ o. AnsweredOnce (answers_to question y.issued) o (waits question new.state)) (sym keeps.0) (each_kept _ _ _ _ keeps.1 h))
 moves_each question y new number body same (inr asked) h =
-    subst (λ apdus. EachAnsweredOnce (answers_to question apdus) (last_asked question new) (waits question new.state)) (sym same)
-    (subst (λ o. EachAnsweredOnce (answers_to question y.issued) o (waits question new.state)) (sym asked.2) (each_asked _ _ _ _ number asked.1 h))
+    subst (λ apdus. AnsweredOnce (answers_to question apdus) (last_asked question new) (waits question new.state)) (sym same)
+    (subst (λ o. AnsweredOnce (answers_to question y.issued) o (waits question new.state)) (sym asked.2) (each_asked _ _ _ _ number asked.1 h))
 
 -- an ILL-Answer answers no question
-unfilled_each : (question : Question) (y : ResponderRecord) → Issues y (types.IllAnswer results.Unfilled) NotSupplied → AnswersEachOnce question y
-    → AnswersEachOnce question (issues_to y (types.IllAnswer results.Unfilled) NotSupplied)
+unfilled_each : (question : Question) (y : ResponderRecord) → Issues y (types.IllAnswer results.Unfilled) NotSupplied → AnswersOnce question y
+    → AnswersOnce question (issues_to y (types.IllAnswer results.Unfilled) NotSupplied)
 unfilled_each question y how h =
-    subst (λ ns. EachAnsweredOnce ns (last_asked question (issues_to y (types.IllAnswer results.Unfilled) NotSupplied)) (waits question NotSupplied))
+    subst (λ ns. AnsweredOnce ns (last_asked question (issues_to y (types.IllAnswer results.Unfilled) NotSupplied)) (waits question NotSupplied))
     (sym (found_none (λ a. answered question a.body) y.issued (next_apdu y.txn y.issued (types.IllAnswer results.Unfilled)) (no_answer question)))
-    (subst (λ o. EachAnsweredOnce (answers_to question y.issued) o (waits question NotSupplied)) (sym (last_same question y _ _)) (each_kept _ _ _ _ (how.asked question) h))
+    (subst (λ o. AnsweredOnce (answers_to question y.issued) o (waits question NotSupplied)) (sym (last_same question y _ _)) (each_kept _ _ _ _ (how.asked question) h))
   where
     no_answer : (q : Question) → answered q (types.IllAnswer results.Unfilled) ≡ None
     no_answer MayCancel = refl
     no_answer MayRenew = refl
 
-pub takes_answer_once : (question : Question) (y : ResponderRecord) (a : Apdu) → AnswersEachOnce question y → AnswersEachOnce question (responder_takes y a).1
+pub takes_answer_once : (question : Question) (y : ResponderRecord) (a : Apdu) → AnswersOnce question y → AnswersOnce question (takes y a).1
 takes_answer_once question y a =
-    of_takes (λ r. AnswersEachOnce question y → AnswersEachOnce question r) y a
-    (λ how. moves_each question y (responder_takes y a).1 a.number a.body how.issued (how.asked question))
+    of_takes (λ r. AnswersOnce question y → AnswersOnce question r) y a
+    (λ how. moves_each question y (takes y a).1 a.number a.body how.issued (how.asked question))
     (λ said how. unfilled_each question y how)
 
 or_either : (a b : Bool) → a || b ≡ true → (a ≡ true) ⊎ (b ≡ true)
@@ -242,12 +242,12 @@ cancels_answered c other is = search rules
 
 -- a yes that is issued was shown by the Cancel that it answers, or by an older yes
 yes_shown : (y : ResponderRecord) (body : Body) (c : ℕ) → (cancels c body ≡ true → y.last_cancel ≡ Some c) → (has (cancels c) y.issued ≡ true) ⊎ (cancels c body ≡ true)
-    → ResponderShows y (CancelAsked c)
+    → Shows y (CancelAsked c)
 yes_shown y body c asked (inl older) = inr older
 yes_shown y body c asked (inr is) = inl (asked is)
 
 issues_shows : (y : ResponderRecord) (body : Body) (next : State) (fact : ResponderFact) → Issues y body next
-    → ((c : ℕ) → cancels c body ≡ true → y.last_cancel ≡ Some c) → ResponderShows (issues_to y body next) fact → ResponderShows y fact
+    → ((c : ℕ) → cancels c body ≡ true → y.last_cancel ≡ Some c) → Shows (issues_to y body next) fact → Shows y fact
 issues_shows y body next Requested how asked shown = how.begun
 issues_shows y body next (Accepted c) how asked shown = shown
 issues_shows y body next (CancelAsked c) how asked (inl last) = inl last
@@ -263,14 +263,14 @@ yes_answers_last y body next how there c is =
     let row = how.answers MayCancel c (cancels_answered c body is) in
     known y.last_cancel c (waits MayCancel y.state) there row.0 row.2
 
-pub deeds_show : (y new : ResponderRecord) (deed : Deed) (today : Date) (fact : ResponderFact) → deed_acts y deed today ≡ Ok new
-    → implies (waits MayCancel y.state) (is_some y.last_cancel) ≡ true → ResponderShows new fact → ResponderShows y fact
+pub deeds_show : (y new : ResponderRecord) (deed : Deed) (today : Date) (fact : ResponderFact) → acts y deed today ≡ Ok new
+    → implies (waits MayCancel y.state) (is_some y.last_cancel) ≡ true → Shows new fact → Shows y fact
 deeds_show y new deed today fact done there =
-    of_deeds (λ r. ResponderShows r fact → ResponderShows y fact) y new deed today
+    of_deeds (λ r. Shows r fact → Shows y fact) y new deed today
     (λ body next how. issues_shows y body next fact how (yes_answers_last y body next how there)) done
 
-moves_shows : (y new : ResponderRecord) (number : ℕ) (body : Body) (fact : ResponderFact) → Moves y number body new → ResponderShows new fact
-    → ResponderShows y fact ⊎ TellsResponder number body fact
+moves_shows : (y new : ResponderRecord) (number : ℕ) (body : Body) (fact : ResponderFact) → Moves y number body new → Shows new fact
+    → Shows y fact ⊎ Tells number body fact
 moves_shows y new number body Requested how shown = how.requested shown
 moves_shows y new number body (Accepted c) how shown = how.accepted c shown
 moves_shows y new number body (CancelAsked c) how (inl last) = search (rules, how.cancel_asked c last)
@@ -278,9 +278,9 @@ moves_shows y new number body (CancelAsked c) how (inr yes_there) = inl (inr (sy
 moves_shows y new number body Arrived how shown = how.arrived shown
 moves_shows y new number body SentBack how shown = how.sent_back shown
 
-pub takes_show : (y : ResponderRecord) (a : Apdu) (fact : ResponderFact) → ResponderShows (responder_takes y a).1 fact
-    → ResponderShows y fact ⊎ TellsResponder a.number a.body fact
+pub takes_show : (y : ResponderRecord) (a : Apdu) (fact : ResponderFact) → Shows (takes y a).1 fact
+    → Shows y fact ⊎ Tells a.number a.body fact
 takes_show y a fact =
-    of_takes (λ r. ResponderShows r fact → ResponderShows y fact ⊎ TellsResponder a.number a.body fact) y a
-    (λ how. moves_shows y (responder_takes y a).1 a.number a.body fact how)
+    of_takes (λ r. Shows r fact → Shows y fact ⊎ Tells a.number a.body fact) y a
+    (λ how. moves_shows y (takes y a).1 a.number a.body fact how)
     (λ said how shown. inl (issues_shows y _ _ fact how (λ c is. search rules) shown))

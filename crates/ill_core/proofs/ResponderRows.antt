@@ -17,10 +17,10 @@ use Rattle.ill_core.specs.declared.taking.Taking.{Taking}
 use Rattle.ill_core.specs.declared.taking.Taking.TheVariants.{Taken}
 use Rattle.ill_core.specs.State.{is_among}
 use Rattle.ill_core.specs.Issued.{refused_before, next_number, is_requesters, is_the, is_at_most, was, names_conditions, declines, is_shipped}
-use Rattle.ill_core.specs.Responder.{ResponderRecord, responder_of, responder_later, outstanding}
-use Rattle.ill_core.specs.ResponderActions.{deed_leads, deed_acts, deed_acts_to, date_refusal, body_issued, issues_to}
-use Rattle.ill_core.specs.ResponderDeliveries.{responder_takes, message_comes, unless_refused, answers_no}
-use Rattle.ill_core.specs.ResponderFacts.{TellsResponder, Requested, Accepted, CancelAsked, Arrived, SentBack, Question, KeepsLast, TakesNew, answered, last_asked, waits, is_unsupplied, is_cancelled, is_end, ended, ends_in}
+use Rattle.ill_core.specs.Responder.{ResponderRecord, responder_of, later, outstanding}
+use Rattle.ill_core.specs.ResponderActions.{next_state, acts, acts_to, date_refusal, body_of, issues_to}
+use Rattle.ill_core.specs.ResponderDeliveries.{takes, take_message, unless_refused, answers_no}
+use Rattle.ill_core.specs.ResponderFacts.{Tells, Requested, Accepted, CancelAsked, Arrived, SentBack, Question, KeepsLast, TakesNew, answered, last_asked, waits, is_unsupplied, is_cancelled, is_end, ended, ends_in}
 
 -- a row that issues this, and leads to this state
 pub record Issues (y : ResponderRecord) (body : Body) (state : State) : Type 0 where
@@ -28,7 +28,7 @@ pub record Issues (y : ResponderRecord) (body : Body) (state : State) : Type 0 w
   pub final : is_among (NotSupplied ∷ Cancelled ∷ CheckedIn ∷ []) y.state ≡ false
   pub unsupplied : (is_among (NotSupplied ∷ []) y.state || is_unsupplied body) ≡ is_among (NotSupplied ∷ []) state
   pub cancelled : (is_among (Cancelled ∷ []) y.state || is_cancelled body) ≡ is_among (Cancelled ∷ []) state
-  pub shipped : (is_among responder_later y.state || is_shipped body) ≡ is_among responder_later state
+  pub shipped : (is_among later y.state || is_shipped body) ≡ is_among later state
   pub once : (if is_among ended y.state then 1 else 0) + (if is_end body then 1 else 0) ≡ (if is_among ended state then 1 else 0)
   pub ends : is_end body ≡ true → (is_among (InProcess ∷ Conditional ∷ CancelPending ∷ []) y.state ≡ true) × (ends_in body state ≡ true)
   pub enters : is_among ended state ≡ true → (is_among ended y.state ≡ true) ⊎ (ends_in body state ≡ true)
@@ -44,19 +44,19 @@ pub record Moves (y : ResponderRecord) (number : ℕ) (body : Body) (new : Respo
   pub final : is_among (NotSupplied ∷ Cancelled ∷ CheckedIn ∷ []) y.state ≡ true → new.state ≡ y.state
   pub unsupplied : is_among (NotSupplied ∷ []) y.state ≡ is_among (NotSupplied ∷ []) new.state
   pub cancelled : is_among (Cancelled ∷ []) y.state ≡ is_among (Cancelled ∷ []) new.state
-  pub shipped : is_among responder_later y.state ≡ is_among responder_later new.state
+  pub shipped : is_among later y.state ≡ is_among later new.state
   pub ended : is_among ended y.state ≡ is_among ended new.state
   pub returned : is_among (Returned ∷ []) y.state ≡ true → new.state ≡ y.state
   pub asked : (question : Question) → KeepsLast question y new ⊎ TakesNew question number body y new
-  pub requested : is_among (Idle ∷ []) new.state ≡ false → (is_among (Idle ∷ []) y.state ≡ false) ⊎ TellsResponder number body Requested
-  pub accepted : (c : ℕ) → new.accepted ≡ Some c → (y.accepted ≡ Some c) ⊎ TellsResponder number body (Accepted c)
-  pub cancel_asked : (c : ℕ) → new.last_cancel ≡ Some c → (y.last_cancel ≡ Some c) ⊎ TellsResponder number body (CancelAsked c)
-  pub arrived : new.received ≡ true → (y.received ≡ true) ⊎ TellsResponder number body Arrived
-  pub sent_back : is_among (Returned ∷ CheckedIn ∷ []) new.state ≡ true → (is_among (Returned ∷ CheckedIn ∷ []) y.state ≡ true) ⊎ TellsResponder number body SentBack
+  pub requested : is_among (Idle ∷ []) new.state ≡ false → (is_among (Idle ∷ []) y.state ≡ false) ⊎ Tells number body Requested
+  pub accepted : (c : ℕ) → new.accepted ≡ Some c → (y.accepted ≡ Some c) ⊎ Tells number body (Accepted c)
+  pub cancel_asked : (c : ℕ) → new.last_cancel ≡ Some c → (y.last_cancel ≡ Some c) ⊎ Tells number body (CancelAsked c)
+  pub arrived : new.received ≡ true → (y.received ≡ true) ⊎ Tells number body Arrived
+  pub sent_back : is_among (Returned ∷ CheckedIn ∷ []) new.state ≡ true → (is_among (Returned ∷ CheckedIn ∷ []) y.state ≡ true) ⊎ Tells number body SentBack
 
 issues : (txn : Qualifiers) (state : State) (accepted last_cancel last_renew : Option ℕ) (received : Bool) (request : Option Apdu) (issued : List Apdu) (deed : Deed) (next : State)
-    → deed_leads (responder_of txn state accepted last_cancel last_renew received request issued) deed ≡ Some next
-    → Issues (responder_of txn state accepted last_cancel last_renew received request issued) (body_issued (responder_of txn state accepted last_cancel last_renew received request issued) deed) next
+    → next_state (responder_of txn state accepted last_cancel last_renew received request issued) deed ≡ Some next
+    → Issues (responder_of txn state accepted last_cancel last_renew received request issued) (body_of (responder_of txn state accepted last_cancel last_renew received request issued) deed) next
 issues txn InProcess accepted last_cancel last_renew received request issued (deeds.Answer results.Conditional) Conditional leads = search rules
 issues txn state accepted last_cancel last_renew received request issued deed next leads = search rules
 
@@ -123,7 +123,7 @@ answers_row y number c (Ok n) waiting =
     answers refl refl (issues_no y.txn y.state y.accepted y.last_cancel y.last_renew y.received y.request y.issued waiting)
 answers_row y number c (Err refusal) waiting = leaves y number _ _
 
-comes : (y : ResponderRecord) (a : Apdu) (body : Body) → Row y a.number body (message_comes y a body)
+comes : (y : ResponderRecord) (a : Apdu) (body : Body) → Row y a.number body (take_message y a body)
 comes y a (types.IllRequest expiry item) =
     line y _ _ (is_among (Idle ∷ []) y.state) _ _ (λ idle. moves (inl refl) (requested y.txn y.state y.accepted y.last_cancel y.last_renew y.received y.request (Some a) y.issued a.number expiry item idle)) (λ _.
     leaves y _ _ _)
@@ -139,8 +139,8 @@ comes y a types.Cancel =
     line y _ _ (is_among (InProcess ∷ Conditional ∷ []) y.state) _ _ (λ waiting. moves (inl refl) (cancel_asked y.txn y.state y.accepted y.last_cancel y.last_renew y.received y.request y.issued a.number above waiting)) (λ _.
     leaves y _ _ _))
 comes y a types.Received =
-    line y _ _ (is_among responder_later y.state && not y.received) _ _ (λ _. moves (inl refl) (arrived y a.number)) (λ _.
-    line y _ _ (is_among responder_later y.state) _ _ (λ _. leaves y _ _ _) (λ _. leaves y _ _ _))
+    line y _ _ (is_among later y.state && not y.received) _ _ (λ _. moves (inl refl) (arrived y a.number)) (λ _.
+    line y _ _ (is_among later y.state) _ _ (λ _. leaves y _ _ _) (λ _. leaves y _ _ _))
 comes y a (types.Renew wished) =
     line y _ _ (is_at_most a.number y.last_renew) _ _ (λ _. leaves y _ _ _) (λ above.
     line y _ _ (is_among (Shipped ∷ []) y.state) _ _ (λ here. moves (inl refl) (renew_asked y.txn y.state RenewPending y.accepted y.last_cancel y.last_renew y.received y.request y.issued a.number wished above (search (rules, here)) refl)) (λ _.
@@ -156,8 +156,8 @@ by_admission : (y : ResponderRecord) (number : ℕ) (body : Body) (refused : Opt
 by_admission y number body None answer row = row
 by_admission y number body (Some refusal) answer row = leaves y number body (Err refusal)
 
-takes : (y : ResponderRecord) (a : Apdu) → Row y a.number a.body (responder_takes y a)
-takes y a = by_admission y a.number a.body (refused_before y.txn (not (is_requesters a.body)) a) (message_comes y a a.body) (comes y a a.body)
+takes : (y : ResponderRecord) (a : Apdu) → Row y a.number a.body (takes y a)
+takes y a = by_admission y a.number a.body (refused_before y.txn (not (is_requesters a.body)) a) (take_message y a a.body) (comes y a a.body)
 
 of_row : (P : ResponderRecord → Type 0) (y : ResponderRecord) (number : ℕ) (body : Body) (answer : Result Taking Refusal × ResponderRecord) → Row y number body answer
     → (Moves y number body answer.1 → P answer.1)
@@ -167,30 +167,30 @@ of_row P y number body answer (answers said same how) where_moved where_answered
 
 -- What holds where a message moves the record, and where it is answered, holds after every message.
 pub of_takes : (P : ResponderRecord → Type 0) (y : ResponderRecord) (a : Apdu)
-    → (Moves y a.number a.body (responder_takes y a).1 → P (responder_takes y a).1)
-    → (declines a.body ≡ true → Issues y (types.IllAnswer results.Unfilled) NotSupplied → P (issues_to y (types.IllAnswer results.Unfilled) NotSupplied)) → P (responder_takes y a).1
-of_takes P y a = of_row P y a.number a.body (responder_takes y a) (takes y a)
+    → (Moves y a.number a.body (takes y a).1 → P (takes y a).1)
+    → (declines a.body ≡ true → Issues y (types.IllAnswer results.Unfilled) NotSupplied → P (issues_to y (types.IllAnswer results.Unfilled) NotSupplied)) → P (takes y a).1
+of_takes P y a = of_row P y a.number a.body (takes y a) (takes y a)
 
 row_quiet : (y : ResponderRecord) (number : ℕ) (body : Body) (answer : Result Taking Refusal × ResponderRecord) → Row y number body answer → (answer.0 ≡ Ok Taken) ⊎ (answer.1 ≡ y)
 row_quiet y number body answer (moves quiet how) = quiet
 row_quiet y number body answer (answers said same how) = inl (ap (λ r. r.0) same)
 
-pub takes_quiet : (y : ResponderRecord) (a : Apdu) → ((responder_takes y a).0 ≡ Ok Taken) ⊎ ((responder_takes y a).1 ≡ y)
-takes_quiet y a = row_quiet y a.number a.body (responder_takes y a) (takes y a)
+pub takes_quiet : (y : ResponderRecord) (a : Apdu) → ((takes y a).0 ≡ Ok Taken) ⊎ ((takes y a).1 ≡ y)
+takes_quiet y a = row_quiet y a.number a.body (takes y a) (takes y a)
 
 ok_is : (x y : ResponderRecord) → ◌≡◌ {A = Result ResponderRecord Refusal} (Ok x) (Ok y) → x ≡ y
 ok_is x y h = search rules
 
 pub done_by : (P : ResponderRecord → Type 0) (y new : ResponderRecord) (deed : Deed) (state : Option State) (dates : Option Refusal) (number : Result ℕ Refusal)
-    → ((next : State) → state ≡ Some next → dates ≡ None → P (issues_to y (body_issued y deed) next)) → deed_acts_to y deed state dates number ≡ Ok new → P new
+    → ((next : State) → state ≡ Some next → dates ≡ None → P (issues_to y (body_of y deed) next)) → acts_to y deed state dates number ≡ Ok new → P new
 done_by P y new deed None dates number leads done = search rules
 done_by P y new deed (Some next) (Some refusal) number leads done = search rules
 done_by P y new deed (Some next) None (Err refusal) leads done = search rules
-done_by P y new deed (Some next) None (Ok n) leads done = subst P (ok_is (issues_to y (body_issued y deed) next) new done) (leads next refl refl)
+done_by P y new deed (Some next) None (Ok n) leads done = subst P (ok_is (issues_to y (body_of y deed) next) new done) (leads next refl refl)
 
 -- What holds wherever an APDU is issued holds after a deed.
 pub of_deeds : (P : ResponderRecord → Type 0) (y new : ResponderRecord) (deed : Deed) (today : Date)
-    → ((body : Body) (next : State) → Issues y body next → P (issues_to y body next)) → deed_acts y deed today ≡ Ok new → P new
+    → ((body : Body) (next : State) → Issues y body next → P (issues_to y body next)) → acts y deed today ≡ Ok new → P new
 of_deeds P y new deed today leads done =
-    done_by P y new deed (deed_leads y deed) (date_refusal y deed today) (next_number y.issued) (λ next leads_there _.
-    leads (body_issued y deed) next (issues y.txn y.state y.accepted y.last_cancel y.last_renew y.received y.request y.issued deed next leads_there)) done
+    done_by P y new deed (next_state y deed) (date_refusal y deed today) (next_number y.issued) (λ next leads_there _.
+    leads (body_of y deed) next (issues y.txn y.state y.accepted y.last_cancel y.last_renew y.received y.request y.issued deed next leads_there)) done

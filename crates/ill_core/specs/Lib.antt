@@ -1,5 +1,6 @@
 pub mod State
 pub mod Dates
+pub mod Answers
 pub mod Issued
 pub mod Requester
 pub mod RequesterActions

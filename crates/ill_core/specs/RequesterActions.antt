@@ -1,6 +1,9 @@
 -- What a requester does: its table of actions (this profile's own; the services are those of ISO 10160).
-use Rattle.std.specs.Prelude.{◌≡◌, ℕ, Bool, true, not, ◌&&◌, [], ◌∷◌, Option, Some, None, Result, Ok, Err, IsOk, if◌then◌else◌}
+-- A row says from which states, to which state, what is issued, and what is held then; a wish that no row has is not
+-- done now.
+use Rattle.std.specs.Prelude.{◌≡◌, ℕ, Bool, true, false, not, ◌&&◌, [], ◌∷◌, List, Option, Some, None, Result, Ok, Err, IsOk, if◌then◌else◌}
 use Rattle.std.specs.Option.{unwrap_or}
+use Rattle.ill_values.specs.Day.{Date}
 use Rattle.ill_values.specs.declared.apdu.Body.{Body}
 use Rattle.ill_values.specs.declared.apdu.Body.TheVariants as types
 use Rattle.ill_core.specs.declared.state.State.{State}
@@ -9,78 +12,91 @@ use Rattle.ill_core.specs.declared.refusal.Refusal.{Refusal}
 use Rattle.ill_core.specs.declared.refusal.Refusal.TheVariants as refusals
 use Rattle.ill_core.specs.declared.requester.Wish.{Wish}
 use Rattle.ill_core.specs.declared.requester.Wish.TheVariants as wishes
+use Rattle.ill_core.specs.declared.requester.actions.Row.{Row}
 use Rattle.ill_core.specs.State.{is_among}
 use Rattle.ill_core.specs.Issued.{next_number, with_next}
 use Rattle.ill_core.specs.Requester.{RequesterRecord, is_declined, is_received_by}
 
--- the state that an answer to conditions leads to
-abbrev pub after_reply : RequesterRecord → Bool → Option State
-after_reply x answer =
-    if is_among (Conditional ∷ []) x.state && not (is_declined x) then Some (if answer then Pending else Conditional)
-    else None
+-- to this state, and this is issued; the conditions stay as they are
+abbrev pub leads_to : State → Body → RequesterRecord → Result Row Refusal
+leads_to next body x = Ok (record { next = next; body = body; held = x.held })
 
-abbrev pub after_receive : RequesterRecord → Option State
-after_receive x =
-    if is_among (Shipped ∷ []) x.state then Some Received
-    else if is_among (NotReceivedOverdue ∷ []) x.state then Some Overdue
-    else if is_among (Recall ∷ []) x.state && not (is_received_by x) then Some Recall
-    else None
+abbrev pub not_now : RequesterRecord → Result Row Refusal
+not_now x = Err (refusals.NotNow x.state)
 
-abbrev pub after_renew : RequesterRecord → Option State
-after_renew x =
-    if is_among (Received ∷ []) x.state then Some RenewPending
-    else if is_among (Overdue ∷ []) x.state then Some RenewOverdue
-    else None
+abbrev pub request_row : RequesterRecord → Option Date → List ℕ → Result Row Refusal
+request_row x expiry item =
+    if is_among (Idle ∷ []) x.state then leads_to Pending (types.IllRequest expiry item) x
+    else not_now x
 
-abbrev pub after_return : RequesterRecord → Option State
-after_return x =
-    if is_among (Received ∷ RenewPending ∷ Overdue ∷ RenewOverdue ∷ []) x.state then Some Returned
-    else if is_among (Recall ∷ []) x.state && is_received_by x then Some Returned
-    else None
+abbrev pub cancel_row : RequesterRecord → Result Row Refusal
+cancel_row x =
+    if is_among (Pending ∷ []) x.state then leads_to CancelPending types.Cancel x
+    else not_now x
 
--- the state that a wish leads to, if it has a place now
-abbrev pub next_state : RequesterRecord → Wish → Option State
-next_state x (wishes.Request expiry item) = if is_among (Idle ∷ []) x.state then Some Pending else None
-next_state x wishes.Cancel = if is_among (Pending ∷ []) x.state then Some CancelPending else None
-next_state x (wishes.Reply answer) = after_reply x answer
-next_state x wishes.Receive = after_receive x
-next_state x (wishes.Renew wished) = after_renew x
-next_state x wishes.Return = after_return x
+-- the answer to the conditions held; none are held once they are accepted
+abbrev pub answer_held : RequesterRecord → Bool → Row
+answer_held x true = record { next = Pending; body = types.ConditionalReply (unwrap_or x.held 0) true; held = None }
+answer_held x false = record { next = Conditional; body = types.ConditionalReply (unwrap_or x.held 0) false; held = x.held }
 
--- what a wish issues; the answered number is that of the conditions held, which are there where they are answered
-abbrev pub body_of : RequesterRecord → Wish → Body
-body_of x (wishes.Request expiry item) = types.IllRequest expiry item
-body_of x wishes.Cancel = types.Cancel
-body_of x (wishes.Reply answer) = types.ConditionalReply (unwrap_or x.held 0) answer
-body_of x wishes.Receive = types.Received
-body_of x (wishes.Renew wished) = types.Renew wished
-body_of x wishes.Return = types.Returned
+abbrev pub reply_row : RequesterRecord → Bool → Result Row Refusal
+reply_row x answer =
+    if is_among (Conditional ∷ []) x.state && not (is_declined x) then Ok (answer_held x answer)
+    else not_now x
 
--- the conditions that stand after a wish: none, where they are accepted
-abbrev pub held_after : RequesterRecord → Wish → Option ℕ
-held_after x (wishes.Reply true) = None
-held_after x other = x.held
+abbrev pub receive_row : RequesterRecord → Result Row Refusal
+receive_row x =
+    if is_among (Shipped ∷ []) x.state then leads_to Received types.Received x
+    else if is_among (NotReceivedOverdue ∷ []) x.state then leads_to Overdue types.Received x
+    else if is_among (Recall ∷ []) x.state && not (is_received_by x) then leads_to Recall types.Received x
+    else not_now x
 
--- the record after a wish that leads to a state
-abbrev pub moved : RequesterRecord → Wish → State → RequesterRecord
-moved x wish state =
+abbrev pub renew_row : RequesterRecord → Option Date → Result Row Refusal
+renew_row x wished =
+    if is_among (Received ∷ []) x.state then leads_to RenewPending (types.Renew wished) x
+    else if is_among (Overdue ∷ []) x.state then leads_to RenewOverdue (types.Renew wished) x
+    else not_now x
+
+abbrev pub return_row : RequesterRecord → Result Row Refusal
+return_row x =
+    if is_among (Received ∷ RenewPending ∷ Overdue ∷ RenewOverdue ∷ []) x.state then leads_to Returned types.Returned x
+    else if is_among (Recall ∷ []) x.state && is_received_by x then leads_to Returned types.Returned x
+    else not_now x
+
+-- the row of a wish, or that it has no place now
+abbrev pub row_of : RequesterRecord → Wish → Result Row Refusal
+row_of x (wishes.Request expiry item) = request_row x expiry item
+row_of x wishes.Cancel = cancel_row x
+row_of x (wishes.Reply answer) = reply_row x answer
+row_of x wishes.Receive = receive_row x
+row_of x (wishes.Renew wished) = renew_row x wished
+row_of x wishes.Return = return_row x
+
+-- The row is found, or memory is wanted for the ILL-Request that it issues.
+abbrev pub FindsRow : RequesterRecord → Wish → Result Row Refusal → Type 0
+FindsRow x wish (Err refusals.OutOfMemory) = IsOk (row_of x wish) × (is_among (Idle ∷ []) x.state ≡ true)
+FindsRow x wish found = found ≡ row_of x wish
+
+-- the record after a row
+abbrev pub record_after : RequesterRecord → Row → RequesterRecord
+record_after x row =
     record {
       txn = x.txn;
-      state = state;
-      held = held_after x wish;
+      state = row.next;
+      held = row.held;
       checked_in = x.checked_in;
       due = x.due;
-      issued = with_next x.txn x.issued (body_of x wish);
+      issued = with_next x.txn x.issued row.body;
     }
 
-abbrev pub acts_to : RequesterRecord → Wish → Option State → Result ℕ Refusal → Result RequesterRecord Refusal
-acts_to x wish None number = Err (refusals.NotNow x.state)
-acts_to x wish (Some state) (Err refusal) = Err refusal
-acts_to x wish (Some state) (Ok number) = Ok (moved x wish state)
+abbrev pub acts_by : RequesterRecord → Result Row Refusal → Result ℕ Refusal → Result RequesterRecord Refusal
+acts_by x (Err refusal) number = Err refusal
+acts_by x (Ok row) (Err refusal) = Err refusal
+acts_by x (Ok row) (Ok number) = Ok (record_after x row)
 
 -- The record after a wish, or why it is refused: first that it has no place now, then that all numbers are used.
 abbrev pub acts : RequesterRecord → Wish → Result RequesterRecord Refusal
-acts x wish = acts_to x wish (next_state x wish) (next_number x.issued)
+acts x wish = acts_by x (row_of x wish) (next_number x.issued)
 
 -- What a requester answers to a wish, and the record after it. Memory is wanted only where the wish would be done.
 abbrev pub Acts : RequesterRecord → Wish → Result Unit Refusal → RequesterRecord → Type 0

@@ -29,14 +29,14 @@ abbrev pub is_open : RequesterRecord → ℕ → Bool
 is_open x c = is_among (states.CancelPending ∷ states.Cancelled ∷ []) x.state && is_the c (last_cancel x)
 
 -- A record shows that a Cancel was refused where it issued that one, the Cancel is not open, and no other end has come.
-abbrev pub shows_refused : RequesterRecord → ℕ → Type 0
-shows_refused x c = (was is_cancel x.issued c ≡ true) × (is_among (states.NotSupplied ∷ later) x.state ≡ false) × (is_open x c ≡ false)
+abbrev pub ShowsRefused : RequesterRecord → ℕ → Type 0
+ShowsRefused x c = (was is_cancel x.issued c ≡ true) × (is_among (states.NotSupplied ∷ later) x.state ≡ false) × (is_open x c ≡ false)
 
 abbrev pub Shows : RequesterRecord → RequesterFact → Type 0
 Shows x Cancelled = x.state ≡ states.Cancelled
 Shows x Ended = x.state ≡ states.NotSupplied
 Shows x (Granted due) = x.due ≡ Some due
-Shows x (Refused cancel) = shows_refused x cancel
+Shows x (Refused cancel) = ShowsRefused x cancel
 Shows x GivenBack = x.checked_in ≡ true
 
 abbrev pub Tells : Body → RequesterFact → Type 0

@@ -43,8 +43,8 @@ abbrev pub outstanding : ResponderRecord → Option ℕ
 outstanding y = if is_among (Conditional ∷ []) y.state then (if is_none y.issued then None else Some (length y.issued)) else None
 
 -- SHIPPED or later
-abbrev pub responder_later : List State
-responder_later = Shipped ∷ RenewPending ∷ Overdue ∷ RenewOverdue ∷ Recall ∷ Returned ∷ CheckedIn ∷ []
+abbrev pub later : List State
+later = Shipped ∷ RenewPending ∷ Overdue ∷ RenewOverdue ∷ Recall ∷ Returned ∷ CheckedIn ∷ []
 
 -- no date comes, or the first, or one that is after the last
 abbrev pub rises : Option Date → Option Date → Bool
@@ -80,18 +80,18 @@ is_request_of txn (Some a) = is_same_txn a.txn txn && is_ill_request a.body
 
 -- A state has the numbers and the mark that it wants, and in IDLE none: whether a request is there, a number of each
 -- kind, the mark, and whether nothing was issued.
-pub record ResponderPartsFit (state : State) (has_request has_accepted has_cancel has_renew is_marked none : Bool) : Type 0 where
+pub record PartsFit (state : State) (has_request has_accepted has_cancel has_renew is_marked none : Bool) : Type 0 where
   pub role : is_among (Pending ∷ Received ∷ NotReceivedOverdue ∷ []) state ≡ false
   pub idle : has_request ≡ not (is_among (Idle ∷ []) state)
   pub empty : implies (is_among (Idle ∷ []) state) (not has_accepted && (not has_cancel && (not has_renew && (not is_marked && none)))) ≡ true
-  pub marked : implies is_marked (is_among responder_later state) ≡ true
+  pub marked : implies is_marked (is_among later state) ≡ true
   pub cancel : implies (is_among (CancelPending ∷ Cancelled ∷ []) state) has_cancel ≡ true
   pub renew : implies (is_among (RenewPending ∷ RenewOverdue ∷ []) state) has_renew ≡ true
 
 -- What was issued fits the state: one Shipped in SHIPPED or later and none elsewhere, a Checked-In in CHECKED-IN, and
 -- conditions last in CONDITIONAL.
-pub record ResponderIssuedFits (state : State) (apdus : List Apdu) : Type 0 where
-  pub shipped : count_by (λ a. is_shipped a.body) apdus ≡ (if is_among responder_later state then 1 else 0)
+pub record IssuedFits (state : State) (apdus : List Apdu) : Type 0 where
+  pub shipped : count_by (λ a. is_shipped a.body) apdus ≡ (if is_among later state then 1 else 0)
   pub checked_in : has is_checked_in apdus ≡ is_among (CheckedIn ∷ []) state
   pub conditions : implies (is_among (Conditional ∷ []) state) (ends_with_conditions apdus) ≡ true
 
@@ -100,8 +100,8 @@ pub record IsResponder (y : ResponderRecord) : Type 0 where
   pub numbered : are_numbered y.txn 1 y.issued ≡ true
   pub role : list_all (λ a. not (is_requesters a.body)) y.issued ≡ true
   pub request : is_request_of y.txn y.request ≡ true
-  pub parts : ResponderPartsFit y.state (is_some y.request) (is_some y.accepted) (is_some y.last_cancel) (is_some y.last_renew) y.received (is_none y.issued)
-  pub issued : ResponderIssuedFits y.state y.issued
+  pub parts : PartsFit y.state (is_some y.request) (is_some y.accepted) (is_some y.last_cancel) (is_some y.last_renew) y.received (is_none y.issued)
+  pub issued : IssuedFits y.state y.issued
   pub accepted : is_named y.accepted y.issued ≡ true
   pub rising : are_rising (filter_map granted y.issued) ≡ true
   pub ships_first : ships_first y.issued ≡ true

@@ -1,5 +1,7 @@
 -- What a responder does: its table of actions (this profile's own; the services are those of ISO 10160).
-use Rattle.std.specs.Prelude.{◌≡◌, ℕ, Bool, [], ◌∷◌, Option, Some, None, is_some, Result, Ok, Err, IsOk, if◌then◌else◌}
+-- A row says from which states, to which state, what is issued, and which date forbids it; a deed that no row has is
+-- not done now.
+use Rattle.std.specs.Prelude.{◌≡◌, ℕ, Bool, true, false, not, [], ◌∷◌, Option, Some, None, Result, Ok, Err, IsOk, if◌then◌else◌}
 use Rattle.std.specs.Option.{unwrap_or}
 use Rattle.ill_values.specs.Day.{Date}
 use Rattle.ill_values.specs.declared.apdu.Apdu.{Apdu}
@@ -13,10 +15,23 @@ use Rattle.ill_core.specs.declared.refusal.Refusal.{Refusal}
 use Rattle.ill_core.specs.declared.refusal.Refusal.TheVariants as refusals
 use Rattle.ill_core.specs.declared.responder.Deed.{Deed}
 use Rattle.ill_core.specs.declared.responder.Deed.TheVariants as deeds
+use Rattle.ill_core.specs.declared.responder.actions.Row.{Row}
 use Rattle.ill_core.specs.State.{is_among}
 use Rattle.ill_core.specs.Dates.{is_before, is_after_due}
 use Rattle.ill_core.specs.Issued.{next_number, with_next}
 use Rattle.ill_core.specs.Responder.{ResponderRecord, due_of}
+
+-- to this state, and this is issued
+abbrev pub leads_to : State → Body → Result Row Refusal
+leads_to next body = Ok (record { next = next; body = body })
+
+abbrev pub not_now : ResponderRecord → Result Row Refusal
+not_now y = Err (refusals.NotNow y.state)
+
+-- a date that forbids it goes before the row
+abbrev pub if_allowed : Bool → Refusal → Result Row Refusal → Result Row Refusal
+if_allowed true refusal row = row
+if_allowed false refusal row = Err refusal
 
 -- the state that an ILL-Answer leads to
 abbrev pub after_answer : AnswerResult → State
@@ -25,28 +40,58 @@ after_answer results.WillSupply = InProcess
 after_answer results.HoldPlaced = InProcess
 after_answer other = NotSupplied
 
-abbrev pub after_renew_answer : ResponderRecord → Bool → Option State
-after_renew_answer y answer =
-    if is_among (RenewPending ∷ []) y.state then Some Shipped
-    else if is_among (RenewOverdue ∷ []) y.state then Some (if answer then Shipped else Overdue)
-    else None
+abbrev pub answer_row : ResponderRecord → AnswerResult → Result Row Refusal
+answer_row y answer =
+    if is_among (InProcess ∷ []) y.state then leads_to (after_answer answer) (types.IllAnswer answer)
+    else not_now y
 
-abbrev pub after_overdue : ResponderRecord → Option State
-after_overdue y =
-    if is_among (Shipped ∷ []) y.state then Some Overdue
-    else if is_among (RenewPending ∷ []) y.state then Some RenewOverdue
-    else None
+-- the number of the last Cancel taken, which is there while that waits; and so with the last Renew
+abbrev pub cancel_reply_row : ResponderRecord → Bool → Result Row Refusal
+cancel_reply_row y answer =
+    if is_among (CancelPending ∷ []) y.state
+    then leads_to (if answer then Cancelled else InProcess) (types.CancelReply (unwrap_or y.last_cancel 0) answer)
+    else not_now y
 
--- the state that a deed leads to, if it has a place now
-abbrev pub deed_leads : ResponderRecord → Deed → Option State
-deed_leads y (deeds.Answer answer) = if is_among (InProcess ∷ []) y.state then Some (after_answer answer) else None
-deed_leads y (deeds.CancelReply answer) = if is_among (CancelPending ∷ []) y.state then Some (if answer then Cancelled else InProcess) else None
-deed_leads y (deeds.Ship due) = if is_among (InProcess ∷ []) y.state then Some Shipped else None
-deed_leads y (deeds.RenewAnswer granted) = after_renew_answer y (is_some granted)
-deed_leads y deeds.Overdue = after_overdue y
-deed_leads y deeds.Recall = if is_among (Shipped ∷ Overdue ∷ []) y.state then Some Recall else None
-deed_leads y deeds.CheckIn = if is_among (Returned ∷ []) y.state then Some CheckedIn else None
-deed_leads y deeds.Expire = if is_among (InProcess ∷ Conditional ∷ []) y.state then Some NotSupplied else None
+abbrev pub ship_row : ResponderRecord → Date → Date → Result Row Refusal
+ship_row y due today =
+    if is_among (InProcess ∷ []) y.state
+    then if_allowed (not (is_before due today)) refusals.DateEarlier (leads_to Shipped (types.Shipped due))
+    else not_now y
+
+-- a renewal, which has to be later than the due date, or none
+abbrev pub renewed : ResponderRecord → State → Option Date → Result Row Refusal
+renewed y unrenewed None = leads_to unrenewed (types.RenewAnswer (unwrap_or y.last_renew 0) None)
+renewed y unrenewed (Some d) =
+    if_allowed (is_after_due d (due_of y)) refusals.DateNotLater (leads_to Shipped (types.RenewAnswer (unwrap_or y.last_renew 0) (Some d)))
+
+abbrev pub renew_answer_row : ResponderRecord → Option Date → Result Row Refusal
+renew_answer_row y granted =
+    if is_among (RenewPending ∷ []) y.state then renewed y Shipped granted
+    else if is_among (RenewOverdue ∷ []) y.state then renewed y Overdue granted
+    else not_now y
+
+abbrev pub no_date : Date
+no_date = record { year = 0; month = 0; day = 0 }
+
+-- the due date, which is there once the item was shipped
+abbrev pub overdue : ResponderRecord → Date → State → Result Row Refusal
+overdue y today next = if_allowed (is_after_due today (due_of y)) refusals.NotDue (leads_to next (types.Overdue (unwrap_or (due_of y) no_date)))
+
+abbrev pub overdue_row : ResponderRecord → Date → Result Row Refusal
+overdue_row y today =
+    if is_among (Shipped ∷ []) y.state then overdue y today Overdue
+    else if is_among (RenewPending ∷ []) y.state then overdue y today RenewOverdue
+    else not_now y
+
+abbrev pub recall_row : ResponderRecord → Result Row Refusal
+recall_row y =
+    if is_among (Shipped ∷ Overdue ∷ []) y.state then leads_to Recall types.Recall
+    else not_now y
+
+abbrev pub check_in_row : ResponderRecord → Result Row Refusal
+check_in_row y =
+    if is_among (Returned ∷ []) y.state then leads_to CheckedIn types.CheckedIn
+    else not_now y
 
 -- the expiry date of a request
 abbrev pub expiry_in : Body → Option Date
@@ -57,27 +102,22 @@ abbrev pub expiry_of : Option Apdu → Option Date
 expiry_of None = None
 expiry_of (Some a) = expiry_in a.body
 
--- why the dates forbid a deed today, if they do
-abbrev pub date_refusal : ResponderRecord → Deed → Date → Option Refusal
-date_refusal y (deeds.Ship due) today = if is_before due today then Some refusals.DateEarlier else None
-date_refusal y (deeds.RenewAnswer (Some d)) today = if is_after_due d (due_of y) then None else Some refusals.DateNotLater
-date_refusal y deeds.Overdue today = if is_after_due today (due_of y) then None else Some refusals.NotDue
-date_refusal y deeds.Expire today = if is_after_due today (expiry_of y.request) then None else Some refusals.NotExpired
-date_refusal y other today = None
+abbrev pub expire_row : ResponderRecord → Date → Result Row Refusal
+expire_row y today =
+    if is_among (InProcess ∷ Conditional ∷ []) y.state
+    then if_allowed (is_after_due today (expiry_of y.request)) refusals.NotExpired (leads_to NotSupplied types.Expired)
+    else not_now y
 
-abbrev pub no_date : Date
-no_date = record { year = 0; month = 0; day = 0 }
-
--- what a deed issues; the numbers and the date are those of the record, which are there where the deed has a place
-abbrev pub body_issued : ResponderRecord → Deed → Body
-body_issued y (deeds.Answer answer) = types.IllAnswer answer
-body_issued y (deeds.CancelReply answer) = types.CancelReply (unwrap_or y.last_cancel 0) answer
-body_issued y (deeds.Ship due) = types.Shipped due
-body_issued y (deeds.RenewAnswer granted) = types.RenewAnswer (unwrap_or y.last_renew 0) granted
-body_issued y deeds.Overdue = types.Overdue (unwrap_or (due_of y) no_date)
-body_issued y deeds.Recall = types.Recall
-body_issued y deeds.CheckIn = types.CheckedIn
-body_issued y deeds.Expire = types.Expired
+-- the row of a deed, or why it has no place now, or which date forbids it
+abbrev pub row_of : ResponderRecord → Deed → Date → Result Row Refusal
+row_of y (deeds.Answer answer) today = answer_row y answer
+row_of y (deeds.CancelReply answer) today = cancel_reply_row y answer
+row_of y (deeds.Ship due) today = ship_row y due today
+row_of y (deeds.RenewAnswer granted) today = renew_answer_row y granted
+row_of y deeds.Overdue today = overdue_row y today
+row_of y deeds.Recall today = recall_row y
+row_of y deeds.CheckIn today = check_in_row y
+row_of y deeds.Expire today = expire_row y today
 
 -- the record in a state, with one APDU more
 abbrev pub issues_to : ResponderRecord → Body → State → ResponderRecord
@@ -93,18 +133,21 @@ issues_to y body state =
       issued = with_next y.txn y.issued body;
     }
 
-abbrev pub deed_acts_to : ResponderRecord → Deed → Option State → Option Refusal → Result ℕ Refusal → Result ResponderRecord Refusal
-deed_acts_to y deed None dates number = Err (refusals.NotNow y.state)
-deed_acts_to y deed (Some state) (Some refusal) number = Err refusal
-deed_acts_to y deed (Some state) None (Err refusal) = Err refusal
-deed_acts_to y deed (Some state) None (Ok number) = Ok (issues_to y (body_issued y deed) state)
+-- the record after a row
+abbrev pub record_after : ResponderRecord → Row → ResponderRecord
+record_after y row = issues_to y row.body row.next
+
+abbrev pub acts_by : ResponderRecord → Result Row Refusal → Result ℕ Refusal → Result ResponderRecord Refusal
+acts_by y (Err refusal) number = Err refusal
+acts_by y (Ok row) (Err refusal) = Err refusal
+acts_by y (Ok row) (Ok number) = Ok (record_after y row)
 
 -- The record after a deed, or why it is refused: first that it has no place now, then its date, then that all numbers are used.
-abbrev pub deed_acts : ResponderRecord → Deed → Date → Result ResponderRecord Refusal
-deed_acts y deed today = deed_acts_to y deed (deed_leads y deed) (date_refusal y deed today) (next_number y.issued)
+abbrev pub acts : ResponderRecord → Deed → Date → Result ResponderRecord Refusal
+acts y deed today = acts_by y (row_of y deed today) (next_number y.issued)
 
 -- What a responder answers to a deed, and the record after it. Memory is wanted only where the deed would be done.
-abbrev pub DeedActs : ResponderRecord → Deed → Date → Result Unit Refusal → ResponderRecord → Type 0
-DeedActs old deed today (Ok done) new = deed_acts old deed today ≡ Ok new
-DeedActs old deed today (Err refusals.OutOfMemory) new = IsOk (deed_acts old deed today) × (new ≡ old)
-DeedActs old deed today (Err refusal) new = (deed_acts old deed today ≡ Err refusal) × (new ≡ old)
+abbrev pub Acts : ResponderRecord → Deed → Date → Result Unit Refusal → ResponderRecord → Type 0
+Acts old deed today (Ok done) new = acts old deed today ≡ Ok new
+Acts old deed today (Err refusals.OutOfMemory) new = IsOk (acts old deed today) × (new ≡ old)
+Acts old deed today (Err refusal) new = (acts old deed today ≡ Err refusal) × (new ≡ old)

@@ -10,89 +10,75 @@ use Rattle.ill_core.specs.declared.state.State.TheVariants.{Idle, InProcess, Con
 use Rattle.ill_core.specs.declared.refusal.Refusal.{Refusal}
 use Rattle.ill_core.specs.declared.refusal.Refusal.TheVariants as refusals
 use Rattle.ill_core.specs.declared.taking.Taking.{Taking}
-use Rattle.ill_core.specs.declared.taking.Taking.TheVariants.{Taken, Repeat, Stale, Conflict}
+use Rattle.ill_core.specs.declared.taking.Taking.TheVariants.{Taken}
 use Rattle.ill_core.specs.State.{is_among}
+use Rattle.ill_core.specs.Answers.{taken, repeat, stale, conflict, unless_refused}
 use Rattle.ill_core.specs.Issued.{was, names_conditions, is_requesters, is_the, is_at_most, refused_before, next_number}
-use Rattle.ill_core.specs.Responder.{ResponderRecord, outstanding, responder_later}
+use Rattle.ill_core.specs.Responder.{ResponderRecord, outstanding, later}
 use Rattle.ill_core.specs.ResponderActions.{issues_to}
 
--- what a delivery answers, or why it is refused, and the record after it
-abbrev pub repeated : ResponderRecord → Result Taking Refusal × ResponderRecord
-repeated y = (Ok Repeat, y)
+abbrev pub take_request : ResponderRecord → Apdu → Result Taking Refusal × ResponderRecord
+take_request y a =
+    if is_among (Idle ∷ []) y.state then taken (record y { state = InProcess; request = Some a })
+    else repeat y
 
-abbrev pub conflicting : ResponderRecord → Result Taking Refusal × ResponderRecord
-conflicting y = (Ok (Conflict y.state), y)
-
--- taken, and the record has this state
-abbrev pub taken_to : State → ResponderRecord → Result Taking Refusal × ResponderRecord
-taken_to state y = (Ok Taken, record y { state = state })
-
-abbrev pub request_comes : ResponderRecord → Apdu → Result Taking Refusal × ResponderRecord
-request_comes y a =
-    if is_among (Idle ∷ []) y.state then taken_to InProcess (record y { request = Some a })
-    else repeated y
-
-abbrev pub yes_comes : ResponderRecord → ℕ → Result Taking Refusal × ResponderRecord
-yes_comes y c =
-    if is_the c (outstanding y) then taken_to InProcess (record y { accepted = Some c })
-    else if is_the c y.accepted then repeated y
-    else if was names_conditions y.issued c then (Ok Stale, y)
-    else conflicting y
+abbrev pub take_yes : ResponderRecord → ℕ → Result Taking Refusal × ResponderRecord
+take_yes y c =
+    if is_the c (outstanding y) then taken (record y { state = InProcess; accepted = Some c })
+    else if is_the c y.accepted then repeat y
+    else if was names_conditions y.issued c then stale y
+    else conflict y.state y
 
 -- the answer to a no, where a number is left for it
 abbrev pub answers_no : ResponderRecord → Result ℕ Refusal → Result Taking Refusal × ResponderRecord
-answers_no y (Ok number) = (Ok Taken, issues_to y (types.IllAnswer Unfilled) NotSupplied)
+answers_no y (Ok number) = taken (issues_to y (types.IllAnswer Unfilled) NotSupplied)
 answers_no y (Err refusal) = (Err refusal, y)
 
-abbrev pub no_comes : ResponderRecord → Result Taking Refusal × ResponderRecord
-no_comes y =
+abbrev pub take_no : ResponderRecord → Result Taking Refusal × ResponderRecord
+take_no y =
     if is_among (InProcess ∷ Conditional ∷ []) y.state then answers_no y (next_number y.issued)
-    else if is_among (NotSupplied ∷ []) y.state then repeated y
-    else conflicting y
+    else if is_among (NotSupplied ∷ []) y.state then repeat y
+    else conflict y.state y
 
-abbrev pub cancel_comes : ResponderRecord → ℕ → Result Taking Refusal × ResponderRecord
-cancel_comes y n =
-    if is_at_most n y.last_cancel then repeated y
-    else if is_among (InProcess ∷ Conditional ∷ []) y.state then taken_to CancelPending (record y { last_cancel = Some n })
-    else conflicting y
+abbrev pub take_cancel : ResponderRecord → ℕ → Result Taking Refusal × ResponderRecord
+take_cancel y n =
+    if is_at_most n y.last_cancel then repeat y
+    else if is_among (InProcess ∷ Conditional ∷ []) y.state then taken (record y { state = CancelPending; last_cancel = Some n })
+    else conflict y.state y
 
-abbrev pub received_comes : ResponderRecord → Result Taking Refusal × ResponderRecord
-received_comes y =
-    if is_among responder_later y.state && not y.received then (Ok Taken, record y { received = true })
-    else if is_among responder_later y.state then repeated y
-    else conflicting y
+abbrev pub take_received : ResponderRecord → Result Taking Refusal × ResponderRecord
+take_received y =
+    if is_among later y.state && not y.received then taken (record y { received = true })
+    else if is_among later y.state then repeat y
+    else conflict y.state y
 
-abbrev pub renew_comes : ResponderRecord → ℕ → Result Taking Refusal × ResponderRecord
-renew_comes y n =
-    if is_at_most n y.last_renew then repeated y
-    else if is_among (Shipped ∷ []) y.state then taken_to RenewPending (record y { last_renew = Some n })
-    else if is_among (Overdue ∷ []) y.state then taken_to RenewOverdue (record y { last_renew = Some n })
-    else conflicting y
+abbrev pub take_renew : ResponderRecord → ℕ → Result Taking Refusal × ResponderRecord
+take_renew y n =
+    if is_at_most n y.last_renew then repeat y
+    else if is_among (Shipped ∷ []) y.state then taken (record y { state = RenewPending; last_renew = Some n })
+    else if is_among (Overdue ∷ []) y.state then taken (record y { state = RenewOverdue; last_renew = Some n })
+    else conflict y.state y
 
-abbrev pub returned_comes : ResponderRecord → Result Taking Refusal × ResponderRecord
-returned_comes y =
-    if is_among (Shipped ∷ RenewPending ∷ Overdue ∷ RenewOverdue ∷ Recall ∷ []) y.state then taken_to Returned y
-    else if is_among (Returned ∷ CheckedIn ∷ []) y.state then repeated y
-    else conflicting y
+abbrev pub take_returned : ResponderRecord → Result Taking Refusal × ResponderRecord
+take_returned y =
+    if is_among (Shipped ∷ RenewPending ∷ Overdue ∷ RenewOverdue ∷ Recall ∷ []) y.state then taken (record y { state = Returned })
+    else if is_among (Returned ∷ CheckedIn ∷ []) y.state then repeat y
+    else conflict y.state y
 
 -- what an APDU of a requester does
-abbrev pub message_comes : ResponderRecord → Apdu → Body → Result Taking Refusal × ResponderRecord
-message_comes y a (types.IllRequest expiry item) = request_comes y a
-message_comes y a (types.ConditionalReply c true) = yes_comes y c
-message_comes y a (types.ConditionalReply c false) = no_comes y
-message_comes y a types.Cancel = cancel_comes y a.number
-message_comes y a types.Received = received_comes y
-message_comes y a (types.Renew wished) = renew_comes y a.number
-message_comes y a types.Returned = returned_comes y
-message_comes y a other = conflicting y
-
-abbrev pub unless_refused : Option Refusal → ResponderRecord → Result Taking Refusal × ResponderRecord → Result Taking Refusal × ResponderRecord
-unless_refused (Some refusal) y answer = (Err refusal, y)
-unless_refused None y answer = answer
+abbrev pub take_message : ResponderRecord → Apdu → Body → Result Taking Refusal × ResponderRecord
+take_message y a (types.IllRequest expiry item) = take_request y a
+take_message y a (types.ConditionalReply c true) = take_yes y c
+take_message y a (types.ConditionalReply c false) = take_no y
+take_message y a types.Cancel = take_cancel y a.number
+take_message y a types.Received = take_received y
+take_message y a (types.Renew wished) = take_renew y a.number
+take_message y a types.Returned = take_returned y
+take_message y a other = conflict y.state y
 
 -- What an APDU does to a responder.
-abbrev pub responder_takes : ResponderRecord → Apdu → Result Taking Refusal × ResponderRecord
-responder_takes y a = unless_refused (refused_before y.txn (not (is_requesters a.body)) a) y (message_comes y a a.body)
+abbrev pub takes : ResponderRecord → Apdu → Result Taking Refusal × ResponderRecord
+takes y a = unless_refused (refused_before y.txn (not (is_requesters a.body)) a) y (take_message y a a.body)
 
 -- an APDU that is kept, or that is answered by issuing one, takes memory
 abbrev pub takes_memory : ResponderRecord → Body → Bool
@@ -102,10 +88,10 @@ takes_memory y other = false
 
 -- A call answers what is expected, with the record after it; or want of memory, where memory is taken for what would
 -- be taken, and the record is as it was.
-abbrev pub Comes : Result Taking Refusal × ResponderRecord → Bool → ResponderRecord → Result Taking Refusal → ResponderRecord → Type 0
-Comes expected memory old (Err refusals.OutOfMemory) new = (expected.0 ≡ Ok Taken) × (memory ≡ true) × (new ≡ old)
-Comes expected memory old answer new = (answer, new) ≡ expected
+abbrev pub MayWantMemory : Result Taking Refusal × ResponderRecord → Bool → ResponderRecord → Result Taking Refusal → ResponderRecord → Type 0
+MayWantMemory expected memory old (Err refusals.OutOfMemory) new = (expected.0 ≡ Ok Taken) × (memory ≡ true) × (new ≡ old)
+MayWantMemory expected memory old answer new = (answer, new) ≡ expected
 
 -- What a responder answers to an APDU, and the record after it.
-abbrev pub ResponderTakes : ResponderRecord → Apdu → Result Taking Refusal → ResponderRecord → Type 0
-ResponderTakes old a answer new = Comes (responder_takes old a) (takes_memory old a.body) old answer new
+abbrev pub Takes : ResponderRecord → Apdu → Result Taking Refusal → ResponderRecord → Type 0
+Takes old a answer new = MayWantMemory (takes old a) (takes_memory old a.body) old answer new

@@ -14,7 +14,7 @@ use Rattle.ill_core.specs.declared.taking.Taking.{Taking}
 use Rattle.ill_core.specs.declared.taking.Taking.TheVariants.{Taken, Repeat}
 use Rattle.ill_core.specs.State.{is_among}
 use Rattle.ill_core.specs.Issued.{has, with_next, is_at_most, is_below, are_distinct, is_final, is_shipped, is_cancel, is_renew, declines}
-use Rattle.ill_core.specs.Responder.{ResponderRecord, responder_later}
+use Rattle.ill_core.specs.Responder.{ResponderRecord, later}
 
 -- what a message of the requester may tell
 pub data ResponderFact : Type 0 where
@@ -29,21 +29,21 @@ abbrev pub cancels : ℕ → Body → Bool
 cancels n (types.CancelReply c true) = c == n
 cancels n other = false
 
-abbrev pub ResponderShows : ResponderRecord → ResponderFact → Type 0
-ResponderShows y Requested = is_among (Idle ∷ []) y.state ≡ false
-ResponderShows y (Accepted conditions) = y.accepted ≡ Some conditions
-ResponderShows y (CancelAsked cancel) = (y.last_cancel ≡ Some cancel) ⊎ (has (cancels cancel) y.issued ≡ true)
-ResponderShows y Arrived = y.received ≡ true
-ResponderShows y SentBack = is_among (Returned ∷ CheckedIn ∷ []) y.state ≡ true
+abbrev pub Shows : ResponderRecord → ResponderFact → Type 0
+Shows y Requested = is_among (Idle ∷ []) y.state ≡ false
+Shows y (Accepted conditions) = y.accepted ≡ Some conditions
+Shows y (CancelAsked cancel) = (y.last_cancel ≡ Some cancel) ⊎ (has (cancels cancel) y.issued ≡ true)
+Shows y Arrived = y.received ≡ true
+Shows y SentBack = is_among (Returned ∷ CheckedIn ∷ []) y.state ≡ true
 
 -- what an APDU with this number tells
-abbrev pub TellsResponder : ℕ → Body → ResponderFact → Type 0
-TellsResponder number (types.IllRequest expiry item) Requested = Unit {0}
-TellsResponder number (types.ConditionalReply c true) (Accepted conditions) = c ≡ conditions
-TellsResponder number types.Cancel (CancelAsked cancel) = number ≡ cancel
-TellsResponder number types.Received Arrived = Unit {0}
-TellsResponder number types.Returned SentBack = Unit {0}
-TellsResponder number other fact = ⊥
+abbrev pub Tells : ℕ → Body → ResponderFact → Type 0
+Tells number (types.IllRequest expiry item) Requested = Unit {0}
+Tells number (types.ConditionalReply c true) (Accepted conditions) = c ≡ conditions
+Tells number types.Cancel (CancelAsked cancel) = number ≡ cancel
+Tells number types.Received Arrived = Unit {0}
+Tells number types.Returned SentBack = Unit {0}
+Tells number other fact = ⊥
 
 -- An APDU issues one ILL-Answer unfilled, where it is a Conditional-Reply no, or none.
 abbrev pub IssuesUnfilled : ResponderRecord → Body → ResponderRecord → Type 0
@@ -53,7 +53,7 @@ IssuesUnfilled y body new =
 -- SHIPPED or later stays so, and RETURNED stays or is left for CHECKED-IN.
 abbrev pub StaysLater : ResponderRecord → ResponderRecord → Type 0
 StaysLater y new =
-    (is_among responder_later y.state ≡ true → is_among responder_later new.state ≡ true)
+    (is_among later y.state ≡ true → is_among later new.state ≡ true)
     × (is_among (Returned ∷ []) y.state ≡ true → is_among (Returned ∷ CheckedIn ∷ []) new.state ≡ true)
 
 -- The ends of a request: the item is not supplied, the request is cancelled, or the item is shipped.
@@ -71,13 +71,13 @@ is_end body = is_unsupplied body || (is_cancelled body || is_shipped body)
 
 -- the states in which an end was issued
 abbrev pub ended : List State
-ended = NotSupplied ∷ Cancelled ∷ responder_later
+ended = NotSupplied ∷ Cancelled ∷ later
 
 -- the state is one that an end leads to
 abbrev pub ends_in : Body → State → Bool
 ends_in body state =
     (is_unsupplied body && is_among (NotSupplied ∷ []) state)
-    || ((is_cancelled body && is_among (Cancelled ∷ []) state) || (is_shipped body && is_among responder_later state))
+    || ((is_cancelled body && is_among (Cancelled ∷ []) state) || (is_shipped body && is_among later state))
 
 -- An end is issued only while the request is open, and leads to its state.
 abbrev pub Ends : ResponderRecord → ResponderRecord → Type 0
@@ -95,7 +95,7 @@ EntersByEnd y new =
 pub record EndsOnce (y : ResponderRecord) : Type 0 where
   pub unsupplied : has is_unsupplied y.issued ≡ is_among (NotSupplied ∷ []) y.state
   pub cancelled : has is_cancelled y.issued ≡ is_among (Cancelled ∷ []) y.state
-  pub shipped : has is_shipped y.issued ≡ is_among responder_later y.state
+  pub shipped : has is_shipped y.issued ≡ is_among later y.state
   pub once : count_by (λ a. is_end a.body) y.issued ≡ (if is_among ended y.state then 1 else 0)
 
 -- what a requester asks, and a responder answers yes or no
@@ -144,14 +144,14 @@ abbrev pub answers_to : Question → List Apdu → List ℕ
 answers_to question apdus = filter_map (λ a. answered question a.body) apdus
 
 -- No question is answered twice. Those answered are at most the last one, and below it while it waits.
-pub record EachAnsweredOnce (answers : List ℕ) (last : Option ℕ) (is_waiting : Bool) : Type 0 where
+pub record AnsweredOnce (answers : List ℕ) (last : Option ℕ) (is_waiting : Bool) : Type 0 where
   pub distinct : are_distinct answers ≡ true
   pub most : list_all (λ n. is_at_most n last) answers ≡ true
   pub below : is_waiting ≡ true → list_all (λ n. is_below n last) answers ≡ true
 
-abbrev pub AnswersEachOnce : Question → ResponderRecord → Type 0
-AnswersEachOnce question y = EachAnsweredOnce (answers_to question y.issued) (last_asked question y) (waits question y.state)
+abbrev pub AnswersOnce : Question → ResponderRecord → Type 0
+AnswersOnce question y = AnsweredOnce (answers_to question y.issued) (last_asked question y) (waits question y.state)
 
 -- taken or a repeat, and the record after it is in one of these states
-abbrev pub ResponderLeadsTo : List State → Result Taking Refusal × ResponderRecord → Type 0
-ResponderLeadsTo states answer = ((answer.0 ≡ Ok Taken) ⊎ (answer.0 ≡ Ok Repeat)) × (is_among states answer.1.state ≡ true)
+abbrev pub LeadsTo : List State → Result Taking Refusal × ResponderRecord → Type 0
+LeadsTo states answer = ((answer.0 ≡ Ok Taken) ⊎ (answer.0 ≡ Ok Repeat)) × (is_among states answer.1.state ≡ true)

@@ -9,8 +9,9 @@ ghost use Rattle.ill_core.specs.declared.state.State.TheVariants as State;
 ghost use Rattle.ill_core.specs.Issued.{message};
 ghost use Rattle.ill_core.specs.Requester.{RequesterRecord, requester_of, IsRequester, accepted, is_declined, is_received_by};
 ghost use Rattle.ill_core.specs.RequesterActions.{Acts};
-ghost use Rattle.ill_core.specs.RequesterDeliveries.{takes};
+ghost use Rattle.ill_core.specs.RequesterDeliveries.{Takes};
 
+use actions::Row;
 use crate::issued::{Issued, Sought, are_numbered, is_requesters};
 use crate::refusal::Refusal;
 use crate::state::State;
@@ -90,16 +91,11 @@ impl Requester {
     }
 
     /// Does what its library decides, and issues the message that tells it.
-    #[tactic(auto, using(crate::proofs::RequesterKept::wish_kept))]
     pub fn act(&mut self, alloc: Global, wish: &Wish) -> Result<(), Refusal>
         ensures { Acts self.old wish.now result self.new }
     {
-        let Some(next) = actions::next_state(self, wish) else {
-            return Err(Refusal::NotNow(self.state));
-        };
+        let Row { next, body, held } = actions::row_of(self, alloc, wish)?;
         let number = self.issued.next_number()?;
-        let body = actions::body_of(self, alloc, wish)?;
-        let held = actions::held_after(self, wish);
         self.issued.issue(alloc, number, body)?;
         self.state = next;
         self.held = held;
@@ -108,10 +104,10 @@ impl Requester {
 
     /// Takes a message of the responder.
     pub fn take(&mut self, apdu: &Apdu) -> Result<Taking, Refusal>
-        ensures { (result, self.new) ≡ takes self.old apdu.now }
+        ensures { Takes self.old apdu.now result self.new }
     {
         self.issued.admit(apdu, is_requesters(&apdu.body))?;
-        Ok(deliveries::comes(self, apdu.number, &apdu.body))
+        Ok(deliveries::take_message(self, apdu))
     }
 
     /// The transaction.

@@ -8,9 +8,10 @@ ghost use Rattle.std.specs.Prelude.{◌≡◌, ◌↔◌, [], None, false, lengt
 ghost use Rattle.ill_core.specs.declared.state.State.TheVariants as State;
 ghost use Rattle.ill_core.specs.Issued.{message};
 ghost use Rattle.ill_core.specs.Responder.{ResponderRecord, responder_of, IsResponder, due_of, outstanding};
-ghost use Rattle.ill_core.specs.ResponderActions.{DeedActs};
-ghost use Rattle.ill_core.specs.ResponderDeliveries.{ResponderTakes};
+ghost use Rattle.ill_core.specs.ResponderActions.{Acts};
+ghost use Rattle.ill_core.specs.ResponderDeliveries.{Takes};
 
+use actions::Row;
 use crate::issued::{Issued, Sought, are_numbered, is_requesters};
 use crate::refusal::Refusal;
 use crate::state::State;
@@ -118,14 +119,10 @@ impl Responder {
     /// Does what its library decides, and issues the message that tells it.
     #[tactic(auto, using(crate::proofs::ResponderKept::deed_kept))]
     pub fn act(&mut self, alloc: Global, deed: &Deed, today: Day) -> Result<(), Refusal>
-        ensures { DeedActs self.old deed.now today result self.new }
+        ensures { Acts self.old deed.now today result self.new }
     {
-        let Some(next) = actions::next_state(self, deed) else {
-            return Err(Refusal::NotNow(self.state));
-        };
-        actions::check_dates(self, deed, today)?;
+        let Row { next, body } = actions::row_of(self, deed, today)?;
         let number = self.issued.next_number()?;
-        let body = actions::body_of(self, deed);
         self.issued.issue(alloc, number, body)?;
         self.state = next;
         Ok(())
@@ -133,10 +130,10 @@ impl Responder {
 
     /// Takes a message of the requester.
     pub fn take(&mut self, alloc: Global, apdu: &Apdu) -> Result<Taking, Refusal>
-        ensures { ResponderTakes self.old apdu.now result self.new }
+        ensures { Takes self.old apdu.now result self.new }
     {
         self.issued.admit(apdu, !is_requesters(&apdu.body))?;
-        deliveries::comes(self, alloc, apdu)
+        deliveries::take_message(self, alloc, apdu)
     }
 
     /// The transaction.

@@ -17,14 +17,12 @@ ghost use Rattle.ill_core.specs.RequesterFacts.{RequesterFact, Shows, Tells, Kee
 ghost use Rattle.ill_core.specs.RequesterFacts as facts;
 
 /// A wish issues exactly one APDU, with the next number, and a message none.
-#[tactic(auto, using(crate::proofs::RequesterLaws::takes_issues))]
 pub fn requester_issues()
     ensures acts { (x new : RequesterRecord) (wish : Wish) → acts x wish ≡ Ok new → IssuesNext x.txn x.issued new.issued }
     ensures takes { (x : RequesterRecord) (a : Apdu) → (takes x a).1.issued ≡ x.issued }
 {}
 
 /// The transaction stays.
-#[tactic(auto, using(crate::proofs::RequesterLaws::takes_txn))]
 pub fn requester_keeps_txn()
     ensures acts { (x new : RequesterRecord) (wish : Wish) → acts x wish ≡ Ok new → new.txn ≡ x.txn }
     ensures takes { (x : RequesterRecord) (a : Apdu) → (takes x a).1.txn ≡ x.txn }
@@ -37,13 +35,11 @@ pub fn requester_keeps_rules()
 {}
 
 /// A message that is not taken changes nothing.
-#[tactic(auto, using(crate::proofs::RequesterLaws::takes_quiet))]
 pub fn requester_is_quiet()
     ensures { (x : RequesterRecord) (a : Apdu) → ((takes x a).0 ≡ Ok Taken) ⊎ ((takes x a).1 ≡ x) }
 {}
 
 /// CANCELLED, NOT-SUPPLIED and RETURNED are final.
-#[tactic(auto, using(crate::proofs::RequesterLaws::takes_final))]
 pub fn requester_is_final()
     ensures acts { (x new : RequesterRecord) (wish : Wish) → acts x wish ≡ Ok new →
         is_among (states.Cancelled ∷ states.NotSupplied ∷ states.Returned ∷ []) x.state ≡ true → new.state ≡ x.state }
@@ -52,7 +48,6 @@ pub fn requester_is_final()
 {}
 
 /// A requester in SHIPPED or later stays there.
-#[tactic(auto, using(crate::proofs::RequesterLaws::takes_later))]
 pub fn requester_stays_later()
     ensures acts { (x new : RequesterRecord) (wish : Wish) → acts x wish ≡ Ok new →
         is_among later x.state ≡ true → is_among later new.state ≡ true }
@@ -61,7 +56,6 @@ pub fn requester_stays_later()
 {}
 
 /// A due date is kept or raised, where it is there exactly in SHIPPED or later.
-#[tactic(auto, using(crate::proofs::RequesterLaws::takes_due))]
 pub fn requester_keeps_due()
     ensures acts { (x new : RequesterRecord) (wish : Wish) → acts x wish ≡ Ok new → new.due ≡ x.due }
     ensures takes { (x : RequesterRecord) (a : Apdu) →
@@ -69,7 +63,6 @@ pub fn requester_keeps_due()
 {}
 
 /// What a record shows to have come was shown before, or is told by the message that it took.
-#[tactic(auto, using(crate::proofs::RequesterLaws::takes_shows, crate::proofs::RequesterLaws::acts_shows))]
 pub fn requester_shows()
     ensures acts { (x new : RequesterRecord) (wish : Wish) (fact : RequesterFact) → acts x wish ≡ Ok new →
         Shows new fact → Shows x fact }
@@ -78,13 +71,11 @@ pub fn requester_shows()
 {}
 
 /// A Conditional-Reply is issued only in CONDITIONAL, to the conditions held, which were not declined.
-#[tactic(auto, using(crate::proofs::RequesterAnswers::acts_reply))]
 pub fn requester_replies()
     ensures { (x new : RequesterRecord) (wish : Wish) → acts x wish ≡ Ok new → Replies x new }
 {}
 
 /// Conditions are held as they were, or no more, or are new ones in PENDING, above those accepted.
-#[tactic(auto, using(crate::proofs::RequesterLaws::takes_holds))]
 pub fn requester_holds()
     ensures { (x : RequesterRecord) (a : Apdu) → Holds x a.number (takes x a).1 }
 {}

@@ -1,101 +1,122 @@
-//! What a requester does: where each wish leads, and what it issues.
+//! What a requester does: its table of actions.
 
-ghost use Rattle.std.specs.Prelude.{◌≡◌, IsSome, IfOk, IfErr};
-ghost use Rattle.ill_core.specs.declared.refusal.Refusal.TheVariants as refusals;
-ghost use Rattle.ill_core.specs.RequesterActions.{next_state, body_of, after_reply, after_receive, after_return, held_after};
+ghost use Rattle.std.specs.Prelude.{◌≡◌};
+ghost use Rattle.ill_core.specs.declared.requester.Wish.TheVariants as wishes;
+ghost use Rattle.ill_core.specs.RequesterActions.{FindsRow, leads_to, cancel_row, reply_row, receive_row, renew_row, return_row};
 
 use super::{Requester, Wish};
 use crate::refusal::Refusal;
 use crate::state::State;
-use ill_values::{Body, Number};
+use ill_values::{Body, Day, Item, Number};
 use std::alloc::Global;
 
-/// The state that the wish leads to, or `None` where it has no place now.
-pub fn next_state(requester: &Requester, wish: &Wish) -> Option<State>
-    ensures { result ≡ next_state requester.now wish.now }
+/// Where a wish leads.
+#[derive(Debug, Drop)]
+pub struct Row {
+    pub next: State,
+    /// What is issued.
+    pub body: Body,
+    /// The conditions that are held then.
+    pub held: Option<Number>,
+}
+
+/// Where the wish leads, or why it is not done.
+pub fn row_of(requester: &Requester, alloc: Global, wish: &Wish) -> Result<Row, Refusal>
+    ensures { FindsRow requester.now wish.now result }
 {
     match wish {
-        Wish::Request { .. } => match requester.state {
-            State::Idle => Some(State::Pending),
-            _ => None,
-        },
-        Wish::Cancel => match requester.state {
-            State::Pending => Some(State::CancelPending),
-            _ => None,
-        },
-        Wish::Reply { yes } => after_reply(requester, *yes),
-        Wish::Receive => after_receive(requester),
-        Wish::Renew { .. } => match requester.state {
-            State::Received => Some(State::RenewPending),
-            State::Overdue => Some(State::RenewOverdue),
-            _ => None,
-        },
-        Wish::Return => after_return(requester),
+        Wish::Request { expiry, item } => request_row(requester, alloc, *expiry, item),
+        Wish::Cancel => cancel_row(requester),
+        Wish::Reply { yes } => reply_row(requester, *yes),
+        Wish::Receive => receive_row(requester),
+        Wish::Renew { wished } => renew_row(requester, *wished),
+        Wish::Return => return_row(requester),
     }
 }
 
-fn after_reply(requester: &Requester, yes: bool) -> Option<State>
-    ensures { result ≡ after_reply requester.now yes }
+/// To this state, and this is issued; the conditions stay as they are.
+fn leads_to(next: State, body: Body, requester: &Requester) -> Result<Row, Refusal>
+    ensures { result ≡ leads_to next body requester.now }
+{
+    let held = requester.held;
+    Ok(Row { next, body, held })
+}
+
+fn request_row(
+    requester: &Requester,
+    alloc: Global,
+    expiry: Option<Day>,
+    item: &Item,
+) -> Result<Row, Refusal>
+    ensures { FindsRow requester.now (wishes.Request expiry item.now) result }
 {
     match requester.state {
-        State::Conditional if requester.is_declined() => None,
-        State::Conditional if yes => Some(State::Pending),
-        State::Conditional => Some(State::Conditional),
-        _ => None,
+        State::Idle => {
+            let item = item.copy(alloc)?;
+            leads_to(State::Pending, Body::IllRequest { expiry, item }, requester)
+        }
+        state => Err(Refusal::NotNow(state)),
     }
 }
 
-fn after_receive(requester: &Requester) -> Option<State>
-    ensures { result ≡ after_receive requester.now }
+fn cancel_row(requester: &Requester) -> Result<Row, Refusal>
+    ensures { result ≡ cancel_row requester.now }
 {
     match requester.state {
-        State::Shipped => Some(State::Received),
-        State::NotReceivedOverdue => Some(State::Overdue),
-        State::Recall if !requester.is_received() => Some(State::Recall),
-        _ => None,
+        State::Pending => leads_to(State::CancelPending, Body::Cancel, requester),
+        state => Err(Refusal::NotNow(state)),
     }
 }
 
-fn after_return(requester: &Requester) -> Option<State>
-    ensures { result ≡ after_return requester.now }
+fn reply_row(requester: &Requester, yes: bool) -> Result<Row, Refusal>
+    ensures { result ≡ reply_row requester.now yes }
+{
+    let (State::Conditional, Some(answers), false) =
+        (requester.state, requester.held, requester.is_declined())
+    else {
+        return Err(Refusal::NotNow(requester.state));
+    };
+    let body = Body::ConditionalReply { answers, yes };
+    if yes {
+        let next = State::Pending;
+        return Ok(Row { next, body, held: None });
+    }
+    leads_to(State::Conditional, body, requester)
+}
+
+fn receive_row(requester: &Requester) -> Result<Row, Refusal>
+    ensures { result ≡ receive_row requester.now }
+{
+    match requester.state {
+        State::Shipped => leads_to(State::Received, Body::Received, requester),
+        State::NotReceivedOverdue => leads_to(State::Overdue, Body::Received, requester),
+        State::Recall if !requester.is_received() => {
+            leads_to(State::Recall, Body::Received, requester)
+        }
+        state => Err(Refusal::NotNow(state)),
+    }
+}
+
+fn renew_row(requester: &Requester, wished: Option<Day>) -> Result<Row, Refusal>
+    ensures { result ≡ renew_row requester.now wished }
+{
+    match requester.state {
+        State::Received => leads_to(State::RenewPending, Body::Renew { wished }, requester),
+        State::Overdue => leads_to(State::RenewOverdue, Body::Renew { wished }, requester),
+        state => Err(Refusal::NotNow(state)),
+    }
+}
+
+fn return_row(requester: &Requester) -> Result<Row, Refusal>
+    ensures { result ≡ return_row requester.now }
 {
     match requester.state {
         State::Received | State::RenewPending | State::Overdue | State::RenewOverdue => {
-            Some(State::Returned)
+            leads_to(State::Returned, Body::Returned, requester)
         }
-        State::Recall if requester.is_received() => Some(State::Returned),
-        _ => None,
+        State::Recall if requester.is_received() => {
+            leads_to(State::Returned, Body::Returned, requester)
+        }
+        state => Err(Refusal::NotNow(state)),
     }
-}
-
-/// The conditions that stand after the wish.
-pub fn held_after(requester: &Requester, wish: &Wish) -> Option<Number>
-    ensures { result ≡ held_after requester.now wish.now }
-{
-    match wish {
-        Wish::Reply { yes: true } => None,
-        _ => requester.held,
-    }
-}
-
-/// What the wish issues.
-pub fn body_of(requester: &Requester, alloc: Global, wish: &Wish) -> Result<Body, Refusal>
-    requires placed { IsSome (next_state requester.now wish.now) }
-    ensures body { IfOk result (λ body. body ≡ body_of requester.now wish.now) }
-    ensures memory { IfErr result (λ refusal. refusal ≡ refusals.OutOfMemory) }
-{
-    Ok(match wish {
-        Wish::Request { expiry, item } => Body::IllRequest {
-            expiry: *expiry,
-            item: item.copy(alloc)?,
-        },
-        Wish::Cancel => Body::Cancel,
-        Wish::Reply { yes } => match requester.held {
-            Some(answers) => Body::ConditionalReply { answers, yes: *yes },
-            None => unreachable!(),
-        },
-        Wish::Receive => Body::Received,
-        Wish::Renew { wished } => Body::Renew { wished: *wished },
-        Wish::Return => Body::Returned,
-    })
 }

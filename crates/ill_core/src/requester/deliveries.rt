@@ -1,10 +1,10 @@
 //! What the messages of a responder do.
 
-ghost use Rattle.std.specs.Prelude.{◌≡◌, true, [], ◌∷◌};
+ghost use Rattle.std.specs.Prelude.{◌≡◌, true, [], ◌∷◌, Ok};
 ghost use Rattle.ill_core.specs.declared.state.State.TheVariants as State;
 ghost use Rattle.ill_core.specs.Issued.{was, is_cancel, is_renew};
 ghost use Rattle.ill_core.specs.Requester.{later};
-ghost use Rattle.ill_core.specs.RequesterDeliveries.{comes, answer_comes, conditions_come, promise_comes, end_comes, cancel_reply_comes, shipped_comes, overdue_comes, renew_answer_comes, renewal_comes, recall_comes, checked_in_comes};
+ghost use Rattle.ill_core.specs.RequesterDeliveries.{take_message, take_answer, take_conditions, take_promise, take_end, take_cancel_reply, take_shipped, take_overdue, take_renew_answer, take_renewal, take_recall, take_checked_in};
 ghost use Rattle.ill_core.specs.Dates.{is_due_on};
 ghost use Rattle.ill_core.specs.State.{is_among};
 
@@ -12,39 +12,37 @@ use super::Requester;
 use crate::issued::{Sought, is_at_most};
 use crate::state::State;
 use crate::taking::Taking;
-use ill_values::{AnswerResult, Body, Day, Number};
+use ill_values::{AnswerResult, Apdu, Body, Day, Number};
 
-/// What a message with this number does.
-pub fn comes(requester: &mut Requester, number: Number, body: &Body) -> Taking
-    ensures { (result, requester.new) ≡ comes requester.old number body.now }
+/// What a message does.
+pub fn take_message(requester: &mut Requester, apdu: &Apdu) -> Taking
+    ensures { (Ok result, requester.new) ≡ take_message requester.old apdu.now apdu.now.body }
 {
-    match body {
-        Body::IllAnswer { result } => answer_comes(requester, number, *result),
-        Body::Expired => end_comes(requester),
-        Body::CancelReply { answers, yes } => cancel_reply_comes(requester, *answers, *yes),
-        Body::Shipped { due } => shipped_comes(requester, *due),
-        Body::Overdue { due } => overdue_comes(requester, *due),
-        Body::RenewAnswer { answers, granted } => {
-            renew_answer_comes(requester, *answers, *granted)
-        }
-        Body::Recall => recall_comes(requester),
-        Body::CheckedIn => checked_in_comes(requester),
+    match &apdu.body {
+        Body::IllAnswer { result } => take_answer(requester, apdu.number, *result),
+        Body::Expired => take_end(requester),
+        Body::CancelReply { answers, yes } => take_cancel_reply(requester, *answers, *yes),
+        Body::Shipped { due } => take_shipped(requester, *due),
+        Body::Overdue { due } => take_overdue(requester, *due),
+        Body::RenewAnswer { answers, granted } => take_renew_answer(requester, *answers, *granted),
+        Body::Recall => take_recall(requester),
+        Body::CheckedIn => take_checked_in(requester),
         _ => Taking::Conflict(requester.state),
     }
 }
 
-fn answer_comes(requester: &mut Requester, number: Number, answer: AnswerResult) -> Taking
-    ensures { (result, requester.new) ≡ answer_comes requester.old number answer }
+fn take_answer(requester: &mut Requester, number: Number, answer: AnswerResult) -> Taking
+    ensures { (Ok result, requester.new) ≡ take_answer requester.old number answer }
 {
     match answer {
-        AnswerResult::Conditional => conditions_come(requester, number),
-        AnswerResult::WillSupply | AnswerResult::HoldPlaced => promise_comes(requester),
-        _ => end_comes(requester),
+        AnswerResult::Conditional => take_conditions(requester, number),
+        AnswerResult::WillSupply | AnswerResult::HoldPlaced => take_promise(requester),
+        _ => take_end(requester),
     }
 }
 
-fn conditions_come(requester: &mut Requester, number: Number) -> Taking
-    ensures { (result, requester.new) ≡ conditions_come requester.old number }
+fn take_conditions(requester: &mut Requester, number: Number) -> Taking
+    ensures { (Ok result, requester.new) ≡ take_conditions requester.old number }
 {
     if is_at_most(number, requester.accepted()) {
         return Taking::Repeat;
@@ -60,8 +58,8 @@ fn conditions_come(requester: &mut Requester, number: Number) -> Taking
     }
 }
 
-fn promise_comes(requester: &Requester) -> Taking
-    ensures { (result, requester.now) ≡ promise_comes requester.now }
+fn take_promise(requester: &Requester) -> Taking
+    ensures { (Ok result, requester.now) ≡ take_promise requester.now }
 {
     match requester.state {
         State::Pending => Taking::Taken,
@@ -69,8 +67,8 @@ fn promise_comes(requester: &Requester) -> Taking
     }
 }
 
-fn end_comes(requester: &mut Requester) -> Taking
-    ensures { (result, requester.new) ≡ end_comes requester.old }
+fn take_end(requester: &mut Requester) -> Taking
+    ensures { (Ok result, requester.new) ≡ take_end requester.old }
 {
     match requester.state {
         State::NotSupplied => Taking::Repeat,
@@ -83,8 +81,8 @@ fn end_comes(requester: &mut Requester) -> Taking
     }
 }
 
-fn cancel_reply_comes(requester: &mut Requester, answers: Number, yes: bool) -> Taking
-    ensures { (result, requester.new) ≡ cancel_reply_comes requester.old answers yes }
+fn take_cancel_reply(requester: &mut Requester, answers: Number, yes: bool) -> Taking
+    ensures { (Ok result, requester.new) ≡ take_cancel_reply requester.old answers yes }
 {
     let is_last = requester.issued.last(Sought::CancelNumber) == Some(answers);
     match requester.state {
@@ -102,8 +100,8 @@ fn cancel_reply_comes(requester: &mut Requester, answers: Number, yes: bool) -> 
     }
 }
 
-fn shipped_comes(requester: &mut Requester, due: Day) -> Taking
-    ensures { (result, requester.new) ≡ shipped_comes requester.old due }
+fn take_shipped(requester: &mut Requester, due: Day) -> Taking
+    ensures { (Ok result, requester.new) ≡ take_shipped requester.old due }
 {
     match requester.state {
         State::Pending | State::Conditional | State::CancelPending => {
@@ -117,8 +115,8 @@ fn shipped_comes(requester: &mut Requester, due: Day) -> Taking
     }
 }
 
-fn overdue_comes(requester: &mut Requester, due: Day) -> Taking
-    ensures { (result, requester.new) ≡ overdue_comes requester.old due }
+fn take_overdue(requester: &mut Requester, due: Day) -> Taking
+    ensures { (Ok result, requester.new) ≡ take_overdue requester.old due }
 {
     if is_later(requester.state) && !is_due_on(due, requester.due) {
         return Taking::Stale;
@@ -141,21 +139,21 @@ fn overdue_comes(requester: &mut Requester, due: Day) -> Taking
     }
 }
 
-fn renew_answer_comes(requester: &mut Requester, answers: Number, granted: Option<Day>) -> Taking
-    ensures { (result, requester.new) ≡ renew_answer_comes requester.old answers granted }
+fn take_renew_answer(requester: &mut Requester, answers: Number, granted: Option<Day>) -> Taking
+    ensures { (Ok result, requester.new) ≡ take_renew_answer requester.old answers granted }
 {
     let is_last = requester.issued.last(Sought::RenewNumber) == Some(answers);
     match requester.state {
-        State::RenewPending | State::RenewOverdue if is_last => renewal_comes(requester, granted),
+        State::RenewPending | State::RenewOverdue if is_last => take_renewal(requester, granted),
         _ if was_renew(requester, answers) => Taking::Stale,
         state => Taking::Conflict(state),
     }
 }
 
 /// What the answer to the open Renew does.
-fn renewal_comes(requester: &mut Requester, granted: Option<Day>) -> Taking
+fn take_renewal(requester: &mut Requester, granted: Option<Day>) -> Taking
     requires open { is_among (State.RenewPending ∷ State.RenewOverdue ∷ []) requester.old.state ≡ true }
-    ensures { (result, requester.new) ≡ renewal_comes requester.old granted }
+    ensures { (Ok result, requester.new) ≡ take_renewal requester.old granted }
 {
     match granted {
         Some(day) if requester.due < Some(day) => {
@@ -174,8 +172,8 @@ fn renewal_comes(requester: &mut Requester, granted: Option<Day>) -> Taking
     }
 }
 
-fn recall_comes(requester: &mut Requester) -> Taking
-    ensures { (result, requester.new) ≡ recall_comes requester.old }
+fn take_recall(requester: &mut Requester) -> Taking
+    ensures { (Ok result, requester.new) ≡ take_recall requester.old }
 {
     match requester.state {
         State::Shipped
@@ -192,8 +190,8 @@ fn recall_comes(requester: &mut Requester) -> Taking
     }
 }
 
-fn checked_in_comes(requester: &mut Requester) -> Taking
-    ensures { (result, requester.new) ≡ checked_in_comes requester.old }
+fn take_checked_in(requester: &mut Requester) -> Taking
+    ensures { (Ok result, requester.new) ≡ take_checked_in requester.old }
 {
     match requester.state {
         State::Returned if requester.checked_in => Taking::Repeat,

@@ -1,52 +1,50 @@
-//! What a responder does: where each deed leads, when its dates allow it, and what it issues.
+//! What a responder does: its table of actions.
 
-ghost use Rattle.std.specs.Prelude.{◌≡◌, IsSome, IfErr, OnOk, Some, None, Ok, Err, ◌∷◌, []};
+ghost use Rattle.std.specs.Prelude.{◌≡◌, ◌∷◌, [], true, IsSome};
 ghost use Rattle.std.specs.Option.{unwrap_or};
-ghost use Rattle.ill_core.specs.declared.refusal.Refusal.TheVariants as refusals;
+ghost use Rattle.ill_core.specs.declared.state.State.TheVariants as states;
+ghost use Rattle.ill_core.specs.State.{is_among};
 ghost use Rattle.ill_core.specs.Dates.{is_after_due};
-ghost use Rattle.ill_core.specs.ResponderActions.{deed_leads, after_answer, after_renew_answer, date_refusal, expiry_of, body_issued};
+ghost use Rattle.ill_core.specs.ResponderActions.{leads_to, row_of, answer_row, after_answer, cancel_reply_row, ship_row, renew_answer_row, renewed, overdue_row, overdue, recall_row, check_in_row, expire_row, expiry_of};
 
 use super::{Deed, Responder};
 use crate::refusal::Refusal;
 use crate::state::State;
 use ill_values::{AnswerResult, Body, Day, Number};
 
-/// The state that the deed leads to, or `None` where it has no place now.
-pub fn next_state(responder: &Responder, deed: &Deed) -> Option<State>
-    ensures { result ≡ deed_leads responder.now deed.now }
+/// Where a deed leads.
+#[derive(Debug, Drop)]
+pub struct Row {
+    pub next: State,
+    /// What is issued.
+    pub body: Body,
+}
+
+/// Where the deed leads, or why it is not done: that it has no place now, or its date.
+pub fn row_of(responder: &Responder, deed: &Deed, today: Day) -> Result<Row, Refusal>
+    ensures { result ≡ row_of responder.now deed.now today }
 {
     match deed {
-        Deed::Answer(answer) => match responder.state {
-            State::InProcess => Some(after_answer(*answer)),
-            _ => None,
-        },
-        Deed::CancelReply { yes } => match responder.state {
-            State::CancelPending if *yes => Some(State::Cancelled),
-            State::CancelPending => Some(State::InProcess),
-            _ => None,
-        },
-        Deed::Ship { .. } => match responder.state {
-            State::InProcess => Some(State::Shipped),
-            _ => None,
-        },
-        Deed::RenewAnswer { granted } => after_renew_answer(responder, granted.is_some()),
-        Deed::Overdue => match responder.state {
-            State::Shipped => Some(State::Overdue),
-            State::RenewPending => Some(State::RenewOverdue),
-            _ => None,
-        },
-        Deed::Recall => match responder.state {
-            State::Shipped | State::Overdue => Some(State::Recall),
-            _ => None,
-        },
-        Deed::CheckIn => match responder.state {
-            State::Returned => Some(State::CheckedIn),
-            _ => None,
-        },
-        Deed::Expire => match responder.state {
-            State::InProcess | State::Conditional => Some(State::NotSupplied),
-            _ => None,
-        },
+        Deed::Answer(answer) => answer_row(responder, *answer),
+        Deed::CancelReply { yes } => cancel_reply_row(responder, *yes),
+        Deed::Ship { due } => ship_row(responder, *due, today),
+        Deed::RenewAnswer { granted } => renew_answer_row(responder, *granted),
+        Deed::Overdue => overdue_row(responder, today),
+        Deed::Recall => recall_row(responder),
+        Deed::CheckIn => check_in_row(responder),
+        Deed::Expire => expire_row(responder, today),
+    }
+}
+
+fn answer_row(responder: &Responder, answer: AnswerResult) -> Result<Row, Refusal>
+    ensures { result ≡ answer_row responder.now answer }
+{
+    match responder.state {
+        State::InProcess => {
+            let body = Body::IllAnswer { result: answer };
+            leads_to(after_answer(answer), body)
+        }
+        state => Err(Refusal::NotNow(state)),
     }
 }
 
@@ -60,31 +58,111 @@ fn after_answer(answer: AnswerResult) -> State
     }
 }
 
-fn after_renew_answer(responder: &Responder, yes: bool) -> Option<State>
-    ensures { result ≡ after_renew_answer responder.now yes }
+fn cancel_reply_row(responder: &Responder, yes: bool) -> Result<Row, Refusal>
+    ensures { result ≡ cancel_reply_row responder.now yes }
 {
     match responder.state {
-        State::RenewPending => Some(State::Shipped),
-        State::RenewOverdue if yes => Some(State::Shipped),
-        State::RenewOverdue => Some(State::Overdue),
-        _ => None,
+        State::CancelPending => {
+            let answers = known(responder.last_cancel);
+            let body = Body::CancelReply { answers, yes };
+            if yes {
+                leads_to(State::Cancelled, body)
+            } else {
+                leads_to(State::InProcess, body)
+            }
+        }
+        state => Err(Refusal::NotNow(state)),
     }
 }
 
-/// Refuses a deed whose date forbids it.
-pub fn check_dates(responder: &Responder, deed: &Deed, today: Day) -> Result<(), Refusal>
-    ensures allowed { OnOk result (date_refusal responder.now deed.now today ≡ None) }
-    ensures refused { IfErr result (λ refusal. date_refusal responder.now deed.now today ≡ Some refusal) }
+fn ship_row(responder: &Responder, due: Day, today: Day) -> Result<Row, Refusal>
+    ensures { result ≡ ship_row responder.now due today }
 {
-    match deed {
-        Deed::Ship { due } if *due < today => Err(Refusal::DateEarlier),
-        Deed::RenewAnswer { granted: Some(day) } if !is_after(*day, responder.due()) => {
-            Err(Refusal::DateNotLater)
-        }
-        Deed::Overdue if !is_after(today, responder.due()) => Err(Refusal::NotDue),
-        Deed::Expire if !is_after(today, expiry(responder)) => Err(Refusal::NotExpired),
-        _ => Ok(()),
+    match responder.state {
+        State::InProcess if due < today => Err(Refusal::DateEarlier),
+        State::InProcess => leads_to(State::Shipped, Body::Shipped { due }),
+        state => Err(Refusal::NotNow(state)),
     }
+}
+
+fn renew_answer_row(responder: &Responder, granted: Option<Day>) -> Result<Row, Refusal>
+    ensures { result ≡ renew_answer_row responder.now granted }
+{
+    match responder.state {
+        State::RenewPending => renewed(responder, State::Shipped, granted),
+        State::RenewOverdue => renewed(responder, State::Overdue, granted),
+        state => Err(Refusal::NotNow(state)),
+    }
+}
+
+/// The answer to the last Renew: a no leads to this state.
+fn renewed(responder: &Responder, unrenewed: State, granted: Option<Day>) -> Result<Row, Refusal>
+    requires waits { is_among (states.RenewPending ∷ states.RenewOverdue ∷ []) responder.now.state ≡ true }
+    ensures { result ≡ renewed responder.now unrenewed granted }
+{
+    let answers = known(responder.last_renew);
+    match granted {
+        Some(day) if !is_after(day, responder.due()) => Err(Refusal::DateNotLater),
+        Some(_) => leads_to(State::Shipped, Body::RenewAnswer { answers, granted }),
+        None => leads_to(unrenewed, Body::RenewAnswer { answers, granted }),
+    }
+}
+
+fn overdue_row(responder: &Responder, today: Day) -> Result<Row, Refusal>
+    ensures { result ≡ overdue_row responder.now today }
+{
+    match responder.state {
+        State::Shipped => overdue(responder, today, State::Overdue),
+        State::RenewPending => overdue(responder, today, State::RenewOverdue),
+        state => Err(Refusal::NotNow(state)),
+    }
+}
+
+/// Overdue leads to this state from the day after the due date on.
+fn overdue(responder: &Responder, today: Day, next: State) -> Result<Row, Refusal>
+    ensures { result ≡ overdue responder.now today next }
+{
+    match responder.due() {
+        Some(due) if due < today => leads_to(next, Body::Overdue { due }),
+        _ => Err(Refusal::NotDue),
+    }
+}
+
+fn recall_row(responder: &Responder) -> Result<Row, Refusal>
+    ensures { result ≡ recall_row responder.now }
+{
+    match responder.state {
+        State::Shipped | State::Overdue => leads_to(State::Recall, Body::Recall),
+        state => Err(Refusal::NotNow(state)),
+    }
+}
+
+fn check_in_row(responder: &Responder) -> Result<Row, Refusal>
+    ensures { result ≡ check_in_row responder.now }
+{
+    match responder.state {
+        State::Returned => leads_to(State::CheckedIn, Body::CheckedIn),
+        state => Err(Refusal::NotNow(state)),
+    }
+}
+
+fn expire_row(responder: &Responder, today: Day) -> Result<Row, Refusal>
+    ensures { result ≡ expire_row responder.now today }
+{
+    match responder.state {
+        State::InProcess | State::Conditional if is_after(today, expiry(responder)) => {
+            leads_to(State::NotSupplied, Body::Expired)
+        }
+        State::InProcess | State::Conditional => Err(Refusal::NotExpired),
+        state => Err(Refusal::NotNow(state)),
+    }
+}
+
+/// To this state, and this is issued.
+fn leads_to(next: State, body: Body) -> Result<Row, Refusal>
+    ensures { result ≡ leads_to next body }
+{
+    Ok(Row { next, body })
 }
 
 /// Whether there is a date, and this day is after it.
@@ -110,33 +188,7 @@ fn expiry(responder: &Responder) -> Option<Day>
     }
 }
 
-/// What the deed issues.
-#[tactic(auto, using(crate::proofs::ResponderKept::overdue_due))]
-pub fn body_of(responder: &Responder, deed: &Deed) -> Body
-    requires placed { IsSome (deed_leads responder.now deed.now) }
-    ensures { result ≡ body_issued responder.now deed.now }
-{
-    match deed {
-        Deed::Answer(answer) => Body::IllAnswer { result: *answer },
-        Deed::CancelReply { yes } => Body::CancelReply {
-            answers: known(responder.last_cancel),
-            yes: *yes,
-        },
-        Deed::Ship { due } => Body::Shipped { due: *due },
-        Deed::RenewAnswer { granted } => Body::RenewAnswer {
-            answers: known(responder.last_renew),
-            granted: *granted,
-        },
-        Deed::Overdue => match responder.due() {
-            Some(due) => Body::Overdue { due },
-            None => unreachable!(),
-        },
-        Deed::Recall => Body::Recall,
-        Deed::CheckIn => Body::CheckedIn,
-        Deed::Expire => Body::Expired,
-    }
-}
-
+/// The number of a question that waits, which is there.
 fn known(number: Option<Number>) -> Number
     requires there { IsSome number }
     ensures { result ≡ unwrap_or number 0 }

@@ -4,8 +4,8 @@ ghost use Rattle.std.specs.Prelude.{◌≡◌, true, Ok, [], ◌∷◌};
 ghost use Rattle.ill_core.specs.declared.state.State.TheVariants as states;
 ghost use Rattle.ill_core.specs.State.{is_among};
 ghost use Rattle.ill_core.specs.Issued.{is_same_txn, is_ill_request, was, names_conditions};
-ghost use Rattle.ill_core.specs.Responder.{responder_later};
-ghost use Rattle.ill_core.specs.ResponderDeliveries.{Comes, takes_memory, message_comes, request_comes, yes_comes, no_comes, cancel_comes, received_comes, renew_comes, returned_comes};
+ghost use Rattle.ill_core.specs.Responder.{later};
+ghost use Rattle.ill_core.specs.ResponderDeliveries.{MayWantMemory, takes_memory, take_message, take_request, take_yes, take_no, take_cancel, take_received, take_renew, take_returned};
 
 use super::Responder;
 use crate::issued::is_at_most;
@@ -16,27 +16,27 @@ use ill_values::{AnswerResult, Apdu, Body, Number};
 use std::alloc::Global;
 
 /// What a message does. Only an ILL-Request that is kept and a Conditional-Reply no take memory.
-pub fn comes(responder: &mut Responder, alloc: Global, apdu: &Apdu) -> Result<Taking, Refusal>
+pub fn take_message(responder: &mut Responder, alloc: Global, apdu: &Apdu) -> Result<Taking, Refusal>
     requires same { is_same_txn apdu.now.txn responder.old.txn ≡ true }
-    ensures { Comes (message_comes responder.old apdu.now apdu.now.body) (takes_memory responder.old apdu.now.body) responder.old result responder.new }
+    ensures { MayWantMemory (take_message responder.old apdu.now apdu.now.body) (takes_memory responder.old apdu.now.body) responder.old result responder.new }
 {
     match &apdu.body {
-        Body::IllRequest { .. } => request_comes(responder, alloc, apdu),
-        Body::ConditionalReply { answers, yes: true } => Ok(yes_comes(responder, *answers)),
-        Body::ConditionalReply { yes: false, .. } => no_comes(responder, alloc),
-        Body::Cancel => Ok(cancel_comes(responder, apdu.number)),
-        Body::Received => Ok(received_comes(responder)),
-        Body::Renew { .. } => Ok(renew_comes(responder, apdu.number)),
-        Body::Returned => Ok(returned_comes(responder)),
+        Body::IllRequest { .. } => take_request(responder, alloc, apdu),
+        Body::ConditionalReply { answers, yes: true } => Ok(take_yes(responder, *answers)),
+        Body::ConditionalReply { yes: false, .. } => take_no(responder, alloc),
+        Body::Cancel => Ok(take_cancel(responder, apdu.number)),
+        Body::Received => Ok(take_received(responder)),
+        Body::Renew { .. } => Ok(take_renew(responder, apdu.number)),
+        Body::Returned => Ok(take_returned(responder)),
         _ => Ok(Taking::Conflict(responder.state)),
     }
 }
 
 #[tactic(auto, using(crate::proofs::ResponderKept::request_kept))]
-fn request_comes(responder: &mut Responder, alloc: Global, apdu: &Apdu) -> Result<Taking, Refusal>
+fn take_request(responder: &mut Responder, alloc: Global, apdu: &Apdu) -> Result<Taking, Refusal>
     requires same { is_same_txn apdu.now.txn responder.old.txn ≡ true }
     requires request { is_ill_request apdu.now.body ≡ true }
-    ensures { Comes (request_comes responder.old apdu.now) (is_among (states.Idle ∷ []) responder.old.state) responder.old result responder.new }
+    ensures { MayWantMemory (take_request responder.old apdu.now) (is_among (states.Idle ∷ []) responder.old.state) responder.old result responder.new }
 {
     if responder.state != State::Idle {
         return Ok(Taking::Repeat);
@@ -48,8 +48,8 @@ fn request_comes(responder: &mut Responder, alloc: Global, apdu: &Apdu) -> Resul
 }
 
 #[tactic(auto, using(crate::proofs::ResponderKept::yes_kept))]
-fn yes_comes(responder: &mut Responder, answers: Number) -> Taking
-    ensures { (Ok result, responder.new) ≡ yes_comes responder.old answers }
+fn take_yes(responder: &mut Responder, answers: Number) -> Taking
+    ensures { (Ok result, responder.new) ≡ take_yes responder.old answers }
 {
     if responder.outstanding() == Some(answers) {
         responder.state = State::InProcess;
@@ -66,8 +66,8 @@ fn yes_comes(responder: &mut Responder, answers: Number) -> Taking
 }
 
 #[tactic(auto, using(crate::proofs::ResponderKept::no_kept))]
-fn no_comes(responder: &mut Responder, alloc: Global) -> Result<Taking, Refusal>
-    ensures { Comes (no_comes responder.old) (is_among (states.InProcess ∷ states.Conditional ∷ []) responder.old.state) responder.old result responder.new }
+fn take_no(responder: &mut Responder, alloc: Global) -> Result<Taking, Refusal>
+    ensures { MayWantMemory (take_no responder.old) (is_among (states.InProcess ∷ states.Conditional ∷ []) responder.old.state) responder.old result responder.new }
 {
     match responder.state {
         State::InProcess | State::Conditional => {
@@ -84,8 +84,8 @@ fn no_comes(responder: &mut Responder, alloc: Global) -> Result<Taking, Refusal>
     }
 }
 
-fn cancel_comes(responder: &mut Responder, number: Number) -> Taking
-    ensures { (Ok result, responder.new) ≡ cancel_comes responder.old number }
+fn take_cancel(responder: &mut Responder, number: Number) -> Taking
+    ensures { (Ok result, responder.new) ≡ take_cancel responder.old number }
 {
     if is_at_most(number, responder.last_cancel) {
         return Taking::Repeat;
@@ -100,8 +100,8 @@ fn cancel_comes(responder: &mut Responder, number: Number) -> Taking
     }
 }
 
-fn received_comes(responder: &mut Responder) -> Taking
-    ensures { (Ok result, responder.new) ≡ received_comes responder.old }
+fn take_received(responder: &mut Responder) -> Taking
+    ensures { (Ok result, responder.new) ≡ take_received responder.old }
 {
     if !is_later(responder.state) {
         return Taking::Conflict(responder.state);
@@ -113,8 +113,8 @@ fn received_comes(responder: &mut Responder) -> Taking
     Taking::Taken
 }
 
-fn renew_comes(responder: &mut Responder, number: Number) -> Taking
-    ensures { (Ok result, responder.new) ≡ renew_comes responder.old number }
+fn take_renew(responder: &mut Responder, number: Number) -> Taking
+    ensures { (Ok result, responder.new) ≡ take_renew responder.old number }
 {
     if is_at_most(number, responder.last_renew) {
         return Taking::Repeat;
@@ -134,8 +134,8 @@ fn renew_comes(responder: &mut Responder, number: Number) -> Taking
     }
 }
 
-fn returned_comes(responder: &mut Responder) -> Taking
-    ensures { (Ok result, responder.new) ≡ returned_comes responder.old }
+fn take_returned(responder: &mut Responder) -> Taking
+    ensures { (Ok result, responder.new) ≡ take_returned responder.old }
 {
     match responder.state {
         State::Shipped
@@ -174,7 +174,7 @@ pub fn is_conditional(body: &Body) -> bool
 
 /// SHIPPED or later, of a responder.
 pub fn is_later(state: State) -> bool
-    ensures { result ≡ is_among responder_later state }
+    ensures { result ≡ is_among later state }
 {
     matches!(
         state,

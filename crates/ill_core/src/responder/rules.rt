@@ -3,7 +3,7 @@
 ghost use Rattle.std.specs.Prelude.{◌≡◌, ◌↔◌, true, false, not, ◌&&◌, is_some};
 ghost use Rattle.std.specs.List.{list_all, filter_map, count_by};
 ghost use Rattle.ill_core.specs.Issued.{is_requesters, is_shipped, is_renewal, is_checked_in, is_none, names_conditions, granted, has};
-ghost use Rattle.ill_core.specs.Responder.{rises, ResponderPartsFit, ResponderIssuedFits, is_request_of, is_named, are_rising, ships_first, ends_with_conditions};
+ghost use Rattle.ill_core.specs.Responder.{rises, PartsFit, IssuedFits, is_request_of, is_named, are_rising, ships_first, ends_with_conditions};
 
 use super::deliveries::{is_conditional, is_later};
 use crate::issued::{granted, is_requesters};
@@ -12,7 +12,7 @@ use ill_values::{Apdu, Body, Day, Number, TxnId};
 
 /// Whether what was issued keeps the rules.
 pub fn are_kept(state: State, accepted: &Option<Number>, apdus: &[Apdu]) -> bool
-    ensures { (result ≡ true) ↔ (list_all (λ a. not (is_requesters a.body)) apdus.now ≡ true) × ResponderIssuedFits state apdus.now × (is_named accepted.now apdus.now ≡ true) × (are_rising (filter_map granted apdus.now) ≡ true) × (ships_first apdus.now ≡ true) }
+    ensures { (result ≡ true) ↔ (list_all (λ a. not (is_requesters a.body)) apdus.now ≡ true) × IssuedFits state apdus.now × (is_named accepted.now apdus.now ≡ true) × (are_rising (filter_map granted apdus.now) ≡ true) × (ships_first apdus.now ≡ true) }
 {
     if !is_role(apdus) {
         return false;
@@ -59,7 +59,7 @@ pub struct Present {
 
 /// Whether the state has the parts that it wants.
 pub fn parts_fit(state: State, present: Present) -> bool
-    ensures { (result ≡ true) ↔ ResponderPartsFit state present.request present.accepted present.last_cancel present.last_renew present.received present.nothing_issued }
+    ensures { (result ≡ true) ↔ PartsFit state present.request present.accepted present.last_cancel present.last_renew present.received present.nothing_issued }
 {
     match state {
         State::Pending | State::Received | State::NotReceivedOverdue => false,
@@ -97,7 +97,7 @@ pub fn is_named(accepted: &Option<Number>, apdus: &[Apdu]) -> bool
 
 /// Whether what was issued fits the state.
 pub fn issued_fits(state: State, apdus: &[Apdu]) -> bool
-    ensures { (result ≡ true) ↔ ResponderIssuedFits state apdus.now }
+    ensures { (result ≡ true) ↔ IssuedFits state apdus.now }
 {
     if shipped_count(apdus) != usize::from(is_later(state)) {
         return false;

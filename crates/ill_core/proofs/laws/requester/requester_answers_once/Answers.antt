@@ -1,4 +1,4 @@
-use Rattle.ill_core.proofs.RequesterAnswers.{acts_once, takes_once}
+use Rattle.ill_core.proofs.RequesterLaws.{acts_once, takes_once}
 use Rattle.ill_core.proofs.laws.requester.requester_answers_once.Goals as goal
 
 pub returns-clause-acts : goal.returns-clause-acts

@@ -1,7 +1,7 @@
 use Rattle.std.proofs.Common.{rules}
 use Rattle.ill_core.specs.Responder.{ResponderRecord, responder_of}
 use Rattle.ill_core.proofs.ResponderKept.{yes_kept}
-use Rattle.ill_core.proofs.responder.deliveries.yes_comes.Goals as goal
+use Rattle.ill_core.proofs.responder.deliveries.take_yes.Goals as goal
 
 pub invariant_of-responder : goal.invariant_of-responder
 invariant_of-responder c =

@@ -4,7 +4,7 @@ use Rattle.ill_values.specs.declared.apdu.AnswerResult.TheVariants.{Unfilled}
 use Rattle.ill_core.specs.declared.state.State.TheVariants.{NotSupplied}
 use Rattle.ill_core.specs.Responder.{ResponderRecord, responder_of}
 use Rattle.ill_core.proofs.ResponderKept.{no_kept, with_issue}
-use Rattle.ill_core.proofs.responder.deliveries.no_comes.Goals as goal
+use Rattle.ill_core.proofs.responder.deliveries.take_no.Goals as goal
 
 pub invariant_of-responder-in-InProcess : goal.invariant_of-responder-in-InProcess
 invariant_of-responder-in-InProcess c =

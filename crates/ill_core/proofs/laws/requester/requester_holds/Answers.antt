@@ -1,0 +1,5 @@
+use Rattle.ill_core.proofs.RequesterLaws.{takes_holds}
+use Rattle.ill_core.proofs.laws.requester.requester_holds.Goals as goal
+
+pub returns : goal.returns
+returns c = takes_holds

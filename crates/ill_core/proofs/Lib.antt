@@ -1,10 +1,12 @@
 pub mod IssuedLemmas
 pub mod NumberLemmas
+pub mod RowLemmas
 pub mod RequesterKept
 pub mod RequesterAnswers
 pub mod RequesterRows
 pub mod RequesterLaws
 pub mod ResponderLists
+pub mod ResponderTable
 pub mod ResponderKept
 pub mod ResponderRows
 pub mod ResponderLaws

@@ -17,6 +17,7 @@ use Rattle.ill_core.specs.declared.refusal.Refusal.{Refusal}
 use Rattle.ill_core.specs.declared.refusal.Refusal.TheVariants as refusals
 use Rattle.ill_core.specs.Issued.{next_number}
 use Rattle.ill_core.specs.RequesterActions.{answer_held, row_of, acts_by, FindsRow, Acts}
+use Rattle.ill_core.proofs.RowLemmas.{at_line, no_more}
 use Rattle.ill_core.proofs.IssuedLemmas.{numbered_next, not_true, same_txn, has_more, all_more, none_more, begins_more}
 
 -- a state fits a record that has issued one more APDU
@@ -48,18 +49,6 @@ kept x body state held h fits =
         declined = ap (λ b. implies b (not (is_among (Pending ∷ CancelPending ∷ Cancelled ∷ []) state))) (has_more declines x.issued a) ∙ fits.1.declined;
       };
     }
-
-row_is : (here row : Row) → ◌≡◌ {A = Result Row Refusal} (Ok here) (Ok row) → here ≡ row
-row_is here row e = search rules
-
--- a row of the table, or those behind it
-pub at_line : (P : Row → Type 0) (is_here : Bool) (here : Row) (others : Result Row Refusal) (row : Row) → (is_here ≡ true → P here) → (others ≡ Ok row → P row)
-    → (if is_here then Ok here else others) ≡ Ok row → P row
-at_line P true here others row leads behind e = subst P (row_is here row e) (leads refl)
-at_line P false here others row leads behind e = behind e
-
-pub no_more : (P : Row → Type 0) (refusal : Refusal) (row : Row) → Err refusal ≡ Ok row → P row
-no_more P refusal row e = search rules
 
 reply_fits : (txn : Qualifiers) (held : Option ℕ) (checked_in : Bool) (due : Option Date) (issued : List Apdu) (answer : Bool)
     → IsRequester (requester_of txn Conditional held checked_in due issued) → has declines issued ≡ false

@@ -17,7 +17,7 @@ use Rattle.ill_core.specs.declared.taking.Taking.TheVariants as takings
 use Rattle.ill_core.specs.State.{is_among}
 use Rattle.ill_core.specs.Issued.{refused_before, is_requesters, is_at_most, is_the, was, has, is_cancel, is_renew, declines, accepts, next_number, next_apdu, number_of_cancel, last_of}
 use Rattle.ill_core.specs.Requester.{RequesterRecord, IsRequester, later, accepted, is_declined, is_received_by, last_cancel, last_renew}
-use Rattle.ill_core.specs.RequesterActions.{acts, acts_by, row_of, record_after, answer_held}
+use Rattle.ill_core.specs.RequesterActions.{acts, acts_by, row_of, record_after, answer_held, not_now}
 use Rattle.ill_core.specs.Answers.{taken, unless_refused}
 use Rattle.ill_core.specs.RequesterDeliveries.{take_message, takes, take_end, take_cancel_reply, take_renew_answer, take_renewal}
 use Rattle.ill_core.specs.Dates.{is_after_due, is_due_on}
@@ -25,7 +25,7 @@ use Rattle.ill_core.specs.declared.refusal.Refusal.{Refusal}
 use Rattle.ill_core.specs.RequesterFacts.{RequesterFact, Shows, Tells, KeepsDue, Holds, ShowsRefused, AnswersOnce, replied}
 use Rattle.ill_core.specs.RequesterFacts as facts
 use Rattle.ill_core.proofs.IssuedLemmas.{was_more, still_cancel, last_cancel_more, older_cancel}
-use Rattle.ill_core.proofs.RequesterKept.{at_line, no_more}
+use Rattle.ill_core.proofs.RowLemmas.{at_line, no_more}
 use Rattle.ill_core.proofs.RequesterAnswers.{silent_once, yes_once, no_once, held_number}
 
 not_both : {P : Type 0} (b : Bool) → b ≡ false → b ≡ true → P
@@ -182,9 +182,9 @@ silent_row : (x : RequesterRecord) (next : State) (body : Body) → replied body
     → (is_among later x.state ≡ true → is_among later next ≡ true)
     → ((c : ℕ) → ShowsRefused (record_after x (record { next = next; body = body; held = x.held })) c → ShowsRefused x c)
     → Issues x (record { next = next; body = body; held = x.held })
-silent_row x next body silent accepts_none declines_not held_no_more on open stays refused =
+silent_row x next body silent accepts_none declines_not held_no_more on settled_not stays refused =
     record {
-      final = λ is. not_both _ open is;
+      final = λ is. not_both _ settled_not is;
       stays = stays;
       shows = goes_on x (record { next = next; body = body; held = x.held }) on refused;
       replies = λ n answer is. no_reply body n answer silent is;
@@ -239,13 +239,13 @@ wish_row x wishes.Cancel row =
     at_line (Issues x) (is_among (Pending ∷ []) x.state) _ _ row (λ is.
     silent_row x CancelPending types.Cancel refl refl refl refl refl (search (rules, is)) (search (rules, is)) (λ c. cancel_refused_before x c is)) (no_more (Issues x) _ row)
 wish_row x (wishes.Reply answer) row =
-    at_line (Issues x) (is_among (Conditional ∷ []) x.state && not (is_declined x)) _ _ row
+    at_line (Issues x) (is_among (Conditional ∷ []) x.state && not (is_declined x)) (answer_held x answer) (not_now x) row
     (λ is. let there = undeclined_there (is_among (Conditional ∷ []) x.state) (has declines x.issued) is in answers_held x answer there.0 there.1) (no_more (Issues x) _ row)
 wish_row x wishes.Receive row =
     at_line (Issues x) (is_among (Shipped ∷ []) x.state) _ _ row (λ is. loan_row x Received types.Received refl refl refl (search (rules, is)) refl) (
     at_line (Issues x) (is_among (NotReceivedOverdue ∷ []) x.state) _ _ row (λ is. loan_row x Overdue types.Received refl refl refl (search (rules, is)) refl) (
     at_line (Issues x) (is_among (Recall ∷ []) x.state && not (is_received_by x)) _ _ row
-    (λ is. loan_row x Recall types.Received refl refl refl (search (rules, (and_parts _ _ is).0)) refl) (no_more (Issues x) _ row)))
+    (λ is. loan_row x Recall types.Received refl refl refl (search (rules, (and_parts (is_among (Recall ∷ []) x.state) (not (is_received_by x)) is).0)) refl) (no_more (Issues x) _ row)))
 wish_row x (wishes.Renew wished) row =
     at_line (Issues x) (is_among (Received ∷ []) x.state) _ _ row (λ is. loan_row x RenewPending (types.Renew wished) refl refl refl (search (rules, is)) refl) (
     at_line (Issues x) (is_among (Overdue ∷ []) x.state) _ _ row (λ is. loan_row x RenewOverdue (types.Renew wished) refl refl refl (search (rules, is)) refl)
@@ -253,7 +253,7 @@ wish_row x (wishes.Renew wished) row =
 wish_row x wishes.Return row =
     at_line (Issues x) (is_among (Received ∷ RenewPending ∷ Overdue ∷ RenewOverdue ∷ []) x.state) _ _ row (λ is. loan_row x Returned types.Returned refl refl refl (search (rules, is)) refl) (
     at_line (Issues x) (is_among (Recall ∷ []) x.state && is_received_by x) _ _ row
-    (λ is. loan_row x Returned types.Returned refl refl refl (search (rules, (and_parts _ _ is).0)) refl) (no_more (Issues x) _ row))
+    (λ is. loan_row x Returned types.Returned refl refl refl (search (rules, (and_parts (is_among (Recall ∷ []) x.state) (is_received_by x) is).0)) refl) (no_more (Issues x) _ row))
 
 ok_is : (x y : RequesterRecord) → ◌≡◌ {A = Result RequesterRecord Refusal} (Ok x) (Ok y) → x ≡ y
 ok_is x y h = search rules

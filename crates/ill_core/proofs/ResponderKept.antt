@@ -7,6 +7,7 @@ use Rattle.ill_values.specs.TxnId.{Qualifiers}
 use Rattle.ill_values.specs.declared.apdu.Apdu.{Apdu}
 use Rattle.ill_values.specs.declared.apdu.Body.{Body}
 use Rattle.ill_values.specs.declared.apdu.Body.TheVariants as types
+use Rattle.ill_values.specs.declared.apdu.AnswerResult.{AnswerResult}
 use Rattle.ill_values.specs.declared.apdu.AnswerResult.TheVariants as results
 use Rattle.ill_core.specs.declared.state.State.{State}
 use Rattle.ill_core.specs.declared.state.State.TheVariants.{Idle, InProcess, Conditional, CancelPending, NotSupplied, Shipped, RenewPending, Overdue, RenewOverdue, Recall, Returned, CheckedIn}
@@ -16,12 +17,15 @@ use Rattle.ill_core.specs.State.{is_among}
 use Rattle.ill_core.specs.Dates.{is_after_due}
 use Rattle.ill_core.specs.Issued.{is_the, is_at_most, next_number, was, is_same_txn, is_ill_request, with_next, next_apdu, is_requesters, implies, is_shipped, is_checked_in, names_conditions, is_renewal, granted, date_granted}
 use Rattle.ill_core.specs.Responder.{ResponderRecord, responder_of, outstanding, is_named, IsResponder, IssuedFits, PartsFit, later, are_rising, ships_first, due_of}
-use Rattle.ill_core.specs.ResponderActions.{next_state, date_refusal, body_of, issues_to}
+use Rattle.ill_core.specs.declared.responder.actions.Row.{Row}
+use Rattle.ill_core.specs.ResponderActions.{issues_to, record_after}
 use Rattle.ill_core.specs.declared.refusal.Refusal.{Refusal}
 use Rattle.ill_core.specs.declared.refusal.Refusal.TheVariants.{OtherTransaction, WrongRole}
 use Rattle.ill_core.specs.declared.taking.Taking.{Taking}
 use Rattle.ill_core.specs.Issued.{Admits, refused_before}
-use Rattle.ill_core.specs.ResponderDeliveries.{Comes, answers_no, Takes, take_message, takes_memory, takes, unless_refused}
+use Rattle.ill_core.specs.ResponderDeliveries.{MayWantMemory, answers_no, Takes, take_message, takes_memory, takes}
+use Rattle.ill_core.specs.Answers.{unless_refused}
+use Rattle.ill_core.proofs.ResponderTable.{IsRow, answers, allows_cancel, refuses_cancel, ships, renews, refuses_renewal, refuses_late, reminds, reminds_renewing, recalls, checks_in, expires}
 use Rattle.ill_core.proofs.IssuedLemmas.{numbered_next, same_txn, has_more, all_more, none_more, found_none, found_more}
 use Rattle.ill_core.proofs.ResponderLists.{count_more, ends_more, named_more, rise_more, ships_more, ships_renewed, no_grants, due_there}
 
@@ -39,27 +43,27 @@ pub record FitsNext (y : ResponderRecord) (body : Body) (state : State) : Type 0
 
 -- the dates that were granted, where one more APDU is issued: none more, a first one, or one after the last
 pub data Grants (y : ResponderRecord) (body : Body) : Type 0 where
-  none : date_granted body ≡ None → is_renewal body ≡ false → Grants y body
-  first : (d : Date) → body ≡ types.Shipped d → is_among later y.state ≡ false → Grants y body
-  later : (d : Date) → date_granted body ≡ Some d → is_among later y.state ≡ true → is_after_due d (due_of y) ≡ true → Grants y body
+  no_grant : date_granted body ≡ None → is_renewal body ≡ false → Grants y body
+  first_grant : (d : Date) → body ≡ types.Shipped d → is_among later y.state ≡ false → Grants y body
+  later_grant : (d : Date) → date_granted body ≡ Some d → is_among later y.state ≡ true → is_after_due d (due_of y) ≡ true → Grants y body
 
 or_right : (a b : Bool) → b ≡ true → a || b ≡ true
 or_right true b h = refl
 or_right false b h = h
 
 rising_next : (y : ResponderRecord) (a : Apdu) → IsResponder y → Grants y a.body → are_rising (filter_map granted (y.issued ++ a ∷ [])) ≡ true
-rising_next y a h (none silent _) = ap are_rising (found_none granted y.issued a silent) ∙ h.rising
-rising_next y a h (first d is away) =
+rising_next y a h (no_grant silent _) = ap are_rising (found_none granted y.issued a silent) ∙ h.rising
+rising_next y a h (first_grant d is away) =
     let nothing = no_grants y.issued h.ships_first (h.issued.shipped ∙ ap (λ b. if b then 1 else 0) away) in
     ap are_rising (found_more granted y.issued a d (ap date_granted is))
     ∙ rise_more None (filter_map granted y.issued) d h.rising (ap (λ ds. not (is_some (last_or None ds)) || is_after_due d (last_or None ds)) nothing)
-rising_next y a h (later d is here after) =
+rising_next y a h (later_grant d is here after) =
     ap are_rising (found_more granted y.issued a d is) ∙ rise_more None (filter_map granted y.issued) d h.rising (or_right _ _ after)
 
 ships_next : (y : ResponderRecord) (a : Apdu) → IsResponder y → Grants y a.body → ships_first (y.issued ++ a ∷ []) ≡ true
-ships_next y a h (none _ no_renewal) = ships_more y.issued a h.ships_first no_renewal
-ships_next y a h (first d is away) = ships_more y.issued a h.ships_first (ap is_renewal is)
-ships_next y a h (later d is here after) =
+ships_next y a h (no_grant _ no_renewal) = ships_more y.issued a h.ships_first no_renewal
+ships_next y a h (first_grant d is away) = ships_more y.issued a h.ships_first (ap is_renewal is)
+ships_next y a h (later_grant d is here after) =
     ships_renewed y.issued a h.ships_first (omega (arith, h.issued.shipped ∙ ap (λ b. if b then 1 else 0) here))
 
 -- the record with one more APDU, in a state that fits, is a responder's
@@ -81,32 +85,58 @@ next_kept y body state h fits grants =
       ships_first = ships_next y a h grants;
     }
 
--- where a deed leads fits
-deed_fits : (txn : Qualifiers) (state : State) (accepted last_cancel last_renew : Option ℕ) (received : Bool) (request : Option Apdu) (issued : List Apdu) (deed : Deed) (next : State)
-    → IsResponder (responder_of txn state accepted last_cancel last_renew received request issued) → next_state (responder_of txn state accepted last_cancel last_renew received request issued) deed ≡ Some next
-    → FitsNext (responder_of txn state accepted last_cancel last_renew received request issued) (body_of (responder_of txn state accepted last_cancel last_renew received request issued) deed) next
-deed_fits txn InProcess accepted last_cancel last_renew received request issued (deeds.Answer results.Conditional) Conditional h leads = search rules
-deed_fits txn state accepted last_cancel last_renew received request issued deed next h leads = search rules
+-- a row of the table of actions fits
+row_fits : (txn : Qualifiers) (state : State) (accepted last_cancel last_renew : Option ℕ) (received : Bool) (request : Option Apdu) (issued : List Apdu) (row : Row)
+    → IsResponder (responder_of txn state accepted last_cancel last_renew received request issued) → IsRow (responder_of txn state accepted last_cancel last_renew received request issued) row
+    → FitsNext (responder_of txn state accepted last_cancel last_renew received request issued) row.body row.next
+row_fits txn InProcess accepted last_cancel last_renew received request issued _ h (answers results.Conditional is) = search rules
+row_fits txn InProcess accepted last_cancel last_renew received request issued _ h (answers answer is) = search rules
+row_fits txn state accepted last_cancel last_renew received request issued _ h (answers answer is) = search rules
+row_fits txn CancelPending accepted last_cancel last_renew received request issued _ h (allows_cancel is) = search rules
+row_fits txn state accepted last_cancel last_renew received request issued _ h (allows_cancel is) = search rules
+row_fits txn CancelPending accepted last_cancel last_renew received request issued _ h (refuses_cancel is) = search rules
+row_fits txn state accepted last_cancel last_renew received request issued _ h (refuses_cancel is) = search rules
+row_fits txn InProcess accepted last_cancel last_renew received request issued _ h (ships due is) = search rules
+row_fits txn state accepted last_cancel last_renew received request issued _ h (ships due is) = search rules
+row_fits txn RenewPending accepted last_cancel last_renew received request issued _ h (renews due is after) = search rules
+row_fits txn RenewOverdue accepted last_cancel last_renew received request issued _ h (renews due is after) = search rules
+row_fits txn state accepted last_cancel last_renew received request issued _ h (renews due is after) = search rules
+row_fits txn RenewPending accepted last_cancel last_renew received request issued _ h (refuses_renewal is) = search rules
+row_fits txn state accepted last_cancel last_renew received request issued _ h (refuses_renewal is) = search rules
+row_fits txn RenewOverdue accepted last_cancel last_renew received request issued _ h (refuses_late is) = search rules
+row_fits txn state accepted last_cancel last_renew received request issued _ h (refuses_late is) = search rules
+row_fits txn Shipped accepted last_cancel last_renew received request issued _ h (reminds is) = search rules
+row_fits txn state accepted last_cancel last_renew received request issued _ h (reminds is) = search rules
+row_fits txn RenewPending accepted last_cancel last_renew received request issued _ h (reminds_renewing is) = search rules
+row_fits txn state accepted last_cancel last_renew received request issued _ h (reminds_renewing is) = search rules
+row_fits txn Shipped accepted last_cancel last_renew received request issued _ h (recalls is) = search rules
+row_fits txn Overdue accepted last_cancel last_renew received request issued _ h (recalls is) = search rules
+row_fits txn state accepted last_cancel last_renew received request issued _ h (recalls is) = search rules
+row_fits txn Returned accepted last_cancel last_renew received request issued _ h (checks_in is) = search rules
+row_fits txn state accepted last_cancel last_renew received request issued _ h (checks_in is) = search rules
+row_fits txn InProcess accepted last_cancel last_renew received request issued _ h (expires is) = search rules
+row_fits txn Conditional accepted last_cancel last_renew received request issued _ h (expires is) = search rules
+row_fits txn state accepted last_cancel last_renew received request issued _ h (expires is) = search rules
 
--- the dates of a deed that today allows
-deed_grants : (y : ResponderRecord) (deed : Deed) (next : State) (today : Date) → next_state y deed ≡ Some next → date_refusal y deed today ≡ None → Grants y (body_of y deed)
-deed_grants y (deeds.Answer answer) next today leads allowed = none refl refl
-deed_grants y (deeds.CancelReply answer) next today leads allowed = none refl refl
-deed_grants y (deeds.Ship due) next today leads allowed = first due refl (search rules)
-deed_grants y (deeds.RenewAnswer None) next today leads allowed = none refl refl
-deed_grants y (deeds.RenewAnswer (Some d)) next today leads allowed = later d refl (search rules) (search rules)
-deed_grants y deeds.Overdue next today leads allowed = none refl refl
-deed_grants y deeds.Recall next today leads allowed = none refl refl
-deed_grants y deeds.CheckIn next today leads allowed = none refl refl
-deed_grants y deeds.Expire next today leads allowed = none refl refl
+-- the dates of a row
+row_grants : (y : ResponderRecord) (row : Row) → IsRow y row → Grants y row.body
+row_grants y _ (answers answer is) = no_grant refl refl
+row_grants y _ (allows_cancel is) = no_grant refl refl
+row_grants y _ (refuses_cancel is) = no_grant refl refl
+row_grants y _ (ships due is) = first_grant due refl (search rules)
+row_grants y _ (renews due is after) = later_grant due refl (search rules) after
+row_grants y _ (refuses_renewal is) = no_grant refl refl
+row_grants y _ (refuses_late is) = no_grant refl refl
+row_grants y _ (reminds is) = no_grant refl refl
+row_grants y _ (reminds_renewing is) = no_grant refl refl
+row_grants y _ (recalls is) = no_grant refl refl
+row_grants y _ (checks_in is) = no_grant refl refl
+row_grants y _ (expires is) = no_grant refl refl
 
--- A deed that has a place, and that today allows, leads to a responder's record.
-pub deed_kept : (y : ResponderRecord) (deed : Deed) (next : State) (today : Date) → IsResponder y → next_state y deed ≡ Some next → date_refusal y deed today ≡ None
-    → IsResponder (issues_to y (body_of y deed) next)
-deed_kept y deed next today h leads allowed =
-    next_kept y (body_of y deed) next h
-    (deed_fits y.txn y.state y.accepted y.last_cancel y.last_renew y.received y.request y.issued deed next h leads)
-    (deed_grants y deed next today leads allowed)
+-- A row leads to a responder's record.
+pub row_kept : (y : ResponderRecord) (row : Row) → IsResponder y → IsRow y row → IsResponder (record_after y row)
+row_kept y row h is =
+    next_kept y row.body row.next h (row_fits y.txn y.state y.accepted y.last_cancel y.last_renew y.received y.request y.issued row h is) (row_grants y row is)
 
 no_fits : (txn : Qualifiers) (state : State) (accepted last_cancel last_renew : Option ℕ) (received : Bool) (request : Option Apdu) (issued : List Apdu)
     → IsResponder (responder_of txn state accepted last_cancel last_renew received request issued) → is_among (InProcess ∷ Conditional ∷ []) state ≡ true
@@ -119,7 +149,7 @@ pub no_kept : (y : ResponderRecord) → IsResponder y → is_among (InProcess �
     → IsResponder (issues_to y (types.IllAnswer results.Unfilled) NotSupplied)
 no_kept y h waits =
     next_kept y (types.IllAnswer results.Unfilled) NotSupplied h
-    (no_fits y.txn y.state y.accepted y.last_cancel y.last_renew y.received y.request y.issued h waits) (none refl refl)
+    (no_fits y.txn y.state y.accepted y.last_cancel y.last_renew y.received y.request y.issued h waits) (no_grant refl refl)
 
 -- the outstanding conditions are the last message
 outstanding_named : (txn : Qualifiers) (state : State) (accepted last_cancel last_renew : Option ℕ) (received : Bool) (request : Option Apdu) (issued : List Apdu) (c : ℕ)
@@ -181,16 +211,6 @@ request_kept y a h idle same is =
       ships_first = h.ships_first;
     }
 
--- an item that is overdue has a due date
-later_due : (y : ResponderRecord) → IsResponder y → is_among later y.state ≡ true → is_some (due_of y) ≡ true
-later_due y h is = due_there y.issued (omega (arith, h.issued.shipped ∙ ap (λ b. if b then 1 else 0) is))
-
-overdue_later : (y : ResponderRecord) (next : State) → next_state y deeds.Overdue ≡ Some next → is_among later y.state ≡ true
-overdue_later y next leads = search rules
-
-pub overdue_due : (y : ResponderRecord) (next : State) → IsResponder y → next_state y deeds.Overdue ≡ Some next → is_some (due_of y) ≡ true
-overdue_due y next h leads = later_due y h (overdue_later y next leads)
-
 -- a record whose parts are those of one that issued one APDU more
 pub with_issue : (y : ResponderRecord) (state : State) (body : Body) (txn : Qualifiers) (issued : List Apdu) → IsResponder (issues_to y body state)
     → txn ≡ y.txn → issued ≡ with_next y.txn y.issued body
@@ -205,10 +225,10 @@ admits_none (Some refusal) h = search rules
 
 -- an APDU that is admitted does what its row says
 pub takes_admitted : (y new : ResponderRecord) (a : Apdu) (answer : Result Taking Refusal) → refused_before y.txn (not (is_requesters a.body)) a ≡ None
-    → Comes (take_message y a a.body) (takes_memory y a.body) y answer new → Takes y a answer new
+    → MayWantMemory (take_message y a a.body) (takes_memory y a.body) y answer new → Takes y a answer new
 takes_admitted y new a answer admitted comes =
     let same : takes y a ≡ take_message y a a.body = ap (λ o. unless_refused o y (take_message y a a.body)) admitted in
-    subst (λ expected. Comes expected (takes_memory y a.body) y answer new) (sym same) comes
+    subst (λ expected. MayWantMemory expected (takes_memory y a.body) y answer new) (sym same) comes
 
 -- ---- a delivery keeps the rules
 
@@ -243,35 +263,35 @@ answer_kept : (y : ResponderRecord) (next : Result ℕ Refusal) → IsResponder 
 answer_kept y (Ok number) h waits = no_kept y h waits
 answer_kept y (Err refusal) h waits = h
 
-comes_kept : (y : ResponderRecord) (a : Apdu) (body : Body) → IsResponder y → is_same_txn a.txn y.txn ≡ true → is_ill_request a.body ≡ is_ill_request body → IsResponder (take_message y a body).1
-comes_kept y a (types.IllRequest expiry item) h same is =
+message_kept : (y : ResponderRecord) (a : Apdu) (body : Body) → IsResponder y → is_same_txn a.txn y.txn ≡ true → is_ill_request a.body ≡ is_ill_request body → IsResponder (take_message y a body).1
+message_kept y a (types.IllRequest expiry item) h same is =
     line (is_among (Idle ∷ []) y.state) _ _ (λ idle. request_kept y a h idle same is) (λ _. h)
-comes_kept y a (types.ConditionalReply c true) h same is =
+message_kept y a (types.ConditionalReply c true) h same is =
     line (is_the c (outstanding y)) _ _ (λ there. yes_kept y c h there) (λ _.
     line (is_the c y.accepted) _ _ (λ _. h) (λ _.
     line (was names_conditions y.issued c) _ _ (λ _. h) (λ _. h)))
-comes_kept y a (types.ConditionalReply c false) h same is =
+message_kept y a (types.ConditionalReply c false) h same is =
     line (is_among (InProcess ∷ Conditional ∷ []) y.state) _ _ (answer_kept y (next_number y.issued) h) (λ _.
     line (is_among (NotSupplied ∷ []) y.state) _ _ (λ _. h) (λ _. h))
-comes_kept y a types.Cancel h same is =
+message_kept y a types.Cancel h same is =
     line (is_at_most a.number y.last_cancel) _ _ (λ _. h) (λ _.
     line (is_among (InProcess ∷ Conditional ∷ []) y.state) _ _
     (cancel_asked_kept y.txn y.state y.accepted y.last_cancel y.last_renew y.received y.request y.issued a.number h) (λ _. h))
-comes_kept y a types.Received h same is =
+message_kept y a types.Received h same is =
     line (is_among later y.state && not y.received) _ _ (arrived_kept y h) (λ _.
     line (is_among later y.state) _ _ (λ _. h) (λ _. h))
-comes_kept y a (types.Renew wished) h same is =
+message_kept y a (types.Renew wished) h same is =
     let asked = renew_asked_kept y.txn y.state in
     line (is_at_most a.number y.last_renew) _ _ (λ _. h) (λ _.
     line (is_among (Shipped ∷ []) y.state) _ _
     (λ here. asked RenewPending y.accepted y.last_cancel y.last_renew y.received y.request y.issued a.number h (search (rules, here)) refl) (λ _.
     line (is_among (Overdue ∷ []) y.state) _ _
     (λ here. asked RenewOverdue y.accepted y.last_cancel y.last_renew y.received y.request y.issued a.number h (search (rules, here)) refl) (λ _. h)))
-comes_kept y a types.Returned h same is =
+message_kept y a types.Returned h same is =
     line (is_among (Shipped ∷ RenewPending ∷ Overdue ∷ RenewOverdue ∷ Recall ∷ []) y.state) _ _
     (sent_back_kept y.txn y.state y.accepted y.last_cancel y.last_renew y.received y.request y.issued h) (λ _.
     line (is_among (Returned ∷ CheckedIn ∷ []) y.state) _ _ (λ _. h) (λ _. h))
-comes_kept y a other h same is = h
+message_kept y a other h same is = h
 
 -- an APDU that is admitted is of the transaction
 admitted_same : (same is_own : Bool) → (if same then (if is_own then Some WrongRole else None) else Some OtherTransaction) ≡ None → same ≡ true
@@ -287,4 +307,4 @@ unless_kept None y answer h admitted = admitted refl
 pub takes_kept : (y : ResponderRecord) (a : Apdu) → IsResponder y → IsResponder (takes y a).1
 takes_kept y a h =
     unless_kept (refused_before y.txn (not (is_requesters a.body)) a) y (take_message y a a.body) h
-    (λ admitted. comes_kept y a a.body h (admitted_same (is_same_txn a.txn y.txn) (not (is_requesters a.body)) admitted) refl)
+    (λ admitted. message_kept y a a.body h (admitted_same (is_same_txn a.txn y.txn) (not (is_requesters a.body)) admitted) refl)

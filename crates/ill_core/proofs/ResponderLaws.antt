@@ -13,32 +13,31 @@ use Rattle.ill_core.specs.declared.state.State.{State}
 use Rattle.ill_core.specs.declared.state.State.TheVariants.{InProcess, Conditional, CancelPending, Cancelled, NotSupplied, Returned, CheckedIn}
 use Rattle.ill_core.specs.declared.responder.Deed.{Deed}
 use Rattle.ill_core.specs.State.{is_among}
-use Rattle.ill_core.specs.Issued.{has, implies, next_number, with_next, next_apdu, IssuesNext, is_at_most, is_below, is_shipped}
+use Rattle.ill_core.specs.Issued.{has, implies, with_next, next_apdu, IssuesNext, is_at_most, is_below, is_shipped}
 use Rattle.ill_core.specs.Responder.{ResponderRecord, IsResponder}
-use Rattle.ill_core.specs.ResponderActions.{acts, next_state, date_refusal, issues_to}
+use Rattle.ill_core.specs.ResponderActions.{acts, issues_to}
 use Rattle.ill_core.specs.ResponderDeliveries.{takes}
 use Rattle.ill_core.specs.ResponderFacts.{ResponderFact, Shows, Tells, Requested, Accepted, CancelAsked, Arrived, SentBack, cancels, IssuesUnfilled, StaysLater, Ends, EntersByEnd, EndsOnce, is_unsupplied, is_cancelled, is_end, ended, ends_in, Question, MayCancel, MayRenew, answered, last_asked, waits, answers_to, AnswersLast, KeepsLast, TakesNew, AnsweredOnce, AnswersOnce}
 use Rattle.ill_core.proofs.IssuedLemmas.{issued_body, not_longer, has_more, found_none, found_more}
 use Rattle.ill_core.proofs.ResponderLists.{count_more}
-use Rattle.ill_core.proofs.ResponderKept.{deed_kept}
-use Rattle.ill_core.proofs.ResponderRows.{Issues, Moves, of_takes, of_deeds, done_by}
-use Rattle.ill_core.proofs.RequesterAnswers.{all_weaker, below_new, at_most_below, distinct_more}
+use Rattle.ill_core.proofs.ResponderKept.{row_kept}
+use Rattle.ill_core.proofs.ResponderRows.{Issues, Moves, of_takes, of_acts}
+use Rattle.ill_core.proofs.NumberLemmas.{all_weaker, below_new, at_most_below, distinct_more}
 
-pub deeds_issue : (y new : ResponderRecord) (deed : Deed) (today : Date) → acts y deed today ≡ Ok new → IssuesNext y.txn y.issued new.issued
-deeds_issue y new deed today = of_deeds (λ r. IssuesNext y.txn y.issued r.issued) y new deed today (λ body next how. (body, refl))
+pub acts_issue : (y new : ResponderRecord) (deed : Deed) (today : Date) → acts y deed today ≡ Ok new → IssuesNext y.txn y.issued new.issued
+acts_issue y new deed today = of_acts (λ r. IssuesNext y.txn y.issued r.issued) y new deed today (λ row there how. (row.body, refl))
 
 pub takes_issue : (y : ResponderRecord) (a : Apdu) → IssuesUnfilled y a.body (takes y a).1
 takes_issue y a = of_takes (IssuesUnfilled y a.body) y a (λ how. inl how.issued) (λ said how. inr (said, refl))
 
-pub deeds_txn : (y new : ResponderRecord) (deed : Deed) (today : Date) → acts y deed today ≡ Ok new → new.txn ≡ y.txn
-deeds_txn y new deed today = of_deeds (λ r. r.txn ≡ y.txn) y new deed today (λ body next how. refl)
+pub acts_txn : (y new : ResponderRecord) (deed : Deed) (today : Date) → acts y deed today ≡ Ok new → new.txn ≡ y.txn
+acts_txn y new deed today = of_acts (λ r. r.txn ≡ y.txn) y new deed today (λ row there how. refl)
 
 pub takes_txn : (y : ResponderRecord) (a : Apdu) → (takes y a).1.txn ≡ y.txn
 takes_txn y a = of_takes (λ r. r.txn ≡ y.txn) y a (λ how. how.txn) (λ said how. refl)
 
-pub deeds_kept : (y new : ResponderRecord) (deed : Deed) (today : Date) → acts y deed today ≡ Ok new → IsResponder y → IsResponder new
-deeds_kept y new deed today done h =
-    done_by IsResponder y new deed (next_state y deed) (date_refusal y deed today) (next_number y.issued) (λ next leads allowed. deed_kept y deed next today h leads allowed) done
+pub acts_kept : (y new : ResponderRecord) (deed : Deed) (today : Date) → acts y deed today ≡ Ok new → IsResponder y → IsResponder new
+acts_kept y new deed today = of_acts (λ r. IsResponder y → IsResponder r) y new deed today (λ row is how h. row_kept y row h is)
 
 not_both : {P : Type 0} (b : Bool) → b ≡ false → b ≡ true → P
 not_both b is_false is_true = search rules
@@ -47,8 +46,8 @@ not_both b is_false is_true = search rules
 abbrev final : List State
 final = NotSupplied ∷ Cancelled ∷ CheckedIn ∷ []
 
-pub deeds_final : (y new : ResponderRecord) (deed : Deed) (today : Date) → acts y deed today ≡ Ok new → is_among final y.state ≡ true → new.state ≡ y.state
-deeds_final y new deed today = of_deeds (λ r. is_among final y.state ≡ true → r.state ≡ y.state) y new deed today (λ body next how. not_both _ how.final)
+pub acts_final : (y new : ResponderRecord) (deed : Deed) (today : Date) → acts y deed today ≡ Ok new → is_among final y.state ≡ true → new.state ≡ y.state
+acts_final y new deed today = of_acts (λ r. is_among final y.state ≡ true → r.state ≡ y.state) y new deed today (λ row there how. not_both _ how.final)
 
 pub takes_final : (y : ResponderRecord) (a : Apdu) → is_among final y.state ≡ true → (takes y a).1.state ≡ y.state
 takes_final y a = of_takes (λ r. is_among final y.state ≡ true → r.state ≡ y.state) y a (λ how. how.final) (λ said how. not_both _ how.final)
@@ -62,11 +61,11 @@ issues_stays y body next how = (
   λ is. how.sent_back ∙ returned_or_later y.state is,
 )
 
-pub deeds_stay : (y new : ResponderRecord) (deed : Deed) (today : Date) → acts y deed today ≡ Ok new → StaysLater y new
-deeds_stay y new deed today = of_deeds (StaysLater y) y new deed today (issues_stays y)
+pub acts_later : (y new : ResponderRecord) (deed : Deed) (today : Date) → acts y deed today ≡ Ok new → StaysLater y new
+acts_later y new deed today = of_acts (StaysLater y) y new deed today (λ row there. issues_stays y row.body row.next)
 
-pub takes_stay : (y : ResponderRecord) (a : Apdu) → StaysLater y (takes y a).1
-takes_stay y a =
+pub takes_later : (y : ResponderRecord) (a : Apdu) → StaysLater y (takes y a).1
+takes_later y a =
     of_takes (StaysLater y) y a
     (λ how. (λ is. sym how.shipped ∙ is, λ is. returned_or_later _ (ap (is_among (Returned ∷ [])) (how.returned is) ∙ is)))
     (λ said how. issues_stays y _ _ how)
@@ -76,8 +75,8 @@ issues_ends y body next how a same is =
     let said = issued_body y.txn y.issued body a same in
     subst (λ b. (is_among (InProcess ∷ Conditional ∷ CancelPending ∷ []) y.state ≡ true) × (ends_in b next ≡ true)) said (how.ends (ap is_end said ∙ is))
 
-pub deeds_end : (y new : ResponderRecord) (deed : Deed) (today : Date) → acts y deed today ≡ Ok new → Ends y new
-deeds_end y new deed today = of_deeds (Ends y) y new deed today (issues_ends y)
+pub acts_end : (y new : ResponderRecord) (deed : Deed) (today : Date) → acts y deed today ≡ Ok new → Ends y new
+acts_end y new deed today = of_acts (Ends y) y new deed today (λ row there. issues_ends y row.body row.next)
 
 pub takes_end : (y : ResponderRecord) (a : Apdu) → Ends y (takes y a).1
 takes_end y a = of_takes (Ends y) y a (λ how b same is. not_longer y.issued _ b how.issued same) (λ said how. issues_ends y _ _ how)
@@ -90,8 +89,8 @@ by_end y new a same (inr is) = inr (a, same, is)
 issues_enters : (y : ResponderRecord) (body : Body) (next : State) → Issues y body next → EntersByEnd y (issues_to y body next)
 issues_enters y body next how is = by_end y (issues_to y body next) (next_apdu y.txn y.issued body) refl (how.enters is)
 
-pub deeds_enter : (y new : ResponderRecord) (deed : Deed) (today : Date) → acts y deed today ≡ Ok new → EntersByEnd y new
-deeds_enter y new deed today = of_deeds (EntersByEnd y) y new deed today (issues_enters y)
+pub acts_enter : (y new : ResponderRecord) (deed : Deed) (today : Date) → acts y deed today ≡ Ok new → EntersByEnd y new
+acts_enter y new deed today = of_acts (EntersByEnd y) y new deed today (λ row there. issues_enters y row.body row.next)
 
 pub takes_enter : (y : ResponderRecord) (a : Apdu) → EntersByEnd y (takes y a).1
 takes_enter y a = of_takes (EntersByEnd y) y a (λ how is. inl (how.ended ∙ is)) (λ said how. issues_enters y _ _ how)
@@ -115,21 +114,21 @@ moves_once y new number body how h =
       once = ap (count_by (λ a. is_end a.body)) how.issued ∙ (h.once ∙ ap (λ b. if b then 1 else 0) how.ended);
     }
 
-pub deeds_end_once : (y new : ResponderRecord) (deed : Deed) (today : Date) → acts y deed today ≡ Ok new → EndsOnce y → EndsOnce new
-deeds_end_once y new deed today = of_deeds (λ r. EndsOnce y → EndsOnce r) y new deed today (issues_once y)
+pub acts_end_once : (y new : ResponderRecord) (deed : Deed) (today : Date) → acts y deed today ≡ Ok new → EndsOnce y → EndsOnce new
+acts_end_once y new deed today = of_acts (λ r. EndsOnce y → EndsOnce r) y new deed today (λ row there. issues_once y row.body row.next)
 
 pub takes_end_once : (y : ResponderRecord) (a : Apdu) → EndsOnce y → EndsOnce (takes y a).1
 takes_end_once y a = of_takes (λ r. EndsOnce y → EndsOnce r) y a (moves_once y (takes y a).1 a.number a.body) (λ said how. issues_once y _ _ how)
 
 issues_answer : (question : Question) (y : ResponderRecord) (body : Body) (next : State) → Issues y body next → AnswersLast question y (issues_to y body next)
 issues_answer question y body next how a n same is =
-    how.answers question n (ap (answered question) (issued_body y.txn y.issued body a same) ∙ is)
+    how.replies question n (ap (answered question) (issued_body y.txn y.issued body a same) ∙ is)
 
-pub deeds_answer : (question : Question) (y new : ResponderRecord) (deed : Deed) (today : Date) → acts y deed today ≡ Ok new → AnswersLast question y new
-deeds_answer question y new deed today = of_deeds (AnswersLast question y) y new deed today (issues_answer question y)
+pub acts_answer_last : (question : Question) (y new : ResponderRecord) (deed : Deed) (today : Date) → acts y deed today ≡ Ok new → AnswersLast question y new
+acts_answer_last question y new deed today = of_acts (AnswersLast question y) y new deed today (λ row there. issues_answer question y row.body row.next)
 
-pub takes_answer : (question : Question) (y : ResponderRecord) (a : Apdu) → AnswersLast question y (takes y a).1
-takes_answer question y a =
+pub takes_answer_last : (question : Question) (y : ResponderRecord) (a : Apdu) → AnswersLast question y (takes y a).1
+takes_answer_last question y a =
     of_takes (AnswersLast question y) y a (λ how b n same is. not_longer y.issued _ b how.issued same) (λ said how. issues_answer question y _ _ how)
 
 last_same : (question : Question) (y : ResponderRecord) (body : Body) (next : State) → last_asked question (issues_to y body next) ≡ last_asked question y
@@ -139,12 +138,12 @@ last_same MayRenew y body next = refl
 issues_keeps : (question : Question) (y : ResponderRecord) (body : Body) (next : State) → Issues y body next → KeepsLast question y (issues_to y body next)
 issues_keeps question y body next how = (last_same question y body next, how.asked question)
 
-pub deeds_keep : (question : Question) (y new : ResponderRecord) (deed : Deed) (today : Date) → acts y deed today ≡ Ok new → KeepsLast question y new
-deeds_keep question y new deed today = of_deeds (KeepsLast question y) y new deed today (issues_keeps question y)
+pub acts_keep_last : (question : Question) (y new : ResponderRecord) (deed : Deed) (today : Date) → acts y deed today ≡ Ok new → KeepsLast question y new
+acts_keep_last question y new deed today = of_acts (KeepsLast question y) y new deed today (λ row there. issues_keeps question y row.body row.next)
 
-pub takes_keep : (question : Question) (y : ResponderRecord) (a : Apdu)
+pub takes_keep_last : (question : Question) (y : ResponderRecord) (a : Apdu)
     → KeepsLast question y (takes y a).1 ⊎ TakesNew question a.number a.body y (takes y a).1
-takes_keep question y a =
+takes_keep_last question y a =
     of_takes (λ r. KeepsLast question y r ⊎ TakesNew question a.number a.body y r) y a (λ how. how.asked question) (λ said how. inl (issues_keeps question y _ _ how))
 
 -- no question waits that did not
@@ -184,7 +183,7 @@ answer_issued question y body next None none how there h =
     subst (λ ns. AnsweredOnce ns (last_asked question y) (waits question next)) (sym (found_none (λ a. answered question a.body) y.issued (next_apdu y.txn y.issued body) none))
     (each_kept _ _ _ _ (how.asked question) h)
 answer_issued question y body next (Some n) some how there h =
-    let row = how.answers question n some in
+    let row = how.replies question n some in
     let last = known (last_asked question y) n (waits question y.state) there row.0 row.2 in
     let before : AnsweredOnce (answers_to question y.issued) (Some n) true = subst (λ o. AnsweredOnce (answers_to question y.issued) o true) last
     (subst (λ b. AnsweredOnce (answers_to question y.issued) (last_asked question y) b) row.0 h) in
@@ -199,10 +198,10 @@ issues_each question y body next how there h =
     subst (λ o. AnsweredOnce (answers_to question (with_next y.txn y.issued body)) o (waits question next)) (sym (last_same question y body next))
     (answer_issued question y body next (answered question body) refl how there h)
 
-pub deeds_answer_once : (question : Question) (y new : ResponderRecord) (deed : Deed) (today : Date) → acts y deed today ≡ Ok new
+pub acts_once : (question : Question) (y new : ResponderRecord) (deed : Deed) (today : Date) → acts y deed today ≡ Ok new
     → implies (waits question y.state) (is_some (last_asked question y)) ≡ true → AnswersOnce question y → AnswersOnce question new
-deeds_answer_once question y new deed today done there =
-    of_deeds (λ r. AnswersOnce question y → AnswersOnce question r) y new deed today (λ body next how. issues_each question y body next how there) done
+acts_once question y new deed today done there =
+    of_acts (λ r. AnswersOnce question y → AnswersOnce question r) y new deed today (λ row leads how. issues_each question y row.body row.next how there) done
 
 moves_each : (question : Question) (y new : ResponderRecord) (number : ℕ) (body : Body) → new.issued ≡ y.issued → KeepsLast question y new ⊎ TakesNew question number body y new
     → AnswersOnce question y → AnswersOnce question new
@@ -225,8 +224,8 @@ unfilled_each question y how h =
     no_answer MayCancel = refl
     no_answer MayRenew = refl
 
-pub takes_answer_once : (question : Question) (y : ResponderRecord) (a : Apdu) → AnswersOnce question y → AnswersOnce question (takes y a).1
-takes_answer_once question y a =
+pub takes_once : (question : Question) (y : ResponderRecord) (a : Apdu) → AnswersOnce question y → AnswersOnce question (takes y a).1
+takes_once question y a =
     of_takes (λ r. AnswersOnce question y → AnswersOnce question r) y a
     (λ how. moves_each question y (takes y a).1 a.number a.body how.issued (how.asked question))
     (λ said how. unfilled_each question y how)
@@ -260,14 +259,14 @@ issues_shows y body next SentBack how asked shown = sym how.sent_back ∙ shown
 yes_answers_last : (y : ResponderRecord) (body : Body) (next : State) → Issues y body next → implies (waits MayCancel y.state) (is_some y.last_cancel) ≡ true
     → (c : ℕ) → cancels c body ≡ true → y.last_cancel ≡ Some c
 yes_answers_last y body next how there c is =
-    let row = how.answers MayCancel c (cancels_answered c body is) in
+    let row = how.replies MayCancel c (cancels_answered c body is) in
     known y.last_cancel c (waits MayCancel y.state) there row.0 row.2
 
-pub deeds_show : (y new : ResponderRecord) (deed : Deed) (today : Date) (fact : ResponderFact) → acts y deed today ≡ Ok new
+pub acts_shows : (y new : ResponderRecord) (deed : Deed) (today : Date) (fact : ResponderFact) → acts y deed today ≡ Ok new
     → implies (waits MayCancel y.state) (is_some y.last_cancel) ≡ true → Shows new fact → Shows y fact
-deeds_show y new deed today fact done there =
-    of_deeds (λ r. Shows r fact → Shows y fact) y new deed today
-    (λ body next how. issues_shows y body next fact how (yes_answers_last y body next how there)) done
+acts_shows y new deed today fact done there =
+    of_acts (λ r. Shows r fact → Shows y fact) y new deed today
+    (λ row leads how. issues_shows y row.body row.next fact how (yes_answers_last y row.body row.next how there)) done
 
 moves_shows : (y new : ResponderRecord) (number : ℕ) (body : Body) (fact : ResponderFact) → Moves y number body new → Shows new fact
     → Shows y fact ⊎ Tells number body fact
@@ -278,9 +277,9 @@ moves_shows y new number body (CancelAsked c) how (inr yes_there) = inl (inr (sy
 moves_shows y new number body Arrived how shown = how.arrived shown
 moves_shows y new number body SentBack how shown = how.sent_back shown
 
-pub takes_show : (y : ResponderRecord) (a : Apdu) (fact : ResponderFact) → Shows (takes y a).1 fact
+pub takes_shows : (y : ResponderRecord) (a : Apdu) (fact : ResponderFact) → Shows (takes y a).1 fact
     → Shows y fact ⊎ Tells a.number a.body fact
-takes_show y a fact =
+takes_shows y a fact =
     of_takes (λ r. Shows r fact → Shows y fact ⊎ Tells a.number a.body fact) y a
     (λ how. moves_shows y (takes y a).1 a.number a.body fact how)
     (λ said how shown. inl (issues_shows y _ _ fact how (λ c is. search rules) shown))

@@ -7,6 +7,7 @@ use Rattle.ill_values.specs.TxnId.{Qualifiers}
 use Rattle.ill_values.specs.declared.apdu.Apdu.{Apdu}
 use Rattle.ill_values.specs.declared.apdu.Body.{Body}
 use Rattle.ill_values.specs.declared.apdu.Body.TheVariants as types
+use Rattle.ill_values.specs.declared.apdu.AnswerResult.{AnswerResult}
 use Rattle.ill_values.specs.declared.apdu.AnswerResult.TheVariants as results
 use Rattle.ill_core.specs.declared.state.State.{State}
 use Rattle.ill_core.specs.declared.state.State.TheVariants.{Idle, InProcess, Conditional, CancelPending, Cancelled, NotSupplied, Shipped, RenewPending, Overdue, RenewOverdue, Recall, Returned, CheckedIn}
@@ -18,9 +19,12 @@ use Rattle.ill_core.specs.declared.taking.Taking.TheVariants.{Taken}
 use Rattle.ill_core.specs.State.{is_among}
 use Rattle.ill_core.specs.Issued.{refused_before, next_number, is_requesters, is_the, is_at_most, was, names_conditions, declines, is_shipped}
 use Rattle.ill_core.specs.Responder.{ResponderRecord, responder_of, later, outstanding}
-use Rattle.ill_core.specs.ResponderActions.{next_state, acts, acts_to, date_refusal, body_of, issues_to}
-use Rattle.ill_core.specs.ResponderDeliveries.{takes, take_message, unless_refused, answers_no}
+use Rattle.ill_core.specs.declared.responder.actions.Row.{Row}
+use Rattle.ill_core.specs.Answers.{unless_refused}
+use Rattle.ill_core.specs.ResponderActions.{row_of, acts, acts_by, issues_to, record_after}
+use Rattle.ill_core.specs.ResponderDeliveries.{takes, take_message, answers_no}
 use Rattle.ill_core.specs.ResponderFacts.{Tells, Requested, Accepted, CancelAsked, Arrived, SentBack, Question, KeepsLast, TakesNew, answered, last_asked, waits, is_unsupplied, is_cancelled, is_end, ended, ends_in}
+use Rattle.ill_core.proofs.ResponderTable.{IsRow, is_row, answers, allows_cancel, refuses_cancel, ships, renews, refuses_renewal, refuses_late, reminds, reminds_renewing, recalls, checks_in, expires}
 
 -- a row that issues this, and leads to this state
 pub record Issues (y : ResponderRecord) (body : Body) (state : State) : Type 0 where
@@ -34,7 +38,7 @@ pub record Issues (y : ResponderRecord) (body : Body) (state : State) : Type 0 w
   pub enters : is_among ended state ≡ true → (is_among ended y.state ≡ true) ⊎ (ends_in body state ≡ true)
   pub sent_back : is_among (Returned ∷ CheckedIn ∷ []) state ≡ is_among (Returned ∷ CheckedIn ∷ []) y.state
   pub asked : (question : Question) → waits question state ≡ true → waits question y.state ≡ true
-  pub answers : (question : Question) (n : ℕ) → answered question body ≡ Some n
+  pub replies : (question : Question) (n : ℕ) → answered question body ≡ Some n
       → (waits question y.state ≡ true) × (waits question state ≡ false) × (n ≡ unwrap_or (last_asked question y) 0)
 
 -- a row that issues nothing
@@ -54,11 +58,37 @@ pub record Moves (y : ResponderRecord) (number : ℕ) (body : Body) (new : Respo
   pub arrived : new.received ≡ true → (y.received ≡ true) ⊎ Tells number body Arrived
   pub sent_back : is_among (Returned ∷ CheckedIn ∷ []) new.state ≡ true → (is_among (Returned ∷ CheckedIn ∷ []) y.state ≡ true) ⊎ Tells number body SentBack
 
-issues : (txn : Qualifiers) (state : State) (accepted last_cancel last_renew : Option ℕ) (received : Bool) (request : Option Apdu) (issued : List Apdu) (deed : Deed) (next : State)
-    → next_state (responder_of txn state accepted last_cancel last_renew received request issued) deed ≡ Some next
-    → Issues (responder_of txn state accepted last_cancel last_renew received request issued) (body_of (responder_of txn state accepted last_cancel last_renew received request issued) deed) next
-issues txn InProcess accepted last_cancel last_renew received request issued (deeds.Answer results.Conditional) Conditional leads = search rules
-issues txn state accepted last_cancel last_renew received request issued deed next leads = search rules
+issues : (txn : Qualifiers) (state : State) (accepted last_cancel last_renew : Option ℕ) (received : Bool) (request : Option Apdu) (issued : List Apdu) (row : Row)
+    → IsRow (responder_of txn state accepted last_cancel last_renew received request issued) row
+    → Issues (responder_of txn state accepted last_cancel last_renew received request issued) row.body row.next
+issues txn InProcess accepted last_cancel last_renew received request issued _ (answers results.Conditional is) = search rules
+issues txn InProcess accepted last_cancel last_renew received request issued _ (answers answer is) = search rules
+issues txn state accepted last_cancel last_renew received request issued _ (answers answer is) = search rules
+issues txn CancelPending accepted last_cancel last_renew received request issued _ (allows_cancel is) = search rules
+issues txn state accepted last_cancel last_renew received request issued _ (allows_cancel is) = search rules
+issues txn CancelPending accepted last_cancel last_renew received request issued _ (refuses_cancel is) = search rules
+issues txn state accepted last_cancel last_renew received request issued _ (refuses_cancel is) = search rules
+issues txn InProcess accepted last_cancel last_renew received request issued _ (ships due is) = search rules
+issues txn state accepted last_cancel last_renew received request issued _ (ships due is) = search rules
+issues txn RenewPending accepted last_cancel last_renew received request issued _ (renews due is after) = search rules
+issues txn RenewOverdue accepted last_cancel last_renew received request issued _ (renews due is after) = search rules
+issues txn state accepted last_cancel last_renew received request issued _ (renews due is after) = search rules
+issues txn RenewPending accepted last_cancel last_renew received request issued _ (refuses_renewal is) = search rules
+issues txn state accepted last_cancel last_renew received request issued _ (refuses_renewal is) = search rules
+issues txn RenewOverdue accepted last_cancel last_renew received request issued _ (refuses_late is) = search rules
+issues txn state accepted last_cancel last_renew received request issued _ (refuses_late is) = search rules
+issues txn Shipped accepted last_cancel last_renew received request issued _ (reminds is) = search rules
+issues txn state accepted last_cancel last_renew received request issued _ (reminds is) = search rules
+issues txn RenewPending accepted last_cancel last_renew received request issued _ (reminds_renewing is) = search rules
+issues txn state accepted last_cancel last_renew received request issued _ (reminds_renewing is) = search rules
+issues txn Shipped accepted last_cancel last_renew received request issued _ (recalls is) = search rules
+issues txn Overdue accepted last_cancel last_renew received request issued _ (recalls is) = search rules
+issues txn state accepted last_cancel last_renew received request issued _ (recalls is) = search rules
+issues txn Returned accepted last_cancel last_renew received request issued _ (checks_in is) = search rules
+issues txn state accepted last_cancel last_renew received request issued _ (checks_in is) = search rules
+issues txn InProcess accepted last_cancel last_renew received request issued _ (expires is) = search rules
+issues txn Conditional accepted last_cancel last_renew received request issued _ (expires is) = search rules
+issues txn state accepted last_cancel last_renew received request issued _ (expires is) = search rules
 
 -- a no is answered
 issues_no : (txn : Qualifiers) (state : State) (accepted last_cancel last_renew : Option ℕ) (received : Bool) (request : Option Apdu) (issued : List Apdu)
@@ -104,93 +134,93 @@ sent_back txn Shipped accepted last_cancel last_renew received request issued nu
 sent_back txn state accepted last_cancel last_renew received request issued number out = search rules
 
 -- a row of deliveries: it moves or leaves the record, or answers a no
-data Row (y : ResponderRecord) (number : ℕ) (body : Body) (answer : Result Taking Refusal × ResponderRecord) : Type 0 where
-  moves : (answer.0 ≡ Ok Taken) ⊎ (answer.1 ≡ y) → Moves y number body answer.1 → Row y number body answer
-  answers : declines body ≡ true → answer ≡ (Ok Taken, issues_to y (types.IllAnswer results.Unfilled) NotSupplied)
-      → Issues y (types.IllAnswer results.Unfilled) NotSupplied → Row y number body answer
+data DeliveryRow (y : ResponderRecord) (number : ℕ) (body : Body) (answer : Result Taking Refusal × ResponderRecord) : Type 0 where
+  moves : (answer.0 ≡ Ok Taken) ⊎ (answer.1 ≡ y) → Moves y number body answer.1 → DeliveryRow y number body answer
+  replies_no : declines body ≡ true → answer ≡ (Ok Taken, issues_to y (types.IllAnswer results.Unfilled) NotSupplied)
+      → Issues y (types.IllAnswer results.Unfilled) NotSupplied → DeliveryRow y number body answer
 
-leaves : (y : ResponderRecord) (number : ℕ) (body : Body) (answer : Result Taking Refusal) → Row y number body (answer, y)
-leaves y number body answer = moves (inr refl) (left y number body)
+left_row : (y : ResponderRecord) (number : ℕ) (body : Body) (answer : Result Taking Refusal) → DeliveryRow y number body (answer, y)
+left_row y number body answer = moves (inr refl) (left y number body)
 
 -- the first line that fits decides
 line : (y : ResponderRecord) (number : ℕ) (body : Body) (fits : Bool) (here others : Result Taking Refusal × ResponderRecord)
-    → (fits ≡ true → Row y number body here) → (fits ≡ false → Row y number body others) → Row y number body (if fits then here else others)
-line y number body fits here others = cond_both fits here others (Row y number body)
+    → (fits ≡ true → DeliveryRow y number body here) → (fits ≡ false → DeliveryRow y number body others) → DeliveryRow y number body (if fits then here else others)
+line y number body fits here others = cond_both fits here others (DeliveryRow y number body)
 
 answers_row : (y : ResponderRecord) (number c : ℕ) (next : Result ℕ Refusal) → is_among (InProcess ∷ Conditional ∷ []) y.state ≡ true
-    → Row y number (types.ConditionalReply c false) (answers_no y next)
+    → DeliveryRow y number (types.ConditionalReply c false) (answers_no y next)
 answers_row y number c (Ok n) waiting =
-    answers refl refl (issues_no y.txn y.state y.accepted y.last_cancel y.last_renew y.received y.request y.issued waiting)
-answers_row y number c (Err refusal) waiting = leaves y number _ _
+    replies_no refl refl (issues_no y.txn y.state y.accepted y.last_cancel y.last_renew y.received y.request y.issued waiting)
+answers_row y number c (Err refusal) waiting = left_row y number _ _
 
-comes : (y : ResponderRecord) (a : Apdu) (body : Body) → Row y a.number body (take_message y a body)
-comes y a (types.IllRequest expiry item) =
+message_row : (y : ResponderRecord) (a : Apdu) (body : Body) → DeliveryRow y a.number body (take_message y a body)
+message_row y a (types.IllRequest expiry item) =
     line y _ _ (is_among (Idle ∷ []) y.state) _ _ (λ idle. moves (inl refl) (requested y.txn y.state y.accepted y.last_cancel y.last_renew y.received y.request (Some a) y.issued a.number expiry item idle)) (λ _.
-    leaves y _ _ _)
-comes y a (types.ConditionalReply c true) =
+    left_row y _ _ _)
+message_row y a (types.ConditionalReply c true) =
     line y _ _ (is_the c (outstanding y)) _ _ (λ there. moves (inl refl) (accepts y.txn y.state y.accepted y.last_cancel y.last_renew y.received y.request y.issued a.number c there)) (λ _.
-    line y _ _ (is_the c y.accepted) _ _ (λ _. leaves y _ _ _) (λ _.
-    line y _ _ (was names_conditions y.issued c) _ _ (λ _. leaves y _ _ _) (λ _. leaves y _ _ _)))
-comes y a (types.ConditionalReply c false) =
+    line y _ _ (is_the c y.accepted) _ _ (λ _. left_row y _ _ _) (λ _.
+    line y _ _ (was names_conditions y.issued c) _ _ (λ _. left_row y _ _ _) (λ _. left_row y _ _ _)))
+message_row y a (types.ConditionalReply c false) =
     line y _ _ (is_among (InProcess ∷ Conditional ∷ []) y.state) _ _ (answers_row y a.number c (next_number y.issued)) (λ _.
-    line y _ _ (is_among (NotSupplied ∷ []) y.state) _ _ (λ _. leaves y _ _ _) (λ _. leaves y _ _ _))
-comes y a types.Cancel =
-    line y _ _ (is_at_most a.number y.last_cancel) _ _ (λ _. leaves y _ _ _) (λ above.
+    line y _ _ (is_among (NotSupplied ∷ []) y.state) _ _ (λ _. left_row y _ _ _) (λ _. left_row y _ _ _))
+message_row y a types.Cancel =
+    line y _ _ (is_at_most a.number y.last_cancel) _ _ (λ _. left_row y _ _ _) (λ above.
     line y _ _ (is_among (InProcess ∷ Conditional ∷ []) y.state) _ _ (λ waiting. moves (inl refl) (cancel_asked y.txn y.state y.accepted y.last_cancel y.last_renew y.received y.request y.issued a.number above waiting)) (λ _.
-    leaves y _ _ _))
-comes y a types.Received =
+    left_row y _ _ _))
+message_row y a types.Received =
     line y _ _ (is_among later y.state && not y.received) _ _ (λ _. moves (inl refl) (arrived y a.number)) (λ _.
-    line y _ _ (is_among later y.state) _ _ (λ _. leaves y _ _ _) (λ _. leaves y _ _ _))
-comes y a (types.Renew wished) =
-    line y _ _ (is_at_most a.number y.last_renew) _ _ (λ _. leaves y _ _ _) (λ above.
+    line y _ _ (is_among later y.state) _ _ (λ _. left_row y _ _ _) (λ _. left_row y _ _ _))
+message_row y a (types.Renew wished) =
+    line y _ _ (is_at_most a.number y.last_renew) _ _ (λ _. left_row y _ _ _) (λ above.
     line y _ _ (is_among (Shipped ∷ []) y.state) _ _ (λ here. moves (inl refl) (renew_asked y.txn y.state RenewPending y.accepted y.last_cancel y.last_renew y.received y.request y.issued a.number wished above (search (rules, here)) refl)) (λ _.
     line y _ _ (is_among (Overdue ∷ []) y.state) _ _ (λ here. moves (inl refl) (renew_asked y.txn y.state RenewOverdue y.accepted y.last_cancel y.last_renew y.received y.request y.issued a.number wished above (search (rules, here)) refl)) (λ _.
-    leaves y _ _ _)))
-comes y a types.Returned =
+    left_row y _ _ _)))
+message_row y a types.Returned =
     line y _ _ (is_among (Shipped ∷ RenewPending ∷ Overdue ∷ RenewOverdue ∷ Recall ∷ []) y.state) _ _ (λ out. moves (inl refl) (sent_back y.txn y.state y.accepted y.last_cancel y.last_renew y.received y.request y.issued a.number out)) (λ _.
-    line y _ _ (is_among (Returned ∷ CheckedIn ∷ []) y.state) _ _ (λ _. leaves y _ _ _) (λ _. leaves y _ _ _))
-comes y a other = leaves y a.number _ _
+    line y _ _ (is_among (Returned ∷ CheckedIn ∷ []) y.state) _ _ (λ _. left_row y _ _ _) (λ _. left_row y _ _ _))
+message_row y a other = left_row y a.number _ _
 
 by_admission : (y : ResponderRecord) (number : ℕ) (body : Body) (refused : Option Refusal) (answer : Result Taking Refusal × ResponderRecord)
-    → Row y number body answer → Row y number body (unless_refused refused y answer)
+    → DeliveryRow y number body answer → DeliveryRow y number body (unless_refused refused y answer)
 by_admission y number body None answer row = row
-by_admission y number body (Some refusal) answer row = leaves y number body (Err refusal)
+by_admission y number body (Some refusal) answer row = left_row y number body (Err refusal)
 
-takes : (y : ResponderRecord) (a : Apdu) → Row y a.number a.body (takes y a)
-takes y a = by_admission y a.number a.body (refused_before y.txn (not (is_requesters a.body)) a) (take_message y a a.body) (comes y a a.body)
+delivery_row : (y : ResponderRecord) (a : Apdu) → DeliveryRow y a.number a.body (takes y a)
+delivery_row y a = by_admission y a.number a.body (refused_before y.txn (not (is_requesters a.body)) a) (take_message y a a.body) (message_row y a a.body)
 
-of_row : (P : ResponderRecord → Type 0) (y : ResponderRecord) (number : ℕ) (body : Body) (answer : Result Taking Refusal × ResponderRecord) → Row y number body answer
+of_row : (P : ResponderRecord → Type 0) (y : ResponderRecord) (number : ℕ) (body : Body) (answer : Result Taking Refusal × ResponderRecord) → DeliveryRow y number body answer
     → (Moves y number body answer.1 → P answer.1)
     → (declines body ≡ true → Issues y (types.IllAnswer results.Unfilled) NotSupplied → P (issues_to y (types.IllAnswer results.Unfilled) NotSupplied)) → P answer.1
 of_row P y number body answer (moves quiet how) where_moved where_answered = where_moved how
-of_row P y number body answer (answers said same how) where_moved where_answered = subst (λ r. P r.1) (sym same) (where_answered said how)
+of_row P y number body answer (replies_no said same how) where_moved where_answered = subst (λ r. P r.1) (sym same) (where_answered said how)
 
 -- What holds where a message moves the record, and where it is answered, holds after every message.
 pub of_takes : (P : ResponderRecord → Type 0) (y : ResponderRecord) (a : Apdu)
     → (Moves y a.number a.body (takes y a).1 → P (takes y a).1)
     → (declines a.body ≡ true → Issues y (types.IllAnswer results.Unfilled) NotSupplied → P (issues_to y (types.IllAnswer results.Unfilled) NotSupplied)) → P (takes y a).1
-of_takes P y a = of_row P y a.number a.body (takes y a) (takes y a)
+of_takes P y a = of_row P y a.number a.body (takes y a) (delivery_row y a)
 
-row_quiet : (y : ResponderRecord) (number : ℕ) (body : Body) (answer : Result Taking Refusal × ResponderRecord) → Row y number body answer → (answer.0 ≡ Ok Taken) ⊎ (answer.1 ≡ y)
+row_quiet : (y : ResponderRecord) (number : ℕ) (body : Body) (answer : Result Taking Refusal × ResponderRecord) → DeliveryRow y number body answer → (answer.0 ≡ Ok Taken) ⊎ (answer.1 ≡ y)
 row_quiet y number body answer (moves quiet how) = quiet
-row_quiet y number body answer (answers said same how) = inl (ap (λ r. r.0) same)
+row_quiet y number body answer (replies_no said same how) = inl (ap (λ r. r.0) same)
 
 pub takes_quiet : (y : ResponderRecord) (a : Apdu) → ((takes y a).0 ≡ Ok Taken) ⊎ ((takes y a).1 ≡ y)
-takes_quiet y a = row_quiet y a.number a.body (takes y a) (takes y a)
+takes_quiet y a = row_quiet y a.number a.body (takes y a) (delivery_row y a)
 
 ok_is : (x y : ResponderRecord) → ◌≡◌ {A = Result ResponderRecord Refusal} (Ok x) (Ok y) → x ≡ y
 ok_is x y h = search rules
 
-pub done_by : (P : ResponderRecord → Type 0) (y new : ResponderRecord) (deed : Deed) (state : Option State) (dates : Option Refusal) (number : Result ℕ Refusal)
-    → ((next : State) → state ≡ Some next → dates ≡ None → P (issues_to y (body_of y deed) next)) → acts_to y deed state dates number ≡ Ok new → P new
-done_by P y new deed None dates number leads done = search rules
-done_by P y new deed (Some next) (Some refusal) number leads done = search rules
-done_by P y new deed (Some next) None (Err refusal) leads done = search rules
-done_by P y new deed (Some next) None (Ok n) leads done = subst P (ok_is (issues_to y (body_of y deed) next) new done) (leads next refl refl)
+by_row : (P : ResponderRecord → Type 0) (y new : ResponderRecord) (found : Result Row Refusal) (number : Result ℕ Refusal)
+    → ((row : Row) → found ≡ Ok row → P (record_after y row)) → acts_by y found number ≡ Ok new → P new
+by_row P y new (Err refusal) number leads done = search rules
+by_row P y new (Ok row) (Err refusal) leads done = search rules
+by_row P y new (Ok row) (Ok n) leads done = subst P (ok_is (record_after y row) new done) (leads row refl)
 
--- What holds wherever an APDU is issued holds after a deed.
-pub of_deeds : (P : ResponderRecord → Type 0) (y new : ResponderRecord) (deed : Deed) (today : Date)
-    → ((body : Body) (next : State) → Issues y body next → P (issues_to y body next)) → acts y deed today ≡ Ok new → P new
-of_deeds P y new deed today leads done =
-    done_by P y new deed (next_state y deed) (date_refusal y deed today) (next_number y.issued) (λ next leads_there _.
-    leads (body_of y deed) next (issues y.txn y.state y.accepted y.last_cancel y.last_renew y.received y.request y.issued deed next leads_there)) done
+-- What holds after every row holds after a deed.
+pub of_acts : (P : ResponderRecord → Type 0) (y new : ResponderRecord) (deed : Deed) (today : Date)
+    → ((row : Row) → IsRow y row → Issues y row.body row.next → P (record_after y row)) → acts y deed today ≡ Ok new → P new
+of_acts P y new deed today leads done =
+    by_row P y new (row_of y deed today) (next_number y.issued) (λ row there.
+    let is = is_row y deed today row there in
+    leads row is (issues y.txn y.state y.accepted y.last_cancel y.last_renew y.received y.request y.issued row is)) done

@@ -117,7 +117,6 @@ impl Responder {
     }
 
     /// Does what its library decides, and issues the message that tells it.
-    #[tactic(auto, using(crate::proofs::ResponderKept::deed_kept))]
     pub fn act(&mut self, alloc: Global, deed: &Deed, today: Day) -> Result<(), Refusal>
         ensures { Acts self.old deed.now today result self.new }
     {

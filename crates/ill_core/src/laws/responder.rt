@@ -16,14 +16,12 @@ ghost use Rattle.ill_core.specs.ResponderFacts.{ResponderFact, Shows, Tells, Iss
 
 /// A deed issues exactly one APDU, with the next number; a message none, or to a Conditional-Reply no
 /// one ILL-Answer unfilled.
-#[tactic(auto, using(crate::proofs::ResponderLaws::deeds_issue, crate::proofs::ResponderLaws::takes_issue))]
 pub fn responder_issues()
     ensures acts { (y new : ResponderRecord) (deed : Deed) (today : Date) → acts y deed today ≡ Ok new → IssuesNext y.txn y.issued new.issued }
     ensures takes { (y : ResponderRecord) (a : Apdu) → IssuesUnfilled y a.body (takes y a).1 }
 {}
 
 /// The transaction stays.
-#[tactic(auto, using(crate::proofs::ResponderLaws::deeds_txn, crate::proofs::ResponderLaws::takes_txn))]
 pub fn responder_keeps_txn()
     ensures acts { (y new : ResponderRecord) (deed : Deed) (today : Date) → acts y deed today ≡ Ok new → new.txn ≡ y.txn }
     ensures takes { (y : ResponderRecord) (a : Apdu) → (takes y a).1.txn ≡ y.txn }
@@ -36,13 +34,11 @@ pub fn responder_keeps_rules()
 {}
 
 /// A message that is not taken changes nothing.
-#[tactic(auto, using(crate::proofs::ResponderRows::takes_quiet))]
 pub fn responder_is_quiet()
     ensures { (y : ResponderRecord) (a : Apdu) → ((takes y a).0 ≡ Ok Taken) ⊎ ((takes y a).1 ≡ y) }
 {}
 
 /// NOT-SUPPLIED, CANCELLED and CHECKED-IN are final.
-#[tactic(auto, using(crate::proofs::ResponderLaws::deeds_final, crate::proofs::ResponderLaws::takes_final))]
 pub fn responder_is_final()
     ensures acts { (y new : ResponderRecord) (deed : Deed) (today : Date) → acts y deed today ≡ Ok new →
         is_among (states.NotSupplied ∷ states.Cancelled ∷ states.CheckedIn ∷ []) y.state ≡ true → new.state ≡ y.state }
@@ -63,7 +59,6 @@ pub fn responder_ends()
 {}
 
 /// NOT-SUPPLIED, CANCELLED, and SHIPPED or later, are entered only by issuing the end that leads there.
-#[tactic(auto, using(crate::proofs::ResponderLaws::deeds_enter, crate::proofs::ResponderLaws::takes_enter))]
 pub fn responder_enters_by_end()
     ensures acts { (y new : ResponderRecord) (deed : Deed) (today : Date) → acts y deed today ≡ Ok new → EntersByEnd y new }
     ensures takes { (y : ResponderRecord) (a : Apdu) → EntersByEnd y (takes y a).1 }
@@ -98,7 +93,6 @@ pub fn responder_answers_once()
 
 /// What a record shows to have come was shown before, or is told by the message that it took; a deed shows nothing
 /// new, where a Cancel that waits is there.
-#[tactic(auto, using(crate::proofs::ResponderLaws::deeds_show, crate::proofs::ResponderLaws::takes_show))]
 pub fn responder_shows()
     ensures acts { (y new : ResponderRecord) (deed : Deed) (today : Date) (fact : ResponderFact) → acts y deed today ≡ Ok new →
         implies (waits MayCancel y.state) (is_some y.last_cancel) ≡ true → Shows new fact → Shows y fact }

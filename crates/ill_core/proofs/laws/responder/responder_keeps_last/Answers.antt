@@ -1,8 +1,8 @@
-use Rattle.ill_core.proofs.ResponderLaws.{deeds_keep, takes_keep}
+use Rattle.ill_core.proofs.ResponderLaws.{acts_keep_last, takes_keep_last}
 use Rattle.ill_core.proofs.laws.responder.responder_keeps_last.Goals as goal
 
 pub returns-clause-acts : goal.returns-clause-acts
-returns-clause-acts c = deeds_keep
+returns-clause-acts c = acts_keep_last
 
 pub returns-clause-takes : goal.returns-clause-takes
-returns-clause-takes c = takes_keep
+returns-clause-takes c = takes_keep_last

@@ -1,8 +1,8 @@
-use Rattle.ill_core.proofs.ResponderLaws.{deeds_stay, takes_stay}
+use Rattle.ill_core.proofs.ResponderLaws.{acts_later, takes_later}
 use Rattle.ill_core.proofs.laws.responder.responder_stays_later.Goals as goal
 
 pub returns-clause-acts : goal.returns-clause-acts
-returns-clause-acts c = deeds_stay
+returns-clause-acts c = acts_later
 
 pub returns-clause-takes : goal.returns-clause-takes
-returns-clause-takes c = takes_stay
+returns-clause-takes c = takes_later

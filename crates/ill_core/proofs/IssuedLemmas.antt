@@ -14,7 +14,9 @@ use Rattle.ill_values.specs.TxnId.{Qualifiers}
 use Rattle.ill_values.specs.declared.apdu.Apdu.{Apdu}
 use Rattle.ill_values.specs.declared.apdu.Body.{Body}
 use Rattle.ill_core.specs.declared.refusal.Refusal.TheVariants.{NumbersUsed}
-use Rattle.ill_core.specs.Issued.{was, is_cancel, is_the, number_of_cancel, next_number, with_next, next_apdu, are_numbered, is_same_txn, has, last_of, is_ill_request}
+use Rattle.ill_core.specs.Numbers.{is_the}
+use Rattle.ill_core.specs.Bodies.{is_cancel, is_ill_request}
+use Rattle.ill_core.specs.Issued.{was, number_of_cancel, next_number, with_next, next_apdu, are_numbered, is_same_txn, has, last_of}
 use Rattle.ill_core.specs.Requester.{begins_with_request}
 use Rattle.ill_core.specs.Issued.{is_none}
 

@@ -11,9 +11,11 @@ use Rattle.ill_values.specs.declared.apdu.Body.TheVariants as types
 use Rattle.ill_core.specs.declared.state.State.{State}
 use Rattle.ill_core.specs.declared.state.State.TheVariants.{Pending, Conditional}
 use Rattle.ill_core.specs.State.{is_among}
-use Rattle.ill_core.specs.Issued.{is_at_most, is_below, are_distinct, has, declines, accepts, answered_yes, last_of, with_next, next_apdu}
-use Rattle.ill_core.specs.Requester.{RequesterRecord, requester_of, accepted}
-use Rattle.ill_core.specs.RequesterFacts.{AnswersOnce, replies, replied, Holds}
+use Rattle.ill_core.specs.Numbers.{is_at_most, is_below, are_distinct}
+use Rattle.ill_core.specs.Bodies.{declines, accepts}
+use Rattle.ill_core.specs.Issued.{has, accepted_in, last_of, with_next, next_apdu}
+use Rattle.ill_core.specs.Requester.{RequesterRecord, requester_of, accepted_number}
+use Rattle.ill_core.specs.RequesterFacts.{AnswersOnce, replies, replied_number, Holds}
 use Rattle.ill_core.proofs.NumberLemmas.{all_weaker, below_new, at_most_below, distinct_more}
 use Rattle.ill_core.proofs.IssuedLemmas.{found_none, found_more, last_of_more, has_more}
 
@@ -25,7 +27,7 @@ held_still x new k (inl (held, inr away)) once here undeclined = search rules
 held_still x new k (inr (inl (held, away))) once here undeclined = search rules
 held_still x new k (inr (inr fresh)) once here undeclined =
     subst (λ o. list_all (λ n. is_below n o) (replies x.issued) ≡ true) (sym fresh.2)
-    (all_weaker (λ n. is_at_most n (accepted x)) (λ n. is_below n (Some k)) (below_new k (accepted x) fresh.3) (replies x.issued) (once.above undeclined))
+    (all_weaker (λ n. is_at_most n (accepted_number x)) (λ n. is_below n (Some k)) (below_new k (accepted_number x) fresh.3) (replies x.issued) (once.above undeclined))
 
 -- the record after a delivery has answered what it had
 pub still_once : (x new : RequesterRecord) (k : ℕ) → new.issued ≡ x.issued → Holds x k new → AnswersOnce x → AnswersOnce new
@@ -33,23 +35,23 @@ still_once x new k same holds once =
     let undeclined : has declines new.issued ≡ false → has declines x.issued ≡ false = subst (λ l. has declines l ≡ false → has declines x.issued ≡ false) (sym same) (λ h. h) in
     record {
       distinct = ap (λ l. are_distinct (replies l)) same ∙ once.distinct;
-      above = subst (λ l. has declines l ≡ false → list_all (λ n. is_at_most n (last_of answered_yes l)) (replies l) ≡ true) (sym same) once.above;
+      above = subst (λ l. has declines l ≡ false → list_all (λ n. is_at_most n (last_of accepted_in l)) (replies l) ≡ true) (sym same) once.above;
       held = λ here no. ap (λ l. list_all (λ n. is_below n new.held) (replies l)) same ∙ held_still x new k holds once here (undeclined no);
     }
 
 -- an APDU that is no answer to conditions
-pub silent_once : (x : RequesterRecord) (body : Body) (state : State) (held : Option ℕ) → replied body ≡ None → accepts body ≡ None → declines body ≡ false
+pub silent_once : (x : RequesterRecord) (body : Body) (state : State) (held : Option ℕ) → replied_number body ≡ None → accepts body ≡ None → declines body ≡ false
     → is_among (Conditional ∷ []) state ≡ false → AnswersOnce x
     → AnswersOnce (requester_of x.txn state held x.checked_in x.due (with_next x.txn x.issued body))
 silent_once x body state held silent accepts_none declines_not away once =
     let a : Apdu = next_apdu x.txn x.issued body in
-    let same : replies (x.issued ++ a ∷ []) ≡ replies x.issued = found_none (λ b. replied b.body) x.issued a silent in
-    let same_yes : filter_map answered_yes (x.issued ++ a ∷ []) ≡ filter_map answered_yes x.issued = found_none answered_yes x.issued a accepts_none in
+    let same : replies (x.issued ++ a ∷ []) ≡ replies x.issued = found_none (λ b. replied_number b.body) x.issued a silent in
+    let same_yes : filter_map accepted_in (x.issued ++ a ∷ []) ≡ filter_map accepted_in x.issued = found_none accepted_in x.issued a accepts_none in
     let no : has declines (x.issued ++ a ∷ []) ≡ has declines x.issued = has_more declines x.issued a ∙ (ap (λ b. has declines x.issued || b) declines_not ∙ or-false _) in
     record {
       distinct = ap are_distinct same ∙ once.distinct;
       above = λ undeclined. ap (λ l. list_all (λ n. is_at_most n (last_or None l)) (replies (x.issued ++ a ∷ []))) same_yes
-          ∙ (ap (list_all (λ n. is_at_most n (accepted x))) same ∙ once.above (sym no ∙ undeclined));
+          ∙ (ap (list_all (λ n. is_at_most n (accepted_number x))) same ∙ once.above (sym no ∙ undeclined));
       held = λ here undeclined. search rules;
     }
 
@@ -63,12 +65,12 @@ pub yes_once : (x : RequesterRecord) (n : ℕ) → x.held ≡ Some n → is_amon
     → AnswersOnce (requester_of x.txn Pending None x.checked_in x.due (with_next x.txn x.issued (types.ConditionalReply n true)))
 yes_once x n is here undeclined once =
     let a : Apdu = next_apdu x.txn x.issued (types.ConditionalReply n true) in
-    let more : replies (x.issued ++ a ∷ []) ≡ replies x.issued ++ n ∷ [] = found_more (λ b. replied b.body) x.issued a n refl in
+    let more : replies (x.issued ++ a ∷ []) ≡ replies x.issued ++ n ∷ [] = found_more (λ b. replied_number b.body) x.issued a n refl in
     let below = below_held x n is here undeclined once in
     record {
       distinct = ap are_distinct more ∙ distinct_more (replies x.issued) n once.distinct below;
-      above = λ _. ap (λ l. list_all (λ m. is_at_most m (last_of answered_yes (x.issued ++ a ∷ []))) l) more
-          ∙ (ap (λ o. list_all (λ m. is_at_most m o) (replies x.issued ++ n ∷ [])) (last_of_more answered_yes x.issued a n refl)
+      above = λ _. ap (λ l. list_all (λ m. is_at_most m (last_of accepted_in (x.issued ++ a ∷ []))) l) more
+          ∙ (ap (λ o. list_all (λ m. is_at_most m o) (replies x.issued ++ n ∷ [])) (last_of_more accepted_in x.issued a n refl)
           ∙ (list_all-append (λ m. is_at_most m (Some n)) (replies x.issued) (n ∷ [])
           ∙ and_from _ _ (all_weaker (λ m. is_below m (Some n)) (λ m. is_at_most m (Some n)) (at_most_below n) (replies x.issued) below) (search rules)));
       held = λ here undeclined. search rules;
@@ -79,7 +81,7 @@ pub no_once : (x : RequesterRecord) (n : ℕ) → x.held ≡ Some n → is_among
     → AnswersOnce (requester_of x.txn Conditional x.held x.checked_in x.due (with_next x.txn x.issued (types.ConditionalReply n false)))
 no_once x n is here undeclined once =
     let a : Apdu = next_apdu x.txn x.issued (types.ConditionalReply n false) in
-    let more : replies (x.issued ++ a ∷ []) ≡ replies x.issued ++ n ∷ [] = found_more (λ b. replied b.body) x.issued a n refl in
+    let more : replies (x.issued ++ a ∷ []) ≡ replies x.issued ++ n ∷ [] = found_more (λ b. replied_number b.body) x.issued a n refl in
     let declined : has declines (x.issued ++ a ∷ []) ≡ true = has_more declines x.issued a ∙ or-true _ in
     record {
       distinct = ap are_distinct more ∙ distinct_more (replies x.issued) n once.distinct (below_held x n is here undeclined once);

@@ -11,7 +11,9 @@ use Rattle.ill_core.specs.declared.requester.Wish.{Wish}
 use Rattle.ill_core.specs.declared.requester.Wish.TheVariants as wishes
 use Rattle.ill_core.specs.declared.requester.actions.Row.{Row}
 use Rattle.ill_core.specs.State.{is_among}
-use Rattle.ill_core.specs.Issued.{has, is_none, implies, with_next, next_apdu, declines, is_requesters, is_ill_request, is_cancel, is_received, is_renew, is_returned}
+use Rattle.ill_core.specs.Rules.{implies}
+use Rattle.ill_core.specs.Bodies.{declines, is_requesters, is_ill_request, is_cancel, is_received, is_renew, is_returned}
+use Rattle.ill_core.specs.Issued.{has, is_none, with_next, next_apdu}
 use Rattle.ill_core.specs.Requester.{RequesterRecord, requester_of, IsRequester, PartsFit, IssuedFit}
 use Rattle.ill_core.specs.declared.refusal.Refusal.{Refusal}
 use Rattle.ill_core.specs.declared.refusal.Refusal.TheVariants as refusals

@@ -9,7 +9,7 @@ use Rattle.ill_core.specs.Issued.{IssuesNext, with_next}
 use Rattle.ill_core.specs.Requester.{RequesterRecord, IsRequester, later}
 use Rattle.ill_core.specs.RequesterActions.{acts}
 use Rattle.ill_core.specs.RequesterDeliveries.{takes}
-use Rattle.ill_core.specs.RequesterFacts.{RequesterFact, Shows, Tells, KeepsDue, Holds, Replies, AnswersOnce}
+use Rattle.ill_core.specs.RequesterFacts.{Fact, Shows, Tells, KeepsDue, Holds, Replies, AnswersOnce}
 use Rattle.ill_core.specs.RequesterFacts as facts
 use Rattle.ill_core.proofs.IssuedLemmas.{issued_body}
 use Rattle.ill_core.proofs.RequesterKept.{row_kept, fits}
@@ -37,7 +37,7 @@ acts_later x new wish = of_acts (λ r. is_among later x.state ≡ true → is_am
 pub acts_due : (x new : RequesterRecord) (wish : Wish) → acts x wish ≡ Ok new → new.due ≡ x.due
 acts_due x new wish = of_acts (λ r. r.due ≡ x.due) x new wish (λ row there how. refl)
 
-pub acts_shows : (x new : RequesterRecord) (wish : Wish) (fact : RequesterFact) → acts x wish ≡ Ok new → Shows new fact → Shows x fact
+pub acts_shows : (x new : RequesterRecord) (wish : Wish) (fact : Fact) → acts x wish ≡ Ok new → Shows new fact → Shows x fact
 acts_shows x new wish fact = of_acts (λ r. Shows r fact → Shows x fact) x new wish (λ row there how. how.shows fact)
 
 pub acts_reply : (x new : RequesterRecord) (wish : Wish) → acts x wish ≡ Ok new → Replies x new
@@ -73,7 +73,7 @@ takes_due x a = (delivery_row x a).due
 pub takes_holds : (x : RequesterRecord) (a : Apdu) → Holds x a.number (takes x a).1
 takes_holds x a = (delivery_row x a).holds
 
-pub takes_shows : (x : RequesterRecord) (a : Apdu) (fact : RequesterFact) → Shows (takes x a).1 fact → Shows x fact ⊎ Tells a.body fact
+pub takes_shows : (x : RequesterRecord) (a : Apdu) (fact : Fact) → Shows (takes x a).1 fact → Shows x fact ⊎ Tells a.body fact
 takes_shows x a facts.Cancelled = (delivery_row x a).cancelled
 takes_shows x a facts.Ended = (delivery_row x a).ended
 takes_shows x a (facts.Granted due) = (delivery_row x a).granted due

@@ -15,14 +15,16 @@ use Rattle.ill_core.specs.declared.state.State.TheVariants.{Idle, Pending, Condi
 use Rattle.ill_core.specs.declared.taking.Taking.{Taking}
 use Rattle.ill_core.specs.declared.taking.Taking.TheVariants as takings
 use Rattle.ill_core.specs.State.{is_among}
-use Rattle.ill_core.specs.Issued.{refused_before, is_requesters, is_at_most, is_the, was, has, is_cancel, is_renew, declines, accepts, next_number, next_apdu, number_of_cancel, last_of}
-use Rattle.ill_core.specs.Requester.{RequesterRecord, IsRequester, later, accepted, is_declined, is_received_by, last_cancel, last_renew}
+use Rattle.ill_core.specs.Numbers.{is_at_most, is_the}
+use Rattle.ill_core.specs.Bodies.{is_requesters, is_cancel, is_renew, declines, accepts}
+use Rattle.ill_core.specs.Issued.{first_refusal, was, has, next_number, next_apdu, number_of_cancel, last_of}
+use Rattle.ill_core.specs.Requester.{RequesterRecord, IsRequester, later, accepted_number, is_declined, is_received_by, last_cancel, last_renew}
 use Rattle.ill_core.specs.RequesterActions.{acts, acts_by, row_of, record_after, answer_held, not_now}
 use Rattle.ill_core.specs.Answers.{taken, unless_refused}
 use Rattle.ill_core.specs.RequesterDeliveries.{take_message, takes, take_end, take_cancel_reply, take_renew_answer, take_renewal}
 use Rattle.ill_core.specs.Dates.{is_after_due, is_due_on}
 use Rattle.ill_core.specs.declared.refusal.Refusal.{Refusal}
-use Rattle.ill_core.specs.RequesterFacts.{RequesterFact, Shows, Tells, KeepsDue, Holds, ShowsRefused, AnswersOnce, replied}
+use Rattle.ill_core.specs.RequesterFacts.{Fact, Shows, Tells, KeepsDue, Holds, ShowsRefused, AnswersOnce, replied_number}
 use Rattle.ill_core.specs.RequesterFacts as facts
 use Rattle.ill_core.proofs.IssuedLemmas.{was_more, still_cancel, last_cancel_more, older_cancel}
 use Rattle.ill_core.proofs.RowLemmas.{at_line, no_more}
@@ -52,7 +54,7 @@ pub record Moves (x : RequesterRecord) (k : ℕ) (body : Body) (answer : Result 
 left : (x : RequesterRecord) (k : ℕ) (body : Body) (answer : Result Taking Refusal) → Moves x k body (answer, x)
 left x k body answer = search rules
 
-conditions_held : (x : RequesterRecord) (k : ℕ) (body : Body) → is_among (Pending ∷ []) x.state ≡ true → is_at_most k (accepted x) ≡ false → Moves x k body (taken (record x { state = Conditional; held = Some k }))
+conditions_held : (x : RequesterRecord) (k : ℕ) (body : Body) → is_among (Pending ∷ []) x.state ≡ true → is_at_most k (accepted_number x) ≡ false → Moves x k body (taken (record x { state = Conditional; held = Some k }))
 conditions_held x k body is above = search rules
 
 ended : (x : RequesterRecord) (k : ℕ) (body : Body) → Tells body facts.Ended → is_among (Pending ∷ Conditional ∷ CancelPending ∷ []) x.state ≡ true → Moves x k body (taken (record x { state = NotSupplied; held = None }))
@@ -115,7 +117,7 @@ renew_answer_row x k c granted decided =
 
 pub message_row : (x : RequesterRecord) (a : Apdu) (body : Body) → Moves x a.number body (take_message x a body)
 message_row x a (types.IllAnswer results.Conditional) =
-    line x a.number _ (is_at_most a.number (accepted x)) _ _ (λ _. left x a.number _ _) (λ above.
+    line x a.number _ (is_at_most a.number (accepted_number x)) _ _ (λ _. left x a.number _ _) (λ above.
     line x a.number _ (is_among (Conditional ∷ []) x.state && is_the a.number x.held) _ _ (λ _. left x a.number _ _) (λ _.
     line x a.number _ (is_among (Pending ∷ []) x.state) _ _ (λ is. conditions_held x a.number _ is above) (λ _. left x a.number _ _)))
 message_row x a (types.IllAnswer results.WillSupply) = line x a.number _ (is_among (Pending ∷ []) x.state) _ _ (λ _. left x a.number _ _) (λ _. left x a.number _ _)
@@ -151,7 +153,7 @@ admitted x k body None answer row = row
 admitted x k body (Some refusal) answer row = left x k body (Err refusal)
 
 pub delivery_row : (x : RequesterRecord) (a : Apdu) → Moves x a.number a.body (takes x a)
-delivery_row x a = admitted x a.number a.body (refused_before x.txn (is_requesters a.body) a) (take_message x a a.body) (message_row x a a.body)
+delivery_row x a = admitted x a.number a.body (first_refusal x.txn (is_requesters a.body) a) (take_message x a a.body) (message_row x a a.body)
 
 -- ---- actions
 
@@ -159,25 +161,25 @@ delivery_row x a = admitted x a.number a.body (refused_before x.txn (is_requeste
 pub record Issues (x : RequesterRecord) (row : Row) : Type 0 where
   pub final : is_among (Cancelled ∷ NotSupplied ∷ Returned ∷ []) x.state ≡ true → row.next ≡ x.state
   pub stays : is_among later x.state ≡ true → is_among later row.next ≡ true
-  pub shows : (fact : RequesterFact) → Shows (record_after x row) fact → Shows x fact
+  pub shows : (fact : Fact) → Shows (record_after x row) fact → Shows x fact
   pub replies : (n : ℕ) (answer : Bool) → row.body ≡ types.ConditionalReply n answer
       → (is_among (Conditional ∷ []) x.state ≡ true) × (has declines x.issued ≡ false) × (n ≡ unwrap_or x.held 0)
   pub once : is_some x.held ≡ is_among (Conditional ∷ []) x.state → AnswersOnce x → AnswersOnce (record_after x row)
 
 -- no wish leads to CANCELLED or NOT-SUPPLIED
 goes_on : (x : RequesterRecord) (row : Row) → is_among (Cancelled ∷ NotSupplied ∷ []) row.next ≡ false
-    → ((c : ℕ) → ShowsRefused (record_after x row) c → ShowsRefused x c) → (fact : RequesterFact) → Shows (record_after x row) fact → Shows x fact
+    → ((c : ℕ) → ShowsRefused (record_after x row) c → ShowsRefused x c) → (fact : Fact) → Shows (record_after x row) fact → Shows x fact
 goes_on x row away refused facts.Cancelled shown = search rules
 goes_on x row away refused facts.Ended shown = search rules
 goes_on x row away refused (facts.Granted due) shown = shown
 goes_on x row away refused (facts.Refused cancel) shown = refused cancel shown
 goes_on x row away refused facts.GivenBack shown = shown
 
-no_reply : {P : Type 0} (body : Body) (n : ℕ) (answer : Bool) → replied body ≡ None → body ≡ types.ConditionalReply n answer → P
+no_reply : {P : Type 0} (body : Body) (n : ℕ) (answer : Bool) → replied_number body ≡ None → body ≡ types.ConditionalReply n answer → P
 no_reply body n answer silent is = search rules
 
 -- a row that answers no conditions
-silent_row : (x : RequesterRecord) (next : State) (body : Body) → replied body ≡ None → accepts body ≡ None → declines body ≡ false
+silent_row : (x : RequesterRecord) (next : State) (body : Body) → replied_number body ≡ None → accepts body ≡ None → declines body ≡ false
     → is_among (Conditional ∷ []) next ≡ false → is_among (Cancelled ∷ NotSupplied ∷ []) next ≡ false → is_among (Cancelled ∷ NotSupplied ∷ Returned ∷ []) x.state ≡ false
     → (is_among later x.state ≡ true → is_among later next ≡ true)
     → ((c : ℕ) → ShowsRefused (record_after x (record { next = next; body = body; held = x.held })) c → ShowsRefused x c)
@@ -192,7 +194,7 @@ silent_row x next body silent accepts_none declines_not held_no_more on settled_
     }
 
 -- a row of a loan
-loan_row : (x : RequesterRecord) (next : State) (body : Body) → replied body ≡ None → accepts body ≡ None → declines body ≡ false
+loan_row : (x : RequesterRecord) (next : State) (body : Body) → replied_number body ≡ None → accepts body ≡ None → declines body ≡ false
     → is_among (Shipped ∷ Received ∷ RenewPending ∷ Overdue ∷ RenewOverdue ∷ NotReceivedOverdue ∷ Recall ∷ []) x.state ≡ true → is_among later next ≡ true
     → Issues x (record { next = next; body = body; held = x.held })
 loan_row x next body silent accepts_none declines_not here there =

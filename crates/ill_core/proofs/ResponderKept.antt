@@ -15,14 +15,17 @@ use Rattle.ill_core.specs.declared.responder.Deed.{Deed}
 use Rattle.ill_core.specs.declared.responder.Deed.TheVariants as deeds
 use Rattle.ill_core.specs.State.{is_among}
 use Rattle.ill_core.specs.Dates.{is_after_due}
-use Rattle.ill_core.specs.Issued.{is_the, is_at_most, next_number, was, is_same_txn, is_ill_request, with_next, next_apdu, is_requesters, implies, is_shipped, is_checked_in, names_conditions, is_renewal, granted, date_granted}
-use Rattle.ill_core.specs.Responder.{ResponderRecord, responder_of, outstanding, is_named, IsResponder, IssuedFits, PartsFit, later, are_rising, ships_first, due_of}
+use Rattle.ill_core.specs.Rules.{implies}
+use Rattle.ill_core.specs.Numbers.{is_the, is_at_most}
+use Rattle.ill_core.specs.Bodies.{is_ill_request, is_requesters, is_shipped, is_checked_in, names_conditions, is_renewal, grant_in}
+use Rattle.ill_core.specs.Issued.{next_number, was, is_same_txn, with_next, next_apdu, granted_day}
+use Rattle.ill_core.specs.Responder.{ResponderRecord, responder_of, outstanding_number, is_named, IsResponder, IssuedFits, PartsFit, later, are_rising, ships_first, due_of}
 use Rattle.ill_core.specs.declared.responder.actions.Row.{Row}
 use Rattle.ill_core.specs.ResponderActions.{issues_to, record_after}
 use Rattle.ill_core.specs.declared.refusal.Refusal.{Refusal}
 use Rattle.ill_core.specs.declared.refusal.Refusal.TheVariants.{OtherTransaction, WrongRole}
 use Rattle.ill_core.specs.declared.taking.Taking.{Taking}
-use Rattle.ill_core.specs.Issued.{Admits, refused_before}
+use Rattle.ill_core.specs.Issued.{Admits, first_refusal}
 use Rattle.ill_core.specs.ResponderDeliveries.{MayWantMemory, answers_no, Takes, take_message, takes_memory, takes}
 use Rattle.ill_core.specs.Answers.{unless_refused}
 use Rattle.ill_core.proofs.ResponderTable.{IsRow, answers, allows_cancel, refuses_cancel, ships, renews, refuses_renewal, refuses_late, reminds, reminds_renewing, recalls, checks_in, expires}
@@ -43,22 +46,22 @@ pub record FitsNext (y : ResponderRecord) (body : Body) (state : State) : Type 0
 
 -- the dates that were granted, where one more APDU is issued: none more, a first one, or one after the last
 pub data Grants (y : ResponderRecord) (body : Body) : Type 0 where
-  no_grant : date_granted body ≡ None → is_renewal body ≡ false → Grants y body
+  no_grant : grant_in body ≡ None → is_renewal body ≡ false → Grants y body
   first_grant : (d : Date) → body ≡ types.Shipped d → is_among later y.state ≡ false → Grants y body
-  later_grant : (d : Date) → date_granted body ≡ Some d → is_among later y.state ≡ true → is_after_due d (due_of y) ≡ true → Grants y body
+  later_grant : (d : Date) → grant_in body ≡ Some d → is_among later y.state ≡ true → is_after_due d (due_of y) ≡ true → Grants y body
 
 or_right : (a b : Bool) → b ≡ true → a || b ≡ true
 or_right true b h = refl
 or_right false b h = h
 
-rising_next : (y : ResponderRecord) (a : Apdu) → IsResponder y → Grants y a.body → are_rising (filter_map granted (y.issued ++ a ∷ [])) ≡ true
-rising_next y a h (no_grant silent _) = ap are_rising (found_none granted y.issued a silent) ∙ h.rising
+rising_next : (y : ResponderRecord) (a : Apdu) → IsResponder y → Grants y a.body → are_rising (filter_map granted_day (y.issued ++ a ∷ [])) ≡ true
+rising_next y a h (no_grant silent _) = ap are_rising (found_none granted_day y.issued a silent) ∙ h.rising
 rising_next y a h (first_grant d is away) =
     let nothing = no_grants y.issued h.ships_first (h.issued.shipped ∙ ap (λ b. if b then 1 else 0) away) in
-    ap are_rising (found_more granted y.issued a d (ap date_granted is))
-    ∙ rise_more None (filter_map granted y.issued) d h.rising (ap (λ ds. not (is_some (last_or None ds)) || is_after_due d (last_or None ds)) nothing)
+    ap are_rising (found_more granted_day y.issued a d (ap grant_in is))
+    ∙ rise_more None (filter_map granted_day y.issued) d h.rising (ap (λ ds. not (is_some (last_or None ds)) || is_after_due d (last_or None ds)) nothing)
 rising_next y a h (later_grant d is here after) =
-    ap are_rising (found_more granted y.issued a d is) ∙ rise_more None (filter_map granted y.issued) d h.rising (or_right _ _ after)
+    ap are_rising (found_more granted_day y.issued a d is) ∙ rise_more None (filter_map granted_day y.issued) d h.rising (or_right _ _ after)
 
 ships_next : (y : ResponderRecord) (a : Apdu) → IsResponder y → Grants y a.body → ships_first (y.issued ++ a ∷ []) ≡ true
 ships_next y a h (no_grant _ no_renewal) = ships_more y.issued a h.ships_first no_renewal
@@ -153,7 +156,7 @@ no_kept y h waits =
 
 -- the outstanding conditions are the last message
 outstanding_named : (txn : Qualifiers) (state : State) (accepted last_cancel last_renew : Option ℕ) (received : Bool) (request : Option Apdu) (issued : List Apdu) (c : ℕ)
-    → IsResponder (responder_of txn state accepted last_cancel last_renew received request issued) → is_the c (outstanding (responder_of txn state accepted last_cancel last_renew received request issued)) ≡ true
+    → IsResponder (responder_of txn state accepted last_cancel last_renew received request issued) → is_the c (outstanding_number (responder_of txn state accepted last_cancel last_renew received request issued)) ≡ true
     → (is_among (Conditional ∷ []) state ≡ true) × (is_named (Some c) issued ≡ true)
 outstanding_named txn Conditional accepted last_cancel last_renew received request [] c h is = search rules
 outstanding_named txn Conditional accepted last_cancel last_renew received request (a ∷ issued) c h is =
@@ -181,7 +184,7 @@ first_of_two : (state : State) → is_among (Idle ∷ []) state ≡ true → is_
 first_of_two state is = search rules
 
 -- conditions are accepted
-pub yes_kept : (y : ResponderRecord) (c : ℕ) → IsResponder y → is_the c (outstanding y) ≡ true
+pub yes_kept : (y : ResponderRecord) (c : ℕ) → IsResponder y → is_the c (outstanding_number y) ≡ true
     → IsResponder (record y { state = InProcess; accepted = Some c })
 yes_kept y c h is =
     let named = outstanding_named y.txn y.state y.accepted y.last_cancel y.last_renew y.received y.request y.issued c h is in
@@ -224,7 +227,7 @@ admits_none None h = refl
 admits_none (Some refusal) h = search rules
 
 -- an APDU that is admitted does what its row says
-pub takes_admitted : (y new : ResponderRecord) (a : Apdu) (answer : Result Taking Refusal) → refused_before y.txn (not (is_requesters a.body)) a ≡ None
+pub takes_admitted : (y new : ResponderRecord) (a : Apdu) (answer : Result Taking Refusal) → first_refusal y.txn (not (is_requesters a.body)) a ≡ None
     → MayWantMemory (take_message y a a.body) (takes_memory y a.body) y answer new → Takes y a answer new
 takes_admitted y new a answer admitted comes =
     let same : takes y a ≡ take_message y a a.body = ap (λ o. unless_refused o y (take_message y a a.body)) admitted in
@@ -267,7 +270,7 @@ message_kept : (y : ResponderRecord) (a : Apdu) (body : Body) → IsResponder y 
 message_kept y a (types.IllRequest expiry item) h same is =
     line (is_among (Idle ∷ []) y.state) _ _ (λ idle. request_kept y a h idle same is) (λ _. h)
 message_kept y a (types.ConditionalReply c true) h same is =
-    line (is_the c (outstanding y)) _ _ (λ there. yes_kept y c h there) (λ _.
+    line (is_the c (outstanding_number y)) _ _ (λ there. yes_kept y c h there) (λ _.
     line (is_the c y.accepted) _ _ (λ _. h) (λ _.
     line (was names_conditions y.issued c) _ _ (λ _. h) (λ _. h)))
 message_kept y a (types.ConditionalReply c false) h same is =
@@ -306,5 +309,5 @@ unless_kept None y answer h admitted = admitted refl
 -- A delivery leads to a responder's record.
 pub takes_kept : (y : ResponderRecord) (a : Apdu) → IsResponder y → IsResponder (takes y a).1
 takes_kept y a h =
-    unless_kept (refused_before y.txn (not (is_requesters a.body)) a) y (take_message y a a.body) h
+    unless_kept (first_refusal y.txn (not (is_requesters a.body)) a) y (take_message y a a.body) h
     (λ admitted. message_kept y a a.body h (admitted_same (is_same_txn a.txn y.txn) (not (is_requesters a.body)) admitted) refl)

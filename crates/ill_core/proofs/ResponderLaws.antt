@@ -13,11 +13,14 @@ use Rattle.ill_core.specs.declared.state.State.{State}
 use Rattle.ill_core.specs.declared.state.State.TheVariants.{InProcess, Conditional, CancelPending, Cancelled, NotSupplied, Returned, CheckedIn}
 use Rattle.ill_core.specs.declared.responder.Deed.{Deed}
 use Rattle.ill_core.specs.State.{is_among}
-use Rattle.ill_core.specs.Issued.{has, implies, with_next, next_apdu, IssuesNext, is_at_most, is_below, is_shipped}
+use Rattle.ill_core.specs.Rules.{implies}
+use Rattle.ill_core.specs.Numbers.{is_at_most, is_below}
+use Rattle.ill_core.specs.Bodies.{is_shipped}
+use Rattle.ill_core.specs.Issued.{has, with_next, next_apdu, IssuesNext}
 use Rattle.ill_core.specs.Responder.{ResponderRecord, IsResponder}
 use Rattle.ill_core.specs.ResponderActions.{acts, issues_to}
 use Rattle.ill_core.specs.ResponderDeliveries.{takes}
-use Rattle.ill_core.specs.ResponderFacts.{ResponderFact, Shows, Tells, Requested, Accepted, CancelAsked, Arrived, SentBack, cancels, IssuesUnfilled, StaysLater, Ends, EntersByEnd, EndsOnce, is_unsupplied, is_cancelled, is_end, ended, ends_in, Question, MayCancel, MayRenew, answered, last_asked, waits, answers_to, AnswersLast, KeepsLast, TakesNew, AnsweredOnce, AnswersOnce}
+use Rattle.ill_core.specs.ResponderFacts.{Fact, Shows, Tells, Requested, Accepted, CancelAsked, Arrived, SentBack, cancels, IssuesUnfilled, StaysLater, Ends, EntersByEnd, EndsOnce, is_unsupplied, is_cancelled, is_end, ended, ends_in, Question, MayCancel, MayRenew, answered_number, last_asked, waits, answers_to, AnswersLast, KeepsLast, TakesNew, AnsweredOnce, AnswersOnce}
 use Rattle.ill_core.proofs.IssuedLemmas.{issued_body, not_longer, has_more, found_none, found_more}
 use Rattle.ill_core.proofs.ResponderLists.{count_more}
 use Rattle.ill_core.proofs.ResponderKept.{row_kept}
@@ -122,7 +125,7 @@ takes_end_once y a = of_takes (λ r. EndsOnce y → EndsOnce r) y a (moves_once 
 
 issues_answer : (question : Question) (y : ResponderRecord) (body : Body) (next : State) → Issues y body next → AnswersLast question y (issues_to y body next)
 issues_answer question y body next how a n same is =
-    how.replies question n (ap (answered question) (issued_body y.txn y.issued body a same) ∙ is)
+    how.replies question n (ap (answered_number question) (issued_body y.txn y.issued body a same) ∙ is)
 
 pub acts_answer_last : (question : Question) (y new : ResponderRecord) (deed : Deed) (today : Date) → acts y deed today ≡ Ok new → AnswersLast question y new
 acts_answer_last question y new deed today = of_acts (AnswersLast question y) y new deed today (λ row there. issues_answer question y row.body row.next)
@@ -176,11 +179,11 @@ each_answered ns n h =
 known : (o : Option ℕ) (n : ℕ) (waiting : Bool) → implies waiting (is_some o) ≡ true → waiting ≡ true → n ≡ unwrap_or o 0 → o ≡ Some n
 known o n waiting there is same = search rules
 
-answer_issued : (question : Question) (y : ResponderRecord) (body : Body) (next : State) (o : Option ℕ) → answered question body ≡ o → Issues y body next
+answer_issued : (question : Question) (y : ResponderRecord) (body : Body) (next : State) (o : Option ℕ) → answered_number question body ≡ o → Issues y body next
     → implies (waits question y.state) (is_some (last_asked question y)) ≡ true → AnswersOnce question y
     → AnsweredOnce (answers_to question (with_next y.txn y.issued body)) (last_asked question y) (waits question next)
 answer_issued question y body next None none how there h =
-    subst (λ ns. AnsweredOnce ns (last_asked question y) (waits question next)) (sym (found_none (λ a. answered question a.body) y.issued (next_apdu y.txn y.issued body) none))
+    subst (λ ns. AnsweredOnce ns (last_asked question y) (waits question next)) (sym (found_none (λ a. answered_number question a.body) y.issued (next_apdu y.txn y.issued body) none))
     (each_kept _ _ _ _ (how.asked question) h)
 answer_issued question y body next (Some n) some how there h =
     let row = how.replies question n some in
@@ -190,13 +193,13 @@ answer_issued question y body next (Some n) some how there h =
     let after : AnsweredOnce (answers_to question y.issued ++ n ∷ []) (last_asked question y) (waits question next) =
     subst (λ o. AnsweredOnce (answers_to question y.issued ++ n ∷ []) o (waits question next)) (sym last)
     (subst (λ b. AnsweredOnce (answers_to question y.issued ++ n ∷ []) (Some n) b) (sym row.1) (each_answered _ n before)) in
-    subst (λ ns. AnsweredOnce ns (last_asked question y) (waits question next)) (sym (found_more (λ a. answered question a.body) y.issued (next_apdu y.txn y.issued body) n some)) after
+    subst (λ ns. AnsweredOnce ns (last_asked question y) (waits question next)) (sym (found_more (λ a. answered_number question a.body) y.issued (next_apdu y.txn y.issued body) n some)) after
 
 issues_each : (question : Question) (y : ResponderRecord) (body : Body) (next : State) → Issues y body next
     → implies (waits question y.state) (is_some (last_asked question y)) ≡ true → AnswersOnce question y → AnswersOnce question (issues_to y body next)
 issues_each question y body next how there h =
     subst (λ o. AnsweredOnce (answers_to question (with_next y.txn y.issued body)) o (waits question next)) (sym (last_same question y body next))
-    (answer_issued question y body next (answered question body) refl how there h)
+    (answer_issued question y body next (answered_number question body) refl how there h)
 
 pub acts_once : (question : Question) (y new : ResponderRecord) (deed : Deed) (today : Date) → acts y deed today ≡ Ok new
     → implies (waits question y.state) (is_some (last_asked question y)) ≡ true → AnswersOnce question y → AnswersOnce question new
@@ -217,10 +220,10 @@ unfilled_each : (question : Question) (y : ResponderRecord) → Issues y (types.
     → AnswersOnce question (issues_to y (types.IllAnswer results.Unfilled) NotSupplied)
 unfilled_each question y how h =
     subst (λ ns. AnsweredOnce ns (last_asked question (issues_to y (types.IllAnswer results.Unfilled) NotSupplied)) (waits question NotSupplied))
-    (sym (found_none (λ a. answered question a.body) y.issued (next_apdu y.txn y.issued (types.IllAnswer results.Unfilled)) (no_answer question)))
+    (sym (found_none (λ a. answered_number question a.body) y.issued (next_apdu y.txn y.issued (types.IllAnswer results.Unfilled)) (no_answer question)))
     (subst (λ o. AnsweredOnce (answers_to question y.issued) o (waits question NotSupplied)) (sym (last_same question y _ _)) (each_kept _ _ _ _ (how.asked question) h))
   where
-    no_answer : (q : Question) → answered q (types.IllAnswer results.Unfilled) ≡ None
+    no_answer : (q : Question) → answered_number q (types.IllAnswer results.Unfilled) ≡ None
     no_answer MayCancel = refl
     no_answer MayRenew = refl
 
@@ -235,7 +238,7 @@ or_either true b either = inl refl
 or_either false b either = inr either
 
 -- a Cancel-Reply yes answers a Cancel
-cancels_answered : (c : ℕ) (body : Body) → cancels c body ≡ true → answered MayCancel body ≡ Some c
+cancels_answered : (c : ℕ) (body : Body) → cancels c body ≡ true → answered_number MayCancel body ≡ Some c
 cancels_answered c (types.CancelReply n true) is = ap Some (eqb-true n c is)
 cancels_answered c other is = search rules
 
@@ -245,7 +248,7 @@ yes_shown : (y : ResponderRecord) (body : Body) (c : ℕ) → (cancels c body �
 yes_shown y body c asked (inl older) = inr older
 yes_shown y body c asked (inr is) = inl (asked is)
 
-issues_shows : (y : ResponderRecord) (body : Body) (next : State) (fact : ResponderFact) → Issues y body next
+issues_shows : (y : ResponderRecord) (body : Body) (next : State) (fact : Fact) → Issues y body next
     → ((c : ℕ) → cancels c body ≡ true → y.last_cancel ≡ Some c) → Shows (issues_to y body next) fact → Shows y fact
 issues_shows y body next Requested how asked shown = how.begun
 issues_shows y body next (Accepted c) how asked shown = shown
@@ -262,13 +265,13 @@ yes_answers_last y body next how there c is =
     let row = how.replies MayCancel c (cancels_answered c body is) in
     known y.last_cancel c (waits MayCancel y.state) there row.0 row.2
 
-pub acts_shows : (y new : ResponderRecord) (deed : Deed) (today : Date) (fact : ResponderFact) → acts y deed today ≡ Ok new
+pub acts_shows : (y new : ResponderRecord) (deed : Deed) (today : Date) (fact : Fact) → acts y deed today ≡ Ok new
     → implies (waits MayCancel y.state) (is_some y.last_cancel) ≡ true → Shows new fact → Shows y fact
 acts_shows y new deed today fact done there =
     of_acts (λ r. Shows r fact → Shows y fact) y new deed today
     (λ row leads how. issues_shows y row.body row.next fact how (yes_answers_last y row.body row.next how there)) done
 
-moves_shows : (y new : ResponderRecord) (number : ℕ) (body : Body) (fact : ResponderFact) → Moves y number body new → Shows new fact
+moves_shows : (y new : ResponderRecord) (number : ℕ) (body : Body) (fact : Fact) → Moves y number body new → Shows new fact
     → Shows y fact ⊎ Tells number body fact
 moves_shows y new number body Requested how shown = how.requested shown
 moves_shows y new number body (Accepted c) how shown = how.accepted c shown
@@ -277,7 +280,7 @@ moves_shows y new number body (CancelAsked c) how (inr yes_there) = inl (inr (sy
 moves_shows y new number body Arrived how shown = how.arrived shown
 moves_shows y new number body SentBack how shown = how.sent_back shown
 
-pub takes_shows : (y : ResponderRecord) (a : Apdu) (fact : ResponderFact) → Shows (takes y a).1 fact
+pub takes_shows : (y : ResponderRecord) (a : Apdu) (fact : Fact) → Shows (takes y a).1 fact
     → Shows y fact ⊎ Tells a.number a.body fact
 takes_shows y a fact =
     of_takes (λ r. Shows r fact → Shows y fact ⊎ Tells a.number a.body fact) y a

@@ -11,7 +11,8 @@ use Rattle.ill_values.specs.declared.apdu.Apdu.{Apdu}
 use Rattle.ill_values.specs.declared.apdu.Body.{Body}
 use Rattle.ill_values.specs.declared.apdu.Body.TheVariants as types
 use Rattle.ill_core.specs.Dates.{is_after_due}
-use Rattle.ill_core.specs.Issued.{was, is_shipped, is_renewal, names_conditions, granted, date_granted, last_of}
+use Rattle.ill_core.specs.Bodies.{is_shipped, is_renewal, names_conditions, grant_in}
+use Rattle.ill_core.specs.Issued.{was, granted_day, last_of}
 use Rattle.ill_core.specs.Responder.{rises, rise_from, ships_first, ends_with_conditions, is_named}
 use Rattle.ill_core.proofs.IssuedLemmas.{not_true, front_at}
 
@@ -63,17 +64,17 @@ grant_rises last (Some d) dates = rise_first last d dates
 
 -- the APDU at a place, and those behind it
 pub rise_at : (last found next : Option Date) (follows : Bool) (apdus : List Apdu) (i : ℕ) (a : Apdu) → i < length apdus → a ≡ get_or apdus i a
-    → found ≡ granted a → follows ≡ rises last found → next ≡ option_or found last
-    → rise_from last (filter_map granted (drop i apdus)) ≡ (follows && rise_from next (filter_map granted (drop (i + 1) apdus)))
+    → found ≡ granted_day a → follows ≡ rises last found → next ≡ option_or found last
+    → rise_from last (filter_map granted_day (drop i apdus)) ≡ (follows && rise_from next (filter_map granted_day (drop (i + 1) apdus)))
 rise_at last found next follows apdus i a within there is may then_last =
-    let others = filter_map granted (drop (i + 1) apdus) in
-    let front : rise_from last (filter_map granted (drop i apdus)) ≡ rise_from last (filter_map granted (get_or apdus i a ∷ drop (i + 1) apdus)) = ap (λ xs. rise_from last (filter_map granted xs)) (front_at apdus i a within) in
-    let same : rise_from last (filter_map granted (get_or apdus i a ∷ drop (i + 1) apdus)) ≡ rise_from last (filter_map granted (a ∷ drop (i + 1) apdus)) = ap (λ b. rise_from last (filter_map granted (b ∷ drop (i + 1) apdus))) (sym there) in
-    let known : rise_from last (filter_map granted (a ∷ drop (i + 1) apdus)) ≡ rise_from last (cons_option found others) = ap (λ o. rise_from last (cons_option o others)) (sym is) in
+    let others = filter_map granted_day (drop (i + 1) apdus) in
+    let front : rise_from last (filter_map granted_day (drop i apdus)) ≡ rise_from last (filter_map granted_day (get_or apdus i a ∷ drop (i + 1) apdus)) = ap (λ xs. rise_from last (filter_map granted_day xs)) (front_at apdus i a within) in
+    let same : rise_from last (filter_map granted_day (get_or apdus i a ∷ drop (i + 1) apdus)) ≡ rise_from last (filter_map granted_day (a ∷ drop (i + 1) apdus)) = ap (λ b. rise_from last (filter_map granted_day (b ∷ drop (i + 1) apdus))) (sym there) in
+    let known : rise_from last (filter_map granted_day (a ∷ drop (i + 1) apdus)) ≡ rise_from last (cons_option found others) = ap (λ o. rise_from last (cons_option o others)) (sym is) in
     front ∙ (same ∙ (known ∙ (grant_rises last found others ∙ (ap (λ b. b && rise_from (option_or found last) others) (sym may) ∙ ap (λ o. follows && rise_from o others) (sym then_last)))))
 
-pub rise_end : (last : Option Date) (apdus : List Apdu) (i : ℕ) → length apdus ≤ i → rise_from last (filter_map granted (drop i apdus)) ≡ true
-rise_end last apdus i all = at_drop_all (λ xs. rise_from last (filter_map granted xs)) apdus i all ∙ rise_none last
+pub rise_end : (last : Option Date) (apdus : List Apdu) (i : ℕ) → length apdus ≤ i → rise_from last (filter_map granted_day (drop i apdus)) ≡ true
+rise_end last apdus i all = at_drop_all (λ xs. rise_from last (filter_map granted_day xs)) apdus i all ∙ rise_none last
 
 ships_cons : (a : Apdu) (apdus : List Apdu) → ships_first (a ∷ apdus) ≡ (is_shipped a.body || (not (is_renewal a.body) && ships_first apdus))
 unfolding ships_first
@@ -115,13 +116,13 @@ none_counted true others none = search rules
 none_counted false others none = (refl, omega (arith, none))
 
 -- other types than a Shipped and a Renew-Answer yes grant no date
-grants_none : (body : Body) → is_shipped body ≡ false → is_renewal body ≡ false → date_granted body ≡ None
+grants_none : (body : Body) → is_shipped body ≡ false → is_renewal body ≡ false → grant_in body ≡ None
 grants_none (types.Shipped due) shipped renewal = search rules
 grants_none (types.RenewAnswer answers (Some due)) shipped renewal = search rules
 grants_none (types.RenewAnswer answers None) shipped renewal = refl
 grants_none other shipped renewal = refl
 
-grants_some : (body : Body) → is_shipped body ≡ true → is_some (date_granted body) ≡ true
+grants_some : (body : Body) → is_shipped body ≡ true → is_some (grant_in body) ≡ true
 grants_some (types.Shipped due) shipped = refl
 grants_some other shipped = search rules
 
@@ -139,22 +140,22 @@ last_first None xs (inr there) = there
 last_first (Some x) xs either = last_some (Some x) xs refl
 
 -- without a Shipped no date was granted
-pub no_grants : (apdus : List Apdu) → ships_first apdus ≡ true → count_by (λ b. is_shipped b.body) apdus ≡ 0 → filter_map granted apdus ≡ []
+pub no_grants : (apdus : List Apdu) → ships_first apdus ≡ true → count_by (λ b. is_shipped b.body) apdus ≡ 0 → filter_map granted_day apdus ≡ []
 unfolding ships_first
 no_grants [] first none = refl
 no_grants (b ∷ apdus) first none =
     let counted = none_counted (is_shipped b.body) (count_by (λ c. is_shipped c.body) apdus) (sym (count_first b apdus) ∙ none) in
     let others : not (is_renewal b.body) && ships_first apdus ≡ true = ap (λ c. c || (not (is_renewal b.body) && ships_first apdus)) (sym counted.0) ∙ first in
     let parts = and_parts _ _ others in
-    ap (λ o. cons_option o (filter_map granted apdus)) (grants_none b.body counted.0 (not_true _ parts.0)) ∙ no_grants apdus parts.1 counted.1
+    ap (λ o. cons_option o (filter_map granted_day apdus)) (grants_none b.body counted.0 (not_true _ parts.0)) ∙ no_grants apdus parts.1 counted.1
 
 one_there : (shipped : Bool) (others : ℕ) {A B : Type 0} → 1 ≤ cond shipped 1 0 + others → (shipped ≡ true → A) → (1 ≤ others → B) → A ⊎ B
 one_there true others there here rest = inl (here refl)
 one_there false others there here rest = inr (rest (omega (arith, there)))
 
 -- with a Shipped there is a due date
-pub due_there : (apdus : List Apdu) → 1 ≤ count_by (λ b. is_shipped b.body) apdus → is_some (last_of granted apdus) ≡ true
+pub due_there : (apdus : List Apdu) → 1 ≤ count_by (λ b. is_shipped b.body) apdus → is_some (last_of granted_day apdus) ≡ true
 due_there [] there = search rules
 due_there (b ∷ apdus) there =
-    last_first (granted b) (filter_map granted apdus)
+    last_first (granted_day b) (filter_map granted_day apdus)
     (one_there (is_shipped b.body) (count_by (λ c. is_shipped c.body) apdus) (subst (λ n. 1 ≤ n) (count_first b apdus) there) (grants_some b.body) (due_there apdus))

@@ -17,13 +17,15 @@ use Rattle.ill_core.specs.declared.responder.Deed.TheVariants as deeds
 use Rattle.ill_core.specs.declared.taking.Taking.{Taking}
 use Rattle.ill_core.specs.declared.taking.Taking.TheVariants.{Taken}
 use Rattle.ill_core.specs.State.{is_among}
-use Rattle.ill_core.specs.Issued.{refused_before, next_number, is_requesters, is_the, is_at_most, was, names_conditions, declines, is_shipped}
-use Rattle.ill_core.specs.Responder.{ResponderRecord, responder_of, later, outstanding}
+use Rattle.ill_core.specs.Numbers.{is_the, is_at_most}
+use Rattle.ill_core.specs.Bodies.{is_requesters, names_conditions, declines, is_shipped}
+use Rattle.ill_core.specs.Issued.{first_refusal, next_number, was}
+use Rattle.ill_core.specs.Responder.{ResponderRecord, responder_of, later, outstanding_number}
 use Rattle.ill_core.specs.declared.responder.actions.Row.{Row}
 use Rattle.ill_core.specs.Answers.{unless_refused}
 use Rattle.ill_core.specs.ResponderActions.{row_of, acts, acts_by, issues_to, record_after}
 use Rattle.ill_core.specs.ResponderDeliveries.{takes, take_message, answers_no}
-use Rattle.ill_core.specs.ResponderFacts.{Tells, Requested, Accepted, CancelAsked, Arrived, SentBack, Question, KeepsLast, TakesNew, answered, last_asked, waits, is_unsupplied, is_cancelled, is_end, ended, ends_in}
+use Rattle.ill_core.specs.ResponderFacts.{Tells, Requested, Accepted, CancelAsked, Arrived, SentBack, Question, KeepsLast, TakesNew, answered_number, last_asked, waits, is_unsupplied, is_cancelled, is_end, ended, ends_in}
 use Rattle.ill_core.proofs.ResponderTable.{IsRow, is_row, answers, allows_cancel, refuses_cancel, ships, renews, refuses_renewal, refuses_late, reminds, reminds_renewing, recalls, checks_in, expires}
 
 -- a row that issues this, and leads to this state
@@ -38,7 +40,7 @@ pub record Issues (y : ResponderRecord) (body : Body) (state : State) : Type 0 w
   pub enters : is_among ended state ≡ true → (is_among ended y.state ≡ true) ⊎ (ends_in body state ≡ true)
   pub sent_back : is_among (Returned ∷ CheckedIn ∷ []) state ≡ is_among (Returned ∷ CheckedIn ∷ []) y.state
   pub asked : (question : Question) → waits question state ≡ true → waits question y.state ≡ true
-  pub replies : (question : Question) (n : ℕ) → answered question body ≡ Some n
+  pub replies : (question : Question) (n : ℕ) → answered_number question body ≡ Some n
       → (waits question y.state ≡ true) × (waits question state ≡ false) × (n ≡ unwrap_or (last_asked question y) 0)
 
 -- a row that issues nothing
@@ -107,7 +109,7 @@ requested txn Idle accepted last_cancel last_renew received request kept issued 
 requested txn state accepted last_cancel last_renew received request kept issued number expiry item idle = search rules
 
 accepts : (txn : Qualifiers) (state : State) (accepted last_cancel last_renew : Option ℕ) (received : Bool) (request : Option Apdu) (issued : List Apdu) (number c : ℕ)
-    → is_the c (outstanding (responder_of txn state accepted last_cancel last_renew received request issued)) ≡ true
+    → is_the c (outstanding_number (responder_of txn state accepted last_cancel last_renew received request issued)) ≡ true
     → Moves (responder_of txn state accepted last_cancel last_renew received request issued) number (types.ConditionalReply c true) (responder_of txn InProcess (Some c) last_cancel last_renew received request issued)
 accepts txn Conditional accepted last_cancel last_renew received request issued number c there = search rules
 accepts txn state accepted last_cancel last_renew received request issued number c there = search rules
@@ -158,7 +160,7 @@ message_row y a (types.IllRequest expiry item) =
     line y _ _ (is_among (Idle ∷ []) y.state) _ _ (λ idle. moves (inl refl) (requested y.txn y.state y.accepted y.last_cancel y.last_renew y.received y.request (Some a) y.issued a.number expiry item idle)) (λ _.
     left_row y _ _ _)
 message_row y a (types.ConditionalReply c true) =
-    line y _ _ (is_the c (outstanding y)) _ _ (λ there. moves (inl refl) (accepts y.txn y.state y.accepted y.last_cancel y.last_renew y.received y.request y.issued a.number c there)) (λ _.
+    line y _ _ (is_the c (outstanding_number y)) _ _ (λ there. moves (inl refl) (accepts y.txn y.state y.accepted y.last_cancel y.last_renew y.received y.request y.issued a.number c there)) (λ _.
     line y _ _ (is_the c y.accepted) _ _ (λ _. left_row y _ _ _) (λ _.
     line y _ _ (was names_conditions y.issued c) _ _ (λ _. left_row y _ _ _) (λ _. left_row y _ _ _)))
 message_row y a (types.ConditionalReply c false) =
@@ -187,7 +189,7 @@ by_admission y number body None answer row = row
 by_admission y number body (Some refusal) answer row = left_row y number body (Err refusal)
 
 delivery_row : (y : ResponderRecord) (a : Apdu) → DeliveryRow y a.number a.body (takes y a)
-delivery_row y a = by_admission y a.number a.body (refused_before y.txn (not (is_requesters a.body)) a) (take_message y a a.body) (message_row y a a.body)
+delivery_row y a = by_admission y a.number a.body (first_refusal y.txn (not (is_requesters a.body)) a) (take_message y a a.body) (message_row y a a.body)
 
 of_row : (P : ResponderRecord → Type 0) (y : ResponderRecord) (number : ℕ) (body : Body) (answer : Result Taking Refusal × ResponderRecord) → DeliveryRow y number body answer
     → (Moves y number body answer.1 → P answer.1)

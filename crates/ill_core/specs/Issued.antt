@@ -5,10 +5,8 @@ use Rattle.std.specs.Str.{bytes_eq}
 use Rattle.ill_values.specs.TxnId.{Qualifiers}
 use Rattle.ill_values.specs.declared.apdu.Apdu.{Apdu}
 use Rattle.ill_values.specs.declared.apdu.Body.{Body}
-use Rattle.ill_values.specs.declared.apdu.Body.TheVariants.{IllRequest, IllAnswer, ConditionalReply, Cancel, Shipped, Received, Returned, CheckedIn, Renew, RenewAnswer}
-use Rattle.ill_values.specs.declared.apdu.AnswerResult.{AnswerResult}
-use Rattle.ill_values.specs.declared.apdu.AnswerResult.TheVariants.{Conditional, WillSupply, HoldPlaced}
 use Rattle.ill_values.specs.Day.{Date}
+use Rattle.ill_core.specs.Bodies.{is_cancel, is_renew, grant_in, accepts}
 use Rattle.ill_core.specs.declared.issued.Sought.{Sought}
 use Rattle.ill_core.specs.declared.issued.Sought.TheVariants.{Accepted, CancelNumber, RenewNumber}
 use Rattle.ill_core.specs.declared.refusal.Refusal.{Refusal}
@@ -38,9 +36,6 @@ abbrev pub is_none : List Apdu → Bool
 is_none [] = true
 is_none (a ∷ apdus) = false
 
-abbrev pub implies : Bool → Bool → Bool
-implies a b = not a || b
-
 -- one of the APDUs says this
 abbrev pub has : (Body → Bool) → List Apdu → Bool
 has says apdus = list_any (λ a. says a.body) apdus
@@ -58,72 +53,11 @@ was says apdus n = is_there says (message apdus n)
 abbrev pub last_of : {X : Type 0} → (Apdu → Option X) → List Apdu → Option X
 last_of f apdus = last_or None (filter_map f apdus)
 
-abbrev pub is_ill_request : Body → Bool
-is_ill_request (IllRequest expiry item) = true
-is_ill_request other = false
+abbrev pub granted_day : Apdu → Option Date
+granted_day a = grant_in a.body
 
-abbrev pub is_cancel : Body → Bool
-is_cancel Cancel = true
-is_cancel other = false
-
-abbrev pub is_received : Body → Bool
-is_received Received = true
-is_received other = false
-
-abbrev pub is_renew : Body → Bool
-is_renew (Renew wished) = true
-is_renew other = false
-
-abbrev pub is_returned : Body → Bool
-is_returned Returned = true
-is_returned other = false
-
-abbrev pub is_shipped : Body → Bool
-is_shipped (Shipped due) = true
-is_shipped other = false
-
-abbrev pub is_checked_in : Body → Bool
-is_checked_in CheckedIn = true
-is_checked_in other = false
-
--- an ILL-Answer conditional
-abbrev pub names_conditions : Body → Bool
-names_conditions (IllAnswer Conditional) = true
-names_conditions other = false
-
--- the results of an ILL-Answer that end a request
-abbrev pub is_final : AnswerResult → Bool
-is_final Conditional = false
-is_final WillSupply = false
-is_final HoldPlaced = false
-is_final other = true
-
--- a Renew-Answer yes
-abbrev pub is_renewal : Body → Bool
-is_renewal (RenewAnswer answers (Some due)) = true
-is_renewal other = false
-
--- the date that a Shipped or a Renew-Answer yes grants
-abbrev pub date_granted : Body → Option Date
-date_granted (Shipped due) = Some due
-date_granted (RenewAnswer answers due) = due
-date_granted other = None
-
-abbrev pub granted : Apdu → Option Date
-granted a = date_granted a.body
-
--- a Conditional-Reply no
-abbrev pub declines : Body → Bool
-declines (ConditionalReply answers false) = true
-declines other = false
-
--- the number that a Conditional-Reply yes answers
-abbrev pub accepts : Body → Option ℕ
-accepts (ConditionalReply answers true) = Some answers
-accepts other = None
-
-abbrev pub answered_yes : Apdu → Option ℕ
-answered_yes a = accepts a.body
+abbrev pub accepted_in : Apdu → Option ℕ
+accepted_in a = accepts a.body
 
 abbrev pub number_of_cancel : Apdu → Option ℕ
 number_of_cancel a = if is_cancel a.body then Some a.number else None
@@ -132,20 +66,10 @@ abbrev pub number_of_renew : Apdu → Option ℕ
 number_of_renew a = if is_renew a.body then Some a.number else None
 
 -- what is sought in an APDU
-abbrev pub found : Sought → Apdu → Option ℕ
-found Accepted a = answered_yes a
-found CancelNumber a = number_of_cancel a
-found RenewNumber a = number_of_renew a
-
--- the types that a requester issues; a responder issues the others
-abbrev pub is_requesters : Body → Bool
-is_requesters (IllRequest expiry item) = true
-is_requesters (ConditionalReply answers accepts) = true
-is_requesters Cancel = true
-is_requesters Received = true
-is_requesters (Renew wished) = true
-is_requesters Returned = true
-is_requesters other = false
+abbrev pub sought_number : Sought → Apdu → Option ℕ
+sought_number Accepted a = accepted_in a
+sought_number CancelNumber a = number_of_cancel a
+sought_number RenewNumber a = number_of_renew a
 
 -- the number of the next APDU: there are 255
 abbrev pub next_number : List Apdu → Result ℕ Refusal
@@ -164,8 +88,8 @@ abbrev pub IssuesNext : Qualifiers → List Apdu → List Apdu → Type 0
 IssuesNext txn old new = (body : Body) × (new ≡ with_next txn old body)
 
 -- Before its table a side refuses an APDU of another transaction, and then one that its own role issues.
-abbrev pub refused_before : Qualifiers → Bool → Apdu → Option Refusal
-refused_before txn is_own a =
+abbrev pub first_refusal : Qualifiers → Bool → Apdu → Option Refusal
+first_refusal txn is_own a =
     if is_same_txn a.txn txn then (if is_own then Some WrongRole else None) else Some OtherTransaction
 
 -- A side admits an APDU, or refuses it.
@@ -174,23 +98,3 @@ Admits None (Ok done) = Unit
 Admits None (Err refusal) = ⊥
 Admits (Some refused) (Ok done) = ⊥
 Admits (Some refused) (Err refusal) = refusal ≡ refused
-
--- there is a number, and n is it
-abbrev pub is_the : ℕ → Option ℕ → Bool
-is_the n None = false
-is_the n (Some m) = n == m
-
--- there is a number, and n is at most that
-abbrev pub is_at_most : ℕ → Option ℕ → Bool
-is_at_most n None = false
-is_at_most n (Some m) = nat_le n m
-
--- there is a number, and n is below it
-abbrev pub is_below : ℕ → Option ℕ → Bool
-is_below n None = false
-is_below n (Some m) = nat_lt n m
-
--- no number stands twice in the list
-unfoldable pub are_distinct : List ℕ → Bool
-are_distinct [] = true
-are_distinct (n ∷ ns) = not (list_any (λ m. m == n) ns) && are_distinct ns

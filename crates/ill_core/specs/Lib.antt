@@ -1,6 +1,9 @@
 pub mod State
 pub mod Dates
 pub mod Answers
+pub mod Rules
+pub mod Numbers
+pub mod Bodies
 pub mod Issued
 pub mod Requester
 pub mod RequesterActions

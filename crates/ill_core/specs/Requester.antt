@@ -7,7 +7,9 @@ use Rattle.ill_values.specs.declared.apdu.Apdu.{Apdu}
 use Rattle.ill_core.specs.declared.state.State.{State}
 use Rattle.ill_core.specs.declared.state.State.TheVariants.{Idle, Pending, InProcess, Conditional, CancelPending, Cancelled, Shipped, Received, RenewPending, Overdue, RenewOverdue, NotReceivedOverdue, Recall, Returned, CheckedIn}
 use Rattle.ill_core.specs.State.{is_among}
-use Rattle.ill_core.specs.Issued.{implies, is_none, are_numbered, has, last_of, declines, is_requesters, is_ill_request, is_cancel, is_received, is_renew, is_returned, number_of_cancel, number_of_renew, answered_yes}
+use Rattle.ill_core.specs.Rules.{implies}
+use Rattle.ill_core.specs.Bodies.{declines, is_requesters, is_ill_request, is_cancel, is_received, is_renew, is_returned}
+use Rattle.ill_core.specs.Issued.{is_none, are_numbered, has, last_of, number_of_cancel, number_of_renew, accepted_in}
 
 pub record RequesterRecord : Type 0 where
   pub txn : Qualifiers
@@ -23,8 +25,8 @@ requester_of txn state held checked_in due issued =
     record { txn = txn; state = state; held = held; checked_in = checked_in; due = due; issued = issued }
 
 -- the number answered by the last Conditional-Reply yes
-abbrev pub accepted : RequesterRecord → Option ℕ
-accepted x = last_of answered_yes x.issued
+abbrev pub accepted_number : RequesterRecord → Option ℕ
+accepted_number x = last_of accepted_in x.issued
 
 -- the conditions that stand were declined
 abbrev pub is_declined : RequesterRecord → Bool

@@ -14,12 +14,14 @@ use Rattle.ill_core.specs.declared.taking.Taking.{Taking}
 use Rattle.ill_core.specs.State.{is_among}
 use Rattle.ill_core.specs.Answers.{taken, repeat, stale, conflict, unless_refused}
 use Rattle.ill_core.specs.Dates.{is_due_on, is_after_due}
-use Rattle.ill_core.specs.Issued.{was, is_cancel, is_renew, is_requesters, is_the, is_at_most, refused_before}
-use Rattle.ill_core.specs.Requester.{RequesterRecord, accepted, last_cancel, last_renew, later}
+use Rattle.ill_core.specs.Numbers.{is_the, is_at_most}
+use Rattle.ill_core.specs.Bodies.{is_cancel, is_renew, is_requesters}
+use Rattle.ill_core.specs.Issued.{was, first_refusal}
+use Rattle.ill_core.specs.Requester.{RequesterRecord, accepted_number, last_cancel, last_renew, later}
 
 abbrev pub take_conditions : RequesterRecord → ℕ → Result Taking Refusal × RequesterRecord
 take_conditions x k =
-    if is_at_most k (accepted x) then repeat x
+    if is_at_most k (accepted_number x) then repeat x
     else if is_among (Conditional ∷ []) x.state && is_the k x.held then repeat x
     else if is_among (Pending ∷ []) x.state then taken (record x { state = Conditional; held = Some k })
     else conflict x.state x
@@ -98,7 +100,7 @@ take_message x a other = conflict x.state x
 
 -- What an APDU does to a requester.
 abbrev pub takes : RequesterRecord → Apdu → Result Taking Refusal × RequesterRecord
-takes x a = unless_refused (refused_before x.txn (is_requesters a.body) a) x (take_message x a a.body)
+takes x a = unless_refused (first_refusal x.txn (is_requesters a.body) a) x (take_message x a a.body)
 
 -- What a requester answers to an APDU, and the record after it.
 abbrev pub Takes : RequesterRecord → Apdu → Result Taking Refusal → RequesterRecord → Type 0

@@ -6,8 +6,10 @@ use Rattle.ill_values.specs.declared.apdu.Body.{Body}
 use Rattle.ill_values.specs.declared.apdu.Body.TheVariants as types
 use Rattle.ill_core.specs.declared.state.State.TheVariants as states
 use Rattle.ill_core.specs.State.{is_among}
-use Rattle.ill_core.specs.Issued.{was, is_cancel, is_the, is_at_most, is_below, are_distinct, has, declines, is_final}
-use Rattle.ill_core.specs.Requester.{RequesterRecord, accepted, last_cancel, later}
+use Rattle.ill_core.specs.Numbers.{is_the, is_at_most, is_below, are_distinct}
+use Rattle.ill_core.specs.Bodies.{is_cancel, declines, is_final}
+use Rattle.ill_core.specs.Issued.{was, has}
+use Rattle.ill_core.specs.Requester.{RequesterRecord, accepted_number, last_cancel, later}
 use Rattle.ill_core.specs.Dates.{is_after_due}
 use Rattle.ill_core.specs.declared.state.State.{State}
 use Rattle.ill_core.specs.declared.refusal.Refusal.{Refusal}
@@ -17,12 +19,12 @@ use Rattle.std.specs.Option.{unwrap_or}
 use Rattle.std.specs.List.{list_all, filter_map}
 
 -- what a message of the responder may tell
-pub data RequesterFact : Type 0 where
-  Cancelled : RequesterFact  -- a Cancel was accepted
-  Ended : RequesterFact  -- the item is not supplied
-  Granted : (due : Date) → RequesterFact  -- the item may be kept until that day
-  Refused : (cancel : ℕ) → RequesterFact  -- the Cancel with that number was refused
-  GivenBack : RequesterFact  -- the item is back
+pub data Fact : Type 0 where
+  Cancelled : Fact  -- a Cancel was accepted
+  Ended : Fact  -- the item is not supplied
+  Granted : (due : Date) → Fact  -- the item may be kept until that day
+  Refused : (cancel : ℕ) → Fact  -- the Cancel with that number was refused
+  GivenBack : Fact  -- the item is back
 
 -- A Cancel is open while it is the last one, in the states that wait for its answer or have the answer yes.
 abbrev pub is_open : RequesterRecord → ℕ → Bool
@@ -32,14 +34,14 @@ is_open x c = is_among (states.CancelPending ∷ states.Cancelled ∷ []) x.stat
 abbrev pub ShowsRefused : RequesterRecord → ℕ → Type 0
 ShowsRefused x c = (was is_cancel x.issued c ≡ true) × (is_among (states.NotSupplied ∷ later) x.state ≡ false) × (is_open x c ≡ false)
 
-abbrev pub Shows : RequesterRecord → RequesterFact → Type 0
+abbrev pub Shows : RequesterRecord → Fact → Type 0
 Shows x Cancelled = x.state ≡ states.Cancelled
 Shows x Ended = x.state ≡ states.NotSupplied
 Shows x (Granted due) = x.due ≡ Some due
 Shows x (Refused cancel) = ShowsRefused x cancel
 Shows x GivenBack = x.checked_in ≡ true
 
-abbrev pub Tells : Body → RequesterFact → Type 0
+abbrev pub Tells : Body → Fact → Type 0
 Tells (types.CancelReply c true) Cancelled = Unit {0}
 Tells (types.IllAnswer answer) Ended = is_final answer ≡ true
 Tells types.Expired Ended = Unit {0}
@@ -60,7 +62,7 @@ KeepsDue old new = (old ≡ None) ⊎ (new ≡ old) ⊎ (is_raised old new ≡ t
 
 -- Conditions are held that were not: in PENDING, with the number of the message, above those accepted.
 abbrev pub HoldsNew : RequesterRecord → ℕ → RequesterRecord → Type 0
-HoldsNew x k new = (x.state ≡ states.Pending) × (new.state ≡ states.Conditional) × (new.held ≡ Some k) × (is_at_most k (accepted x) ≡ false)
+HoldsNew x k new = (x.state ≡ states.Pending) × (new.state ≡ states.Conditional) × (new.held ≡ Some k) × (is_at_most k (accepted_number x) ≡ false)
 
 -- Conditions are held as they were, in the same state or another than CONDITIONAL; or no more; or new ones are.
 abbrev pub Holds : RequesterRecord → ℕ → RequesterRecord → Type 0
@@ -80,17 +82,17 @@ abbrev pub LeadsTo : List State → Result Taking Refusal × RequesterRecord →
 LeadsTo states answer = ((answer.0 ≡ Ok Taken) ⊎ (answer.0 ≡ Ok Repeat)) × (is_among states answer.1.state ≡ true)
 
 -- the number of the conditions that a Conditional-Reply answers
-abbrev pub replied : Body → Option ℕ
-replied (types.ConditionalReply answers accepts) = Some answers
-replied other = None
+abbrev pub replied_number : Body → Option ℕ
+replied_number (types.ConditionalReply answers accepts) = Some answers
+replied_number other = None
 
 -- the numbers of the conditions that were answered, in the order of the answers
 abbrev pub replies : List Apdu → List ℕ
-replies apdus = filter_map (λ a. replied a.body) apdus
+replies apdus = filter_map (λ a. replied_number a.body) apdus
 
 -- Conditions are answered once. Until some are declined, those answered are at most the accepted ones, and below the
 -- ones that are held.
 pub record AnswersOnce (x : RequesterRecord) : Type 0 where
   pub distinct : are_distinct (replies x.issued) ≡ true
-  pub above : has declines x.issued ≡ false → list_all (λ n. is_at_most n (accepted x)) (replies x.issued) ≡ true
+  pub above : has declines x.issued ≡ false → list_all (λ n. is_at_most n (accepted_number x)) (replies x.issued) ≡ true
   pub held : is_among (states.Conditional ∷ []) x.state ≡ true → has declines x.issued ≡ false → list_all (λ n. is_below n x.held) (replies x.issued) ≡ true

@@ -8,7 +8,9 @@ use Rattle.ill_core.specs.declared.state.State.{State}
 use Rattle.ill_core.specs.declared.state.State.TheVariants.{Idle, Pending, Conditional, CancelPending, Cancelled, Shipped, Received, RenewPending, Overdue, RenewOverdue, NotReceivedOverdue, Recall, Returned, CheckedIn}
 use Rattle.ill_core.specs.State.{is_among}
 use Rattle.ill_core.specs.Dates.{is_after_due}
-use Rattle.ill_core.specs.Issued.{are_numbered, is_same_txn, has, was, last_of, is_none, implies, is_requesters, is_ill_request, is_shipped, is_checked_in, names_conditions, granted, is_renewal}
+use Rattle.ill_core.specs.Rules.{implies}
+use Rattle.ill_core.specs.Bodies.{is_requesters, is_ill_request, is_shipped, is_checked_in, names_conditions, is_renewal}
+use Rattle.ill_core.specs.Issued.{are_numbered, is_same_txn, has, was, last_of, is_none, granted_day}
 
 pub record ResponderRecord : Type 0 where
   pub txn : Qualifiers
@@ -36,11 +38,11 @@ responder_of txn state accepted last_cancel last_renew received request issued =
 
 -- the date of the last Shipped or Renew-Answer yes
 abbrev pub due_of : ResponderRecord → Option Date
-due_of y = last_of granted y.issued
+due_of y = last_of granted_day y.issued
 
 -- the number of the conditions that wait for an answer: in CONDITIONAL alone, that of the last APDU issued
-abbrev pub outstanding : ResponderRecord → Option ℕ
-outstanding y = if is_among (Conditional ∷ []) y.state then (if is_none y.issued then None else Some (length y.issued)) else None
+abbrev pub outstanding_number : ResponderRecord → Option ℕ
+outstanding_number y = if is_among (Conditional ∷ []) y.state then (if is_none y.issued then None else Some (length y.issued)) else None
 
 -- SHIPPED or later
 abbrev pub later : List State
@@ -103,5 +105,5 @@ pub record IsResponder (y : ResponderRecord) : Type 0 where
   pub parts : PartsFit y.state (is_some y.request) (is_some y.accepted) (is_some y.last_cancel) (is_some y.last_renew) y.received (is_none y.issued)
   pub issued : IssuedFits y.state y.issued
   pub accepted : is_named y.accepted y.issued ≡ true
-  pub rising : are_rising (filter_map granted y.issued) ≡ true
+  pub rising : are_rising (filter_map granted_day y.issued) ≡ true
   pub ships_first : ships_first y.issued ≡ true

@@ -13,8 +13,10 @@ use Rattle.ill_core.specs.declared.taking.Taking.{Taking}
 use Rattle.ill_core.specs.declared.taking.Taking.TheVariants.{Taken}
 use Rattle.ill_core.specs.State.{is_among}
 use Rattle.ill_core.specs.Answers.{taken, repeat, stale, conflict, unless_refused}
-use Rattle.ill_core.specs.Issued.{was, names_conditions, is_requesters, is_the, is_at_most, refused_before, next_number}
-use Rattle.ill_core.specs.Responder.{ResponderRecord, outstanding, later}
+use Rattle.ill_core.specs.Numbers.{is_the, is_at_most}
+use Rattle.ill_core.specs.Bodies.{names_conditions, is_requesters}
+use Rattle.ill_core.specs.Issued.{was, first_refusal, next_number}
+use Rattle.ill_core.specs.Responder.{ResponderRecord, outstanding_number, later}
 use Rattle.ill_core.specs.ResponderActions.{issues_to}
 
 abbrev pub take_request : ResponderRecord → Apdu → Result Taking Refusal × ResponderRecord
@@ -24,7 +26,7 @@ take_request y a =
 
 abbrev pub take_yes : ResponderRecord → ℕ → Result Taking Refusal × ResponderRecord
 take_yes y c =
-    if is_the c (outstanding y) then taken (record y { state = InProcess; accepted = Some c })
+    if is_the c (outstanding_number y) then taken (record y { state = InProcess; accepted = Some c })
     else if is_the c y.accepted then repeat y
     else if was names_conditions y.issued c then stale y
     else conflict y.state y
@@ -78,7 +80,7 @@ take_message y a other = conflict y.state y
 
 -- What an APDU does to a responder.
 abbrev pub takes : ResponderRecord → Apdu → Result Taking Refusal × ResponderRecord
-takes y a = unless_refused (refused_before y.txn (not (is_requesters a.body)) a) y (take_message y a a.body)
+takes y a = unless_refused (first_refusal y.txn (not (is_requesters a.body)) a) y (take_message y a a.body)
 
 -- an APDU that is kept, or that is answered by issuing one, takes memory
 abbrev pub takes_memory : ResponderRecord → Body → Bool

@@ -13,23 +13,25 @@ use Rattle.ill_core.specs.declared.refusal.Refusal.{Refusal}
 use Rattle.ill_core.specs.declared.taking.Taking.{Taking}
 use Rattle.ill_core.specs.declared.taking.Taking.TheVariants.{Taken, Repeat}
 use Rattle.ill_core.specs.State.{is_among}
-use Rattle.ill_core.specs.Issued.{has, with_next, is_at_most, is_below, are_distinct, is_final, is_shipped, is_cancel, is_renew, declines}
+use Rattle.ill_core.specs.Numbers.{is_at_most, is_below, are_distinct}
+use Rattle.ill_core.specs.Bodies.{is_final, is_shipped, is_cancel, is_renew, declines}
+use Rattle.ill_core.specs.Issued.{has, with_next}
 use Rattle.ill_core.specs.Responder.{ResponderRecord, later}
 
 -- what a message of the requester may tell
-pub data ResponderFact : Type 0 where
-  Requested : ResponderFact  -- the item was asked for
-  Accepted : (conditions : ℕ) → ResponderFact  -- the conditions with that number were accepted
-  CancelAsked : (cancel : ℕ) → ResponderFact  -- there is a Cancel with that number
-  Arrived : ResponderFact  -- the requester has the item
-  SentBack : ResponderFact  -- the requester has sent the item back
+pub data Fact : Type 0 where
+  Requested : Fact  -- the item was asked for
+  Accepted : (conditions : ℕ) → Fact  -- the conditions with that number were accepted
+  CancelAsked : (cancel : ℕ) → Fact  -- there is a Cancel with that number
+  Arrived : Fact  -- the requester has the item
+  SentBack : Fact  -- the requester has sent the item back
 
 -- a Cancel-Reply yes to the Cancel with this number
 abbrev pub cancels : ℕ → Body → Bool
 cancels n (types.CancelReply c true) = c == n
 cancels n other = false
 
-abbrev pub Shows : ResponderRecord → ResponderFact → Type 0
+abbrev pub Shows : ResponderRecord → Fact → Type 0
 Shows y Requested = is_among (Idle ∷ []) y.state ≡ false
 Shows y (Accepted conditions) = y.accepted ≡ Some conditions
 Shows y (CancelAsked cancel) = (y.last_cancel ≡ Some cancel) ⊎ (has (cancels cancel) y.issued ≡ true)
@@ -37,7 +39,7 @@ Shows y Arrived = y.received ≡ true
 Shows y SentBack = is_among (Returned ∷ CheckedIn ∷ []) y.state ≡ true
 
 -- what an APDU with this number tells
-abbrev pub Tells : ℕ → Body → ResponderFact → Type 0
+abbrev pub Tells : ℕ → Body → Fact → Type 0
 Tells number (types.IllRequest expiry item) Requested = Unit {0}
 Tells number (types.ConditionalReply c true) (Accepted conditions) = c ≡ conditions
 Tells number types.Cancel (CancelAsked cancel) = number ≡ cancel
@@ -108,10 +110,10 @@ asks MayCancel body = is_cancel body
 asks MayRenew body = is_renew body
 
 -- the number of the question that an APDU answers
-abbrev pub answered : Question → Body → Option ℕ
-answered MayCancel (types.CancelReply c accepts) = Some c
-answered MayRenew (types.RenewAnswer c granted) = Some c
-answered question other = None
+abbrev pub answered_number : Question → Body → Option ℕ
+answered_number MayCancel (types.CancelReply c accepts) = Some c
+answered_number MayRenew (types.RenewAnswer c granted) = Some c
+answered_number question other = None
 
 -- the number of the last such question taken
 abbrev pub last_asked : Question → ResponderRecord → Option ℕ
@@ -126,7 +128,7 @@ waits MayRenew state = is_among (RenewPending ∷ RenewOverdue ∷ []) state
 -- A question is answered only while it waits, and then no more; the answer names the last one taken.
 abbrev pub AnswersLast : Question → ResponderRecord → ResponderRecord → Type 0
 AnswersLast question y new =
-    (a : Apdu) (n : ℕ) → new.issued ≡ y.issued ++ a ∷ [] → answered question a.body ≡ Some n
+    (a : Apdu) (n : ℕ) → new.issued ≡ y.issued ++ a ∷ [] → answered_number question a.body ≡ Some n
     → (waits question y.state ≡ true) × (waits question new.state ≡ false) × (n ≡ unwrap_or (last_asked question y) 0)
 
 -- The last question is the same, and no question waits that did not.
@@ -139,9 +141,9 @@ abbrev pub TakesNew : Question → ℕ → Body → ResponderRecord → Responde
 TakesNew question number body y new =
     (asks question body ≡ true) × (is_at_most number (last_asked question y) ≡ false) × (last_asked question new ≡ Some number)
 
--- the numbers of the questions that were answered, in the order of the answers
+-- the numbers of the questions that were answered_number, in the order of the answers
 abbrev pub answers_to : Question → List Apdu → List ℕ
-answers_to question apdus = filter_map (λ a. answered question a.body) apdus
+answers_to question apdus = filter_map (λ a. answered_number question a.body) apdus
 
 -- No question is answered twice. Those answered are at most the last one, and below it while it waits.
 pub record AnsweredOnce (answers : List ℕ) (last : Option ℕ) (is_waiting : Bool) : Type 0 where

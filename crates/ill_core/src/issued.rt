@@ -2,7 +2,9 @@
 
 ghost use Rattle.std.specs.Prelude.{◌≡◌, ◌≤◌, ◌<◌, ◌==◌, ◌&&◌, true, length, [], Ok, Some, is_some, IfOk, IfErr, IfSome, OnOk, OnErr, option_map};
 ghost use Rattle.ill_core.specs.declared.refusal.Refusal.TheVariants as refusals;
-ghost use Rattle.ill_core.specs.Issued.{IssuedList, is_same_txn, are_numbered, message, is_requesters, next_number, with_next, refused_before, Admits, last_of, found, granted, is_at_most};
+ghost use Rattle.ill_core.specs.Numbers.{is_at_most};
+ghost use Rattle.ill_core.specs.Bodies.{is_requesters};
+ghost use Rattle.ill_core.specs.Issued.{IssuedList, is_same_txn, are_numbered, message, next_number, with_next, first_refusal, Admits, last_of, sought_number, granted_day};
 
 use crate::refusal::Refusal;
 use ill_values::{Apdu, Body, Day, Number, TxnId};
@@ -37,7 +39,7 @@ impl Model for Issued {
 
 impl Sought {
     fn find(self, apdu: &Apdu) -> Option<Number>
-        ensures { result ≡ found self apdu.now }
+        ensures { result ≡ sought_number self apdu.now }
     {
         match (self, &apdu.body) {
             (Sought::Accepted, Body::ConditionalReply { answers, yes: true }) => Some(*answers),
@@ -101,7 +103,7 @@ impl Issued {
     /// The last number of what is sought.
     #[tactic(auto, using(crate::proofs::IssuedLemmas::last_at))]
     pub fn last(&self, sought: Sought) -> Option<Number>
-        ensures { result ≡ last_of (found sought) self.now.apdus }
+        ensures { result ≡ last_of (sought_number sought) self.now.apdus }
     {
         let mut last = None;
         for apdu in &self.apdus {
@@ -113,11 +115,11 @@ impl Issued {
     /// The date of the last Shipped or Renew-Answer yes.
     #[tactic(auto, using(crate::proofs::IssuedLemmas::last_at))]
     pub fn last_granted(&self) -> Option<Day>
-        ensures { result ≡ last_of granted self.now.apdus }
+        ensures { result ≡ last_of granted_day self.now.apdus }
     {
         let mut last = None;
         for apdu in &self.apdus {
-            last = granted(apdu).or(last);
+            last = granted_day(apdu).or(last);
         }
         last
     }
@@ -148,7 +150,7 @@ impl Issued {
 
     /// Refuses an APDU of another transaction, and then one of a type that this role issues.
     pub fn admit(&self, apdu: &Apdu, is_own: bool) -> Result<(), Refusal>
-        ensures { Admits (refused_before self.now.txn is_own apdu.now) result }
+        ensures { Admits (first_refusal self.now.txn is_own apdu.now) result }
     {
         if apdu.txn != self.txn {
             Err(Refusal::OtherTransaction)
@@ -161,8 +163,8 @@ impl Issued {
 }
 
 /// The date that a message grants.
-pub fn granted(apdu: &Apdu) -> Option<Day>
-    ensures { result ≡ granted apdu.now }
+pub fn granted_day(apdu: &Apdu) -> Option<Day>
+    ensures { result ≡ granted_day apdu.now }
 {
     match &apdu.body {
         Body::Shipped { due } => Some(*due),

@@ -7,7 +7,7 @@ mod rules;
 ghost use Rattle.std.specs.Prelude.{◌≡◌, ◌↔◌, [], None, false, length, IsSome, IfSome, option_map};
 ghost use Rattle.ill_core.specs.declared.state.State.TheVariants as State;
 ghost use Rattle.ill_core.specs.Issued.{message};
-ghost use Rattle.ill_core.specs.Requester.{RequesterRecord, requester_of, IsRequester, accepted, is_declined, is_received_by};
+ghost use Rattle.ill_core.specs.Requester.{RequesterRecord, requester_of, IsRequester, accepted_number, is_declined, is_received_by};
 ghost use Rattle.ill_core.specs.RequesterActions.{Acts};
 ghost use Rattle.ill_core.specs.RequesterDeliveries.{Takes};
 
@@ -155,7 +155,7 @@ impl Requester {
 
     /// The number that the last Conditional-Reply yes answered.
     pub fn accepted(&self) -> Option<Number>
-        ensures { result ≡ accepted self.now }
+        ensures { result ≡ accepted_number self.now }
     {
         self.issued.last(Sought::Accepted)
     }

@@ -7,7 +7,7 @@ mod rules;
 ghost use Rattle.std.specs.Prelude.{◌≡◌, ◌↔◌, [], None, false, length, IsSome, IfSome, option_map};
 ghost use Rattle.ill_core.specs.declared.state.State.TheVariants as State;
 ghost use Rattle.ill_core.specs.Issued.{message};
-ghost use Rattle.ill_core.specs.Responder.{ResponderRecord, responder_of, IsResponder, due_of, outstanding};
+ghost use Rattle.ill_core.specs.Responder.{ResponderRecord, responder_of, IsResponder, due_of, outstanding_number};
 ghost use Rattle.ill_core.specs.ResponderActions.{Acts};
 ghost use Rattle.ill_core.specs.ResponderDeliveries.{Takes};
 
@@ -187,7 +187,7 @@ impl Responder {
 
     /// The number of the conditions that wait for an answer.
     pub fn outstanding(&self) -> Option<Number>
-        ensures { result ≡ outstanding self.now }
+        ensures { result ≡ outstanding_number self.now }
     {
         match self.state {
             State::Conditional => Number::new(self.issued.count()),

@@ -20,7 +20,7 @@ use Rattle.ill_der.proofs.Chains.{bind_ok, passed, went_on, chosen, ok_is, some_
 use Rattle.ill_der.proofs.ContentsLaws.{qualifier_is, some_passed, text_bound, no_fault, found_with}
 use Rattle.ill_der.proofs.ShortFormLaws.{apdu_takes, apdu_again}
 use Rattle.ill_core.specs.declared.state.State.{State}
-use Rattle.ill_core.specs.Issued.{is_ill_request}
+use Rattle.ill_core.specs.Bodies.{is_ill_request}
 use Rattle.ill_saved.specs.declared.fault.LayoutFault.{LayoutFault}
 use Rattle.ill_saved.specs.declared.fault.LayoutFault.TheVariants.{Short, Bad}
 use Rattle.ill_saved.specs.Layout.{Field, bytes_at, value_at, sized, one_octet, octet, followed_by, constant, count, number_octet, optional_number, mark, text_size, counted_text, apdu_by, apdu, ill_request, marked, spell_all, read_all, counted}

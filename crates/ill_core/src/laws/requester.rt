@@ -9,11 +9,12 @@ ghost use Rattle.ill_core.specs.declared.requester.Wish.{Wish};
 ghost use Rattle.ill_core.specs.declared.state.State.TheVariants as states;
 ghost use Rattle.ill_core.specs.declared.taking.Taking.TheVariants.{Taken};
 ghost use Rattle.ill_core.specs.State.{is_among};
-ghost use Rattle.ill_core.specs.Issued.{is_the, is_same_txn, IssuesNext};
+ghost use Rattle.ill_core.specs.Numbers.{is_the};
+ghost use Rattle.ill_core.specs.Issued.{is_same_txn, IssuesNext};
 ghost use Rattle.ill_core.specs.Requester.{RequesterRecord, IsRequester, later, last_cancel};
 ghost use Rattle.ill_core.specs.RequesterActions.{acts};
 ghost use Rattle.ill_core.specs.RequesterDeliveries.{takes};
-ghost use Rattle.ill_core.specs.RequesterFacts.{RequesterFact, Shows, Tells, KeepsDue, Holds, Replies, LeadsTo, AnswersOnce};
+ghost use Rattle.ill_core.specs.RequesterFacts.{Fact, Shows, Tells, KeepsDue, Holds, Replies, LeadsTo, AnswersOnce};
 ghost use Rattle.ill_core.specs.RequesterFacts as facts;
 
 /// A wish issues exactly one APDU, with the next number, and a message none.
@@ -64,9 +65,9 @@ pub fn requester_keeps_due()
 
 /// What a record shows to have come was shown before, or is told by the message that it took.
 pub fn requester_shows()
-    ensures acts { (x new : RequesterRecord) (wish : Wish) (fact : RequesterFact) → acts x wish ≡ Ok new →
+    ensures acts { (x new : RequesterRecord) (wish : Wish) (fact : Fact) → acts x wish ≡ Ok new →
         Shows new fact → Shows x fact }
-    ensures takes { (x : RequesterRecord) (a : Apdu) (fact : RequesterFact) →
+    ensures takes { (x : RequesterRecord) (a : Apdu) (fact : Fact) →
         Shows (takes x a).1 fact → Shows x fact ⊎ Tells a.body fact }
 {}
 

@@ -8,11 +8,12 @@ ghost use Rattle.ill_core.specs.declared.responder.Deed.{Deed};
 ghost use Rattle.ill_core.specs.declared.state.State.TheVariants as states;
 ghost use Rattle.ill_core.specs.declared.taking.Taking.TheVariants.{Taken};
 ghost use Rattle.ill_core.specs.State.{is_among};
-ghost use Rattle.ill_core.specs.Issued.{implies, is_same_txn, IssuesNext};
+ghost use Rattle.ill_core.specs.Rules.{implies};
+ghost use Rattle.ill_core.specs.Issued.{is_same_txn, IssuesNext};
 ghost use Rattle.ill_core.specs.Responder.{ResponderRecord, IsResponder, later};
 ghost use Rattle.ill_core.specs.ResponderActions.{acts};
 ghost use Rattle.ill_core.specs.ResponderDeliveries.{takes};
-ghost use Rattle.ill_core.specs.ResponderFacts.{ResponderFact, Shows, Tells, IssuesUnfilled, StaysLater, Ends, EntersByEnd, EndsOnce, Question, MayCancel, waits, last_asked, AnswersLast, KeepsLast, TakesNew, AnswersOnce, LeadsTo};
+ghost use Rattle.ill_core.specs.ResponderFacts.{Fact, Shows, Tells, IssuesUnfilled, StaysLater, Ends, EntersByEnd, EndsOnce, Question, MayCancel, waits, last_asked, AnswersLast, KeepsLast, TakesNew, AnswersOnce, LeadsTo};
 
 /// A deed issues exactly one APDU, with the next number; a message none, or to a Conditional-Reply no
 /// one ILL-Answer unfilled.
@@ -94,9 +95,9 @@ pub fn responder_answers_once()
 /// What a record shows to have come was shown before, or is told by the message that it took; a deed shows nothing
 /// new, where a Cancel that waits is there.
 pub fn responder_shows()
-    ensures acts { (y new : ResponderRecord) (deed : Deed) (today : Date) (fact : ResponderFact) → acts y deed today ≡ Ok new →
+    ensures acts { (y new : ResponderRecord) (deed : Deed) (today : Date) (fact : Fact) → acts y deed today ≡ Ok new →
         implies (waits MayCancel y.state) (is_some y.last_cancel) ≡ true → Shows new fact → Shows y fact }
-    ensures takes { (y : ResponderRecord) (a : Apdu) (fact : ResponderFact) →
+    ensures takes { (y : ResponderRecord) (a : Apdu) (fact : Fact) →
         Shows (takes y a).1 fact → Shows y fact ⊎ Tells a.number a.body fact }
 {}
 

@@ -2,7 +2,8 @@
 
 ghost use Rattle.std.specs.Prelude.{◌≡◌, true, [], ◌∷◌, Ok};
 ghost use Rattle.ill_core.specs.declared.state.State.TheVariants as State;
-ghost use Rattle.ill_core.specs.Issued.{was, is_cancel, is_renew};
+ghost use Rattle.ill_core.specs.Bodies.{is_cancel, is_renew};
+ghost use Rattle.ill_core.specs.Issued.{was};
 ghost use Rattle.ill_core.specs.Requester.{later};
 ghost use Rattle.ill_core.specs.RequesterDeliveries.{take_message, take_answer, take_conditions, take_promise, take_end, take_cancel_reply, take_shipped, take_overdue, take_renew_answer, take_renewal, take_recall, take_checked_in};
 ghost use Rattle.ill_core.specs.Dates.{is_due_on};

@@ -4,7 +4,8 @@ ghost use Rattle.std.specs.Prelude.{◌≡◌, ◌↔◌, true, false, [], ◌�
 ghost use Rattle.std.specs.List.{list_all};
 ghost use Rattle.ill_core.specs.declared.state.State.TheVariants as states;
 ghost use Rattle.ill_core.specs.State.{is_among};
-ghost use Rattle.ill_core.specs.Issued.{has, is_requesters, is_received, is_cancel, is_renew, is_returned, is_ill_request, declines};
+ghost use Rattle.ill_core.specs.Bodies.{is_requesters, is_received, is_cancel, is_renew, is_returned, is_ill_request, declines};
+ghost use Rattle.ill_core.specs.Issued.{has};
 ghost use Rattle.ill_core.specs.Requester.{PartsFit, IssuedFits, begins_with_request};
 
 use super::deliveries::is_later;

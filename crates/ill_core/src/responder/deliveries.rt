@@ -3,7 +3,8 @@
 ghost use Rattle.std.specs.Prelude.{◌≡◌, true, Ok, [], ◌∷◌};
 ghost use Rattle.ill_core.specs.declared.state.State.TheVariants as states;
 ghost use Rattle.ill_core.specs.State.{is_among};
-ghost use Rattle.ill_core.specs.Issued.{is_same_txn, is_ill_request, was, names_conditions};
+ghost use Rattle.ill_core.specs.Bodies.{is_ill_request, names_conditions};
+ghost use Rattle.ill_core.specs.Issued.{is_same_txn, was};
 ghost use Rattle.ill_core.specs.Responder.{later};
 ghost use Rattle.ill_core.specs.ResponderDeliveries.{MayWantMemory, takes_memory, take_message, take_request, take_yes, take_no, take_cancel, take_received, take_renew, take_returned};
 

@@ -2,17 +2,18 @@
 
 ghost use Rattle.std.specs.Prelude.{◌≡◌, ◌↔◌, true, false, not, ◌&&◌, is_some};
 ghost use Rattle.std.specs.List.{list_all, filter_map, count_by};
-ghost use Rattle.ill_core.specs.Issued.{is_requesters, is_shipped, is_renewal, is_checked_in, is_none, names_conditions, granted, has};
+ghost use Rattle.ill_core.specs.Bodies.{is_requesters, is_shipped, is_renewal, is_checked_in, names_conditions};
+ghost use Rattle.ill_core.specs.Issued.{is_none, granted_day, has};
 ghost use Rattle.ill_core.specs.Responder.{rises, PartsFit, IssuedFits, is_request_of, is_named, are_rising, ships_first, ends_with_conditions};
 
 use super::deliveries::{is_conditional, is_later};
-use crate::issued::{granted, is_requesters};
+use crate::issued::{granted_day, is_requesters};
 use crate::state::State;
 use ill_values::{Apdu, Body, Day, Number, TxnId};
 
 /// Whether what was issued keeps the rules.
 pub fn are_kept(state: State, accepted: &Option<Number>, apdus: &[Apdu]) -> bool
-    ensures { (result ≡ true) ↔ (list_all (λ a. not (is_requesters a.body)) apdus.now ≡ true) × IssuedFits state apdus.now × (is_named accepted.now apdus.now ≡ true) × (are_rising (filter_map granted apdus.now) ≡ true) × (ships_first apdus.now ≡ true) }
+    ensures { (result ≡ true) ↔ (list_all (λ a. not (is_requesters a.body)) apdus.now ≡ true) × IssuedFits state apdus.now × (is_named accepted.now apdus.now ≡ true) × (are_rising (filter_map granted_day apdus.now) ≡ true) × (ships_first apdus.now ≡ true) }
 {
     if !is_role(apdus) {
         return false;
@@ -141,11 +142,11 @@ fn ends_with_conditions(apdus: &[Apdu]) -> bool
 /// Whether each date that was granted is after those before it.
 #[tactic(auto, using(crate::proofs::ResponderLists::rise_end))]
 pub fn dates_rise(apdus: &[Apdu]) -> bool
-    ensures { result ≡ are_rising (filter_map granted apdus.now) }
+    ensures { result ≡ are_rising (filter_map granted_day apdus.now) }
 {
     let mut last = None;
     for apdu in apdus {
-        let found = granted(apdu);
+        let found = granted_day(apdu);
         if !may_follow(&found, &last) {
             return false;
         }

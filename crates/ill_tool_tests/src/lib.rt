@@ -1,0 +1,18 @@
+//! Tests of the commands, and of reading and writing one APDU, on streams that fail, give or take one
+//! byte at a time, or are long; over what `ill_tool` and `ill_der` export.
+#![tactic(auto)]
+
+#[cfg(test)]
+mod check;
+#[cfg(test)]
+mod reading;
+#[cfg(test)]
+mod samples;
+#[cfg(test)]
+mod show;
+#[cfg(test)]
+mod streams;
+#[cfg(test)]
+mod words;
+#[cfg(test)]
+mod writing;

@@ -1,0 +1,72 @@
+//! `read_apdu` on readers that fail or give one byte at a time.
+
+use crate::samples::{BOTH, CANCEL, SHIPPED, cancel, shipped};
+use crate::streams::{FAILURES, FailingReader, Failure, SlowReader};
+use ill_der::{ReadFault, read_apdu};
+use std::alloc::Global;
+use std::process::Abort;
+use std::test::Fail;
+
+#[test]
+fn a_reader_may_give_one_byte_at_a_time(rt: HostRuntime) -> Result<(), Fail> {
+    let mut reader = SlowReader { bytes: BOTH };
+    let first = read_apdu(rt.alloc(), &mut reader);
+    assert!(rt; first == Ok(Some(cancel(rt.alloc())?)), "first");
+    let second = read_apdu(rt.alloc(), &mut reader);
+    assert!(rt; second == Ok(Some(shipped(rt.alloc())?)), "second");
+    assert!(rt; read_apdu(rt.alloc(), &mut reader) == Ok(None), "end");
+    Ok(())
+}
+
+#[test]
+fn a_reader_that_fails_at_any_place_is_not_asked_again(rt: HostRuntime) {
+    for failure in &FAILURES {
+        expect_failures(&rt, rt.alloc(), failure);
+    }
+}
+
+/// Lets a reader fail before each byte of a Cancel in turn. The call answers that at once, and takes
+/// nothing more.
+fn expect_failures(rt: &impl Abort, alloc: Global, failure: &Failure) {
+    for place in 0..CANCEL.len() {
+        let (before, behind) = CANCEL.split_at(place);
+        let mut reader = FailingReader::new(before, *failure, behind);
+        let fault = read_apdu(alloc, &mut reader).err();
+        assert!(rt;
+            fault == Some(ReadFault::Read),
+            "{} at {place}",
+            failure.case
+        );
+        assert!(rt;
+            reader.behind == behind,
+            "{} at {place}: left",
+            failure.case
+        );
+    }
+}
+
+#[test]
+fn the_call_after_a_failure_begins_a_new_apdu(rt: HostRuntime) -> Result<(), Fail> {
+    let shipped = shipped(rt.alloc())?;
+    for place in 0..CANCEL.len() {
+        let mut reader = FailingReader::new(&CANCEL[..place], FAILURES[0], SHIPPED);
+        let fault = read_apdu(rt.alloc(), &mut reader).err();
+        assert!(rt; fault == Some(ReadFault::Read), "{place}");
+        let next = read_apdu(rt.alloc(), &mut reader)?;
+        assert!(rt; next.as_ref() == Some(&shipped), "behind {place}");
+    }
+    Ok(())
+}
+
+#[test]
+fn an_apdu_that_is_whole_is_read_before_the_reader_fails(rt: HostRuntime) -> Result<(), Fail> {
+    let mut reader = FailingReader::new(CANCEL, FAILURES[0], b"");
+    let first = read_apdu(rt.alloc(), &mut reader);
+    assert!(rt; first == Ok(Some(cancel(rt.alloc())?)), "first");
+    assert!(rt;
+        read_apdu(rt.alloc(), &mut reader) == Err(ReadFault::Read),
+        "failure"
+    );
+    assert!(rt; read_apdu(rt.alloc(), &mut reader) == Ok(None), "end");
+    Ok(())
+}

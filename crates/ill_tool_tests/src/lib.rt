@@ -3,13 +3,15 @@
 #![tactic(auto)]
 
 #[cfg(test)]
-mod check;
+mod commands;
+#[cfg(test)]
+mod failing;
+#[cfg(test)]
+mod inputs;
 #[cfg(test)]
 mod reading;
 #[cfg(test)]
 mod samples;
-#[cfg(test)]
-mod show;
 #[cfg(test)]
 mod streams;
 #[cfg(test)]

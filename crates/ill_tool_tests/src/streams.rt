@@ -86,10 +86,21 @@ impl Read for SlowReader<'_> {
 /// A reader that gives the same bytes so many times, and then other bytes.
 #[derive(Drop)]
 pub struct RepeatingReader<'a> {
-    pub bytes: &'a [u8],
-    pub times: u32,
-    pub rest: &'a [u8],
-    pub last: &'a [u8],
+    bytes: &'a [u8],
+    times: u32,
+    rest: &'a [u8],
+    last: &'a [u8],
+}
+
+impl<'a> RepeatingReader<'a> {
+    pub fn new(bytes: &'a [u8], times: u32, last: &'a [u8]) -> RepeatingReader<'a> {
+        RepeatingReader {
+            bytes,
+            times,
+            rest: b"",
+            last,
+        }
+    }
 }
 
 impl Read for RepeatingReader<'_> {
@@ -163,19 +174,13 @@ impl RefusingWriter {
             refusal,
         }
     }
-
-    /// Takes all of these bytes.
-    fn take(&mut self, bytes: &[u8]) -> io::Result<usize> {
-        self.taken.extend_from_slice(bytes)?;
-        self.room = self.room.saturating_sub(bytes.len());
-        Ok(bytes.len())
-    }
 }
 
 impl Write for RefusingWriter {
     fn write(&mut self, bytes: &[u8]) -> io::Result<usize> {
         if self.refusal.times == 0 {
-            return self.take(bytes);
+            self.taken.extend_from_slice(bytes)?;
+            return Ok(bytes.len());
         }
         if self.room == 0 {
             self.refusal.times -= 1;
@@ -184,7 +189,10 @@ impl Write for RefusingWriter {
                 None => Ok(0),
             };
         }
-        self.take(&bytes[..bytes.len().min(self.room)])
+        let count = bytes.len().min(self.room);
+        self.taken.extend_from_slice(&bytes[..count])?;
+        self.room -= count;
+        Ok(count)
     }
 
     fn flush(&mut self) -> io::Result<()> {
@@ -196,6 +204,14 @@ impl Write for RefusingWriter {
 #[derive(Drop)]
 pub struct SlowWriter {
     pub taken: Vec<u8>,
+}
+
+impl SlowWriter {
+    pub fn new(alloc: Global) -> SlowWriter {
+        SlowWriter {
+            taken: Vec::new(alloc),
+        }
+    }
 }
 
 impl Write for SlowWriter {
@@ -214,27 +230,18 @@ impl Write for SlowWriter {
     }
 }
 
-/// A writer that counts its bytes.
-#[derive(Drop)]
-pub struct CountingWriter {
-    pub count: u64,
-}
-
-impl Write for CountingWriter {
-    fn write(&mut self, bytes: &[u8]) -> io::Result<usize> {
-        self.count = self.count.saturating_add(bytes.len() as u64);
-        Ok(bytes.len())
-    }
-
-    fn flush(&mut self) -> io::Result<()> {
-        Ok(())
-    }
-}
-
 /// A writer that takes all bytes, and cannot flush them.
 #[derive(Drop)]
 pub struct UnflushedWriter {
-    pub taken: Vec<u8>,
+    taken: Vec<u8>,
+}
+
+impl UnflushedWriter {
+    pub fn new(alloc: Global) -> UnflushedWriter {
+        UnflushedWriter {
+            taken: Vec::new(alloc),
+        }
+    }
 }
 
 impl Write for UnflushedWriter {

@@ -9,28 +9,22 @@ use std::process::Abort;
 use std::test::Fail;
 
 #[test]
-fn a_writer_may_take_one_byte_at_a_time(rt: HostRuntime) -> Result<(), Fail> {
+fn a_writer_may_take_one_byte_at_a_time_and_have_just_enough_room(
+    rt: HostRuntime,
+) -> Result<(), Fail> {
     let cancel = cancel(rt.alloc())?;
-    let mut writer = SlowWriter {
-        taken: Vec::new(rt.alloc()),
-    };
+    let mut slow = SlowWriter::new(rt.alloc());
     assert!(rt;
-        write_apdu(rt.alloc(), &mut writer, &cancel) == Ok(()),
-        "answer"
+        write_apdu(rt.alloc(), &mut slow, &cancel) == Ok(()),
+        "slow"
     );
-    assert!(rt; writer.taken.as_slice() == CANCEL, "bytes");
-    Ok(())
-}
-
-#[test]
-fn a_writer_with_just_enough_room_takes_all(rt: HostRuntime) -> Result<(), Fail> {
-    let cancel = cancel(rt.alloc())?;
-    let mut writer = RefusingWriter::new(rt.alloc(), CANCEL.len(), FULL);
+    assert!(rt; slow.taken.as_slice() == CANCEL, "slow: bytes");
+    let mut tight = RefusingWriter::new(rt.alloc(), CANCEL.len(), FULL);
     assert!(rt;
-        write_apdu(rt.alloc(), &mut writer, &cancel) == Ok(()),
-        "answer"
+        write_apdu(rt.alloc(), &mut tight, &cancel) == Ok(()),
+        "tight"
     );
-    assert!(rt; writer.taken.as_slice() == CANCEL, "bytes");
+    assert!(rt; tight.taken.as_slice() == CANCEL, "tight: bytes");
     Ok(())
 }
 

@@ -26,18 +26,21 @@ fn expect_failures(rt: &impl Abort, alloc: Global, command: Command, failure: &F
         let answer = command.run(alloc, &mut reader, &mut writer);
         assert!(rt;
             answer == Err(ToolFault::Read),
-            "{} at {place}",
+            "{}: {} at {place}",
+            command.word(),
             failure.case
         );
         assert!(rt;
             reader.behind == behind,
-            "{} at {place}: left",
+            "{}: {} at {place}: left",
+            command.word(),
             failure.case
         );
         let text = command.of(lines_before(place), "").as_bytes();
         assert!(rt;
             writer.as_slice() == text,
-            "{} at {place}: output",
+            "{}: {} at {place}: output",
+            command.word(),
             failure.case
         );
     }
@@ -70,13 +73,15 @@ fn expect_refusals(rt: &impl Abort, alloc: Global, command: Command, refusal: &R
         let answer = command.run(alloc, &mut reader, &mut writer);
         assert!(rt;
             answer == Err(ToolFault::Write),
-            "{} at {place}",
+            "{}: {} at {place}",
+            command.word(),
             refusal.case
         );
         let taken = writer.taken.as_slice();
         assert!(rt;
             taken == &text[..place],
-            "{} at {place}: output",
+            "{}: {} at {place}: output",
+            command.word(),
             refusal.case
         );
     }

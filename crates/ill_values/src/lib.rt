@@ -20,6 +20,3 @@ pub use item::Item;
 pub use number::Number;
 pub use std::alloc::AllocError as OutOfMemory;
 pub use txn_id::TxnId;
-
-#[cfg(test)]
-mod tests;

@@ -1,0 +1,20 @@
+//! Tests of the commands, and of reading and writing one APDU, on streams that fail, give or take one
+//! byte at a time, or are long; over what `ill_tool` and `ill_der` export.
+#![tactic(auto)]
+
+#[cfg(test)]
+mod commands;
+#[cfg(test)]
+mod failing;
+#[cfg(test)]
+mod inputs;
+#[cfg(test)]
+mod reading;
+#[cfg(test)]
+mod samples;
+#[cfg(test)]
+mod streams;
+#[cfg(test)]
+mod words;
+#[cfg(test)]
+mod writing;

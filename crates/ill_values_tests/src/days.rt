@@ -1,0 +1,216 @@
+//! Days: their digits, their faults, their order, and days so many days later.
+
+use ill_values::{Day, DayFault};
+use std::test::Fail;
+
+/// Year, month and day, and the eight digits of that day or its fault.
+struct PartsRow {
+    parts: (u16, u8, u8),
+    made: Result<&'static str, DayFault>,
+}
+
+const PARTS: [PartsRow; 13] = [
+    PartsRow {
+        parts: (2025, 3, 15),
+        made: Ok("20250315"),
+    },
+    PartsRow {
+        parts: (1900, 1, 1),
+        made: Ok("19000101"),
+    },
+    PartsRow {
+        parts: (9999, 12, 31),
+        made: Ok("99991231"),
+    },
+    PartsRow {
+        parts: (2000, 2, 29),
+        made: Ok("20000229"),
+    },
+    PartsRow {
+        parts: (2024, 2, 29),
+        made: Ok("20240229"),
+    },
+    PartsRow {
+        parts: (1899, 12, 31),
+        made: Err(DayFault::OutOfRange),
+    },
+    PartsRow {
+        parts: (10000, 1, 1),
+        made: Err(DayFault::OutOfRange),
+    },
+    PartsRow {
+        parts: (1899, 13, 1),
+        made: Err(DayFault::OutOfRange),
+    },
+    PartsRow {
+        parts: (1900, 2, 29),
+        made: Err(DayFault::NotADate),
+    },
+    PartsRow {
+        parts: (2025, 4, 31),
+        made: Err(DayFault::NotADate),
+    },
+    PartsRow {
+        parts: (2025, 13, 1),
+        made: Err(DayFault::NotADate),
+    },
+    PartsRow {
+        parts: (2025, 0, 1),
+        made: Err(DayFault::NotADate),
+    },
+    PartsRow {
+        parts: (2025, 1, 0),
+        made: Err(DayFault::NotADate),
+    },
+];
+
+#[test]
+fn days_are_made_of_their_parts(rt: HostRuntime) {
+    for row in &PARTS {
+        let (year, month, day) = row.parts;
+        match (Day::new(year, month, day), row.made) {
+            (Ok(made), Ok(digits)) => {
+                assert!(rt; made.digits().as_slice() == digits.as_bytes(), "{digits}");
+                assert!(rt; Day::read(digits.as_bytes()) == Ok(made), "{digits} read");
+            }
+            (made, wanted) => {
+                assert!(rt; made.err() == wanted.err(), "{year}-{month}-{day}");
+            }
+        }
+    }
+}
+
+/// A text that is no day.
+struct TextRow {
+    text: &'static str,
+    fault: DayFault,
+}
+
+const NO_DAYS: [TextRow; 8] = [
+    TextRow {
+        text: "20250229",
+        fault: DayFault::NotADate,
+    },
+    TextRow {
+        text: "18991231",
+        fault: DayFault::OutOfRange,
+    },
+    TextRow {
+        text: "",
+        fault: DayFault::NotDigits,
+    },
+    TextRow {
+        text: "2025031",
+        fault: DayFault::NotDigits,
+    },
+    TextRow {
+        text: "202503150",
+        fault: DayFault::NotDigits,
+    },
+    TextRow {
+        text: "2025-1-1",
+        fault: DayFault::NotDigits,
+    },
+    TextRow {
+        text: "2025031/",
+        fault: DayFault::NotDigits,
+    },
+    TextRow {
+        text: "2025031:",
+        fault: DayFault::NotDigits,
+    },
+];
+
+#[test]
+fn texts_that_are_no_days(rt: HostRuntime) {
+    for row in &NO_DAYS {
+        let fault = Day::read(row.text.as_bytes()).err();
+        assert!(rt; fault == Some(row.fault), "\"{}\"", row.text);
+    }
+}
+
+/// So many days after a day, and the day that it is. `None`: it would be behind the last day.
+struct LaterRow {
+    start: &'static str,
+    days: u32,
+    later: Option<&'static str>,
+}
+
+const LATER: [LaterRow; 10] = [
+    LaterRow {
+        start: "20250315",
+        days: 0,
+        later: Some("20250315"),
+    },
+    LaterRow {
+        start: "20240228",
+        days: 2,
+        later: Some("20240301"),
+    },
+    LaterRow {
+        start: "20231231",
+        days: 1,
+        later: Some("20240101"),
+    },
+    LaterRow {
+        start: "19000228",
+        days: 1,
+        later: Some("19000301"),
+    },
+    LaterRow {
+        start: "19000101",
+        days: 2_958_463,
+        later: Some("99991231"),
+    },
+    LaterRow {
+        start: "99991231",
+        days: 1,
+        later: None,
+    },
+    LaterRow {
+        start: "19000101",
+        days: 2_958_464,
+        later: None,
+    },
+    LaterRow {
+        start: "19000101",
+        days: 7_304_484,
+        later: None,
+    },
+    LaterRow {
+        start: "19000101",
+        days: 7_304_485,
+        later: None,
+    },
+    LaterRow {
+        start: "19000101",
+        days: u32::MAX,
+        later: None,
+    },
+];
+
+#[test]
+fn days_so_many_days_later(rt: HostRuntime) -> Result<(), Fail> {
+    for row in &LATER {
+        let found = Day::read(row.start.as_bytes())?.after(row.days);
+        let wanted = match row.later {
+            Some(later) => Ok(Day::read(later.as_bytes())?),
+            None => Err(DayFault::OutOfRange),
+        };
+        assert!(rt; found == wanted, "{} days after {}", row.days, row.start);
+    }
+    Ok(())
+}
+
+#[test]
+fn days_are_equal_and_ordered_as_the_calendar_has_them(rt: HostRuntime) -> Result<(), Fail> {
+    for (before, after) in &[("20250228", "20250301"), ("20241231", "20250101")] {
+        let first = Day::read(before.as_bytes())?;
+        let second = Day::read(after.as_bytes())?;
+        assert!(rt; first < second, "{before} is before {after}");
+        assert!(rt; !(second < first), "{after} is not before {before}");
+        assert!(rt; first == first, "{before} is itself");
+        assert!(rt; first != second, "{before} is not {after}");
+    }
+    Ok(())
+}

@@ -1,0 +1,82 @@
+//! Whether the other calls of `ill_der` agree with what `decode` answers.
+
+use ill_der::{DerFault, ReadFault, decode, encode, read_apdu, size, write_apdu};
+use ill_values::Apdu;
+use std::alloc::{AllocError, Global};
+
+/// The first call that does not agree where `decode` answers an APDU of this many bytes, if one does not.
+pub fn differing_at_apdu(
+    alloc: Global,
+    bytes: &[u8],
+    apdu: &Apdu,
+    count: usize,
+) -> Result<Option<&'static str>, AllocError> {
+    let Some((spelling, behind)) = bytes.split_at_checked(count) else {
+        return Ok(Some("decode"));
+    };
+    Ok(if size(apdu) != count {
+        Some("size")
+    } else if encode(alloc, apdu)?.as_slice() != spelling {
+        Some("encode")
+    } else if !is_written(alloc, apdu, spelling)? {
+        Some("write_apdu")
+    } else if !is_read(alloc, bytes, apdu, behind) {
+        Some("read_apdu")
+    } else {
+        None
+    })
+}
+
+/// Whether the APDU is written behind what the writer has.
+fn is_written(alloc: Global, apdu: &Apdu, spelling: &[u8]) -> Result<bool, AllocError> {
+    let mut writer = Vec::new(alloc);
+    writer.push(b'#')?;
+    let written = write_apdu(alloc, &mut writer, apdu);
+    Ok(match writer.as_slice() {
+        [b'#', added @ ..] => written.is_ok() && added == spelling,
+        _ => false,
+    })
+}
+
+/// Whether the APDU is read, and these bytes behind it are left.
+fn is_read(alloc: Global, bytes: &[u8], apdu: &Apdu, behind: &[u8]) -> bool {
+    let mut reader = bytes;
+    match read_apdu(alloc, &mut reader) {
+        Ok(Some(found)) => found == *apdu && reader == behind,
+        _ => false,
+    }
+}
+
+/// The first call that does not agree where `decode` answers a fault, if one does not.
+pub fn differing_at_fault(alloc: Global, bytes: &[u8], fault: DerFault) -> Option<&'static str> {
+    let mut reader = bytes;
+    let is_answered = match read_apdu(alloc, &mut reader) {
+        Ok(None) => bytes.is_empty(),
+        Ok(Some(_)) => false,
+        Err(found) => found == ReadFault::Bytes(fault),
+    };
+    if is_answered && is_taken(alloc, bytes, reader, fault) {
+        None
+    } else {
+        Some("read_apdu")
+    }
+}
+
+/// Whether the bytes before those that are left are the shortest front with the fault. Where the fault
+/// is that the bytes are short, nothing may be left.
+fn is_taken(alloc: Global, bytes: &[u8], left: &[u8], fault: DerFault) -> bool {
+    if let DerFault::Short(_) = fault {
+        return left.is_empty();
+    }
+    let Some(front) = bytes.strip_suffix(left) else {
+        return false;
+    };
+    let Some((_, shorter)) = front.split_last() else {
+        return false;
+    };
+    has_fault(alloc, front, fault) && !has_fault(alloc, shorter, fault)
+}
+
+fn has_fault(alloc: Global, bytes: &[u8], fault: DerFault) -> bool {
+    decode(alloc, bytes).err() == Some(fault)
+}

@@ -2,7 +2,7 @@
 
 use ill_der::{DerFault, ReadFault, decode, encode, read_apdu, size, write_apdu};
 use ill_values::Apdu;
-use std::alloc::{AllocError, Global};
+use std::alloc::Global;
 
 /// The first call that does not agree where `decode` answers an APDU of this many bytes, if one does not.
 pub fn differing_at_apdu(
@@ -10,32 +10,38 @@ pub fn differing_at_apdu(
     bytes: &[u8],
     apdu: &Apdu,
     count: usize,
-) -> Result<Option<&'static str>, AllocError> {
+) -> Option<&'static [u8]> {
     let Some((spelling, behind)) = bytes.split_at_checked(count) else {
-        return Ok(Some("decode"));
+        return Some(b"decode");
     };
-    Ok(if size(apdu) != count {
-        Some("size")
-    } else if encode(alloc, apdu)?.as_slice() != spelling {
-        Some("encode")
-    } else if !is_written(alloc, apdu, spelling)? {
-        Some("write_apdu")
+    if size(apdu) != count {
+        Some(b"size")
+    } else if !is_encoded(alloc, apdu, spelling) {
+        Some(b"encode")
+    } else if !is_written(alloc, apdu, spelling) {
+        Some(b"write_apdu")
     } else if !is_read(alloc, bytes, apdu, behind) {
-        Some("read_apdu")
+        Some(b"read_apdu")
     } else {
         None
-    })
+    }
+}
+
+fn is_encoded(alloc: Global, apdu: &Apdu, spelling: &[u8]) -> bool {
+    match encode(alloc, apdu) {
+        Ok(bytes) => bytes.as_slice() == spelling,
+        Err(_) => false,
+    }
 }
 
 /// Whether the APDU is written behind what the writer has.
-fn is_written(alloc: Global, apdu: &Apdu, spelling: &[u8]) -> Result<bool, AllocError> {
+fn is_written(alloc: Global, apdu: &Apdu, spelling: &[u8]) -> bool {
     let mut writer = Vec::new(alloc);
-    writer.push(b'#')?;
-    let written = write_apdu(alloc, &mut writer, apdu);
-    Ok(match writer.as_slice() {
-        [b'#', added @ ..] => written.is_ok() && added == spelling,
+    let is_done = writer.push(b'#').is_ok() && write_apdu(alloc, &mut writer, apdu).is_ok();
+    match writer.as_slice() {
+        [b'#', added @ ..] => is_done && added == spelling,
         _ => false,
-    })
+    }
 }
 
 /// Whether the APDU is read, and these bytes behind it are left.
@@ -48,7 +54,7 @@ fn is_read(alloc: Global, bytes: &[u8], apdu: &Apdu, behind: &[u8]) -> bool {
 }
 
 /// The first call that does not agree where `decode` answers a fault, if one does not.
-pub fn differing_at_fault(alloc: Global, bytes: &[u8], fault: DerFault) -> Option<&'static str> {
+pub fn differing_at_fault(alloc: Global, bytes: &[u8], fault: DerFault) -> Option<&'static [u8]> {
     let mut reader = bytes;
     let is_answered = match read_apdu(alloc, &mut reader) {
         Ok(None) => bytes.is_empty(),
@@ -58,7 +64,7 @@ pub fn differing_at_fault(alloc: Global, bytes: &[u8], fault: DerFault) -> Optio
     if is_answered && is_taken(alloc, bytes, reader, fault) {
         None
     } else {
-        Some("read_apdu")
+        Some(b"read_apdu")
     }
 }
 

@@ -17,17 +17,23 @@
 
 mod agreement;
 mod answers;
+mod buffer;
 mod cases;
 mod words;
 
+use buffer::Buffer;
 use std::io;
-use std::io::Write;
+use std::io::{ErrorKind, Write};
 
 fn main(rt: HostRuntime) -> io::Result<()> {
     let input = io::read_to_string(rt.alloc(), rt.stdin())?;
-    let mut output = Vec::new(rt.alloc());
+    let mut output = Buffer::new(rt.alloc());
     for line in input.lines() {
-        answers::push_answers(rt.alloc(), &mut output, line)?;
+        answers::push_answers(rt.alloc(), &mut output, line);
     }
-    rt.stdout().write_all(&output)
+    if output.is_whole() {
+        rt.stdout().write_all(output.bytes())
+    } else {
+        Err(io::Error::from(ErrorKind::OutOfMemory))
+    }
 }

@@ -22,6 +22,3 @@ pub use reading::{read_apdu, read_apdu_counted};
 pub use sizing::size;
 pub use steps::Steps;
 pub use writing::{write_apdu, write_apdu_counted, write_bytes};
-
-#[cfg(test)]
-mod tests;

@@ -1,0 +1,69 @@
+//! Bytes that grow.
+
+use std::alloc::Global;
+use std::fmt::Display;
+
+/// Bytes to which more are added. Where that once fails they are no longer whole, and stay so.
+#[derive(Drop)]
+pub struct Buffer {
+    alloc: Global,
+    bytes: Vec<u8>,
+    is_whole: bool,
+}
+
+impl Buffer {
+    /// No bytes yet.
+    pub fn new(alloc: Global) -> Buffer {
+        Buffer {
+            alloc,
+            bytes: Vec::new(alloc),
+            is_whole: true,
+        }
+    }
+
+    /// All that was added, where it is whole.
+    pub fn bytes(&self) -> &[u8] {
+        &self.bytes
+    }
+
+    /// Whether nothing is missing.
+    pub fn is_whole(&self) -> bool {
+        self.is_whole
+    }
+
+    /// Says that something is missing.
+    pub fn lose(&mut self) {
+        self.is_whole = false;
+    }
+
+    /// Adds bytes.
+    pub fn push(&mut self, bytes: &[u8]) {
+        if self.bytes.extend_from_slice(bytes).is_err() {
+            self.lose();
+        }
+    }
+
+    /// Adds one byte.
+    pub fn push_octet(&mut self, octet: u8) {
+        if self.bytes.push(octet).is_err() {
+            self.lose();
+        }
+    }
+
+    /// Adds a line, and its end.
+    pub fn push_line(&mut self, line: &Buffer) {
+        self.push(line.bytes());
+        self.push_octet(b'\n');
+        if !line.is_whole {
+            self.lose();
+        }
+    }
+
+    /// Adds what `{}` prints.
+    pub fn push_shown<T: Display>(&mut self, value: &T) {
+        match value.to_string(self.alloc) {
+            Ok(text) => self.push(text.as_bytes()),
+            Err(_) => self.lose(),
+        }
+    }
+}

@@ -1,0 +1,39 @@
+//! Tests of the short form: each line of the input is a case, and what is printed for it is what the
+//! calls of `ill_der` answer. The file `stdin` has the cases, and `stdout` what must be printed.
+//!
+//! The bytes of a case are words: an octet in hexadecimal, or ASCII in quotes that has no space and no
+//! star. `*N` behind either repeats it N times. A line is one of these:
+//!
+//! - `# ..`, or nothing: printed as it is.
+//! - `BYTES`: the answer of `decode`, an APDU in words and its size, or the fault. All other calls must
+//!   agree with it; else the line ends with `DIFFERS` and the first call that does not.
+//! - `each proper front: BYTES`: each front must be short at its end; the answer to one that is not stands
+//!   on a line of its own.
+//! - `each octet at N: BYTES`: the answers with each octet in turn at this place, a line for all octets
+//!   in a row that have the same, with the first of them.
+//! - `one after another: BYTES`: the answers of `read_apdu` to the end, which is read twice, and how many
+//!   bytes each took.
+#![tactic(auto)]
+
+mod agreement;
+mod answers;
+mod buffer;
+mod cases;
+mod words;
+
+use buffer::Buffer;
+use std::io;
+use std::io::{ErrorKind, Write};
+
+fn main(rt: HostRuntime) -> io::Result<()> {
+    let input = io::read_to_string(rt.alloc(), rt.stdin())?;
+    let mut output = Buffer::new(rt.alloc());
+    for line in input.lines() {
+        answers::push_answers(rt.alloc(), &mut output, line);
+    }
+    if output.is_whole() {
+        rt.stdout().write_all(output.bytes())
+    } else {
+        Err(io::Error::from(ErrorKind::OutOfMemory))
+    }
+}

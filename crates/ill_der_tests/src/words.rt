@@ -1,0 +1,96 @@
+//! APDUs in words.
+
+use crate::buffer::Buffer;
+use ill_values::{AnswerResult, Apdu, Body, Day, Number};
+
+/// Adds an APDU in words: its type, and the names of its fields with their values.
+pub fn push_apdu(words: &mut Buffer, apdu: &Apdu) {
+    words.push(name(&apdu.body));
+    push_text(words, b", group ", apdu.txn.group());
+    push_text(words, b", transaction ", apdu.txn.transaction());
+    push_number(words, b", number ", apdu.number);
+    push_fields(words, &apdu.body);
+}
+
+/// Adds the fields that not every APDU has.
+fn push_fields(words: &mut Buffer, body: &Body) {
+    match body {
+        Body::IllRequest { expiry, item } => {
+            push_day(words, b", expiry ", *expiry);
+            push_text(words, b", item ", item.text());
+        }
+        Body::IllAnswer { result } => words.push(answer(*result)),
+        Body::ConditionalReply { answers, yes } => push_reply(words, *answers, *yes),
+        Body::CancelReply { answers, yes } => push_reply(words, *answers, *yes),
+        Body::Shipped { due } => push_day(words, b", due date ", Some(*due)),
+        Body::Overdue { due } => push_day(words, b", due date ", Some(*due)),
+        Body::Renew { wished } => push_day(words, b", wished date ", *wished),
+        Body::RenewAnswer { answers, granted } => {
+            push_reply(words, *answers, granted.is_some());
+            push_day(words, b", due date ", *granted);
+        }
+        Body::Cancel
+        | Body::Received
+        | Body::Recall
+        | Body::Returned
+        | Body::CheckedIn
+        | Body::Expired => {}
+    }
+}
+
+fn push_reply(words: &mut Buffer, answers: Number, yes: bool) {
+    push_number(words, b", answers ", answers);
+    words.push(if yes { b", yes" } else { b", no" });
+}
+
+/// Adds a date where there is one.
+fn push_day(words: &mut Buffer, name: &[u8], day: Option<Day>) {
+    if let Some(day) = day {
+        words.push(name);
+        words.push(&day.digits());
+    }
+}
+
+fn push_number(words: &mut Buffer, name: &[u8], number: Number) {
+    words.push(name);
+    words.push_shown(&number.get());
+}
+
+/// Adds a text in quotes.
+fn push_text(words: &mut Buffer, name: &[u8], text: &[u8]) {
+    words.push(name);
+    words.push_octet(b'"');
+    words.push(text);
+    words.push_octet(b'"');
+}
+
+fn name(body: &Body) -> &'static [u8] {
+    match body {
+        Body::IllRequest { .. } => b"ILL-Request",
+        Body::Shipped { .. } => b"Shipped",
+        Body::IllAnswer { .. } => b"ILL-Answer",
+        Body::ConditionalReply { .. } => b"Conditional-Reply",
+        Body::Cancel => b"Cancel",
+        Body::CancelReply { .. } => b"Cancel-Reply",
+        Body::Received => b"Received",
+        Body::Recall => b"Recall",
+        Body::Returned => b"Returned",
+        Body::CheckedIn => b"Checked-In",
+        Body::Overdue { .. } => b"Overdue",
+        Body::Renew { .. } => b"Renew",
+        Body::RenewAnswer { .. } => b"Renew-Answer",
+        Body::Expired => b"Expired",
+    }
+}
+
+fn answer(found: AnswerResult) -> &'static [u8] {
+    match found {
+        AnswerResult::Conditional => b", result conditional",
+        AnswerResult::Retry => b", result retry",
+        AnswerResult::Unfilled => b", result unfilled",
+        AnswerResult::LocationsProvided => b", result locations-provided",
+        AnswerResult::WillSupply => b", result will-supply",
+        AnswerResult::HoldPlaced => b", result hold-placed",
+        AnswerResult::Estimate => b", result estimate",
+    }
+}

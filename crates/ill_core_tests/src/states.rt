@@ -1,0 +1,66 @@
+//! The roles, and the states with the two letters that stand for each.
+
+use ill_core::State;
+
+#[derive(Clone, Copy)]
+pub enum Role {
+    Requester,
+    Responder,
+}
+
+const STATES: [State; 16] = [
+    State::Idle,
+    State::Pending,
+    State::InProcess,
+    State::Conditional,
+    State::CancelPending,
+    State::Cancelled,
+    State::NotSupplied,
+    State::Shipped,
+    State::Received,
+    State::RenewPending,
+    State::Overdue,
+    State::RenewOverdue,
+    State::NotReceivedOverdue,
+    State::Recall,
+    State::Returned,
+    State::CheckedIn,
+];
+
+pub fn letters_of(state: State) -> &'static str {
+    match state {
+        State::Idle => "id",
+        State::Pending => "pe",
+        State::InProcess => "ip",
+        State::Conditional => "co",
+        State::CancelPending => "cp",
+        State::Cancelled => "ca",
+        State::NotSupplied => "ns",
+        State::Shipped => "sh",
+        State::Received => "re",
+        State::RenewPending => "rp",
+        State::Overdue => "ov",
+        State::RenewOverdue => "ro",
+        State::NotReceivedOverdue => "no",
+        State::Recall => "rl",
+        State::Returned => "rt",
+        State::CheckedIn => "ci",
+    }
+}
+
+pub fn state_of(letters: &str) -> Option<State> {
+    for state in &STATES {
+        if letters_of(*state) == letters {
+            return Some(*state);
+        }
+    }
+    None
+}
+
+pub fn role_of(word: &str) -> Option<Role> {
+    match word {
+        "requester" => Some(Role::Requester),
+        "responder" => Some(Role::Responder),
+        _ => None,
+    }
+}

@@ -18,6 +18,3 @@ pub use fault::{DeskFault, RecordFault};
 pub use memory_store::MemoryStore;
 pub use side::{Action, Side};
 pub use store::{NextCall, Store, StoreFault};
-
-#[cfg(test)]
-mod tests;

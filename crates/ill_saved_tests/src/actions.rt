@@ -1,0 +1,69 @@
+//! Actions, from their words.
+
+use ill_core::{Deed, Wish};
+use ill_saved::Action;
+use ill_values::{AnswerResult, Day, Item};
+use std::alloc::Global;
+
+/// The action that these words say: a deed behind its day, or a wish.
+pub fn action(alloc: Global, words: &str) -> Option<Action> {
+    let (first, others) = words.split_once(' ').unwrap_or((words, ""));
+    match day(first) {
+        Some(today) => Some(Action::Deed(deed(others)?, today)),
+        None => Some(Action::Wish(wish(alloc, words)?)),
+    }
+}
+
+fn wish(alloc: Global, words: &str) -> Option<Wish> {
+    match words {
+        "cancel" => Some(Wish::Cancel),
+        "reply yes" => Some(Wish::Reply { yes: true }),
+        "receive" => Some(Wish::Receive),
+        "renew none" => Some(Wish::Renew { wished: None }),
+        "return" => Some(Wish::Return),
+        _ => request(alloc, words),
+    }
+}
+
+fn request(alloc: Global, words: &str) -> Option<Wish> {
+    let item = words.strip_prefix("request none ")?;
+    let item = Item::new(alloc, item.as_bytes()).ok()?;
+    Some(Wish::Request { expiry: None, item })
+}
+
+const DEEDS: [(&str, Deed); 9] = [
+    (
+        "answer conditional",
+        Deed::Answer(AnswerResult::Conditional),
+    ),
+    ("answer unfilled", Deed::Answer(AnswerResult::Unfilled)),
+    ("answer will-supply", Deed::Answer(AnswerResult::WillSupply)),
+    ("cancel-reply yes", Deed::CancelReply { yes: true }),
+    ("renew-answer no", Deed::RenewAnswer { granted: None }),
+    ("overdue", Deed::Overdue),
+    ("recall", Deed::Recall),
+    ("check-in", Deed::CheckIn),
+    ("expire", Deed::Expire),
+];
+
+fn deed(words: &str) -> Option<Deed> {
+    for (name, deed) in &DEEDS {
+        if *name == words {
+            return Some(*deed);
+        }
+    }
+    dated_deed(words)
+}
+
+fn dated_deed(words: &str) -> Option<Deed> {
+    if let Some(digits) = words.strip_prefix("ship ") {
+        let due = day(digits)?;
+        return Some(Deed::Ship { due });
+    }
+    let granted = Some(day(words.strip_prefix("renew-answer yes ")?)?);
+    Some(Deed::RenewAnswer { granted })
+}
+
+fn day(digits: &str) -> Option<Day> {
+    Day::read(digits.as_bytes()).ok()
+}

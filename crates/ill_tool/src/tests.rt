@@ -1,5 +1,4 @@
 mod check;
-mod growths;
 mod show;
 mod streams;
 mod words;

@@ -1,7 +1,7 @@
 //! One side with its store: each call, and what it leaves.
 
 use crate::codec::REQUEST;
-use crate::judging::{Outcome, judged, leaving, quiet};
+use crate::judging::{Outcome, done_if, judged, leaving, quiet};
 use crate::marks::{begin, end};
 use crate::records::{Role, spells};
 use crate::starts::create;
@@ -24,201 +24,165 @@ const NO: &[u8] =
 const CONDITIONS: &[u8] =
     b"\x64\x13\x80\x01\x01\xA1\x08\x81\x02G1\x82\x02T1\x82\x01\x01\x84\x01\x01";
 
+/// A call of a desk.
+#[derive(Clone, Copy)]
+enum Call<'a> {
+    Act(&'a Action),
+    /// The answer is Taken.
+    TakeBytes(&'a [u8]),
+    Save,
+    Restart,
+    /// The first message has these bytes.
+    Message(&'a [u8]),
+}
+
+/// A call, the fault that it answers with ample memory, if any, and what has landed after it.
+#[derive(Clone, Copy)]
+struct Case<'a> {
+    call: Call<'a>,
+    fault: Option<DeskFault>,
+    landed: &'a [u8],
+}
+
 /// What a desk keeps, in memory and in its store.
-#[derive(Drop)]
-struct Kept {
-    live: Vec<u8>,
+#[derive(Clone, Copy)]
+struct Keeping<'a> {
+    live: &'a [u8],
     released: u8,
-    landed: &'static [u8],
+    landed: &'a [u8],
 }
 
-/// A desk of this role whose side has issued one message more than its store has.
-fn desk(alloc: Global, role: Role) -> Option<Desk1<MemoryStore>> {
-    let mut desk = Desk1::start(alloc, store(alloc, role.record())?).ok()?;
-    desk.act(alloc, &action(role)?).ok()?;
-    Some(desk)
-}
-
-/// What the library of this role does in the state of its record.
-fn action(role: Role) -> Option<Action> {
-    match role {
-        Role::Requester => Some(Action::Wish(Wish::Cancel)),
-        Role::Responder => {
-            let conditions = Deed::Answer(AnswerResult::Conditional);
-            Some(Action::Deed(conditions, Day::new(2025, 3, 1).ok()?))
-        }
-    }
-}
-
-/// A desk of this role that has begun and saved nothing.
-fn unsaved_desk(alloc: Global, role: Role) -> Option<Desk1<MemoryStore>> {
-    let (begun, _) = create(alloc, role, MemoryStore::new(alloc))?;
-    let mut desk = begun.ok()?;
-    match role {
-        Role::Requester => {
-            let item = Item::new(alloc, b"Maps").ok()?;
-            let request = Action::Wish(Wish::Request { expiry: None, item });
-            desk.act(alloc, &request).ok()?;
-        }
-        Role::Responder => {
-            desk.take_bytes(alloc, REQUEST).ok()?;
-        }
-    }
-    Some(desk)
-}
-
-/// What this desk keeps, where this has landed.
-fn kept_by(alloc: Global, desk: &Desk1<MemoryStore>, landed: &'static [u8]) -> Option<Kept> {
-    Some(Kept {
-        live: encode_record(alloc, desk.side()).ok()?,
+/// The case of a desk whose side has issued one message more than its store has.
+pub fn outcome(alloc: Global, call: &str, words: &mut Words<'_>) -> Option<Outcome> {
+    let role = Role::read(words)?;
+    let plan = words.plan().unwrap_or(NextCall::Works);
+    let action = action_in(call, role)?;
+    let mut desk = desk(alloc, role)?;
+    let live = encode_record(alloc, desk.side()).ok()?;
+    let had = Keeping {
+        live: &live,
         released: desk.released(),
+        landed: role.record(),
+    };
+    desk.set_next(plan);
+    match case_of(call, role, plan, &action, had) {
+        Some(case) => performed(alloc, &mut desk, case, had),
+        None => shows(alloc, &mut desk),
+    }
+}
+
+/// `restart` of a desk that has begun and saved nothing.
+pub fn restarts_idle(alloc: Global, words: &mut Words<'_>) -> Option<Outcome> {
+    let role = Role::read(words)?;
+    let mut desk = unsaved_desk(alloc, role)?;
+    let live = encode_record(alloc, desk.side()).ok()?;
+    let had = Keeping {
+        live: &live,
+        released: desk.released(),
+        landed: role.idle_record(),
+    };
+    performed(alloc, &mut desk, restart_to(had.landed), had)
+}
+
+/// `restart` where this has landed.
+fn restart_to(landed: &[u8]) -> Case<'_> {
+    Case {
+        call: Call::Restart,
+        fault: None,
+        landed,
+    }
+}
+
+/// The call of this name, under a plan of the store; none is for the readers.
+fn case_of<'a>(
+    call: &str,
+    role: Role,
+    plan: NextCall,
+    action: &'a Action,
+    had: Keeping<'a>,
+) -> Option<Case<'a>> {
+    let failed = Some(DeskFault::Store(StoreFault::Failed));
+    let (call, fault, landed) = match call {
+        "act" => (Call::Act(action), None, had.landed),
+        "act-of-other-role" => (
+            Call::Act(action),
+            Some(DeskFault::Core(Refusal::WrongRole)),
+            had.landed,
+        ),
+        "take_bytes" => (Call::TakeBytes(message_to(role)), None, had.landed),
+        "save" => match plan {
+            NextCall::Works => (Call::Save, None, had.live),
+            NextCall::FailsOld => (Call::Save, failed, had.landed),
+            NextCall::FailsNew => (Call::Save, failed, had.live),
+        },
+        "restart" => (Call::Restart, None, had.landed),
+        "message" => (Call::Message(message_of(role)), None, had.landed),
+        _ => return None,
+    };
+    Some(Case {
+        call,
+        fault,
         landed,
     })
 }
 
-/// Whether the desk keeps just this. It goes back to what has landed.
-fn keeps(alloc: Global, desk: &mut Desk1<MemoryStore>, kept: &Kept) -> Option<bool> {
-    let is_live = spells(alloc, desk.side(), &kept.live)? && desk.released() == kept.released;
+/// The outcome of a call. After want of memory the desk keeps what it had.
+fn performed(
+    alloc: Global,
+    desk: &mut Desk1<MemoryStore>,
+    case: Case<'_>,
+    had: Keeping<'_>,
+) -> Option<Outcome> {
+    begin(alloc)?;
+    let answer = answer_of(alloc, desk, case.call);
+    let refused = end(alloc);
+    let is_live = spells(alloc, desk.side(), had.live)?;
+    let is_released = desk.released() == had.released;
     desk.set_next(NextCall::Works);
     desk.restart(alloc).ok()?;
-    Some(is_live && spells(alloc, desk.side(), kept.landed)?)
-}
-
-/// The outcome of a call that has to answer this with ample memory; without, the desk keeps what it had.
-fn answered(
-    alloc: Global,
-    desk: &mut Desk1<MemoryStore>,
-    had: &Kept,
-    fault: Option<DeskFault>,
-    ample: Option<DeskFault>,
-) -> Option<Outcome> {
-    if fault == Some(DeskFault::OutOfMemory) {
-        let is_kept = keeps(alloc, desk, had)?;
-        return Some(leaving(Outcome::Memory, is_kept));
-    }
-    Some(leaving(Outcome::Done, fault == ample))
-}
-
-pub fn acts(alloc: Global, words: &mut Words<'_>) -> Option<Outcome> {
-    let role = Role::read(words)?;
-    let mut desk = Desk1::start(alloc, store(alloc, role.record())?).ok()?;
-    let action = action(role)?;
-    let had = kept_by(alloc, &desk, role.record())?;
-    begin(alloc)?;
-    let acted = desk.act(alloc, &action);
-    let refused = end(alloc);
-    let outcome = answered(alloc, &mut desk, &had, acted.err(), None)?;
-    Some(judged(outcome, refused))
-}
-
-pub fn takes(alloc: Global, words: &mut Words<'_>) -> Option<Outcome> {
-    let role = Role::read(words)?;
-    let mut desk = desk(alloc, role)?;
-    let bytes = match role {
-        Role::Requester => SHIPPED,
-        Role::Responder => NO,
-    };
-    let had = kept_by(alloc, &desk, role.record())?;
-    begin(alloc)?;
-    let taken = desk.take_bytes(alloc, bytes);
-    let refused = end(alloc);
-    if let Ok(taking) = taken {
-        return Some(quiet(taking == Taking::Taken, refused));
-    }
-    let outcome = answered(alloc, &mut desk, &had, taken.err(), None)?;
-    Some(judged(outcome, refused))
-}
-
-/// `save` under a plan.
-pub fn saves(alloc: Global, words: &mut Words<'_>) -> Option<Outcome> {
-    let role = Role::read(words)?;
-    let plan = words.plan()?;
-    let mut desk = desk(alloc, role)?;
-    let had = kept_by(alloc, &desk, role.record())?;
-    desk.set_next(plan);
-    begin(alloc)?;
-    let saved = desk.save(alloc);
-    let refused = end(alloc);
-    let failed = Some(DeskFault::Store(StoreFault::Failed));
-    let ample = if plan == NextCall::Works {
-        None
+    let outcome = if answer == Err(DeskFault::OutOfMemory) {
+        let is_landed = spells(alloc, desk.side(), had.landed)?;
+        leaving(Outcome::Memory, is_live && is_released && is_landed)
     } else {
-        failed
+        let is_landed = spells(alloc, desk.side(), case.landed)?;
+        done_if(is_landed && is_expected(answer, case.fault, is_released))
     };
-    let outcome = answered(alloc, &mut desk, &had, saved.err(), ample)?;
-    let outcome = judged(outcome, refused);
-    if saved == Err(DeskFault::OutOfMemory) {
-        return Some(outcome);
-    }
-    let is_right = has_saved(alloc, &mut desk, &had, plan)?;
-    Some(leaving(outcome, is_right))
+    Some(judged(outcome, refused))
 }
 
-/// Whether a `save` under a plan has released and landed what it has to.
-fn has_saved(
+/// Whether the answer is right, or this fault, after which the released messages are those from before.
+fn is_expected(
+    answer: Result<bool, DeskFault>,
+    fault: Option<DeskFault>,
+    is_released: bool,
+) -> bool {
+    match answer {
+        Ok(is_right) => is_right && fault.is_none(),
+        Err(found) => fault == Some(found) && is_released,
+    }
+}
+
+/// Whether the call answers what it has to, or its fault.
+fn answer_of(
     alloc: Global,
     desk: &mut Desk1<MemoryStore>,
-    had: &Kept,
-    plan: NextCall,
-) -> Option<bool> {
-    let released = desk.released();
-    desk.restart(alloc).ok()?;
-    Some(match plan {
-        NextCall::Works => released > had.released && spells(alloc, desk.side(), &had.live)?,
-        NextCall::FailsOld => released == had.released && spells(alloc, desk.side(), had.landed)?,
-        NextCall::FailsNew => released == had.released && spells(alloc, desk.side(), &had.live)?,
-    })
-}
-
-/// `restart` from the record that has landed.
-pub fn restarts(alloc: Global, words: &mut Words<'_>) -> Option<Outcome> {
-    let role = Role::read(words)?;
-    let mut desk = desk(alloc, role)?;
-    restart(alloc, &mut desk, role.record())
-}
-
-/// `restart` where nothing has landed.
-pub fn restarts_idle(alloc: Global, words: &mut Words<'_>) -> Option<Outcome> {
-    let role = Role::read(words)?;
-    let mut desk = unsaved_desk(alloc, role)?;
-    restart(alloc, &mut desk, role.idle_record())
-}
-
-/// `restart`, which goes back to this.
-fn restart(alloc: Global, desk: &mut Desk1<MemoryStore>, landed: &'static [u8]) -> Option<Outcome> {
-    let had = kept_by(alloc, desk, landed)?;
-    begin(alloc)?;
-    let restarted = desk.restart(alloc);
-    let refused = end(alloc);
-    let outcome = answered(alloc, desk, &had, restarted.err(), None)?;
-    let is_back = spells(alloc, desk.side(), landed)?;
-    Some(leaving(judged(outcome, refused), is_back))
-}
-
-/// `message` of the first message.
-pub fn sends(alloc: Global, words: &mut Words<'_>) -> Option<Outcome> {
-    let role = Role::read(words)?;
-    let mut desk = desk(alloc, role)?;
-    let first = Number::new(1)?;
-    let expected = match role {
-        Role::Requester => REQUEST,
-        Role::Responder => CONDITIONS,
-    };
-    let had = kept_by(alloc, &desk, role.record())?;
-    begin(alloc)?;
-    let sent = desk.message(alloc, first);
-    let refused = end(alloc);
-    if let Ok(bytes) = sent {
-        return Some(quiet(bytes.as_slice() == expected, refused));
+    call: Call<'_>,
+) -> Result<bool, DeskFault> {
+    match call {
+        Call::Act(action) => desk.act(alloc, action)?,
+        Call::TakeBytes(bytes) => return Ok(desk.take_bytes(alloc, bytes)? == Taking::Taken),
+        Call::Save => desk.save(alloc)?,
+        Call::Restart => desk.restart(alloc)?,
+        Call::Message(bytes) => {
+            let first = Number::new(1).ok_or(DeskFault::NoSuchMessage)?;
+            return Ok(desk.message(alloc, first)?.as_slice() == bytes);
+        }
     }
-    let outcome = answered(alloc, &mut desk, &had, sent.err(), None)?;
-    Some(judged(outcome, refused))
+    Ok(true)
 }
 
 /// `side`, `released` and `set_next`.
-pub fn shows(alloc: Global, words: &mut Words<'_>) -> Option<Outcome> {
-    let role = Role::read(words)?;
-    let mut desk = desk(alloc, role)?;
+fn shows(alloc: Global, desk: &mut Desk1<MemoryStore>) -> Option<Outcome> {
     begin(alloc)?;
     let released = desk.released();
     let _side = desk.side();
@@ -226,20 +190,64 @@ pub fn shows(alloc: Global, words: &mut Words<'_>) -> Option<Outcome> {
     let refused = end(alloc);
     let is_planned = desk.restart(alloc) == Err(DeskFault::Store(StoreFault::Failed));
     desk.restart(alloc).ok()?;
-    let is_right = is_planned && released == desk.released();
-    Some(quiet(is_right, refused))
+    Some(quiet(is_planned && released == desk.released(), refused))
 }
 
-/// `act` with what the other role decides.
-pub fn refuses(alloc: Global, words: &mut Words<'_>) -> Option<Outcome> {
-    let role = Role::read(words)?;
-    let mut desk = desk(alloc, role)?;
-    let action = action(role.other())?;
-    let had = kept_by(alloc, &desk, role.record())?;
-    begin(alloc)?;
-    let acted = desk.act(alloc, &action);
-    let refused = end(alloc);
-    let is_refused = acted == Err(DeskFault::Core(Refusal::WrongRole));
-    let is_kept = keeps(alloc, &mut desk, &had)?;
-    Some(quiet(is_refused && is_kept, refused))
+/// A desk of this role whose side has issued one message more than its store has.
+fn desk(alloc: Global, role: Role) -> Option<Desk1<MemoryStore>> {
+    let action = first_action(role)?;
+    let mut desk = Desk1::start(alloc, store(alloc, role.record())?).ok()?;
+    desk.act(alloc, &action).ok()?;
+    Some(desk)
+}
+
+/// A desk of this role that has begun and saved nothing.
+fn unsaved_desk(alloc: Global, role: Role) -> Option<Desk1<MemoryStore>> {
+    let item = Item::new(alloc, b"Maps").ok()?;
+    let request = Action::Wish(Wish::Request { expiry: None, item });
+    let mut desk = create(alloc, role, MemoryStore::new(alloc))?.0.ok()?;
+    match role {
+        Role::Requester => desk.act(alloc, &request).ok()?,
+        Role::Responder => desk.take_bytes(alloc, REQUEST).map(|_| ()).ok()?,
+    }
+    Some(desk)
+}
+
+/// What the library of this role does in the state of its record.
+fn first_action(role: Role) -> Option<Action> {
+    match role {
+        Role::Requester => Some(Action::Wish(Wish::Reply { yes: true })),
+        Role::Responder => will_supply(),
+    }
+}
+
+/// What it does next: for one call, what the other role does.
+fn action_in(call: &str, role: Role) -> Option<Action> {
+    match (role, call) {
+        (Role::Requester, "act-of-other-role") => will_supply(),
+        (Role::Responder, "act-of-other-role") => Some(Action::Wish(Wish::Cancel)),
+        (Role::Requester, _) => Some(Action::Wish(Wish::Cancel)),
+        (Role::Responder, _) => will_supply(),
+    }
+}
+
+fn will_supply() -> Option<Action> {
+    let answer = Deed::Answer(AnswerResult::WillSupply);
+    Some(Action::Deed(answer, Day::new(2025, 3, 1).ok()?))
+}
+
+/// A message to the side of this role, which it takes.
+fn message_to(role: Role) -> &'static [u8] {
+    match role {
+        Role::Requester => SHIPPED,
+        Role::Responder => NO,
+    }
+}
+
+/// The first message of the side of this role.
+fn message_of(role: Role) -> &'static [u8] {
+    match role {
+        Role::Requester => REQUEST,
+        Role::Responder => CONDITIONS,
+    }
 }

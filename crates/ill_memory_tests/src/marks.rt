@@ -10,15 +10,12 @@ const END: usize = 54_323;
 
 /// Begins what the shim counts and refuses.
 pub fn begin(alloc: Global) -> Option<()> {
-    mark(alloc, BEGIN).then_some(())
+    Vec::<u8>::with_capacity(alloc, BEGIN).ok()?;
+    Some(())
 }
 
 /// Ends it, and tells whether an allocation was refused since it began: then the shim refuses this
 /// mark too.
 pub fn end(alloc: Global) -> bool {
-    !mark(alloc, END)
-}
-
-fn mark(alloc: Global, size: usize) -> bool {
-    Vec::<u8>::with_capacity(alloc, size).is_ok()
+    Vec::<u8>::with_capacity(alloc, END).is_err()
 }

@@ -7,9 +7,9 @@ use ill_saved::{RecordFault, Side, decode_record, encode_record};
 use ill_values::OutOfMemory;
 use std::alloc::Global;
 
-/// The record of a requester in PENDING.
+/// The record of a requester in CONDITIONAL, which holds conditions 1.
 const REQUESTER: &[u8] =
-    b"ILL1\x00\x01\x02G1\x02T1\x00\x0000000000\x01\x61\x16\x80\x01\x01\xA1\x08\x81\x02G1\x82\x02T1\x82\x01\x01\x86\x04Maps";
+    b"ILL1\x00\x02\x02G1\x02T1\x01\x0000000000\x01\x61\x16\x80\x01\x01\xA1\x08\x81\x02G1\x82\x02T1\x82\x01\x01\x86\x04Maps";
 
 /// The record of a responder in IN-PROCESS that has named conditions, which were accepted, and then
 /// answered that it will supply.
@@ -23,7 +23,7 @@ const IDLE_REQUESTER: &[u8] = b"ILL1\x00\x00\x02G1\x02T1\x00\x0000000000\x00";
 const IDLE_RESPONDER: &[u8] = b"ILL1\x01\x00\x02G1\x02T1\x00\x00\x00\x00\x00\x00";
 
 /// The role of a side.
-#[derive(Clone, Copy, Debug, PartialEq, Eq)]
+#[derive(Clone, Copy)]
 pub enum Role {
     Requester,
     Responder,
@@ -36,14 +36,6 @@ impl Role {
             "requester" => Some(Role::Requester),
             "responder" => Some(Role::Responder),
             _ => None,
-        }
-    }
-
-    /// The role of the other side.
-    pub fn other(self) -> Role {
-        match self {
-            Role::Requester => Role::Responder,
-            Role::Responder => Role::Requester,
         }
     }
 

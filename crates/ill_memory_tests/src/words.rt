@@ -35,27 +35,27 @@ impl<'a> Words<'a> {
 
     /// A number from 1 to 255.
     pub fn number(&mut self) -> Option<Number> {
-        number(self.word()?)
+        Number::new(self.word()?.parse::<u8>().ok()?)
     }
 
     /// A number, or `-` for none.
     pub fn number_if(&mut self) -> Option<Option<Number>> {
         match self.word()? {
             "-" => Some(None),
-            word => Some(Some(number(word)?)),
+            word => Some(Some(Number::new(word.parse::<u8>().ok()?)?)),
         }
     }
 
     /// A day as eight digits.
     pub fn day(&mut self) -> Option<Day> {
-        day(self.word()?)
+        Day::read(self.word()?.as_bytes()).ok()
     }
 
     /// A day, or none where it is `-` or nothing is left.
     pub fn day_if(&mut self) -> Option<Option<Day>> {
         match self.word() {
             None | Some("-") => Some(None),
-            Some(word) => Some(Some(day(word)?)),
+            Some(word) => Some(Some(Day::read(word.as_bytes()).ok()?)),
         }
     }
 
@@ -109,12 +109,4 @@ impl<'a> Words<'a> {
             _ => None,
         }
     }
-}
-
-fn number(word: &str) -> Option<Number> {
-    Number::new(word.parse::<u8>().ok()?)
-}
-
-fn day(word: &str) -> Option<Day> {
-    Day::read(word.as_bytes()).ok()
 }

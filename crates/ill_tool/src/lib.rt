@@ -16,5 +16,3 @@ pub use ill_der::DerFault;
 pub use show::run_show;
 pub use words::run_words;
 
-#[cfg(test)]
-mod tests;

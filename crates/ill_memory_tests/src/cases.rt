@@ -1,0 +1,79 @@
+//! The cases by their words.
+
+use crate::judging::Outcome;
+use crate::words::Words;
+use crate::{codec, desks, records, sides, starts, stores, values};
+use std::alloc::Global;
+
+/// What comes of the case of these words, or `None` where they are none.
+pub fn outcome(alloc: Global, words: &mut Words<'_>) -> Option<Outcome> {
+    let _memory = words.word()?;
+    match words.word()? {
+        "requester" => sides::requester(alloc, words),
+        "responder" => sides::responder(alloc, words),
+        "idle" => sides::idle(alloc),
+        "decode" => codec::decodes_digits(alloc, words.word()?),
+        call => match call.split_once("::") {
+            Some(("codec", call)) => codec_outcome(alloc, call),
+            Some(("MemoryStore", call)) => store_outcome(alloc, call, words),
+            Some(("Desk1", call)) => desk_outcome(alloc, call, words),
+            Some(("record", call)) => record_outcome(alloc, call, words),
+            _ => value_outcome(alloc, call),
+        },
+    }
+}
+
+fn value_outcome(alloc: Global, call: &str) -> Option<Outcome> {
+    match call {
+        "TxnId::new" => values::new_id(alloc),
+        "Item::new" => values::new_item(alloc),
+        "TxnId::copy" => values::copy_id(alloc),
+        "Item::copy" => values::copy_item(alloc),
+        "Apdu::copy" => values::copy_apdu(alloc),
+        "texts" => values::texts(alloc),
+        "no-texts" => values::no_texts(alloc),
+        "days" => values::days(alloc),
+        "no-days" => values::no_days(alloc),
+        "numbers" => values::numbers(alloc),
+        _ => None,
+    }
+}
+
+fn codec_outcome(alloc: Global, call: &str) -> Option<Outcome> {
+    match call {
+        "encode" => codec::encodes(alloc),
+        "decode" => codec::decodes(alloc),
+        "read_apdu" => codec::reads(alloc),
+        "write_apdu" => codec::writes(alloc),
+        "size" => codec::sizes(alloc),
+        _ => None,
+    }
+}
+
+fn record_outcome(alloc: Global, call: &str, words: &mut Words<'_>) -> Option<Outcome> {
+    match call {
+        "encode" => records::encodes(alloc, words),
+        "decode" => records::decodes(alloc, words),
+        _ => None,
+    }
+}
+
+fn store_outcome(alloc: Global, call: &str, words: &mut Words<'_>) -> Option<Outcome> {
+    match call {
+        "new" => stores::begins(alloc),
+        "load" => stores::loads(alloc, words),
+        "load-nothing" => stores::loads_nothing(alloc),
+        "save" => stores::saves(alloc, words),
+        _ => None,
+    }
+}
+
+fn desk_outcome(alloc: Global, call: &str, words: &mut Words<'_>) -> Option<Outcome> {
+    match call {
+        "create" => starts::creates(alloc, words),
+        "create-over-record" => starts::exists(alloc, words),
+        "start" => starts::starts(alloc, words),
+        "restart-idle" => desks::restarts_idle(alloc, words),
+        other => desks::outcome(alloc, other, words),
+    }
+}

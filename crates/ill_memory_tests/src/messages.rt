@@ -1,0 +1,172 @@
+//! The messages, wishes and deeds that words stand for: the name of one in the code, with its fields
+//! behind colons.
+
+use crate::words::Words;
+use ill_core::{Deed, Wish};
+use ill_saved::Action;
+use ill_values::{AnswerResult, Apdu, Body, Day, Item, Number, TxnId};
+use std::alloc::Global;
+
+/// The transaction of group G1 with this qualifier.
+pub fn txn(alloc: Global, transaction: &str) -> Option<TxnId> {
+    TxnId::new(alloc, b"G1", transaction.as_bytes()).ok()
+}
+
+/// The message of these words: its transaction, its number, and what it says.
+pub fn apdu(alloc: Global, words: &mut Words<'_>) -> Option<Apdu> {
+    let txn = txn(alloc, words.word()?)?;
+    let number = words.number()?;
+    let body = body(alloc, words.word()?)?;
+    Some(Apdu { txn, number, body })
+}
+
+/// The messages of transaction T1 that a word lists with commas, numbered from 1 on; `-` is none of
+/// them, and `Cancel*254` so many. There is room for no more.
+pub fn issued(alloc: Global, word: &str) -> Option<Vec<Apdu>> {
+    if word == "-" {
+        return Some(Vec::new(alloc));
+    }
+    let mut issued = Vec::with_capacity(alloc, word.split(',').count()).ok()?;
+    for part in word.split(',') {
+        let (message, times) = part.split_once('*').unwrap_or((part, "1"));
+        push(alloc, &mut issued, message, times.parse().ok()?)?;
+    }
+    Some(issued)
+}
+
+/// Adds a message so many times.
+fn push(alloc: Global, issued: &mut Vec<Apdu>, message: &str, times: u8) -> Option<()> {
+    for _ in 0..times {
+        let next = u8::try_from(issued.len()).ok()?.checked_add(1)?;
+        let number = Number::new(next)?;
+        let txn = txn(alloc, "T1")?;
+        let body = body(alloc, message)?;
+        issued.push(Apdu { txn, number, body }).ok()?;
+    }
+    Some(())
+}
+
+/// The ILL-Request of a responder, or `-` for none.
+pub fn request(alloc: Global, word: &str) -> Option<Option<Apdu>> {
+    if word == "-" {
+        return Some(None);
+    }
+    let txn = txn(alloc, "T1")?;
+    let number = Number::new(1)?;
+    let body = body(alloc, word)?;
+    Some(Some(Apdu { txn, number, body }))
+}
+
+/// What a message says.
+pub fn body(alloc: Global, word: &str) -> Option<Body> {
+    let mut fields = Words::new(word, ':');
+    let name = fields.word()?;
+    match name {
+        "Cancel" => Some(Body::Cancel),
+        "Received" => Some(Body::Received),
+        "Recall" => Some(Body::Recall),
+        "Returned" => Some(Body::Returned),
+        "CheckedIn" => Some(Body::CheckedIn),
+        "Expired" => Some(Body::Expired),
+        "ConditionalReply" | "CancelReply" | "RenewAnswer" => reply(name, &mut fields),
+        _ => body_with_fields(alloc, name, &mut fields),
+    }
+}
+
+fn body_with_fields(alloc: Global, name: &str, fields: &mut Words<'_>) -> Option<Body> {
+    match name {
+        "IllRequest" => Some(Body::IllRequest {
+            expiry: fields.day_if()?,
+            item: item(alloc)?,
+        }),
+        "IllAnswer" => Some(Body::IllAnswer {
+            result: result(fields)?,
+        }),
+        "Shipped" => Some(Body::Shipped { due: fields.day()? }),
+        "Overdue" => Some(Body::Overdue { due: fields.day()? }),
+        "Renew" => Some(Body::Renew {
+            wished: fields.day_if()?,
+        }),
+        _ => None,
+    }
+}
+
+/// What a message says that answers another.
+fn reply(name: &str, fields: &mut Words<'_>) -> Option<Body> {
+    let answers = fields.number()?;
+    match name {
+        "ConditionalReply" => Some(Body::ConditionalReply {
+            answers,
+            yes: fields.yes()?,
+        }),
+        "CancelReply" => Some(Body::CancelReply {
+            answers,
+            yes: fields.yes()?,
+        }),
+        "RenewAnswer" => Some(Body::RenewAnswer {
+            answers,
+            granted: fields.day_if()?,
+        }),
+        _ => None,
+    }
+}
+
+fn item(alloc: Global) -> Option<Item> {
+    Item::new(alloc, b"Maps").ok()
+}
+
+fn result(words: &mut Words<'_>) -> Option<AnswerResult> {
+    match words.word()? {
+        "Conditional" => Some(AnswerResult::Conditional),
+        "Retry" => Some(AnswerResult::Retry),
+        "Unfilled" => Some(AnswerResult::Unfilled),
+        "LocationsProvided" => Some(AnswerResult::LocationsProvided),
+        "WillSupply" => Some(AnswerResult::WillSupply),
+        "HoldPlaced" => Some(AnswerResult::HoldPlaced),
+        "Estimate" => Some(AnswerResult::Estimate),
+        _ => None,
+    }
+}
+
+/// What the library of a requester decides.
+pub fn wish(alloc: Global, word: &str) -> Option<Action> {
+    let mut fields = Words::new(word, ':');
+    let wish = match fields.word()? {
+        "Request" => Wish::Request {
+            expiry: None,
+            item: item(alloc)?,
+        },
+        "Cancel" => Wish::Cancel,
+        "Reply" => Wish::Reply { yes: fields.yes()? },
+        "Receive" => Wish::Receive,
+        "Renew" => Wish::Renew { wished: None },
+        "Return" => Wish::Return,
+        _ => return None,
+    };
+    Some(Action::Wish(wish))
+}
+
+/// What the library of a responder decides on a day.
+pub fn deed(today: Day, word: &str) -> Option<Action> {
+    let mut fields = Words::new(word, ':');
+    let deed = match fields.word()? {
+        "Overdue" => Deed::Overdue,
+        "Recall" => Deed::Recall,
+        "CheckIn" => Deed::CheckIn,
+        "Expire" => Deed::Expire,
+        name => deed_with_fields(name, &mut fields)?,
+    };
+    Some(Action::Deed(deed, today))
+}
+
+fn deed_with_fields(name: &str, fields: &mut Words<'_>) -> Option<Deed> {
+    match name {
+        "Answer" => Some(Deed::Answer(result(fields)?)),
+        "CancelReply" => Some(Deed::CancelReply { yes: fields.yes()? }),
+        "Ship" => Some(Deed::Ship { due: fields.day()? }),
+        "RenewAnswer" => Some(Deed::RenewAnswer {
+            granted: fields.day_if()?,
+        }),
+        _ => None,
+    }
+}

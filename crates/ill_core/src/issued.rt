@@ -82,6 +82,7 @@ impl Issued {
     pub fn apdus(&self) -> &[Apdu]
         ensures value { result.now ≡ self.now.apdus }
         ensures numbered { are_numbered self.now.txn 1 self.now.apdus ≡ true }
+        ensures few { length self.now.apdus ≤ 255 }
     {
         &self.apdus
     }

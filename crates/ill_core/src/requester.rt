@@ -4,7 +4,7 @@ mod actions;
 mod deliveries;
 mod rules;
 
-ghost use Rattle.std.specs.Prelude.{◌≡◌, ◌↔◌, [], None, false, length, IsSome, IfSome, option_map};
+ghost use Rattle.std.specs.Prelude.{◌≡◌, ◌≤◌, ◌↔◌, [], None, false, length, IsSome, IfSome, option_map};
 ghost use Rattle.ill_core.specs.declared.state.State.TheVariants as State;
 ghost use Rattle.ill_core.specs.Issued.{message};
 ghost use Rattle.ill_core.specs.Requester.{RequesterRecord, requester_of, IsRequester, accepted_number, is_declined, is_received_by};
@@ -137,6 +137,14 @@ impl Requester {
         ensures { result ≡ length self.now.issued }
     {
         self.issued.count()
+    }
+
+    /// The messages that were issued, in their order.
+    pub fn all_issued(&self) -> &[Apdu]
+        ensures value { result.now ≡ self.now.issued }
+        ensures few { length self.now.issued ≤ 255 }
+    {
+        self.issued.apdus()
     }
 
     /// The message that was issued with this number.

@@ -4,7 +4,7 @@ mod actions;
 mod deliveries;
 mod rules;
 
-ghost use Rattle.std.specs.Prelude.{◌≡◌, ◌↔◌, [], None, false, length, IsSome, IfSome, option_map};
+ghost use Rattle.std.specs.Prelude.{◌≡◌, ◌≤◌, ◌↔◌, [], None, false, length, IsSome, IfSome, option_map};
 ghost use Rattle.ill_core.specs.declared.state.State.TheVariants as State;
 ghost use Rattle.ill_core.specs.Issued.{message};
 ghost use Rattle.ill_core.specs.Responder.{ResponderRecord, responder_of, IsResponder, due_of, outstanding_number};
@@ -162,6 +162,14 @@ impl Responder {
         ensures { result ≡ length self.now.issued }
     {
         self.issued.count()
+    }
+
+    /// The messages that were issued, in their order.
+    pub fn all_issued(&self) -> &[Apdu]
+        ensures value { result.now ≡ self.now.issued }
+        ensures few { length self.now.issued ≤ 255 }
+    {
+        self.issued.apdus()
     }
 
     /// The message that was issued with this number.

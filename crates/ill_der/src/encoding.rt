@@ -15,21 +15,25 @@ use ill_values::{AnswerResult, Apdu, Body, Day, Number, OutOfMemory, TxnId};
 use std::alloc::Global;
 
 /// The spelling of an APDU, in one growth.
-#[tactic(auto, unfolding(crate::specs::ShortForm::spelling, crate::specs::Format::element))]
 pub fn encode(alloc: Global, apdu: &Apdu) -> Result<Vec<u8>, OutOfMemory>
     ensures spelled { IfOk result (λ bytes. bytes.items ≡ spelling apdu.now) }
     ensures most { IfOk result (λ bytes. length bytes.items ≤ 359) }
     ensures range { OnOk result (IsApdu apdu.now) }
 {
     let mut bytes = Vec::with_capacity(alloc, size(apdu))?;
-    push_start(
-        &mut bytes,
-        Kind::of(&apdu.body).octet(),
-        contents_size(apdu),
-    )?;
-    push_head(&mut bytes, apdu)?;
-    push_body(&mut bytes, &apdu.body)?;
+    encode_onto(&mut bytes, apdu)?;
     Ok(bytes)
+}
+
+/// Adds the spelling of an APDU to the bytes. Without memory a front of it may be added.
+#[tactic(auto, unfolding(crate::specs::ShortForm::spelling, crate::specs::Format::element))]
+pub fn encode_onto(bytes: &mut Vec<u8>, apdu: &Apdu) -> Result<(), OutOfMemory>
+    ensures spelled { OnOk result (bytes.new.items ≡ bytes.old.items ++ spelling apdu.now) }
+    ensures range { OnOk result (IsApdu apdu.now) }
+{
+    push_start(bytes, Kind::of(&apdu.body).octet(), contents_size(apdu))?;
+    push_head(bytes, apdu)?;
+    push_body(bytes, &apdu.body)
 }
 
 /// Adds the fields that each APDU has.

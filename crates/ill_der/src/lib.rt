@@ -16,7 +16,7 @@ mod tags;
 mod writing;
 
 pub use decoding::decode;
-pub use encoding::encode;
+pub use encoding::{encode, encode_onto};
 pub use fault::{DerFault, ReadFault, WriteFault};
 pub use reading::{read_apdu, read_apdu_counted};
 pub use sizing::size;

@@ -3,6 +3,7 @@ use Rattle.std.proofs.Common.{rules, arith, ◌≡◌, ◌⊎◌, ℕ, ◌+◌, 
 use Rattle.ill_values.specs.Day.{Date}
 use Rattle.ill_values.specs.declared.apdu.Apdu.{Apdu}
 use Rattle.ill_core.specs.declared.refusal.Refusal.{Refusal}
+use Rattle.ill_core.specs.declared.refusal.Refusal.TheVariants as refusals
 use Rattle.ill_core.specs.declared.taking.Taking.{Taking}
 use Rattle.std.proofs.lemmas.List.{length-drop}
 use Rattle.ill_der.specs.declared.fault.DerFault.{DerFault}
@@ -11,17 +12,17 @@ use Rattle.ill_der.specs.ShortForm.{apdu_at, Decodes}
 use Rattle.ill_der.proofs.ShortFormLaws.{apdu_memory}
 use Rattle.ill_core.specs.declared.requester.Wish.{Wish}
 use Rattle.ill_core.specs.declared.responder.Deed.{Deed}
-use Rattle.ill_core.specs.Issued.{are_numbered}
+use Rattle.ill_values.specs.TxnId.{Qualifiers}
+use Rattle.ill_core.specs.Issued.{are_numbered, IssuesNext}
 use Rattle.ill_core.specs.Requester.{RequesterRecord}
-use Rattle.ill_core.specs.RequesterActions.{acts}
-use Rattle.ill_core.specs.RequesterDeliveries.{takes}
 use Rattle.ill_core.specs.Responder.{ResponderRecord, rise_from, ships_first}
-use Rattle.ill_core.specs.ResponderActions.{deed_acts}
-use Rattle.ill_core.specs.ResponderDeliveries.{responder_takes}
 use Rattle.ill_core.specs.ResponderFacts.{IssuesUnfilled}
+use Rattle.ill_core.specs.RequesterActions as requester_actions
+use Rattle.ill_core.specs.RequesterDeliveries as requester_deliveries
+use Rattle.ill_core.specs.ResponderActions as responder_actions
+use Rattle.ill_core.specs.ResponderDeliveries as responder_deliveries
 use Rattle.ill_core.proofs.RequesterLaws as requester
 use Rattle.ill_core.proofs.ResponderLaws as responder
-use Rattle.ill_core.proofs.ResponderRows.{of_deeds}
 use Rattle.ill_saved.specs.declared.fault.DeskFault.{DeskFault}
 use Rattle.ill_saved.specs.declared.fault.DeskFault.TheVariants as faults
 use Rattle.ill_saved.specs.declared.fault.LayoutFault.{LayoutFault}
@@ -33,11 +34,12 @@ use Rattle.ill_saved.specs.declared.store.StoreFault.{StoreFault}
 use Rattle.ill_saved.specs.declared.store.StoreFault.TheVariants as stores
 use Rattle.ill_saved.specs.declared.store.NextCall.{NextCall}
 use Rattle.ill_saved.specs.declared.store.NextCall.TheVariants as plans
-use Rattle.ill_saved.specs.Records.{issued_of, record_spelling, IsConsistent}
+use Rattle.ill_saved.specs.Side.{issued_of, IsConsistent, idle_of, done_by, acts, takes, Acts, Takes, IsRow, IsFrontOf, acted, took, Follows, same, further}
+use Rattle.ill_saved.specs.Records.{record_spelling}
 use Rattle.ill_saved.specs.Ranges.{IsSide}
 use Rattle.ill_saved.specs.Store.{LandsAtSave, Allows}
 use Rattle.ill_saved.proofs.RecordLaws.{side_again}
-use Rattle.ill_saved.specs.Desk.{idle_of, done_by, side_acts, side_takes, IsRow, IsFrontOf, acted, took, Follows, same, further, landed_side, IsBackedBy, IsBackedByRead, IsBacked, DeskActs, DeskTakes, IsOneApdu, LoadsSide, IsFoundOrIdle}
+use Rattle.ill_saved.specs.Desk.{landed_side, IsBackedBy, IsBackedByRead, IsBacked, DeskActs, DeskTakes, IsOneApdu, LoadsSide, IsFoundOrIdle}
 
 -- a row keeps the role and the transaction, and takes no message away
 abbrev Grows : Side → Side → Type 0
@@ -62,20 +64,22 @@ requester_grows x made txn more = (ap (λ t. idle_of (sides.Requester (record x 
 responder_grows : (y made : ResponderRecord) → made.txn ≡ y.txn → IsFrontOf y.issued made.issued → Grows (sides.Responder y) (sides.Responder made)
 responder_grows y made txn more = (ap (λ t. idle_of (sides.Responder (record y { txn = t }))) txn, more)
 
-wish_grows : (x made : RequesterRecord) (wish : Wish) → acts x wish ≡ Ok made → Grows (sides.Requester x) (sides.Requester made)
-wish_grows x made wish e =
-    requester.of_acts (λ r. Grows (sides.Requester x) (sides.Requester r)) x made wish (λ next leads. (refl, one_more x.issued _)) e
+issues_more : (txn : Qualifiers) (old new : List Apdu) → IssuesNext txn old new → IsFrontOf old new
+issues_more txn old new more = subst (IsFrontOf old) (sym more.1) (one_more old _)
 
-deed_grows : (y made : ResponderRecord) (deed : Deed) (today : Date) → deed_acts y deed today ≡ Ok made → Grows (sides.Responder y) (sides.Responder made)
+wish_grows : (x made : RequesterRecord) (wish : Wish) → requester_actions.acts x wish ≡ Ok made → Grows (sides.Requester x) (sides.Requester made)
+wish_grows x made wish e = requester_grows x made (requester.acts_txn x made wish e) (issues_more x.txn x.issued made.issued (requester.acts_issue x made wish e))
+
+deed_grows : (y made : ResponderRecord) (deed : Deed) (today : Date) → responder_actions.acts y deed today ≡ Ok made → Grows (sides.Responder y) (sides.Responder made)
 deed_grows y made deed today e =
-    of_deeds (λ r. Grows (sides.Responder y) (sides.Responder r)) y made deed today (λ body next how. (refl, one_more y.issued _)) e
+    responder_grows y made (responder.acts_txn y made deed today e) (issues_more y.txn y.issued made.issued (responder.acts_issue y made deed today e))
 
-acts_grow : (old new : Side) (action : Action) → side_acts old action ≡ Ok new → Grows old new
+acts_grow : (old new : Side) (action : Action) → acts old action ≡ Ok new → Grows old new
 acts_grow (sides.Requester x) new (actions.Wish wish) e =
-    let is = done_is sides.Requester (acts x wish) new e in
+    let is = done_is sides.Requester (requester_actions.acts x wish) new e in
     subst (Grows (sides.Requester x)) is.2 (wish_grows x is.0 wish is.1)
 acts_grow (sides.Responder y) new (actions.Deed deed today) e =
-    let is = done_is sides.Responder (deed_acts y deed today) new e in
+    let is = done_is sides.Responder (responder_actions.acts y deed today) new e in
     subst (Grows (sides.Responder y)) is.2 (deed_grows y is.0 deed today is.1)
 acts_grow (sides.Requester x) new (actions.Deed deed today) e = search rules
 acts_grow (sides.Responder y) new (actions.Wish wish) e = search rules
@@ -84,9 +88,13 @@ unfilled_grows : (y new : ResponderRecord) (a : Apdu) → IssuesUnfilled y a.bod
 unfilled_grows y new a (inl none) = none_more y.issued new.issued none
 unfilled_grows y new a (inr more) = subst (IsFrontOf y.issued) (sym more.1) (one_more y.issued _)
 
-takes_grow : (old : Side) (a : Apdu) → Grows old (side_takes old a).1
-takes_grow (sides.Requester x) a = requester_grows x (takes x a).1 (requester.takes_txn x a) (none_more x.issued (takes x a).1.issued (requester.takes_issues x a))
-takes_grow (sides.Responder y) a = responder_grows y (responder_takes y a).1 (responder.takes_txn y a) (unfilled_grows y (responder_takes y a).1 a (responder.takes_issue y a))
+takes_grow : (old : Side) (a : Apdu) → Grows old (takes old a).1
+takes_grow (sides.Requester x) a =
+    let new = (requester_deliveries.takes x a).1 in
+    requester_grows x new (requester.takes_txn x a) (none_more x.issued new.issued (requester.takes_issue x a))
+takes_grow (sides.Responder y) a =
+    let new = (responder_deliveries.takes y a).1 in
+    responder_grows y new (responder.takes_txn y a) (unfilled_grows y new a (responder.takes_issue y a))
 
 row_grows : (old new : Side) → IsRow old new → Grows old new
 row_grows old new (acted action e) = acts_grow old new action e
@@ -122,23 +130,17 @@ row_kept honest landed old new released row kept = (omega (arith, kept.0, no_les
 same_kept : (honest : Bool) (landed : Option (List ℕ)) (old new : Side) (released : ℕ) → new ≡ old → Kept honest landed old released → Kept honest landed new released
 same_kept honest landed old new released e kept = subst (λ side. Kept honest landed side released) (sym e) kept
 
-pub acts_kept : (honest : Bool) (landed : Option (List ℕ)) (old new : Side) (released : ℕ) (action : Action) (answer : Result (Unit {0}) DeskFault)
-    → DeskActs old action answer new → Kept honest landed old released → Kept honest landed new released
+pub acts_kept : (honest : Bool) (landed : Option (List ℕ)) (old new : Side) (released : ℕ) (action : Action) (answer : Result (Unit {0}) Refusal)
+    → Acts old action answer new → Kept honest landed old released → Kept honest landed new released
 acts_kept honest landed old new released action (Ok done) acts kept = row_kept honest landed old new released (acted action acts) kept
-acts_kept honest landed old new released action (Err (faults.Core refusal)) acts kept = same_kept honest landed old new released acts.1 kept
-acts_kept honest landed old new released action (Err faults.OutOfMemory) acts kept = same_kept honest landed old new released acts.1 kept
-acts_kept honest landed old new released action (Err other) acts kept = absurd acts
+acts_kept honest landed old new released action (Err refusals.OutOfMemory) acts kept = same_kept honest landed old new released acts.1 kept
+acts_kept honest landed old new released action (Err refusal) acts kept = same_kept honest landed old new released acts.1 kept
 
-pub takes_kept : (honest : Bool) (landed : Option (List ℕ)) (old new : Side) (released : ℕ) (read : Result (Apdu × List ℕ) DerFault) (answer : Result Taking DeskFault)
-    → DeskTakes old read answer new → Kept honest landed old released → Kept honest landed new released
-takes_kept honest landed old new released (Err fault) answer takes kept = same_kept honest landed old new released takes.1 kept
-takes_kept honest landed old new released (Ok found) (Err faults.OutOfMemory) takes kept = same_kept honest landed old new released takes kept
-takes_kept honest landed old new released (Ok (a, [])) (Ok answered) takes kept =
+pub takes_kept : (honest : Bool) (landed : Option (List ℕ)) (old new : Side) (released : ℕ) (a : Apdu) (answer : Result Taking Refusal)
+    → Takes old a answer new → Kept honest landed old released → Kept honest landed new released
+takes_kept honest landed old new released a (Err refusals.OutOfMemory) unchanged kept = same_kept honest landed old new released unchanged kept
+takes_kept honest landed old new released a answer takes kept =
     row_kept honest landed old new released (took a (ap (λ (r : Result Taking Refusal × Side). r.1) takes)) kept
-takes_kept honest landed old new released (Ok (a, [])) (Err (faults.Core refusal)) takes kept =
-    row_kept honest landed old new released (took a (ap (λ (r : Result Taking Refusal × Side). r.1) takes)) kept
-takes_kept honest landed old new released (Ok (a, byte ∷ rest)) (Err faults.Trailing) takes kept = same_kept honest landed old new released takes kept
-takes_kept honest landed old new released (Ok found) answer takes kept = search rules
 
 -- ---- one APDU
 

@@ -2,4 +2,5 @@ pub mod Lists
 pub mod Records
 pub mod Fields
 pub mod RecordLaws
+pub mod Sides
 pub mod Desks

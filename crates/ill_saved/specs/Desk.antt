@@ -3,27 +3,19 @@ use Rattle.std.specs.Prelude.{◌≡◌, ◌⊎◌, ℕ, ◌≤◌, List, [], �
 use Rattle.ill_values.specs.declared.apdu.Apdu.{Apdu}
 use Rattle.ill_der.specs.declared.fault.DerFault.{DerFault}
 use Rattle.ill_der.specs.ShortForm.{spelling}
-use Rattle.ill_core.specs.declared.state.State.TheVariants.{Idle}
 use Rattle.ill_core.specs.declared.refusal.Refusal.{Refusal}
 use Rattle.ill_core.specs.declared.refusal.Refusal.TheVariants as refusals
 use Rattle.ill_core.specs.declared.taking.Taking.{Taking}
-use Rattle.ill_core.specs.Requester.{requester_of}
-use Rattle.ill_core.specs.RequesterActions.{acts}
-use Rattle.ill_core.specs.RequesterDeliveries.{takes}
-use Rattle.ill_core.specs.Responder.{responder_of}
-use Rattle.ill_core.specs.ResponderActions.{deed_acts}
-use Rattle.ill_core.specs.ResponderDeliveries.{responder_takes}
 use Rattle.ill_saved.specs.declared.fault.RecordFault.TheVariants as records
 use Rattle.ill_saved.specs.declared.fault.LayoutFault.{LayoutFault}
 use Rattle.ill_saved.specs.declared.side.Side.{Side}
-use Rattle.ill_saved.specs.declared.side.Side.TheVariants as sides
 use Rattle.ill_saved.specs.declared.side.Action.{Action}
-use Rattle.ill_saved.specs.declared.side.Action.TheVariants as actions
 use Rattle.ill_saved.specs.declared.store.StoreFault.TheVariants as stores
 use Rattle.ill_saved.specs.declared.store.NextCall.{NextCall}
 use Rattle.ill_saved.specs.declared.fault.DeskFault.{DeskFault}
 use Rattle.ill_saved.specs.declared.fault.DeskFault.TheVariants.{Core, Bytes, Trailing, NoSuchMessage, NotSaved, Exists, NoRecord, Store, Saved, OutOfMemory}
-use Rattle.ill_saved.specs.Records.{issued_of, record_at, begins_as_record, IsConsistent, Decodes}
+use Rattle.ill_saved.specs.Side.{issued_of, idle_of, IsConsistent, acts, takes, Follows}
+use Rattle.ill_saved.specs.Records.{record_at, begins_as_record, Decodes}
 use Rattle.ill_saved.specs.Store.{Allows, LandsAtFailure, CountsFailure, spent}
 
 -- the side in memory, its store, and how many of its messages may be sent
@@ -31,42 +23,6 @@ pub record DeskOf (S : Type 0) : Type 0 where
   pub live : Side
   pub store : S
   pub released : ℕ
-
--- the side of the same role and transaction before its first message
-abbrev pub idle_of : Side → Side
-idle_of (sides.Requester x) = sides.Requester (requester_of x.txn Idle None false None [])
-idle_of (sides.Responder y) = sides.Responder (responder_of y.txn Idle None None None false None [])
-
--- ---- rows
-
-abbrev pub done_by : {R : Type 0} → (R → Side) → Result R Refusal → Result Side Refusal
-done_by make (Ok new) = Ok (make new)
-done_by make (Err refusal) = Err refusal
-
--- The side after an action, or why it is refused. A requester has wishes, and a responder deeds.
-abbrev pub side_acts : Side → Action → Result Side Refusal
-side_acts (sides.Requester x) (actions.Wish wish) = done_by sides.Requester (acts x wish)
-side_acts (sides.Responder y) (actions.Deed deed today) = done_by sides.Responder (deed_acts y deed today)
-side_acts side action = Err refusals.WrongRole
-
--- what an APDU does to a side
-abbrev pub side_takes : Side → Apdu → Result Taking Refusal × Side
-side_takes (sides.Requester x) a = ((takes x a).0, sides.Requester (takes x a).1)
-side_takes (sides.Responder y) a = ((responder_takes y a).0, sides.Responder (responder_takes y a).1)
-
--- one row of its tables leads a side to another
-pub data IsRow (old new : Side) : Type 0 where
-  acted : (action : Action) → side_acts old action ≡ Ok new → IsRow old new
-  took : (a : Apdu) → (side_takes old a).1 ≡ new → IsRow old new
-
--- rows lead a side to another, one after another
-pub data Follows (old : Side) : Side → Type 0 where
-  same : Follows old old
-  further : (between new : Side) → Follows old between → IsRow between new → Follows old new
-
--- one list is the front of another
-abbrev pub IsFrontOf : List Apdu → List Apdu → Type 0
-IsFrontOf front apdus = (more : List Apdu) × (apdus ≡ front ++ more)
 
 -- ---- what a desk keeps
 
@@ -92,24 +48,19 @@ IsBacked landed live released = IsBackedByRead (landed_side landed live) live re
 
 -- what an action answers, and the side after it
 abbrev pub DeskActs : Side → Action → Result (Unit {0}) DeskFault → Side → Type 0
-DeskActs old action (Ok done) new = side_acts old action ≡ Ok new
-DeskActs old action (Err (Core refusal)) new = (side_acts old action ≡ Err refusal) × (new ≡ old)
-DeskActs old action (Err OutOfMemory) new = (is_ok (side_acts old action) ≡ true) × (new ≡ old)
+DeskActs old action (Ok done) new = acts old action ≡ Ok new
+DeskActs old action (Err (Core refusal)) new = (acts old action ≡ Err refusal) × (new ≡ old)
+DeskActs old action (Err OutOfMemory) new = (is_ok (acts old action) ≡ true) × (new ≡ old)
 DeskActs old action (Err other) new = ⊥
 
 -- What bytes do, by what stands at their front: exactly one APDU is handed to the side. Want of memory changes nothing.
 abbrev pub DeskTakes : Side → Result (Apdu × List ℕ) DerFault → Result Taking DeskFault → Side → Type 0
 DeskTakes old (Err fault) answer new = (answer ≡ Err (Bytes fault)) × (new ≡ old)
 DeskTakes old (Ok found) (Err OutOfMemory) new = new ≡ old
-DeskTakes old (Ok (a, [])) (Ok taking) new = side_takes old a ≡ (Ok taking, new)
-DeskTakes old (Ok (a, [])) (Err (Core refusal)) new = side_takes old a ≡ (Err refusal, new)
+DeskTakes old (Ok (a, [])) (Ok taking) new = takes old a ≡ (Ok taking, new)
+DeskTakes old (Ok (a, [])) (Err (Core refusal)) new = takes old a ≡ (Err refusal, new)
 DeskTakes old (Ok (a, byte ∷ rest)) (Err Trailing) new = new ≡ old
 DeskTakes old (Ok found) answer new = ⊥
-
--- what an APDU does to a side, which may want memory
-abbrev pub SideTakes : Side → Apdu → Result Taking Refusal → Side → Type 0
-SideTakes old a (Err refusals.OutOfMemory) new = new ≡ old
-SideTakes old a answer new = side_takes old a ≡ (answer, new)
 
 -- the one APDU that bytes are, by what stands at their front; or want of memory
 abbrev pub IsOneApdu : Result (Apdu × List ℕ) DerFault → Result Apdu DeskFault → Type 0

@@ -1,3 +1,4 @@
+pub mod Side
 pub mod Layout
 pub mod Records
 pub mod Ranges

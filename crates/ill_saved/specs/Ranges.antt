@@ -7,7 +7,7 @@ use Rattle.ill_core.specs.Requester.{RequesterRecord}
 use Rattle.ill_core.specs.Responder.{ResponderRecord}
 use Rattle.ill_saved.specs.declared.side.Side.{Side}
 use Rattle.ill_saved.specs.declared.side.Side.TheVariants as sides
-use Rattle.ill_saved.specs.Records.{issued_of, IsConsistent}
+use Rattle.ill_saved.specs.Side.{issued_of, IsConsistent}
 
 -- each of the values
 unfoldable pub Each : {V : Type 0} → (V → Type 0) → List V → Type 0

@@ -14,6 +14,7 @@ use Rattle.ill_saved.specs.declared.fault.LayoutFault.TheVariants.{Short, Bad}
 use Rattle.ill_saved.specs.declared.fault.RecordFault.{RecordFault}
 use Rattle.ill_saved.specs.declared.fault.RecordFault.TheVariants as faults
 use Rattle.ill_saved.specs.declared.side.Side.{Side}
+use Rattle.ill_saved.specs.Side.{IsConsistent}
 use Rattle.ill_saved.specs.declared.side.Side.TheVariants as sides
 use Rattle.ill_saved.specs.Layout.{Field, sized, octet, followed_by, constant, optional_number, mark, counted_text, apdu, ill_request, marked, counted, ended}
 
@@ -116,11 +117,6 @@ abbrev pub is_responder : Side → Bool
 is_responder (sides.Requester x) = false
 is_responder (sides.Responder y) = true
 
--- the APDUs that a side has issued
-abbrev pub issued_of : Side → List Apdu
-issued_of (sides.Requester x) = x.issued
-issued_of (sides.Responder y) = y.issued
-
 abbrev pub spell_fields : Side → List ℕ
 spell_fields (sides.Requester x) = spell_requester x
 spell_fields (sides.Responder y) = spell_responder y
@@ -167,11 +163,6 @@ stands_behind (Err fault) = false
 
 unfoldable pub begins_as_record : List ℕ → Bool
 begins_as_record bytes = stands_behind (start.read (left_at 0 bytes))
-
--- the side keeps the rules of its role
-abbrev pub IsConsistent : Side → Type 0
-IsConsistent (sides.Requester x) = IsRequester x
-IsConsistent (sides.Responder y) = IsResponder y
 
 -- a side was read, and it breaks a rule
 abbrev pub IsInconsistent : Result Side LayoutFault → Type 0

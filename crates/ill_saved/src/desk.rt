@@ -2,8 +2,9 @@
 
 ghost use Rattle.std.specs.Prelude.{◌≡◌, ◌≤◌, true, length, nat_le, IfOk, IfErr};
 ghost use Rattle.ill_core.specs.Issued.{message};
-ghost use Rattle.ill_saved.specs.Records.{issued_of, record_spelling};
-ghost use Rattle.ill_saved.specs.Desk.{DeskOf, IsBacked, DeskActs, DeskTakes, SideTakes, IsOneApdu, Sends, released_after, SaveLands, PlanAfter, IsSaveFault, landed_side, LoadsSide, IsLoadFault, Restarts, RestartLeaves, idle_of, IsFoundOrIdle, answer_of, store_of, Creates, IsCreateAnswer, Starts, IsStartAnswer, IsWhole, CountsDeskFailure};
+ghost use Rattle.ill_saved.specs.Side.{issued_of, idle_of};
+ghost use Rattle.ill_saved.specs.Records.{record_spelling};
+ghost use Rattle.ill_saved.specs.Desk.{DeskOf, IsBacked, DeskActs, DeskTakes, IsOneApdu, Sends, released_after, SaveLands, PlanAfter, IsSaveFault, landed_side, LoadsSide, IsLoadFault, Restarts, RestartLeaves, IsFoundOrIdle, answer_of, store_of, Creates, IsCreateAnswer, Starts, IsStartAnswer, IsWhole, CountsDeskFailure};
 ghost use Rattle.ill_saved.specs.Store.{spent};
 ghost use Rattle.ill_der.specs.ShortForm.{apdu_at};
 
@@ -11,9 +12,9 @@ use crate::decoding::decode_record;
 use crate::encoding::encode_record;
 use crate::fault::DeskFault;
 use crate::memory_store::MemoryStore;
-use crate::side::{Action, Side, issued, issued_count};
+use crate::side::{Action, Side};
 use crate::store::{NextCall, Store};
-use ill_core::{Refusal, Requester, Responder, Taking};
+use ill_core::Taking;
 use ill_der::{DerFault, decode, encode};
 use ill_values::{Apdu, Number, OutOfMemory};
 use std::alloc::Global;
@@ -72,7 +73,7 @@ impl<S: Store> Desk1<S> {
         let mut store = store;
         match load_side(&mut store, alloc) {
             Ok(Some(live)) => {
-                let released = issued_count(&live);
+                let released = live.issued_count();
                 Ok(Desk1 {
                     live,
                     store,
@@ -90,7 +91,7 @@ impl<S: Store> Desk1<S> {
         ensures store { self.new.store ≡ self.old.store }
         ensures released { self.new.released ≡ self.old.released }
     {
-        act(&mut self.live, alloc, action)
+        Ok(self.live.act(alloc, action)?)
     }
 
     /// Takes the APDU that the bytes are, and nothing else.
@@ -99,7 +100,8 @@ impl<S: Store> Desk1<S> {
         ensures store { self.new.store ≡ self.old.store }
         ensures released { self.new.released ≡ self.old.released }
     {
-        take_bytes(&mut self.live, alloc, bytes)
+        let apdu = one_apdu(alloc, bytes)?;
+        Ok(self.live.take(alloc, &apdu)?)
     }
 
     /// Saves the side, and releases all its messages; or leaves the side and what is released.
@@ -114,7 +116,7 @@ impl<S: Store> Desk1<S> {
     {
         let bytes = encode_record(alloc, &self.live)?;
         self.store.save(alloc, &bytes)?;
-        self.released = issued_count(&self.live);
+        self.released = self.live.issued_count();
         Ok(())
     }
 
@@ -130,7 +132,7 @@ impl<S: Store> Desk1<S> {
     {
         let found = load_side(&mut self.store, alloc)?;
         let side = or_idle(alloc, found, &self.live)?;
-        self.released = issued_count(&side);
+        self.released = side.issued_count();
         self.live = side;
         Ok(())
     }
@@ -139,7 +141,7 @@ impl<S: Store> Desk1<S> {
     pub fn message(&self, alloc: Global, number: Number) -> Result<Vec<u8>, DeskFault>
         ensures { Sends (λ bytes. bytes.items) (message (issued_of self.now.live) number) (nat_le number self.now.released) result }
     {
-        let Some(apdu) = issued(&self.live, number) else {
+        let Some(apdu) = self.live.issued(number) else {
             return Err(DeskFault::NoSuchMessage);
         };
         if number.get() > self.released {
@@ -174,27 +176,6 @@ impl Desk1<MemoryStore> {
     }
 }
 
-/// Does on a side what its library decides.
-fn act(side: &mut Side, alloc: Global, action: &Action) -> Result<(), DeskFault>
-    ensures { DeskActs side.old action.now result side.new }
-{
-    match (side, action) {
-        (Side::Requester(requester), Action::Wish(wish)) => Ok(requester.act(alloc, wish)?),
-        (Side::Responder(responder), Action::Deed(deed, today)) => {
-            Ok(responder.act(alloc, deed, *today)?)
-        }
-        _ => Err(DeskFault::Core(Refusal::WrongRole)),
-    }
-}
-
-/// Hands the APDU that the bytes are to a side.
-fn take_bytes(side: &mut Side, alloc: Global, bytes: &[u8]) -> Result<Taking, DeskFault>
-    ensures { DeskTakes side.old (apdu_at bytes.now) result side.new }
-{
-    let apdu = one_apdu(alloc, bytes)?;
-    Ok(take(side, alloc, &apdu)?)
-}
-
 /// The APDU that the bytes are.
 fn one_apdu(alloc: Global, bytes: &[u8]) -> Result<Apdu, DeskFault>
     ensures { IsOneApdu (apdu_at bytes.now) result }
@@ -204,16 +185,6 @@ fn one_apdu(alloc: Global, bytes: &[u8]) -> Result<Apdu, DeskFault>
         Ok(_) => Err(DeskFault::Trailing),
         Err(DerFault::OutOfMemory) => Err(DeskFault::OutOfMemory),
         Err(fault) => Err(DeskFault::Bytes(fault)),
-    }
-}
-
-/// Hands an APDU to a side.
-fn take(side: &mut Side, alloc: Global, apdu: &Apdu) -> Result<Taking, Refusal>
-    ensures { SideTakes side.old apdu.now result side.new }
-{
-    match side {
-        Side::Requester(requester) => requester.take(apdu),
-        Side::Responder(responder) => responder.take(alloc, apdu),
     }
 }
 
@@ -238,22 +209,6 @@ fn or_idle(alloc: Global, found: Option<Side>, live: &Side) -> Result<Side, OutO
 {
     match found {
         Some(side) => Ok(side),
-        None => idle_again(alloc, live),
-    }
-}
-
-/// The side of the same role and transaction before its first message.
-fn idle_again(alloc: Global, side: &Side) -> Result<Side, OutOfMemory>
-    ensures { IfOk result (λ idle. idle ≡ idle_of side.now) }
-{
-    match side {
-        Side::Requester(requester) => {
-            let txn = requester.txn().copy(alloc)?;
-            Ok(Side::Requester(Requester::idle(alloc, txn)))
-        }
-        Side::Responder(responder) => {
-            let txn = responder.txn().copy(alloc)?;
-            Ok(Side::Responder(Responder::idle(alloc, txn)))
-        }
+        None => live.idle_again(alloc),
     }
 }

@@ -8,12 +8,13 @@ ghost use Rattle.ill_der.specs.ShortForm.{spelling};
 ghost use Rattle.ill_core.specs.Requester.{IsRequester};
 ghost use Rattle.ill_core.specs.Responder.{IsResponder};
 ghost use Rattle.ill_saved.specs.Layout.{spell_all, number_octet, mark, marked, counted, counted_text, apdu, ill_request};
-ghost use Rattle.ill_saved.specs.Records.{state_code, due, due_text, front, requester_states, spell_start, spell_requester, spell_responder, issued_of, record_spelling};
+ghost use Rattle.ill_saved.specs.Records.{state_code, due, due_text, front, requester_states, spell_start, spell_requester, spell_responder, record_spelling};
+ghost use Rattle.ill_saved.specs.Side.{issued_of};
 ghost use Rattle.ill_saved.specs.Ranges.{Each, RequesterInRange, ResponderInRange, IsSide};
 
-use crate::side::{Side, issued, issued_count};
+use crate::side::Side;
 use ill_core::{Requester, Responder, State};
-use ill_der::encode;
+use ill_der::encode_onto;
 use ill_values::{Apdu, Day, Number, OutOfMemory, TxnId};
 use std::alloc::Global;
 
@@ -26,9 +27,9 @@ pub fn encode_record(alloc: Global, side: &Side) -> Result<Vec<u8>, OutOfMemory>
     let mut bytes = Vec::new(alloc);
     match side {
         Side::Requester(requester) => push_requester(&mut bytes, requester)?,
-        Side::Responder(responder) => push_responder(alloc, &mut bytes, responder)?,
+        Side::Responder(responder) => push_responder(&mut bytes, responder)?,
     }
-    push_issued(alloc, &mut bytes, side)?;
+    push_issued(&mut bytes, side.all_issued())?;
     Ok(bytes)
 }
 
@@ -47,11 +48,7 @@ fn push_requester(bytes: &mut Vec<u8>, requester: &Requester) -> Result<(), OutO
 }
 
 /// Adds all that stands before the messages issued.
-fn push_responder(
-    alloc: Global,
-    bytes: &mut Vec<u8>,
-    responder: &Responder,
-) -> Result<(), OutOfMemory>
+fn push_responder(bytes: &mut Vec<u8>, responder: &Responder) -> Result<(), OutOfMemory>
     ensures bytes { OnOk result (bytes.new.items ++ (counted apdu).spell responder.now.issued ≡ bytes.old.items ++ (spell_start true ++ spell_responder responder.now)) }
     ensures range { OnOk result (ResponderInRange responder.now) }
     ensures consistent { IsResponder responder.now }
@@ -66,7 +63,7 @@ fn push_responder(
     ];
     bytes.extend_from_slice(&numbers)?;
     bytes.push(u8::from(responder.is_received()))?;
-    push_request(alloc, bytes, responder.request())
+    push_request(bytes, responder.request())
 }
 
 /// Adds the state and the qualifiers of the transaction.
@@ -101,18 +98,14 @@ fn push_due(bytes: &mut Vec<u8>, due: Option<Day>) -> Result<(), OutOfMemory>
 }
 
 /// Adds the ILL-Request, if there is one.
-fn push_request(
-    alloc: Global,
-    bytes: &mut Vec<u8>,
-    request: Option<&Apdu>,
-) -> Result<(), OutOfMemory>
+fn push_request(bytes: &mut Vec<u8>, request: Option<&Apdu>) -> Result<(), OutOfMemory>
     ensures bytes { OnOk result (bytes.new.items ≡ bytes.old.items ++ (marked ill_request).spell (option_map (λ a. a.now) request.entry)) }
     ensures range { OnOk result (IfSome (option_map (λ a. a.now) request.entry) IsApdu) }
 {
     match request {
         Some(apdu) => {
             bytes.push(1)?;
-            push_apdu(alloc, bytes, apdu)
+            encode_onto(bytes, apdu)
         }
         None => {
             bytes.push(0)?;
@@ -122,27 +115,15 @@ fn push_request(
 }
 
 /// Adds the count of the messages issued, and these.
-fn push_issued(alloc: Global, bytes: &mut Vec<u8>, side: &Side) -> Result<(), OutOfMemory>
-    ensures bytes { OnOk result (bytes.new.items ≡ bytes.old.items ++ (counted apdu).spell (issued_of side.now)) }
-    ensures range { OnOk result (Each IsApdu (issued_of side.now) × (length (issued_of side.now) ≤ 255)) }
+fn push_issued(bytes: &mut Vec<u8>, apdus: &[Apdu]) -> Result<(), OutOfMemory>
+    requires few { length apdus.now ≤ 255 }
+    ensures bytes { OnOk result (bytes.new.items ≡ bytes.old.items ++ (counted apdu).spell apdus.now) }
+    ensures range { OnOk result (Each IsApdu apdus.now) }
 {
-    let count = issued_count(side);
-    bytes.push(count)?;
-    for index in 0..count {
-        let number = Number::new(index + 1);
-        match number.and_then(|number| issued(side, number)) {
-            Some(apdu) => push_apdu(alloc, bytes, apdu)?,
-            None => unreachable!(),
-        }
+    bytes.push(apdus.len() as u8)?;
+    for apdu in apdus {
+        encode_onto(bytes, apdu)?;
     }
-    Ok(())
-}
-
-fn push_apdu(alloc: Global, bytes: &mut Vec<u8>, apdu: &Apdu) -> Result<(), OutOfMemory>
-    ensures bytes { OnOk result (bytes.new.items ≡ bytes.old.items ++ spelling apdu.now) }
-    ensures range { OnOk result (IsApdu apdu.now) }
-{
-    bytes.extend_from_slice(&encode(alloc, apdu)?)?;
     Ok(())
 }
 

@@ -3,8 +3,8 @@
 ghost use Rattle.std.specs.Prelude.{◌≡◌, ℕ, List, Ok};
 ghost use Rattle.ill_der.specs.Laws.{IsBytes};
 ghost use Rattle.ill_saved.specs.declared.side.Side.{Side};
-ghost use Rattle.ill_saved.specs.Records.{issued_of, record_at, record_spelling};
-ghost use Rattle.ill_saved.specs.Desk.{Follows, IsFrontOf};
+ghost use Rattle.ill_saved.specs.Side.{issued_of, Follows, IsFrontOf};
+ghost use Rattle.ill_saved.specs.Records.{record_at, record_spelling};
 ghost use Rattle.ill_saved.specs.Ranges.{IsInRange, IsSide};
 
 /// A side is read from its spelling: with this, `decode_record` gives back what `encode_record` spelled.

@@ -1,42 +1,128 @@
-//! One side of a transaction.
+//! One side of a transaction, whichever its role.
 
-ghost use Rattle.std.specs.Prelude.{◌≡◌, length, option_map};
+ghost use Rattle.std.specs.Prelude.{◌≡◌, ◌≤◌, length, option_map, IfOk};
 ghost use Rattle.ill_core.specs.Issued.{message};
-ghost use Rattle.ill_saved.specs.Records.{issued_of};
+ghost use Rattle.ill_saved.specs.Side.{Acts, Takes, issued_of, idle_of, txn_of, state_of, due_date_of};
 
-use ill_core::{Deed, Requester, Responder, Wish};
-use ill_values::{Apdu, Day, Number};
+use ill_core::laws::requester_is_quiet;
+use ill_core::{Deed, Refusal, Requester, Responder, State, Taking, Wish};
+use ill_values::{Apdu, Day, Number, OutOfMemory, TxnId};
+use std::alloc::Global;
 
 /// One side of a transaction: the one that asks for an item, or the one that is asked.
 #[derive(Debug, Drop)]
 pub enum Side {
+    /// The one that asks.
     Requester(Requester),
+    /// The one that is asked.
     Responder(Responder),
 }
 
 /// What a library decides: a requester's wish, or a responder's deed on a day.
 #[derive(Debug, PartialEq, Eq, Drop)]
 pub enum Action {
+    /// Of a requester.
     Wish(Wish),
+    /// Of a responder, with the day on which it is done.
     Deed(Deed, Day),
 }
 
-/// How many messages a side has issued.
-pub fn issued_count(side: &Side) -> u8
-    ensures { result ≡ length (issued_of side.now) }
-{
-    match side {
-        Side::Requester(requester) => requester.issued_count(),
-        Side::Responder(responder) => responder.issued_count(),
+impl Side {
+    /// Does what its library decides. A wish on a responder, or a deed on a requester, is `WrongRole`.
+    pub fn act(&mut self, alloc: Global, action: &Action) -> Result<(), Refusal>
+        ensures { Acts self.old action.now result self.new }
+    {
+        match (self, action) {
+            (Side::Requester(requester), Action::Wish(wish)) => requester.act(alloc, wish),
+            (Side::Responder(responder), Action::Deed(deed, today)) => {
+                responder.act(alloc, deed, *today)
+            }
+            _ => Err(Refusal::WrongRole),
+        }
     }
-}
 
-/// The message that a side has issued with this number.
-pub fn issued(side: &Side, number: Number) -> Option<&Apdu>
-    ensures { option_map (λ a. a.now) result ≡ message (issued_of side.now) number }
-{
-    match side {
-        Side::Requester(requester) => requester.issued(number),
-        Side::Responder(responder) => responder.issued(number),
+    /// Takes a message of the other side.
+    pub fn take(&mut self, alloc: Global, apdu: &Apdu) -> Result<Taking, Refusal>
+        ensures { Takes self.old apdu.now result self.new }
+    {
+        match self {
+            Side::Requester(requester) => {
+                requester_is_quiet();
+                requester.take(apdu)
+            }
+            Side::Responder(responder) => responder.take(alloc, apdu),
+        }
+    }
+
+    /// The transaction.
+    pub fn txn(&self) -> &TxnId
+        ensures { result.now ≡ txn_of self.now }
+    {
+        match self {
+            Side::Requester(requester) => requester.txn(),
+            Side::Responder(responder) => responder.txn(),
+        }
+    }
+
+    /// The state.
+    pub fn state(&self) -> State
+        ensures { result ≡ state_of self.now }
+    {
+        match self {
+            Side::Requester(requester) => requester.state(),
+            Side::Responder(responder) => responder.state(),
+        }
+    }
+
+    /// The day on which the item is due.
+    pub fn due(&self) -> Option<Day>
+        ensures { result ≡ due_date_of self.now }
+    {
+        match self {
+            Side::Requester(requester) => requester.due(),
+            Side::Responder(responder) => responder.due(),
+        }
+    }
+
+    /// The messages that were issued, in their order.
+    pub fn all_issued(&self) -> &[Apdu]
+        ensures value { result.now ≡ issued_of self.now }
+        ensures few { length (issued_of self.now) ≤ 255 }
+    {
+        match self {
+            Side::Requester(requester) => requester.all_issued(),
+            Side::Responder(responder) => responder.all_issued(),
+        }
+    }
+
+    /// How many messages were issued.
+    pub fn issued_count(&self) -> u8
+        ensures { result ≡ length (issued_of self.now) }
+    {
+        match self {
+            Side::Requester(requester) => requester.issued_count(),
+            Side::Responder(responder) => responder.issued_count(),
+        }
+    }
+
+    /// The message that was issued with this number.
+    pub fn issued(&self, number: Number) -> Option<&Apdu>
+        ensures { option_map (λ a. a.now) result ≡ message (issued_of self.now) number }
+    {
+        match self {
+            Side::Requester(requester) => requester.issued(number),
+            Side::Responder(responder) => responder.issued(number),
+        }
+    }
+
+    /// The side of the same role and transaction before its first message.
+    pub fn idle_again(&self, alloc: Global) -> Result<Side, OutOfMemory>
+        ensures { IfOk result (λ idle. idle ≡ idle_of self.now) }
+    {
+        let txn = self.txn().copy(alloc)?;
+        Ok(match self {
+            Side::Requester(_) => Side::Requester(Requester::idle(alloc, txn)),
+            Side::Responder(_) => Side::Responder(Responder::idle(alloc, txn)),
+        })
     }
 }

@@ -1,36 +1,28 @@
-use Rattle.std.proofs.Common.{rules, ◌≡◌, ◌+◌, ◌<◌, ◌≤◌, ◌++◌, length, Some, drop, ap, sym, ◌∙◌, arith}
-use Rattle.std.proofs.lemmas.Option.{get_or_from_slice_get}
-use Rattle.std.specs.Prelude.{slice_get}
+use Rattle.std.proofs.Common.{◌≡◌, ◌+◌, ◌≤◌, ◌++◌, length, drop, ap, sym, ◌∙◌, arith}
 use Rattle.ill_values.specs.Apdu.{IsApdu}
 use Rattle.ill_der.specs.ShortForm.{spelling}
 use Rattle.ill_saved.specs.Layout.{spell_all}
-use Rattle.ill_saved.specs.Records.{issued_of}
 use Rattle.ill_saved.proofs.Lists.{one_spelled, all_spelled, one_each, none_each}
 use Rattle.ill_saved.proofs.encoding.push_issued.Goals as goal
 
-pub loop-index-preserved : goal.loop-index-preserved
-loop-index-preserved c =
-    let apdus = issued_of c.args.side.now in
-    let index = c.loop-index.index in
-    let a = c.in-Some.apdu.now in
-    let within : index < length apdus = omega (arith, c.loop-index-test.true, c.issued_count-count.ensures) in
-    let there : slice_get apdus index ≡ Some a = search rules in
-    let is = sym (get_or_from_slice_get apdus index a a there) in
-    let pushed = c.in_ok-push_apdu-in-Some.ensures in
+pub loop-apdu-preserved : goal.loop-apdu-preserved
+loop-apdu-preserved c =
+    let apdus = c.args.apdus.now in
+    let index = c.loop-apdu.apdu-index in
+    let a = c.apdu-item.result in
+    let pushed = c.in_ok-encode_onto.ensures in
     record {
-      bytes = ap (λ bytes. bytes ++ spell_all spelling (drop (index + 1) apdus)) pushed.bytes
-          ∙ (one_spelled spelling c.loop-index.bytes.items apdus index a within is ∙ c.loop-index.invariant.bytes);
-      range = λ others. c.loop-index.invariant.range (one_each IsApdu apdus index a within is pushed.range others);
+      bytes = ap (λ bytes. bytes ++ spell_all spelling (drop (index + 1) apdus)) pushed.spelled
+          ∙ (one_spelled spelling c.loop-apdu.bytes.items apdus index a c.loop-apdu-test.true c.apdu-item.is ∙ c.loop-apdu.invariant.bytes);
+      range = λ others. c.loop-apdu.invariant.range (one_each IsApdu apdus index a c.loop-apdu-test.true c.apdu-item.is pushed.range others);
     }
 
 pub returns-clause-bytes : goal.returns-clause-bytes
 returns-clause-bytes c =
-    let all : length (issued_of c.args.side.now) ≤ c.loop-index.index = omega (arith, c.loop-index-test.false, c.issued_count-count.ensures) in
-    sym (all_spelled spelling c.loop-index.bytes.items (issued_of c.args.side.now) c.loop-index.index all) ∙ c.loop-index.invariant.bytes
+    let all : length c.args.apdus.now ≤ c.loop-apdu.apdu-index = omega (arith, c.loop-apdu-test.false) in
+    sym (all_spelled spelling c.loop-apdu.bytes.items c.args.apdus.now c.loop-apdu.apdu-index all) ∙ c.loop-apdu.invariant.bytes
 
 pub returns-clause-range : goal.returns-clause-range
 returns-clause-range c =
-    let all : length (issued_of c.args.side.now) ≤ c.loop-index.index = omega (arith, c.loop-index-test.false, c.issued_count-count.ensures) in (
-      c.loop-index.invariant.range (none_each IsApdu (issued_of c.args.side.now) c.loop-index.index all),
-      omega (arith, c.issued_count-count.ensures),
-    )
+    let all : length c.args.apdus.now ≤ c.loop-apdu.apdu-index = omega (arith, c.loop-apdu-test.false) in
+    c.loop-apdu.invariant.range (none_each IsApdu c.args.apdus.now c.loop-apdu.apdu-index all)

@@ -1,0 +1,12 @@
+use Rattle.std.proofs.Common.{sym, subst}
+use Rattle.ill_saved.specs.declared.side.Side.TheVariants as sides
+use Rattle.ill_saved.specs.Side.{Takes}
+use Rattle.ill_saved.proofs.Sides.{requester_takes}
+use Rattle.ill_saved.proofs.side.Side.take.Goals as goal
+
+pub returns-in-Requester : goal.returns-in-Requester
+returns-in-Requester c =
+    let x = c.in-Requester.requester in
+    let a = c.args.apdu.now in
+    subst (λ old. Takes old a c.take.result (sides.Requester c.take.new.self)) (sym c.in-Requester.is)
+    (requester_takes x c.take.new.self a c.take.result (c.requester_is_quiet.ensures x a) c.take.ensures)

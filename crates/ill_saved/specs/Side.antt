@@ -1,0 +1,88 @@
+-- One side of a transaction, whichever its role: what a library decides and what a message do to it (this profile's
+-- own). Here, and nowhere above, the roles are told apart.
+use Rattle.std.specs.Prelude.{◌≡◌, List, [], ◌++◌, Option, None, true, false, is_ok, Result, Ok, Err}
+use Rattle.ill_values.specs.declared.apdu.Apdu.{Apdu}
+use Rattle.ill_values.specs.Day.{Date}
+use Rattle.ill_values.specs.TxnId.{Qualifiers}
+use Rattle.ill_core.specs.declared.state.State.{State}
+use Rattle.ill_core.specs.declared.state.State.TheVariants.{Idle}
+use Rattle.ill_core.specs.declared.refusal.Refusal.{Refusal}
+use Rattle.ill_core.specs.declared.refusal.Refusal.TheVariants as refusals
+use Rattle.ill_core.specs.declared.taking.Taking.{Taking}
+use Rattle.ill_core.specs.Requester.{requester_of, IsRequester}
+use Rattle.ill_core.specs.RequesterActions as requester_actions
+use Rattle.ill_core.specs.RequesterDeliveries as requester_deliveries
+use Rattle.ill_core.specs.Responder.{responder_of, IsResponder, due_of}
+use Rattle.ill_core.specs.ResponderActions as responder_actions
+use Rattle.ill_core.specs.ResponderDeliveries as responder_deliveries
+use Rattle.ill_saved.specs.declared.side.Side.{Side}
+use Rattle.ill_saved.specs.declared.side.Side.TheVariants as sides
+use Rattle.ill_saved.specs.declared.side.Action.{Action}
+use Rattle.ill_saved.specs.declared.side.Action.TheVariants as actions
+
+-- the APDUs that a side has issued
+abbrev pub issued_of : Side → List Apdu
+issued_of (sides.Requester x) = x.issued
+issued_of (sides.Responder y) = y.issued
+
+abbrev pub txn_of : Side → Qualifiers
+txn_of (sides.Requester x) = x.txn
+txn_of (sides.Responder y) = y.txn
+
+abbrev pub state_of : Side → State
+state_of (sides.Requester x) = x.state
+state_of (sides.Responder y) = y.state
+
+abbrev pub due_date_of : Side → Option Date
+due_date_of (sides.Requester x) = x.due
+due_date_of (sides.Responder y) = due_of y
+
+-- the side keeps the rules of its role
+abbrev pub IsConsistent : Side → Type 0
+IsConsistent (sides.Requester x) = IsRequester x
+IsConsistent (sides.Responder y) = IsResponder y
+
+-- the side of the same role and transaction before its first message
+abbrev pub idle_of : Side → Side
+idle_of (sides.Requester x) = sides.Requester (requester_of x.txn Idle None false None [])
+idle_of (sides.Responder y) = sides.Responder (responder_of y.txn Idle None None None false None [])
+
+abbrev pub done_by : {R : Type 0} → (R → Side) → Result R Refusal → Result Side Refusal
+done_by make (Ok new) = Ok (make new)
+done_by make (Err refusal) = Err refusal
+
+-- The side after an action, or why it is refused. A requester has wishes, and a responder deeds.
+abbrev pub acts : Side → Action → Result Side Refusal
+acts (sides.Requester x) (actions.Wish wish) = done_by sides.Requester (requester_actions.acts x wish)
+acts (sides.Responder y) (actions.Deed deed today) = done_by sides.Responder (responder_actions.acts y deed today)
+acts side action = Err refusals.WrongRole
+
+-- what an APDU does to a side
+abbrev pub takes : Side → Apdu → Result Taking Refusal × Side
+takes (sides.Requester x) a = ((requester_deliveries.takes x a).0, sides.Requester (requester_deliveries.takes x a).1)
+takes (sides.Responder y) a = ((responder_deliveries.takes y a).0, sides.Responder (responder_deliveries.takes y a).1)
+
+-- What a side answers to an action, and the side after it. Memory is wanted only where the action would be done.
+abbrev pub Acts : Side → Action → Result (Unit {0}) Refusal → Side → Type 0
+Acts old action (Ok done) new = acts old action ≡ Ok new
+Acts old action (Err refusals.OutOfMemory) new = (is_ok (acts old action) ≡ true) × (new ≡ old)
+Acts old action (Err refusal) new = (acts old action ≡ Err refusal) × (new ≡ old)
+
+-- What a side answers to an APDU, and the side after it. Want of memory changes nothing.
+abbrev pub Takes : Side → Apdu → Result Taking Refusal → Side → Type 0
+Takes old a (Err refusals.OutOfMemory) new = new ≡ old
+Takes old a answer new = takes old a ≡ (answer, new)
+
+-- one row of its tables leads a side to another
+pub data IsRow (old new : Side) : Type 0 where
+  acted : (action : Action) → acts old action ≡ Ok new → IsRow old new
+  took : (a : Apdu) → (takes old a).1 ≡ new → IsRow old new
+
+-- rows lead a side to another, one after another
+pub data Follows (old : Side) : Side → Type 0 where
+  same : Follows old old
+  further : (between new : Side) → Follows old between → IsRow between new → Follows old new
+
+-- one list is the front of another
+abbrev pub IsFrontOf : List Apdu → List Apdu → Type 0
+IsFrontOf front apdus = (more : List Apdu) × (apdus ≡ front ++ more)

@@ -16,6 +16,3 @@ pub use requester::{Requester, Wish};
 pub use responder::{Deed, Responder};
 pub use state::State;
 pub use taking::Taking;
-
-#[cfg(test)]
-mod tests;

@@ -8,7 +8,6 @@ use ill_core::State;
 use std::alloc::Global;
 
 /// What the lines so far have set up.
-#[derive(Drop)]
 pub struct Bench {
     alloc: Global,
     role: Role,
@@ -24,6 +23,20 @@ pub struct Bench {
 /// What comes of a row in one state: the new state where it was done or taken, and else the letter of
 /// the answer; then that of the answer to a message that was taken and comes again.
 type Cell = (&'static str, &'static str);
+
+impl Drop for Bench {
+    fn drop(self) {
+        let Bench {
+            alloc: _,
+            role: _,
+            columns: _columns,
+            side: _side,
+            record: _record,
+            event: _event,
+            text: _text,
+        } = self;
+    }
+}
 
 impl Bench {
     pub fn new(alloc: Global) -> Bench {
@@ -89,8 +102,7 @@ impl Bench {
         if past == "..." {
             return self.happen(effect, false);
         }
-        self.record = Record::empty(self.alloc, state);
-        self.record.begin(self.alloc, self.role, past)?;
+        self.record = Record::of(self.alloc, self.role, state, past)?;
         self.side = match past {
             "new" => Side::idle(self.alloc, self.role),
             _ => Side::of(self.alloc, self.role, &self.record),

@@ -6,7 +6,6 @@ use ill_values::{AnswerResult, Apdu, Day, Item};
 use std::alloc::Global;
 
 /// What happens to a side.
-#[derive(Drop)]
 pub enum Event {
     /// Nothing: its readers are asked.
     Reading,
@@ -14,6 +13,17 @@ pub enum Event {
     /// A deed, and the day of it.
     Deed(Deed, Day),
     Delivery(Apdu),
+}
+
+impl Drop for Event {
+    fn drop(self) {
+        match self {
+            Event::Reading => {}
+            Event::Wish(_wish) => {}
+            Event::Deed(_, _) => {}
+            Event::Delivery(_apdu) => {}
+        }
+    }
 }
 
 impl Event {

@@ -7,7 +7,6 @@ use ill_values::{Apdu, Body, Day, Number};
 use std::alloc::Global;
 
 /// A record of either role: its parts, and what its readers are to make of them.
-#[derive(Drop)]
 pub struct Record {
     pub state: State,
     pub held: Option<Number>,
@@ -26,6 +25,27 @@ pub struct Record {
     /// The messages that it cannot be without, and that which has to be the last.
     wanted: &'static [&'static str],
     last: &'static str,
+}
+
+impl Drop for Record {
+    fn drop(self) {
+        let Record {
+            state: _,
+            held: _,
+            accepted: _,
+            last_cancel: _,
+            last_renew: _,
+            due: _,
+            is_marked: _,
+            has_received: _,
+            has_declined: _,
+            request: _request,
+            messages: _messages,
+            letters: _letters,
+            wanted: _,
+            last: _,
+        } = self;
+    }
 }
 
 impl Record {
@@ -49,8 +69,15 @@ impl Record {
         }
     }
 
+    /// The record in a state that has this past, and else the least that the state wants.
+    pub fn of(alloc: Global, role: Role, state: State, past: &str) -> Option<Record> {
+        let mut record = Record::empty(alloc, state);
+        record.begin(alloc, role, past)?;
+        Some(record)
+    }
+
     /// Begins with a past, and else with the least that its state wants.
-    pub fn begin(&mut self, alloc: Global, role: Role, past: &str) -> Option<()> {
+    fn begin(&mut self, alloc: Global, role: Role, past: &str) -> Option<()> {
         match role {
             Role::Requester => self.want_as_requester(alloc, past)?,
             Role::Responder => self.want_as_responder(alloc)?,

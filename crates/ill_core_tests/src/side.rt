@@ -8,10 +8,18 @@ use ill_core::{Refusal, Requester, Responder, State, Taking};
 use ill_values::{Apdu, Number, TxnId};
 use std::alloc::Global;
 
-#[derive(Drop)]
 pub enum Side {
     Requester(Requester),
     Responder(Responder),
+}
+
+impl Drop for Side {
+    fn drop(self) {
+        match self {
+            Side::Requester(_side) => {}
+            Side::Responder(_side) => {}
+        }
+    }
 }
 
 impl Side {

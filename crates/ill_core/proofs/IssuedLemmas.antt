@@ -170,4 +170,3 @@ last_cancel_more apdus a is = last_of_more number_of_cancel apdus a a.number (ap
 pub older_cancel : (c size : ℕ) (last : Option ℕ) (old : Bool) → last ≡ Some size → is_the c last ≡ false → (old ≡ true) ⊎ ((c ≡ size) × (true ≡ true)) → old ≡ true
 older_cancel c size last old is_last other (inl is) = is
 older_cancel c size last old is_last other (inr (same, h)) = search rules
-

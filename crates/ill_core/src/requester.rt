@@ -11,11 +11,11 @@ ghost use Rattle.ill_core.specs.Requester.{RequesterRecord, requester_of, IsRequ
 ghost use Rattle.ill_core.specs.RequesterActions.{Acts};
 ghost use Rattle.ill_core.specs.RequesterDeliveries.{Takes};
 
-use actions::Row;
 use crate::issued::{Issued, Sought, are_numbered, is_requesters};
 use crate::refusal::Refusal;
 use crate::state::State;
 use crate::taking::Taking;
+use actions::Row;
 use ill_values::{Apdu, Day, Item, Number, TxnId};
 use std::alloc::Global;
 use std::marker::Model;

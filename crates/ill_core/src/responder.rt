@@ -11,11 +11,11 @@ ghost use Rattle.ill_core.specs.Responder.{ResponderRecord, responder_of, IsResp
 ghost use Rattle.ill_core.specs.ResponderActions.{Acts};
 ghost use Rattle.ill_core.specs.ResponderDeliveries.{Takes};
 
-use actions::Row;
 use crate::issued::{Issued, Sought, are_numbered, is_requesters};
 use crate::refusal::Refusal;
 use crate::state::State;
 use crate::taking::Taking;
+use actions::Row;
 use ill_values::{AnswerResult, Apdu, Body, Day, Number, TxnId};
 use std::alloc::Global;
 use std::marker::Model;

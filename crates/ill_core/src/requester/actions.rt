@@ -71,15 +71,21 @@ fn cancel_row(requester: &Requester) -> Result<Row, Refusal>
 fn reply_row(requester: &Requester, yes: bool) -> Result<Row, Refusal>
     ensures { result ≡ reply_row requester.now yes }
 {
-    let (State::Conditional, Some(answers), false) =
-        (requester.state, requester.held, requester.is_declined())
-    else {
+    let (State::Conditional, Some(answers), false) = (
+        requester.state,
+        requester.held,
+        requester.is_declined(),
+    ) else {
         return Err(Refusal::NotNow(requester.state));
     };
     let body = Body::ConditionalReply { answers, yes };
     if yes {
         let next = State::Pending;
-        return Ok(Row { next, body, held: None });
+        return Ok(Row {
+            next,
+            body,
+            held: None,
+        });
     }
     leads_to(State::Conditional, body, requester)
 }

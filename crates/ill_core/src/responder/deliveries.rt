@@ -17,7 +17,11 @@ use ill_values::{AnswerResult, Apdu, Body, Number};
 use std::alloc::Global;
 
 /// What a message does. Only an ILL-Request that is kept and a Conditional-Reply no take memory.
-pub fn take_message(responder: &mut Responder, alloc: Global, apdu: &Apdu) -> Result<Taking, Refusal>
+pub fn take_message(
+    responder: &mut Responder,
+    alloc: Global,
+    apdu: &Apdu,
+) -> Result<Taking, Refusal>
     requires same { is_same_txn apdu.now.txn responder.old.txn ≡ true }
     ensures { MayWantMemory (take_message responder.old apdu.now apdu.now.body) (takes_memory responder.old apdu.now.body) responder.old result responder.new }
 {

@@ -4,27 +4,22 @@ ghost use Rattle.std.specs.Prelude.{◌≡◌, IfSome};
 ghost use Rattle.ill_saved.specs.Desk.{idle_of};
 
 use crate::calls::{BytesCall, WordsCall};
-use crate::desks::{self, push_octets};
-use crate::faults::{push_fault, store_word};
+use crate::desks;
+use crate::line::Line;
 use crate::standing::Standing;
-use crate::trouble::Trouble;
+use crate::words::{store_words, write_fault};
 use ill_core::{Requester, Responder, State};
 use ill_saved::{Desk1, DeskFault, MemoryStore, NextCall, Side, Store};
 use ill_values::TxnId;
 use std::alloc::Global;
 
-/// What answers calls.
+/// What answers calls. Nothing is answered where the words are none, or what is called lies not there.
 pub trait Answers {
-    /// Performs a call that takes words, and adds its answer.
-    fn call(&mut self, line: &mut String, call: WordsCall, words: &str) -> Result<(), Trouble>;
+    /// Performs a call that takes words, and writes its answer.
+    fn call(&mut self, line: &mut Line, call: WordsCall, words: &str) -> Option<()>;
 
-    /// Performs a call that takes bytes, and adds its answer.
-    fn call_with(
-        &mut self,
-        line: &mut String,
-        call: BytesCall,
-        bytes: &[u8],
-    ) -> Result<(), Trouble>;
+    /// Performs a call that takes bytes, and writes its answer.
+    fn call_with(&mut self, line: &mut Line, call: BytesCall, bytes: &[u8]) -> Option<()>;
 }
 
 /// A store, or a desk.
@@ -36,30 +31,25 @@ pub struct Bench {
 }
 
 impl Answers for Bench {
-    fn call(&mut self, line: &mut String, call: WordsCall, words: &str) -> Result<(), Trouble> {
+    fn call(&mut self, line: &mut Line, call: WordsCall, words: &str) -> Option<()> {
         match call {
             WordsCall::Store => self.lay_store(line),
             WordsCall::Load => self.load(line),
             WordsCall::Next => self.plan(line, words),
             WordsCall::Create => self.create(line, words),
             WordsCall::Start => self.start(line),
-            WordsCall::Act => desks::act(self.alloc, line, self.desk()?, words),
-            WordsCall::Message => desks::message(self.alloc, line, self.desk()?, words),
-            WordsCall::Restart => Ok(desks::restart(self.alloc, line, self.desk()?)?),
+            WordsCall::Act => desks::act(self.alloc, line, self.desk.as_mut()?, words),
+            WordsCall::Message => desks::message(self.alloc, line, self.desk.as_ref()?, words),
+            WordsCall::Restart => desks::restart(self.alloc, line, self.desk.as_mut()?),
         }
     }
 
-    fn call_with(
-        &mut self,
-        line: &mut String,
-        call: BytesCall,
-        bytes: &[u8],
-    ) -> Result<(), Trouble> {
+    fn call_with(&mut self, line: &mut Line, call: BytesCall, bytes: &[u8]) -> Option<()> {
         match call {
             BytesCall::Save => self.save(line, bytes),
-            BytesCall::Take => Ok(desks::take(self.alloc, line, self.desk()?, bytes)?),
-            BytesCall::Live => Ok(desks::live(self.alloc, line, self.desk()?, bytes)?),
-            BytesCall::Messages => Ok(desks::messages(self.alloc, line, self.desk()?, bytes)?),
+            BytesCall::Take => desks::take(self.alloc, line, self.desk.as_mut()?, bytes),
+            BytesCall::Live => desks::live(self.alloc, line, self.desk.as_ref()?, bytes),
+            BytesCall::Messages => desks::messages(self.alloc, line, self.desk.as_ref()?, bytes),
         }
     }
 }
@@ -74,61 +64,58 @@ impl Bench {
         }
     }
 
-    fn desk(&mut self) -> Result<&mut Desk1<MemoryStore>, Trouble> {
-        self.desk.as_mut().ok_or(Trouble::Words)
-    }
-
     /// `store`: a store in which nothing has landed.
-    fn lay_store(&mut self, line: &mut String) -> Result<(), Trouble> {
+    fn lay_store(&mut self, line: &mut Line) -> Option<()> {
         self.desk = None;
         self.store = Some(MemoryStore::new(self.alloc));
-        Ok(line.push_str("new")?)
+        line.text("new");
+        Some(())
     }
 
     /// `load`
-    fn load(&mut self, line: &mut String) -> Result<(), Trouble> {
-        let store = self.store.as_mut().ok_or(Trouble::Words)?;
-        match store.load(self.alloc) {
-            Ok(Some(bytes)) => push_octets(line, &bytes)?,
-            Ok(None) => line.push_str("none")?,
-            Err(fault) => line.push_str(store_word(fault))?,
+    fn load(&mut self, line: &mut Line) -> Option<()> {
+        match self.store.as_mut()?.load(self.alloc) {
+            Ok(Some(bytes)) => line.octets(&bytes),
+            Ok(None) => line.text("none"),
+            Err(fault) => line.text(store_words(fault)),
         }
-        Ok(())
+        Some(())
     }
 
     /// `save BYTES` of a store, or `save` of a desk.
-    fn save(&mut self, line: &mut String, bytes: &[u8]) -> Result<(), Trouble> {
+    fn save(&mut self, line: &mut Line, bytes: &[u8]) -> Option<()> {
         let Some(store) = &mut self.store else {
-            return Ok(desks::save(self.alloc, line, self.desk()?)?);
+            return desks::save(self.alloc, line, self.desk.as_mut()?);
         };
-        let word = match store.save(self.alloc, bytes) {
-            Ok(()) => "saved",
-            Err(fault) => store_word(fault),
-        };
-        Ok(line.push_str(word)?)
+        match store.save(self.alloc, bytes) {
+            Ok(()) => line.text("saved"),
+            Err(fault) => line.text(store_words(fault)),
+        }
+        Some(())
     }
 
     /// `next PLAN`
-    fn plan(&mut self, line: &mut String, words: &str) -> Result<(), Trouble> {
-        let next = next_call(words).ok_or(Trouble::Words)?;
+    fn plan(&mut self, line: &mut Line, words: &str) -> Option<()> {
+        let next = next_call(words)?;
         match &mut self.store {
             Some(store) => store.set_next(next),
-            None => self.desk()?.set_next(next),
+            None => self.desk.as_mut()?.set_next(next),
         }
-        Ok(line.push_str("planned")?)
+        line.text("planned");
+        Some(())
     }
 
     /// `create ROLE GROUP TRANSACTION`, over the store that lies there.
-    fn create(&mut self, line: &mut String, words: &str) -> Result<(), Trouble> {
-        let first = idle(self.alloc, words).ok_or(Trouble::Words)?;
-        let store = self.store.take().ok_or(Trouble::Words)?;
+    fn create(&mut self, line: &mut Line, words: &str) -> Option<()> {
+        let first = idle(self.alloc, words)?;
+        let store = self.store.take()?;
         let answer = Desk1::create(self.alloc, store, first);
         self.begin(line, answer)
     }
 
     /// `start`, over the store that lies there.
-    fn start(&mut self, line: &mut String) -> Result<(), Trouble> {
-        let store = self.store.take().ok_or(Trouble::Words)?;
+    fn start(&mut self, line: &mut Line) -> Option<()> {
+        let store = self.store.take()?;
         let answer = Desk1::start(self.alloc, store);
         self.begin(line, answer)
     }
@@ -136,25 +123,21 @@ impl Bench {
     /// Lays the new desk there, or the store that was handed back.
     fn begin(
         &mut self,
-        line: &mut String,
+        line: &mut Line,
         answer: Result<Desk1<MemoryStore>, (DeskFault, MemoryStore)>,
-    ) -> Result<(), Trouble> {
+    ) -> Option<()> {
         match answer {
             Ok(desk) => {
+                line.text("done");
+                Standing::of(self.alloc, &desk)?.write(line);
                 self.desk = Some(desk);
-                self.push_begun(line)
             }
             Err((fault, store)) => {
+                write_fault(line, fault, State::Idle);
                 self.store = Some(store);
-                Ok(push_fault(line, fault, State::Idle)?)
             }
         }
-    }
-
-    fn push_begun(&mut self, line: &mut String) -> Result<(), Trouble> {
-        line.push_str("done")?;
-        let standing = Standing::of(self.alloc, self.desk()?)?;
-        Ok(standing.write(line)?)
+        Some(())
     }
 }
 
@@ -162,14 +145,24 @@ impl Bench {
 fn idle(alloc: Global, words: &str) -> Option<Side>
     ensures { IfSome result (λ side. side ≡ idle_of side) }
 {
-    let (role, words) = words.split_once(' ')?;
-    let (group, transaction) = words.split_once(' ')?;
-    let txn = TxnId::new(alloc, group.as_bytes(), transaction.as_bytes()).ok()?;
-    match role {
-        "requester" => Some(Side::Requester(Requester::idle(alloc, txn))),
-        "responder" => Some(Side::Responder(Responder::idle(alloc, txn))),
-        _ => None,
+    let (role, names) = words.split_once(' ')?;
+    let txn = txn_of(alloc, names)?;
+    Some(idle_side(alloc, role, txn))
+}
+
+fn idle_side(alloc: Global, role: &str, txn: TxnId) -> Side
+    ensures { result ≡ idle_of result }
+{
+    if role == "requester" {
+        Side::Requester(Requester::idle(alloc, txn))
+    } else {
+        Side::Responder(Responder::idle(alloc, txn))
     }
+}
+
+fn txn_of(alloc: Global, names: &str) -> Option<TxnId> {
+    let (group, transaction) = names.split_once(' ')?;
+    TxnId::new(alloc, group.as_bytes(), transaction.as_bytes()).ok()
 }
 
 fn next_call(word: &str) -> Option<NextCall> {

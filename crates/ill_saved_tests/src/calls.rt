@@ -5,6 +5,12 @@
 pub enum Call {
     Note,
     Let,
+    Case(CaseCall),
+}
+
+/// A case, or a family of them.
+#[derive(Clone, Copy)]
+pub enum CaseCall {
     Record(RecordCall),
     Bytes(BytesCall),
     Words(WordsCall),
@@ -46,21 +52,21 @@ const CALLS: [(&str, Call); 18] = [
     ("", Call::Note),
     ("#", Call::Note),
     ("let", Call::Let),
-    ("record", Call::Record(RecordCall::Record)),
-    ("octets", Call::Record(RecordCall::Octets)),
-    ("fronts", Call::Record(RecordCall::Fronts)),
-    ("save", Call::Bytes(BytesCall::Save)),
-    ("take", Call::Bytes(BytesCall::Take)),
-    ("live", Call::Bytes(BytesCall::Live)),
-    ("messages", Call::Bytes(BytesCall::Messages)),
-    ("store", Call::Words(WordsCall::Store)),
-    ("load", Call::Words(WordsCall::Load)),
-    ("next", Call::Words(WordsCall::Next)),
-    ("create", Call::Words(WordsCall::Create)),
-    ("start", Call::Words(WordsCall::Start)),
-    ("act", Call::Words(WordsCall::Act)),
-    ("message", Call::Words(WordsCall::Message)),
-    ("restart", Call::Words(WordsCall::Restart)),
+    ("record", Call::Case(CaseCall::Record(RecordCall::Record))),
+    ("octets", Call::Case(CaseCall::Record(RecordCall::Octets))),
+    ("fronts", Call::Case(CaseCall::Record(RecordCall::Fronts))),
+    ("save", Call::Case(CaseCall::Bytes(BytesCall::Save))),
+    ("take", Call::Case(CaseCall::Bytes(BytesCall::Take))),
+    ("live", Call::Case(CaseCall::Bytes(BytesCall::Live))),
+    ("messages", Call::Case(CaseCall::Bytes(BytesCall::Messages))),
+    ("store", Call::Case(CaseCall::Words(WordsCall::Store))),
+    ("load", Call::Case(CaseCall::Words(WordsCall::Load))),
+    ("next", Call::Case(CaseCall::Words(WordsCall::Next))),
+    ("create", Call::Case(CaseCall::Words(WordsCall::Create))),
+    ("start", Call::Case(CaseCall::Words(WordsCall::Start))),
+    ("act", Call::Case(CaseCall::Words(WordsCall::Act))),
+    ("message", Call::Case(CaseCall::Words(WordsCall::Message))),
+    ("restart", Call::Case(CaseCall::Words(WordsCall::Restart))),
 ];
 
 /// What this word says.

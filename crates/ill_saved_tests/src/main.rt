@@ -9,14 +9,13 @@ mod actions;
 mod bench;
 mod calls;
 mod desks;
-mod faults;
-mod messages;
+mod line;
 mod names;
 mod records;
 mod runs;
 mod session;
 mod standing;
-mod trouble;
+mod words;
 
 use bench::{Answers, Bench};
 use session::Session;
@@ -34,7 +33,7 @@ fn print_lines<B: Answers>(
     text: &str,
 ) -> io::Result<()> {
     for line in text.lines() {
-        rt.print(session.perform(line)?)?;
+        rt.print(session.perform(line).finish()?)?;
     }
     Ok(())
 }

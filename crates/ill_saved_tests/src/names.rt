@@ -5,7 +5,6 @@
 //! the octet there. Where a name has several values, set apart by `|`, the line is a family, with a case
 //! for each of them.
 
-use crate::trouble::Trouble;
 use std::alloc::Global;
 
 /// The names that lines `let` gave.
@@ -31,33 +30,31 @@ impl Names {
     }
 
     /// Gives the first of these words as a name to the others.
-    pub fn add(&mut self, words: &str) -> Result<(), Trouble> {
-        let (word, values) = words.split_once(' ').ok_or(Trouble::Words)?;
+    pub fn add(&mut self, words: &str) -> Option<()> {
+        let (word, values) = words.split_once(' ')?;
         let name = Name {
-            word: String::from_str(self.alloc, word)?,
+            word: String::from_str(self.alloc, word).ok()?,
             values: self.values(values)?,
         };
-        self.names.push(name)?;
-        Ok(())
+        self.names.push(name).ok()
     }
 
     /// The values that these words are, with `|` between them.
-    fn values(&self, words: &str) -> Result<Vec<Vec<u8>>, Trouble> {
+    fn values(&self, words: &str) -> Option<Vec<Vec<u8>>> {
         let mut values = Vec::new(self.alloc);
-        values.push(Vec::new(self.alloc))?;
+        values.push(Vec::new(self.alloc)).ok()?;
         for word in words.split_whitespace() {
             self.push_value(&mut values, word)?;
         }
-        Ok(values)
+        Some(values)
     }
 
     /// Begins another value at `|`, and else adds a word to the last.
-    fn push_value(&self, values: &mut Vec<Vec<u8>>, word: &str) -> Result<(), Trouble> {
+    fn push_value(&self, values: &mut Vec<Vec<u8>>, word: &str) -> Option<()> {
         if word == "|" {
-            values.push(Vec::new(self.alloc))?;
-            return Ok(());
+            return values.push(Vec::new(self.alloc)).ok();
         }
-        self.push_word(values.last_mut().ok_or(Trouble::Words)?, word, 0)
+        self.push_word(values.last_mut()?, word, 0)
     }
 
     /// How many cases these words are.
@@ -71,15 +68,15 @@ impl Names {
     }
 
     /// The bytes that these words are in this case.
-    pub fn bytes(&self, words: &str, case: usize) -> Result<Vec<u8>, Trouble> {
+    pub fn bytes(&self, words: &str, case: usize) -> Option<Vec<u8>> {
         let mut bytes = Vec::new(self.alloc);
         for word in words.split_whitespace() {
             self.push_word(&mut bytes, word, case)?;
         }
-        Ok(bytes)
+        Some(bytes)
     }
 
-    fn push_word(&self, bytes: &mut Vec<u8>, word: &str, case: usize) -> Result<(), Trouble> {
+    fn push_word(&self, bytes: &mut Vec<u8>, word: &str, case: usize) -> Option<()> {
         match word.split_once('=') {
             Some((place, piece)) => self.put_octet(bytes, place, piece, case),
             None => self.push_piece(bytes, word, case),
@@ -87,29 +84,24 @@ impl Names {
     }
 
     /// Puts the octet of a piece in place of the one that stands there.
-    fn put_octet(
-        &self,
-        bytes: &mut Vec<u8>,
-        place: &str,
-        piece: &str,
-        case: usize,
-    ) -> Result<(), Trouble> {
-        let place = place.parse::<usize>().ok().ok_or(Trouble::Words)?;
+    fn put_octet(&self, bytes: &mut Vec<u8>, place: &str, piece: &str, case: usize) -> Option<()> {
+        let place = place.parse::<usize>().ok()?;
         self.push_piece(bytes, piece, case)?;
-        let octet = bytes.pop().ok_or(Trouble::Words)?;
-        *bytes.get_mut(place).ok_or(Trouble::Words)? = octet;
-        Ok(())
+        let octet = bytes.pop()?;
+        *bytes.get_mut(place)? = octet;
+        Some(())
     }
 
-    fn push_piece(&self, bytes: &mut Vec<u8>, piece: &str, case: usize) -> Result<(), Trouble> {
+    fn push_piece(&self, bytes: &mut Vec<u8>, piece: &str, case: usize) -> Option<()> {
         if let Some(text) = piece.strip_prefix('"') {
-            bytes.extend_from_slice(text.trim_end_matches('"').as_bytes())?;
-        } else if let Some(value) = self.value(piece, case) {
-            bytes.extend_from_slice(value)?;
-        } else {
-            bytes.push(u8::from_str_radix(piece, 16).ok().ok_or(Trouble::Words)?)?;
+            return bytes
+                .extend_from_slice(text.trim_end_matches('"').as_bytes())
+                .ok();
         }
-        Ok(())
+        match self.value(piece, case) {
+            Some(value) => bytes.extend_from_slice(value).ok(),
+            None => bytes.push(u8::from_str_radix(piece, 16).ok()?).ok(),
+        }
     }
 
     /// The value of a name in this case: its only one is that of every case.

@@ -1,192 +1,170 @@
 //! What bytes are as a saved record, and what the readers of a side tell.
 
-use crate::faults::push_record_fault;
-use crate::messages::{push_body, push_count, push_day, push_text};
+use crate::line::Line;
 use crate::runs::Run;
+use crate::words::{body_name, write_record_fault};
 use ill_core::{Requester, Responder, State};
 use ill_saved::{Side, decode_record, encode_record};
-use ill_values::{Apdu, Day, Number, TxnId};
-use std::alloc::{AllocError, Global};
+use ill_values::{Apdu, Body, Day, Number, TxnId};
+use std::alloc::Global;
 
-/// Adds what bytes are as a record: a fault, or a side. `#` is written for this octet.
-pub fn push_record(
-    alloc: Global,
-    line: &mut String,
-    bytes: &[u8],
-    octet: Option<u8>,
-) -> Result<(), AllocError> {
+/// Writes what bytes are as a record: a fault, or a side.
+pub fn write_record(alloc: Global, line: &mut Line, bytes: &[u8]) {
     match decode_record(alloc, bytes) {
-        Ok(side) => push_side(alloc, line, &side, bytes, octet),
-        Err(fault) => push_record_fault(line, fault),
+        Ok(side) => write_side(alloc, line, &side, bytes),
+        Err(fault) => write_record_fault(line, fault),
     }
 }
 
-/// Adds what the readers of a side tell, and whether its record has these bytes.
-pub fn push_side(
-    alloc: Global,
-    line: &mut String,
-    side: &Side,
-    bytes: &[u8],
-    octet: Option<u8>,
-) -> Result<(), AllocError> {
+/// Writes what the readers of a side tell, and whether its record has these bytes.
+pub fn write_side(alloc: Global, line: &mut Line, side: &Side, bytes: &[u8]) {
     match side {
-        Side::Requester(requester) => push_requester(line, requester, octet)?,
-        Side::Responder(responder) => push_responder(line, responder, octet)?,
+        Side::Requester(requester) => write_requester(line, requester),
+        Side::Responder(responder) => write_responder(line, responder),
     }
-    push_issued(alloc, line, side)?;
-    let record = encode_record(alloc, side)?;
-    line.push_str(if record.as_slice() == bytes {
+    write_issued(alloc, line, side);
+    let is_same = match encode_record(alloc, side) {
+        Ok(record) => record.as_slice() == bytes,
+        Err(_) => false,
+    };
+    line.text(if is_same {
         "; the same bytes"
     } else {
         "; OTHER BYTES"
-    })
+    });
 }
 
-fn push_requester(
-    line: &mut String,
-    side: &Requester,
-    octet: Option<u8>,
-) -> Result<(), AllocError> {
-    let numbers = [(" held ", side.held()), (" accepted ", side.accepted())];
-    let marks = [
-        (" received", side.is_received()),
-        (" checked-in", side.is_checked_in()),
-        (" declined", side.is_declined()),
-    ];
-    push_head(line, "requester", side.state())?;
-    push_txn(line, side.txn(), octet)?;
-    push_numbers(line, &numbers, octet)?;
-    push_due(line, side.due())?;
-    push_marks(line, &marks)
+fn write_requester(line: &mut Line, side: &Requester) {
+    line.text("requester ");
+    write_head(line, side.state(), side.txn());
+    write_number(line, " held ", side.held());
+    write_number(line, " accepted ", side.accepted());
+    write_day(line, " due ", side.due());
+    write_mark(line, " received", side.is_received());
+    write_mark(line, " checked-in", side.is_checked_in());
+    write_mark(line, " declined", side.is_declined());
 }
 
-fn push_responder(
-    line: &mut String,
-    side: &Responder,
-    octet: Option<u8>,
-) -> Result<(), AllocError> {
-    let numbers = [
-        (" accepted ", side.accepted()),
-        (" outstanding ", side.outstanding()),
-        (" cancel ", side.last_cancel()),
-        (" renew ", side.last_renew()),
-    ];
-    push_head(line, "responder", side.state())?;
-    push_txn(line, side.txn(), octet)?;
-    push_numbers(line, &numbers, octet)?;
-    push_due(line, side.due())?;
-    push_marks(line, &[(" received", side.is_received())])?;
-    push_request(line, side.request(), octet)
+fn write_responder(line: &mut Line, side: &Responder) {
+    line.text("responder ");
+    write_head(line, side.state(), side.txn());
+    write_number(line, " accepted ", side.accepted());
+    write_number(line, " outstanding ", side.outstanding());
+    write_number(line, " cancel ", side.last_cancel());
+    write_number(line, " renew ", side.last_renew());
+    write_day(line, " due ", side.due());
+    write_mark(line, " received", side.is_received());
+    if let Some(request) = side.request() {
+        write_number(line, " request ", Some(request.number));
+        line.text(" ");
+        write_body(line, &request.body);
+    }
 }
 
-fn push_head(line: &mut String, role: &str, state: State) -> Result<(), AllocError> {
-    write!(line, "{role} {state}")
+fn write_head(line: &mut Line, state: State, txn: &TxnId) {
+    line.show(&state);
+    line.qualifier(txn.group());
+    line.qualifier(txn.transaction());
 }
 
-fn push_txn(line: &mut String, txn: &TxnId, octet: Option<u8>) -> Result<(), AllocError> {
-    push_text(line, txn.group(), octet)?;
-    push_text(line, txn.transaction(), octet)
+fn write_number(line: &mut Line, label: &str, number: Option<Number>) {
+    if let Some(number) = number {
+        line.text(label);
+        line.count(number.get());
+    }
 }
 
-fn push_numbers(
-    line: &mut String,
-    numbers: &[(&str, Option<Number>)],
-    octet: Option<u8>,
-) -> Result<(), AllocError> {
-    for (label, number) in numbers {
-        if let Some(number) = number {
-            line.push_str(label)?;
-            push_count(line, usize::from(number.get()), octet)?;
+/// Writes a day behind its label, if there is one.
+pub fn write_day(line: &mut Line, label: &str, day: Option<Day>) {
+    if let Some(day) = day {
+        line.text(label);
+        line.ascii(&day.digits());
+    }
+}
+
+fn write_mark(line: &mut Line, label: &str, is_set: bool) {
+    if is_set {
+        line.text(label);
+    }
+}
+
+/// Writes the type of a message and its further fields.
+fn write_body(line: &mut Line, body: &Body) {
+    line.text(body_name(body));
+    match body {
+        Body::IllRequest { expiry, item } => {
+            write_day(line, " ", *expiry);
+            line.text(" ");
+            line.ascii(item.text());
         }
-    }
-    Ok(())
-}
-
-fn push_marks(line: &mut String, marks: &[(&str, bool)]) -> Result<(), AllocError> {
-    for (label, is_set) in marks {
-        if *is_set {
-            line.push_str(label)?;
+        Body::ConditionalReply { answers, yes } => write_reply(line, *answers, *yes),
+        Body::CancelReply { answers, yes } => write_reply(line, *answers, *yes),
+        Body::Shipped { due } => write_day(line, " ", Some(*due)),
+        Body::Overdue { due } => write_day(line, " ", Some(*due)),
+        Body::Renew { wished } => write_day(line, " ", *wished),
+        Body::RenewAnswer { answers, granted } => {
+            write_reply(line, *answers, granted.is_some());
+            write_day(line, " ", *granted);
         }
+        _ => {}
     }
-    Ok(())
 }
 
-fn push_due(line: &mut String, due: Option<Day>) -> Result<(), AllocError> {
-    if due.is_some() {
-        line.push_str(" due")?;
-    }
-    push_day(line, due)
+fn write_reply(line: &mut Line, answers: Number, yes: bool) {
+    line.text(if yes { " yes to " } else { " no to " });
+    line.show(&answers.get());
 }
 
-fn push_request(
-    line: &mut String,
-    request: Option<&Apdu>,
-    octet: Option<u8>,
-) -> Result<(), AllocError> {
-    let Some(apdu) = request else {
-        return Ok(());
-    };
-    push_numbers(line, &[(" request ", Some(apdu.number))], octet)?;
-    line.push(' ')?;
-    push_body(line, &apdu.body)
-}
-
-/// Adds the messages that a side has issued, each behind its number.
-fn push_issued(alloc: Global, line: &mut String, side: &Side) -> Result<(), AllocError> {
+/// Writes the messages that a side has issued, each behind its number.
+fn write_issued(alloc: Global, line: &mut Line, side: &Side) {
     let mut run = Run::new(alloc, "; ", 1);
-    for index in 0..issued_count(side) {
-        run.push(line, issued(alloc, side, index + 1)?)?;
+    for index in 0..side_facts(side).issued {
+        run.push(line, issued(alloc, side, index + 1));
     }
-    run.write(line)
+    run.write(line);
 }
 
 /// The message that a side has issued with this number. It must say that number and the transaction.
-fn issued(alloc: Global, side: &Side, value: u8) -> Result<String, AllocError> {
-    let mut text = String::new(alloc);
+fn issued(alloc: Global, side: &Side, value: u8) -> Line {
+    let mut line = Line::new(alloc, None);
     match find(side, value) {
-        Some(apdu) if is_own(side, apdu, value) => push_body(&mut text, &apdu.body)?,
-        Some(_) => text.push_str("ANOTHER MESSAGE")?,
-        None => text.push_str("MISSING")?,
+        Some((apdu, txn)) if apdu.number.get() == value && apdu.txn == *txn => {
+            write_body(&mut line, &apdu.body);
+        }
+        _ => line.text("ANOTHER MESSAGE"),
     }
-    Ok(text)
+    line
 }
 
-fn find(side: &Side, value: u8) -> Option<&Apdu> {
+/// The message of this number, and the transaction.
+fn find(side: &Side, value: u8) -> Option<(&Apdu, &TxnId)> {
     let number = Number::new(value)?;
     match side {
-        Side::Requester(requester) => requester.issued(number),
-        Side::Responder(responder) => responder.issued(number),
+        Side::Requester(side) => Some((side.issued(number)?, side.txn())),
+        Side::Responder(side) => Some((side.issued(number)?, side.txn())),
     }
 }
 
-fn is_own(side: &Side, apdu: &Apdu, value: u8) -> bool {
-    let txn = match side {
-        Side::Requester(requester) => requester.txn(),
-        Side::Responder(responder) => responder.txn(),
-    };
-    apdu.number.get() == value && apdu.txn == *txn
+/// What is told of a side behind each call of a desk.
+#[derive(Clone, Copy)]
+pub struct Facts {
+    pub state: State,
+    pub due: Option<Day>,
+    pub issued: u8,
 }
 
-/// How many messages a side has issued.
-pub fn issued_count(side: &Side) -> u8 {
+/// What is told of this side.
+pub fn side_facts(side: &Side) -> Facts {
     match side {
-        Side::Requester(requester) => requester.issued_count(),
-        Side::Responder(responder) => responder.issued_count(),
-    }
-}
-
-/// The state of a side.
-pub fn state(side: &Side) -> State {
-    match side {
-        Side::Requester(requester) => requester.state(),
-        Side::Responder(responder) => responder.state(),
-    }
-}
-
-/// The due date of a side.
-pub fn due(side: &Side) -> Option<Day> {
-    match side {
-        Side::Requester(requester) => requester.due(),
-        Side::Responder(responder) => responder.due(),
+        Side::Requester(side) => Facts {
+            state: side.state(),
+            due: side.due(),
+            issued: side.issued_count(),
+        },
+        Side::Responder(side) => Facts {
+            state: side.state(),
+            due: side.due(),
+            issued: side.issued_count(),
+        },
     }
 }

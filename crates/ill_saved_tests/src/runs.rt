@@ -1,6 +1,7 @@
 //! Numbered texts, where neighbours that are alike are written once.
 
-use std::alloc::{AllocError, Global};
+use crate::line::Line;
+use std::alloc::Global;
 
 /// The last of the texts that are alike, and their numbers: from `first` on, and before `next`.
 #[derive(Drop)]
@@ -8,7 +9,7 @@ pub struct Run {
     mark: &'static str,
     first: usize,
     next: usize,
-    text: String,
+    text: Line,
 }
 
 impl Run {
@@ -18,38 +19,33 @@ impl Run {
             mark,
             first,
             next: first,
-            text: String::new(alloc),
+            text: Line::new(alloc, None),
         }
     }
 
     /// Takes the next text, and writes those before it where it is another.
-    pub fn push(&mut self, line: &mut String, text: String) -> Result<(), AllocError> {
-        if text.as_str() != self.text.as_str() {
-            self.write(line)?;
+    pub fn push(&mut self, line: &mut Line, text: Line) {
+        if text.so_far() != self.text.so_far() {
+            self.write(line);
             self.first = self.next;
             self.text = text;
         }
         self.next = self.next.saturating_add(1);
-        Ok(())
     }
 
     /// Writes the texts that are not written yet.
-    pub fn write(&self, line: &mut String) -> Result<(), AllocError> {
+    pub fn write(&self, line: &mut Line) {
         if self.next <= self.first {
-            return Ok(());
+            return;
         }
-        line.push_str(self.mark)?;
-        self.write_numbers(line)?;
-        line.push(' ')?;
-        line.push_str(self.text.as_str())
-    }
-
-    fn write_numbers(&self, line: &mut String) -> Result<(), AllocError> {
-        let (first, last) = (self.first, self.next.saturating_sub(1));
-        if first == last {
-            write!(line, "{first}")
-        } else {
-            write!(line, "{first}-{last}")
+        line.text(self.mark);
+        line.show(&self.first);
+        let last = self.next.saturating_sub(1);
+        if last > self.first {
+            line.text("-");
+            line.show(&last);
         }
+        line.text(" ");
+        line.line(&self.text);
     }
 }

@@ -1,12 +1,14 @@
 //! Lines of cases, one after another.
 
 use crate::bench::Answers;
-use crate::calls::{Call, RecordCall, call_of};
+use crate::calls::{Call, CaseCall, RecordCall, call_of};
+use crate::line::Line;
 use crate::names::Names;
-use crate::records::push_record;
+use crate::records::write_record;
 use crate::runs::Run;
-use crate::trouble::Trouble;
-use std::alloc::{AllocError, Global};
+use std::alloc::Global;
+
+const NOT_UNDERSTOOD: &str = "NOT UNDERSTOOD";
 
 /// What earlier lines left: names, and a store or a desk.
 #[derive(Drop)]
@@ -27,105 +29,98 @@ impl<B: Answers> Session<B> {
     }
 
     /// Performs a line, and gives what is written of it.
-    pub fn perform(&mut self, line: &str) -> Result<String, AllocError> {
-        let mut out = String::new(self.alloc);
-        match self.answer(line, &mut out) {
-            Ok(()) => Ok(out),
-            Err(Trouble::Words) => format!(in self.alloc; "{line}: NOT UNDERSTOOD\n"),
-            Err(Trouble::OutOfMemory) => Err(AllocError),
+    pub fn perform(&mut self, text: &str) -> Line {
+        let mut line = Line::new(self.alloc, None);
+        let (word, words) = text.split_once(' ').unwrap_or((text, ""));
+        match call_of(word) {
+            Some(Call::Note) => {
+                line.text(text);
+                line.text("\n");
+            }
+            Some(Call::Let) => self.give_name(&mut line, words),
+            Some(Call::Case(call)) => {
+                line.text(text);
+                line.text(":");
+                self.cases(&mut line, call, words);
+                line.text("\n");
+            }
+            None => line.text(NOT_UNDERSTOOD),
+        }
+        line
+    }
+
+    fn give_name(&mut self, line: &mut Line, words: &str) {
+        if self.names.add(words).is_none() {
+            line.text(NOT_UNDERSTOOD);
         }
     }
 
-    fn answer(&mut self, line: &str, out: &mut String) -> Result<(), Trouble> {
-        let (word, words) = line.split_once(' ').unwrap_or((line, ""));
-        let call = call_of(word).ok_or(Trouble::Words)?;
-        if let Call::Let = call {
-            return self.names.add(words);
+    /// Writes the answer of a line, or of each case of a family behind its number, from 0.
+    fn cases(&mut self, line: &mut Line, call: CaseCall, words: &str) {
+        let count = self.count(call, words);
+        if count > 1 {
+            return self.family(line, call, words, count);
         }
-        out.push_str(line)?;
-        self.answers(out, call, words)?;
-        Ok(out.push('\n')?)
+        line.text(" ");
+        let answer = self.case(call, words, 0);
+        line.line(&answer);
     }
 
-    /// Adds the answer of a line, or of each case of a family behind its number, from 0.
-    fn answers(&mut self, out: &mut String, call: Call, words: &str) -> Result<(), Trouble> {
-        let count = self.count(call, words)?;
-        if count == 1 {
-            out.push_str(mark_before(call))?;
-            return self.case(out, call, words, 0);
-        }
-        out.push(':')?;
-        self.cases(out, call, words, count)
-    }
-
-    fn cases(
-        &mut self,
-        out: &mut String,
-        call: Call,
-        words: &str,
-        count: usize,
-    ) -> Result<(), Trouble> {
+    fn family(&mut self, line: &mut Line, call: CaseCall, words: &str, count: usize) {
         let mut run = Run::new(self.alloc, "\n  ", 0);
         for case in 0..count {
-            let mut text = String::new(self.alloc);
-            self.case(&mut text, call, words, case)?;
-            run.push(out, text)?;
+            let answer = self.case(call, words, case);
+            run.push(line, answer);
         }
-        Ok(run.write(out)?)
+        run.write(line);
     }
 
     /// How many cases a line has. Those of `fronts` are fronts, which have the sizes from 0 on.
-    fn count(&self, call: Call, words: &str) -> Result<usize, Trouble> {
-        match call {
-            Call::Note => Ok(1),
-            Call::Record(RecordCall::Fronts) => {
-                Ok(self.names.bytes(words, 0)?.len().saturating_add(1))
+    fn count(&self, call: CaseCall, words: &str) -> usize {
+        if let CaseCall::Record(RecordCall::Fronts) = call {
+            if let Some(bytes) = self.names.bytes(words, 0) {
+                return bytes.len().saturating_add(1);
             }
-            _ => Ok(self.names.cases(words)),
         }
+        self.names.cases(words)
     }
 
-    fn case(
-        &mut self,
-        text: &mut String,
-        call: Call,
-        words: &str,
-        case: usize,
-    ) -> Result<(), Trouble> {
+    fn case(&mut self, call: CaseCall, words: &str, case: usize) -> Line {
+        let mut line = Line::new(self.alloc, octet_of(call, case));
+        if self.answer(&mut line, call, words, case).is_none() {
+            line.text(NOT_UNDERSTOOD);
+        }
+        line
+    }
+
+    fn answer(&mut self, line: &mut Line, call: CaseCall, words: &str, case: usize) -> Option<()> {
         match call {
-            Call::Note | Call::Let => Ok(()),
-            Call::Words(call) => self.bench.call(text, call, words),
-            Call::Bytes(call) => {
+            CaseCall::Words(call) => self.bench.call(line, call, words),
+            CaseCall::Bytes(call) => {
                 let bytes = self.names.bytes(words, case)?;
-                self.bench.call_with(text, call, &bytes)
+                self.bench.call_with(line, call, &bytes)
             }
-            Call::Record(call) => {
+            CaseCall::Record(call) => {
                 let bytes = self.names.bytes(words, case)?;
-                Ok(push_case(self.alloc, text, call, &bytes, case)?)
+                write_record(self.alloc, line, front_of(call, &bytes, case));
+                Some(())
             }
         }
     }
 }
 
-fn mark_before(call: Call) -> &'static str {
+/// The octet for which `#` is written.
+fn octet_of(call: CaseCall, case: usize) -> Option<u8> {
     match call {
-        Call::Note => "",
-        _ => ": ",
+        CaseCall::Record(RecordCall::Octets) => u8::try_from(case).ok(),
+        _ => None,
     }
 }
 
-/// Adds what bytes are as a record in this case.
-fn push_case(
-    alloc: Global,
-    text: &mut String,
-    call: RecordCall,
-    bytes: &[u8],
-    case: usize,
-) -> Result<(), AllocError> {
-    let (bytes, octet) = match call {
-        RecordCall::Record => (bytes, None),
-        RecordCall::Octets => (bytes, u8::try_from(case).ok()),
-        RecordCall::Fronts => (bytes.get(..case).unwrap_or(bytes), None),
-    };
-    push_record(alloc, text, bytes, octet)
+/// The bytes of a case: a front of these, where the cases are fronts.
+fn front_of(call: RecordCall, bytes: &[u8], case: usize) -> &[u8] {
+    match call {
+        RecordCall::Fronts => bytes.get(..case).unwrap_or(bytes),
+        _ => bytes,
+    }
 }

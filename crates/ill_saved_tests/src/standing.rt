@@ -1,53 +1,46 @@
 //! Where a desk stands.
 
-use crate::messages::push_day;
-use crate::records::{due, issued_count, state};
-use ill_core::State;
+use crate::line::Line;
+use crate::records::{Facts, side_facts, write_day};
 use ill_saved::{Desk1, MemoryStore, encode_record};
-use ill_values::Day;
-use std::alloc::{AllocError, Global};
+use std::alloc::Global;
 
-/// What a refusal must leave: the record of the side, and how many messages are released. The state, the
-/// due date and how many messages are issued are the record's.
+/// What a refusal must leave: the record of the side, and how many messages are released. The facts of
+/// the side are the record's.
 #[derive(Drop)]
 pub struct Standing {
     record: Vec<u8>,
     released: u8,
-    pub state: State,
-    due: Option<Day>,
-    issued: u8,
+    pub side: Facts,
 }
 
 impl Standing {
     /// Where this desk stands.
-    pub fn of(alloc: Global, desk: &Desk1<MemoryStore>) -> Result<Standing, AllocError> {
+    pub fn of(alloc: Global, desk: &Desk1<MemoryStore>) -> Option<Standing> {
         let side = desk.side();
-        Ok(Standing {
-            record: encode_record(alloc, side)?,
+        Some(Standing {
+            record: encode_record(alloc, side).ok()?,
             released: desk.released(),
-            state: state(side),
-            due: due(side),
-            issued: issued_count(side),
+            side: side_facts(side),
         })
     }
 
-    /// Adds the state and the due date, and how many messages are released and issued.
-    pub fn write(&self, line: &mut String) -> Result<(), AllocError> {
-        let (state, released, issued) = (self.state, self.released, self.issued);
-        write!(line, " {state}")?;
-        match self.due {
-            Some(due) => push_day(line, Some(due))?,
-            None => line.push_str(" -")?,
-        }
-        write!(line, " {released}/{issued}")
+    /// Writes the state and the due date, and how many messages are released and issued.
+    pub fn write(&self, line: &mut Line) {
+        line.text(" ");
+        line.show(&self.side.state);
+        write_day(line, " ", self.side.due);
+        line.text(if self.side.due.is_some() { " " } else { " - " });
+        line.show(&self.released);
+        line.text("/");
+        line.show(&self.side.issued);
     }
 
-    /// Adds the same after an answer that changes nothing, and whether anything has changed.
-    pub fn write_after(&self, line: &mut String, before: &Standing) -> Result<(), AllocError> {
-        self.write(line)?;
+    /// Writes the same after an answer that changes nothing, and whether anything has changed.
+    pub fn write_after(&self, line: &mut Line, before: &Standing) {
+        self.write(line);
         if self.record.as_slice() != before.record.as_slice() || self.released != before.released {
-            line.push_str(" CHANGED")?;
+            line.text(" CHANGED");
         }
-        Ok(())
     }
 }

@@ -1,0 +1,121 @@
+//! The words of faults and answers, and the names of messages.
+
+use crate::line::Line;
+use ill_core::{Refusal, State, Taking};
+use ill_der::DerFault;
+use ill_saved::{DeskFault, RecordFault, StoreFault};
+use ill_values::{AnswerResult, Body};
+
+/// Writes the words of why a desk in this state did nothing.
+pub fn write_fault(line: &mut Line, fault: DeskFault, state: State) {
+    match fault {
+        DeskFault::Core(refusal) => line.text(refusal_word(refusal, state)),
+        DeskFault::Bytes(fault) => write_bytes_fault(line, fault),
+        DeskFault::Saved(fault) => {
+            line.text("record ");
+            write_record_fault(line, fault);
+        }
+        DeskFault::Store(fault) => line.text(store_words(fault)),
+        DeskFault::Trailing => line.text("trailing"),
+        DeskFault::NoSuchMessage => line.text("no-such-message"),
+        DeskFault::NotSaved => line.text("not-saved"),
+        DeskFault::Exists => line.text("exists"),
+        DeskFault::NoRecord => line.text("no-record"),
+        DeskFault::OutOfMemory => line.text("memory"),
+    }
+}
+
+/// Writes the words of why bytes are no record.
+pub fn write_record_fault(line: &mut Line, fault: RecordFault) {
+    match fault {
+        RecordFault::Bad(at) => {
+            line.text("bad at ");
+            line.show(&at);
+        }
+        RecordFault::Short => line.text("short"),
+        RecordFault::Inconsistent => line.text("inconsistent"),
+        RecordFault::OutOfMemory => line.text("memory"),
+    }
+}
+
+fn write_bytes_fault(line: &mut Line, fault: DerFault) {
+    let (words, at) = match fault {
+        DerFault::Short(at) => ("short at ", at),
+        DerFault::Tag(at) => ("tag at ", at),
+        DerFault::Length(at) => ("length at ", at),
+        DerFault::Field(at) => ("field at ", at),
+        DerFault::OutOfMemory => ("memory ", 0),
+    };
+    line.text(words);
+    line.show(&at);
+}
+
+/// The words of why a store did nothing.
+pub fn store_words(fault: StoreFault) -> &'static str {
+    match fault {
+        StoreFault::Failed => "store failed",
+        StoreFault::TooLarge => "store too-large",
+        StoreFault::OutOfMemory => "memory",
+    }
+}
+
+fn refusal_word(refusal: Refusal, state: State) -> &'static str {
+    match refusal {
+        Refusal::OtherTransaction => "other-transaction",
+        Refusal::WrongRole => "wrong-role",
+        Refusal::NotNow(told) => word_in(told, state, "not-now"),
+        Refusal::DateEarlier => "date-earlier",
+        Refusal::DateNotLater => "date-not-later",
+        Refusal::NotDue => "not-due",
+        Refusal::NotExpired => "not-expired",
+        Refusal::NumbersUsed => "numbers-used",
+        Refusal::OutOfMemory => "memory",
+    }
+}
+
+/// The word of what a message did in this state.
+pub fn taking_word(taking: Taking, state: State) -> &'static str {
+    match taking {
+        Taking::Taken => "taken",
+        Taking::Repeat => "repeat",
+        Taking::Stale => "stale",
+        Taking::Conflict(told) => word_in(told, state, "conflict"),
+    }
+}
+
+/// This word, where the state that was told is the state.
+fn word_in(told: State, state: State, word: &'static str) -> &'static str {
+    if told == state { word } else { "ANOTHER STATE" }
+}
+
+/// The name of a message's type, and the result of an answer.
+pub fn body_name(body: &Body) -> &'static str {
+    match body {
+        Body::IllRequest { .. } => "ILL-Request",
+        Body::IllAnswer { result } => answer_name(*result),
+        Body::ConditionalReply { .. } => "Conditional-Reply",
+        Body::Cancel => "Cancel",
+        Body::CancelReply { .. } => "Cancel-Reply",
+        Body::Shipped { .. } => "Shipped",
+        Body::Received => "Received",
+        Body::Recall => "Recall",
+        Body::Returned => "Returned",
+        Body::CheckedIn => "Checked-In",
+        Body::Overdue { .. } => "Overdue",
+        Body::Renew { .. } => "Renew",
+        Body::RenewAnswer { .. } => "Renew-Answer",
+        Body::Expired => "Expired",
+    }
+}
+
+fn answer_name(answer: AnswerResult) -> &'static str {
+    match answer {
+        AnswerResult::Conditional => "ILL-Answer conditional",
+        AnswerResult::Retry => "ILL-Answer retry",
+        AnswerResult::Unfilled => "ILL-Answer unfilled",
+        AnswerResult::LocationsProvided => "ILL-Answer locations-provided",
+        AnswerResult::WillSupply => "ILL-Answer will-supply",
+        AnswerResult::HoldPlaced => "ILL-Answer hold-placed",
+        AnswerResult::Estimate => "ILL-Answer estimate",
+    }
+}

@@ -5,18 +5,19 @@ use crate::record::Record;
 use crate::side::Side;
 use crate::states::{Role, letters_of, role_of, state_of};
 use ill_core::State;
-use std::alloc::Global;
+use std::alloc::{AllocError, Global};
+use std::mem;
 
 /// What the lines so far have set up.
 pub struct Bench {
     alloc: Global,
+    /// The ruler of the rows.
     role: Role,
     columns: Vec<State>,
     /// The side to which things happen, and the record that it should have.
     side: Option<Side>,
     record: Record,
-    event: Event,
-    /// What stands behind the line.
+    /// The lines with their answers.
     text: String,
 }
 
@@ -24,6 +25,7 @@ pub struct Bench {
 /// the answer; then that of the answer to a message that was taken and comes again.
 type Cell = (&'static str, &'static str);
 
+/// Written out, so that whoever owns a bench calls it.
 impl Drop for Bench {
     fn drop(self) {
         let Bench {
@@ -32,7 +34,6 @@ impl Drop for Bench {
             columns: _columns,
             side: _side,
             record: _record,
-            event: _event,
             text: _text,
         } = self;
     }
@@ -46,87 +47,106 @@ impl Bench {
             columns: Vec::new(alloc),
             side: None,
             record: Record::empty(alloc, State::Idle),
-            event: Event::Reading,
             text: String::new(alloc),
         }
     }
 
-    /// What stands behind a line.
-    pub fn answer(&mut self, line: &str) -> &str {
-        self.text.clear();
-        if line.is_empty() || line.starts_with('#') {
-            return "";
+    pub fn text(&self) -> &str {
+        self.text.as_str()
+    }
+
+    /// Adds a line, and behind it what it is answered.
+    pub fn answer(&mut self, line: &str) -> Result<(), AllocError> {
+        self.text.push_str(line)?;
+        if !line.starts_with('#') {
+            self.push_answer(line)?;
         }
-        match self.push_answer(line) {
-            Some(()) => self.text.as_str(),
-            None => " NO CASE",
+        self.text.push('\n')
+    }
+
+    fn push_answer(&mut self, line: &str) -> Result<(), AllocError> {
+        let Some((name, rest)) = line.split_once('|') else {
+            return Ok(());
+        };
+        match rest.split_once('|') {
+            Some((past, rest)) => self.push_fields(name, past.trim(), rest),
+            None => write!(self.text, " {}", state_of(name.trim())),
         }
     }
 
-    fn push_answer(&mut self, line: &str) -> Option<()> {
-        let mut fields = line.split('|');
-        let name = fields.next()?.trim();
-        let past = fields.next()?.trim();
-        let Some(event) = fields.next() else {
-            return write!(self.text, " {}", state_of(name)?).ok();
-        };
-        let effect = fields.next()?;
-        match fields.next()?.trim() {
-            "" => self.push_row(past, event.trim(), effect),
-            columns => self.rule(name, columns),
+    /// Reads the other fields of a row, or of a ruler, which has more behind the last.
+    fn push_fields(&mut self, name: &str, past: &str, rest: &str) -> Result<(), AllocError> {
+        let (event, rest) = rest.split_once('|').unwrap_or((rest, ""));
+        let (effect, columns) = rest.split_once('|').unwrap_or((rest, ""));
+        if !columns.is_empty() {
+            return self.rule(name, columns);
         }
+        let event = Event::read(self.alloc, event.trim());
+        let columns = mem::replace(&mut self.columns, Vec::new(self.alloc));
+        let pushed = self.push_cells(&columns, past, &event, effect);
+        self.columns = columns;
+        pushed
     }
 
     /// Sets the columns of the rows that follow.
-    fn rule(&mut self, role: &str, columns: &str) -> Option<()> {
-        self.role = role_of(role)?;
+    fn rule(&mut self, role: &str, columns: &str) -> Result<(), AllocError> {
+        self.role = role_of(role.trim());
         self.columns.clear();
         for letters in columns.split_whitespace() {
-            self.columns.push(state_of(letters)?).ok()?;
+            self.columns.push(state_of(letters))?;
         }
-        Some(())
+        Ok(())
     }
 
-    fn push_row(&mut self, past: &str, event: &str, effect: &str) -> Option<()> {
-        self.event = Event::read(self.alloc, event)?;
-        for index in 0..self.columns.len() {
-            let state = *self.columns.get(index)?;
-            let (letters, second) = self.cell(state, past, effect)?;
-            write!(self.text, " {letters:<2}{second:<1}").ok()?;
+    fn push_cells(
+        &mut self,
+        columns: &[State],
+        past: &str,
+        event: &Event,
+        effect: &str,
+    ) -> Result<(), AllocError> {
+        for state in columns {
+            let (letters, second) = self.cell(*state, past, event, effect);
+            write!(self.text, " {letters:<2}{second:<1}")?;
         }
-        self.text.push('|').ok()
+        self.text.push('|')
     }
 
     /// What comes of it in this state. A past of three dots is all that has happened to the side.
-    fn cell(&mut self, state: State, past: &str, effect: &str) -> Option<Cell> {
-        if past == "..." {
-            return self.happen(effect, false);
+    fn cell(&mut self, state: State, past: &str, event: &Event, effect: &str) -> Cell {
+        let is_new = past != "...";
+        if is_new {
+            self.record = Record::of(self.alloc, self.role, state, past);
+            self.side = Side::of(self.alloc, self.role, state, past);
         }
-        self.record = Record::of(self.alloc, self.role, state, past)?;
-        self.side = match past {
-            "new" => Side::idle(self.alloc, self.role),
-            _ => Side::of(self.alloc, self.role, &self.record),
-        };
-        self.happen(effect, true)
+        match &mut self.side {
+            Some(side) => happen(self.alloc, side, &mut self.record, event, effect, is_new),
+            None => (event.absent(), ""),
+        }
     }
+}
 
-    /// Lets it happen to the side, and a message that is taken a second time.
-    fn happen(&mut self, effect: &str, is_twice: bool) -> Option<Cell> {
-        let Some(side) = &mut self.side else {
-            return Some((self.event.absent(), ""));
-        };
-        let (mut letters, mut second) = (side.answer(self.alloc, &self.event)?, "");
-        if letters == "T" {
-            letters = letters_of(side.state());
-            self.record.add(self.alloc, effect)?;
-            self.record.state = side.state();
-            if is_twice && self.event.is_delivery() {
-                second = side.answer(self.alloc, &self.event)?;
-            }
+/// Lets it happen to a side with this record, which then follows; and, if wanted, a message that is
+/// taken a second time.
+fn happen(
+    alloc: Global,
+    side: &mut Side,
+    record: &mut Record,
+    event: &Event,
+    effect: &str,
+    is_twice: bool,
+) -> Cell {
+    let (mut letters, mut second) = (side.answer(alloc, event), "");
+    if letters == "T" {
+        record.add(alloc, effect);
+        record.readings.state = side.state();
+        letters = letters_of(side.state());
+        if is_twice {
+            second = side.answer_again(alloc, event);
         }
-        if !side.shows(&self.record) {
-            second = "!";
-        }
-        Some((letters, second))
     }
+    if !side.shows(record) {
+        second = "!";
+    }
+    (letters, second)
 }

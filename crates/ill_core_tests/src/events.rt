@@ -1,8 +1,8 @@
 //! What a side is told to do, and what comes to it.
 
-use crate::messages::{day, message};
+use crate::messages::{body_of, day, message};
 use ill_core::{Deed, Wish};
-use ill_values::{AnswerResult, Apdu, Day, Item};
+use ill_values::{Apdu, Body, Day};
 use std::alloc::Global;
 
 /// What happens to a side.
@@ -13,8 +13,11 @@ pub enum Event {
     /// A deed, and the day of it.
     Deed(Deed, Day),
     Delivery(Apdu),
+    /// The text names no event.
+    Unknown,
 }
 
+/// Written out, so that whoever owns an event calls it.
 impl Drop for Event {
     fn drop(self) {
         match self {
@@ -22,23 +25,23 @@ impl Drop for Event {
             Event::Wish(_wish) => {}
             Event::Deed(_, _) => {}
             Event::Delivery(_apdu) => {}
+            Event::Unknown => {}
         }
     }
 }
 
 impl Event {
-    /// The event that a text names: a message behind `take`, a deed behind its day, or else a wish.
-    pub fn read(alloc: Global, text: &str) -> Option<Event> {
-        let (first, rest) = text.split_once(' ').unwrap_or((text, ""));
-        if let Some(today) = day(first) {
-            let (name, rest) = rest.split_once(' ').unwrap_or((rest, ""));
-            return Some(Event::Deed(deed(name, rest)?, today));
-        }
-        match first {
+    /// The event that a text names: a reading, a message that comes, a wish by the message that it
+    /// issues, or a deed by its day and the message that it issues.
+    pub fn read(alloc: Global, text: &str) -> Event {
+        let (verb, rest) = text.split_once(' ').unwrap_or((text, ""));
+        let event = match verb {
             "read" => Some(Event::Reading),
-            "take" => Some(Event::Delivery(message(alloc, rest, None)?)),
-            _ => Some(Event::Wish(wish(alloc, first, rest)?)),
-        }
+            "take" => delivery(alloc, rest),
+            "do" => wish(alloc, rest),
+            _ => deed(alloc, day(verb), rest),
+        };
+        event.unwrap_or(Event::Unknown)
     }
 
     /// The letter where there is no side to which it could happen.
@@ -48,56 +51,35 @@ impl Event {
             _ => ".",
         }
     }
-
-    pub fn is_delivery(&self) -> bool {
-        match self {
-            Event::Delivery(_) => true,
-            _ => false,
-        }
-    }
 }
 
-fn wish(alloc: Global, name: &str, rest: &str) -> Option<Wish> {
-    match name {
-        "request" => Some(Wish::Request {
-            expiry: day(rest),
-            item: Item::new(alloc, b"Maps").ok()?,
-        }),
-        "cancel" => Some(Wish::Cancel),
-        "reply" => Some(Wish::Reply { yes: rest == "yes" }),
-        "receive" => Some(Wish::Receive),
-        "renew" => Some(Wish::Renew { wished: day(rest) }),
-        "return" => Some(Wish::Return),
-        _ => None,
-    }
+fn delivery(alloc: Global, word: &str) -> Option<Event> {
+    Some(Event::Delivery(message(alloc, word, None)?))
 }
 
-fn deed(name: &str, rest: &str) -> Option<Deed> {
-    match name {
-        "answer" => Some(Deed::Answer(result(rest)?)),
-        "cancel-reply" => Some(Deed::CancelReply { yes: rest == "yes" }),
-        "ship" => Some(Deed::Ship { due: day(rest)? }),
-        "renew-answer" => Some(Deed::RenewAnswer {
-            granted: day(rest.strip_prefix("yes ").unwrap_or("")),
-        }),
-        "overdue" => Some(Deed::Overdue),
-        "recall" => Some(Deed::Recall),
-        "check-in" => Some(Deed::CheckIn),
-        "expire" => Some(Deed::Expire),
-        _ => None,
-    }
+fn wish(alloc: Global, word: &str) -> Option<Event> {
+    Some(Event::Wish(match body_of(alloc, word)? {
+        Body::IllRequest { expiry, item } => Wish::Request { expiry, item },
+        Body::Cancel => Wish::Cancel,
+        Body::ConditionalReply { yes, .. } => Wish::Reply { yes },
+        Body::Received => Wish::Receive,
+        Body::Renew { wished } => Wish::Renew { wished },
+        Body::Returned => Wish::Return,
+        _ => return None,
+    }))
 }
 
-/// The result that begins with the letter of this word: no two begin with the same.
-fn result(word: &str) -> Option<AnswerResult> {
-    match word.chars().next()? {
-        'c' => Some(AnswerResult::Conditional),
-        'r' => Some(AnswerResult::Retry),
-        'u' => Some(AnswerResult::Unfilled),
-        'l' => Some(AnswerResult::LocationsProvided),
-        'w' => Some(AnswerResult::WillSupply),
-        'h' => Some(AnswerResult::HoldPlaced),
-        'e' => Some(AnswerResult::Estimate),
-        _ => None,
-    }
+fn deed(alloc: Global, today: Option<Day>, word: &str) -> Option<Event> {
+    let deed = match body_of(alloc, word)? {
+        Body::IllAnswer { result } => Deed::Answer(result),
+        Body::CancelReply { yes, .. } => Deed::CancelReply { yes },
+        Body::Shipped { due } => Deed::Ship { due },
+        Body::RenewAnswer { granted, .. } => Deed::RenewAnswer { granted },
+        Body::Overdue { .. } => Deed::Overdue,
+        Body::Recall => Deed::Recall,
+        Body::CheckedIn => Deed::CheckIn,
+        Body::Expired => Deed::Expire,
+        _ => return None,
+    };
+    Some(Event::Deed(deed, today?))
 }

@@ -25,12 +25,12 @@ pub fn message(alloc: Global, word: &str, place: Option<Number>) -> Option<Apdu>
     let (group, transaction) = id.split_once('/')?;
     let number = number(digits).or(place)?;
     let txn = TxnId::new(alloc, group.as_bytes(), transaction.as_bytes()).ok()?;
-    let body = body(alloc, word)?;
+    let body = body_of(alloc, word)?;
     Some(Apdu { txn, number, body })
 }
 
 /// What a message says: a letter, the number that it answers, and a date behind a hyphen.
-fn body(alloc: Global, word: &str) -> Option<Body> {
+pub fn body_of(alloc: Global, word: &str) -> Option<Body> {
     let (word, date) = word.split_once('-').unwrap_or((word, ""));
     let mut letters = word.chars();
     let letter = letters.next()?;

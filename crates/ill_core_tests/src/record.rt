@@ -2,188 +2,79 @@
 
 use crate::messages::{day, message, next_number, number};
 use crate::states::{Role, state_of};
-use ill_core::State;
-use ill_values::{Apdu, Body, Day, Number};
+use ill_core::{Requester, Responder, State};
+use ill_values::{Apdu, Body, Day, Number, TxnId};
 use std::alloc::Global;
 
-/// A record of either role: its parts, and what its readers are to make of them.
-pub struct Record {
+/// What the readers of a side say of its parts, but for the transaction, the request and the messages.
+/// What a role lacks is none or false.
+#[derive(Clone, Copy, PartialEq, Eq)]
+pub struct Readings {
     pub state: State,
     pub held: Option<Number>,
+    pub outstanding: Option<Number>,
     pub accepted: Option<Number>,
     pub last_cancel: Option<Number>,
     pub last_renew: Option<Number>,
     pub due: Option<Day>,
-    /// The mark of the check-in at a requester, and of the receipt at a responder.
-    pub is_marked: bool,
-    pub has_received: bool,
-    pub has_declined: bool,
-    pub request: Option<Apdu>,
+    pub is_received: bool,
+    pub is_declined: bool,
+    pub is_checked_in: bool,
+}
+
+/// A record of either role: its parts, and what its readers are to make of them. Where memory is wanting,
+/// it lacks a message.
+pub struct Record {
+    pub readings: Readings,
+    /// The request that was taken, if one was.
+    pub request: Vec<Apdu>,
     pub messages: Vec<Apdu>,
-    /// The letters of the messages that it is not to have once more.
-    letters: String,
+    /// Whether all its words could be read.
+    pub is_readable: bool,
+    /// The words of the messages that it has.
+    words: String,
     /// The messages that it cannot be without, and that which has to be the last.
     wanted: &'static [&'static str],
     last: &'static str,
 }
 
+/// Written out, so that whoever owns a record calls it.
 impl Drop for Record {
     fn drop(self) {
         let Record {
-            state: _,
-            held: _,
-            accepted: _,
-            last_cancel: _,
-            last_renew: _,
-            due: _,
-            is_marked: _,
-            has_received: _,
-            has_declined: _,
+            readings: _,
             request: _request,
             messages: _messages,
-            letters: _letters,
+            is_readable: _,
+            words: _words,
             wanted: _,
             last: _,
         } = self;
     }
 }
 
-impl Record {
-    /// A record with nothing in it.
-    pub fn empty(alloc: Global, state: State) -> Record {
-        Record {
+impl Readings {
+    pub fn none(state: State) -> Readings {
+        Readings {
             state,
             held: None,
+            outstanding: None,
             accepted: None,
             last_cancel: None,
             last_renew: None,
             due: None,
-            is_marked: false,
-            has_received: false,
-            has_declined: false,
-            request: None,
-            messages: Vec::new(alloc),
-            letters: String::new(alloc),
-            wanted: &[],
-            last: "",
+            is_received: false,
+            is_declined: false,
+            is_checked_in: false,
         }
     }
 
-    /// The record in a state that has this past, and else the least that the state wants.
-    pub fn of(alloc: Global, role: Role, state: State, past: &str) -> Option<Record> {
-        let mut record = Record::empty(alloc, state);
-        record.begin(alloc, role, past)?;
-        Some(record)
-    }
-
-    /// Begins with a past, and else with the least that its state wants.
-    fn begin(&mut self, alloc: Global, role: Role, past: &str) -> Option<()> {
-        match role {
-            Role::Requester => self.want_as_requester(alloc, past)?,
-            Role::Responder => self.want_as_responder(alloc)?,
-        }
-        self.add(alloc, past)?;
-        self.push_wanted(alloc)?;
-        self.push(alloc, self.last)
-    }
-
-    /// Wants what a requester in its state cannot be without.
-    fn want_as_requester(&mut self, alloc: Global, past: &str) -> Option<()> {
-        self.wanted = match self.state {
-            State::CancelPending | State::Cancelled => &["c"],
-            State::Received | State::Overdue => &["r"],
-            State::RenewPending | State::RenewOverdue => &["r", "w"],
-            State::Returned => &["r", "b"],
-            _ => &[],
-        };
-        match self.state {
-            State::Idle => return Some(()),
-            State::Conditional => self.held = Number::new(4),
-            state => if is_shipped(state) {
-                self.due = day("20250315")
-            },
-        }
-        if past.starts_with("only") || past == "without=q" {
-            return Some(());
-        }
-        self.push(alloc, "q")
-    }
-
-    /// Wants what a responder in its state cannot be without.
-    fn want_as_responder(&mut self, alloc: Global) -> Option<()> {
-        match self.state {
-            State::Idle => return Some(()),
-            State::Conditional => self.last = "1",
-            State::CancelPending | State::Cancelled => self.last_cancel = Number::new(2),
-            State::RenewPending | State::RenewOverdue => self.last_renew = Number::new(3),
-            _ => {}
-        }
-        self.wanted = match self.state {
-            State::CheckedIn => &["s", "k"],
-            state => if is_shipped(state) { &["s"] } else { &[] },
-        };
-        self.request = Some(message(alloc, "1:q", None)?);
-        Some(())
-    }
-
-    /// Adds what these words stand for.
-    pub fn add(&mut self, alloc: Global, words: &str) -> Option<()> {
-        for word in words.split_whitespace() {
-            match word.split_once('=') {
-                Some((name, value)) => self.set(alloc, name, value)?,
-                None => self.push(alloc, word)?,
-            }
-        }
-        Some(())
-    }
-
-    /// Sets the part whose name begins with this letter: no two begin with the same.
-    fn set(&mut self, alloc: Global, name: &str, value: &str) -> Option<()> {
-        match name.chars().next()? {
-            'h' => self.held = number(value),
-            'a' => self.accepted = number(value),
-            'c' => self.last_cancel = number(value),
-            'r' => self.last_renew = number(value),
-            'd' => self.due = day(value),
-            'm' => self.is_marked = value == "yes",
-            't' => self.request = message(alloc, value, None),
-            's' => self.state = state_of(value)?,
-            'w' => self.letters.push_str(value).ok()?,
-            'u' => self.fill(alloc, value)?,
-            _ => return None,
-        }
-        Some(())
-    }
-
-    /// Issues a message, or does what another word says.
-    fn push(&mut self, alloc: Global, word: &str) -> Option<()> {
-        let Some(apdu) = message(alloc, word, next_number(self.messages.len())) else {
-            return self.obey(word);
-        };
-        self.letters.push_str(word).ok()?;
-        self.follow(&apdu.body);
-        self.messages.push(apdu).ok()
-    }
-
-    /// Wants nothing behind the word `only`.
-    fn obey(&mut self, word: &str) -> Option<()> {
-        match word {
-            "" | "new" => Some(()),
-            "only" => {
-                self.wanted = &[];
-                self.last = "";
-                Some(())
-            }
-            _ => None,
-        }
-    }
-
-    /// Follows what is issued.
+    /// Follows a message that is issued.
     fn follow(&mut self, body: &Body) {
         match body {
             Body::ConditionalReply { answers, yes: true } => self.accepted = Some(*answers),
-            Body::ConditionalReply { yes: false, .. } => self.has_declined = true,
-            Body::Received => self.has_received = true,
+            Body::ConditionalReply { yes: false, .. } => self.is_declined = true,
+            Body::Received => self.is_received = true,
             Body::Shipped { due } => self.due = Some(*due),
             Body::RenewAnswer {
                 granted: Some(due),
@@ -192,28 +83,217 @@ impl Record {
             _ => {}
         }
     }
+}
+
+impl Record {
+    /// The record in a state that has this past, and else the least that the state wants.
+    pub fn of(alloc: Global, role: Role, state: State, past: &str) -> Record {
+        let mut record = Record::empty(alloc, state);
+        match role {
+            Role::Requester => record.want_as_requester(alloc, past),
+            Role::Responder => record.want_as_responder(alloc),
+        }
+        record.add(alloc, past);
+        record.push_wanted(alloc);
+        let last = record.last;
+        record.push(alloc, last);
+        record
+    }
+
+    /// A record with nothing in it.
+    pub fn empty(alloc: Global, state: State) -> Record {
+        Record {
+            readings: Readings::none(state),
+            request: Vec::new(alloc),
+            messages: Vec::new(alloc),
+            is_readable: true,
+            words: String::new(alloc),
+            wanted: &[],
+            last: "",
+        }
+    }
+
+    /// The requester of these parts, where there is one.
+    pub fn into_requester(self, txn: TxnId) -> Option<Requester> {
+        let Record {
+            readings,
+            request: _request,
+            messages,
+            is_readable: _,
+            words: _words,
+            wanted: _,
+            last: _,
+        } = self;
+        let (state, is_checked_in) = (readings.state, readings.is_checked_in);
+        Requester::of_parts(
+            txn,
+            state,
+            readings.held,
+            is_checked_in,
+            readings.due,
+            messages,
+        )
+    }
+
+    /// The responder of these parts, where there is one.
+    pub fn into_responder(self, txn: TxnId) -> Option<Responder> {
+        let Record {
+            readings,
+            mut request,
+            messages,
+            is_readable: _,
+            words: _words,
+            wanted: _,
+            last: _,
+        } = self;
+        Responder::of_parts(
+            txn,
+            readings.state,
+            readings.accepted,
+            readings.last_cancel,
+            readings.last_renew,
+            readings.is_received,
+            request.pop(),
+            messages,
+        )
+    }
+
+    /// What the readers are to say. Conditions that wait for an answer are the last message, and those
+    /// that were declined stand in CONDITIONAL alone.
+    pub fn expected(&self, role: Role) -> Readings {
+        let mut readings = self.readings;
+        match (role, readings.state) {
+            (Role::Requester, State::Conditional) => {}
+            (Role::Responder, State::Conditional) => {
+                readings.outstanding = next_number(self.messages.len().saturating_sub(1));
+            }
+            _ => readings.is_declined = false,
+        }
+        readings
+    }
+
+    /// Wants what a requester in its state cannot be without.
+    fn want_as_requester(&mut self, alloc: Global, past: &str) {
+        self.wanted = match self.readings.state {
+            State::CancelPending | State::Cancelled => &["c"],
+            State::Received | State::Overdue => &["r"],
+            State::RenewPending | State::RenewOverdue => &["r", "w"],
+            State::Returned => &["r", "b"],
+            _ => &[],
+        };
+        match self.readings.state {
+            State::Idle => return,
+            State::Conditional => self.readings.held = Number::new(4),
+            state => if is_shipped(state) {
+                self.readings.due = day("20250315")
+            },
+        }
+        if !past.starts_with("only") && past != "without=q" {
+            self.push(alloc, "q");
+        }
+    }
+
+    /// Wants what a responder in its state cannot be without.
+    fn want_as_responder(&mut self, alloc: Global) {
+        match self.readings.state {
+            State::Idle => return,
+            State::Conditional => self.last = "1",
+            State::CancelPending | State::Cancelled => self.readings.last_cancel = Number::new(2),
+            State::RenewPending | State::RenewOverdue => self.readings.last_renew = Number::new(3),
+            State::CheckedIn => self.wanted = &["s", "k"],
+            _ => {}
+        }
+        if is_shipped(self.readings.state) {
+            self.wanted = &["s"];
+        }
+        self.set_request(alloc, "1:q");
+    }
+
+    /// Adds what these words stand for.
+    pub fn add(&mut self, alloc: Global, words: &str) {
+        for word in words.split_whitespace() {
+            match word.split_once('=') {
+                Some((name, value)) => self.set(alloc, name, value),
+                None => self.push(alloc, word),
+            }
+        }
+    }
+
+    /// Sets the part whose name begins with this letter: no two begin with the same.
+    fn set(&mut self, alloc: Global, name: &str, value: &str) {
+        let readings = &mut self.readings;
+        match name.as_bytes().first() {
+            Some(b'h') => readings.held = number(value),
+            Some(b'a') => readings.accepted = number(value),
+            Some(b'c') => readings.last_cancel = number(value),
+            Some(b'r') => readings.last_renew = number(value),
+            Some(b'd') => readings.due = day(value),
+            Some(b'b') => readings.is_checked_in = value == "yes",
+            Some(b'm') => readings.is_received = value == "yes",
+            Some(b's') => readings.state = state_of(value),
+            Some(b't') => self.set_request(alloc, value),
+            Some(b'u') => self.fill(alloc, value),
+            Some(b'w') => self.leave_out(value),
+            _ => self.is_readable = false,
+        }
+    }
+
+    fn set_request(&mut self, alloc: Global, word: &str) {
+        self.request.clear();
+        if let Some(apdu) = message(alloc, word, None) {
+            let _ = self.request.push(apdu);
+        }
+    }
+
+    /// Issues a message, or does what another word says.
+    fn push(&mut self, alloc: Global, word: &str) {
+        match message(alloc, word, next_number(self.messages.len())) {
+            Some(apdu) => {
+                self.readings.follow(&apdu.body);
+                self.leave_out(word);
+                let _ = self.messages.push(apdu);
+            }
+            None => self.obey(word),
+        }
+    }
+
+    /// Has no wanted message of this letter any more.
+    fn leave_out(&mut self, word: &str) {
+        let _ = self.words.push_str(word);
+    }
+
+    /// Wants nothing behind the word `only`.
+    fn obey(&mut self, word: &str) {
+        match word {
+            "" | "new" => {}
+            "only" => {
+                self.wanted = &[];
+                self.last = "";
+            }
+            _ => self.is_readable = false,
+        }
+    }
 
     /// Issues the wanted messages whose letters it has not.
-    fn push_wanted(&mut self, alloc: Global) -> Option<()> {
+    fn push_wanted(&mut self, alloc: Global) {
         let wanted = self.wanted;
         self.wanted = &[];
         for letter in wanted {
-            if !self.letters.contains(*letter) {
-                self.push(alloc, letter)?;
+            if !self.words.contains(*letter) {
+                self.push(alloc, letter);
             }
         }
-        Some(())
     }
 
     /// Issues a message, as `255,y2`, until there are so many with those that are wanted.
-    fn fill(&mut self, alloc: Global, value: &str) -> Option<()> {
-        let (count, word) = value.split_once(',')?;
-        let count = usize::from(number(count)?.get()).saturating_sub(self.last.len());
-        self.push_wanted(alloc)?;
-        for _ in self.messages.len()..count {
-            self.push(alloc, word)?;
+    fn fill(&mut self, alloc: Global, value: &str) {
+        let (count, word) = value.split_once(',').unwrap_or((value, ""));
+        let count: u8 = count.parse().unwrap_or(0);
+        self.push_wanted(alloc);
+        let present = self.messages.len().saturating_add(self.last.len());
+        for _ in present..usize::from(count) {
+            self.push(alloc, word);
         }
-        Some(())
     }
 }
 

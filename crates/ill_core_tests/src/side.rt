@@ -1,8 +1,7 @@
 //! Sides of either role.
 
 use crate::events::Event;
-use crate::messages::next_number;
-use crate::record::Record;
+use crate::record::{Readings, Record};
 use crate::states::Role;
 use ill_core::{Refusal, Requester, Responder, State, Taking};
 use ill_values::{Apdu, Number, TxnId};
@@ -13,6 +12,7 @@ pub enum Side {
     Responder(Responder),
 }
 
+/// Written out, so that whoever owns a side calls it.
 impl Drop for Side {
     fn drop(self) {
         match self {
@@ -23,20 +23,20 @@ impl Drop for Side {
 }
 
 impl Side {
-    /// The side before its first message.
-    pub fn idle(alloc: Global, role: Role) -> Option<Side> {
+    /// The side in a state that has this past, where there is one. A new one is as it begins.
+    pub fn of(alloc: Global, role: Role, state: State, past: &str) -> Option<Side> {
         let txn = TxnId::new(alloc, b"G1", b"T1").ok()?;
-        Some(match role {
-            Role::Requester => Side::Requester(Requester::idle(alloc, txn)),
-            Role::Responder => Side::Responder(Responder::idle(alloc, txn)),
-        })
-    }
-
-    /// The side of these parts, where there is one.
-    pub fn of(alloc: Global, role: Role, parts: &Record) -> Option<Side> {
-        match role {
-            Role::Requester => Some(Side::Requester(requester_of(alloc, parts)?)),
-            Role::Responder => Some(Side::Responder(responder_of(alloc, parts)?)),
+        match (role, past) {
+            (Role::Requester, "new") => Some(Side::Requester(Requester::idle(alloc, txn))),
+            (Role::Responder, "new") => Some(Side::Responder(Responder::idle(alloc, txn))),
+            (Role::Requester, _) => {
+                let parts = Record::of(alloc, role, state, past);
+                Some(Side::Requester(parts.into_requester(txn)?))
+            }
+            (Role::Responder, _) => {
+                let parts = Record::of(alloc, role, state, past);
+                Some(Side::Responder(parts.into_responder(txn)?))
+            }
         }
     }
 
@@ -49,29 +49,39 @@ impl Side {
 
     /// Lets something happen to it, and gives the letter of the answer. What is done is `T`, as what is
     /// taken.
-    pub fn answer(&mut self, alloc: Global, event: &Event) -> Option<&'static str> {
+    pub fn answer(&mut self, alloc: Global, event: &Event) -> &'static str {
         let state = self.state();
         match (self, event) {
-            (_, Event::Reading) => Some("y"),
-            (Side::Requester(side), Event::Wish(wish)) => Some(done(side.act(alloc, wish), state)),
-            (Side::Requester(side), Event::Delivery(apdu)) => Some(taken(side.take(apdu), state)),
+            (_, Event::Reading) => "y",
+            (Side::Requester(side), Event::Wish(wish)) => done(side.act(alloc, wish), state),
+            (Side::Requester(side), Event::Delivery(apdu)) => taken(side.take(apdu), state),
             (Side::Responder(side), Event::Deed(deed, today)) => {
-                Some(done(side.act(alloc, deed, *today), state))
+                done(side.act(alloc, deed, *today), state)
             }
-            (Side::Responder(side), Event::Delivery(apdu)) => {
-                Some(taken(side.take(alloc, apdu), state))
-            }
-            _ => None,
+            (Side::Responder(side), Event::Delivery(apdu)) => taken(side.take(alloc, apdu), state),
+            _ => "NO CASE",
+        }
+    }
+
+    /// Lets a message come again.
+    pub fn answer_again(&mut self, alloc: Global, event: &Event) -> &'static str {
+        match event {
+            Event::Delivery(_) => self.answer(alloc, event),
+            _ => "",
         }
     }
 
     /// Whether each of its readers says what this record has.
     pub fn shows(&self, record: &Record) -> bool {
         let shows_parts = match self {
-            Side::Requester(side) => requester_shows(side, record),
-            Side::Responder(side) => responder_shows(side, record),
+            Side::Requester(side) => requester_readings(side) == record.expected(Role::Requester),
+            Side::Responder(side) => responder_readings(side) == record.expected(Role::Responder),
         };
-        shows_parts && self.has_issued(&record.messages)
+        shows_parts
+            && record.is_readable
+            && self.request() == record.request.first()
+            && is_own(self.txn())
+            && self.has_issued(&record.messages)
     }
 
     /// Whether it has issued exactly these messages.
@@ -81,7 +91,7 @@ impl Side {
                 return false;
             }
         }
-        true
+        usize::from(self.issued_count()) == messages.len()
     }
 
     fn issued(&self, value: u8) -> Option<&Apdu> {
@@ -91,80 +101,55 @@ impl Side {
             Side::Responder(side) => side.issued(number),
         }
     }
-}
 
-fn requester_of(alloc: Global, parts: &Record) -> Option<Requester> {
-    let txn = TxnId::new(alloc, b"G1", b"T1").ok()?;
-    let messages = copies(alloc, &parts.messages)?;
-    let (held, is_checked_in) = (parts.held, parts.is_marked);
-    Requester::of_parts(txn, parts.state, held, is_checked_in, parts.due, messages)
-}
-
-fn responder_of(alloc: Global, parts: &Record) -> Option<Responder> {
-    let txn = TxnId::new(alloc, b"G1", b"T1").ok()?;
-    let request = match &parts.request {
-        Some(request) => Some(request.copy(alloc).ok()?),
-        None => None,
-    };
-    let messages = copies(alloc, &parts.messages)?;
-    Responder::of_parts(
-        txn,
-        parts.state,
-        parts.accepted,
-        parts.last_cancel,
-        parts.last_renew,
-        parts.is_marked,
-        request,
-        messages,
-    )
-}
-
-fn copies(alloc: Global, messages: &[Apdu]) -> Option<Vec<Apdu>> {
-    let mut copies = Vec::new(alloc);
-    for apdu in messages {
-        copies.push(apdu.copy(alloc).ok()?).ok()?;
+    fn issued_count(&self) -> u8 {
+        match self {
+            Side::Requester(side) => side.issued_count(),
+            Side::Responder(side) => side.issued_count(),
+        }
     }
-    Some(copies)
+
+    fn txn(&self) -> &TxnId {
+        match self {
+            Side::Requester(side) => side.txn(),
+            Side::Responder(side) => side.txn(),
+        }
+    }
+
+    fn request(&self) -> Option<&Apdu> {
+        match self {
+            Side::Requester(_) => None,
+            Side::Responder(side) => side.request(),
+        }
+    }
 }
 
-/// Whether the readers of a requester say what this record has, but for its messages.
-fn requester_shows(side: &Requester, record: &Record) -> bool {
-    let is_declined = record.has_declined && record.state == State::Conditional;
-    is_own(side.txn())
-        && side.state() == record.state
-        && side.held() == record.held
-        && side.due() == record.due
-        && side.accepted() == record.accepted
-        && side.is_received() == record.has_received
-        && side.is_checked_in() == record.is_marked
-        && side.is_declined() == is_declined
-        && usize::from(side.issued_count()) == record.messages.len()
+fn requester_readings(side: &Requester) -> Readings {
+    Readings {
+        held: side.held(),
+        accepted: side.accepted(),
+        due: side.due(),
+        is_received: side.is_received(),
+        is_declined: side.is_declined(),
+        is_checked_in: side.is_checked_in(),
+        ..Readings::none(side.state())
+    }
 }
 
-/// Whether the readers of a responder say what this record has, but for its messages.
-fn responder_shows(side: &Responder, record: &Record) -> bool {
-    is_own(side.txn())
-        && side.state() == record.state
-        && side.accepted() == record.accepted
-        && side.last_cancel() == record.last_cancel
-        && side.last_renew() == record.last_renew
-        && side.is_received() == record.is_marked
-        && side.due() == record.due
-        && side.outstanding() == outstanding(record)
-        && side.request() == record.request.as_ref()
-        && usize::from(side.issued_count()) == record.messages.len()
+fn responder_readings(side: &Responder) -> Readings {
+    Readings {
+        outstanding: side.outstanding(),
+        accepted: side.accepted(),
+        last_cancel: side.last_cancel(),
+        last_renew: side.last_renew(),
+        due: side.due(),
+        is_received: side.is_received(),
+        ..Readings::none(side.state())
+    }
 }
 
 fn is_own(txn: &TxnId) -> bool {
     txn.group() == b"G1".as_slice() && txn.transaction() == b"T1".as_slice()
-}
-
-/// The number of the conditions that wait for an answer: they are the last message.
-fn outstanding(record: &Record) -> Option<Number> {
-    match record.state {
-        State::Conditional => next_number(record.messages.len().saturating_sub(1)),
-        _ => None,
-    }
 }
 
 /// The letter of what an action is answered in this state.

@@ -48,19 +48,19 @@ pub fn letters_of(state: State) -> &'static str {
     }
 }
 
-pub fn state_of(letters: &str) -> Option<State> {
+/// The state of these letters, or IDLE for any others.
+pub fn state_of(letters: &str) -> State {
     for state in &STATES {
         if letters_of(*state) == letters {
-            return Some(*state);
+            return *state;
         }
     }
-    None
+    State::Idle
 }
 
-pub fn role_of(word: &str) -> Option<Role> {
+pub fn role_of(word: &str) -> Role {
     match word {
-        "requester" => Some(Role::Requester),
-        "responder" => Some(Role::Responder),
-        _ => None,
+        "responder" => Role::Responder,
+        _ => Role::Requester,
     }
 }

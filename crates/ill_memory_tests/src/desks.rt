@@ -126,7 +126,7 @@ fn case_of<'a>(
     })
 }
 
-/// The outcome of a call. After want of memory the desk keeps what it had.
+/// The outcome of a call.
 fn performed(
     alloc: Global,
     desk: &mut Desk1<MemoryStore>,
@@ -136,18 +136,34 @@ fn performed(
     begin(alloc)?;
     let answer = answer_of(alloc, desk, case.call);
     let refused = end(alloc);
-    let is_live = spells(alloc, desk.side(), had.live)?;
+    let outcome = outcome_of(alloc, desk, answer, case, had)?;
+    Some(judged(outcome, refused))
+}
+
+/// The outcome of a call with this answer. After want of memory the desk keeps what it had.
+fn outcome_of(
+    alloc: Global,
+    desk: &mut Desk1<MemoryStore>,
+    answer: Result<bool, DeskFault>,
+    case: Case<'_>,
+    had: Keeping<'_>,
+) -> Option<Outcome> {
     let is_released = desk.released() == had.released;
+    if answer == Err(DeskFault::OutOfMemory) {
+        let is_live = spells(alloc, desk.side(), had.live)?;
+        let is_landed = has_landed(alloc, desk, had.landed)?;
+        return Some(leaving(Outcome::Memory, is_live && is_released && is_landed));
+    }
+    let is_right = is_expected(answer, case.fault, is_released);
+    let is_landed = has_landed(alloc, desk, case.landed)?;
+    Some(done_if(is_right && is_landed))
+}
+
+/// Whether this record has landed. The desk goes back to it.
+fn has_landed(alloc: Global, desk: &mut Desk1<MemoryStore>, record: &[u8]) -> Option<bool> {
     desk.set_next(NextCall::Works);
     desk.restart(alloc).ok()?;
-    let outcome = if answer == Err(DeskFault::OutOfMemory) {
-        let is_landed = spells(alloc, desk.side(), had.landed)?;
-        leaving(Outcome::Memory, is_live && is_released && is_landed)
-    } else {
-        let is_landed = spells(alloc, desk.side(), case.landed)?;
-        done_if(is_landed && is_expected(answer, case.fault, is_released))
-    };
-    Some(judged(outcome, refused))
+    spells(alloc, desk.side(), record)
 }
 
 /// Whether the answer is right, or this fault, after which the released messages are those from before.

@@ -64,16 +64,37 @@ fn case(
     if refused {
         return Some(Outcome::Swallowed);
     }
+    called(alloc, &mut side, words)
+}
+
+/// The outcome of the call of these words.
+fn called(alloc: Global, side: &mut Side, words: &mut Words<'_>) -> Option<Outcome> {
     match words.word()? {
-        "shows" => shows(alloc, &side),
-        "takes" => takes(alloc, &mut side, &apdu(alloc, words)?),
-        "wishes" => acts(alloc, &mut side, &wish(alloc, words.word()?)?),
-        "does" => acts(alloc, &mut side, &deed(words.day()?, words.word()?)?),
+        "shows" => shows(alloc, side),
+        "takes" => takes(alloc, side, words),
+        "wishes" => wishes(alloc, side, words),
+        "does" => does(alloc, side, words),
         _ => None,
     }
 }
 
-fn takes(alloc: Global, side: &mut Side, apdu: &Apdu) -> Option<Outcome> {
+fn takes(alloc: Global, side: &mut Side, words: &mut Words<'_>) -> Option<Outcome> {
+    let apdu = apdu(alloc, words)?;
+    taken(alloc, side, &apdu)
+}
+
+fn wishes(alloc: Global, side: &mut Side, words: &mut Words<'_>) -> Option<Outcome> {
+    let action = wish(alloc, words.word()?)?;
+    acted(alloc, side, &action)
+}
+
+fn does(alloc: Global, side: &mut Side, words: &mut Words<'_>) -> Option<Outcome> {
+    let today = words.day()?;
+    let action = deed(today, words.word()?)?;
+    acted(alloc, side, &action)
+}
+
+fn taken(alloc: Global, side: &mut Side, apdu: &Apdu) -> Option<Outcome> {
     let before = encode_record(alloc, side).ok()?;
     begin(alloc)?;
     let answer = match side {
@@ -90,7 +111,7 @@ fn takes(alloc: Global, side: &mut Side, apdu: &Apdu) -> Option<Outcome> {
     })
 }
 
-fn acts(alloc: Global, side: &mut Side, action: &Action) -> Option<Outcome> {
+fn acted(alloc: Global, side: &mut Side, action: &Action) -> Option<Outcome> {
     let before = encode_record(alloc, side).ok()?;
     begin(alloc)?;
     let answer = match (&mut *side, action) {

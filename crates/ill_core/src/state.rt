@@ -6,25 +6,41 @@ ghost use Rattle.ill_core.specs.State.{state_name};
 
 use std::fmt;
 
-/// The state of one side of a transaction. It prints its name.
+/// The state of one side of a transaction. It is displayed by its name, as `NOT-SUPPLIED`.
 #[derive(Clone, Copy, Debug, PartialEq, Eq, Hash)]
 pub enum State {
-    /// Before the first APDU.
+    /// No message was issued or taken yet.
     Idle,
+    /// The requester has asked for the item and waits for the responder. Only a requester has this state.
     Pending,
+    /// The responder has the request and works on it. Only a responder has this state.
     InProcess,
+    /// The responder's conditions stand: they are not accepted, or they were declined and the responder
+    /// has not ended the request yet.
     Conditional,
+    /// A Cancel waits for its Cancel-Reply.
     CancelPending,
+    /// The request was cancelled. This state is final.
     Cancelled,
+    /// The request has ended without the item. This state is final.
     NotSupplied,
+    /// The responder has sent the item; to the requester's record it has not arrived yet.
     Shipped,
+    /// The requester has the item. Only a requester has this state.
     Received,
+    /// A Renew waits for its Renew-Answer.
     RenewPending,
+    /// The due date has passed, and the responder has told so.
     Overdue,
+    /// The due date has passed while a Renew waits for its Renew-Answer.
     RenewOverdue,
+    /// The due date has passed before the item arrived. Only a requester has this state.
     NotReceivedOverdue,
+    /// The responder has asked for the item back.
     Recall,
+    /// The requester has sent the item back. For a requester this state is final.
     Returned,
+    /// The item is back at the responder. Only a responder has this state, and it is final.
     CheckedIn,
 }
 

@@ -13,10 +13,10 @@ use crate::tags;
 use ill_values::{Apdu, Body, Day, Item, Number, TxnId};
 use std::alloc::Global;
 
-/// The most contents octets of an APDU.
+/// The largest number of contents octets of an APDU.
 pub const MOST_CONTENTS: u16 = 355;
 
-/// An APDU that is all there: its type, its contents, and the number of its bytes.
+/// A complete APDU: its type, its contents, and its size in bytes.
 #[derive(Drop)]
 struct Outer<'a> {
     kind: Kind,
@@ -24,9 +24,10 @@ struct Outer<'a> {
     size: usize,
 }
 
-/// The APDU at the front of the bytes and the number of its bytes, whatever follows it.
+/// Decodes the APDU at the front of the bytes, and gives its size in bytes; what follows is not read.
 ///
-/// Every check is made before memory is taken.
+/// The fault is the first in the bytes. All checks come before memory is taken, so that
+/// `OutOfMemory` means that the bytes begin with an APDU.
 #[tactic(auto, unfolding(crate::specs::ShortForm::apdu_at))]
 pub fn decode(alloc: Global, bytes: &[u8]) -> Result<(Apdu, usize), DerFault>
     ensures read { Decodes bytes.now (apdu_at bytes.now) result }
@@ -37,7 +38,7 @@ pub fn decode(alloc: Global, bytes: &[u8]) -> Result<(Apdu, usize), DerFault>
     Ok((apdu, outer.size))
 }
 
-/// The identifier, the length and all of the contents.
+/// Splits off the identifier and the length, and checks that all of the contents are there.
 #[tactic(auto, unfolding(crate::specs::ShortForm::outer_at))]
 fn whole(bytes: &[u8]) -> Result<Outer<'_>, DerFault>
     ensures read { Finds outer_view result (outer_at bytes.now) }
@@ -53,7 +54,7 @@ fn whole(bytes: &[u8]) -> Result<Outer<'_>, DerFault>
     }
 }
 
-/// The length and all of the contents of an APDU of this type, behind its identifier.
+/// The same, of the bytes behind the identifier of an APDU of this type.
 fn contents(kind: Kind, bytes: &[u8]) -> Result<Outer<'_>, DerFault>
     ensures read { Finds outer_view result (outer_by kind (length_of bytes.now) bytes.now) }
     ensures size { IfOk result (λ outer. outer.size ≤ length bytes.now + 1) }
@@ -80,7 +81,7 @@ fn contents(kind: Kind, bytes: &[u8]) -> Result<Outer<'_>, DerFault>
     }
 }
 
-/// The APDU of this type that all of its contents spell.
+/// Decodes the contents of an APDU of this type, to their end.
 #[tactic(auto, unfolding(crate::specs::ShortForm::inside_of))]
 fn apdu_inside(alloc: Global, kind: Kind, inside: &mut Cursor<'_>) -> Result<Apdu, DerFault>
     ensures { Gives (inside_of kind inside.old) result }
@@ -96,7 +97,7 @@ fn apdu_inside(alloc: Global, kind: Kind, inside: &mut Cursor<'_>) -> Result<Apd
     Ok(Apdu { txn, number, body })
 }
 
-/// The body of this type that all of what is left spells.
+/// Decodes the further fields of an APDU of this type, to the end of the contents.
 #[tactic(auto, unfolding(crate::specs::ShortForm::body_of))]
 fn body_inside(alloc: Global, kind: Kind, inside: &mut Cursor<'_>) -> Result<Body, DerFault>
     ensures { Gives (body_of kind inside.old) result }
@@ -109,7 +110,7 @@ fn body_inside(alloc: Global, kind: Kind, inside: &mut Cursor<'_>) -> Result<Bod
     Ok(body)
 }
 
-/// The ILL-Request that all of what is left spells.
+/// Decodes the further fields of an ILL-Request, to the end of the contents.
 #[tactic(auto, unfolding(crate::specs::ShortForm::body_of))]
 fn request_inside(alloc: Global, inside: &mut Cursor<'_>) -> Result<Body, DerFault>
     ensures { Gives (body_of Kind.IllRequest inside.old) result }
@@ -121,7 +122,7 @@ fn request_inside(alloc: Global, inside: &mut Cursor<'_>) -> Result<Body, DerFau
     Ok(Body::IllRequest { expiry, item })
 }
 
-/// The further fields of a type that has no text.
+/// Decodes the further fields of a type that has no text.
 fn body_without_text(kind: Kind, inside: &mut Cursor<'_>) -> Result<Body, DerFault>
     requires { kind ≢ Kind.IllRequest }
     ensures { Reads (λ body. body) result inside.new (read_body kind inside.old) }
@@ -162,7 +163,7 @@ fn body_without_text(kind: Kind, inside: &mut Cursor<'_>) -> Result<Body, DerFau
     }
 }
 
-/// The number of the message answered, and yes or no.
+/// Reads the number of the message answered, and yes or no.
 fn reply_inside(inside: &mut Cursor<'_>) -> Result<(Number, bool), DerFault>
     ensures { Reads (λ found. found) result inside.new (reply.read inside.old) }
 {
@@ -171,7 +172,7 @@ fn reply_inside(inside: &mut Cursor<'_>) -> Result<(Number, bool), DerFault>
     Ok((answers, yes))
 }
 
-/// The new due date where the answer is yes.
+/// Reads yes or no, and after a yes the new due date.
 fn granted_inside(inside: &mut Cursor<'_>) -> Result<Option<Day>, DerFault>
     ensures { Reads (λ found. found) result inside.new ((where_yes (required 0x84 yes_no) (required 0x85 date)).read inside.old) }
 {

@@ -14,7 +14,7 @@ use crate::tags;
 use ill_values::{AnswerResult, Apdu, Body, Day, Number, OutOfMemory, TxnId};
 use std::alloc::Global;
 
-/// The spelling of an APDU, in one growth.
+/// Encodes an APDU: its one spelling, at most 359 bytes. It takes memory once.
 pub fn encode(alloc: Global, apdu: &Apdu) -> Result<Vec<u8>, OutOfMemory>
     ensures spelled { IfOk result (λ bytes. bytes.items ≡ spelling apdu.now) }
     ensures most { IfOk result (λ bytes. length bytes.items ≤ 359) }
@@ -25,7 +25,7 @@ pub fn encode(alloc: Global, apdu: &Apdu) -> Result<Vec<u8>, OutOfMemory>
     Ok(bytes)
 }
 
-/// Adds the spelling of an APDU to the bytes. Without memory a front of it may be added.
+/// Adds the spelling of an APDU to the bytes. If memory runs out, a front of it may have been added.
 #[tactic(auto, unfolding(crate::specs::ShortForm::spelling, crate::specs::Format::element))]
 pub fn encode_onto(bytes: &mut Vec<u8>, apdu: &Apdu) -> Result<(), OutOfMemory>
     ensures spelled { OnOk result (bytes.new.items ≡ bytes.old.items ++ spelling apdu.now) }

@@ -6,22 +6,36 @@ ghost use Rattle.ill_der.specs.Types.{octet_of, kind_with, kind_of};
 
 use ill_values::Body;
 
-/// The fourteen types of APDU.
+/// The fourteen types of APDU, in the order of their tags.
 #[derive(Clone, Copy, Debug, PartialEq, Eq, Hash)]
 pub enum Kind {
+    /// ILL-Request.
     IllRequest,
+    /// Shipped.
     Shipped,
+    /// ILL-Answer.
     IllAnswer,
+    /// Conditional-Reply.
     ConditionalReply,
+    /// Cancel.
     Cancel,
+    /// Cancel-Reply.
     CancelReply,
+    /// Received.
     Received,
+    /// Recall.
     Recall,
+    /// Returned.
     Returned,
+    /// Checked-In.
     CheckedIn,
+    /// Overdue.
     Overdue,
+    /// Renew.
     Renew,
+    /// Renew-Answer.
     RenewAnswer,
+    /// Expired.
     Expired,
 }
 

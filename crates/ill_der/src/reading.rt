@@ -22,10 +22,10 @@ const MOST: usize = 359;
 /// A read for each byte, and one that finds the end.
 const READS: usize = MOST + 1;
 
-/// Reads one APDU, or `None` at the end.
+/// Reads one APDU, or gives `None` where the input has ended.
 ///
-/// It makes at most 360 reads, and takes no byte behind the APDU. Where the bytes fail it has taken the
-/// shortest front of them that shows the fault.
+/// It makes at most 360 reads, and takes no byte behind the APDU. If the bytes are no APDU, it has taken
+/// the shortest front of them that shows the fault. A later call begins a new APDU.
 pub fn read_apdu<R: Read>(alloc: Global, reader: &mut R) -> Result<Option<Apdu>, ReadFault>
     ensures { ReadsApdu (R.remaining reader.old) (R.remaining reader.new) result }
 {
@@ -83,8 +83,7 @@ fn read_counted<R: CountedRead, L: Ledger>(
     unreachable!()
 }
 
-/// How many bytes are surely missing of an APDU that begins with these: none where they are one, or
-/// have a fault.
+/// How many more bytes the APDU needs at least; 0 if it is complete or already invalid.
 #[tactic(auto, unfolding(crate::specs::Stream::missing_of))]
 fn missing(bytes: &[u8]) -> usize
     ensures { result ≡ missing_of bytes.now }

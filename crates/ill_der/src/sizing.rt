@@ -9,7 +9,7 @@ ghost use Rattle.ill_der.specs.ShortForm.{qualifiers, txn_id, head, head_of, spe
 
 use ill_values::{Apdu, Body, Day, Number, TxnId};
 
-/// How many bytes the spelling of an APDU has: at most 359.
+/// The size of an APDU's spelling: at most 359 bytes. It takes no memory.
 #[tactic(auto, using(crate::proofs::Sizes::element_length), unfolding(crate::specs::ShortForm::spelling))]
 pub fn size(apdu: &Apdu) -> usize
     ensures value { result ≡ length (spelling apdu.now) }
@@ -46,7 +46,7 @@ fn length_size(contents: usize) -> usize
     }
 }
 
-/// How many contents octets an APDU has: at most 355.
+/// The number of contents octets of an APDU: at most 355.
 pub fn contents_size(apdu: &Apdu) -> usize
     ensures value { result ≡ length (contents_of apdu.now) }
     ensures most { result ≤ 355 }

@@ -12,9 +12,9 @@ use ill_core::{Requester, Responder};
 use ill_values::{Apdu, TxnId};
 use std::alloc::Global;
 
-/// The side that the bytes spell, and nothing else.
+/// Decodes a saved record, which must take up all of the bytes, or gives their first fault.
 ///
-/// Memory is taken as reading goes on, from the qualifiers on.
+/// Memory is taken as decoding goes on, from the qualifiers on.
 #[tactic(auto, unfolding(crate::specs::Records::record_at, crate::specs::Records::begins_as_record))]
 pub fn decode_record(alloc: Global, bytes: &[u8]) -> Result<Side, RecordFault>
     ensures { Decodes (record_at bytes.now) (begins_as_record bytes.now) result }
@@ -40,7 +40,7 @@ fn is_responder(cursor: &mut Cursor<'_>) -> Result<bool, LayoutFault>
     cursor.mark()
 }
 
-/// The requester that all of what is left spells.
+/// Decodes the rest of a record of a requester, to its end.
 fn requester(alloc: Global, cursor: &mut Cursor<'_>) -> Result<Side, RecordFault>
     requires room { cursor.old.at ≤ 1000 }
     ensures { Decodes (all_of (read_requester cursor.old)) (is_ok ((front requester_states).read cursor.old)) result }
@@ -58,7 +58,7 @@ fn requester(alloc: Global, cursor: &mut Cursor<'_>) -> Result<Side, RecordFault
     }
 }
 
-/// The responder that all of what is left spells.
+/// Decodes the rest of a record of a responder, to its end.
 fn responder(alloc: Global, cursor: &mut Cursor<'_>) -> Result<Side, RecordFault>
     requires room { cursor.old.at ≤ 1000 }
     ensures { Decodes (all_of (read_responder cursor.old)) (is_ok ((front responder_states).read cursor.old)) result }
@@ -109,7 +109,7 @@ fn read_issued(alloc: Global, cursor: &mut Cursor<'_>) -> Result<Vec<Apdu>, Reco
     read_apdus(alloc, cursor, count)
 }
 
-/// Reads so many APDUs.
+/// Reads this number of APDUs.
 #[tactic(auto, using(crate::proofs::Lists::behind_none))]
 fn read_apdus(alloc: Global, cursor: &mut Cursor<'_>, count: u8) -> Result<Vec<Apdu>, RecordFault>
     requires room { cursor.old.at ≤ 10001 }

@@ -18,7 +18,7 @@ use ill_der::encode_onto;
 use ill_values::{Apdu, Day, Number, OutOfMemory, TxnId};
 use std::alloc::Global;
 
-/// The one spelling of a side as a record.
+/// Encodes a side as a saved record: its one spelling.
 #[tactic(auto, unfolding(crate::specs::Records::record_spelling))]
 pub fn encode_record(alloc: Global, side: &Side) -> Result<Vec<u8>, OutOfMemory>
     ensures bytes { IfOk result (λ bytes. bytes.items ≡ record_spelling side.now) }

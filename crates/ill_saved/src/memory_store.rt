@@ -9,7 +9,7 @@ use crate::store::{NextCall, Store, StoreFault};
 use std::alloc::Global;
 use std::marker::Model;
 
-/// A store in memory. It fails only where its next call is planned to.
+/// A store in memory, for tests. It fails only where its next call is planned to.
 #[derive(Debug, Drop)]
 pub struct MemoryStore {
     alloc: Global,
@@ -25,7 +25,7 @@ impl Model for MemoryStore {
 }
 
 impl MemoryStore {
-    /// A store in which nothing has landed.
+    /// A store in which nothing was saved, and whose next call works. It takes no memory.
     pub fn new(alloc: Global) -> MemoryStore
         ensures { result ≡ record { landed = None; failures = 0; next = plans.Works } }
     {
@@ -37,7 +37,7 @@ impl MemoryStore {
         }
     }
 
-    /// Plans the next call.
+    /// Plans the next call of `load` or `save`. The plan holds for that call alone.
     pub fn set_next(&mut self, next: NextCall)
         ensures { self.new ≡ record self.old { next = next } }
     {

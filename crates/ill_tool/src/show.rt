@@ -10,10 +10,11 @@ use ill_der::read_apdu;
 use std::alloc::Global;
 use std::io::{Read, Write};
 
-/// Writes the lines of each APDU of the input, to its end, and answers how many there were.
+/// Shows each APDU of the input, up to its end, and answers how many there were.
 ///
-/// With a fault of bytes, too many APDUs or a failing reader, the lines of the APDUs before it are
-/// written; without memory, those of a front of them; after a failing writer, a front of that text.
+/// If an APDU is faulty, there are too many, or the reader fails, the lines of the APDUs before are
+/// written. If memory runs out, those of some of the first APDUs are, and if the writer fails, a front
+/// of that text.
 pub fn run_show<R: Read, W: Write>(
     alloc: Global,
     reader: &mut R,

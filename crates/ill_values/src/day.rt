@@ -37,7 +37,9 @@ impl Model for Day {
 }
 
 impl Day {
-    /// The day, where the calendar has it and its year is 1900 to 9999.
+    /// The day with this year, month (1 to 12) and day of the month (1 to 31).
+    ///
+    /// A year other than 1900 to 9999 is `OutOfRange`, and a day that the calendar lacks `NotADate`.
     pub fn new(year: u16, month: u8, day: u8) -> Result<Day, DayFault>
         ensures { result ≡ date_of year month day }
     {
@@ -51,7 +53,7 @@ impl Day {
         }
     }
 
-    /// The day that eight digits spell, as `20250315`.
+    /// The day that eight ASCII digits spell, as `20250315`. Any other text is `NotDigits`.
     pub fn read(text: &[u8]) -> Result<Day, DayFault>
         ensures { result ≡ read_date text.now }
     {
@@ -62,7 +64,7 @@ impl Day {
         Day::new(year, two_digits(text, 4), two_digits(text, 6))
     }
 
-    /// The day as eight digits, as `20250315`.
+    /// The day as eight ASCII digits, as `20250315`.
     pub fn digits(&self) -> [u8; 8]
         ensures value { result ≡ date_text self.now }
         ensures date { IsDate self.now }
@@ -79,7 +81,7 @@ impl Day {
         ]
     }
 
-    /// The day so many days later, up to 31 December 9999.
+    /// The day that many days later. A day after 31 December 9999 is `OutOfRange`.
     pub fn after(&self, days: u32) -> Result<Day, DayFault>
         ensures value { result ≡ day_after days self.now }
         ensures date { IsDate self.now }

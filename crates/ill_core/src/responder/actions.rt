@@ -12,11 +12,12 @@ use crate::refusal::Refusal;
 use crate::state::State;
 use ill_values::{AnswerResult, Body, Day, Number};
 
-/// Where a deed leads.
+/// What a deed leads to.
 #[derive(Debug, Drop)]
 pub struct Row {
+    /// The state after the deed.
     pub next: State,
-    /// What is issued.
+    /// The message that is issued.
     pub body: Body,
 }
 

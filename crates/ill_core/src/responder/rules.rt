@@ -47,14 +47,20 @@ pub fn is_role(apdus: &[Apdu]) -> bool
     apdus.iter().all(|apdu| !is_requesters(&apdu.body))
 }
 
-/// Which parts are there.
+/// Which parts of a responder are there.
 #[derive(Clone, Copy, Debug, PartialEq, Eq, Hash)]
 pub struct Present {
+    /// The ILL-Request.
     pub request: bool,
+    /// The number of the conditions accepted last.
     pub accepted: bool,
+    /// The number of the last Cancel.
     pub last_cancel: bool,
+    /// The number of the last Renew.
     pub last_renew: bool,
+    /// Whether a Received was taken.
     pub received: bool,
+    /// Whether no message was issued.
     pub nothing_issued: bool,
 }
 

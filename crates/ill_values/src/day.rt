@@ -14,7 +14,7 @@ use std::marker::Model;
 
 /// The most days that a span of jiff holds. To refuse more loses no day of this profile: even from
 /// its first, 1 January 1900, so many days lead past its last, 31 December 9999.
-const MOST_DAYS: u32 = 7_304_484;
+const MAX_DAYS: u32 = 7_304_484;
 
 /// A day of the Gregorian calendar, from 1 January 1900 to 31 December 9999.
 ///
@@ -87,7 +87,7 @@ impl Day {
         ensures date { IsDate self.now }
     {
         let date = self.to_civil();
-        if days > MOST_DAYS {
+        if days > MAX_DAYS {
             return Err(DayFault::OutOfRange);
         }
         match date.checked_add(i64::from(days).days()) {

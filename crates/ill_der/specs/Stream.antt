@@ -10,9 +10,9 @@ use Rattle.ill_der.specs.declared.fault.WriteFault.{WriteFault}
 use Rattle.ill_der.specs.declared.fault.WriteFault.TheVariants as writing
 use Rattle.ill_values.specs.Apdu.{IsApdu}
 use Rattle.ill_der.specs.declared.length.LengthForm.{LengthForm}
-use Rattle.ill_der.specs.declared.length.LengthForm.TheVariants.{Cut, Wrong, Is}
+use Rattle.ill_der.specs.declared.length.LengthForm.TheVariants.{Truncated, Invalid, Definite}
 use Rattle.ill_der.specs.Format.{length_of}
-use Rattle.ill_der.specs.Types.{kind_with}
+use Rattle.ill_der.specs.Types.{type_with}
 use Rattle.ill_der.specs.ShortForm.{spelling, apdu_at}
 
 -- the bytes are less than an APDU, and more may complete them
@@ -59,14 +59,14 @@ IsJudged bytes (Err faults.OutOfMemory) = SpellsOne bytes
 
 -- how many bytes are surely missing behind an identifier, of a length and of so many bytes
 abbrev pub missing_by : LengthForm → ℕ → ℕ
-missing_by Cut size = 1
-missing_by Wrong size = 0
-missing_by (Is n octets) size = if nat_lt 355 n then 0 else octets + n - size
+missing_by Truncated size = 1
+missing_by Invalid size = 0
+missing_by (Definite n octets) size = if nat_lt 355 n then 0 else octets + n - size
 
 -- how many bytes are surely missing of an APDU that begins with these
 unfoldable pub missing_of : List ℕ → ℕ
 missing_of [] = 1
-missing_of (first ∷ bytes) = if is_some (kind_with first) then missing_by (length_of bytes) (length bytes) else 0
+missing_of (first ∷ bytes) = if is_some (type_with first) then missing_by (length_of bytes) (length bytes) else 0
 
 -- Bytes were written, from what a writer held to what it holds: all of them, a front where the writer
 -- failed, or none for want of memory.

@@ -67,7 +67,7 @@ impl<'a> Cursor<'a> {
         let at = self.at + 1;
         let bytes = &self.bytes[1..];
         match length_at_front(bytes) {
-            LengthForm::Is(length, octets) => {
+            LengthForm::Definite(length, octets) => {
                 let (start, end) = (octets as usize, octets as usize + length as usize);
                 if bytes.len() < end {
                     return Err(DerFault::Length(at));
@@ -76,7 +76,7 @@ impl<'a> Cursor<'a> {
                 self.bytes = &bytes[end..];
                 Ok(Cursor::new(at + octets, &bytes[start..end]))
             }
-            LengthForm::Cut | LengthForm::Wrong => Err(DerFault::Length(at)),
+            LengthForm::Truncated | LengthForm::Invalid => Err(DerFault::Length(at)),
         }
     }
 

@@ -8,7 +8,7 @@ ghost use Rattle.ill_der.specs.Contents.{answer_result, code_of, date, number, n
 ghost use Rattle.ill_der.specs.Format.{element, length_octets, optional, required};
 ghost use Rattle.ill_der.specs.ShortForm.{due_date, grant, head_of, reply, spell_body, spelling, txn_id};
 
-use crate::kind::Kind;
+use crate::apdu_type::ApduType;
 use crate::sizing::{contents_size, qualifiers_size, size};
 use crate::tags;
 use ill_values::{AnswerResult, Apdu, Body, Day, Number, OutOfMemory, TxnId};
@@ -31,7 +31,7 @@ pub fn encode_onto(bytes: &mut Vec<u8>, apdu: &Apdu) -> Result<(), OutOfMemory>
     ensures spelled { OnOk result (bytes.new.items ≡ bytes.old.items ++ spelling apdu.now) }
     ensures range { OnOk result (IsApdu apdu.now) }
 {
-    push_start(bytes, Kind::of(&apdu.body).octet(), contents_size(apdu))?;
+    push_start(bytes, ApduType::of(&apdu.body).octet(), contents_size(apdu))?;
     push_head(bytes, apdu)?;
     push_body(bytes, &apdu.body)
 }

@@ -97,6 +97,13 @@ pub record IssuedFits (state : State) (apdus : List Apdu) : Type 0 where
   pub checked_in : has is_checked_in apdus ≡ is_among (CheckedIn ∷ []) state
   pub conditions : implies (is_among (Conditional ∷ []) state) (ends_with_conditions apdus) ≡ true
 
+-- What was issued keeps the rules of a responder: it issues each of these types, they fit its state, the conditions
+-- accepted are among them, and the due dates rise from that of a Shipped on.
+abbrev pub IssuedKeepsRules : State → Option ℕ → List Apdu → Type 0
+IssuedKeepsRules state accepted apdus =
+    (list_all (λ a. not (is_requesters a.body)) apdus ≡ true) × IssuedFits state apdus × (is_named accepted apdus ≡ true)
+    × (are_rising (filter_map granted_day apdus) ≡ true) × (ships_first apdus ≡ true)
+
 -- A record is a responder's where it keeps these rules.
 pub record IsResponder (y : ResponderRecord) : Type 0 where
   pub numbered : are_numbered y.txn 1 y.issued ≡ true

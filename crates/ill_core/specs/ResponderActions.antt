@@ -59,28 +59,28 @@ ship_row y due today =
     else not_now y
 
 -- a renewal, which has to be later than the due date, or none
-abbrev pub renewed : ResponderRecord → State → Option Date → Result Row Refusal
-renewed y unrenewed None = leads_to unrenewed (types.RenewAnswer (unwrap_or y.last_renew 0) None)
-renewed y unrenewed (Some d) =
+abbrev pub renewal_row : ResponderRecord → State → Option Date → Result Row Refusal
+renewal_row y unrenewed None = leads_to unrenewed (types.RenewAnswer (unwrap_or y.last_renew 0) None)
+renewal_row y unrenewed (Some d) =
     if_allowed (is_after_due d (due_of y)) refusals.DateNotLater (leads_to Shipped (types.RenewAnswer (unwrap_or y.last_renew 0) (Some d)))
 
 abbrev pub renew_answer_row : ResponderRecord → Option Date → Result Row Refusal
 renew_answer_row y granted =
-    if is_among (RenewPending ∷ []) y.state then renewed y Shipped granted
-    else if is_among (RenewOverdue ∷ []) y.state then renewed y Overdue granted
+    if is_among (RenewPending ∷ []) y.state then renewal_row y Shipped granted
+    else if is_among (RenewOverdue ∷ []) y.state then renewal_row y Overdue granted
     else not_now y
 
 abbrev pub no_date : Date
 no_date = record { year = 0; month = 0; day = 0 }
 
 -- the due date, which is there once the item was shipped
-abbrev pub overdue : ResponderRecord → Date → State → Result Row Refusal
-overdue y today next = if_allowed (is_after_due today (due_of y)) refusals.NotDue (leads_to next (types.Overdue (unwrap_or (due_of y) no_date)))
+abbrev pub overdue_row_to : ResponderRecord → Date → State → Result Row Refusal
+overdue_row_to y today next = if_allowed (is_after_due today (due_of y)) refusals.NotDue (leads_to next (types.Overdue (unwrap_or (due_of y) no_date)))
 
 abbrev pub overdue_row : ResponderRecord → Date → Result Row Refusal
 overdue_row y today =
-    if is_among (Shipped ∷ []) y.state then overdue y today Overdue
-    else if is_among (RenewPending ∷ []) y.state then overdue y today RenewOverdue
+    if is_among (Shipped ∷ []) y.state then overdue_row_to y today Overdue
+    else if is_among (RenewPending ∷ []) y.state then overdue_row_to y today RenewOverdue
     else not_now y
 
 abbrev pub recall_row : ResponderRecord → Result Row Refusal

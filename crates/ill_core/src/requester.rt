@@ -63,7 +63,8 @@ impl Model for Requester {
 
     ghost view = { λ r. requester_of r.issued.txn r.state r.held r.checked_in r.due r.issued.apdus };
 
-    ghost invariant = { λ r. IsRequester (requester_of r.issued.txn r.state r.held r.checked_in r.due r.issued.apdus) };
+    ghost invariant = { λ r. IsRequester
+        (requester_of r.issued.txn r.state r.held r.checked_in r.due r.issued.apdus) };
 }
 
 impl Requester {
@@ -89,8 +90,10 @@ impl Requester {
         due: Option<Day>,
         issued: Vec<Apdu>,
     ) -> Option<Requester>
-        ensures some { IsSome result ↔ IsRequester (requester_of txn state held checked_in due issued.items) }
-        ensures value { IfSome result (λ r. r ≡ requester_of txn state held checked_in due issued.items) }
+        ensures some { IsSome result ↔
+            IsRequester (requester_of txn state held checked_in due issued.items) }
+        ensures value { IfSome result
+            (λ r. r ≡ requester_of txn state held checked_in due issued.items) }
     {
         if !are_numbered(&txn, &issued) {
             return None;

@@ -65,9 +65,12 @@ pub enum Deed {
 impl Model for Responder {
     ghost Value = { ResponderRecord };
 
-    ghost view = { λ r. responder_of r.issued.txn r.state r.accepted r.last_cancel r.last_renew r.received r.request r.issued.apdus };
+    ghost view = { λ r. responder_of r.issued.txn r.state r.accepted r.last_cancel r.last_renew
+        r.received r.request r.issued.apdus };
 
-    ghost invariant = { λ r. IsResponder (responder_of r.issued.txn r.state r.accepted r.last_cancel r.last_renew r.received r.request r.issued.apdus) };
+    ghost invariant = { λ r. IsResponder
+        (responder_of r.issued.txn r.state r.accepted r.last_cancel r.last_renew r.received
+        r.request r.issued.apdus) };
 }
 
 impl Responder {
@@ -98,8 +101,12 @@ impl Responder {
         request: Option<Apdu>,
         issued: Vec<Apdu>,
     ) -> Option<Responder>
-        ensures some { IsSome result ↔ IsResponder (responder_of txn state accepted last_cancel last_renew received request issued.items) }
-        ensures value { IfSome result (λ r. r ≡ responder_of txn state accepted last_cancel last_renew received request issued.items) }
+        ensures some { IsSome result ↔
+            IsResponder (responder_of txn state accepted last_cancel last_renew received request
+            issued.items) }
+        ensures value { IfSome result
+            (λ r. r ≡ responder_of txn state accepted last_cancel last_renew received request
+            issued.items) }
     {
         let present = rules::Present {
             request: request.is_some(),

@@ -112,8 +112,8 @@ impl Requester {
 
     /// Does what the library decides, and issues the message that tells the responder.
     ///
-    /// It refuses what has no place in this state, then a 256th message, then want of memory; a refusal
-    /// changes nothing.
+    /// It refuses what has no place in this state, then a 256th message, then want of memory; a
+    /// refusal changes nothing.
     pub fn act(&mut self, alloc: Global, wish: &Wish) -> Result<(), Refusal>
         ensures { Acts self.old wish.now result self.new }
     {

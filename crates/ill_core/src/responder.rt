@@ -179,7 +179,8 @@ impl Responder {
         self.state
     }
 
-    /// The day on which the item is due, once it was shipped: that of the last Shipped or Renew-Answer yes.
+    /// The day on which the item is due, once it was shipped: that of the last Shipped or
+    /// Renew-Answer yes.
     pub fn due(&self) -> Option<Day>
         ensures { result ≡ due_of self.now }
     {

@@ -11,12 +11,13 @@ use std::fmt;
 pub enum State {
     /// No message was issued or taken yet.
     Idle,
-    /// The requester has asked for the item and waits for the responder. Only a requester has this state.
+    /// The requester has asked for the item and waits for the responder. Only a requester has this
+    /// state.
     Pending,
     /// The responder has the request and works on it. Only a responder has this state.
     InProcess,
-    /// The responder's conditions stand: they are not accepted, or they were declined and the responder
-    /// has not ended the request yet.
+    /// The responder's conditions stand: they are not accepted, or they were declined and the
+    /// responder has not ended the request yet.
     Conditional,
     /// A Cancel waits for its Cancel-Reply.
     CancelPending,

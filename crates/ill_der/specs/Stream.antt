@@ -57,13 +57,13 @@ IsJudged bytes (Err (faults.Bytes fault)) = (apdu_at bytes ≡ Err fault) × IfS
 IsJudged bytes (Err faults.Read) = ⊥
 IsJudged bytes (Err faults.OutOfMemory) = SpellsOne bytes
 
--- how many bytes are surely missing behind an identifier, of a length and of so many bytes
+-- how many more bytes are needed at least behind an identifier, by the length and the bytes there are
 abbrev pub missing_by : LengthForm → ℕ → ℕ
 missing_by Truncated size = 1
 missing_by Invalid size = 0
 missing_by (Definite n octets) size = if nat_lt 355 n then 0 else octets + n - size
 
--- how many bytes are surely missing of an APDU that begins with these
+-- how many more bytes the APDU needs at least; 0 if it is complete or already invalid
 unfoldable pub missing_of : List ℕ → ℕ
 missing_of [] = 1
 missing_of (first ∷ bytes) = if is_some (type_with first) then missing_by (length_of bytes) (length bytes) else 0

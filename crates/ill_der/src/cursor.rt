@@ -101,7 +101,8 @@ impl<'a> Cursor<'a> {
 
     /// Reads a qualifier of a transaction id.
     pub fn qualifier(&mut self, identifier: u8) -> Result<&'a [u8], DerFault>
-        ensures read { Reads (λ text. text.now) result self.new ((required identifier qualifier).read self.old) }
+        ensures read { Reads (λ text. text.now) result self.new
+            ((required identifier qualifier).read self.old) }
         ensures qualifier { IfOk result (λ text. IsQualifier text.now) }
     {
         let inside = self.element(identifier)?;
@@ -114,7 +115,8 @@ impl<'a> Cursor<'a> {
 
     /// Reads an item.
     pub fn item(&mut self, identifier: u8) -> Result<&'a [u8], DerFault>
-        ensures read { Reads (λ text. text.now) result self.new ((required identifier item).read self.old) }
+        ensures read { Reads (λ text. text.now) result self.new
+            ((required identifier item).read self.old) }
         ensures item { IfOk result (λ text. IsItem text.now) }
     {
         let inside = self.element(identifier)?;

@@ -182,7 +182,8 @@ fn reply_inside(inside: &mut Cursor<'_>) -> Result<(Number, bool), DerFault>
 
 /// Reads yes or no, and after a yes the new due date.
 fn granted_inside(inside: &mut Cursor<'_>) -> Result<Option<Day>, DerFault>
-    ensures { Reads (λ found. found) result inside.new ((where_yes (required 0x84 yes_no) (required 0x85 date)).read inside.old) }
+    ensures { Reads (λ found. found) result inside.new
+        ((where_yes (required 0x84 yes_no) (required 0x85 date)).read inside.old) }
 {
     if inside.yes_no(tags::YES_NO)? {
         Ok(Some(inside.date(tags::DATE)?))

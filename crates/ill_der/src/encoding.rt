@@ -48,7 +48,8 @@ fn push_head(bytes: &mut Vec<u8>, apdu: &Apdu) -> Result<(), OutOfMemory>
 
 #[tactic(auto, unfolding(crate::specs::Format::element))]
 fn push_id(bytes: &mut Vec<u8>, id: &TxnId) -> Result<(), OutOfMemory>
-    ensures bytes { OnOk result (bytes.new.items ≡ bytes.old.items ++ txn_id.spell (id.now.group, id.now.transaction)) }
+    ensures bytes { OnOk result (bytes.new.items ≡ bytes.old.items
+        ++ txn_id.spell (id.now.group, id.now.transaction)) }
     ensures range { OnOk result (AreQualifiers id.now) }
 {
     push_start(bytes, tags::TRANSACTION_ID, qualifiers_size(id))?;
@@ -83,7 +84,8 @@ fn push_body(bytes: &mut Vec<u8>, body: &Body) -> Result<(), OutOfMemory>
 }
 
 fn push_grant(bytes: &mut Vec<u8>, answers: Number, granted: Option<Day>) -> Result<(), OutOfMemory>
-    ensures bytes { OnOk result (bytes.new.items ≡ bytes.old.items ++ grant.spell (answers, granted)) }
+    ensures bytes { OnOk result (bytes.new.items ≡ bytes.old.items
+        ++ grant.spell (answers, granted)) }
     ensures range { OnOk result (IsNumber answers × IfSome granted IsDate) }
 {
     push_reply(bytes, answers, granted.is_some())?;
@@ -99,7 +101,8 @@ fn push_reply(bytes: &mut Vec<u8>, answers: Number, yes: bool) -> Result<(), Out
 }
 
 fn push_optional_date(bytes: &mut Vec<u8>, day: Option<Day>) -> Result<(), OutOfMemory>
-    ensures bytes { OnOk result (bytes.new.items ≡ bytes.old.items ++ (optional 0x85 date).spell day) }
+    ensures bytes { OnOk result (bytes.new.items ≡ bytes.old.items
+        ++ (optional 0x85 date).spell day) }
     ensures range { OnOk result (IfSome day IsDate) }
 {
     match day {
@@ -117,7 +120,8 @@ fn push_date(bytes: &mut Vec<u8>, day: Day) -> Result<(), OutOfMemory>
 
 /// Adds a number, as an INTEGER (X.690 8.3).
 fn push_number(bytes: &mut Vec<u8>, identifier: u8, number: Number) -> Result<(), OutOfMemory>
-    ensures bytes { OnOk result (bytes.new.items ≡ bytes.old.items ++ element identifier (number_octets number)) }
+    ensures bytes { OnOk result (bytes.new.items ≡ bytes.old.items
+        ++ element identifier (number_octets number)) }
     ensures range { OnOk result (IsNumber number) }
 {
     let octet = number.get();

@@ -2,7 +2,8 @@
 
 use thiserror::Error;
 
-/// The first fault of bytes that do not begin with an APDU. Offsets are in bytes from the APDU's first.
+/// The first fault of bytes that do not begin with an APDU. Offsets are in bytes from the first byte
+/// of the APDU.
 #[derive(Clone, Copy, Debug, PartialEq, Eq, Hash, Error)]
 pub enum DerFault {
     /// The bytes end before the APDU does. The number is how many bytes there are.

@@ -24,8 +24,8 @@ const READS: usize = MAX_SIZE + 1;
 
 /// Reads one APDU, or gives `None` where the input has ended.
 ///
-/// It makes at most 360 reads, and takes no byte behind the APDU. If the bytes are no APDU, it has taken
-/// the shortest front of them that shows the fault. A later call begins a new APDU.
+/// It makes at most 360 reads, and takes no byte behind the APDU. If the bytes are no APDU, it has
+/// taken the shortest front of them that shows the fault. A later call begins a new APDU.
 pub fn read_apdu<R: Read>(alloc: Global, reader: &mut R) -> Result<Option<Apdu>, ReadFault>
     ensures { ReadsApdu (R.remaining reader.old) (R.remaining reader.new) result }
 {

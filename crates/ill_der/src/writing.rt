@@ -46,15 +46,16 @@ pub fn write_apdu_counted<W: Write, L: Ledger>(
     apdu: &Apdu,
     steps: &mut Steps<L>,
 ) -> Result<(), WriteFault>
-    ensures written { Writes (W.contents writer.old) (W.contents writer.new) (spelling apdu.now) result }
+    ensures written { Writes (W.contents writer.old) (W.contents writer.new)
+        (spelling apdu.now) result }
     ensures writes { steps.new ≤ steps.old + 359 }
 {
     let bytes = encode(alloc, apdu).map_err(|_| WriteFault::OutOfMemory)?;
     write_bytes_counted(writer, &bytes, steps)
 }
 
-/// Writes all of the bytes, in at most as many writes as there are bytes. If the writer fails, a front
-/// of them may have been written.
+/// Writes all of the bytes, in at most as many writes as there are bytes. If the writer fails, a
+/// front of them may have been written.
 pub fn write_bytes<W: Write>(writer: &mut W, bytes: &[u8]) -> Result<(), WriteFault>
     ensures written { Writes (W.contents writer.old) (W.contents writer.new) bytes.now result }
     ensures fault { IfErr result (λ fault. fault ≡ faults.Write) }

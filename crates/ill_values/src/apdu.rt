@@ -8,7 +8,8 @@ use crate::number::Number;
 use crate::txn_id::TxnId;
 use std::alloc::{AllocError as OutOfMemory, Global};
 
-/// One message of the interlibrary loan protocol (ISO 10161-1), with the fields that this profile keeps.
+/// One message of the interlibrary loan protocol (ISO 10161-1), with the fields that this profile
+/// keeps.
 #[derive(Debug, PartialEq, Eq, Drop)]
 pub struct Apdu {
     /// The transaction that the message belongs to.

@@ -127,14 +127,16 @@ fn is_in_calendar(year: u16, month: u8, day: u8) -> bool
 fn is_eight_digits(text: &[u8]) -> bool
     ensures value { result ≡ eight_digits text.now }
     ensures length { OnTrue result (length text.now ≡ 8) }
-    ensures digits { OnTrue result (EachIndex text.now (λ k. IsInRange 48 57 (slice_index text.now k))) }
+    ensures digits { OnTrue result (EachIndex text.now
+        (λ k. IsInRange 48 57 (slice_index text.now k))) }
 {
     text.len() == 8 && is_digits(text)
 }
 
 fn is_digits(text: &[u8]) -> bool
     ensures value { result ≡ list_all is_ascii_digit text.now }
-    ensures each { OnTrue result (EachIndex text.now (λ k. IsInRange 48 57 (slice_index text.now k))) }
+    ensures each { OnTrue result (EachIndex text.now
+        (λ k. IsInRange 48 57 (slice_index text.now k))) }
 {
     text.iter().all(|byte| byte.is_ascii_digit())
 }

@@ -25,7 +25,8 @@ impl Model for TxnId {
 
     ghost view = { λ id. record { group = id.group.items; transaction = id.transaction.items } };
 
-    ghost invariant = { λ id. AreQualifiers (record { group = id.group.items; transaction = id.transaction.items }) };
+    ghost invariant = { λ id. AreQualifiers
+        (record { group = id.group.items; transaction = id.transaction.items }) };
 }
 
 impl PartialEq for TxnId {

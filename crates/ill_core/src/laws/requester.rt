@@ -77,7 +77,8 @@ pub fn requester_shows()
         Shows (takes x a).1 fact → Shows x fact ⊎ Tells a.body fact }
 {}
 
-/// A Conditional-Reply is issued only in CONDITIONAL, to the conditions held, which were not declined.
+/// A Conditional-Reply is issued only in CONDITIONAL, to the conditions held, which were not
+/// declined.
 pub fn requester_replies()
     ensures { (x new : RequesterRecord) (wish : Wish) → acts x wish ≡ Ok new → Replies x new }
 {}
@@ -95,8 +96,8 @@ pub fn requester_answers_once()
     ensures takes { (x : RequesterRecord) (a : Apdu) → AnswersOnce x → AnswersOnce (takes x a).1 }
 {}
 
-/// Where the loan can still end so, and the message is of the transaction, Shipped leads to SHIPPED or later,
-/// the end of the request to NOT-SUPPLIED, and the yes to the last Cancel to CANCELLED.
+/// Where the loan can still end so, and the message is of the transaction, Shipped leads to SHIPPED
+/// or later, the end of the request to NOT-SUPPLIED, and the yes to the last Cancel to CANCELLED.
 pub fn requester_follows()
     ensures shipped { (x : RequesterRecord) (a : Apdu) (due : Date) →
         is_same_txn a.txn x.txn ≡ true → a.body ≡ types.Shipped due →

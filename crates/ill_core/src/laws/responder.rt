@@ -53,7 +53,8 @@ pub fn responder_is_final()
         (takes y a).1.state ≡ y.state }
 {}
 
-/// A responder in SHIPPED or later stays there, and one in RETURNED stays there or checks the item in.
+/// A responder in SHIPPED or later stays there, and one in RETURNED stays there or checks the item
+/// in.
 pub fn responder_stays_later()
     ensures acts { (y new : ResponderRecord) (deed : Deed) (today : Date) →
         acts y deed today ≡ Ok new → StaysLater y new }
@@ -67,7 +68,8 @@ pub fn responder_ends()
     ensures takes { (y : ResponderRecord) (a : Apdu) → Ends y (takes y a).1 }
 {}
 
-/// NOT-SUPPLIED, CANCELLED, and SHIPPED or later, are entered only by issuing the end that leads there.
+/// NOT-SUPPLIED, CANCELLED, and SHIPPED or later, are entered only by issuing the end that leads
+/// there.
 pub fn responder_enters_by_end()
     ensures acts { (y new : ResponderRecord) (deed : Deed) (today : Date) →
         acts y deed today ≡ Ok new → EntersByEnd y new }
@@ -81,7 +83,8 @@ pub fn responder_ends_once()
     ensures takes { (y : ResponderRecord) (a : Apdu) → EndsOnce y → EndsOnce (takes y a).1 }
 {}
 
-/// A Cancel or a Renew is answered only while it waits for its answer, which names the last one taken.
+/// A Cancel or a Renew is answered only while it waits for its answer, which names the last one
+/// taken.
 pub fn responder_answers_last()
     ensures acts { (question : Question) (y new : ResponderRecord) (deed : Deed) (today : Date) →
         acts y deed today ≡ Ok new → AnswersLast question y new }
@@ -89,8 +92,8 @@ pub fn responder_answers_last()
         AnswersLast question y (takes y a).1 }
 {}
 
-/// The last Cancel or Renew changes, and one waits that did not, only where one comes with a number above the
-/// last one's.
+/// The last Cancel or Renew changes, and one waits that did not, only where one comes with a number
+/// above the last one's.
 pub fn responder_keeps_last()
     ensures acts { (question : Question) (y new : ResponderRecord) (deed : Deed) (today : Date) →
         acts y deed today ≡ Ok new → KeepsLast question y new }
@@ -108,8 +111,8 @@ pub fn responder_answers_once()
         AnswersOnce question y → AnswersOnce question (takes y a).1 }
 {}
 
-/// What a record shows to have come was shown before, or is told by the message that it took; a deed shows nothing
-/// new, where a Cancel that waits is there.
+/// What a record shows to have come was shown before, or is told by the message that it took; a
+/// deed shows nothing new, where a Cancel that waits is there.
 pub fn responder_shows()
     ensures acts { (y new : ResponderRecord) (deed : Deed) (today : Date) (fact : Fact) →
         acts y deed today ≡ Ok new →
@@ -119,7 +122,8 @@ pub fn responder_shows()
         Shows (takes y a).1 fact → Shows y fact ⊎ Tells a.number a.body fact }
 {}
 
-/// Where the item was shipped, a Returned of the transaction leads to RETURNED, or the item is checked in already.
+/// Where the item was shipped, a Returned of the transaction leads to RETURNED, or the item is
+/// checked in already.
 pub fn responder_follows()
     ensures { (y : ResponderRecord) (a : Apdu) → is_same_txn a.txn y.txn ≡ true →
         a.body ≡ types.Returned → is_among later y.state ≡ true →

@@ -142,6 +142,7 @@ constructed identifier inside = record {
 -- ---- what the code gives
 
 -- A reader gave what reading gives, its value seen by view, and left the cursor where reading does.
-abbrev pub Reads : {X V : Type 0} → (X → V) → Result X DerFault → Left → Result (V × Left) DerFault → Type 0
+abbrev pub Reads : {X V : Type 0} → (X → V) → Result X DerFault → Left → Result (V × Left) DerFault →
+    Type 0
 Reads view (Ok value) left read = read ≡ Ok (view value, left)
 Reads view (Err fault) left read = read ≡ Err fault

@@ -138,11 +138,14 @@ body_of apdu_type left = read_body apdu_type left >>= λ body. ended body.1 >>= 
 unfoldable pub inside_of : ApduType → Left → Result Apdu DerFault
 inside_of apdu_type left =
     head.read left >>= λ front. body_of apdu_type front.1 >>= λ body.
-    Ok (record { txn = record { group = front.0.1.0.0; transaction = front.0.1.0.1 }; number = front.0.1.1; body = body })
+    Ok (record { txn = record { group = front.0.1.0.0; transaction = front.0.1.0.1 };
+    number = front.0.1.1; body = body })
 
 -- the APDU at the front and the bytes behind it, or the first fault
 unfoldable pub apdu_at : List ℕ → Result (Apdu × List ℕ) DerFault
-apdu_at bytes = outer_at bytes >>= λ outer. inside_of outer.apdu_type outer.inside >>= λ apdu. Ok (apdu, drop outer.size bytes)
+apdu_at bytes =
+    outer_at bytes >>= λ outer. inside_of outer.apdu_type outer.inside >>= λ apdu.
+    Ok (apdu, drop outer.size bytes)
 
 -- ---- what the code gives
 
@@ -165,4 +168,5 @@ Gives (Ok value) result = MatchResult result (λ made. made ≡ value) (λ fault
 abbrev pub Decodes : List ℕ → Result (Apdu × List ℕ) DerFault → Result (Apdu × ℕ) DerFault → Type 0
 Decodes bytes (Err fault) result = result ≡ Err fault
 Decodes bytes (Ok read) result =
-    MatchResult result (λ found. (found.1 ≤ length bytes) × (read ≡ (found.0, drop found.1 bytes))) (λ fault. fault ≡ OutOfMemory)
+    MatchResult result (λ found. (found.1 ≤ length bytes) × (read ≡ (found.0, drop found.1 bytes)))
+    (λ fault. fault ≡ OutOfMemory)

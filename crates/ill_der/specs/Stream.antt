@@ -40,7 +40,8 @@ IfShort OutOfMemory P = Unit {0}
 abbrev pub IsAnswer : List ℕ → Option (List ℕ) → Result (Option Apdu) ReadFault → Type 0
 IsAnswer bytes left (Ok (Some apdu)) = IsApdu apdu × (bytes ≡ spelling apdu)
 IsAnswer bytes left (Ok None) = (bytes ≡ []) × IsAtEnd left
-IsAnswer bytes left (Err (faults.Bytes fault)) = (apdu_at bytes ≡ Err fault) × AreUnfinished bytes × IfShort fault (IsAtEnd left)
+IsAnswer bytes left (Err (faults.Bytes fault)) =
+    (apdu_at bytes ≡ Err fault) × AreUnfinished bytes × IfShort fault (IsAtEnd left)
 IsAnswer bytes left (Err faults.Read) = IsUnfinished bytes
 IsAnswer bytes left (Err faults.OutOfMemory) = SpellsOne bytes
 
@@ -66,7 +67,9 @@ missing_by (Definite n octets) size = if nat_lt 355 n then 0 else octets + n - s
 -- how many more bytes the APDU needs at least; 0 if it is complete or already invalid
 unfoldable pub missing_of : List ℕ → ℕ
 missing_of [] = 1
-missing_of (first ∷ bytes) = if is_some (type_with first) then missing_by (length_of bytes) (length bytes) else 0
+missing_of (first ∷ bytes) =
+    if is_some (type_with first) then missing_by (length_of bytes) (length bytes)
+    else 0
 
 -- Bytes were written, from what a writer held to what it holds: all of them, a front where the writer
 -- failed, or none for want of memory.

@@ -21,7 +21,11 @@ pub struct MemoryStore {
 impl Model for MemoryStore {
     ghost Value = { Memory };
 
-    ghost view = { λ m. record { landed = option_map (λ b. b.items) m.landed; failures = m.failures; next = m.next } };
+    ghost view = { λ m. record {
+      landed = option_map (λ b. b.items) m.landed;
+      failures = m.failures;
+      next = m.next;
+    } };
 }
 
 impl MemoryStore {
@@ -65,9 +69,9 @@ impl MemoryStore {
     }
 }
 
-/// A `load` fails only under a plan to fail, and takes memory under none of these. A `save` that is planned
-/// to fail and to leave the old bytes takes no memory; one that leaves the new ones lands them first, or
-/// answers want of memory.
+/// A `load` fails only under a plan to fail, and takes memory under none of these. A `save` that is
+/// planned to fail and to leave the old bytes takes no memory; one that leaves the new ones lands
+/// them first, or answers want of memory.
 impl Store for MemoryStore {
     ghost landed = { λ m. m.landed };
 

@@ -51,7 +51,8 @@ pub enum NextCall {
 
 /// A place for the bytes of one record: those that were saved last have landed there.
 ///
-/// What has landed is known of an honest store alone. A store that plans its next call keeps to the plan.
+/// What has landed is known of an honest store alone. A store that plans its next call keeps to the
+/// plan.
 pub trait Store {
     /// The bytes that have landed, if any.
     ghost landed: { Self → Option (List ℕ) };
@@ -67,7 +68,8 @@ pub trait Store {
 
     /// Loads the bytes that were saved last, or `None` if nothing was saved.
     fn load(&mut self, alloc: Global) -> Result<Option<Vec<u8>>, StoreFault>
-        ensures loaded { is_honest self.old ≡ true → IfOk result (λ bytes. option_map (λ b. b.items) bytes ≡ landed self.old) }
+        ensures loaded { is_honest self.old ≡ true →
+            IfOk result (λ bytes. option_map (λ b. b.items) bytes ≡ landed self.old) }
         ensures planned { is_honest self.old ≡ true → Allows (plan self.old) result }
         ensures landed { is_honest self.old ≡ true → landed self.new ≡ landed self.old }
         ensures counted { CountsFailure result (failures self.old) (failures self.new) }
@@ -77,7 +79,8 @@ pub trait Store {
     /// Saves these bytes in place of those that were saved before.
     fn save(&mut self, alloc: Global, bytes: &[u8]) -> Result<(), StoreFault>
         ensures planned { is_honest self.old ≡ true → Allows (plan self.old) result }
-        ensures landed { is_honest self.old ≡ true → LandsAtSave (plan self.old) bytes.now result (landed self.old) (landed self.new) }
+        ensures landed { is_honest self.old ≡ true →
+            LandsAtSave (plan self.old) bytes.now result (landed self.old) (landed self.new) }
         ensures large { IsNotTooLarge result }
         ensures counted { CountsFailure result (failures self.old) (failures self.new) }
         ensures honest { is_honest self.new ≡ is_honest self.old }

@@ -3,7 +3,7 @@
 ghost use Rattle.ill_tool.specs.Show.{Shows, ShowsNext};
 
 use crate::fault::ToolFault;
-use crate::input::{MOST_APDUS, end};
+use crate::input::{MAX_APDUS, end};
 use crate::lines::push_apdu;
 use crate::output::write_whole;
 use ill_der::read_apdu;
@@ -13,8 +13,8 @@ use std::io::{Read, Write};
 /// Shows each APDU of the input, up to its end, and answers how many there were.
 ///
 /// If an APDU is faulty, there are too many, or the reader fails, the lines of the APDUs before are
-/// written. If memory runs out, those of some of the first APDUs are, and if the writer fails, a front
-/// of that text.
+/// written. If memory runs out, those of some of the first APDUs are, and if the writer fails, a
+/// front of that text.
 pub fn run_show<R: Read, W: Write>(
     alloc: Global,
     reader: &mut R,
@@ -24,7 +24,7 @@ pub fn run_show<R: Read, W: Write>(
         (W.contents writer.old) (W.contents writer.new) result }
 {
     let mut lines = Vec::new(alloc);
-    for count in 0..MOST_APDUS {
+    for count in 0..MAX_APDUS {
         match show_next(alloc, reader, writer, &mut lines) {
             Ok(true) => {}
             Ok(false) => return Ok(count),

@@ -64,9 +64,9 @@ pub record PartsFit (state : State) (is_held is_due is_marked : Bool) : Type 0 w
 pub record IssuedFit (state : State) (none has_received has_cancel has_renew has_returned has_no : Bool) : Type 0 where
   pub idle : none ≡ is_among (Idle ∷ []) state
   pub received : implies
-    (is_among (Received ∷ RenewPending ∷ Overdue ∷ RenewOverdue ∷ Returned ∷ []) state) has_received ≡ true
+      (is_among (Received ∷ RenewPending ∷ Overdue ∷ RenewOverdue ∷ Returned ∷ []) state) has_received ≡ true
   pub not_received : implies has_received
-    (is_among (Received ∷ RenewPending ∷ Overdue ∷ RenewOverdue ∷ Recall ∷ Returned ∷ []) state) ≡ true
+      (is_among (Received ∷ RenewPending ∷ Overdue ∷ RenewOverdue ∷ Recall ∷ Returned ∷ []) state) ≡ true
   pub cancel : implies (is_among (CancelPending ∷ Cancelled ∷ []) state) has_cancel ≡ true
   pub renew : implies (is_among (RenewPending ∷ RenewOverdue ∷ []) state) has_renew ≡ true
   pub returned : has_returned ≡ is_among (Returned ∷ []) state

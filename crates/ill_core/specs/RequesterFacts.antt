@@ -108,6 +108,6 @@ replies apdus = filter_map (λ a. replied_number a.body) apdus
 pub record AnswersOnce (x : RequesterRecord) : Type 0 where
   pub distinct : are_distinct (replies x.issued) ≡ true
   pub above : has declines x.issued ≡ false →
-    list_all (λ n. is_at_most n (accepted_number x)) (replies x.issued) ≡ true
+      list_all (λ n. is_at_most n (accepted_number x)) (replies x.issued) ≡ true
   pub held : is_among (states.Conditional ∷ []) x.state ≡ true → has declines x.issued ≡ false →
-    list_all (λ n. is_below n x.held) (replies x.issued) ≡ true
+      list_all (λ n. is_below n x.held) (replies x.issued) ≡ true

@@ -90,7 +90,7 @@ pub record PartsFit (state : State) (has_request has_accepted has_cancel has_ren
   pub role : is_among (Pending ∷ Received ∷ NotReceivedOverdue ∷ []) state ≡ false
   pub idle : has_request ≡ not (is_among (Idle ∷ []) state)
   pub empty : implies (is_among (Idle ∷ []) state)
-    (not has_accepted && (not has_cancel && (not has_renew && (not is_marked && none)))) ≡ true
+      (not has_accepted && (not has_cancel && (not has_renew && (not is_marked && none)))) ≡ true
   pub marked : implies is_marked (is_among later state) ≡ true
   pub cancel : implies (is_among (CancelPending ∷ Cancelled ∷ []) state) has_cancel ≡ true
   pub renew : implies (is_among (RenewPending ∷ RenewOverdue ∷ []) state) has_renew ≡ true
@@ -116,7 +116,7 @@ pub record IsResponder (y : ResponderRecord) : Type 0 where
   pub role : list_all (λ a. not (is_requesters a.body)) y.issued ≡ true
   pub request : is_request_of y.txn y.request ≡ true
   pub parts : PartsFit y.state (is_some y.request) (is_some y.accepted) (is_some y.last_cancel)
-    (is_some y.last_renew) y.received (is_none y.issued)
+      (is_some y.last_renew) y.received (is_none y.issued)
   pub issued : IssuedFits y.state y.issued
   pub accepted : is_named y.accepted y.issued ≡ true
   pub rising : are_rising (filter_map granted_day y.issued) ≡ true

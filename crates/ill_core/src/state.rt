@@ -11,31 +11,31 @@ use std::fmt;
 pub enum State {
     /// No message was issued or taken yet.
     Idle,
-    /// The requester has asked for the item and waits for the responder. Only a requester has this
-    /// state.
+    /// The request was issued, and the responder has neither shipped the item nor ended the request,
+    /// as far as the requester knows. Only a requester has this state.
     Pending,
     /// The responder has the request and works on it. Only a responder has this state.
     InProcess,
-    /// The responder's conditions stand: they are not accepted, or they were declined and the
-    /// responder has not ended the request yet.
+    /// The responder supplies only on conditions, which are not accepted.
     Conditional,
     /// A Cancel waits for its Cancel-Reply.
     CancelPending,
-    /// The request was cancelled. This state is final.
+    /// The responder has agreed to a Cancel. This state is final.
     Cancelled,
     /// The request has ended without the item. This state is final.
     NotSupplied,
-    /// The responder has sent the item; to the requester's record it has not arrived yet.
+    /// The responder has shipped the item. A requester in this state has not told that it came.
     Shipped,
-    /// The requester has the item. Only a requester has this state.
+    /// The item has reached the requester. Only a requester has this state.
     Received,
-    /// A Renew waits for its Renew-Answer.
+    /// The requester has the item, and a Renew waits for its Renew-Answer.
     RenewPending,
-    /// The due date has passed, and the responder has told so.
+    /// The responder has told that the item is overdue.
     Overdue,
-    /// The due date has passed while a Renew waits for its Renew-Answer.
+    /// The responder has told that the item is overdue, and a Renew waits for its Renew-Answer.
     RenewOverdue,
-    /// The due date has passed before the item arrived. Only a requester has this state.
+    /// The responder has told that the item is overdue, and the requester has not told that it came.
+    /// Only a requester has this state.
     NotReceivedOverdue,
     /// The responder has asked for the item back.
     Recall,

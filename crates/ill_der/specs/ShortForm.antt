@@ -138,8 +138,11 @@ body_of apdu_type left = read_body apdu_type left >>= λ body. ended body.1 >>= 
 unfoldable pub inside_of : ApduType → Left → Result Apdu DerFault
 inside_of apdu_type left =
     head.read left >>= λ front. body_of apdu_type front.1 >>= λ body.
-    Ok (record { txn = record { group = front.0.1.0.0; transaction = front.0.1.0.1 };
-    number = front.0.1.1; body = body })
+    Ok (record {
+      txn = record { group = front.0.1.0.0; transaction = front.0.1.0.1 };
+      number = front.0.1.1;
+      body = body;
+    })
 
 -- the APDU at the front and the bytes behind it, or the first fault
 unfoldable pub apdu_at : List ℕ → Result (Apdu × List ℕ) DerFault

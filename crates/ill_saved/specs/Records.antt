@@ -111,14 +111,17 @@ responder_fields = followed_by (front responder_states) responder_rest
 -- the one spelling of a record
 abbrev pub spell_requester : RequesterRecord → List ℕ
 spell_requester x =
-    requester_fields.spell ((x.state, (x.txn.group, x.txn.transaction)),
-    (x.held, (x.checked_in, (x.due, x.issued))))
+    requester_fields.spell (
+      (x.state, (x.txn.group, x.txn.transaction)),
+      (x.held, (x.checked_in, (x.due, x.issued))),
+    )
 
 abbrev pub spell_responder : ResponderRecord → List ℕ
 spell_responder y =
-    responder_fields.spell
-    ((y.state, (y.txn.group, y.txn.transaction)),
-    (y.accepted, (y.last_cancel, (y.last_renew, (y.received, (y.request, y.issued))))))
+    responder_fields.spell (
+      (y.state, (y.txn.group, y.txn.transaction)),
+      (y.accepted, (y.last_cancel, (y.last_renew, (y.received, (y.request, y.issued))))),
+    )
 
 abbrev pub is_responder : Side → Bool
 is_responder (sides.Requester x) = false
@@ -137,16 +140,22 @@ read_requester left =
     requester_fields.read left >>= λ found.
     let front = found.0.0 in
     let rest = found.0.1 in
-    Ok (sides.Requester (requester_of (record { group = front.1.0; transaction = front.1.1 }) front.0
-    rest.0 rest.1.0 rest.1.1.0 rest.1.1.1), found.1)
+    Ok (
+      sides.Requester (requester_of (record { group = front.1.0; transaction = front.1.1 }) front.0
+          rest.0 rest.1.0 rest.1.1.0 rest.1.1.1),
+      found.1,
+    )
 
 abbrev pub read_responder : Left → Result (Side × Left) LayoutFault
 read_responder left =
     responder_fields.read left >>= λ found.
     let front = found.0.0 in
     let rest = found.0.1 in
-    Ok (sides.Responder (responder_of (record { group = front.1.0; transaction = front.1.1 }) front.0
-    rest.0 rest.1.0 rest.1.1.0 rest.1.1.1.0 rest.1.1.1.1.0 rest.1.1.1.1.1), found.1)
+    Ok (
+      sides.Responder (responder_of (record { group = front.1.0; transaction = front.1.1 }) front.0
+          rest.0 rest.1.0 rest.1.1.0 rest.1.1.1.0 rest.1.1.1.1.0 rest.1.1.1.1.1),
+      found.1,
+    )
 
 abbrev pub read_fields : Bool → Left → Result (Side × Left) LayoutFault
 read_fields is_responder left = if is_responder then read_responder left else read_requester left

@@ -142,18 +142,18 @@ impl Body {
 /// The result that an ILL-Answer reports.
 #[derive(Clone, Copy, Debug, PartialEq, Eq, Hash)]
 pub enum AnswerResult {
-    /// The item will be supplied if the requester accepts the responder's conditions.
+    /// The item is supplied only on conditions, which the message does not name.
     Conditional,
-    /// The item cannot be supplied now; the requester may ask again later.
+    /// The item is not supplied now, but may be on a later request. The request ends.
     Retry,
-    /// The item will not be supplied.
+    /// The item is not supplied. The request ends.
     Unfilled,
-    /// The item will not be supplied; other libraries have it.
+    /// The item is not supplied; other libraries have it. The request ends.
     LocationsProvided,
-    /// The item will be supplied, but not at once.
+    /// The item will be supplied, but not yet. The request goes on.
     WillSupply,
-    /// The item is in use, and the responder has placed a hold on it for the requester.
+    /// The item is not free, and the responder holds it for the requester next. The request goes on.
     HoldPlaced,
-    /// The item is not supplied; the responder gives an estimate of what it would cost.
+    /// The item is not supplied; the answer stands for an estimate of the cost. The request ends.
     Estimate,
 }

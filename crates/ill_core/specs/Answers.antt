@@ -1,4 +1,5 @@
--- What a side answers to a message, with the record after it (this profile's own). R is the record of either role.
+-- What a side answers to a message, with the record after it (this profile's own). R is the record
+-- of either role.
 use Rattle.std.specs.Prelude.{Option, Some, None, Result, Ok, Err}
 use Rattle.ill_core.specs.declared.state.State.{State}
 use Rattle.ill_core.specs.declared.refusal.Refusal.{Refusal}
@@ -22,6 +23,7 @@ abbrev pub conflict : {R : Type 0} → State → R → Result Taking Refusal × 
 conflict state old = (Ok (Conflict state), old)
 
 -- the answer, unless the message was refused before
-abbrev pub unless_refused : {R : Type 0} → Option Refusal → R → Result Taking Refusal × R → Result Taking Refusal × R
+abbrev pub unless_refused : {R : Type 0} → Option Refusal → R → Result Taking Refusal × R →
+    Result Taking Refusal × R
 unless_refused (Some refusal) old answer = (Err refusal, old)
 unless_refused None old answer = answer

@@ -24,7 +24,8 @@ is_same_txn a b = bytes_eq a.group b.group && bytes_eq a.transaction b.transacti
 -- every APDU is of the transaction, and they have the numbers from this one on, one by one
 unfoldable pub are_numbered : Qualifiers → ℕ → List Apdu → Bool
 are_numbered txn number [] = true
-are_numbered txn number (a ∷ apdus) = (is_same_txn a.txn txn && (a.number == number)) && are_numbered txn (number + 1) apdus
+are_numbered txn number (a ∷ apdus) =
+    (is_same_txn a.txn txn && (a.number == number)) && are_numbered txn (number + 1) apdus
 
 -- message n: the n-th that was issued, from 1 on
 abbrev pub message : List Apdu → ℕ → Option Apdu

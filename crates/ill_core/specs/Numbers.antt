@@ -1,4 +1,5 @@
--- A number beside one that may be absent (this profile's own): none is at most, or equal to, one that is absent.
+-- A number beside one that may be absent (this profile's own): none is at most, or equal to, one
+-- that is absent.
 use Rattle.std.specs.Prelude.{ℕ, Bool, true, false, not, ◌&&◌, ◌==◌, nat_lt, nat_le, List, [], ◌∷◌, Option, Some, None}
 use Rattle.std.specs.List.{list_any}
 

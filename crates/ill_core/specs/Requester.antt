@@ -51,20 +51,22 @@ abbrev pub begins_with_request : List Apdu → Bool
 begins_with_request [] = true
 begins_with_request (a ∷ apdus) = is_ill_request a.body && not (has is_ill_request apdus)
 
--- A state has the parts that it wants, and no others: whether conditions are held, a due date is there and the item
--- was checked in.
+-- A state has the parts that it wants, and no others: whether conditions are held, a due date is
+-- there and the item was checked in.
 pub record PartsFit (state : State) (is_held is_due is_marked : Bool) : Type 0 where
   pub role : is_among (InProcess ∷ CheckedIn ∷ []) state ≡ false
   pub held : is_held ≡ is_among (Conditional ∷ []) state
   pub due : is_due ≡ is_among later state
   pub checked_in : implies is_marked (is_among (Returned ∷ []) state) ≡ true
 
--- What was issued fits a state: whether nothing was, and whether a Received, a Cancel, a Renew, a Returned and a
--- Conditional-Reply no were.
+-- What was issued fits a state: whether nothing was, and whether a Received, a Cancel, a Renew, a
+-- Returned and a Conditional-Reply no were.
 pub record IssuedFit (state : State) (none has_received has_cancel has_renew has_returned has_no : Bool) : Type 0 where
   pub idle : none ≡ is_among (Idle ∷ []) state
-  pub received : implies (is_among (Received ∷ RenewPending ∷ Overdue ∷ RenewOverdue ∷ Returned ∷ []) state) has_received ≡ true
-  pub not_received : implies has_received (is_among (Received ∷ RenewPending ∷ Overdue ∷ RenewOverdue ∷ Recall ∷ Returned ∷ []) state) ≡ true
+  pub received : implies
+      (is_among (Received ∷ RenewPending ∷ Overdue ∷ RenewOverdue ∷ Returned ∷ []) state) has_received ≡ true
+  pub not_received : implies has_received
+      (is_among (Received ∷ RenewPending ∷ Overdue ∷ RenewOverdue ∷ Recall ∷ Returned ∷ []) state) ≡ true
   pub cancel : implies (is_among (CancelPending ∷ Cancelled ∷ []) state) has_cancel ≡ true
   pub renew : implies (is_among (RenewPending ∷ RenewOverdue ∷ []) state) has_renew ≡ true
   pub returned : has_returned ≡ is_among (Returned ∷ []) state
@@ -72,7 +74,8 @@ pub record IssuedFit (state : State) (none has_received has_cancel has_renew has
 
 abbrev pub IssuedFits : State → List Apdu → Type 0
 IssuedFits state issued =
-    IssuedFit state (is_none issued) (has is_received issued) (has is_cancel issued) (has is_renew issued) (has is_returned issued) (has declines issued)
+    IssuedFit state (is_none issued) (has is_received issued) (has is_cancel issued) (has is_renew issued)
+    (has is_returned issued) (has declines issued)
 
 -- A record is a requester's where it keeps these rules.
 pub record IsRequester (x : RequesterRecord) : Type 0 where

@@ -1,6 +1,6 @@
--- What a requester does: its table of actions (this profile's own; the services are those of ISO 10160).
--- A row says from which states, to which state, what is issued, and what is held then; a wish that no row has is not
--- done now.
+-- What a requester does: its table of actions (this profile's own; the services are those of ISO
+-- 10160). A row says from which states, to which state, what is issued, and what is held then; a
+-- wish that no row has is not done now.
 use Rattle.std.specs.Prelude.{◌≡◌, ℕ, Bool, true, false, not, ◌&&◌, [], ◌∷◌, List, Option, Some, None, Result, Ok, Err, IsOk, if◌then◌else◌}
 use Rattle.std.specs.Option.{unwrap_or}
 use Rattle.ill_values.specs.Day.{Date}
@@ -89,16 +89,19 @@ record_after x row =
       issued = with_next x.txn x.issued row.body;
     }
 
-abbrev pub acts_by : RequesterRecord → Result Row Refusal → Result ℕ Refusal → Result RequesterRecord Refusal
+abbrev pub acts_by : RequesterRecord → Result Row Refusal → Result ℕ Refusal →
+    Result RequesterRecord Refusal
 acts_by x (Err refusal) number = Err refusal
 acts_by x (Ok row) (Err refusal) = Err refusal
 acts_by x (Ok row) (Ok number) = Ok (record_after x row)
 
--- The record after a wish, or why it is refused: first that it has no place now, then that all numbers are used.
+-- The record after a wish, or why it is refused: first that it has no place now, then that all
+-- numbers are used.
 abbrev pub acts : RequesterRecord → Wish → Result RequesterRecord Refusal
 acts x wish = acts_by x (row_of x wish) (next_number x.issued)
 
--- What a requester answers to a wish, and the record after it. Memory is wanted only where the wish would be done.
+-- What a requester answers to a wish, and the record after it. Memory is wanted only where the wish
+-- would be done.
 abbrev pub Acts : RequesterRecord → Wish → Result Unit Refusal → RequesterRecord → Type 0
 Acts old wish (Ok done) new = acts old wish ≡ Ok new
 Acts old wish (Err refusals.OutOfMemory) new = IsOk (acts old wish) × (new ≡ old)

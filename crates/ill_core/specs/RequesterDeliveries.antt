@@ -59,8 +59,11 @@ take_overdue x d =
 
 -- the answer to the open Renew
 abbrev pub take_renewal : RequesterRecord → Option Date → Result Taking Refusal × RequesterRecord
-take_renewal x (Some d) = if is_after_due d x.due then taken (record x { state = Received; due = Some d }) else conflict x.state x
-take_renewal x None = taken (record x { state = (if is_among (RenewPending ∷ []) x.state then Received else Overdue) })
+take_renewal x (Some d) =
+    if is_after_due d x.due then taken (record x { state = Received; due = Some d })
+    else conflict x.state x
+take_renewal x None =
+    taken (record x { state = (if is_among (RenewPending ∷ []) x.state then Received else Overdue) })
 
 abbrev pub take_renew_answer : RequesterRecord → ℕ → Option Date → Result Taking Refusal × RequesterRecord
 take_renew_answer x c granted =

@@ -1,4 +1,5 @@
--- What a requester's record shows to have come, and which APDU of a responder tells it (this profile's own).
+-- What a requester's record shows to have come, and which APDU of a responder tells it (this
+-- profile's own).
 use Rattle.std.specs.Prelude.{◌≡◌, ◌⊎◌, ℕ, Bool, true, false, ◌&&◌, List, [], ◌∷◌, ◌++◌, Option, Some, None, Result, Ok}
 use Rattle.ill_values.specs.Day.{Date}
 use Rattle.ill_values.specs.declared.apdu.Apdu.{Apdu}
@@ -26,13 +27,17 @@ pub data Fact : Type 0 where
   Refused : (cancel : ℕ) → Fact  -- the Cancel with that number was refused
   GivenBack : Fact  -- the item is back
 
--- A Cancel is open while it is the last one, in the states that wait for its answer or have the answer yes.
+-- A Cancel is open while it is the last one, in the states that wait for its answer or have the
+-- answer yes.
 abbrev pub is_open : RequesterRecord → ℕ → Bool
 is_open x c = is_among (states.CancelPending ∷ states.Cancelled ∷ []) x.state && is_the c (last_cancel x)
 
--- A record shows that a Cancel was refused where it issued that one, the Cancel is not open, and no other end has come.
+-- A record shows that a Cancel was refused where it issued that one, the Cancel is not open, and no
+-- other end has come.
 abbrev pub ShowsRefused : RequesterRecord → ℕ → Type 0
-ShowsRefused x c = (was is_cancel x.issued c ≡ true) × (is_among (states.NotSupplied ∷ later) x.state ≡ false) × (is_open x c ≡ false)
+ShowsRefused x c =
+    (was is_cancel x.issued c ≡ true) × (is_among (states.NotSupplied ∷ later) x.state ≡ false)
+    × (is_open x c ≡ false)
 
 abbrev pub Shows : RequesterRecord → Fact → Type 0
 Shows x Cancelled = x.state ≡ states.Cancelled
@@ -62,24 +67,32 @@ KeepsDue old new = (old ≡ None) ⊎ (new ≡ old) ⊎ (is_raised old new ≡ t
 
 -- Conditions are held that were not: in PENDING, with the number of the message, above those accepted.
 abbrev pub HoldsNew : RequesterRecord → ℕ → RequesterRecord → Type 0
-HoldsNew x k new = (x.state ≡ states.Pending) × (new.state ≡ states.Conditional) × (new.held ≡ Some k) × (is_at_most k (accepted_number x) ≡ false)
+HoldsNew x k new =
+    (x.state ≡ states.Pending) × (new.state ≡ states.Conditional) × (new.held ≡ Some k)
+    × (is_at_most k (accepted_number x) ≡ false)
 
--- Conditions are held as they were, in the same state or another than CONDITIONAL; or no more; or new ones are.
+-- Conditions are held as they were, in the same state or another than CONDITIONAL; or no more; or
+-- new ones are.
 abbrev pub Holds : RequesterRecord → ℕ → RequesterRecord → Type 0
 Holds x k new =
-    ((new.held ≡ x.held) × ((new.state ≡ x.state) ⊎ (is_among (states.Conditional ∷ []) new.state ≡ false)))
+    ((new.held ≡ x.held) × ((new.state ≡ x.state)
+    ⊎ (is_among (states.Conditional ∷ []) new.state ≡ false)))
     ⊎ ((new.held ≡ None) × (is_among (states.Conditional ∷ []) new.state ≡ false))
     ⊎ HoldsNew x k new
 
--- A Conditional-Reply that is issued answers the conditions that are held, in CONDITIONAL, and they were not declined.
+-- A Conditional-Reply that is issued answers the conditions that are held, in CONDITIONAL, and they
+-- were not declined.
 abbrev pub Replies : RequesterRecord → RequesterRecord → Type 0
 Replies x new =
-    (a : Apdu) (n : ℕ) (answer : Bool) → new.issued ≡ x.issued ++ a ∷ [] → a.body ≡ types.ConditionalReply n answer
-    → (is_among (states.Conditional ∷ []) x.state ≡ true) × (has declines x.issued ≡ false) × (n ≡ unwrap_or x.held 0)
+    (a : Apdu) (n : ℕ) (answer : Bool) → new.issued ≡ x.issued ++ a ∷ [] →
+    a.body ≡ types.ConditionalReply n answer
+    → (is_among (states.Conditional ∷ []) x.state ≡ true) × (has declines x.issued ≡ false)
+    × (n ≡ unwrap_or x.held 0)
 
 -- taken or a repeat, and the record after it is in one of these states
 abbrev pub LeadsTo : List State → Result Taking Refusal × RequesterRecord → Type 0
-LeadsTo states answer = ((answer.0 ≡ Ok Taken) ⊎ (answer.0 ≡ Ok Repeat)) × (is_among states answer.1.state ≡ true)
+LeadsTo states answer =
+    ((answer.0 ≡ Ok Taken) ⊎ (answer.0 ≡ Ok Repeat)) × (is_among states answer.1.state ≡ true)
 
 -- the number of the conditions that a Conditional-Reply answers
 abbrev pub replied_number : Body → Option ℕ
@@ -90,9 +103,11 @@ replied_number other = None
 abbrev pub replies : List Apdu → List ℕ
 replies apdus = filter_map (λ a. replied_number a.body) apdus
 
--- Conditions are answered once. Until some are declined, those answered are at most the accepted ones, and below the
--- ones that are held.
+-- Conditions are answered once. Until some are declined, those answered are at most the accepted
+-- ones, and below the ones that are held.
 pub record AnswersOnce (x : RequesterRecord) : Type 0 where
   pub distinct : are_distinct (replies x.issued) ≡ true
-  pub above : has declines x.issued ≡ false → list_all (λ n. is_at_most n (accepted_number x)) (replies x.issued) ≡ true
-  pub held : is_among (states.Conditional ∷ []) x.state ≡ true → has declines x.issued ≡ false → list_all (λ n. is_below n x.held) (replies x.issued) ≡ true
+  pub above : has declines x.issued ≡ false →
+      list_all (λ n. is_at_most n (accepted_number x)) (replies x.issued) ≡ true
+  pub held : is_among (states.Conditional ∷ []) x.state ≡ true → has declines x.issued ≡ false →
+      list_all (λ n. is_below n x.held) (replies x.issued) ≡ true

@@ -23,7 +23,8 @@ pub record ResponderRecord : Type 0 where
   pub issued : List Apdu
 
 -- the record of these parts
-abbrev pub responder_of : Qualifiers → State → Option ℕ → Option ℕ → Option ℕ → Bool → Option Apdu → List Apdu → ResponderRecord
+abbrev pub responder_of : Qualifiers → State → Option ℕ → Option ℕ → Option ℕ → Bool → Option Apdu →
+    List Apdu → ResponderRecord
 responder_of txn state accepted last_cancel last_renew received request issued =
     record {
       txn = txn;
@@ -40,9 +41,12 @@ responder_of txn state accepted last_cancel last_renew received request issued =
 abbrev pub due_of : ResponderRecord → Option Date
 due_of y = last_of granted_day y.issued
 
--- the number of the conditions that wait for an answer: in CONDITIONAL alone, that of the last APDU issued
+-- the number of the conditions that wait for an answer: in CONDITIONAL alone, that of the last APDU
+-- issued
 abbrev pub outstanding_number : ResponderRecord → Option ℕ
-outstanding_number y = if is_among (Conditional ∷ []) y.state then (if is_none y.issued then None else Some (length y.issued)) else None
+outstanding_number y =
+    if is_among (Conditional ∷ []) y.state then (if is_none y.issued then None else Some (length y.issued))
+    else None
 
 -- SHIPPED or later
 abbrev pub later : List State
@@ -80,29 +84,39 @@ abbrev pub is_request_of : Qualifiers → Option Apdu → Bool
 is_request_of txn None = true
 is_request_of txn (Some a) = is_same_txn a.txn txn && is_ill_request a.body
 
--- A state has the numbers and the mark that it wants, and in IDLE none: whether a request is there, a number of each
--- kind, the mark, and whether nothing was issued.
+-- A state has the numbers and the mark that it wants, and in IDLE none: whether a request is there,
+-- a number of each kind, the mark, and whether nothing was issued.
 pub record PartsFit (state : State) (has_request has_accepted has_cancel has_renew is_marked none : Bool) : Type 0 where
   pub role : is_among (Pending ∷ Received ∷ NotReceivedOverdue ∷ []) state ≡ false
   pub idle : has_request ≡ not (is_among (Idle ∷ []) state)
-  pub empty : implies (is_among (Idle ∷ []) state) (not has_accepted && (not has_cancel && (not has_renew && (not is_marked && none)))) ≡ true
+  pub empty : implies (is_among (Idle ∷ []) state)
+      (not has_accepted && (not has_cancel && (not has_renew && (not is_marked && none)))) ≡ true
   pub marked : implies is_marked (is_among later state) ≡ true
   pub cancel : implies (is_among (CancelPending ∷ Cancelled ∷ []) state) has_cancel ≡ true
   pub renew : implies (is_among (RenewPending ∷ RenewOverdue ∷ []) state) has_renew ≡ true
 
--- What was issued fits the state: one Shipped in SHIPPED or later and none elsewhere, a Checked-In in CHECKED-IN, and
--- conditions last in CONDITIONAL.
+-- What was issued fits the state: one Shipped in SHIPPED or later and none elsewhere, a Checked-In
+-- in CHECKED-IN, and conditions last in CONDITIONAL.
 pub record IssuedFits (state : State) (apdus : List Apdu) : Type 0 where
   pub shipped : count_by (λ a. is_shipped a.body) apdus ≡ (if is_among later state then 1 else 0)
   pub checked_in : has is_checked_in apdus ≡ is_among (CheckedIn ∷ []) state
   pub conditions : implies (is_among (Conditional ∷ []) state) (ends_with_conditions apdus) ≡ true
+
+-- What was issued keeps the rules of a responder: it issues each of these types, they fit its
+-- state, the conditions accepted are among them, and the due dates rise from that of a Shipped on.
+abbrev pub IssuedKeepsRules : State → Option ℕ → List Apdu → Type 0
+IssuedKeepsRules state accepted apdus =
+    (list_all (λ a. not (is_requesters a.body)) apdus ≡ true) × IssuedFits state apdus
+    × (is_named accepted apdus ≡ true)
+    × (are_rising (filter_map granted_day apdus) ≡ true) × (ships_first apdus ≡ true)
 
 -- A record is a responder's where it keeps these rules.
 pub record IsResponder (y : ResponderRecord) : Type 0 where
   pub numbered : are_numbered y.txn 1 y.issued ≡ true
   pub role : list_all (λ a. not (is_requesters a.body)) y.issued ≡ true
   pub request : is_request_of y.txn y.request ≡ true
-  pub parts : PartsFit y.state (is_some y.request) (is_some y.accepted) (is_some y.last_cancel) (is_some y.last_renew) y.received (is_none y.issued)
+  pub parts : PartsFit y.state (is_some y.request) (is_some y.accepted) (is_some y.last_cancel)
+      (is_some y.last_renew) y.received (is_none y.issued)
   pub issued : IssuedFits y.state y.issued
   pub accepted : is_named y.accepted y.issued ≡ true
   pub rising : are_rising (filter_map granted_day y.issued) ≡ true

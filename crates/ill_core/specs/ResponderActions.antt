@@ -1,6 +1,6 @@
--- What a responder does: its table of actions (this profile's own; the services are those of ISO 10160).
--- A row says from which states, to which state, what is issued, and which date forbids it; a deed that no row has is
--- not done now.
+-- What a responder does: its table of actions (this profile's own; the services are those of ISO
+-- 10160). A row says from which states, to which state, what is issued, and which date forbids it;
+-- a deed that no row has is not done now.
 use Rattle.std.specs.Prelude.{◌≡◌, ℕ, Bool, true, false, not, [], ◌∷◌, Option, Some, None, Result, Ok, Err, IsOk, if◌then◌else◌}
 use Rattle.std.specs.Option.{unwrap_or}
 use Rattle.ill_values.specs.Day.{Date}
@@ -59,28 +59,31 @@ ship_row y due today =
     else not_now y
 
 -- a renewal, which has to be later than the due date, or none
-abbrev pub renewed : ResponderRecord → State → Option Date → Result Row Refusal
-renewed y unrenewed None = leads_to unrenewed (types.RenewAnswer (unwrap_or y.last_renew 0) None)
-renewed y unrenewed (Some d) =
-    if_allowed (is_after_due d (due_of y)) refusals.DateNotLater (leads_to Shipped (types.RenewAnswer (unwrap_or y.last_renew 0) (Some d)))
+abbrev pub renewal_row : ResponderRecord → State → Option Date → Result Row Refusal
+renewal_row y unrenewed None = leads_to unrenewed (types.RenewAnswer (unwrap_or y.last_renew 0) None)
+renewal_row y unrenewed (Some d) =
+    if_allowed (is_after_due d (due_of y)) refusals.DateNotLater
+    (leads_to Shipped (types.RenewAnswer (unwrap_or y.last_renew 0) (Some d)))
 
 abbrev pub renew_answer_row : ResponderRecord → Option Date → Result Row Refusal
 renew_answer_row y granted =
-    if is_among (RenewPending ∷ []) y.state then renewed y Shipped granted
-    else if is_among (RenewOverdue ∷ []) y.state then renewed y Overdue granted
+    if is_among (RenewPending ∷ []) y.state then renewal_row y Shipped granted
+    else if is_among (RenewOverdue ∷ []) y.state then renewal_row y Overdue granted
     else not_now y
 
 abbrev pub no_date : Date
 no_date = record { year = 0; month = 0; day = 0 }
 
 -- the due date, which is there once the item was shipped
-abbrev pub overdue : ResponderRecord → Date → State → Result Row Refusal
-overdue y today next = if_allowed (is_after_due today (due_of y)) refusals.NotDue (leads_to next (types.Overdue (unwrap_or (due_of y) no_date)))
+abbrev pub overdue_row_to : ResponderRecord → Date → State → Result Row Refusal
+overdue_row_to y today next =
+    if_allowed (is_after_due today (due_of y)) refusals.NotDue
+    (leads_to next (types.Overdue (unwrap_or (due_of y) no_date)))
 
 abbrev pub overdue_row : ResponderRecord → Date → Result Row Refusal
 overdue_row y today =
-    if is_among (Shipped ∷ []) y.state then overdue y today Overdue
-    else if is_among (RenewPending ∷ []) y.state then overdue y today RenewOverdue
+    if is_among (Shipped ∷ []) y.state then overdue_row_to y today Overdue
+    else if is_among (RenewPending ∷ []) y.state then overdue_row_to y today RenewOverdue
     else not_now y
 
 abbrev pub recall_row : ResponderRecord → Result Row Refusal
@@ -137,16 +140,19 @@ issues_to y body state =
 abbrev pub record_after : ResponderRecord → Row → ResponderRecord
 record_after y row = issues_to y row.body row.next
 
-abbrev pub acts_by : ResponderRecord → Result Row Refusal → Result ℕ Refusal → Result ResponderRecord Refusal
+abbrev pub acts_by : ResponderRecord → Result Row Refusal → Result ℕ Refusal →
+    Result ResponderRecord Refusal
 acts_by y (Err refusal) number = Err refusal
 acts_by y (Ok row) (Err refusal) = Err refusal
 acts_by y (Ok row) (Ok number) = Ok (record_after y row)
 
--- The record after a deed, or why it is refused: first that it has no place now, then its date, then that all numbers are used.
+-- The record after a deed, or why it is refused: first that it has no place now, then its date,
+-- then that all numbers are used.
 abbrev pub acts : ResponderRecord → Deed → Date → Result ResponderRecord Refusal
 acts y deed today = acts_by y (row_of y deed today) (next_number y.issued)
 
--- What a responder answers to a deed, and the record after it. Memory is wanted only where the deed would be done.
+-- What a responder answers to a deed, and the record after it. Memory is wanted only where the deed
+-- would be done.
 abbrev pub Acts : ResponderRecord → Deed → Date → Result Unit Refusal → ResponderRecord → Type 0
 Acts old deed today (Ok done) new = acts old deed today ≡ Ok new
 Acts old deed today (Err refusals.OutOfMemory) new = IsOk (acts old deed today) × (new ≡ old)

@@ -80,7 +80,8 @@ take_message y a other = conflict y.state y
 
 -- What an APDU does to a responder.
 abbrev pub takes : ResponderRecord → Apdu → Result Taking Refusal × ResponderRecord
-takes y a = unless_refused (first_refusal y.txn (not (is_requesters a.body)) a) y (take_message y a a.body)
+takes y a =
+    unless_refused (first_refusal y.txn (not (is_requesters a.body)) a) y (take_message y a a.body)
 
 -- an APDU that is kept, or that is answered by issuing one, takes memory
 abbrev pub takes_memory : ResponderRecord → Body → Bool
@@ -88,10 +89,12 @@ takes_memory y (types.IllRequest expiry item) = is_among (Idle ∷ []) y.state
 takes_memory y (types.ConditionalReply c false) = is_among (InProcess ∷ Conditional ∷ []) y.state
 takes_memory y other = false
 
--- A call answers what is expected, with the record after it; or want of memory, where memory is taken for what would
--- be taken, and the record is as it was.
-abbrev pub MayWantMemory : Result Taking Refusal × ResponderRecord → Bool → ResponderRecord → Result Taking Refusal → ResponderRecord → Type 0
-MayWantMemory expected memory old (Err refusals.OutOfMemory) new = (expected.0 ≡ Ok Taken) × (memory ≡ true) × (new ≡ old)
+-- A call answers what is expected, with the record after it; or want of memory, where memory is
+-- taken for what would be taken, and the record is as it was.
+abbrev pub MayWantMemory : Result Taking Refusal × ResponderRecord → Bool → ResponderRecord →
+    Result Taking Refusal → ResponderRecord → Type 0
+MayWantMemory expected memory old (Err refusals.OutOfMemory) new =
+    (expected.0 ≡ Ok Taken) × (memory ≡ true) × (new ≡ old)
 MayWantMemory expected memory old answer new = (answer, new) ≡ expected
 
 -- What a responder answers to an APDU, and the record after it.

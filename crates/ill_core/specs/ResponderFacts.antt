@@ -1,5 +1,5 @@
--- What a responder's record shows to have come, which APDU of a requester tells it, and what its rows keep (this
--- profile's own).
+-- What a responder's record shows to have come, which APDU of a requester tells it, and what its
+-- rows keep (this profile's own).
 use Rattle.std.specs.Prelude.{◌≡◌, ◌⊎◌, ℕ, Bool, true, false, ◌&&◌, ◌||◌, ◌==◌, List, [], ◌∷◌, ◌++◌, Option, Some, None, Result, Ok, if◌then◌else◌}
 use Rattle.std.specs.List.{list_all, filter_map, count_by}
 use Rattle.std.specs.Option.{unwrap_or}
@@ -50,7 +50,8 @@ Tells number other fact = ⊥
 -- An APDU issues one ILL-Answer unfilled, where it is a Conditional-Reply no, or none.
 abbrev pub IssuesUnfilled : ResponderRecord → Body → ResponderRecord → Type 0
 IssuesUnfilled y body new =
-    (new.issued ≡ y.issued) ⊎ ((declines body ≡ true) × (new.issued ≡ with_next y.txn y.issued (types.IllAnswer Unfilled)))
+    (new.issued ≡ y.issued) ⊎ ((declines body ≡ true)
+    × (new.issued ≡ with_next y.txn y.issued (types.IllAnswer Unfilled)))
 
 -- SHIPPED or later stays so, and RETURNED stays or is left for CHECKED-IN.
 abbrev pub StaysLater : ResponderRecord → ResponderRecord → Type 0
@@ -79,19 +80,22 @@ ended = NotSupplied ∷ Cancelled ∷ later
 abbrev pub ends_in : Body → State → Bool
 ends_in body state =
     (is_unsupplied body && is_among (NotSupplied ∷ []) state)
-    || ((is_cancelled body && is_among (Cancelled ∷ []) state) || (is_shipped body && is_among later state))
+    || ((is_cancelled body && is_among (Cancelled ∷ []) state)
+    || (is_shipped body && is_among later state))
 
 -- An end is issued only while the request is open, and leads to its state.
 abbrev pub Ends : ResponderRecord → ResponderRecord → Type 0
 Ends y new =
     (a : Apdu) → new.issued ≡ y.issued ++ a ∷ [] → is_end a.body ≡ true
-    → (is_among (InProcess ∷ Conditional ∷ CancelPending ∷ []) y.state ≡ true) × (ends_in a.body new.state ≡ true)
+    → (is_among (InProcess ∷ Conditional ∷ CancelPending ∷ []) y.state ≡ true)
+    × (ends_in a.body new.state ≡ true)
 
 -- The state of an end is entered only by issuing that end.
 abbrev pub EntersByEnd : ResponderRecord → ResponderRecord → Type 0
 EntersByEnd y new =
     is_among ended new.state ≡ true
-    → (is_among ended y.state ≡ true) ⊎ ((a : Apdu) × (new.issued ≡ y.issued ++ a ∷ []) × (ends_in a.body new.state ≡ true))
+    → (is_among ended y.state ≡ true) ⊎ ((a : Apdu) × (new.issued ≡ y.issued ++ a ∷ [])
+    × (ends_in a.body new.state ≡ true))
 
 -- A request ends once, and its state says how.
 pub record EndsOnce (y : ResponderRecord) : Type 0 where
@@ -129,17 +133,20 @@ waits MayRenew state = is_among (RenewPending ∷ RenewOverdue ∷ []) state
 abbrev pub AnswersLast : Question → ResponderRecord → ResponderRecord → Type 0
 AnswersLast question y new =
     (a : Apdu) (n : ℕ) → new.issued ≡ y.issued ++ a ∷ [] → answered_number question a.body ≡ Some n
-    → (waits question y.state ≡ true) × (waits question new.state ≡ false) × (n ≡ unwrap_or (last_asked question y) 0)
+    → (waits question y.state ≡ true) × (waits question new.state ≡ false)
+    × (n ≡ unwrap_or (last_asked question y) 0)
 
 -- The last question is the same, and no question waits that did not.
 abbrev pub KeepsLast : Question → ResponderRecord → ResponderRecord → Type 0
 KeepsLast question y new =
-    (last_asked question new ≡ last_asked question y) × (waits question new.state ≡ true → waits question y.state ≡ true)
+    (last_asked question new ≡ last_asked question y)
+    × (waits question new.state ≡ true → waits question y.state ≡ true)
 
 -- A question with a number above the last one's is the last one now.
 abbrev pub TakesNew : Question → ℕ → Body → ResponderRecord → ResponderRecord → Type 0
 TakesNew question number body y new =
-    (asks question body ≡ true) × (is_at_most number (last_asked question y) ≡ false) × (last_asked question new ≡ Some number)
+    (asks question body ≡ true) × (is_at_most number (last_asked question y) ≡ false)
+    × (last_asked question new ≡ Some number)
 
 -- the numbers of the questions that were answered_number, in the order of the answers
 abbrev pub answers_to : Question → List Apdu → List ℕ
@@ -152,8 +159,10 @@ pub record AnsweredOnce (answers : List ℕ) (last : Option ℕ) (is_waiting : B
   pub below : is_waiting ≡ true → list_all (λ n. is_below n last) answers ≡ true
 
 abbrev pub AnswersOnce : Question → ResponderRecord → Type 0
-AnswersOnce question y = AnsweredOnce (answers_to question y.issued) (last_asked question y) (waits question y.state)
+AnswersOnce question y =
+    AnsweredOnce (answers_to question y.issued) (last_asked question y) (waits question y.state)
 
 -- taken or a repeat, and the record after it is in one of these states
 abbrev pub LeadsTo : List State → Result Taking Refusal × ResponderRecord → Type 0
-LeadsTo states answer = ((answer.0 ≡ Ok Taken) ⊎ (answer.0 ≡ Ok Repeat)) × (is_among states answer.1.state ≡ true)
+LeadsTo states answer =
+    ((answer.0 ≡ Ok Taken) ⊎ (answer.0 ≡ Ok Repeat)) × (is_among states answer.1.state ≡ true)

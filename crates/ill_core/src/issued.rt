@@ -34,7 +34,8 @@ impl Model for Issued {
 
     ghost view = { λ i. record { txn = i.txn; apdus = i.apdus.items } };
 
-    ghost invariant = { λ i. (are_numbered i.txn 1 i.apdus.items ≡ true) × (length i.apdus.items ≤ 255) };
+    ghost invariant = { λ i. (are_numbered i.txn 1 i.apdus.items ≡ true)
+        × (length i.apdus.items ≤ 255) };
 }
 
 impl Sought {

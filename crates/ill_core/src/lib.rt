@@ -1,6 +1,7 @@
 //! Both sides of an interlibrary loan, as records that act and take messages by tables.
 //!
-//! Each side is a value of its own: `act` is what its library decides, and `take` what a message does.
+//! Each side is a value of its own: `act` is what its library decides, and `take` what a message
+//! does.
 #![tactic(auto)]
 
 mod issued;

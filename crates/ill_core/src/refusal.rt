@@ -7,25 +7,36 @@ use crate::state::State;
 use std::alloc::{AllocError, AllocFailed};
 use thiserror::Error;
 
-/// Why nothing was done: the first of these that holds. The record is as it was.
+/// Why an action or a message was refused. The side is unchanged.
+///
+/// Where more than one holds, it is the first in this order.
 #[derive(Clone, Copy, Debug, PartialEq, Eq, Hash, Error)]
 pub enum Refusal {
+    /// The APDU belongs to another transaction. Only `take` gives this.
     #[error("the APDU is of another transaction")]
     OtherTransaction,
+    /// The APDU is of a type that this side itself issues. Only `take` gives this.
     #[error("the APDU is one that this role issues")]
     WrongRole,
+    /// The action has no place in this state, which is the side's own.
     #[error("not in the state {0}")]
     NotNow(State),
+    /// The due date of a `Ship` is before today.
     #[error("the due date is before today")]
     DateEarlier,
+    /// The due date that a `RenewAnswer` grants is not after the present one.
     #[error("the new due date is not after the present one")]
     DateNotLater,
+    /// The due date of an `Overdue` has not passed: it is today or later.
     #[error("the item is not overdue yet")]
     NotDue,
+    /// The expiry date of the request has not passed, or there is none.
     #[error("the request has not expired")]
     NotExpired,
+    /// The side has issued 255 messages, and there is no number for another.
     #[error("all 255 numbers are used")]
     NumbersUsed,
+    /// Memory ran out.
     #[error("out of memory")]
     OutOfMemory,
 }

@@ -20,7 +20,7 @@ use ill_values::{Apdu, Day, Item, Number, TxnId};
 use std::alloc::Global;
 use std::marker::Model;
 
-/// The side that asks for an item.
+/// The record of the side that asks for an item.
 #[derive(Debug, Drop)]
 pub struct Requester {
     state: State,
@@ -30,14 +30,31 @@ pub struct Requester {
     issued: Issued,
 }
 
-/// What the library of a requester decides.
+/// What the library of a requester may decide to do.
 #[derive(Debug, PartialEq, Eq, Drop)]
 pub enum Wish {
-    Request { expiry: Option<Day>, item: Item },
+    /// Ask for an item: issue the ILL-Request.
+    Request {
+        /// The last day of the request, if it may expire.
+        expiry: Option<Day>,
+        /// The item to ask for.
+        item: Item,
+    },
+    /// Ask the responder to cancel the request.
     Cancel,
-    Reply { yes: bool },
+    /// Accept or decline the responder's conditions: issue a Conditional-Reply.
+    Reply {
+        /// Whether the conditions are accepted.
+        yes: bool,
+    },
+    /// Tell the responder that the item has arrived.
     Receive,
-    Renew { wished: Option<Day> },
+    /// Ask the responder for a later due date.
+    Renew {
+        /// The due date that the library would like, if it names one.
+        wished: Option<Day>,
+    },
+    /// Tell the responder that the item was sent back.
     Return,
 }
 
@@ -46,11 +63,12 @@ impl Model for Requester {
 
     ghost view = { λ r. requester_of r.issued.txn r.state r.held r.checked_in r.due r.issued.apdus };
 
-    ghost invariant = { λ r. IsRequester (requester_of r.issued.txn r.state r.held r.checked_in r.due r.issued.apdus) };
+    ghost invariant = { λ r. IsRequester
+        (requester_of r.issued.txn r.state r.held r.checked_in r.due r.issued.apdus) };
 }
 
 impl Requester {
-    /// The requester before its first message.
+    /// A requester that has issued and taken nothing. `alloc` is kept for later.
     pub fn idle(alloc: Global, txn: TxnId) -> Requester
         ensures { result ≡ requester_of txn State.Idle None false None [] }
     {
@@ -63,7 +81,7 @@ impl Requester {
         }
     }
 
-    /// The requester with these parts, or `None` where no requester has them.
+    /// The requester with these parts, or `None` if the parts do not fit together.
     pub fn of_parts(
         txn: TxnId,
         state: State,
@@ -72,8 +90,10 @@ impl Requester {
         due: Option<Day>,
         issued: Vec<Apdu>,
     ) -> Option<Requester>
-        ensures some { IsSome result ↔ IsRequester (requester_of txn state held checked_in due issued.items) }
-        ensures value { IfSome result (λ r. r ≡ requester_of txn state held checked_in due issued.items) }
+        ensures some { IsSome result ↔
+            IsRequester (requester_of txn state held checked_in due issued.items) }
+        ensures value { IfSome result
+            (λ r. r ≡ requester_of txn state held checked_in due issued.items) }
     {
         if !are_numbered(&txn, &issued) {
             return None;
@@ -90,7 +110,10 @@ impl Requester {
         })
     }
 
-    /// Does what its library decides, and issues the message that tells it.
+    /// Does what the library decides, and issues the message that tells the responder.
+    ///
+    /// It refuses what has no place in this state, then a 256th message, then want of memory; a
+    /// refusal changes nothing.
     pub fn act(&mut self, alloc: Global, wish: &Wish) -> Result<(), Refusal>
         ensures { Acts self.old wish.now result self.new }
     {
@@ -102,7 +125,7 @@ impl Requester {
         Ok(())
     }
 
-    /// Takes a message of the responder.
+    /// Takes a message of the responder, and answers what it did. A refusal changes nothing.
     pub fn take(&mut self, apdu: &Apdu) -> Result<Taking, Refusal>
         ensures { Takes self.old apdu.now result self.new }
     {
@@ -110,14 +133,14 @@ impl Requester {
         Ok(deliveries::take_message(self, apdu))
     }
 
-    /// The transaction.
+    /// The id of the transaction.
     pub fn txn(&self) -> &TxnId
         ensures { result.now ≡ self.now.txn }
     {
         self.issued.txn()
     }
 
-    /// The state.
+    /// The present state.
     pub fn state(&self) -> State
         ensures value { result ≡ self.now.state }
         ensures requester { IsRequester self.now }
@@ -125,21 +148,21 @@ impl Requester {
         self.state
     }
 
-    /// The day on which the item is due.
+    /// The day on which the item is due, once it was shipped.
     pub fn due(&self) -> Option<Day>
         ensures { result ≡ self.now.due }
     {
         self.due
     }
 
-    /// How many messages were issued.
+    /// How many messages the requester has issued: 0 to 255.
     pub fn issued_count(&self) -> u8
         ensures { result ≡ length self.now.issued }
     {
         self.issued.count()
     }
 
-    /// The messages that were issued, in their order.
+    /// The messages that the requester has issued, in order: the n-th has number n.
     pub fn all_issued(&self) -> &[Apdu]
         ensures value { result.now ≡ self.now.issued }
         ensures few { length self.now.issued ≤ 255 }
@@ -147,35 +170,35 @@ impl Requester {
         self.issued.apdus()
     }
 
-    /// The message that was issued with this number.
+    /// The message that the requester issued with this number, if it did.
     pub fn issued(&self, number: Number) -> Option<&Apdu>
         ensures { option_map (λ a. a.now) result ≡ message self.now.issued number }
     {
         self.issued.get(number)
     }
 
-    /// Whether a Received was issued.
+    /// Whether the requester has issued a Received.
     pub fn is_received(&self) -> bool
         ensures { result ≡ is_received_by self.now }
     {
         rules::has_received(self.issued.apdus())
     }
 
-    /// The number that the last Conditional-Reply yes answered.
+    /// The number of the ILL-Answer whose conditions were accepted last, if any.
     pub fn accepted(&self) -> Option<Number>
         ensures { result ≡ accepted_number self.now }
     {
         self.issued.last(Sought::Accepted)
     }
 
-    /// The number of the ILL-Answer that named the conditions, while they stand.
+    /// The number of the ILL-Answer that named the conditions, while they stand (CONDITIONAL).
     pub fn held(&self) -> Option<Number>
         ensures { result ≡ self.now.held }
     {
         self.held
     }
 
-    /// Whether conditions stand that were declined.
+    /// Whether the conditions that stand were declined.
     pub fn is_declined(&self) -> bool
         ensures { result ≡ is_declined self.now }
     {

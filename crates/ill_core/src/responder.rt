@@ -20,7 +20,7 @@ use ill_values::{AnswerResult, Apdu, Body, Day, Number, TxnId};
 use std::alloc::Global;
 use std::marker::Model;
 
-/// The side that is asked for an item.
+/// The record of the side that is asked for an item.
 #[derive(Debug, Drop)]
 pub struct Responder {
     state: State,
@@ -32,30 +32,49 @@ pub struct Responder {
     issued: Issued,
 }
 
-/// What the library of a responder decides.
+/// What the library of a responder may decide to do.
 #[derive(Clone, Copy, Debug, PartialEq, Eq, Hash)]
 pub enum Deed {
+    /// Answer the request: issue an ILL-Answer with this result.
     Answer(AnswerResult),
-    CancelReply { yes: bool },
-    Ship { due: Day },
-    /// The answer is yes where a date is granted, and no without one.
-    RenewAnswer { granted: Option<Day> },
+    /// Agree to the last Cancel or refuse it.
+    CancelReply {
+        /// Whether the request is cancelled.
+        yes: bool,
+    },
+    /// Send the item.
+    Ship {
+        /// The day on which the item is due: today or later.
+        due: Day,
+    },
+    /// Grant the last Renew or refuse it.
+    RenewAnswer {
+        /// The new due date, where the answer is yes. Without a date the answer is no.
+        granted: Option<Day>,
+    },
+    /// Tell the requester that the due date has passed.
     Overdue,
+    /// Ask for the item back at once.
     Recall,
+    /// Tell the requester that the item is back.
     CheckIn,
+    /// End a request whose expiry date has passed.
     Expire,
 }
 
 impl Model for Responder {
     ghost Value = { ResponderRecord };
 
-    ghost view = { λ r. responder_of r.issued.txn r.state r.accepted r.last_cancel r.last_renew r.received r.request r.issued.apdus };
+    ghost view = { λ r. responder_of r.issued.txn r.state r.accepted r.last_cancel r.last_renew
+        r.received r.request r.issued.apdus };
 
-    ghost invariant = { λ r. IsResponder (responder_of r.issued.txn r.state r.accepted r.last_cancel r.last_renew r.received r.request r.issued.apdus) };
+    ghost invariant = { λ r. IsResponder
+        (responder_of r.issued.txn r.state r.accepted r.last_cancel r.last_renew r.received
+        r.request r.issued.apdus) };
 }
 
 impl Responder {
-    /// The responder before its first message.
+    /// A responder that has issued and taken nothing. `alloc` is kept for later.
     #[tactic(auto, unfolding(crate::specs::Issued::are_numbered, crate::specs::Responder::rise_from, crate::specs::Responder::ships_first))]
     pub fn idle(alloc: Global, txn: TxnId) -> Responder
         ensures { result ≡ responder_of txn State.Idle None None None false None [] }
@@ -71,7 +90,7 @@ impl Responder {
         }
     }
 
-    /// The responder with these parts, or `None` where no responder has them.
+    /// The responder with these parts, or `None` if the parts do not fit together.
     pub fn of_parts(
         txn: TxnId,
         state: State,
@@ -82,8 +101,12 @@ impl Responder {
         request: Option<Apdu>,
         issued: Vec<Apdu>,
     ) -> Option<Responder>
-        ensures some { IsSome result ↔ IsResponder (responder_of txn state accepted last_cancel last_renew received request issued.items) }
-        ensures value { IfSome result (λ r. r ≡ responder_of txn state accepted last_cancel last_renew received request issued.items) }
+        ensures some { IsSome result ↔
+            IsResponder (responder_of txn state accepted last_cancel last_renew received request
+            issued.items) }
+        ensures value { IfSome result
+            (λ r. r ≡ responder_of txn state accepted last_cancel last_renew received request
+            issued.items) }
     {
         let present = rules::Present {
             request: request.is_some(),
@@ -116,7 +139,10 @@ impl Responder {
         })
     }
 
-    /// Does what its library decides, and issues the message that tells it.
+    /// Does what the library decides on this day, and issues the message that tells the requester.
+    ///
+    /// It refuses what has no place in this state or on this day, then a 256th message, then want of
+    /// memory; a refusal changes nothing.
     pub fn act(&mut self, alloc: Global, deed: &Deed, today: Day) -> Result<(), Refusal>
         ensures { Acts self.old deed.now today result self.new }
     {
@@ -127,7 +153,10 @@ impl Responder {
         Ok(())
     }
 
-    /// Takes a message of the requester.
+    /// Takes a message of the requester, and answers what it did. A refusal changes nothing.
+    ///
+    /// Only the ILL-Request, which is kept, and a Conditional-Reply no, which is answered with an
+    /// ILL-Answer unfilled, take memory.
     pub fn take(&mut self, alloc: Global, apdu: &Apdu) -> Result<Taking, Refusal>
         ensures { Takes self.old apdu.now result self.new }
     {
@@ -135,14 +164,14 @@ impl Responder {
         deliveries::take_message(self, alloc, apdu)
     }
 
-    /// The transaction.
+    /// The id of the transaction.
     pub fn txn(&self) -> &TxnId
         ensures { result.now ≡ self.now.txn }
     {
         self.issued.txn()
     }
 
-    /// The state.
+    /// The present state.
     pub fn state(&self) -> State
         ensures value { result ≡ self.now.state }
         ensures responder { IsResponder self.now }
@@ -150,21 +179,22 @@ impl Responder {
         self.state
     }
 
-    /// The day on which the item is due: that of the last Shipped or Renew-Answer yes.
+    /// The day on which the item is due, once it was shipped: that of the last Shipped or
+    /// Renew-Answer yes.
     pub fn due(&self) -> Option<Day>
         ensures { result ≡ due_of self.now }
     {
         self.issued.last_granted()
     }
 
-    /// How many messages were issued.
+    /// How many messages the responder has issued: 0 to 255.
     pub fn issued_count(&self) -> u8
         ensures { result ≡ length self.now.issued }
     {
         self.issued.count()
     }
 
-    /// The messages that were issued, in their order.
+    /// The messages that the responder has issued, in order: the n-th has number n.
     pub fn all_issued(&self) -> &[Apdu]
         ensures value { result.now ≡ self.now.issued }
         ensures few { length self.now.issued ≤ 255 }
@@ -172,28 +202,28 @@ impl Responder {
         self.issued.apdus()
     }
 
-    /// The message that was issued with this number.
+    /// The message that the responder issued with this number, if it did.
     pub fn issued(&self, number: Number) -> Option<&Apdu>
         ensures { option_map (λ a. a.now) result ≡ message self.now.issued number }
     {
         self.issued.get(number)
     }
 
-    /// Whether a Received was taken.
+    /// Whether the responder has taken a Received.
     pub fn is_received(&self) -> bool
         ensures { result ≡ self.now.received }
     {
         self.received
     }
 
-    /// The number of the conditions that the last Conditional-Reply yes taken answered.
+    /// The number of the ILL-Answer whose conditions the requester accepted last, if any.
     pub fn accepted(&self) -> Option<Number>
         ensures { result ≡ self.now.accepted }
     {
         self.accepted
     }
 
-    /// The number of the conditions that wait for an answer.
+    /// The number of the ILL-Answer whose conditions wait for a reply (CONDITIONAL).
     pub fn outstanding(&self) -> Option<Number>
         ensures { result ≡ outstanding_number self.now }
     {
@@ -203,21 +233,21 @@ impl Responder {
         }
     }
 
-    /// The number of the last Cancel taken.
+    /// The number of the last Cancel that was taken, if any.
     pub fn last_cancel(&self) -> Option<Number>
         ensures { result ≡ self.now.last_cancel }
     {
         self.last_cancel
     }
 
-    /// The number of the last Renew taken.
+    /// The number of the last Renew that was taken, if any.
     pub fn last_renew(&self) -> Option<Number>
         ensures { result ≡ self.now.last_renew }
     {
         self.last_renew
     }
 
-    /// The ILL-Request.
+    /// The ILL-Request, once it was taken.
     pub fn request(&self) -> Option<&Apdu>
         ensures { option_map (λ a. a.now) result ≡ self.now.request }
     {

@@ -6,25 +6,42 @@ ghost use Rattle.ill_core.specs.State.{state_name};
 
 use std::fmt;
 
-/// The state of one side of a transaction. It prints its name.
+/// The state of one side of a transaction. It is displayed by its name, as `NOT-SUPPLIED`.
 #[derive(Clone, Copy, Debug, PartialEq, Eq, Hash)]
 pub enum State {
-    /// Before the first APDU.
+    /// No message was issued or taken yet.
     Idle,
+    /// The request was issued, and the responder has neither shipped the item nor ended the request,
+    /// as far as the requester knows. Only a requester has this state.
     Pending,
+    /// The responder has the request and works on it. Only a responder has this state.
     InProcess,
+    /// The responder supplies only on conditions, which are not accepted.
     Conditional,
+    /// A Cancel waits for its Cancel-Reply.
     CancelPending,
+    /// The responder has agreed to a Cancel. This state is final.
     Cancelled,
+    /// The request has ended without the item. This state is final.
     NotSupplied,
+    /// The responder has shipped the item. A requester in this state has not told that it came.
     Shipped,
+    /// The item has reached the requester. Only a requester has this state.
     Received,
+    /// The requester has the item, and a Renew waits for its Renew-Answer.
     RenewPending,
+    /// The responder has told that the item is overdue.
     Overdue,
+    /// The responder has told that the item is overdue, and a Renew waits for its Renew-Answer.
     RenewOverdue,
+    /// The responder has told that the item is overdue, and the requester has not told that it came.
+    /// Only a requester has this state.
     NotReceivedOverdue,
+    /// The responder has asked for the item back.
     Recall,
+    /// The requester has sent the item back. For a requester this state is final.
     Returned,
+    /// The item is back at the responder. Only a responder has this state, and it is final.
     CheckedIn,
 }
 

@@ -5,12 +5,12 @@ use crate::state::State;
 /// What a message did to the side that took it.
 #[derive(Clone, Copy, Debug, PartialEq, Eq, Hash)]
 pub enum Taking {
-    /// It was new. The record follows it.
+    /// It was new, and the side has followed it.
     Taken,
-    /// The record shows it already.
+    /// It was taken before; nothing changes.
     Repeat,
-    /// It answers a message that is answered, or has been overtaken.
+    /// It came too late: a later message has settled what it is about. Nothing changes.
     Stale,
-    /// It has no place in this state.
+    /// It has no place in this state, which is the side's own. Nothing changes.
     Conflict(State),
 }

@@ -5,7 +5,7 @@ use Rattle.std.proofs.lemmas.List.{take_at, drop_at, take-append-drop, length-ap
 use Rattle.ill_der.specs.declared.fault.DerFault.{DerFault}
 use Rattle.ill_der.specs.declared.fault.DerFault.TheVariants.{Tag, Length}
 use Rattle.ill_der.specs.declared.length.LengthForm.{LengthForm}
-use Rattle.ill_der.specs.declared.length.LengthForm.TheVariants.{Cut, Wrong, Is}
+use Rattle.ill_der.specs.declared.length.LengthForm.TheVariants.{Truncated, Invalid, Definite}
 use Rattle.ill_der.specs.Format.{length_octets, length_of, element, Left, left_at, contents_by, stands_at, element_at, ended}
 use Rattle.ill_der.proofs.Chains.{passed, went_on, chosen, ok_is, no_value, IsInside, tag_inside, length_inside}
 use Rattle.ill_der.specs.Laws.{IsBytes}
@@ -22,15 +22,15 @@ stands_true identifier (first ∷ rest) e = ap (λ (x : ℕ). x ∷ rest) (eqb-t
 record TakesContents (bytes inside rest : List ℕ) : Type 0 where
   n : ℕ
   octets : ℕ
-  form : length_of bytes ≡ Is n octets
+  form : length_of bytes ≡ Definite n octets
   enough : octets + n ≤ length bytes
   inside-is : take n (drop octets bytes) ≡ inside
   rest-is : drop (octets + n) bytes ≡ rest
 
 contents_found : (form : LengthForm) (left inside rest : Left) → length_of left.bytes ≡ form → contents_by form left ≡ Ok (inside, rest) → TakesContents left.bytes inside.bytes rest.bytes
-contents_found Cut left inside rest f e = absurd cc
-contents_found Wrong left inside rest f e = absurd cc
-contents_found (Is n octets) left inside rest f e =
+contents_found Truncated left inside rest f e = absurd cc
+contents_found Invalid left inside rest f e = absurd cc
+contents_found (Definite n octets) left inside rest f e =
     let part : Left = left_at (left.at + octets) (take n (drop octets left.bytes)) in
     let behind : Left = left_at (left.at + (octets + n)) (drop (octets + n) left.bytes) in
     let there = went_on (ltb (length left.bytes) (octets + n)) (Ok (part, behind)) (Length left.at) (inside, rest) e in
@@ -79,7 +79,7 @@ element_takes identifier left inside rest fits e =
 -- ---- what is spelled is read again
 
 contents_again : (at : ℕ) (octets contents more : List ℕ)
-    → contents_by (Is (length contents) (length octets)) (left_at at (octets ++ (contents ++ more)))
+    → contents_by (Definite (length contents) (length octets)) (left_at at (octets ++ (contents ++ more)))
     ≡ Ok (left_at (at + length octets) contents, left_at (at + (length octets + length contents)) more)
 contents_again at octets contents more =
     let all = octets ++ (contents ++ more) in
@@ -121,9 +121,9 @@ element_bound identifier most contents le =
 -- ---- no element is short
 
 contents_faults : (form : LengthForm) (left : Left) (d : DerFault) → contents_by form left ≡ Err d → IsInside d
-contents_faults Cut left d e = length_inside left.at d e
-contents_faults Wrong left d e = length_inside left.at d e
-contents_faults (Is m octets) left d e =
+contents_faults Truncated left d e = length_inside left.at d e
+contents_faults Invalid left d e = length_inside left.at d e
+contents_faults (Definite m octets) left d e =
     let part : Left = left_at (left.at + octets) (take m (drop octets left.bytes)) in
     let behind : Left = left_at (left.at + (octets + m)) (drop (octets + m) left.bytes) in
     elim (chosen (ltb (length left.bytes) (octets + m)) (Err (Length left.at)) (Ok (part, behind)) (Err d) e) [

@@ -4,7 +4,7 @@ use Rattle.std.proofs.lemmas.Bool.{cases_lt, lt-ltb, le-ltb, ltb-true, ltb-false
 use Rattle.std.proofs.Math.Dec.{eqb-suc-zero}
 use Rattle.std.specs.Prelude.{if◌then◌else◌, nat_lt}
 use Rattle.ill_der.specs.declared.length.LengthForm.{LengthForm}
-use Rattle.ill_der.specs.declared.length.LengthForm.TheVariants.{Wrong, Is}
+use Rattle.ill_der.specs.declared.length.LengthForm.TheVariants.{Invalid, Definite}
 use Rattle.ill_der.specs.Format.{length_octets, length_of, IsFew, one_octet_length, two_octet_length}
 use Rattle.ill_der.proofs.Chains.{chosen}
 use Rattle.ill_der.specs.Laws.{IsBytes}
@@ -30,7 +30,7 @@ not_zero : (n : ℕ) → 1 ≤ n → eqb n 0 ≡ false
 not_zero zero h = absurd (omega arith)
 not_zero (suc n) h = eqb-suc-zero n
 
-pub length_again : (n : ℕ) (more : List ℕ) → n < 65536 → length_of (length_octets n ++ more) ≡ Is n (length (length_octets n))
+pub length_again : (n : ℕ) (more : List ℕ) → n < 65536 → length_of (length_octets n ++ more) ≡ Definite n (length (length_octets n))
 unfolding length_of
 length_again n more small =
     elim (cases_lt n 128) [
@@ -53,26 +53,26 @@ not_zero_is (suc n) e = omega arith
 abbrev pub IsSpelledLength : List ℕ → ℕ → ℕ → Type 0
 IsSpelledLength bytes n octets = (bytes ≡ length_octets n ++ drop octets bytes) × (length (length_octets n) ≡ octets)
 
-along : (bytes : List ℕ) (a b n octets : ℕ) → Is a b ≡ Is n octets → IsSpelledLength bytes a b → IsSpelledLength bytes n octets
+along : (bytes : List ℕ) (a b n octets : ℕ) → Definite a b ≡ Definite n octets → IsSpelledLength bytes a b → IsSpelledLength bytes n octets
 along bytes a b n octets e h =
     let ea : a ≡ n = cc in
     let eb : b ≡ octets = cc in
     subst (λ (x : ℕ). IsSpelledLength bytes x octets) ea (subst (λ (x : ℕ). IsSpelledLength bytes a x) eb h)
 
-one_takes : (rest : List ℕ) (n octets : ℕ) → IsBytes rest → one_octet_length rest ≡ Is n octets → IsSpelledLength (0x81 ∷ rest) n octets
+one_takes : (rest : List ℕ) (n octets : ℕ) → IsBytes rest → one_octet_length rest ≡ Definite n octets → IsSpelledLength (0x81 ∷ rest) n octets
 one_takes [] n octets fits e = absurd cc
 one_takes (m ∷ rest) n octets fits e =
-    elim (chosen (ltb m 128) Wrong (Is m 2) (Is n octets) e) [
-      | inl h ↦ absurd (let no_form : Wrong ≡ Is n octets = h.1 in cc)
+    elim (chosen (ltb m 128) Invalid (Definite m 2) (Definite n octets) e) [
+      | inl h ↦ absurd (let no_form : Invalid ≡ Definite n octets = h.1 in cc)
       | inr h ↦ along (0x81 ∷ m ∷ rest) m 2 n octets h.1 (rw (middle_form m (ltb-false m 128 h.0) (fits 0)) (refl, refl))
     ]
 
-two_takes : (rest : List ℕ) (n octets : ℕ) → IsBytes rest → two_octet_length rest ≡ Is n octets → IsSpelledLength (0x82 ∷ rest) n octets
+two_takes : (rest : List ℕ) (n octets : ℕ) → IsBytes rest → two_octet_length rest ≡ Definite n octets → IsSpelledLength (0x82 ∷ rest) n octets
 two_takes [] n octets fits e = absurd cc
 two_takes (high ∷ []) n octets fits e = absurd cc
 two_takes (high ∷ low ∷ rest) n octets fits e =
-    elim (chosen (eqb high 0) Wrong (Is (256 * high + low) 3) (Is n octets) e) [
-      | inl h ↦ absurd (let no_form : Wrong ≡ Is n octets = h.1 in cc)
+    elim (chosen (eqb high 0) Invalid (Definite (256 * high + low) 3) (Definite n octets) e) [
+      | inl h ↦ absurd (let no_form : Invalid ≡ Definite n octets = h.1 in cc)
       | inr h ↦
           let positive : 1 ≤ high = not_zero_is high h.0 in
           let small : low < 256 = fits 1 in
@@ -81,18 +81,18 @@ two_takes (high ∷ low ∷ rest) n octets fits e =
           along (0x82 ∷ high ∷ low ∷ rest) (256 * high + low) 3 n octets h.1 (rw (long_form (256 * high + low) (omega arith), quotient, remainder) (refl, refl))
     ]
 
-pub length_takes : (bytes : List ℕ) (n octets : ℕ) → IsBytes bytes → length_of bytes ≡ Is n octets → IsSpelledLength bytes n octets
+pub length_takes : (bytes : List ℕ) (n octets : ℕ) → IsBytes bytes → length_of bytes ≡ Definite n octets → IsSpelledLength bytes n octets
 unfolding length_of
 length_takes [] n octets fits e = absurd cc
 length_takes (first ∷ rest) n octets fits e =
     let others = IsBytes-rest (first ∷ rest) (first ∷ []) rest refl fits in
-    elim (chosen (ltb first 128) (Is first 1) (cond (eqb first 0x81) (one_octet_length rest) (cond (eqb first 0x82) (two_octet_length rest) Wrong)) (Is n octets) e) [
+    elim (chosen (ltb first 128) (Definite first 1) (cond (eqb first 0x81) (one_octet_length rest) (cond (eqb first 0x82) (two_octet_length rest) Invalid)) (Definite n octets) e) [
       | inl h ↦ along (first ∷ rest) first 1 n octets h.1 (rw (short_form first (ltb-true first 128 h.0)) (refl, refl))
-      | inr h ↦ elim (chosen (eqb first 0x81) (one_octet_length rest) (cond (eqb first 0x82) (two_octet_length rest) Wrong) (Is n octets) h.1) [
+      | inr h ↦ elim (chosen (eqb first 0x81) (one_octet_length rest) (cond (eqb first 0x82) (two_octet_length rest) Invalid) (Definite n octets) h.1) [
         | inl g ↦ subst (λ (x : ℕ). IsSpelledLength (x ∷ rest) n octets) (sym (eqb-true first 0x81 g.0)) (one_takes rest n octets others g.1)
-        | inr g ↦ elim (chosen (eqb first 0x82) (two_octet_length rest) Wrong (Is n octets) g.1) [
+        | inr g ↦ elim (chosen (eqb first 0x82) (two_octet_length rest) Invalid (Definite n octets) g.1) [
           | inl k ↦ subst (λ (x : ℕ). IsSpelledLength (x ∷ rest) n octets) (sym (eqb-true first 0x82 k.0)) (two_takes rest n octets others k.1)
-          | inr k ↦ absurd (let no_form : Wrong ≡ Is n octets = k.1 in cc)
+          | inr k ↦ absurd (let no_form : Invalid ≡ Definite n octets = k.1 in cc)
         ]
       ]
     ]
@@ -133,18 +133,18 @@ few_chosen false x y bytes hx hy = hy
 
 one_few : (rest : List ℕ) → IsFew (one_octet_length rest) (suc (length rest))
 one_few [] = omega arith
-one_few (n ∷ rest) = few_chosen (nat_lt n 128) Wrong (Is n 2) (suc (suc (length rest))) tt (omega arith)
+one_few (n ∷ rest) = few_chosen (nat_lt n 128) Invalid (Definite n 2) (suc (suc (length rest))) tt (omega arith)
 
 two_few : (rest : List ℕ) → IsFew (two_octet_length rest) (suc (length rest))
 two_few [] = omega arith
 two_few (high ∷ []) = omega arith
-two_few (high ∷ low ∷ rest) = few_chosen (eqb high 0) Wrong (Is (256 * high + low) 3) (suc (suc (suc (length rest)))) tt (omega arith)
+two_few (high ∷ low ∷ rest) = few_chosen (eqb high 0) Invalid (Definite (256 * high + low) 3) (suc (suc (suc (length rest)))) tt (omega arith)
 
--- how many octets a length has, and those that are cut
+-- how many octets a length has, and the truncated ones
 pub length_few : (bytes : List ℕ) → IsFew (length_of bytes) (length bytes)
 unfolding length_of
 length_few [] = omega arith
 length_few (first ∷ rest) =
-    few_chosen (nat_lt first 128) (Is first 1) (cond (eqb first 0x81) (one_octet_length rest) (cond (eqb first 0x82) (two_octet_length rest) Wrong)) (suc (length rest)) (omega arith)
-    (few_chosen (eqb first 0x81) (one_octet_length rest) (cond (eqb first 0x82) (two_octet_length rest) Wrong) (suc (length rest)) (one_few rest)
-    (few_chosen (eqb first 0x82) (two_octet_length rest) Wrong (suc (length rest)) (two_few rest) tt))
+    few_chosen (nat_lt first 128) (Definite first 1) (cond (eqb first 0x81) (one_octet_length rest) (cond (eqb first 0x82) (two_octet_length rest) Invalid)) (suc (length rest)) (omega arith)
+    (few_chosen (eqb first 0x81) (one_octet_length rest) (cond (eqb first 0x82) (two_octet_length rest) Invalid) (suc (length rest)) (one_few rest)
+    (few_chosen (eqb first 0x82) (two_octet_length rest) Invalid (suc (length rest)) (two_few rest) tt))

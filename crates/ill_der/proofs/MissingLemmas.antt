@@ -1,4 +1,4 @@
--- How many bytes are surely missing: shorter bytes are short, and bytes of which none is missing are not.
+-- How many more bytes an APDU needs at least: shorter bytes are short, and bytes that need no more are not.
 use Rattle.std.proofs.Common.{◌≡◌, ℕ, ◌+◌, ◌-◌, ◌<◌, ◌≤◌, Bool, true, false, cond, ltb, List, [], ◌∷◌, ◌++◌, length, take, drop, Option, Some, None, is_some, Ok, Err, inl, inr, refl, sym, ap, subst, ◌∙◌, arith}
 use Rattle.std.proofs.lemmas.Bool.{cases_lt, ltb-true, ltb-false, lt-ltb}
 use Rattle.std.proofs.lemmas.List.{append-nil, length-append, length-take-le, length-drop, take-append-le, take-append-drop}
@@ -7,11 +7,11 @@ use Rattle.std.proofs.Math.Seq.{take-append-add}
 use borrow.Rule.Slice.PartMut.{put_mid}
 use Rattle.ill_der.specs.declared.fault.DerFault.{DerFault}
 use Rattle.ill_der.specs.declared.fault.DerFault.TheVariants.{Short, Length, Tag, Field, OutOfMemory}
-use Rattle.ill_der.specs.declared.kind.Kind.{Kind}
+use Rattle.ill_der.specs.declared.apdu_type.ApduType.{ApduType}
 use Rattle.ill_der.specs.declared.length.LengthForm.{LengthForm}
-use Rattle.ill_der.specs.declared.length.LengthForm.TheVariants.{Cut, Wrong, Is}
+use Rattle.ill_der.specs.declared.length.LengthForm.TheVariants.{Truncated, Invalid, Definite}
 use Rattle.ill_der.specs.Format.{◌>>=◌, length_of, IsFew}
-use Rattle.ill_der.specs.Types.{kind_with}
+use Rattle.ill_der.specs.Types.{type_with}
 use Rattle.ill_der.specs.ShortForm.{outer_by, outer_of, outer_at, inside_of, apdu_at, Decodes}
 use Rattle.ill_der.specs.Stream.{IsUnfinished, AreUnfinished, IfShort, missing_by, missing_of}
 use Rattle.ill_der.proofs.Chains.{bind_err, chosen, no_value, tag_inside, length_inside}
@@ -21,31 +21,31 @@ use Rattle.ill_der.proofs.ShortFormLaws.{IsFinal, length_more, outer_with, insid
 
 -- ---- bytes of which some are missing, with fewer behind them
 
-wanted_is : (kind : Kind) (n octets : ℕ) (large : Bool) (bytes more : List ℕ) → ltb 355 n ≡ large → length_of bytes ≡ Is n octets
-    → length more < cond large 0 (octets + n - length bytes) → outer_by kind (length_of (bytes ++ more)) (bytes ++ more) ≡ Err (Short (length (bytes ++ more) + 1))
-wanted_is kind n octets true bytes more large e lt = absurd (omega (arith, lt))
-wanted_is kind n octets false bytes more large e lt =
-    let same : length_of (bytes ++ more) ≡ Is n octets = length_more bytes more (subst IsFinal (sym e) tt) ∙ e in
+wanted_is : (apdu_type : ApduType) (n octets : ℕ) (large : Bool) (bytes more : List ℕ) → ltb 355 n ≡ large → length_of bytes ≡ Definite n octets
+    → length more < cond large 0 (octets + n - length bytes) → outer_by apdu_type (length_of (bytes ++ more)) (bytes ++ more) ≡ Err (Short (length (bytes ++ more) + 1))
+wanted_is apdu_type n octets true bytes more large e lt = absurd (omega (arith, lt))
+wanted_is apdu_type n octets false bytes more large e lt =
+    let same : length_of (bytes ++ more) ≡ Definite n octets = length_more bytes more (subst IsFinal (sym e) tt) ∙ e in
     let few : ltb (length (bytes ++ more)) (octets + n) ≡ true = lt-ltb _ _ (omega (arith, lt, length-append bytes more)) in
     rw (same, large, few) refl
 
-wanted_by : (kind : Kind) (form : LengthForm) (bytes more : List ℕ) → length_of bytes ≡ form → length more < missing_by form (length bytes)
-    → outer_by kind (length_of (bytes ++ more)) (bytes ++ more) ≡ Err (Short (length (bytes ++ more) + 1))
-wanted_by kind Cut bytes [] e lt = rw (append-nil bytes, e) refl
-wanted_by kind Cut bytes (x ∷ more) e lt = absurd (omega (arith, lt))
-wanted_by kind Wrong bytes more e lt = absurd (omega (arith, lt))
-wanted_by kind (Is n octets) bytes more e lt = wanted_is kind n octets (ltb 355 n) bytes more refl e lt
+wanted_by : (apdu_type : ApduType) (form : LengthForm) (bytes more : List ℕ) → length_of bytes ≡ form → length more < missing_by form (length bytes)
+    → outer_by apdu_type (length_of (bytes ++ more)) (bytes ++ more) ≡ Err (Short (length (bytes ++ more) + 1))
+wanted_by apdu_type Truncated bytes [] e lt = rw (append-nil bytes, e) refl
+wanted_by apdu_type Truncated bytes (x ∷ more) e lt = absurd (omega (arith, lt))
+wanted_by apdu_type Invalid bytes more e lt = absurd (omega (arith, lt))
+wanted_by apdu_type (Definite n octets) bytes more e lt = wanted_is apdu_type n octets (ltb 355 n) bytes more refl e lt
 
-wanted_of : (o : Option Kind) (bytes more : List ℕ) → length more < cond (is_some o) (missing_by (length_of bytes) (length bytes)) 0
+wanted_of : (o : Option ApduType) (bytes more : List ℕ) → length more < cond (is_some o) (missing_by (length_of bytes) (length bytes)) 0
     → outer_of o (bytes ++ more) ≡ Err (Short (length (bytes ++ more) + 1))
 wanted_of None bytes more lt = absurd (omega (arith, lt))
-wanted_of (Some kind) bytes more lt = wanted_by kind (length_of bytes) bytes more refl lt
+wanted_of (Some apdu_type) bytes more lt = wanted_by apdu_type (length_of bytes) bytes more refl lt
 
 wanted_outer : (bytes more : List ℕ) → length more < missing_of bytes → outer_at (bytes ++ more) ≡ Err (Short (length (bytes ++ more)))
 unfolding missing_of outer_at
 wanted_outer [] [] lt = refl
 wanted_outer [] (x ∷ more) lt = absurd (omega (arith, lt))
-wanted_outer (first ∷ bytes) more lt = wanted_of (kind_with first) bytes more lt ∙ ap (λ (k : ℕ). Err (Short k)) (omega arith)
+wanted_outer (first ∷ bytes) more lt = wanted_of (type_with first) bytes more lt ∙ ap (λ (k : ℕ). Err (Short k)) (omega arith)
 
 pub wanted : (bytes more : List ℕ) → length more < missing_of bytes → IsUnfinished (bytes ++ more)
 unfolding apdu_at
@@ -53,36 +53,36 @@ wanted bytes more lt = rw (wanted_outer bytes more lt) refl
 
 -- ---- bytes of which none is missing
 
-enough_by : (kind : Kind) (form : LengthForm) (bytes : List ℕ) (n : ℕ) → missing_by form (length bytes) ≡ 0 → outer_by kind form bytes ≡ Err (Short n) → ⊥
-enough_by kind Cut bytes n none e = omega (arith, none)
-enough_by kind Wrong bytes n none e = length_inside 1 (Short n) e
-enough_by kind (Is m octets) bytes n none e =
-    elim (chosen (ltb 355 m) (Err (Length 1)) (cond (ltb (length bytes) (octets + m)) (Err (Short (length bytes + 1))) (Ok (outer_with kind m octets bytes))) (Err (Short n)) e) [
+enough_by : (apdu_type : ApduType) (form : LengthForm) (bytes : List ℕ) (n : ℕ) → missing_by form (length bytes) ≡ 0 → outer_by apdu_type form bytes ≡ Err (Short n) → ⊥
+enough_by apdu_type Truncated bytes n none e = omega (arith, none)
+enough_by apdu_type Invalid bytes n none e = length_inside 1 (Short n) e
+enough_by apdu_type (Definite m octets) bytes n none e =
+    elim (chosen (ltb 355 m) (Err (Length 1)) (cond (ltb (length bytes) (octets + m)) (Err (Short (length bytes + 1))) (Ok (outer_with apdu_type m octets bytes))) (Err (Short n)) e) [
       | inl h ↦ length_inside 1 (Short n) h.1
-      | inr h ↦ elim (chosen (ltb (length bytes) (octets + m)) (Err (Short (length bytes + 1))) (Ok (outer_with kind m octets bytes)) (Err (Short n)) h.1) [
+      | inr h ↦ elim (chosen (ltb (length bytes) (octets + m)) (Err (Short (length bytes + 1))) (Ok (outer_with apdu_type m octets bytes)) (Err (Short n)) h.1) [
         | inl g ↦
             let left : octets + m - length bytes ≡ 0 = subst (λ (large : Bool). cond large 0 (octets + m - length bytes) ≡ 0) h.0 none in
             omega (arith, left, ltb-true (length bytes) (octets + m) g.0)
-        | inr g ↦ no_value (Short n) (outer_with kind m octets bytes) g.1
+        | inr g ↦ no_value (Short n) (outer_with apdu_type m octets bytes) g.1
       ]
     ]
 
-enough_of : (o : Option Kind) (bytes : List ℕ) (n : ℕ) → cond (is_some o) (missing_by (length_of bytes) (length bytes)) 0 ≡ 0 → outer_of o bytes ≡ Err (Short n) → ⊥
+enough_of : (o : Option ApduType) (bytes : List ℕ) (n : ℕ) → cond (is_some o) (missing_by (length_of bytes) (length bytes)) 0 ≡ 0 → outer_of o bytes ≡ Err (Short n) → ⊥
 enough_of None bytes n none e = tag_inside 0 (Short n) e
-enough_of (Some kind) bytes n none e = enough_by kind (length_of bytes) bytes n none e
+enough_of (Some apdu_type) bytes n none e = enough_by apdu_type (length_of bytes) bytes n none e
 
 enough_outer : (bytes : List ℕ) (n : ℕ) → missing_of bytes ≡ 0 → outer_at bytes ≡ Err (Short n) → ⊥
 unfolding missing_of outer_at
 enough_outer [] n none e = omega (arith, none)
-enough_outer (first ∷ bytes) n none e = enough_of (kind_with first) bytes n none e
+enough_outer (first ∷ bytes) n none e = enough_of (type_with first) bytes n none e
 
 enough : (bytes : List ℕ) (n : ℕ) → missing_of bytes ≡ 0 → apdu_at bytes ≡ Err (Short n) → ⊥
 unfolding apdu_at
 enough bytes n none e =
-    elim (bind_err (outer_at bytes) (λ outer. inside_of outer.kind outer.inside >>= λ apdu. Ok (apdu, drop outer.size bytes)) (Short n) e) [
+    elim (bind_err (outer_at bytes) (λ outer. inside_of outer.apdu_type outer.inside >>= λ apdu. Ok (apdu, drop outer.size bytes)) (Short n) e) [
       | inl h ↦ enough_outer bytes n none h
-      | inr h ↦ elim (bind_err (inside_of h.0.kind h.0.inside) (λ apdu. Ok (apdu, drop h.0.size bytes)) (Short n) h.2) [
-        | inl g ↦ inside_faults h.0.kind h.0.inside (Short n) g
+      | inr h ↦ elim (bind_err (inside_of h.0.apdu_type h.0.inside) (λ apdu. Ok (apdu, drop h.0.size bytes)) (Short n) h.2) [
+        | inl g ↦ inside_faults h.0.apdu_type h.0.inside (Short n) g
         | inr g ↦ no_value (Short n) (g.0, drop h.0.size bytes) g.2
       ]
     ]
@@ -111,19 +111,19 @@ most_is n octets size true e few some = absurd (omega (arith, some))
 most_is n octets size false e few some = omega (arith, few, some, ltb-false 355 n e)
 
 most_by : (form : LengthForm) (size : ℕ) → IsFew form size → 0 < missing_by form size → size + missing_by form size ≤ 358
-most_by Cut size few some = omega (arith, few)
-most_by Wrong size few some = absurd (omega (arith, some))
-most_by (Is n octets) size few some = most_is n octets size (ltb 355 n) refl few some
+most_by Truncated size few some = omega (arith, few)
+most_by Invalid size few some = absurd (omega (arith, some))
+most_by (Definite n octets) size few some = most_is n octets size (ltb 355 n) refl few some
 
-most_of : (o : Option Kind) (bytes : List ℕ) → 0 < cond (is_some o) (missing_by (length_of bytes) (length bytes)) 0
+most_of : (o : Option ApduType) (bytes : List ℕ) → 0 < cond (is_some o) (missing_by (length_of bytes) (length bytes)) 0
     → length bytes + cond (is_some o) (missing_by (length_of bytes) (length bytes)) 0 ≤ 358
 most_of None bytes some = absurd (omega (arith, some))
-most_of (Some kind) bytes some = most_by (length_of bytes) (length bytes) (length_few bytes) some
+most_of (Some apdu_type) bytes some = most_by (length_of bytes) (length bytes) (length_few bytes) some
 
 pub most_missing : (bytes : List ℕ) → 0 < missing_of bytes → length bytes + missing_of bytes ≤ 359
 unfolding missing_of
 most_missing [] some = omega arith
-most_missing (first ∷ bytes) some = omega (arith, most_of (kind_with first) bytes some)
+most_missing (first ∷ bytes) some = omega (arith, most_of (type_with first) bytes some)
 
 -- ---- what was read, and a read of no more than is missing
 

@@ -12,13 +12,13 @@ use Rattle.ill_values.specs.Day.{Date, IsDate}
 use Rattle.ill_values.specs.Text.{IsQualifier, IsItem}
 use Rattle.ill_der.specs.declared.fault.DerFault.{DerFault}
 use Rattle.ill_der.specs.declared.fault.DerFault.TheVariants.{Short, Length, OutOfMemory}
-use Rattle.ill_der.specs.declared.kind.Kind.{Kind}
-use Rattle.ill_der.specs.declared.kind.Kind.TheVariants as kinds
+use Rattle.ill_der.specs.declared.apdu_type.ApduType.{ApduType}
+use Rattle.ill_der.specs.declared.apdu_type.ApduType.TheVariants as types
 use Rattle.ill_der.specs.declared.length.LengthForm.{LengthForm}
-use Rattle.ill_der.specs.declared.length.LengthForm.TheVariants.{Cut, Wrong, Is}
+use Rattle.ill_der.specs.declared.length.LengthForm.TheVariants.{Truncated, Invalid, Definite}
 use Rattle.ill_der.specs.Contents.{version, number, qualifier, date, item, answer_result, yes_no}
 use Rattle.ill_der.specs.Format.{◌>>=◌, length_octets, length_of, IsFew, element, Left, left_at, stands_at, ended, required, optional, followed_by, where_yes, Format, one_octet_length, two_octet_length}
-use Rattle.ill_der.specs.Types.{octet_of, all_kinds, kind_with, kind_of}
+use Rattle.ill_der.specs.Types.{octet_of, all_types, type_with, type_of}
 use Rattle.ill_der.specs.ShortForm.{txn_id, head, request, due_date, answer, reply, wish, grant, spell_body, made_of, read_body, contents_of, spelling, Outer, outer_by, outer_of, outer_at, body_of, inside_of, apdu_at}
 use Rattle.ill_der.proofs.Chains.{bind_ok, bind_err, went_on, chosen, done, ok_is, no_value, short_is, short_or_memory, IsInside, tag_inside, length_inside, fault_is}
 use Rattle.ill_der.specs.Laws.{IsBytes}
@@ -90,46 +90,46 @@ grant_is =
     (λ w more q. tt)
 
 -- the further fields of a type were read
-abbrev TakesBody : Kind → List ℕ → Body → List ℕ → Type 0
-TakesBody kind bytes body rest = (bytes ≡ spell_body body ++ rest) × IsBody body × (kind_of body ≡ kind) × IsBytes rest
+abbrev TakesBody : ApduType → List ℕ → Body → List ℕ → Type 0
+TakesBody apdu_type bytes body rest = (bytes ≡ spell_body body ++ rest) × IsBody body × (type_of body ≡ apdu_type) × IsBytes rest
 
 -- a body that is made of its fields
-made_takes : {V : Type 0} (P : V → Type 0) (F : List ℕ → Type 0) (n : ℕ) (f : Format V) (make : V → Body) (kind : Kind) → IsFormat P F n f
-    → ((v : V) → spell_body (make v) ≡ f.spell v) → ((v : V) → P v → IsBody (make v)) → ((v : V) → kind_of (make v) ≡ kind)
-    → (left : Left) (body : Body) (rest : Left) → IsBytes left.bytes → made_of f make left ≡ Ok (body, rest) → TakesBody kind left.bytes body rest.bytes
-made_takes P F n f make kind fs spells ranges kinds left body rest fits e =
+made_takes : {V : Type 0} (P : V → Type 0) (F : List ℕ → Type 0) (n : ℕ) (f : Format V) (make : V → Body) (apdu_type : ApduType) → IsFormat P F n f
+    → ((v : V) → spell_body (make v) ≡ f.spell v) → ((v : V) → P v → IsBody (make v)) → ((v : V) → type_of (make v) ≡ apdu_type)
+    → (left : Left) (body : Body) (rest : Left) → IsBytes left.bytes → made_of f make left ≡ Ok (body, rest) → TakesBody apdu_type left.bytes body rest.bytes
+made_takes P F n f make apdu_type fs spells ranges types left body rest fits e =
     let fields = bind_ok (f.read left) (λ found. Ok (make found.0, found.1)) (body, rest) e in
     let both : (make fields.0.0, fields.0.1) ≡ (body, rest) = ok_is (make fields.0.0, fields.0.1) (body, rest) fields.2 in
     let taken = fs.takes left fields.0.0 fields.0.1 fits fields.1 in
     let parts : left.bytes ≡ spell_body (make fields.0.0) ++ fields.0.1.bytes = taken.0 ∙ ap (λ (x : List ℕ). x ++ fields.0.1.bytes) (sym (spells fields.0.0)) in
-    subst (λ (x : Body × Left). TakesBody kind left.bytes x.0 x.1.bytes) both (parts, ranges fields.0.0 taken.1, kinds fields.0.0, taken.2)
+    subst (λ (x : Body × Left). TakesBody apdu_type left.bytes x.0 x.1.bytes) both (parts, ranges fields.0.0 taken.1, types fields.0.0, taken.2)
 
 -- a body with no fields
-plain_takes : (make body : Body) (kind : Kind) (left rest : Left) → spell_body make ≡ [] → IsBody make → kind_of make ≡ kind → IsBytes left.bytes → done {E = DerFault} {A = Body × Left} (make, left) ≡ done (body, rest)
-    → TakesBody kind left.bytes body rest.bytes
-plain_takes make body kind left rest spells is k fits e =
+plain_takes : (make body : Body) (apdu_type : ApduType) (left rest : Left) → spell_body make ≡ [] → IsBody make → type_of make ≡ apdu_type → IsBytes left.bytes → done {E = DerFault} {A = Body × Left} (make, left) ≡ done (body, rest)
+    → TakesBody apdu_type left.bytes body rest.bytes
+plain_takes make body apdu_type left rest spells is k fits e =
     let both : (make, left) ≡ (body, rest) = ok_is (make, left) (body, rest) e in
-    subst (λ (x : Body × Left). TakesBody kind left.bytes x.0 x.1.bytes) both (ap (λ (x : List ℕ). x ++ left.bytes) (sym spells), is, k, fits)
+    subst (λ (x : Body × Left). TakesBody apdu_type left.bytes x.0 x.1.bytes) both (ap (λ (x : List ℕ). x ++ left.bytes) (sym spells), is, k, fits)
 
-body_takes : (kind : Kind) (left : Left) (body : Body) (rest : Left) → IsBytes left.bytes → read_body kind left ≡ Ok (body, rest) → TakesBody kind left.bytes body rest.bytes
-body_takes kinds.IllRequest = made_takes IsRequest Any 213 request (λ found. IllRequest found.0 found.1) kinds.IllRequest request_is (λ v. refl) (λ v p. p) (λ v. refl)
-body_takes kinds.Shipped = made_takes IsDate Any 10 due_date Shipped kinds.Shipped due_date_is (λ v. refl) (λ v p. p) (λ v. refl)
-body_takes kinds.IllAnswer = made_takes IsAnyResult Any 3 answer IllAnswer kinds.IllAnswer answer_is (λ v. refl) (λ v p. p) (λ v. refl)
-body_takes kinds.ConditionalReply = made_takes (Both IsNumber IsAnyAnswer) Any 7 reply (λ found. ConditionalReply found.0 found.1) kinds.ConditionalReply reply_is (λ v. refl) (λ v p. p.0) (λ v. refl)
-body_takes kinds.CancelReply = made_takes (Both IsNumber IsAnyAnswer) Any 7 reply (λ found. CancelReply found.0 found.1) kinds.CancelReply reply_is (λ v. refl) (λ v p. p.0) (λ v. refl)
-body_takes kinds.Overdue = made_takes IsDate Any 10 due_date Overdue kinds.Overdue due_date_is (λ v. refl) (λ v p. p) (λ v. refl)
-body_takes kinds.Renew = made_takes (λ o. IfSome o IsDate) (Stands false 0x85) 10 wish Renew kinds.Renew wish_is (λ v. refl) (λ v p. p) (λ v. refl)
-body_takes kinds.RenewAnswer = made_takes (Both IsNumber (λ o. IfSome o IsDate)) Any 17 grant (λ found. RenewAnswer found.0 found.1) kinds.RenewAnswer grant_is (λ v. refl) (λ v p. p) (λ v. refl)
-body_takes kinds.Cancel = λ left body rest. plain_takes Cancel body kinds.Cancel left rest refl tt refl
-body_takes kinds.Received = λ left body rest. plain_takes Received body kinds.Received left rest refl tt refl
-body_takes kinds.Recall = λ left body rest. plain_takes Recall body kinds.Recall left rest refl tt refl
-body_takes kinds.Returned = λ left body rest. plain_takes Returned body kinds.Returned left rest refl tt refl
-body_takes kinds.CheckedIn = λ left body rest. plain_takes CheckedIn body kinds.CheckedIn left rest refl tt refl
-body_takes kinds.Expired = λ left body rest. plain_takes Expired body kinds.Expired left rest refl tt refl
+body_takes : (apdu_type : ApduType) (left : Left) (body : Body) (rest : Left) → IsBytes left.bytes → read_body apdu_type left ≡ Ok (body, rest) → TakesBody apdu_type left.bytes body rest.bytes
+body_takes types.IllRequest = made_takes IsRequest Any 213 request (λ found. IllRequest found.0 found.1) types.IllRequest request_is (λ v. refl) (λ v p. p) (λ v. refl)
+body_takes types.Shipped = made_takes IsDate Any 10 due_date Shipped types.Shipped due_date_is (λ v. refl) (λ v p. p) (λ v. refl)
+body_takes types.IllAnswer = made_takes IsAnyResult Any 3 answer IllAnswer types.IllAnswer answer_is (λ v. refl) (λ v p. p) (λ v. refl)
+body_takes types.ConditionalReply = made_takes (Both IsNumber IsAnyAnswer) Any 7 reply (λ found. ConditionalReply found.0 found.1) types.ConditionalReply reply_is (λ v. refl) (λ v p. p.0) (λ v. refl)
+body_takes types.CancelReply = made_takes (Both IsNumber IsAnyAnswer) Any 7 reply (λ found. CancelReply found.0 found.1) types.CancelReply reply_is (λ v. refl) (λ v p. p.0) (λ v. refl)
+body_takes types.Overdue = made_takes IsDate Any 10 due_date Overdue types.Overdue due_date_is (λ v. refl) (λ v p. p) (λ v. refl)
+body_takes types.Renew = made_takes (λ o. IfSome o IsDate) (Stands false 0x85) 10 wish Renew types.Renew wish_is (λ v. refl) (λ v p. p) (λ v. refl)
+body_takes types.RenewAnswer = made_takes (Both IsNumber (λ o. IfSome o IsDate)) Any 17 grant (λ found. RenewAnswer found.0 found.1) types.RenewAnswer grant_is (λ v. refl) (λ v p. p) (λ v. refl)
+body_takes types.Cancel = λ left body rest. plain_takes Cancel body types.Cancel left rest refl tt refl
+body_takes types.Received = λ left body rest. plain_takes Received body types.Received left rest refl tt refl
+body_takes types.Recall = λ left body rest. plain_takes Recall body types.Recall left rest refl tt refl
+body_takes types.Returned = λ left body rest. plain_takes Returned body types.Returned left rest refl tt refl
+body_takes types.CheckedIn = λ left body rest. plain_takes CheckedIn body types.CheckedIn left rest refl tt refl
+body_takes types.Expired = λ left body rest. plain_takes Expired body types.Expired left rest refl tt refl
 
 -- a spelled body is read again, at the end of an APDU
 abbrev BodyAgain : Body → ℕ → Type 0
-BodyAgain body at = (after : ℕ) × (read_body (kind_of body) (left_at at (spell_body body)) ≡ Ok (body, left_at after []))
+BodyAgain body at = (after : ℕ) × (read_body (type_of body) (left_at at (spell_body body)) ≡ Ok (body, left_at after []))
 
 made_again : {V : Type 0} (P : V → Type 0) (F : List ℕ → Type 0) (n : ℕ) (f : Format V) (make : V → Body) → IsFormat P F n f → F []
     → (v : V) (at : ℕ) → P v → (after : ℕ) × (made_of f make (left_at at (f.spell v)) ≡ Ok (make v, left_at after []))
@@ -173,46 +173,46 @@ made_faults P F n f make fs left d e =
       | inr h ↦ absurd (no_value d (make h.0.0, h.0.1) h.2)
     ]
 
-body_faults : (kind : Kind) (left : Left) (d : DerFault) → read_body kind left ≡ Err d → IsInside d
-body_faults kinds.IllRequest = made_faults IsRequest Any 213 request (λ found. IllRequest found.0 found.1) request_is
-body_faults kinds.Shipped = made_faults IsDate Any 10 due_date Shipped due_date_is
-body_faults kinds.IllAnswer = made_faults IsAnyResult Any 3 answer IllAnswer answer_is
-body_faults kinds.ConditionalReply = made_faults (Both IsNumber IsAnyAnswer) Any 7 reply (λ found. ConditionalReply found.0 found.1) reply_is
-body_faults kinds.CancelReply = made_faults (Both IsNumber IsAnyAnswer) Any 7 reply (λ found. CancelReply found.0 found.1) reply_is
-body_faults kinds.Overdue = made_faults IsDate Any 10 due_date Overdue due_date_is
-body_faults kinds.Renew = made_faults (λ o. IfSome o IsDate) (Stands false 0x85) 10 wish Renew wish_is
-body_faults kinds.RenewAnswer = made_faults (Both IsNumber (λ o. IfSome o IsDate)) Any 17 grant (λ found. RenewAnswer found.0 found.1) grant_is
-body_faults kinds.Cancel = λ left d e. absurd (no_value d (Cancel, left) e)
-body_faults kinds.Received = λ left d e. absurd (no_value d (Received, left) e)
-body_faults kinds.Recall = λ left d e. absurd (no_value d (Recall, left) e)
-body_faults kinds.Returned = λ left d e. absurd (no_value d (Returned, left) e)
-body_faults kinds.CheckedIn = λ left d e. absurd (no_value d (CheckedIn, left) e)
-body_faults kinds.Expired = λ left d e. absurd (no_value d (Expired, left) e)
+body_faults : (apdu_type : ApduType) (left : Left) (d : DerFault) → read_body apdu_type left ≡ Err d → IsInside d
+body_faults types.IllRequest = made_faults IsRequest Any 213 request (λ found. IllRequest found.0 found.1) request_is
+body_faults types.Shipped = made_faults IsDate Any 10 due_date Shipped due_date_is
+body_faults types.IllAnswer = made_faults IsAnyResult Any 3 answer IllAnswer answer_is
+body_faults types.ConditionalReply = made_faults (Both IsNumber IsAnyAnswer) Any 7 reply (λ found. ConditionalReply found.0 found.1) reply_is
+body_faults types.CancelReply = made_faults (Both IsNumber IsAnyAnswer) Any 7 reply (λ found. CancelReply found.0 found.1) reply_is
+body_faults types.Overdue = made_faults IsDate Any 10 due_date Overdue due_date_is
+body_faults types.Renew = made_faults (λ o. IfSome o IsDate) (Stands false 0x85) 10 wish Renew wish_is
+body_faults types.RenewAnswer = made_faults (Both IsNumber (λ o. IfSome o IsDate)) Any 17 grant (λ found. RenewAnswer found.0 found.1) grant_is
+body_faults types.Cancel = λ left d e. absurd (no_value d (Cancel, left) e)
+body_faults types.Received = λ left d e. absurd (no_value d (Received, left) e)
+body_faults types.Recall = λ left d e. absurd (no_value d (Recall, left) e)
+body_faults types.Returned = λ left d e. absurd (no_value d (Returned, left) e)
+body_faults types.CheckedIn = λ left d e. absurd (no_value d (CheckedIn, left) e)
+body_faults types.Expired = λ left d e. absurd (no_value d (Expired, left) e)
 
 -- ---- the contents of an APDU
 
 -- all of what is left is a body
-abbrev IsBodyOf : Kind → List ℕ → Body → Type 0
-IsBodyOf kind bytes body = (bytes ≡ spell_body body) × IsBody body × (kind_of body ≡ kind)
+abbrev IsBodyOf : ApduType → List ℕ → Body → Type 0
+IsBodyOf apdu_type bytes body = (bytes ≡ spell_body body) × IsBody body × (type_of body ≡ apdu_type)
 
-whole_body_takes : (kind : Kind) (left : Left) (body : Body) → IsBytes left.bytes → body_of kind left ≡ Ok body → IsBodyOf kind left.bytes body
+whole_body_takes : (apdu_type : ApduType) (left : Left) (body : Body) → IsBytes left.bytes → body_of apdu_type left ≡ Ok body → IsBodyOf apdu_type left.bytes body
 unfolding body_of
-whole_body_takes kind left body fits e =
-    let found = bind_ok (read_body kind left) (λ body. ended body.1 >>= λ _. Ok body.0) body e in
+whole_body_takes apdu_type left body fits e =
+    let found = bind_ok (read_body apdu_type left) (λ body. ended body.1 >>= λ _. Ok body.0) body e in
     let over = bind_ok (ended found.0.1) (λ _. Ok found.0.0) body found.2 in
-    let taken = body_takes kind left found.0.0 found.0.1 fits found.1 in
+    let taken = body_takes apdu_type left found.0.0 found.0.1 fits found.1 in
     let whole : left.bytes ≡ spell_body found.0.0 = taken.0 ∙ ap (λ (x : List ℕ). spell_body found.0.0 ++ x) (ended_is found.0.1 over.0 over.1) ∙ append-nil (spell_body found.0.0) in
-    subst (IsBodyOf kind left.bytes) (ok_is found.0.0 body over.2) (whole, taken.1, taken.2)
+    subst (IsBodyOf apdu_type left.bytes) (ok_is found.0.0 body over.2) (whole, taken.1, taken.2)
 
-whole_body_again : (body : Body) (at : ℕ) → IsBody body → body_of (kind_of body) (left_at at (spell_body body)) ≡ Ok body
+whole_body_again : (body : Body) (at : ℕ) → IsBody body → body_of (type_of body) (left_at at (spell_body body)) ≡ Ok body
 unfolding body_of
 whole_body_again body at is = rw (body_again body at is).1 refl
 
-whole_body_faults : (kind : Kind) (left : Left) (d : DerFault) → body_of kind left ≡ Err d → IsInside d
+whole_body_faults : (apdu_type : ApduType) (left : Left) (d : DerFault) → body_of apdu_type left ≡ Err d → IsInside d
 unfolding body_of
-whole_body_faults kind left d e =
-    elim (bind_err (read_body kind left) (λ body. ended body.1 >>= λ _. Ok body.0) d e) [
-      | inl h ↦ body_faults kind left d h
+whole_body_faults apdu_type left d e =
+    elim (bind_err (read_body apdu_type left) (λ body. ended body.1 >>= λ _. Ok body.0) d e) [
+      | inl h ↦ body_faults apdu_type left d h
       | inr h ↦ elim (bind_err (ended h.0.1) (λ _. Ok h.0.0) d h.2) [
         | inl g ↦ ended_faults h.0.1 d g
         | inr g ↦ absurd (no_value d h.0.0 g.2)
@@ -222,26 +222,26 @@ whole_body_faults kind left d e =
 abbrev made : (Unit {0} × ((List ℕ × List ℕ) × ℕ)) → Body → Apdu
 made front body = record { txn = record { group = front.1.0.0; transaction = front.1.0.1 }; number = front.1.1; body = body }
 
-abbrev IsWhole : Kind → List ℕ → Apdu → Type 0
-IsWhole kind bytes apdu = (bytes ≡ contents_of apdu) × IsApdu apdu × (kind_of apdu.body ≡ kind)
+abbrev IsWhole : ApduType → List ℕ → Apdu → Type 0
+IsWhole apdu_type bytes apdu = (bytes ≡ contents_of apdu) × IsApdu apdu × (type_of apdu.body ≡ apdu_type)
 
-inside_takes : (kind : Kind) (left : Left) (apdu : Apdu) → IsBytes left.bytes → inside_of kind left ≡ Ok apdu → IsWhole kind left.bytes apdu
+inside_takes : (apdu_type : ApduType) (left : Left) (apdu : Apdu) → IsBytes left.bytes → inside_of apdu_type left ≡ Ok apdu → IsWhole apdu_type left.bytes apdu
 unfolding inside_of
-inside_takes kind left apdu fits e =
-    let front = bind_ok (head.read left) (λ front. body_of kind front.1 >>= λ body. Ok (made front.0 body)) apdu e in
-    let body = bind_ok (body_of kind front.0.1) (λ body. Ok (made front.0.0 body)) apdu front.2 in
+inside_takes apdu_type left apdu fits e =
+    let front = bind_ok (head.read left) (λ front. body_of apdu_type front.1 >>= λ body. Ok (made front.0 body)) apdu e in
+    let body = bind_ok (body_of apdu_type front.0.1) (λ body. Ok (made front.0.0 body)) apdu front.2 in
     let is : made front.0.0 body.0 ≡ apdu = ok_is (made front.0.0 body.0) apdu body.2 in
     let first = head_is.takes left front.0.0 front.0.1 fits front.1 in
-    let second = whole_body_takes kind front.0.1 body.0 first.2 body.1 in
+    let second = whole_body_takes apdu_type front.0.1 body.0 first.2 body.1 in
     let whole : left.bytes ≡ contents_of (made front.0.0 body.0) = first.0 ∙ ap (λ (x : List ℕ). head.spell front.0.0 ++ x) second.0 in
     let parts : IsApdu (made front.0.0 body.0) = record {
       txn = record { group = first.1.1.0.0; transaction = first.1.1.0.1 };
       number = first.1.1.1;
       body = second.1;
     } in
-    subst (λ (x : Apdu). IsWhole kind left.bytes x) is (whole, parts, second.2)
+    subst (λ (x : Apdu). IsWhole apdu_type left.bytes x) is (whole, parts, second.2)
 
-inside_again : (apdu : Apdu) (at : ℕ) → IsApdu apdu → inside_of (kind_of apdu.body) (left_at at (contents_of apdu)) ≡ Ok apdu
+inside_again : (apdu : Apdu) (at : ℕ) → IsApdu apdu → inside_of (type_of apdu.body) (left_at at (contents_of apdu)) ≡ Ok apdu
 unfolding inside_of
 inside_again apdu at is =
     let front : Unit {0} × ((List ℕ × List ℕ) × ℕ) = (tt, ((apdu.txn.group, apdu.txn.transaction), apdu.number)) in
@@ -253,81 +253,81 @@ contents_bound apdu is =
     let front : Unit {0} × ((List ℕ × List ℕ) × ℕ) = (tt, ((apdu.txn.group, apdu.txn.transaction), apdu.number)) in
     omega (arith, length-append (head.spell front) (spell_body apdu.body), head_is.bound front (tt, ((is.txn.group, is.txn.transaction), is.number)), body_bound apdu.body is.body)
 
-pub inside_faults : (kind : Kind) (left : Left) (d : DerFault) → inside_of kind left ≡ Err d → IsInside d
+pub inside_faults : (apdu_type : ApduType) (left : Left) (d : DerFault) → inside_of apdu_type left ≡ Err d → IsInside d
 unfolding inside_of
-inside_faults kind left d e =
-    elim (bind_err (head.read left) (λ front. body_of kind front.1 >>= λ body. Ok (made front.0 body)) d e) [
+inside_faults apdu_type left d e =
+    elim (bind_err (head.read left) (λ front. body_of apdu_type front.1 >>= λ body. Ok (made front.0 body)) d e) [
       | inl h ↦ head_is.faults left d h
-      | inr h ↦ elim (bind_err (body_of kind h.0.1) (λ body. Ok (made h.0.0 body)) d h.2) [
-        | inl g ↦ whole_body_faults kind h.0.1 d g
+      | inr h ↦ elim (bind_err (body_of apdu_type h.0.1) (λ body. Ok (made h.0.0 body)) d h.2) [
+        | inl g ↦ whole_body_faults apdu_type h.0.1 d g
         | inr g ↦ absurd (no_value d (made h.0.0 g.0) g.2)
       ]
     ]
 
 -- ---- the identifier and the length of an APDU
 
-octet_with : (octet : ℕ) (kind : Kind) → kind_with octet ≡ Some kind → octet ≡ octet_of kind
-octet_with octet kind e = found_with octet_of octet all_kinds kind e
+octet_with : (octet : ℕ) (apdu_type : ApduType) → type_with octet ≡ Some apdu_type → octet ≡ octet_of apdu_type
+octet_with octet apdu_type e = found_with octet_of octet all_types apdu_type e
 
-kind_again : (kind : Kind) → kind_with (octet_of kind) ≡ Some kind
-kind_again kinds.IllRequest = refl
-kind_again kinds.Shipped = refl
-kind_again kinds.IllAnswer = refl
-kind_again kinds.ConditionalReply = refl
-kind_again kinds.Cancel = refl
-kind_again kinds.CancelReply = refl
-kind_again kinds.Received = refl
-kind_again kinds.Recall = refl
-kind_again kinds.Returned = refl
-kind_again kinds.CheckedIn = refl
-kind_again kinds.Overdue = refl
-kind_again kinds.Renew = refl
-kind_again kinds.RenewAnswer = refl
-kind_again kinds.Expired = refl
+type_again : (apdu_type : ApduType) → type_with (octet_of apdu_type) ≡ Some apdu_type
+type_again types.IllRequest = refl
+type_again types.Shipped = refl
+type_again types.IllAnswer = refl
+type_again types.ConditionalReply = refl
+type_again types.Cancel = refl
+type_again types.CancelReply = refl
+type_again types.Received = refl
+type_again types.Recall = refl
+type_again types.Returned = refl
+type_again types.CheckedIn = refl
+type_again types.Overdue = refl
+type_again types.Renew = refl
+type_again types.RenewAnswer = refl
+type_again types.Expired = refl
 
 -- an APDU is all there at the front
 record IsOuter (bytes : List ℕ) (outer : Outer) : Type 0 where
-  parts : bytes ≡ element (octet_of outer.kind) outer.inside.bytes ++ drop outer.size bytes
+  parts : bytes ≡ element (octet_of outer.apdu_type) outer.inside.bytes ++ drop outer.size bytes
   inside_fits : IsBytes outer.inside.bytes
 
-abbrev pub outer_with : Kind → ℕ → ℕ → List ℕ → Outer
-outer_with kind n octets bytes = record { kind = kind; inside = left_at (1 + octets) (take n (drop octets bytes)); size = 1 + (octets + n) }
+abbrev pub outer_with : ApduType → ℕ → ℕ → List ℕ → Outer
+outer_with apdu_type n octets bytes = record { apdu_type = apdu_type; inside = left_at (1 + octets) (take n (drop octets bytes)); size = 1 + (octets + n) }
 
-outer_by_takes : (first : ℕ) (kind : Kind) (form : LengthForm) (bytes : List ℕ) (outer : Outer) → IsBytes bytes → first ≡ octet_of kind → length_of bytes ≡ form → outer_by kind form bytes ≡ Ok outer → IsOuter (first ∷ bytes) outer
-outer_by_takes first kind Cut bytes outer fits k f e = absurd cc
-outer_by_takes first kind Wrong bytes outer fits k f e = absurd cc
-outer_by_takes first kind (Is n octets) bytes outer fits k f e =
-    let small = went_on (ltb 355 n) (cond (ltb (length bytes) (octets + n)) (Err (Short (length bytes + 1))) (Ok (outer_with kind n octets bytes))) (Length 1) outer e in
-    let whole = went_on (ltb (length bytes) (octets + n)) (Ok (outer_with kind n octets bytes)) (Short (length bytes + 1)) outer small.1 in
-    let is : outer_with kind n octets bytes ≡ outer = ok_is (outer_with kind n octets bytes) outer whole.1 in
+outer_by_takes : (first : ℕ) (apdu_type : ApduType) (form : LengthForm) (bytes : List ℕ) (outer : Outer) → IsBytes bytes → first ≡ octet_of apdu_type → length_of bytes ≡ form → outer_by apdu_type form bytes ≡ Ok outer → IsOuter (first ∷ bytes) outer
+outer_by_takes first apdu_type Truncated bytes outer fits k f e = absurd cc
+outer_by_takes first apdu_type Invalid bytes outer fits k f e = absurd cc
+outer_by_takes first apdu_type (Definite n octets) bytes outer fits k f e =
+    let small = went_on (ltb 355 n) (cond (ltb (length bytes) (octets + n)) (Err (Short (length bytes + 1))) (Ok (outer_with apdu_type n octets bytes))) (Length 1) outer e in
+    let whole = went_on (ltb (length bytes) (octets + n)) (Ok (outer_with apdu_type n octets bytes)) (Short (length bytes + 1)) outer small.1 in
+    let is : outer_with apdu_type n octets bytes ≡ outer = ok_is (outer_with apdu_type n octets bytes) outer whole.1 in
     let enough = ltb-false (length bytes) (octets + n) whole.0 in
     let spelled = length_takes bytes n octets fits f in
     let taken = drop octets bytes in
     let size : length (take n taken) ≡ n = omega (arith, length-take n taken, length-drop octets bytes) in
     let split : taken ≡ take n taken ++ drop (octets + n) bytes = sym (take-append-drop n taken) ∙ ap (λ (x : List ℕ). take n taken ++ x) (drop-drop n octets bytes) in
     let behind : drop (1 + (octets + n)) (first ∷ bytes) ≡ drop (octets + n) bytes = sym (drop-drop (octets + n) 1 (first ∷ bytes)) in
-    let parts : first ∷ bytes ≡ element (octet_of kind) (take n taken) ++ drop (1 + (octets + n)) (first ∷ bytes) =
-    assembled (octet_of kind) n octets (first ∷ bytes) bytes (take n taken) (drop (octets + n) bytes) (ap (λ (x : ℕ). x ∷ bytes) k) spelled.0 split size
-    ∙ ap (λ (x : List ℕ). element (octet_of kind) (take n taken) ++ x) (sym behind) in
+    let parts : first ∷ bytes ≡ element (octet_of apdu_type) (take n taken) ++ drop (1 + (octets + n)) (first ∷ bytes) =
+    assembled (octet_of apdu_type) n octets (first ∷ bytes) bytes (take n taken) (drop (octets + n) bytes) (ap (λ (x : ℕ). x ∷ bytes) k) spelled.0 split size
+    ∙ ap (λ (x : List ℕ). element (octet_of apdu_type) (take n taken) ++ x) (sym behind) in
     subst (λ (x : Outer). IsOuter (first ∷ bytes) x) is (record { parts = parts; inside_fits = IsBytes-take n taken (IsBytes-drop octets bytes fits) })
 
-outer_of_takes : (first : ℕ) (o : Option Kind) (bytes : List ℕ) (outer : Outer) → IsBytes bytes → kind_with first ≡ o → outer_of o bytes ≡ Ok outer → IsOuter (first ∷ bytes) outer
+outer_of_takes : (first : ℕ) (o : Option ApduType) (bytes : List ℕ) (outer : Outer) → IsBytes bytes → type_with first ≡ o → outer_of o bytes ≡ Ok outer → IsOuter (first ∷ bytes) outer
 outer_of_takes first None bytes outer fits k e = absurd cc
-outer_of_takes first (Some kind) bytes outer fits k e = outer_by_takes first kind (length_of bytes) bytes outer fits (octet_with first kind k) refl e
+outer_of_takes first (Some apdu_type) bytes outer fits k e = outer_by_takes first apdu_type (length_of bytes) bytes outer fits (octet_with first apdu_type k) refl e
 
 outer_takes : (bytes : List ℕ) (outer : Outer) → IsBytes bytes → outer_at bytes ≡ Ok outer → IsOuter bytes outer
 unfolding outer_at
 outer_takes [] outer fits e = absurd cc
-outer_takes (first ∷ bytes) outer fits e = outer_of_takes first (kind_with first) bytes outer (IsBytes-drop 1 (first ∷ bytes) fits) refl e
+outer_takes (first ∷ bytes) outer fits e = outer_of_takes first (type_with first) bytes outer (IsBytes-drop 1 (first ∷ bytes) fits) refl e
 
-abbrev OuterAgain : Kind → List ℕ → List ℕ → Type 0
-OuterAgain kind contents more =
-    (at : ℕ) × (outer_at (element (octet_of kind) contents ++ more) ≡ Ok (record { kind = kind; inside = left_at at contents; size = length (element (octet_of kind) contents) }))
+abbrev OuterAgain : ApduType → List ℕ → List ℕ → Type 0
+OuterAgain apdu_type contents more =
+    (at : ℕ) × (outer_at (element (octet_of apdu_type) contents ++ more) ≡ Ok (record { apdu_type = apdu_type; inside = left_at at contents; size = length (element (octet_of apdu_type) contents) }))
 
-outer_by_again : (kind : Kind) (octets contents more : List ℕ) → length contents ≤ 355
-    → outer_by kind (Is (length contents) (length octets)) (octets ++ (contents ++ more))
-    ≡ Ok (record { kind = kind; inside = left_at (1 + length octets) contents; size = 1 + (length octets + length contents) })
-outer_by_again kind octets contents more small =
+outer_by_again : (apdu_type : ApduType) (octets contents more : List ℕ) → length contents ≤ 355
+    → outer_by apdu_type (Definite (length contents) (length octets)) (octets ++ (contents ++ more))
+    ≡ Ok (record { apdu_type = apdu_type; inside = left_at (1 + length octets) contents; size = 1 + (length octets + length contents) })
+outer_by_again apdu_type octets contents more small =
     let all = octets ++ (contents ++ more) in
     let short : ltb 355 (length contents) ≡ false = le-ltb 355 (length contents) small in
     let enough : ltb (length all) (length octets + length contents) ≡ false =
@@ -336,36 +336,36 @@ outer_by_again kind octets contents more small =
     ap (take (length contents)) (drop_at octets (contents ++ more) (length octets) refl) ∙ take_at contents more (length contents) refl in
     rw (short, enough, inside) refl
 
-outer_again : (kind : Kind) (contents more : List ℕ) → length contents ≤ 355 → OuterAgain kind contents more
+outer_again : (apdu_type : ApduType) (contents more : List ℕ) → length contents ≤ 355 → OuterAgain apdu_type contents more
 unfolding outer_at element
-outer_again kind contents more small =
+outer_again apdu_type contents more small =
     let octets = length_octets (length contents) in
-    let size : 1 + (length octets + length contents) ≡ length (octet_of kind ∷ (octets ++ contents)) = omega (arith, length-append octets contents) in (
+    let size : 1 + (length octets + length contents) ≡ length (octet_of apdu_type ∷ (octets ++ contents)) = omega (arith, length-append octets contents) in (
       1 + length octets,
-      rw (kind_again kind, append_assoc octets contents more, length_again (length contents) (contents ++ more) (omega arith)) (rw (← size) (outer_by_again kind octets contents more small)),
+      rw (type_again apdu_type, append_assoc octets contents more, length_again (length contents) (contents ++ more) (omega arith)) (rw (← size) (outer_by_again apdu_type octets contents more small)),
     )
 
-outer_by_short : (kind : Kind) (form : LengthForm) (bytes : List ℕ) (n : ℕ) → IsFew form (length bytes) → outer_by kind form bytes ≡ Err (Short n) → (n ≡ length bytes + 1) × (length bytes ≤ 357)
-outer_by_short kind Cut bytes n few e = (sym (short_is (length bytes + 1) n e), omega arith)
-outer_by_short kind Wrong bytes n few e = absurd (length_inside 1 (Short n) e)
-outer_by_short kind (Is m octets) bytes n few e =
-    elim (chosen (ltb 355 m) (Err (Length 1)) (cond (ltb (length bytes) (octets + m)) (Err (Short (length bytes + 1))) (Ok (outer_with kind m octets bytes))) (Err (Short n)) e) [
+outer_by_short : (apdu_type : ApduType) (form : LengthForm) (bytes : List ℕ) (n : ℕ) → IsFew form (length bytes) → outer_by apdu_type form bytes ≡ Err (Short n) → (n ≡ length bytes + 1) × (length bytes ≤ 357)
+outer_by_short apdu_type Truncated bytes n few e = (sym (short_is (length bytes + 1) n e), omega arith)
+outer_by_short apdu_type Invalid bytes n few e = absurd (length_inside 1 (Short n) e)
+outer_by_short apdu_type (Definite m octets) bytes n few e =
+    elim (chosen (ltb 355 m) (Err (Length 1)) (cond (ltb (length bytes) (octets + m)) (Err (Short (length bytes + 1))) (Ok (outer_with apdu_type m octets bytes))) (Err (Short n)) e) [
       | inl h ↦ absurd (length_inside 1 (Short n) h.1)
-      | inr h ↦ elim (chosen (ltb (length bytes) (octets + m)) (Err (Short (length bytes + 1))) (Ok (outer_with kind m octets bytes)) (Err (Short n)) h.1) [
+      | inr h ↦ elim (chosen (ltb (length bytes) (octets + m)) (Err (Short (length bytes + 1))) (Ok (outer_with apdu_type m octets bytes)) (Err (Short n)) h.1) [
         | inl g ↦ (sym (short_is (length bytes + 1) n g.1), omega (arith, ltb-true (length bytes) (octets + m) g.0, ltb-false 355 m h.0))
-        | inr g ↦ absurd (no_value (Short n) (outer_with kind m octets bytes) g.1)
+        | inr g ↦ absurd (no_value (Short n) (outer_with apdu_type m octets bytes) g.1)
       ]
     ]
 
-outer_of_short : (o : Option Kind) (bytes : List ℕ) (n : ℕ) → outer_of o bytes ≡ Err (Short n) → (n ≡ length bytes + 1) × (length bytes ≤ 357)
+outer_of_short : (o : Option ApduType) (bytes : List ℕ) (n : ℕ) → outer_of o bytes ≡ Err (Short n) → (n ≡ length bytes + 1) × (length bytes ≤ 357)
 outer_of_short None bytes n e = absurd (tag_inside 0 (Short n) e)
-outer_of_short (Some kind) bytes n e = outer_by_short kind (length_of bytes) bytes n (length_few bytes) e
+outer_of_short (Some apdu_type) bytes n e = outer_by_short apdu_type (length_of bytes) bytes n (length_few bytes) e
 
 outer_short : (bytes : List ℕ) (n : ℕ) → outer_at bytes ≡ Err (Short n) → (n ≡ length bytes) × (length bytes ≤ 358)
 unfolding outer_at
 outer_short [] n e = (sym (short_is 0 n e), omega arith)
 outer_short (first ∷ bytes) n e =
-    let is = outer_of_short (kind_with first) bytes n e in
+    let is = outer_of_short (type_with first) bytes n e in
     (omega (arith, is.0), omega (arith, is.1))
 
 -- ---- whole APDUs
@@ -377,24 +377,24 @@ IsAtFront bytes apdu rest = IsApdu apdu × (bytes ≡ spelling apdu ++ rest)
 pub apdu_takes : (bytes : List ℕ) (apdu : Apdu) (rest : List ℕ) → IsBytes bytes → apdu_at bytes ≡ Ok (apdu, rest) → IsApdu apdu × (bytes ≡ spelling apdu ++ rest)
 unfolding apdu_at spelling
 apdu_takes bytes apdu rest fits e =
-    let outer = bind_ok (outer_at bytes) (λ outer. inside_of outer.kind outer.inside >>= λ apdu. Ok (apdu, drop outer.size bytes)) (apdu, rest) e in
+    let outer = bind_ok (outer_at bytes) (λ outer. inside_of outer.apdu_type outer.inside >>= λ apdu. Ok (apdu, drop outer.size bytes)) (apdu, rest) e in
     let size = outer.0.size in
-    let kind = outer.0.kind in
-    let inner = bind_ok (inside_of kind outer.0.inside) (λ apdu. Ok (apdu, drop size bytes)) (apdu, rest) outer.2 in
+    let apdu_type = outer.0.apdu_type in
+    let inner = bind_ok (inside_of apdu_type outer.0.inside) (λ apdu. Ok (apdu, drop size bytes)) (apdu, rest) outer.2 in
     let both : (inner.0, drop size bytes) ≡ (apdu, rest) = ok_is (inner.0, drop size bytes) (apdu, rest) inner.2 in
     let whole = outer_takes bytes outer.0 fits outer.1 in
-    let inside = inside_takes kind outer.0.inside inner.0 whole.inside_fits inner.1 in
-    let parts : bytes ≡ element (octet_of (kind_of inner.0.body)) (contents_of inner.0) ++ drop size bytes =
-    whole.parts ∙ ap (λ (x : List ℕ). element (octet_of kind) x ++ drop size bytes) inside.0
-    ∙ ap (λ (k : Kind). element (octet_of k) (contents_of inner.0) ++ drop size bytes) (sym inside.2) in
+    let inside = inside_takes apdu_type outer.0.inside inner.0 whole.inside_fits inner.1 in
+    let parts : bytes ≡ element (octet_of (type_of inner.0.body)) (contents_of inner.0) ++ drop size bytes =
+    whole.parts ∙ ap (λ (x : List ℕ). element (octet_of apdu_type) x ++ drop size bytes) inside.0
+    ∙ ap (λ (k : ApduType). element (octet_of k) (contents_of inner.0) ++ drop size bytes) (sym inside.2) in
     subst (λ (x : Apdu × List ℕ). IsAtFront bytes x.0 x.1) both (inside.1, parts)
 
 -- a spelling is read again, whatever follows it
 pub apdu_again : (apdu : Apdu) (rest : List ℕ) → IsApdu apdu → apdu_at (spelling apdu ++ rest) ≡ Ok (apdu, rest)
 unfolding apdu_at spelling
 apdu_again apdu rest is =
-    let text = element (octet_of (kind_of apdu.body)) (contents_of apdu) in
-    let outer = outer_again (kind_of apdu.body) (contents_of apdu) rest (contents_bound apdu is) in
+    let text = element (octet_of (type_of apdu.body)) (contents_of apdu) in
+    let outer = outer_again (type_of apdu.body) (contents_of apdu) rest (contents_bound apdu is) in
     let inner = inside_again apdu outer.0 is in
     let behind : drop (length text) (text ++ rest) ≡ rest = drop_at text rest (length text) refl in
     rw (outer.1, inner, behind) refl
@@ -403,43 +403,43 @@ apdu_again apdu rest is =
 pub apdu_short : (bytes : List ℕ) (n : ℕ) → apdu_at bytes ≡ Err (Short n) → (n ≡ length bytes) × (length bytes ≤ 358)
 unfolding apdu_at
 apdu_short bytes n e =
-    elim (bind_err (outer_at bytes) (λ outer. inside_of outer.kind outer.inside >>= λ apdu. Ok (apdu, drop outer.size bytes)) (Short n) e) [
+    elim (bind_err (outer_at bytes) (λ outer. inside_of outer.apdu_type outer.inside >>= λ apdu. Ok (apdu, drop outer.size bytes)) (Short n) e) [
       | inl h ↦ outer_short bytes n h
-      | inr h ↦ elim (bind_err (inside_of h.0.kind h.0.inside) (λ apdu. Ok (apdu, drop h.0.size bytes)) (Short n) h.2) [
-        | inl g ↦ absurd (inside_faults h.0.kind h.0.inside (Short n) g)
+      | inr h ↦ elim (bind_err (inside_of h.0.apdu_type h.0.inside) (λ apdu. Ok (apdu, drop h.0.size bytes)) (Short n) h.2) [
+        | inl g ↦ absurd (inside_faults h.0.apdu_type h.0.inside (Short n) g)
         | inr g ↦ absurd (no_value (Short n) (g.0, drop h.0.size bytes) g.2)
       ]
     ]
 
-outer_by_memory : (kind : Kind) (form : LengthForm) (bytes : List ℕ) → outer_by kind form bytes ≡ Err OutOfMemory → ⊥
-outer_by_memory kind Cut bytes e = short_or_memory (length bytes + 1) e
-outer_by_memory kind Wrong bytes e = length_inside 1 OutOfMemory e
-outer_by_memory kind (Is m octets) bytes e =
-    elim (chosen (ltb 355 m) (Err (Length 1)) (cond (ltb (length bytes) (octets + m)) (Err (Short (length bytes + 1))) (Ok (outer_with kind m octets bytes))) (Err OutOfMemory) e) [
+outer_by_memory : (apdu_type : ApduType) (form : LengthForm) (bytes : List ℕ) → outer_by apdu_type form bytes ≡ Err OutOfMemory → ⊥
+outer_by_memory apdu_type Truncated bytes e = short_or_memory (length bytes + 1) e
+outer_by_memory apdu_type Invalid bytes e = length_inside 1 OutOfMemory e
+outer_by_memory apdu_type (Definite m octets) bytes e =
+    elim (chosen (ltb 355 m) (Err (Length 1)) (cond (ltb (length bytes) (octets + m)) (Err (Short (length bytes + 1))) (Ok (outer_with apdu_type m octets bytes))) (Err OutOfMemory) e) [
       | inl h ↦ length_inside 1 OutOfMemory h.1
-      | inr h ↦ elim (chosen (ltb (length bytes) (octets + m)) (Err (Short (length bytes + 1))) (Ok (outer_with kind m octets bytes)) (Err OutOfMemory) h.1) [
+      | inr h ↦ elim (chosen (ltb (length bytes) (octets + m)) (Err (Short (length bytes + 1))) (Ok (outer_with apdu_type m octets bytes)) (Err OutOfMemory) h.1) [
         | inl g ↦ short_or_memory (length bytes + 1) g.1
-        | inr g ↦ no_value OutOfMemory (outer_with kind m octets bytes) g.1
+        | inr g ↦ no_value OutOfMemory (outer_with apdu_type m octets bytes) g.1
       ]
     ]
 
-outer_of_memory : (o : Option Kind) (bytes : List ℕ) → outer_of o bytes ≡ Err OutOfMemory → ⊥
+outer_of_memory : (o : Option ApduType) (bytes : List ℕ) → outer_of o bytes ≡ Err OutOfMemory → ⊥
 outer_of_memory None bytes e = tag_inside 0 OutOfMemory e
-outer_of_memory (Some kind) bytes e = outer_by_memory kind (length_of bytes) bytes e
+outer_of_memory (Some apdu_type) bytes e = outer_by_memory apdu_type (length_of bytes) bytes e
 
 outer_memory : (bytes : List ℕ) → outer_at bytes ≡ Err OutOfMemory → ⊥
 unfolding outer_at
 outer_memory [] e = short_or_memory 0 e
-outer_memory (first ∷ bytes) e = outer_of_memory (kind_with first) bytes e
+outer_memory (first ∷ bytes) e = outer_of_memory (type_with first) bytes e
 
 -- no bytes have want of memory as their fault
 pub apdu_memory : (bytes : List ℕ) → apdu_at bytes ≡ Err OutOfMemory → ⊥
 unfolding apdu_at
 apdu_memory bytes e =
-    elim (bind_err (outer_at bytes) (λ outer. inside_of outer.kind outer.inside >>= λ apdu. Ok (apdu, drop outer.size bytes)) OutOfMemory e) [
+    elim (bind_err (outer_at bytes) (λ outer. inside_of outer.apdu_type outer.inside >>= λ apdu. Ok (apdu, drop outer.size bytes)) OutOfMemory e) [
       | inl h ↦ outer_memory bytes h
-      | inr h ↦ elim (bind_err (inside_of h.0.kind h.0.inside) (λ apdu. Ok (apdu, drop h.0.size bytes)) OutOfMemory h.2) [
-        | inl g ↦ inside_faults h.0.kind h.0.inside OutOfMemory g
+      | inr h ↦ elim (bind_err (inside_of h.0.apdu_type h.0.inside) (λ apdu. Ok (apdu, drop h.0.size bytes)) OutOfMemory h.2) [
+        | inl g ↦ inside_faults h.0.apdu_type h.0.inside OutOfMemory g
         | inr g ↦ no_value OutOfMemory (g.0, drop h.0.size bytes) g.2
       ]
     ]
@@ -447,17 +447,17 @@ apdu_memory bytes e =
 -- ---- bytes followed by anything
 
 abbrev pub IsFinal : LengthForm → Type 0
-IsFinal Cut = ⊥
-IsFinal Wrong = Unit {0}
-IsFinal (Is n octets) = Unit {0}
+IsFinal Truncated = ⊥
+IsFinal Invalid = Unit {0}
+IsFinal (Definite n octets) = Unit {0}
 
-form_of_one : (short one two : Bool) (x y z w : LengthForm) → IsFinal (cond short x (cond one Cut (cond two Cut w))) → cond short x (cond one y (cond two z w)) ≡ cond short x (cond one Cut (cond two Cut w))
+form_of_one : (short one two : Bool) (x y z w : LengthForm) → IsFinal (cond short x (cond one Truncated (cond two Truncated w))) → cond short x (cond one y (cond two z w)) ≡ cond short x (cond one Truncated (cond two Truncated w))
 form_of_one true one two x y z w final = refl
 form_of_one false true two x y z w final = absurd final
 form_of_one false false true x y z w final = absurd final
 form_of_one false false false x y z w final = refl
 
-form_of_two : (short one two : Bool) (x y z w : LengthForm) → IsFinal (cond short x (cond one y (cond two Cut w))) → cond short x (cond one y (cond two z w)) ≡ cond short x (cond one y (cond two Cut w))
+form_of_two : (short one two : Bool) (x y z w : LengthForm) → IsFinal (cond short x (cond one y (cond two Truncated w))) → cond short x (cond one y (cond two z w)) ≡ cond short x (cond one y (cond two Truncated w))
 form_of_two true one two x y z w final = refl
 form_of_two false true two x y z w final = refl
 form_of_two false false true x y z w final = absurd final
@@ -467,9 +467,9 @@ pub length_more : (bytes more : List ℕ) → IsFinal (length_of bytes) → leng
 unfolding length_of
 length_more [] more final = absurd final
 length_more (first ∷ []) more final =
-    form_of_one (ltb first 128) (eqb first 0x81) (eqb first 0x82) (Is first 1) (one_octet_length more) (two_octet_length more) Wrong final
+    form_of_one (ltb first 128) (eqb first 0x81) (eqb first 0x82) (Definite first 1) (one_octet_length more) (two_octet_length more) Invalid final
 length_more (first ∷ second ∷ []) more final =
-    form_of_two (ltb first 128) (eqb first 0x81) (eqb first 0x82) (Is first 1) (one_octet_length (second ∷ [])) (two_octet_length (second ∷ more)) Wrong final
+    form_of_two (ltb first 128) (eqb first 0x81) (eqb first 0x82) (Definite first 1) (one_octet_length (second ∷ [])) (two_octet_length (second ∷ more)) Invalid final
 length_more (first ∷ second ∷ third ∷ rest) more final = refl
 
 -- the same contents are taken, whatever follows them
@@ -478,57 +478,57 @@ same_contents n octets bytes more enough =
     ap (take n) (drop-append-le octets bytes more (omega arith)) ∙ take-append-le n (drop octets bytes) more (omega (arith, length-drop octets bytes))
 
 -- an APDU that is all there stays so
-outer_by_more : (kind : Kind) (form : LengthForm) (bytes more : List ℕ) (outer : Outer) → outer_by kind form bytes ≡ Ok outer → IsFinal form × (outer_by kind form (bytes ++ more) ≡ Ok outer)
-outer_by_more kind Cut bytes more outer e = absurd cc
-outer_by_more kind Wrong bytes more outer e = absurd cc
-outer_by_more kind (Is n octets) bytes more outer e =
-    let small = went_on (ltb 355 n) (cond (ltb (length bytes) (octets + n)) (Err (Short (length bytes + 1))) (Ok (outer_with kind n octets bytes))) (Length 1) outer e in
-    let whole = went_on (ltb (length bytes) (octets + n)) (Ok (outer_with kind n octets bytes)) (Short (length bytes + 1)) outer small.1 in
+outer_by_more : (apdu_type : ApduType) (form : LengthForm) (bytes more : List ℕ) (outer : Outer) → outer_by apdu_type form bytes ≡ Ok outer → IsFinal form × (outer_by apdu_type form (bytes ++ more) ≡ Ok outer)
+outer_by_more apdu_type Truncated bytes more outer e = absurd cc
+outer_by_more apdu_type Invalid bytes more outer e = absurd cc
+outer_by_more apdu_type (Definite n octets) bytes more outer e =
+    let small = went_on (ltb 355 n) (cond (ltb (length bytes) (octets + n)) (Err (Short (length bytes + 1))) (Ok (outer_with apdu_type n octets bytes))) (Length 1) outer e in
+    let whole = went_on (ltb (length bytes) (octets + n)) (Ok (outer_with apdu_type n octets bytes)) (Short (length bytes + 1)) outer small.1 in
     let enough = ltb-false (length bytes) (octets + n) whole.0 in
     let longer : ltb (length (bytes ++ more)) (octets + n) ≡ false = le-ltb _ _ (omega (arith, length-append bytes more)) in
     (tt, rw (small.0, longer, same_contents n octets bytes more enough) whole.1)
 
-outer_of_more : (first : ℕ) (o : Option Kind) (bytes more : List ℕ) (outer : Outer) → outer_of o bytes ≡ Ok outer → outer_of o (bytes ++ more) ≡ Ok outer
+outer_of_more : (first : ℕ) (o : Option ApduType) (bytes more : List ℕ) (outer : Outer) → outer_of o bytes ≡ Ok outer → outer_of o (bytes ++ more) ≡ Ok outer
 outer_of_more first None bytes more outer e = absurd cc
-outer_of_more first (Some kind) bytes more outer e =
-    let is = outer_by_more kind (length_of bytes) bytes more outer e in
-    ap (λ (form : LengthForm). outer_by kind form (bytes ++ more)) (length_more bytes more is.0) ∙ is.1
+outer_of_more first (Some apdu_type) bytes more outer e =
+    let is = outer_by_more apdu_type (length_of bytes) bytes more outer e in
+    ap (λ (form : LengthForm). outer_by apdu_type form (bytes ++ more)) (length_more bytes more is.0) ∙ is.1
 
 outer_more : (bytes more : List ℕ) (outer : Outer) → outer_at bytes ≡ Ok outer → outer_at (bytes ++ more) ≡ Ok outer
 unfolding outer_at
 outer_more [] more outer e = absurd cc
-outer_more (first ∷ bytes) more outer e = outer_of_more first (kind_with first) bytes more outer e
+outer_more (first ∷ bytes) more outer e = outer_of_more first (type_with first) bytes more outer e
 
 -- a fault other than Short stays, whatever follows
-outer_by_stays : (kind : Kind) (form : LengthForm) (bytes more : List ℕ) (d : DerFault) → IfShort d ⊥ → outer_by kind form bytes ≡ Err d → IsFinal form × (outer_by kind form (bytes ++ more) ≡ Err d)
-outer_by_stays kind Cut bytes more d other e = absurd (subst (λ (f : DerFault). IfShort f ⊥) (sym (fault_is (Short (length bytes + 1)) d e)) other)
-outer_by_stays kind Wrong bytes more d other e = (tt, e)
-outer_by_stays kind (Is n octets) bytes more d other e =
-    elim (chosen (ltb 355 n) (Err (Length 1)) (cond (ltb (length bytes) (octets + n)) (Err (Short (length bytes + 1))) (Ok (outer_with kind n octets bytes))) (Err d) e) [
+outer_by_stays : (apdu_type : ApduType) (form : LengthForm) (bytes more : List ℕ) (d : DerFault) → IfShort d ⊥ → outer_by apdu_type form bytes ≡ Err d → IsFinal form × (outer_by apdu_type form (bytes ++ more) ≡ Err d)
+outer_by_stays apdu_type Truncated bytes more d other e = absurd (subst (λ (f : DerFault). IfShort f ⊥) (sym (fault_is (Short (length bytes + 1)) d e)) other)
+outer_by_stays apdu_type Invalid bytes more d other e = (tt, e)
+outer_by_stays apdu_type (Definite n octets) bytes more d other e =
+    elim (chosen (ltb 355 n) (Err (Length 1)) (cond (ltb (length bytes) (octets + n)) (Err (Short (length bytes + 1))) (Ok (outer_with apdu_type n octets bytes))) (Err d) e) [
       | inl h ↦ (tt, rw h.0 h.1)
-      | inr h ↦ elim (chosen (ltb (length bytes) (octets + n)) (Err (Short (length bytes + 1))) (Ok (outer_with kind n octets bytes)) (Err d) h.1) [
+      | inr h ↦ elim (chosen (ltb (length bytes) (octets + n)) (Err (Short (length bytes + 1))) (Ok (outer_with apdu_type n octets bytes)) (Err d) h.1) [
         | inl g ↦ absurd (subst (λ (f : DerFault). IfShort f ⊥) (sym (fault_is (Short (length bytes + 1)) d g.1)) other)
-        | inr g ↦ absurd (no_value d (outer_with kind n octets bytes) g.1)
+        | inr g ↦ absurd (no_value d (outer_with apdu_type n octets bytes) g.1)
       ]
     ]
 
-outer_of_stays : (o : Option Kind) (bytes more : List ℕ) (d : DerFault) → IfShort d ⊥ → outer_of o bytes ≡ Err d → outer_of o (bytes ++ more) ≡ Err d
+outer_of_stays : (o : Option ApduType) (bytes more : List ℕ) (d : DerFault) → IfShort d ⊥ → outer_of o bytes ≡ Err d → outer_of o (bytes ++ more) ≡ Err d
 outer_of_stays None bytes more d other e = e
-outer_of_stays (Some kind) bytes more d other e =
-    let is = outer_by_stays kind (length_of bytes) bytes more d other e in
-    ap (λ (form : LengthForm). outer_by kind form (bytes ++ more)) (length_more bytes more is.0) ∙ is.1
+outer_of_stays (Some apdu_type) bytes more d other e =
+    let is = outer_by_stays apdu_type (length_of bytes) bytes more d other e in
+    ap (λ (form : LengthForm). outer_by apdu_type form (bytes ++ more)) (length_more bytes more is.0) ∙ is.1
 
 outer_stays : (bytes more : List ℕ) (d : DerFault) → IfShort d ⊥ → outer_at bytes ≡ Err d → outer_at (bytes ++ more) ≡ Err d
 unfolding outer_at
 outer_stays [] more d other e = absurd (subst (λ (f : DerFault). IfShort f ⊥) (sym (fault_is (Short 0) d e)) other)
-outer_stays (first ∷ bytes) more d other e = outer_of_stays (kind_with first) bytes more d other e
+outer_stays (first ∷ bytes) more d other e = outer_of_stays (type_with first) bytes more d other e
 
 pub fault_stays : (bytes more : List ℕ) (d : DerFault) → IfShort d ⊥ → apdu_at bytes ≡ Err d → apdu_at (bytes ++ more) ≡ Err d
 unfolding apdu_at
 fault_stays bytes more d other e =
-    elim (bind_err (outer_at bytes) (λ outer. inside_of outer.kind outer.inside >>= λ apdu. Ok (apdu, drop outer.size bytes)) d e) [
+    elim (bind_err (outer_at bytes) (λ outer. inside_of outer.apdu_type outer.inside >>= λ apdu. Ok (apdu, drop outer.size bytes)) d e) [
       | inl h ↦ rw (outer_stays bytes more d other h) refl
-      | inr h ↦ elim (bind_err (inside_of h.0.kind h.0.inside) (λ apdu. Ok (apdu, drop h.0.size bytes)) d h.2) [
+      | inr h ↦ elim (bind_err (inside_of h.0.apdu_type h.0.inside) (λ apdu. Ok (apdu, drop h.0.size bytes)) d h.2) [
         | inl g ↦ rw (outer_more bytes more h.0 h.1, g) refl
         | inr g ↦ absurd (no_value d (g.0, drop h.0.size bytes) g.2)
       ]

@@ -10,7 +10,7 @@ use Rattle.ill_values.specs.declared.apdu.Body.TheVariants.{IllRequest}
 use Rattle.ill_values.specs.Apdu.{IsApdu}
 use Rattle.ill_der.specs.declared.fault.DerFault.{DerFault}
 use Rattle.ill_der.specs.Format.{element, length_octets}
-use Rattle.ill_der.specs.Types.{octet_of, kind_of}
+use Rattle.ill_der.specs.Types.{octet_of, type_of}
 use Rattle.ill_der.specs.ShortForm.{contents_of, spelling, apdu_at}
 use Rattle.ill_der.specs.Laws.{IsBytes, BeginsWithOne}
 use Rattle.ill_der.proofs.Chains.{ok_is, no_value}
@@ -43,7 +43,7 @@ pub spelled_most : (apdu : Apdu) → IsApdu apdu → length (spelling apdu) ≤ 
 unfolding spelling
 spelled_most apdu is =
     let contents = contents_of apdu in
-    omega (arith, element_length (octet_of (kind_of apdu.body)) contents, few_length_octets (length contents), contents_bound apdu is)
+    omega (arith, element_length (octet_of (type_of apdu.body)) contents, few_length_octets (length contents), contents_bound apdu is)
 
 -- ---- bytes of any kind
 

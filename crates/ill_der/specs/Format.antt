@@ -4,7 +4,7 @@ use Rattle.std.specs.Prelude.{◌≡◌, ℕ, ◌+◌, ◌*◌, ◌/◌, ◌%◌
 use Rattle.ill_der.specs.declared.fault.DerFault.{DerFault}
 use Rattle.ill_der.specs.declared.fault.DerFault.TheVariants.{Tag, Length, Field}
 use Rattle.ill_der.specs.declared.length.LengthForm.{LengthForm}
-use Rattle.ill_der.specs.declared.length.LengthForm.TheVariants.{Cut, Wrong, Is}
+use Rattle.ill_der.specs.declared.length.LengthForm.TheVariants.{Truncated, Invalid, Definite}
 use Rattle.ill_der.specs.Contents.{Contents}
 
 -- one step after another, up to the first fault
@@ -23,28 +23,28 @@ length_octets n =
 
 -- what stands behind the octet 81: a length from 128 on
 abbrev pub one_octet_length : List ℕ → LengthForm
-one_octet_length [] = Cut
-one_octet_length (n ∷ rest) = if nat_lt n 128 then Wrong else Is n 2
+one_octet_length [] = Truncated
+one_octet_length (n ∷ rest) = if nat_lt n 128 then Invalid else Definite n 2
 
 -- what stands behind the octet 82: a length from 256 on
 abbrev pub two_octet_length : List ℕ → LengthForm
-two_octet_length [] = Cut
-two_octet_length (high ∷ []) = Cut
-two_octet_length (high ∷ low ∷ rest) = if high == 0 then Wrong else Is (256 * high + low) 3
+two_octet_length [] = Truncated
+two_octet_length (high ∷ []) = Truncated
+two_octet_length (high ∷ low ∷ rest) = if high == 0 then Invalid else Definite (256 * high + low) 3
 
--- The length that octets begin with, and of how many octets it is. It is wrong where it is none of
--- the three shortest forms, and cut where the octets end within it.
+-- The length that octets begin with, and of how many octets it is. It is invalid where it is none of
+-- the three shortest forms, and truncated where the octets end within it.
 unfoldable pub length_of : List ℕ → LengthForm
-length_of [] = Cut
+length_of [] = Truncated
 length_of (first ∷ rest) =
-    if nat_lt first 128 then Is first 1
-    else (if first == 0x81 then one_octet_length rest else (if first == 0x82 then two_octet_length rest else Wrong))
+    if nat_lt first 128 then Definite first 1
+    else (if first == 0x81 then one_octet_length rest else (if first == 0x82 then two_octet_length rest else Invalid))
 
--- a length that is cut ends within two octets, and no length has more than three
+-- a truncated length ends within two octets, and no length has more than three
 abbrev pub IsFew : LengthForm → ℕ → Type 0
-IsFew Cut bytes = bytes ≤ 2
-IsFew Wrong bytes = Unit {0}
-IsFew (Is n octets) bytes = octets ≤ 3
+IsFew Truncated bytes = bytes ≤ 2
+IsFew Invalid bytes = Unit {0}
+IsFew (Definite n octets) bytes = octets ≤ 3
 
 -- ---- elements
 
@@ -63,11 +63,11 @@ left_at at bytes = record { at = at; bytes = bytes }
 
 -- the contents of the element whose identifier stands just before the bytes, and what follows it
 abbrev pub contents_by : LengthForm → Left → Result (Left × Left) DerFault
-contents_by (Is n octets) left =
+contents_by (Definite n octets) left =
     if nat_lt (length left.bytes) (octets + n) then Err (Length left.at)
     else Ok (left_at (left.at + octets) (take n (drop octets left.bytes)), left_at (left.at + (octets + n)) (drop (octets + n) left.bytes))
-contents_by Cut left = Err (Length left.at)
-contents_by Wrong left = Err (Length left.at)
+contents_by Truncated left = Err (Length left.at)
+contents_by Invalid left = Err (Length left.at)
 
 -- whether the element with this identifier stands here
 abbrev pub stands_at : ℕ → List ℕ → Bool
@@ -142,6 +142,7 @@ constructed identifier inside = record {
 -- ---- what the code gives
 
 -- A reader gave what reading gives, its value seen by view, and left the cursor where reading does.
-abbrev pub Reads : {X V : Type 0} → (X → V) → Result X DerFault → Left → Result (V × Left) DerFault → Type 0
+abbrev pub Reads : {X V : Type 0} → (X → V) → Result X DerFault → Left → Result (V × Left) DerFault →
+    Type 0
 Reads view (Ok value) left read = read ≡ Ok (view value, left)
 Reads view (Err fault) left read = read ≡ Err fault

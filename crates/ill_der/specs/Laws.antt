@@ -18,6 +18,7 @@ BeginsWith bytes apdu rest = IsApdu apdu × (bytes ≡ spelling apdu ++ rest)
 -- never want of memory.
 abbrev pub BeginsWithOne : List ℕ → Result (Apdu × List ℕ) DerFault → Type 0
 BeginsWithOne bytes (Ok found) =
-    BeginsWith bytes found.0 found.1 × ((apdu : Apdu) (rest : List ℕ) → BeginsWith bytes apdu rest → (apdu, rest) ≡ found)
+    BeginsWith bytes found.0 found.1 × ((apdu : Apdu) (rest : List ℕ) → BeginsWith bytes apdu rest →
+    (apdu, rest) ≡ found)
 BeginsWithOne bytes (Err fault) =
     (fault ≡ OutOfMemory → ⊥) × ((apdu : Apdu) (rest : List ℕ) → BeginsWith bytes apdu rest → ⊥)

@@ -7,12 +7,12 @@ use Rattle.ill_values.specs.declared.apdu.AnswerResult.{AnswerResult}
 use Rattle.ill_values.specs.Day.{Date}
 use Rattle.ill_der.specs.declared.fault.DerFault.{DerFault}
 use Rattle.ill_der.specs.declared.fault.DerFault.TheVariants.{Short, Tag, Length, OutOfMemory}
-use Rattle.ill_der.specs.declared.kind.Kind.{Kind}
-use Rattle.ill_der.specs.declared.kind.Kind.TheVariants as kinds
+use Rattle.ill_der.specs.declared.apdu_type.ApduType.{ApduType}
+use Rattle.ill_der.specs.declared.apdu_type.ApduType.TheVariants as types
 use Rattle.ill_der.specs.declared.length.LengthForm.{LengthForm}
-use Rattle.ill_der.specs.declared.length.LengthForm.TheVariants.{Cut, Wrong, Is}
+use Rattle.ill_der.specs.declared.length.LengthForm.TheVariants.{Truncated, Invalid, Definite}
 use Rattle.ill_der.specs.declared.decoding.Outer as decoding
-use Rattle.ill_der.specs.Types.{octet_of, kind_with, kind_of}
+use Rattle.ill_der.specs.Types.{octet_of, type_with, type_of}
 use Rattle.ill_der.specs.Contents.{version, number, qualifier, date, item, answer_result, yes_no}
 use Rattle.ill_der.specs.Format.{◌>>=◌, element, length_of, Left, left_at, ended, Format, required, optional, followed_by, where_yes, constructed}
 
@@ -75,21 +75,21 @@ abbrev pub made_of : {V : Type 0} → Format V → (V → Body) → Left → Res
 made_of fields make left = fields.read left >>= λ found. Ok (make found.0, found.1)
 
 -- the further fields of a type, read
-abbrev pub read_body : Kind → Left → Result (Body × Left) DerFault
-read_body kinds.IllRequest left = made_of request (λ found. IllRequest found.0 found.1) left
-read_body kinds.Shipped left = made_of due_date Shipped left
-read_body kinds.IllAnswer left = made_of answer IllAnswer left
-read_body kinds.ConditionalReply left = made_of reply (λ found. ConditionalReply found.0 found.1) left
-read_body kinds.CancelReply left = made_of reply (λ found. CancelReply found.0 found.1) left
-read_body kinds.Overdue left = made_of due_date Overdue left
-read_body kinds.Renew left = made_of wish Renew left
-read_body kinds.RenewAnswer left = made_of grant (λ found. RenewAnswer found.0 found.1) left
-read_body kinds.Cancel left = Ok (Cancel, left)
-read_body kinds.Received left = Ok (Received, left)
-read_body kinds.Recall left = Ok (Recall, left)
-read_body kinds.Returned left = Ok (Returned, left)
-read_body kinds.CheckedIn left = Ok (CheckedIn, left)
-read_body kinds.Expired left = Ok (Expired, left)
+abbrev pub read_body : ApduType → Left → Result (Body × Left) DerFault
+read_body types.IllRequest left = made_of request (λ found. IllRequest found.0 found.1) left
+read_body types.Shipped left = made_of due_date Shipped left
+read_body types.IllAnswer left = made_of answer IllAnswer left
+read_body types.ConditionalReply left = made_of reply (λ found. ConditionalReply found.0 found.1) left
+read_body types.CancelReply left = made_of reply (λ found. CancelReply found.0 found.1) left
+read_body types.Overdue left = made_of due_date Overdue left
+read_body types.Renew left = made_of wish Renew left
+read_body types.RenewAnswer left = made_of grant (λ found. RenewAnswer found.0 found.1) left
+read_body types.Cancel left = Ok (Cancel, left)
+read_body types.Received left = Ok (Received, left)
+read_body types.Recall left = Ok (Recall, left)
+read_body types.Returned left = Ok (Returned, left)
+read_body types.CheckedIn left = Ok (CheckedIn, left)
+read_body types.Expired left = Ok (Expired, left)
 
 -- ---- whole APDUs
 
@@ -103,52 +103,58 @@ contents_of apdu = head_of apdu ++ spell_body apdu.body
 
 -- the one spelling of an APDU
 unfoldable pub spelling : Apdu → List ℕ
-spelling apdu = element (octet_of (kind_of apdu.body)) (contents_of apdu)
+spelling apdu = element (octet_of (type_of apdu.body)) (contents_of apdu)
 
 -- an APDU that is all there: its type, its contents, and the number of its bytes
 pub record Outer : Type 0 where
-  pub kind : Kind
+  pub apdu_type : ApduType
   pub inside : Left
   pub size : ℕ
 
 -- The contents that a length calls for, of bytes behind an identifier. There are at most 355. Where
 -- some are missing the fault has the number of all bytes.
-abbrev pub outer_by : Kind → LengthForm → List ℕ → Result Outer DerFault
-outer_by kind (Is n octets) bytes =
+abbrev pub outer_by : ApduType → LengthForm → List ℕ → Result Outer DerFault
+outer_by apdu_type (Definite n octets) bytes =
     if nat_lt 355 n then Err (Length 1)
     else (if nat_lt (length bytes) (octets + n) then Err (Short (length bytes + 1))
-    else Ok (record { kind = kind; inside = left_at (1 + octets) (take n (drop octets bytes)); size = 1 + (octets + n) }))
-outer_by kind Cut bytes = Err (Short (length bytes + 1))
-outer_by kind Wrong bytes = Err (Length 1)
+    else Ok (record { apdu_type = apdu_type; inside = left_at (1 + octets) (take n (drop octets bytes)); size = 1 + (octets + n) }))
+outer_by apdu_type Truncated bytes = Err (Short (length bytes + 1))
+outer_by apdu_type Invalid bytes = Err (Length 1)
 
-abbrev pub outer_of : Option Kind → List ℕ → Result Outer DerFault
+abbrev pub outer_of : Option ApduType → List ℕ → Result Outer DerFault
 outer_of None bytes = Err (Tag 0)
-outer_of (Some kind) bytes = outer_by kind (length_of bytes) bytes
+outer_of (Some apdu_type) bytes = outer_by apdu_type (length_of bytes) bytes
 
 -- the identifier, the length and the contents at the front, or why they are not there
 unfoldable pub outer_at : List ℕ → Result Outer DerFault
 outer_at [] = Err (Short 0)
-outer_at (first ∷ bytes) = outer_of (kind_with first) bytes
+outer_at (first ∷ bytes) = outer_of (type_with first) bytes
 
 -- the body that all of what is left spells
-unfoldable pub body_of : Kind → Left → Result Body DerFault
-body_of kind left = read_body kind left >>= λ body. ended body.1 >>= λ _. Ok body.0
+unfoldable pub body_of : ApduType → Left → Result Body DerFault
+body_of apdu_type left = read_body apdu_type left >>= λ body. ended body.1 >>= λ _. Ok body.0
 
 -- the APDU that all of the contents spell
-unfoldable pub inside_of : Kind → Left → Result Apdu DerFault
-inside_of kind left =
-    head.read left >>= λ front. body_of kind front.1 >>= λ body.
-    Ok (record { txn = record { group = front.0.1.0.0; transaction = front.0.1.0.1 }; number = front.0.1.1; body = body })
+unfoldable pub inside_of : ApduType → Left → Result Apdu DerFault
+inside_of apdu_type left =
+    head.read left >>= λ front. body_of apdu_type front.1 >>= λ body.
+    Ok (record {
+      txn = record { group = front.0.1.0.0; transaction = front.0.1.0.1 };
+      number = front.0.1.1;
+      body = body;
+    })
 
 -- the APDU at the front and the bytes behind it, or the first fault
 unfoldable pub apdu_at : List ℕ → Result (Apdu × List ℕ) DerFault
-apdu_at bytes = outer_at bytes >>= λ outer. inside_of outer.kind outer.inside >>= λ apdu. Ok (apdu, drop outer.size bytes)
+apdu_at bytes =
+    outer_at bytes >>= λ outer. inside_of outer.apdu_type outer.inside >>= λ apdu.
+    Ok (apdu, drop outer.size bytes)
 
 -- ---- what the code gives
 
 -- what stands for an APDU that is all there
 abbrev pub outer_view : decoding.Outer → Outer
-outer_view outer = record { kind = outer.kind; inside = outer.inside; size = outer.size }
+outer_view outer = record { apdu_type = outer.apdu_type; inside = outer.inside; size = outer.size }
 
 -- A step of decoding gave what reading gives, its value seen by view.
 abbrev pub Finds : {X V : Type 0} → (X → V) → Result X DerFault → Result V DerFault → Type 0
@@ -165,4 +171,5 @@ Gives (Ok value) result = MatchResult result (λ made. made ≡ value) (λ fault
 abbrev pub Decodes : List ℕ → Result (Apdu × List ℕ) DerFault → Result (Apdu × ℕ) DerFault → Type 0
 Decodes bytes (Err fault) result = result ≡ Err fault
 Decodes bytes (Ok read) result =
-    MatchResult result (λ found. (found.1 ≤ length bytes) × (read ≡ (found.0, drop found.1 bytes))) (λ fault. fault ≡ OutOfMemory)
+    MatchResult result (λ found. (found.1 ≤ length bytes) × (read ≡ (found.0, drop found.1 bytes)))
+    (λ fault. fault ≡ OutOfMemory)

@@ -10,9 +10,9 @@ use Rattle.ill_der.specs.declared.fault.WriteFault.{WriteFault}
 use Rattle.ill_der.specs.declared.fault.WriteFault.TheVariants as writing
 use Rattle.ill_values.specs.Apdu.{IsApdu}
 use Rattle.ill_der.specs.declared.length.LengthForm.{LengthForm}
-use Rattle.ill_der.specs.declared.length.LengthForm.TheVariants.{Cut, Wrong, Is}
+use Rattle.ill_der.specs.declared.length.LengthForm.TheVariants.{Truncated, Invalid, Definite}
 use Rattle.ill_der.specs.Format.{length_of}
-use Rattle.ill_der.specs.Types.{kind_with}
+use Rattle.ill_der.specs.Types.{type_with}
 use Rattle.ill_der.specs.ShortForm.{spelling, apdu_at}
 
 -- the bytes are less than an APDU, and more may complete them
@@ -40,7 +40,8 @@ IfShort OutOfMemory P = Unit {0}
 abbrev pub IsAnswer : List ℕ → Option (List ℕ) → Result (Option Apdu) ReadFault → Type 0
 IsAnswer bytes left (Ok (Some apdu)) = IsApdu apdu × (bytes ≡ spelling apdu)
 IsAnswer bytes left (Ok None) = (bytes ≡ []) × IsAtEnd left
-IsAnswer bytes left (Err (faults.Bytes fault)) = (apdu_at bytes ≡ Err fault) × AreUnfinished bytes × IfShort fault (IsAtEnd left)
+IsAnswer bytes left (Err (faults.Bytes fault)) =
+    (apdu_at bytes ≡ Err fault) × AreUnfinished bytes × IfShort fault (IsAtEnd left)
 IsAnswer bytes left (Err faults.Read) = IsUnfinished bytes
 IsAnswer bytes left (Err faults.OutOfMemory) = SpellsOne bytes
 
@@ -57,16 +58,18 @@ IsJudged bytes (Err (faults.Bytes fault)) = (apdu_at bytes ≡ Err fault) × IfS
 IsJudged bytes (Err faults.Read) = ⊥
 IsJudged bytes (Err faults.OutOfMemory) = SpellsOne bytes
 
--- how many bytes are surely missing behind an identifier, of a length and of so many bytes
+-- how many more bytes are needed at least behind an identifier, by the length and the bytes there are
 abbrev pub missing_by : LengthForm → ℕ → ℕ
-missing_by Cut size = 1
-missing_by Wrong size = 0
-missing_by (Is n octets) size = if nat_lt 355 n then 0 else octets + n - size
+missing_by Truncated size = 1
+missing_by Invalid size = 0
+missing_by (Definite n octets) size = if nat_lt 355 n then 0 else octets + n - size
 
--- how many bytes are surely missing of an APDU that begins with these
+-- how many more bytes the APDU needs at least; 0 if it is complete or already invalid
 unfoldable pub missing_of : List ℕ → ℕ
 missing_of [] = 1
-missing_of (first ∷ bytes) = if is_some (kind_with first) then missing_by (length_of bytes) (length bytes) else 0
+missing_of (first ∷ bytes) =
+    if is_some (type_with first) then missing_by (length_of bytes) (length bytes)
+    else 0
 
 -- Bytes were written, from what a writer held to what it holds: all of them, a front where the writer
 -- failed, or none for want of memory.

@@ -3,11 +3,11 @@
 use Rattle.std.specs.Prelude.{ℕ, ◌==◌, List, [], ◌∷◌, Option, find}
 use Rattle.ill_values.specs.declared.apdu.Body.{Body}
 use Rattle.ill_values.specs.declared.apdu.Body.TheVariants as bodies
-use Rattle.ill_der.specs.declared.kind.Kind.{Kind}
-use Rattle.ill_der.specs.declared.kind.Kind.TheVariants.{IllRequest, Shipped, IllAnswer, ConditionalReply, Cancel, CancelReply, Received, Recall, Returned, CheckedIn, Overdue, Renew, RenewAnswer, Expired}
+use Rattle.ill_der.specs.declared.apdu_type.ApduType.{ApduType}
+use Rattle.ill_der.specs.declared.apdu_type.ApduType.TheVariants.{IllRequest, Shipped, IllAnswer, ConditionalReply, Cancel, CancelReply, Received, Recall, Returned, CheckedIn, Overdue, Renew, RenewAnswer, Expired}
 
 -- the identifier octet of a type
-abbrev pub octet_of : Kind → ℕ
+abbrev pub octet_of : ApduType → ℕ
 octet_of IllRequest = 0x61
 octet_of Shipped = 0x63
 octet_of IllAnswer = 0x64
@@ -23,28 +23,28 @@ octet_of Renew = 0x6D
 octet_of RenewAnswer = 0x6E
 octet_of Expired = 0x74
 
-abbrev pub all_kinds : List Kind
-all_kinds =
+abbrev pub all_types : List ApduType
+all_types =
     IllRequest ∷ Shipped ∷ IllAnswer ∷ ConditionalReply ∷ Cancel ∷ CancelReply ∷ Received ∷ Recall ∷ Returned ∷ CheckedIn
     ∷ Overdue ∷ Renew ∷ RenewAnswer ∷ Expired ∷ []
 
 -- the type with an identifier octet
-abbrev pub kind_with : ℕ → Option Kind
-kind_with octet = find (λ kind. octet == octet_of kind) all_kinds
+abbrev pub type_with : ℕ → Option ApduType
+type_with octet = find (λ apdu_type. octet == octet_of apdu_type) all_types
 
 -- the type of a body
-abbrev pub kind_of : Body → Kind
-kind_of (bodies.IllRequest expiry item) = IllRequest
-kind_of (bodies.Shipped due) = Shipped
-kind_of (bodies.IllAnswer result) = IllAnswer
-kind_of (bodies.ConditionalReply answers accepts) = ConditionalReply
-kind_of bodies.Cancel = Cancel
-kind_of (bodies.CancelReply answers accepts) = CancelReply
-kind_of bodies.Received = Received
-kind_of bodies.Recall = Recall
-kind_of bodies.Returned = Returned
-kind_of bodies.CheckedIn = CheckedIn
-kind_of (bodies.Overdue due) = Overdue
-kind_of (bodies.Renew wished) = Renew
-kind_of (bodies.RenewAnswer answers granted) = RenewAnswer
-kind_of bodies.Expired = Expired
+abbrev pub type_of : Body → ApduType
+type_of (bodies.IllRequest expiry item) = IllRequest
+type_of (bodies.Shipped due) = Shipped
+type_of (bodies.IllAnswer result) = IllAnswer
+type_of (bodies.ConditionalReply answers accepts) = ConditionalReply
+type_of bodies.Cancel = Cancel
+type_of (bodies.CancelReply answers accepts) = CancelReply
+type_of bodies.Received = Received
+type_of bodies.Recall = Recall
+type_of bodies.Returned = Returned
+type_of bodies.CheckedIn = CheckedIn
+type_of (bodies.Overdue due) = Overdue
+type_of (bodies.Renew wished) = Renew
+type_of (bodies.RenewAnswer answers granted) = RenewAnswer
+type_of bodies.Expired = Expired

@@ -10,7 +10,8 @@ use crate::length::{LengthForm, length_at_front};
 use ill_values::{AnswerResult, Day, Item, Number, TxnId};
 use std::marker::Model;
 
-/// The bytes of an element's contents that are not read yet, and the place of the first of them.
+/// Holds the bytes of an element's contents that are not read yet, and the offset of the first in the
+/// APDU.
 #[derive(Debug, Drop)]
 pub struct Cursor<'a> {
     at: u16,
@@ -26,7 +27,7 @@ impl<'a> Model for Cursor<'a> {
 }
 
 impl<'a> Cursor<'a> {
-    /// These bytes, of which the first stands at this place in the APDU.
+    /// A cursor over these bytes, the first of which is at this offset in the APDU.
     pub fn new(at: u16, bytes: &'a [u8]) -> Cursor<'a>
         requires { at + length bytes.now ≤ 359 }
         ensures { result ≡ left_at at bytes.entry.now }
@@ -34,7 +35,7 @@ impl<'a> Cursor<'a> {
         Cursor { at, bytes }
     }
 
-    /// Nothing, if nothing is left.
+    /// Checks that all bytes were read. Otherwise the fault is `Tag` at the first that was not.
     pub fn ended(&self) -> Result<(), DerFault>
         ensures { result ≡ ended self.now }
     {
@@ -45,7 +46,7 @@ impl<'a> Cursor<'a> {
         }
     }
 
-    /// Whether the element with this identifier stands here.
+    /// Whether the next element has this identifier.
     fn has(&self, identifier: u8) -> bool
         ensures { result ≡ stands_at identifier self.now.bytes }
     {
@@ -55,7 +56,7 @@ impl<'a> Cursor<'a> {
         }
     }
 
-    /// Reads the contents of the element with this identifier, which must stand here.
+    /// Takes the next element, which must have this identifier, and gives its contents.
     #[tactic(auto, unfolding(crate::specs::Format::element_at))]
     pub fn element(&mut self, identifier: u8) -> Result<Cursor<'a>, DerFault>
         ensures { Reads (λ inside. inside) result self.new (element_at identifier self.old) }
@@ -66,7 +67,7 @@ impl<'a> Cursor<'a> {
         let at = self.at + 1;
         let bytes = &self.bytes[1..];
         match length_at_front(bytes) {
-            LengthForm::Is(length, octets) => {
+            LengthForm::Definite(length, octets) => {
                 let (start, end) = (octets as usize, octets as usize + length as usize);
                 if bytes.len() < end {
                     return Err(DerFault::Length(at));
@@ -75,11 +76,11 @@ impl<'a> Cursor<'a> {
                 self.bytes = &bytes[end..];
                 Ok(Cursor::new(at + octets, &bytes[start..end]))
             }
-            LengthForm::Cut | LengthForm::Wrong => Err(DerFault::Length(at)),
+            LengthForm::Truncated | LengthForm::Invalid => Err(DerFault::Length(at)),
         }
     }
 
-    /// Reads the version, which has the one value 1.
+    /// Reads the version, which is always 1.
     pub fn version(&mut self, identifier: u8) -> Result<(), DerFault>
         ensures { Reads (λ v. v) result self.new ((required identifier version).read self.old) }
     {
@@ -100,7 +101,8 @@ impl<'a> Cursor<'a> {
 
     /// Reads a qualifier of a transaction id.
     pub fn qualifier(&mut self, identifier: u8) -> Result<&'a [u8], DerFault>
-        ensures read { Reads (λ text. text.now) result self.new ((required identifier qualifier).read self.old) }
+        ensures read { Reads (λ text. text.now) result self.new
+            ((required identifier qualifier).read self.old) }
         ensures qualifier { IfOk result (λ text. IsQualifier text.now) }
     {
         let inside = self.element(identifier)?;
@@ -113,7 +115,8 @@ impl<'a> Cursor<'a> {
 
     /// Reads an item.
     pub fn item(&mut self, identifier: u8) -> Result<&'a [u8], DerFault>
-        ensures read { Reads (λ text. text.now) result self.new ((required identifier item).read self.old) }
+        ensures read { Reads (λ text. text.now) result self.new
+            ((required identifier item).read self.old) }
         ensures item { IfOk result (λ text. IsItem text.now) }
     {
         let inside = self.element(identifier)?;
@@ -124,7 +127,7 @@ impl<'a> Cursor<'a> {
         }
     }
 
-    /// Reads a day.
+    /// Reads a date.
     pub fn date(&mut self, identifier: u8) -> Result<Day, DerFault>
         ensures { Reads (λ d. d) result self.new ((required identifier date).read self.old) }
     {
@@ -132,7 +135,7 @@ impl<'a> Cursor<'a> {
         Day::read(inside.bytes).map_err(|_| DerFault::Field(inside.at))
     }
 
-    /// Reads a result.
+    /// Reads the result of an ILL-Answer.
     pub fn answer_result(&mut self, identifier: u8) -> Result<AnswerResult, DerFault>
         ensures { Reads (λ r. r) result self.new ((required identifier answer_result).read self.old) }
     {
@@ -152,7 +155,7 @@ impl<'a> Cursor<'a> {
         }
     }
 
-    /// Reads a day, if one stands here.
+    /// Reads a date, if the next element is one.
     pub fn optional_date(&mut self, identifier: u8) -> Result<Option<Day>, DerFault>
         ensures { Reads (λ d. d) result self.new ((optional identifier date).read self.old) }
     {
@@ -164,7 +167,7 @@ impl<'a> Cursor<'a> {
     }
 }
 
-/// The number that an INTEGER of these contents has, if it is one of a message (X.690 8.3).
+/// The message number that the contents of an INTEGER spell, if they spell one (X.690 8.3).
 fn number_of(contents: &[u8]) -> Option<Number>
     ensures { result ≡ number_from contents.now }
 {
@@ -175,7 +178,7 @@ fn number_of(contents: &[u8]) -> Option<Number>
     }
 }
 
-/// The result that one octet stands for.
+/// The result that the contents spell in one octet.
 fn result_of(contents: &[u8]) -> Option<AnswerResult>
     ensures { result ≡ result_from contents.now }
 {

@@ -5,39 +5,40 @@ ghost use Rattle.ill_der.specs.Contents.{yes_no, date, number};
 ghost use Rattle.ill_der.specs.Format.{Reads, length_of, required, where_yes};
 ghost use Rattle.ill_der.specs.ShortForm.{outer_view, outer_at, outer_by, read_body, reply, body_of, inside_of, apdu_at, Finds, Gives, Decodes};
 
+use crate::apdu_type::ApduType;
 use crate::cursor::Cursor;
 use crate::fault::DerFault;
-use crate::kind::Kind;
 use crate::length::{LengthForm, length_at_front};
 use crate::tags;
 use ill_values::{Apdu, Body, Day, Item, Number, TxnId};
 use std::alloc::Global;
 
-/// The most contents octets of an APDU.
-pub const MOST_CONTENTS: u16 = 355;
+/// The largest number of contents octets of an APDU.
+pub const MAX_CONTENTS: u16 = 355;
 
-/// An APDU that is all there: its type, its contents, and the number of its bytes.
+/// A complete APDU: its type, its contents, and its size in bytes.
 #[derive(Drop)]
 struct Outer<'a> {
-    kind: Kind,
+    apdu_type: ApduType,
     inside: Cursor<'a>,
     size: usize,
 }
 
-/// The APDU at the front of the bytes and the number of its bytes, whatever follows it.
+/// Decodes the APDU at the front of the bytes, and gives its size in bytes; what follows is not read.
 ///
-/// Every check is made before memory is taken.
+/// The fault is the first in the bytes. All checks come before memory is taken, so that
+/// `OutOfMemory` means that the bytes begin with an APDU.
 #[tactic(auto, unfolding(crate::specs::ShortForm::apdu_at))]
 pub fn decode(alloc: Global, bytes: &[u8]) -> Result<(Apdu, usize), DerFault>
     ensures read { Decodes bytes.now (apdu_at bytes.now) result }
     ensures most { IfOk result (λ found. found.1 ≤ 359) }
 {
     let mut outer = whole(bytes)?;
-    let apdu = apdu_inside(alloc, outer.kind, &mut outer.inside)?;
+    let apdu = apdu_inside(alloc, outer.apdu_type, &mut outer.inside)?;
     Ok((apdu, outer.size))
 }
 
-/// The identifier, the length and all of the contents.
+/// Splits off the identifier and the length, and checks that all of the contents are there.
 #[tactic(auto, unfolding(crate::specs::ShortForm::outer_at))]
 fn whole(bytes: &[u8]) -> Result<Outer<'_>, DerFault>
     ensures read { Finds outer_view result (outer_at bytes.now) }
@@ -46,24 +47,24 @@ fn whole(bytes: &[u8]) -> Result<Outer<'_>, DerFault>
 {
     match bytes {
         [] => Err(DerFault::Short(0)),
-        [octet, behind @ ..] => match Kind::with_octet(*octet) {
-            Some(kind) => contents(kind, behind),
+        [octet, behind @ ..] => match ApduType::with_octet(*octet) {
+            Some(apdu_type) => contents(apdu_type, behind),
             None => Err(DerFault::Tag(0)),
         },
     }
 }
 
-/// The length and all of the contents of an APDU of this type, behind its identifier.
-fn contents(kind: Kind, bytes: &[u8]) -> Result<Outer<'_>, DerFault>
-    ensures read { Finds outer_view result (outer_by kind (length_of bytes.now) bytes.now) }
+/// The same, of the bytes behind the identifier of an APDU of this type.
+fn contents(apdu_type: ApduType, bytes: &[u8]) -> Result<Outer<'_>, DerFault>
+    ensures read { Finds outer_view result (outer_by apdu_type (length_of bytes.now) bytes.now) }
     ensures size { IfOk result (λ outer. outer.size ≤ length bytes.now + 1) }
     ensures most { IfOk result (λ outer. outer.size ≤ 359) }
 {
     match length_at_front(bytes) {
-        LengthForm::Cut => Err(DerFault::Short(bytes.len() as u16 + 1)),
-        LengthForm::Wrong => Err(DerFault::Length(1)),
-        LengthForm::Is(length, octets) => {
-            if length > MOST_CONTENTS {
+        LengthForm::Truncated => Err(DerFault::Short(bytes.len() as u16 + 1)),
+        LengthForm::Invalid => Err(DerFault::Length(1)),
+        LengthForm::Definite(length, octets) => {
+            if length > MAX_CONTENTS {
                 return Err(DerFault::Length(1));
             }
             let (start, end) = (octets as usize, octets as usize + length as usize);
@@ -72,7 +73,7 @@ fn contents(kind: Kind, bytes: &[u8]) -> Result<Outer<'_>, DerFault>
             }
             let inside = Cursor::new(1 + octets, &bytes[start..end]);
             Ok(Outer {
-                kind,
+                apdu_type,
                 inside,
                 size: 1 + end,
             })
@@ -80,10 +81,14 @@ fn contents(kind: Kind, bytes: &[u8]) -> Result<Outer<'_>, DerFault>
     }
 }
 
-/// The APDU of this type that all of its contents spell.
+/// Decodes the contents of an APDU of this type, to their end.
 #[tactic(auto, unfolding(crate::specs::ShortForm::inside_of))]
-fn apdu_inside(alloc: Global, kind: Kind, inside: &mut Cursor<'_>) -> Result<Apdu, DerFault>
-    ensures { Gives (inside_of kind inside.old) result }
+fn apdu_inside(
+    alloc: Global,
+    apdu_type: ApduType,
+    inside: &mut Cursor<'_>,
+) -> Result<Apdu, DerFault>
+    ensures { Gives (inside_of apdu_type inside.old) result }
 {
     inside.version(tags::VERSION)?;
     let mut id = inside.element(tags::TRANSACTION_ID)?;
@@ -91,28 +96,32 @@ fn apdu_inside(alloc: Global, kind: Kind, inside: &mut Cursor<'_>) -> Result<Apd
     let transaction = id.qualifier(tags::TRANSACTION_QUALIFIER)?;
     id.ended()?;
     let number = inside.number(tags::NUMBER)?;
-    let body = body_inside(alloc, kind, inside)?;
+    let body = body_inside(alloc, apdu_type, inside)?;
     let txn = TxnId::new(alloc, group, transaction).map_err(|_| DerFault::OutOfMemory)?;
     Ok(Apdu { txn, number, body })
 }
 
-/// The body of this type that all of what is left spells.
+/// Decodes the further fields of an APDU of this type, to the end of the contents.
 #[tactic(auto, unfolding(crate::specs::ShortForm::body_of))]
-fn body_inside(alloc: Global, kind: Kind, inside: &mut Cursor<'_>) -> Result<Body, DerFault>
-    ensures { Gives (body_of kind inside.old) result }
+fn body_inside(
+    alloc: Global,
+    apdu_type: ApduType,
+    inside: &mut Cursor<'_>,
+) -> Result<Body, DerFault>
+    ensures { Gives (body_of apdu_type inside.old) result }
 {
-    if kind == Kind::IllRequest {
+    if apdu_type == ApduType::IllRequest {
         return request_inside(alloc, inside);
     }
-    let body = body_without_text(kind, inside)?;
+    let body = body_without_text(apdu_type, inside)?;
     inside.ended()?;
     Ok(body)
 }
 
-/// The ILL-Request that all of what is left spells.
+/// Decodes the further fields of an ILL-Request, to the end of the contents.
 #[tactic(auto, unfolding(crate::specs::ShortForm::body_of))]
 fn request_inside(alloc: Global, inside: &mut Cursor<'_>) -> Result<Body, DerFault>
-    ensures { Gives (body_of Kind.IllRequest inside.old) result }
+    ensures { Gives (body_of ApduType.IllRequest inside.old) result }
 {
     let expiry = inside.optional_date(tags::DATE)?;
     let text = inside.item(tags::ITEM)?;
@@ -121,48 +130,48 @@ fn request_inside(alloc: Global, inside: &mut Cursor<'_>) -> Result<Body, DerFau
     Ok(Body::IllRequest { expiry, item })
 }
 
-/// The further fields of a type that has no text.
-fn body_without_text(kind: Kind, inside: &mut Cursor<'_>) -> Result<Body, DerFault>
-    requires { kind ≢ Kind.IllRequest }
-    ensures { Reads (λ body. body) result inside.new (read_body kind inside.old) }
+/// Decodes the further fields of a type that has no text.
+fn body_without_text(apdu_type: ApduType, inside: &mut Cursor<'_>) -> Result<Body, DerFault>
+    requires { apdu_type ≢ ApduType.IllRequest }
+    ensures { Reads (λ body. body) result inside.new (read_body apdu_type inside.old) }
 {
-    match kind {
-        Kind::IllRequest => unreachable!(),
-        Kind::Shipped => Ok(Body::Shipped {
+    match apdu_type {
+        ApduType::IllRequest => unreachable!(),
+        ApduType::Shipped => Ok(Body::Shipped {
             due: inside.date(tags::DATE)?,
         }),
-        Kind::IllAnswer => Ok(Body::IllAnswer {
+        ApduType::IllAnswer => Ok(Body::IllAnswer {
             result: inside.answer_result(tags::RESULT)?,
         }),
-        Kind::ConditionalReply => {
+        ApduType::ConditionalReply => {
             let (answers, yes) = reply_inside(inside)?;
             Ok(Body::ConditionalReply { answers, yes })
         }
-        Kind::Cancel => Ok(Body::Cancel),
-        Kind::CancelReply => {
+        ApduType::Cancel => Ok(Body::Cancel),
+        ApduType::CancelReply => {
             let (answers, yes) = reply_inside(inside)?;
             Ok(Body::CancelReply { answers, yes })
         }
-        Kind::Received => Ok(Body::Received),
-        Kind::Recall => Ok(Body::Recall),
-        Kind::Returned => Ok(Body::Returned),
-        Kind::CheckedIn => Ok(Body::CheckedIn),
-        Kind::Overdue => Ok(Body::Overdue {
+        ApduType::Received => Ok(Body::Received),
+        ApduType::Recall => Ok(Body::Recall),
+        ApduType::Returned => Ok(Body::Returned),
+        ApduType::CheckedIn => Ok(Body::CheckedIn),
+        ApduType::Overdue => Ok(Body::Overdue {
             due: inside.date(tags::DATE)?,
         }),
-        Kind::Renew => Ok(Body::Renew {
+        ApduType::Renew => Ok(Body::Renew {
             wished: inside.optional_date(tags::DATE)?,
         }),
-        Kind::RenewAnswer => {
+        ApduType::RenewAnswer => {
             let answers = inside.number(tags::ANSWERS)?;
             let granted = granted_inside(inside)?;
             Ok(Body::RenewAnswer { answers, granted })
         }
-        Kind::Expired => Ok(Body::Expired),
+        ApduType::Expired => Ok(Body::Expired),
     }
 }
 
-/// The number of the message answered, and yes or no.
+/// Reads the number of the message answered, and yes or no.
 fn reply_inside(inside: &mut Cursor<'_>) -> Result<(Number, bool), DerFault>
     ensures { Reads (λ found. found) result inside.new (reply.read inside.old) }
 {
@@ -171,9 +180,10 @@ fn reply_inside(inside: &mut Cursor<'_>) -> Result<(Number, bool), DerFault>
     Ok((answers, yes))
 }
 
-/// The new due date where the answer is yes.
+/// Reads yes or no, and after a yes the new due date.
 fn granted_inside(inside: &mut Cursor<'_>) -> Result<Option<Day>, DerFault>
-    ensures { Reads (λ found. found) result inside.new ((where_yes (required 0x84 yes_no) (required 0x85 date)).read inside.old) }
+    ensures { Reads (λ found. found) result inside.new
+        ((where_yes (required 0x84 yes_no) (required 0x85 date)).read inside.old) }
 {
     if inside.yes_no(tags::YES_NO)? {
         Ok(Some(inside.date(tags::DATE)?))

@@ -8,13 +8,13 @@ ghost use Rattle.ill_der.specs.Contents.{answer_result, code_of, date, number, n
 ghost use Rattle.ill_der.specs.Format.{element, length_octets, optional, required};
 ghost use Rattle.ill_der.specs.ShortForm.{due_date, grant, head_of, reply, spell_body, spelling, txn_id};
 
-use crate::kind::Kind;
+use crate::apdu_type::ApduType;
 use crate::sizing::{contents_size, qualifiers_size, size};
 use crate::tags;
 use ill_values::{AnswerResult, Apdu, Body, Day, Number, OutOfMemory, TxnId};
 use std::alloc::Global;
 
-/// The spelling of an APDU, in one growth.
+/// Encodes an APDU: its one spelling, at most 359 bytes. It takes memory once.
 pub fn encode(alloc: Global, apdu: &Apdu) -> Result<Vec<u8>, OutOfMemory>
     ensures spelled { IfOk result (λ bytes. bytes.items ≡ spelling apdu.now) }
     ensures most { IfOk result (λ bytes. length bytes.items ≤ 359) }
@@ -25,13 +25,13 @@ pub fn encode(alloc: Global, apdu: &Apdu) -> Result<Vec<u8>, OutOfMemory>
     Ok(bytes)
 }
 
-/// Adds the spelling of an APDU to the bytes. Without memory a front of it may be added.
+/// Adds the spelling of an APDU to the bytes. If memory runs out, a front of it may have been added.
 #[tactic(auto, unfolding(crate::specs::ShortForm::spelling, crate::specs::Format::element))]
 pub fn encode_onto(bytes: &mut Vec<u8>, apdu: &Apdu) -> Result<(), OutOfMemory>
     ensures spelled { OnOk result (bytes.new.items ≡ bytes.old.items ++ spelling apdu.now) }
     ensures range { OnOk result (IsApdu apdu.now) }
 {
-    push_start(bytes, Kind::of(&apdu.body).octet(), contents_size(apdu))?;
+    push_start(bytes, ApduType::of(&apdu.body).octet(), contents_size(apdu))?;
     push_head(bytes, apdu)?;
     push_body(bytes, &apdu.body)
 }
@@ -48,7 +48,8 @@ fn push_head(bytes: &mut Vec<u8>, apdu: &Apdu) -> Result<(), OutOfMemory>
 
 #[tactic(auto, unfolding(crate::specs::Format::element))]
 fn push_id(bytes: &mut Vec<u8>, id: &TxnId) -> Result<(), OutOfMemory>
-    ensures bytes { OnOk result (bytes.new.items ≡ bytes.old.items ++ txn_id.spell (id.now.group, id.now.transaction)) }
+    ensures bytes { OnOk result (bytes.new.items ≡ bytes.old.items
+        ++ txn_id.spell (id.now.group, id.now.transaction)) }
     ensures range { OnOk result (AreQualifiers id.now) }
 {
     push_start(bytes, tags::TRANSACTION_ID, qualifiers_size(id))?;
@@ -83,7 +84,8 @@ fn push_body(bytes: &mut Vec<u8>, body: &Body) -> Result<(), OutOfMemory>
 }
 
 fn push_grant(bytes: &mut Vec<u8>, answers: Number, granted: Option<Day>) -> Result<(), OutOfMemory>
-    ensures bytes { OnOk result (bytes.new.items ≡ bytes.old.items ++ grant.spell (answers, granted)) }
+    ensures bytes { OnOk result (bytes.new.items ≡ bytes.old.items
+        ++ grant.spell (answers, granted)) }
     ensures range { OnOk result (IsNumber answers × IfSome granted IsDate) }
 {
     push_reply(bytes, answers, granted.is_some())?;
@@ -99,7 +101,8 @@ fn push_reply(bytes: &mut Vec<u8>, answers: Number, yes: bool) -> Result<(), Out
 }
 
 fn push_optional_date(bytes: &mut Vec<u8>, day: Option<Day>) -> Result<(), OutOfMemory>
-    ensures bytes { OnOk result (bytes.new.items ≡ bytes.old.items ++ (optional 0x85 date).spell day) }
+    ensures bytes { OnOk result (bytes.new.items ≡ bytes.old.items
+        ++ (optional 0x85 date).spell day) }
     ensures range { OnOk result (IfSome day IsDate) }
 {
     match day {
@@ -117,7 +120,8 @@ fn push_date(bytes: &mut Vec<u8>, day: Day) -> Result<(), OutOfMemory>
 
 /// Adds a number, as an INTEGER (X.690 8.3).
 fn push_number(bytes: &mut Vec<u8>, identifier: u8, number: Number) -> Result<(), OutOfMemory>
-    ensures bytes { OnOk result (bytes.new.items ≡ bytes.old.items ++ element identifier (number_octets number)) }
+    ensures bytes { OnOk result (bytes.new.items ≡ bytes.old.items
+        ++ element identifier (number_octets number)) }
     ensures range { OnOk result (IsNumber number) }
 {
     let octet = number.get();

@@ -2,22 +2,23 @@
 
 use thiserror::Error;
 
-/// The first fault of bytes that do not begin with an APDU. A place is counted from the APDU's first byte.
+/// The first fault of bytes that do not begin with an APDU. Offsets are in bytes from the first byte
+/// of the APDU.
 #[derive(Clone, Copy, Debug, PartialEq, Eq, Hash, Error)]
 pub enum DerFault {
-    /// The APDU goes on past the bytes that are there, of this number.
+    /// The bytes end before the APDU does. The number is how many bytes there are.
     #[error("short at {0}")]
     Short(u16),
-    /// At this place stands an identifier that may not stand there, or nothing where a field must.
+    /// An unexpected identifier at this offset, or a missing field.
     #[error("tag at {0}")]
     Tag(u16),
-    /// At this place begins a length that is not in its shortest form, or reaches too far.
+    /// The length at this offset is not in its shortest form, or reaches too far.
     #[error("length at {0}")]
     Length(u16),
-    /// At this place begin contents that stand for no value of their field.
+    /// The contents at this offset are no value of their field.
     #[error("field at {0}")]
     Field(u16),
-    /// The bytes begin with an APDU, and memory ran out.
+    /// The bytes begin with an APDU, but memory ran out.
     #[error("memory")]
     OutOfMemory,
 }
@@ -25,13 +26,13 @@ pub enum DerFault {
 /// Why no APDU was read.
 #[derive(Clone, Copy, Debug, PartialEq, Eq, Hash, Error)]
 pub enum ReadFault {
-    /// The bytes that were read begin with no APDU. This is never `DerFault::OutOfMemory`.
+    /// The bytes that were read do not begin with an APDU. This is never `DerFault::OutOfMemory`.
     #[error("{0}")]
     Bytes(DerFault),
-    /// The reader failed.
+    /// The reader failed. The bytes read before are lost.
     #[error("read")]
     Read,
-    /// One whole APDU was read, and memory ran out.
+    /// One whole APDU was read, but memory ran out.
     #[error("memory")]
     OutOfMemory,
 }
@@ -39,10 +40,10 @@ pub enum ReadFault {
 /// Why an APDU was not written.
 #[derive(Clone, Copy, Debug, PartialEq, Eq, Hash, Error)]
 pub enum WriteFault {
-    /// The writer failed, or took no byte.
+    /// The writer failed, or took no byte. A front of the APDU may have been written.
     #[error("write")]
     Write,
-    /// Nothing was written, since memory ran out.
+    /// Memory ran out before anything was written.
     #[error("memory")]
     OutOfMemory,
 }

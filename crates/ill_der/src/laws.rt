@@ -9,7 +9,8 @@ ghost use Rattle.ill_der.specs.ShortForm.{spelling, apdu_at};
 ghost use Rattle.ill_der.specs.Stream.{IfShort};
 ghost use Rattle.ill_der.specs.Laws.{IsBytes, BeginsWithOne};
 
-/// An APDU is read from its spelling, whatever follows: with this, `decode` gives back what `encode` spelled.
+/// An APDU is read from its spelling, whatever follows: with this, `decode` gives back what `encode`
+/// spelled.
 pub fn read_again()
     ensures { (apdu : Apdu) (rest : List ℕ) → IsApdu apdu →
         apdu_at (spelling apdu ++ rest) ≡ Ok (apdu, rest) }

@@ -3,15 +3,15 @@
 ghost use Rattle.std.specs.Prelude.{◌≡◌, ◌≤◌, ◌<◌, ◌^◌, length};
 ghost use Rattle.ill_der.specs.Format.{IsFew, length_of, one_octet_length, two_octet_length};
 
-/// What the octets that a length begins with say.
+/// What the octets at the front of some bytes are as a length.
 #[derive(Clone, Copy, Debug, PartialEq, Eq, Hash)]
 pub enum LengthForm {
-    /// They end within the length.
-    Cut,
-    /// They are none of the shortest forms.
-    Wrong,
-    /// The number of contents octets, and how many length octets say it.
-    Is(u16, u16),
+    /// The bytes end within the length.
+    Truncated,
+    /// The octets are no length in its shortest form.
+    Invalid,
+    /// The number of contents octets, and the number of length octets that give it.
+    Definite(u16, u16),
 }
 
 /// The length at the front of these bytes.
@@ -21,14 +21,14 @@ pub fn length_at_front(bytes: &[u8]) -> LengthForm
     ensures few { IsFew result (length bytes.now) }
 {
     match bytes {
-        [] => LengthForm::Cut,
+        [] => LengthForm::Truncated,
         [0x81, rest @ ..] => behind_81(rest),
         [0x82, rest @ ..] => behind_82(rest),
         [first, ..] => {
             if *first < 0x80 {
-                LengthForm::Is(u16::from(*first), 1)
+                LengthForm::Definite(u16::from(*first), 1)
             } else {
-                LengthForm::Wrong
+                LengthForm::Invalid
             }
         }
     }
@@ -39,12 +39,12 @@ fn behind_81(bytes: &[u8]) -> LengthForm
     ensures few { IsFew result (length bytes.now) }
 {
     match bytes {
-        [] => LengthForm::Cut,
+        [] => LengthForm::Truncated,
         [length, ..] => {
             if *length < 0x80 {
-                LengthForm::Wrong
+                LengthForm::Invalid
             } else {
-                LengthForm::Is(u16::from(*length), 2)
+                LengthForm::Definite(u16::from(*length), 2)
             }
         }
     }
@@ -55,12 +55,12 @@ fn behind_82(bytes: &[u8]) -> LengthForm
     ensures few { IsFew result (length bytes.now) }
 {
     match bytes {
-        [] | [_] => LengthForm::Cut,
+        [] | [_] => LengthForm::Truncated,
         [high, low, ..] => {
             if *high == 0 {
-                LengthForm::Wrong
+                LengthForm::Invalid
             } else {
-                LengthForm::Is(256 * u16::from(*high) + u16::from(*low), 3)
+                LengthForm::Definite(256 * u16::from(*high) + u16::from(*low), 3)
             }
         }
     }

@@ -1,12 +1,12 @@
 //! The short form of interlibrary loan messages: DER (X.690) with this profile's application tags.
 #![tactic(auto)]
 
+mod apdu_type;
 mod counted;
 mod cursor;
 mod decoding;
 mod encoding;
 mod fault;
-mod kind;
 pub mod laws;
 mod length;
 mod reading;

@@ -4,10 +4,10 @@ ghost use Rattle.std.specs.Prelude.{◌≡◌, ◌+◌, ◌≤◌, length};
 ghost use Rattle.ill_der.specs.Format.{length_of};
 ghost use Rattle.ill_der.specs.Stream.{AreUnfinished, IsJudged, ReadsApdu, missing_by, missing_of};
 
+use crate::apdu_type::ApduType;
 use crate::counted::CountedRead;
-use crate::decoding::{MOST_CONTENTS, decode};
+use crate::decoding::{MAX_CONTENTS, decode};
 use crate::fault::{DerFault, ReadFault};
-use crate::kind::Kind;
 use crate::length::{LengthForm, length_at_front};
 use crate::steps::Steps;
 use ill_values::Apdu;
@@ -17,15 +17,15 @@ use std::marker::Brand;
 use std::sync::ledger::{Blank, Ledger};
 
 /// How many bytes the longest APDU has.
-const MOST: usize = 359;
+const MAX_SIZE: usize = 359;
 
 /// A read for each byte, and one that finds the end.
-const READS: usize = MOST + 1;
+const READS: usize = MAX_SIZE + 1;
 
-/// Reads one APDU, or `None` at the end.
+/// Reads one APDU, or gives `None` where the input has ended.
 ///
-/// It makes at most 360 reads, and takes no byte behind the APDU. Where the bytes fail it has taken the
-/// shortest front of them that shows the fault.
+/// It makes at most 360 reads, and takes no byte behind the APDU. If the bytes are no APDU, it has
+/// taken the shortest front of them that shows the fault. A later call begins a new APDU.
 pub fn read_apdu<R: Read>(alloc: Global, reader: &mut R) -> Result<Option<Apdu>, ReadFault>
     ensures { ReadsApdu (R.remaining reader.old) (R.remaining reader.new) result }
 {
@@ -66,7 +66,7 @@ fn read_counted<R: CountedRead, L: Ledger>(
     ensures read { ReadsApdu (R.remaining reader.old) (R.remaining reader.new) result }
     ensures reads { steps.new ≤ steps.old + 360 }
 {
-    let mut bytes = [0; MOST];
+    let mut bytes = [0; MAX_SIZE];
     let mut size = 0;
     for _ in 0..READS {
         let missing = missing(&bytes[..size]);
@@ -83,15 +83,14 @@ fn read_counted<R: CountedRead, L: Ledger>(
     unreachable!()
 }
 
-/// How many bytes are surely missing of an APDU that begins with these: none where they are one, or
-/// have a fault.
+/// How many more bytes the APDU needs at least; 0 if it is complete or already invalid.
 #[tactic(auto, unfolding(crate::specs::Stream::missing_of))]
 fn missing(bytes: &[u8]) -> usize
     ensures { result ≡ missing_of bytes.now }
 {
     match bytes {
         [] => 1,
-        [octet, behind @ ..] => match Kind::with_octet(*octet) {
+        [octet, behind @ ..] => match ApduType::with_octet(*octet) {
             Some(_) => missing_behind(behind),
             None => 0,
         },
@@ -103,10 +102,10 @@ fn missing_behind(bytes: &[u8]) -> usize
     ensures { result ≡ missing_by (length_of bytes.now) (length bytes.now) }
 {
     match length_at_front(bytes) {
-        LengthForm::Cut => 1,
-        LengthForm::Wrong => 0,
-        LengthForm::Is(length, _) if length > MOST_CONTENTS => 0,
-        LengthForm::Is(length, octets) => {
+        LengthForm::Truncated => 1,
+        LengthForm::Invalid => 0,
+        LengthForm::Definite(length, _) if length > MAX_CONTENTS => 0,
+        LengthForm::Definite(length, octets) => {
             (octets as usize + length as usize).saturating_sub(bytes.len())
         }
     }

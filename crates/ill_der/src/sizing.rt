@@ -4,12 +4,12 @@ ghost use Rattle.std.specs.Prelude.{◌≡◌, ◌+◌, ◌≤◌, ◌<◌, ◌+
 ghost use Rattle.ill_values.specs.Day.{Date};
 ghost use Rattle.ill_der.specs.Contents.{number_octets, yes_no, date};
 ghost use Rattle.ill_der.specs.Format.{length_octets, element, required, optional, where_yes};
-ghost use Rattle.ill_der.specs.Types.{octet_of, kind_of};
+ghost use Rattle.ill_der.specs.Types.{octet_of, type_of};
 ghost use Rattle.ill_der.specs.ShortForm.{qualifiers, txn_id, head, head_of, spell_body, contents_of, spelling};
 
 use ill_values::{Apdu, Body, Day, Number, TxnId};
 
-/// How many bytes the spelling of an APDU has: at most 359.
+/// The size of an APDU's spelling: at most 359 bytes. It takes no memory.
 #[tactic(auto, using(crate::proofs::Sizes::element_length), unfolding(crate::specs::ShortForm::spelling))]
 pub fn size(apdu: &Apdu) -> usize
     ensures value { result ≡ length (spelling apdu.now) }
@@ -46,7 +46,7 @@ fn length_size(contents: usize) -> usize
     }
 }
 
-/// How many contents octets an APDU has: at most 355.
+/// The number of contents octets of an APDU: at most 355.
 pub fn contents_size(apdu: &Apdu) -> usize
     ensures value { result ≡ length (contents_of apdu.now) }
     ensures most { result ≤ 355 }

@@ -5,7 +5,7 @@ ghost use Rattle.std.specs.Prelude.{◌≡◌, ◌+◌, ◌<◌, ℕ};
 use std::marker::Model;
 use std::sync::ledger::{Blank, Book, Ledger, Share};
 
-/// How many reads or writes were made: what this crate's own calls of a reader or a writer count.
+/// A count of the reads or writes that this crate has made of a stream. It exists in proofs alone.
 #[derive(Drop)]
 pub struct Steps<L: Ledger> {
     book: Book<L>,
@@ -21,7 +21,7 @@ impl<L: Ledger> Model for Steps<L> {
 }
 
 impl<L: Ledger> Steps<L> {
-    /// None yet. The blank is the one that the ledger `L` is named for.
+    /// A count of 0, on the blank that the ledger `L` is named for.
     pub fn new(blank: Blank) -> Steps<L>
         requires name { blank.name ≡ L.name }
         requires parts { blank.parts ≡ L.parts }
@@ -32,7 +32,7 @@ impl<L: Ledger> Steps<L> {
         Steps { book, share }
     }
 
-    /// Counts one.
+    /// Adds one.
     pub fn tick(&mut self)
         ensures { self.new ≡ self.old + 1 }
     {

@@ -15,9 +15,10 @@ use std::io::Write;
 use std::marker::Brand;
 use std::sync::ledger::{Blank, Ledger};
 
-/// Writes one APDU, or a front of it where the writer fails, or nothing without memory.
+/// Writes one APDU. If the writer fails, a front of it may have been written; if memory runs out,
+/// nothing.
 ///
-/// It makes at most 359 writes. A write that takes no byte is a failing one.
+/// It makes at most 359 writes. A write that takes no byte counts as a failure.
 pub fn write_apdu<W: Write>(alloc: Global, writer: &mut W, apdu: &Apdu) -> Result<(), WriteFault>
     ensures { Writes (W.contents writer.old) (W.contents writer.new) (spelling apdu.now) result }
 {
@@ -45,14 +46,16 @@ pub fn write_apdu_counted<W: Write, L: Ledger>(
     apdu: &Apdu,
     steps: &mut Steps<L>,
 ) -> Result<(), WriteFault>
-    ensures written { Writes (W.contents writer.old) (W.contents writer.new) (spelling apdu.now) result }
+    ensures written { Writes (W.contents writer.old) (W.contents writer.new)
+        (spelling apdu.now) result }
     ensures writes { steps.new ≤ steps.old + 359 }
 {
     let bytes = encode(alloc, apdu).map_err(|_| WriteFault::OutOfMemory)?;
     write_bytes_counted(writer, &bytes, steps)
 }
 
-/// Writes all of the bytes, or a front of them where the writer fails, in at most as many writes.
+/// Writes all of the bytes, in at most as many writes as there are bytes. If the writer fails, a
+/// front of them may have been written.
 pub fn write_bytes<W: Write>(writer: &mut W, bytes: &[u8]) -> Result<(), WriteFault>
     ensures written { Writes (W.contents writer.old) (W.contents writer.new) bytes.now result }
     ensures fault { IfErr result (λ fault. fault ≡ faults.Write) }

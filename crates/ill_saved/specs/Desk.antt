@@ -53,7 +53,8 @@ DeskActs old action (Err (Core refusal)) new = (acts old action ≡ Err refusal)
 DeskActs old action (Err OutOfMemory) new = (is_ok (acts old action) ≡ true) × (new ≡ old)
 DeskActs old action (Err other) new = ⊥
 
--- What bytes do, by what stands at their front: exactly one APDU is handed to the side. Want of memory changes nothing.
+-- What bytes do, by what stands at their front: exactly one APDU is handed to the side. Want of
+-- memory changes nothing.
 abbrev pub DeskTakes : Side → Result (Apdu × List ℕ) DerFault → Result Taking DeskFault → Side → Type 0
 DeskTakes old (Err fault) answer new = (answer ≡ Err (Bytes fault)) × (new ≡ old)
 DeskTakes old (Ok found) (Err OutOfMemory) new = new ≡ old
@@ -74,7 +75,8 @@ IsOneApdu (Ok found) answer = ⊥
 abbrev pub Sends : {X : Type 0} → (X → List ℕ) → Option Apdu → Bool → Result X DeskFault → Type 0
 Sends view None is_released answer = answer ≡ Err NoSuchMessage
 Sends view (Some a) false answer = answer ≡ Err NotSaved
-Sends view (Some a) true answer = MatchResult answer (λ bytes. view bytes ≡ spelling a) (λ fault. fault ≡ OutOfMemory)
+Sends view (Some a) true answer =
+    MatchResult answer (λ bytes. view bytes ≡ spelling a) (λ fault. fault ≡ OutOfMemory)
 
 -- after a save all messages are released; after a fault those that were
 abbrev pub released_after : Result (Unit {0}) DeskFault → Side → ℕ → ℕ
@@ -82,9 +84,11 @@ released_after (Ok done) live released = length (issued_of live)
 released_after (Err fault) live released = released
 
 -- what has landed after the save of a desk, whose store is honest
-abbrev pub SaveLands : Option NextCall → List ℕ → Result (Unit {0}) DeskFault → Option (List ℕ) → Option (List ℕ) → Type 0
+abbrev pub SaveLands : Option NextCall → List ℕ → Result (Unit {0}) DeskFault → Option (List ℕ) →
+    Option (List ℕ) → Type 0
 SaveLands plan bytes (Ok done) old new = (new ≡ Some bytes) × Allows {X = Unit {0}} plan (Ok tt)
-SaveLands plan bytes (Err (Store stores.Failed)) old new = LandsAtFailure plan bytes old new × Allows {X = Unit {0}} plan (Err stores.Failed)
+SaveLands plan bytes (Err (Store stores.Failed)) old new =
+    LandsAtFailure plan bytes old new × Allows {X = Unit {0}} plan (Err stores.Failed)
 SaveLands plan bytes (Err OutOfMemory) old new = new ≡ old
 SaveLands plan bytes (Err other) old new = ⊥
 
@@ -102,12 +106,15 @@ IsSaveFault (Err other) = ⊥
 
 -- ---- loading
 
--- What the store of a desk gives, of an honest one: the consistent side that has landed, if any, or a fault.
+-- What the store of a desk gives, of an honest one: the consistent side that has landed, if any, or
+-- a fault.
 abbrev pub LoadsSide : Option (List ℕ) → Option NextCall → Result (Option Side) DeskFault → Type 0
 LoadsSide None plan (Ok None) = Allows {X = Unit {0}} plan (Ok tt)
-LoadsSide (Some bytes) plan (Ok (Some side)) = (record_at bytes ≡ Ok side) × IsConsistent side × Allows {X = Unit {0}} plan (Ok tt)
+LoadsSide (Some bytes) plan (Ok (Some side)) =
+    (record_at bytes ≡ Ok side) × IsConsistent side × Allows {X = Unit {0}} plan (Ok tt)
 LoadsSide landed plan (Err (Store fault)) = Allows {X = Unit {0}} plan (Err fault)
-LoadsSide (Some bytes) plan (Err (Saved fault)) = Decodes (record_at bytes) (begins_as_record bytes) (Err fault) × Allows {X = Unit {0}} plan (Ok tt)
+LoadsSide (Some bytes) plan (Err (Saved fault)) =
+    Decodes (record_at bytes) (begins_as_record bytes) (Err fault) × Allows {X = Unit {0}} plan (Ok tt)
 LoadsSide landed plan (Err OutOfMemory) = Unit {0}
 LoadsSide landed plan answer = ⊥
 
@@ -127,7 +134,8 @@ IsLoadFault OutOfMemory = Unit {0}
 IsLoadFault other = ⊥
 
 -- What a restart answers, of an honest store: the side that has landed, or a fault of the store.
-abbrev pub Restarts : Result Side LayoutFault → Option NextCall → Result (Unit {0}) DeskFault → Side → Type 0
+abbrev pub Restarts : Result Side LayoutFault → Option NextCall → Result (Unit {0}) DeskFault → Side →
+    Type 0
 Restarts landed plan (Ok done) new = (landed ≡ Ok new) × Allows {X = Unit {0}} plan (Ok tt)
 Restarts landed plan (Err (Store fault)) new = Allows {X = Unit {0}} plan (Err fault)
 Restarts landed plan (Err OutOfMemory) new = Unit {0}
@@ -139,11 +147,13 @@ IsWhole desk = desk.released ≡ length (issued_of desk.live)
 
 abbrev pub RestartLeaves : {S : Type 0} → Result (Unit {0}) DeskFault → DeskOf S → DeskOf S → Type 0
 RestartLeaves (Ok done) old new = IsWhole new
-RestartLeaves (Err fault) old new = (new.live ≡ old.live) × (new.released ≡ old.released) × IsLoadFault fault
+RestartLeaves (Err fault) old new =
+    (new.live ≡ old.live) × (new.released ≡ old.released) × IsLoadFault fault
 
 -- a desk fails only where its store has counted a failure
 abbrev pub CountsDeskFailure : {X : Type 0} → Result X DeskFault → ℕ → ℕ → Type 0
-CountsDeskFailure (Err (Store stores.Failed)) old new = CountsFailure {X = Unit {0}} (Err stores.Failed) old new
+CountsDeskFailure (Err (Store stores.Failed)) old new =
+    CountsFailure {X = Unit {0}} (Err stores.Failed) old new
 CountsDeskFailure answer old new = Unit {0}
 
 -- ---- beginning
@@ -175,11 +185,14 @@ IsCreateAnswer (Err OutOfMemory) = Unit {0}
 IsCreateAnswer (Err other) = ⊥
 
 -- What starting a desk answers, over an honest store: the consistent side that has landed.
-abbrev pub Starts : {S : Type 0} → Option (List ℕ) → Option NextCall → Result (DeskOf S) (DeskFault × S) → Type 0
-Starts (Some bytes) plan (Ok desk) = (record_at bytes ≡ Ok desk.live) × IsConsistent desk.live × Allows {X = Unit {0}} plan (Ok tt)
+abbrev pub Starts : {S : Type 0} → Option (List ℕ) → Option NextCall → Result (DeskOf S) (DeskFault × S) →
+    Type 0
+Starts (Some bytes) plan (Ok desk) =
+    (record_at bytes ≡ Ok desk.live) × IsConsistent desk.live × Allows {X = Unit {0}} plan (Ok tt)
 Starts None plan (Err (NoRecord, store)) = Allows {X = Unit {0}} plan (Ok tt)
 Starts landed plan (Err (Store fault, store)) = Allows {X = Unit {0}} plan (Err fault)
-Starts (Some bytes) plan (Err (Saved fault, store)) = Decodes (record_at bytes) (begins_as_record bytes) (Err fault) × Allows {X = Unit {0}} plan (Ok tt)
+Starts (Some bytes) plan (Err (Saved fault, store)) =
+    Decodes (record_at bytes) (begins_as_record bytes) (Err fault) × Allows {X = Unit {0}} plan (Ok tt)
 Starts landed plan (Err (OutOfMemory, store)) = Unit {0}
 Starts landed plan answer = ⊥
 

@@ -1,5 +1,5 @@
--- Fields of a saved record that stand one after another: how they are spelled and how they are read, in one
--- description for both directions (this profile's own).
+-- Fields of a saved record that stand one after another: how they are spelled and how they are
+-- read, in one description for both directions (this profile's own).
 use Rattle.std.specs.Prelude.{◌≡◌, ℕ, zero, suc, ◌+◌, ◌-◌, Bool, true, false, ◌==◌, nat_lt, nat_le, ◌&&◌, if◌then◌else◌, List, [], ◌∷◌, ◌++◌, length, take, drop, Option, Some, None, Result, Ok, Err}
 use Rattle.ill_values.specs.declared.apdu.Apdu.{Apdu}
 use Rattle.ill_der.specs.declared.fault.DerFault.{DerFault}
@@ -69,7 +69,9 @@ optional_number = octet number_octet (λ n. Some (if n == 0 then None else Some 
 
 -- 1 for yes and 0 for no
 abbrev pub mark : Field Bool
-mark = octet (λ is. if is then 1 else 0) (λ n. if n == 0 then Some false else (if n == 1 then Some true else None))
+mark =
+    octet (λ is. if is then 1 else 0) (λ n. if n == 0 then Some false else
+    (if n == 1 then Some true else None))
 
 -- the length of a qualifier and the qualifier
 abbrev pub text_size : Field ℕ
@@ -115,7 +117,8 @@ spell_all spell (v ∷ values) = spell v ++ spell_all spell values
 
 unfoldable pub read_all : {V : Type 0} → Field V → ℕ → Left → Result (List V × Left) LayoutFault
 read_all field zero left = Ok ([], left)
-read_all field (suc n) left = field.read left >>= λ first. read_all field n first.1 >>= λ others. Ok (first.0 ∷ others.0, others.1)
+read_all field (suc n) left =
+    field.read left >>= λ first. read_all field n first.1 >>= λ others. Ok (first.0 ∷ others.0, others.1)
 
 -- their count, and so many of a field
 abbrev pub counted : {V : Type 0} → Field V → Field (List V)
@@ -129,7 +132,8 @@ abbrev pub ended : Left → Result (Unit {0}) LayoutFault
 ended left = if length left.bytes == 0 then Ok tt else Err (Bad left.at)
 
 -- A reader gave what reading gives, its value seen by view, and left the cursor where reading does.
-abbrev pub Reads : {X V : Type 0} → (X → V) → Result X LayoutFault → Left → Result (V × Left) LayoutFault → Type 0
+abbrev pub Reads : {X V : Type 0} → (X → V) → Result X LayoutFault → Left →
+    Result (V × Left) LayoutFault → Type 0
 Reads view (Ok value) left read = read ≡ Ok (view value, left)
 Reads view (Err fault) left read = read ≡ Err fault
 
@@ -138,7 +142,8 @@ record_fault Short = faults.Short
 record_fault (Bad at) = faults.Bad at
 
 -- The same of a reader that takes memory, which it may want.
-abbrev pub ReadsInMemory : {X V : Type 0} → (X → V) → Result X RecordFault → Left → Result (V × Left) LayoutFault → Type 0
+abbrev pub ReadsInMemory : {X V : Type 0} → (X → V) → Result X RecordFault → Left →
+    Result (V × Left) LayoutFault → Type 0
 ReadsInMemory view (Ok value) left read = read ≡ Ok (view value, left)
 ReadsInMemory view (Err faults.Short) left read = read ≡ Err Short
 ReadsInMemory view (Err (faults.Bad at)) left read = read ≡ Err (Bad at)

@@ -14,7 +14,8 @@ unfoldable pub Each : {V : Type 0} → (V → Type 0) → List V → Type 0
 Each P [] = Unit {0}
 Each P (v ∷ values) = P v × Each P values
 
--- The parts of a requester are in range: in a clause that ranges over all records, a number is any number.
+-- The parts of a requester are in range: in a clause that ranges over all records, a number is any
+-- number.
 pub record RequesterInRange (x : RequesterRecord) : Type 0 where
   pub txn : AreQualifiers x.txn
   pub held : IfSome x.held IsNumber

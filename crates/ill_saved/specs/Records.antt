@@ -80,11 +80,14 @@ front states = followed_by (state_in states) (followed_by counted_text counted_t
 abbrev pub requester_rest : Field (Option ℕ × (Bool × (Option Date × List Apdu)))
 requester_rest = followed_by optional_number (followed_by mark (followed_by due (counted apdu)))
 
--- a responder's record: its front, the number accepted, the last Cancel and Renew, the mark, the request, and what was issued
-abbrev pub responder_rest : Field (Option ℕ × (Option ℕ × (Option ℕ × (Bool × (Option Apdu × List Apdu)))))
+-- a responder's record: its front, the number accepted, the last Cancel and Renew, the mark, the
+-- request, and what was issued
+abbrev pub responder_rest : Field (Option ℕ
+    × (Option ℕ × (Option ℕ × (Bool × (Option Apdu × List Apdu)))))
 responder_rest =
     followed_by optional_number
-    (followed_by optional_number (followed_by optional_number (followed_by mark (followed_by (marked ill_request) (counted apdu)))))
+    (followed_by optional_number (followed_by optional_number
+    (followed_by mark (followed_by (marked ill_request) (counted apdu)))))
 
 -- the four octets `ILL1`
 abbrev pub version : Field (Unit {0} × (Unit {0} × (Unit {0} × Unit {0})))
@@ -97,21 +100,28 @@ start = followed_by version mark
 abbrev pub spell_start : Bool → List ℕ
 spell_start is_responder = start.spell ((tt, (tt, (tt, tt))), is_responder)
 
-abbrev pub requester_fields : Field ((State × (List ℕ × List ℕ)) × (Option ℕ × (Bool × (Option Date × List Apdu))))
+abbrev pub requester_fields : Field ((State × (List ℕ × List ℕ))
+    × (Option ℕ × (Bool × (Option Date × List Apdu))))
 requester_fields = followed_by (front requester_states) requester_rest
 
-abbrev pub responder_fields : Field ((State × (List ℕ × List ℕ)) × (Option ℕ × (Option ℕ × (Option ℕ × (Bool × (Option Apdu × List Apdu))))))
+abbrev pub responder_fields : Field ((State × (List ℕ × List ℕ))
+    × (Option ℕ × (Option ℕ × (Option ℕ × (Bool × (Option Apdu × List Apdu))))))
 responder_fields = followed_by (front responder_states) responder_rest
 
 -- the one spelling of a record
 abbrev pub spell_requester : RequesterRecord → List ℕ
 spell_requester x =
-    requester_fields.spell ((x.state, (x.txn.group, x.txn.transaction)), (x.held, (x.checked_in, (x.due, x.issued))))
+    requester_fields.spell (
+      (x.state, (x.txn.group, x.txn.transaction)),
+      (x.held, (x.checked_in, (x.due, x.issued))),
+    )
 
 abbrev pub spell_responder : ResponderRecord → List ℕ
 spell_responder y =
-    responder_fields.spell
-    ((y.state, (y.txn.group, y.txn.transaction)), (y.accepted, (y.last_cancel, (y.last_renew, (y.received, (y.request, y.issued))))))
+    responder_fields.spell (
+      (y.state, (y.txn.group, y.txn.transaction)),
+      (y.accepted, (y.last_cancel, (y.last_renew, (y.received, (y.request, y.issued))))),
+    )
 
 abbrev pub is_responder : Side → Bool
 is_responder (sides.Requester x) = false
@@ -130,14 +140,22 @@ read_requester left =
     requester_fields.read left >>= λ found.
     let front = found.0.0 in
     let rest = found.0.1 in
-    Ok (sides.Requester (requester_of (record { group = front.1.0; transaction = front.1.1 }) front.0 rest.0 rest.1.0 rest.1.1.0 rest.1.1.1), found.1)
+    Ok (
+      sides.Requester (requester_of (record { group = front.1.0; transaction = front.1.1 }) front.0
+          rest.0 rest.1.0 rest.1.1.0 rest.1.1.1),
+      found.1,
+    )
 
 abbrev pub read_responder : Left → Result (Side × Left) LayoutFault
 read_responder left =
     responder_fields.read left >>= λ found.
     let front = found.0.0 in
     let rest = found.0.1 in
-    Ok (sides.Responder (responder_of (record { group = front.1.0; transaction = front.1.1 }) front.0 rest.0 rest.1.0 rest.1.1.0 rest.1.1.1.0 rest.1.1.1.1.0 rest.1.1.1.1.1), found.1)
+    Ok (
+      sides.Responder (responder_of (record { group = front.1.0; transaction = front.1.1 }) front.0
+          rest.0 rest.1.0 rest.1.1.0 rest.1.1.1.0 rest.1.1.1.1.0 rest.1.1.1.1.1),
+      found.1,
+    )
 
 abbrev pub read_fields : Bool → Left → Result (Side × Left) LayoutFault
 read_fields is_responder left = if is_responder then read_responder left else read_requester left
@@ -146,7 +164,8 @@ read_fields is_responder left = if is_responder then read_responder left else re
 abbrev pub all_of : Result (Side × Left) LayoutFault → Result Side LayoutFault
 all_of read = read >>= λ found. ended found.1 >>= λ _. Ok found.0
 
--- The side that all of the bytes spell, or the first fault. Whether it keeps the rules of its role is another question.
+-- The side that all of the bytes spell, or the first fault. Whether it keeps the rules of its role
+-- is another question.
 abbrev pub side_at : Bool → Left → Result Side LayoutFault
 side_at is_responder left = all_of (read_fields is_responder left)
 
@@ -155,9 +174,11 @@ record_at bytes = start.read (left_at 0 bytes) >>= λ start. side_at start.0.1 s
 
 -- whether the bytes begin as a record, up to its qualifiers, for which the first memory is taken
 abbrev pub front_stands : Bool → Left → Bool
-front_stands is_responder left = is_ok ((front (if is_responder then responder_states else requester_states)).read left)
+front_stands is_responder left =
+    is_ok ((front (if is_responder then responder_states else requester_states)).read left)
 
-abbrev pub stands_behind : Result (((Unit {0} × (Unit {0} × (Unit {0} × Unit {0}))) × Bool) × Left) LayoutFault → Bool
+abbrev pub stands_behind : Result (((Unit {0} × (Unit {0} × (Unit {0} × Unit {0}))) × Bool) × Left)
+    LayoutFault → Bool
 stands_behind (Ok start) = front_stands start.0.1 start.1
 stands_behind (Err fault) = false
 
@@ -169,8 +190,8 @@ abbrev pub IsInconsistent : Result Side LayoutFault → Type 0
 IsInconsistent (Ok side) = IsConsistent side → ⊥
 IsInconsistent (Err fault) = ⊥
 
--- What decoding answers: the consistent side that was read, that the side is inconsistent, or the first fault; and want
--- of memory only of bytes that begin as a record.
+-- What decoding answers: the consistent side that was read, that the side is inconsistent, or the
+-- first fault; and want of memory only of bytes that begin as a record.
 abbrev pub Decodes : Result Side LayoutFault → Bool → Result Side RecordFault → Type 0
 Decodes read begins (Ok side) = (read ≡ Ok side) × IsConsistent side
 Decodes read begins (Err faults.Short) = read ≡ Err Short

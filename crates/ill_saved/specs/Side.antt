@@ -1,5 +1,5 @@
--- One side of a transaction, whichever its role: what a library decides and what a message do to it (this profile's
--- own). Here, and nowhere above, the roles are told apart.
+-- One side of a transaction, whichever its role: what a library decides and what a message do to it
+-- (this profile's own). Here, and nowhere above, the roles are told apart.
 use Rattle.std.specs.Prelude.{◌≡◌, List, [], ◌++◌, Option, None, true, false, is_ok, Result, Ok, Err}
 use Rattle.ill_values.specs.declared.apdu.Apdu.{Apdu}
 use Rattle.ill_values.specs.Day.{Date}
@@ -54,15 +54,19 @@ done_by make (Err refusal) = Err refusal
 -- The side after an action, or why it is refused. A requester has wishes, and a responder deeds.
 abbrev pub acts : Side → Action → Result Side Refusal
 acts (sides.Requester x) (actions.Wish wish) = done_by sides.Requester (requester_actions.acts x wish)
-acts (sides.Responder y) (actions.Deed deed today) = done_by sides.Responder (responder_actions.acts y deed today)
+acts (sides.Responder y) (actions.Deed deed today) =
+    done_by sides.Responder (responder_actions.acts y deed today)
 acts side action = Err refusals.WrongRole
 
 -- what an APDU does to a side
 abbrev pub takes : Side → Apdu → Result Taking Refusal × Side
-takes (sides.Requester x) a = ((requester_deliveries.takes x a).0, sides.Requester (requester_deliveries.takes x a).1)
-takes (sides.Responder y) a = ((responder_deliveries.takes y a).0, sides.Responder (responder_deliveries.takes y a).1)
+takes (sides.Requester x) a =
+    ((requester_deliveries.takes x a).0, sides.Requester (requester_deliveries.takes x a).1)
+takes (sides.Responder y) a =
+    ((responder_deliveries.takes y a).0, sides.Responder (responder_deliveries.takes y a).1)
 
--- What a side answers to an action, and the side after it. Memory is wanted only where the action would be done.
+-- What a side answers to an action, and the side after it. Memory is wanted only where the action
+-- would be done.
 abbrev pub Acts : Side → Action → Result (Unit {0}) Refusal → Side → Type 0
 Acts old action (Ok done) new = acts old action ≡ Ok new
 Acts old action (Err refusals.OutOfMemory) new = (is_ok (acts old action) ≡ true) × (new ≡ old)

@@ -22,7 +22,8 @@ LandsAtFailure (Some FailsNew) bytes old new = new ≡ Some bytes
 LandsAtFailure plan bytes old new = (new ≡ old) ⊎ (new ≡ Some bytes)
 
 -- what has landed after a save
-abbrev pub LandsAtSave : Option NextCall → List ℕ → Result (Unit {0}) StoreFault → Option (List ℕ) → Option (List ℕ) → Type 0
+abbrev pub LandsAtSave : Option NextCall → List ℕ → Result (Unit {0}) StoreFault → Option (List ℕ) →
+    Option (List ℕ) → Type 0
 LandsAtSave plan bytes (Ok done) old new = new ≡ Some bytes
 LandsAtSave plan bytes (Err Failed) old new = LandsAtFailure plan bytes old new
 LandsAtSave plan bytes (Err TooLarge) old new = ⊥
@@ -61,16 +62,19 @@ called store = record store { next = Works }
 abbrev pub failed : Memory → Memory
 failed store = record store { failures = min (store.failures + 1) most_failures; next = Works }
 
--- What a load answers by its plan, and the store after it. Only a load that works takes memory, where something has
--- landed.
-abbrev pub MemoryLoads : {X : Type 0} → (X → List ℕ) → NextCall → Memory → Result (Option X) StoreFault → Memory → Type 0
-MemoryLoads bytes_of Works old (Ok found) new = (option_map bytes_of found ≡ old.landed) × (new ≡ called old)
+-- What a load answers by its plan, and the store after it. Only a load that works takes memory,
+-- where something has landed.
+abbrev pub MemoryLoads : {X : Type 0} → (X → List ℕ) → NextCall → Memory → Result (Option X) StoreFault →
+    Memory → Type 0
+MemoryLoads bytes_of Works old (Ok found) new =
+    (option_map bytes_of found ≡ old.landed) × (new ≡ called old)
 MemoryLoads bytes_of Works old (Err OutOfMemory) new = (is_some old.landed ≡ true) × (new ≡ called old)
 MemoryLoads bytes_of Works old (Err other) new = ⊥
 MemoryLoads bytes_of FailsOld old answer new = (answer ≡ Err Failed) × (new ≡ failed old)
 MemoryLoads bytes_of FailsNew old answer new = (answer ≡ Err Failed) × (new ≡ failed old)
 
--- What a save answers by its plan, and the store after it. One that is to fail and leave the old bytes takes no memory.
+-- What a save answers by its plan, and the store after it. One that is to fail and leave the old
+-- bytes takes no memory.
 abbrev pub MemorySaves : NextCall → List ℕ → Memory → Result (Unit {0}) StoreFault → Memory → Type 0
 MemorySaves Works bytes old (Ok done) new = new ≡ called (record old { landed = Some bytes })
 MemorySaves Works bytes old (Err OutOfMemory) new = new ≡ called old

@@ -14,7 +14,7 @@ use ill_values::{Apdu, Body, Day, Number, TxnId};
 use std::alloc::Global;
 use std::marker::Model;
 
-/// The bytes of a record that are not read yet, and the place of the first of them.
+/// Holds the bytes of a record that are not read yet, and the offset of the first in the record.
 #[derive(Debug, Drop)]
 pub struct Cursor<'a> {
     at: u32,
@@ -28,14 +28,14 @@ impl<'a> Model for Cursor<'a> {
 }
 
 impl<'a> Cursor<'a> {
-    /// The bytes of a record from its first on.
+    /// A cursor at the first byte of a record.
     pub fn new(bytes: &'a [u8]) -> Cursor<'a>
         ensures { result ≡ left_at 0 bytes.entry.now }
     {
         Cursor { at: 0, bytes }
     }
 
-    /// Nothing, if nothing is left.
+    /// Checks that all bytes were read. Otherwise the fault is `Bad` at the first that was not.
     pub fn ended(&self) -> Result<(), LayoutFault>
         ensures { result ≡ ended self.now }
     {

@@ -12,9 +12,9 @@ use ill_core::{Requester, Responder};
 use ill_values::{Apdu, TxnId};
 use std::alloc::Global;
 
-/// The side that the bytes spell, and nothing else.
+/// Decodes a saved record, which must take up all of the bytes, or gives their first fault.
 ///
-/// Memory is taken as reading goes on, from the qualifiers on.
+/// Memory is taken as decoding goes on, from the qualifiers on.
 #[tactic(auto, unfolding(crate::specs::Records::record_at, crate::specs::Records::begins_as_record))]
 pub fn decode_record(alloc: Global, bytes: &[u8]) -> Result<Side, RecordFault>
     ensures { Decodes (record_at bytes.now) (begins_as_record bytes.now) result }
@@ -30,7 +30,8 @@ pub fn decode_record(alloc: Global, bytes: &[u8]) -> Result<Side, RecordFault>
 /// Reads the octets `ILL1`, and the role.
 fn is_responder(cursor: &mut Cursor<'_>) -> Result<bool, LayoutFault>
     requires room { cursor.old.at ≤ 100 }
-    ensures read { Reads (λ is. ((tt, (tt, (tt, tt))), is)) result cursor.new (start.read cursor.old) }
+    ensures read { Reads (λ is. ((tt, (tt, (tt, tt))), is)) result cursor.new
+        (start.read cursor.old) }
     ensures near { OnOk result (cursor.new.at ≡ cursor.old.at + 5) }
 {
     cursor.constant(b'I')?;
@@ -40,10 +41,11 @@ fn is_responder(cursor: &mut Cursor<'_>) -> Result<bool, LayoutFault>
     cursor.mark()
 }
 
-/// The requester that all of what is left spells.
+/// Decodes the rest of a record of a requester, to its end.
 fn requester(alloc: Global, cursor: &mut Cursor<'_>) -> Result<Side, RecordFault>
     requires room { cursor.old.at ≤ 1000 }
-    ensures { Decodes (all_of (read_requester cursor.old)) (is_ok ((front requester_states).read cursor.old)) result }
+    ensures { Decodes (all_of (read_requester cursor.old))
+        (is_ok ((front requester_states).read cursor.old)) result }
 {
     let state = cursor.requester_state()?;
     let txn = read_txn(alloc, cursor)?;
@@ -58,10 +60,11 @@ fn requester(alloc: Global, cursor: &mut Cursor<'_>) -> Result<Side, RecordFault
     }
 }
 
-/// The responder that all of what is left spells.
+/// Decodes the rest of a record of a responder, to its end.
 fn responder(alloc: Global, cursor: &mut Cursor<'_>) -> Result<Side, RecordFault>
     requires room { cursor.old.at ≤ 1000 }
-    ensures { Decodes (all_of (read_responder cursor.old)) (is_ok ((front responder_states).read cursor.old)) result }
+    ensures { Decodes (all_of (read_responder cursor.old))
+        (is_ok ((front responder_states).read cursor.old)) result }
 {
     let state = cursor.responder_state()?;
     let txn = read_txn(alloc, cursor)?;
@@ -91,8 +94,10 @@ fn responder(alloc: Global, cursor: &mut Cursor<'_>) -> Result<Side, RecordFault
 /// Reads the two qualifiers of the transaction.
 fn read_txn(alloc: Global, cursor: &mut Cursor<'_>) -> Result<TxnId, RecordFault>
     requires room { cursor.old.at ≤ 1001 }
-    ensures read { ReadsInMemory (λ txn. (txn.group, txn.transaction)) result cursor.new ((followed_by counted_text counted_text).read cursor.old) }
-    ensures memory { result ≡ Err faults.OutOfMemory → is_ok ((followed_by counted_text counted_text).read cursor.old) ≡ true }
+    ensures read { ReadsInMemory (λ txn. (txn.group, txn.transaction)) result cursor.new
+        ((followed_by counted_text counted_text).read cursor.old) }
+    ensures memory { result ≡ Err faults.OutOfMemory →
+        is_ok ((followed_by counted_text counted_text).read cursor.old) ≡ true }
     ensures near { OnOk result (cursor.new.at ≤ cursor.old.at + 130) }
 {
     let group = cursor.counted_text()?;
@@ -103,17 +108,19 @@ fn read_txn(alloc: Global, cursor: &mut Cursor<'_>) -> Result<TxnId, RecordFault
 /// Reads the count of the APDUs issued, and these.
 fn read_issued(alloc: Global, cursor: &mut Cursor<'_>) -> Result<Vec<Apdu>, RecordFault>
     requires room { cursor.old.at ≤ 10000 }
-    ensures { ReadsInMemory (λ apdus. apdus.items) result cursor.new ((counted apdu).read cursor.old) }
+    ensures { ReadsInMemory (λ apdus. apdus.items) result cursor.new
+        ((counted apdu).read cursor.old) }
 {
     let count = cursor.octet()?;
     read_apdus(alloc, cursor, count)
 }
 
-/// Reads so many APDUs.
+/// Reads this number of APDUs.
 #[tactic(auto, using(crate::proofs::Lists::behind_none))]
 fn read_apdus(alloc: Global, cursor: &mut Cursor<'_>, count: u8) -> Result<Vec<Apdu>, RecordFault>
     requires room { cursor.old.at ≤ 10001 }
-    ensures { ReadsInMemory (λ apdus. apdus.items) result cursor.new (read_all apdu count cursor.old) }
+    ensures { ReadsInMemory (λ apdus. apdus.items) result cursor.new
+        (read_all apdu count cursor.old) }
 {
     let mut apdus = Vec::with_capacity(alloc, usize::from(count))?;
     for _ in 0..count {

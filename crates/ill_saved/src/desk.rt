@@ -20,7 +20,7 @@ use ill_values::{Apdu, Number, OutOfMemory};
 use std::alloc::Global;
 use std::marker::Model;
 
-/// One side of a transaction, in memory and in a store. A message may be sent once the store has it.
+/// One side of a transaction, in memory and in a store. A message may be sent only once it is saved.
 #[derive(Debug, Drop)]
 pub struct Desk1<S: Store> {
     live: Side,
@@ -33,19 +33,23 @@ impl<S: Store> Model for Desk1<S> {
 
     ghost view = { λ d. record { live = d.live; store = d.store; released = d.released } };
 
-    ghost invariant = { λ d. (d.released ≤ length (issued_of d.live)) × (S.is_honest d.store ≡ true → IsBacked (S.landed d.store) d.live d.released) };
+    ghost invariant = { λ d. (d.released ≤ length (issued_of d.live))
+        × (S.is_honest d.store ≡ true → IsBacked (S.landed d.store) d.live d.released) };
 }
 
 impl<S: Store> Desk1<S> {
-    /// A desk whose side begins, over a store that has no record. Nothing is saved yet.
+    /// A desk for a side that begins, over a store without a record (else `Exists`). Nothing is
+    /// saved yet. A fault gives the store back.
     pub fn create(alloc: Global, store: S, first: Side) -> Result<Desk1<S>, (DeskFault, S)>
         requires idle { first ≡ idle_of first }
-        ensures creates { S.is_honest store ≡ true → Creates (S.landed store) (S.plan store) (answer_of result) }
+        ensures creates { S.is_honest store ≡ true →
+            Creates (S.landed store) (S.plan store) (answer_of result) }
         ensures begins { IfOk result (λ desk. (desk.live ≡ first) × (desk.released ≡ 0)) }
         ensures faults { IsCreateAnswer (answer_of result) }
         ensures landed { S.is_honest store ≡ true → S.landed (store_of result) ≡ S.landed store }
         ensures plan { S.plan (store_of result) ≡ spent (S.plan store) }
-        ensures counted { CountsDeskFailure (answer_of result) (S.failures store) (S.failures (store_of result)) }
+        ensures counted { CountsDeskFailure (answer_of result) (S.failures store)
+            (S.failures (store_of result)) }
         ensures honest { S.is_honest (store_of result) ≡ S.is_honest store }
     {
         let mut store = store;
@@ -60,14 +64,16 @@ impl<S: Store> Desk1<S> {
         }
     }
 
-    /// A desk with the side that a store has. All its messages are released.
+    /// A desk for the side whose record the store has (else `NoRecord`). All its messages may be
+    /// sent. A fault gives the store back.
     pub fn start(alloc: Global, store: S) -> Result<Desk1<S>, (DeskFault, S)>
         ensures starts { S.is_honest store ≡ true → Starts (S.landed store) (S.plan store) result }
         ensures whole { IfOk result IsWhole }
         ensures faults { IsStartAnswer (answer_of result) }
         ensures landed { S.is_honest store ≡ true → S.landed (store_of result) ≡ S.landed store }
         ensures plan { S.plan (store_of result) ≡ spent (S.plan store) }
-        ensures counted { CountsDeskFailure (answer_of result) (S.failures store) (S.failures (store_of result)) }
+        ensures counted { CountsDeskFailure (answer_of result) (S.failures store)
+            (S.failures (store_of result)) }
         ensures honest { S.is_honest (store_of result) ≡ S.is_honest store }
     {
         let mut store = store;
@@ -85,7 +91,7 @@ impl<S: Store> Desk1<S> {
         }
     }
 
-    /// Does what the library of this side decides.
+    /// Does what the library decides. The message that is issued may be sent after the next `save`.
     pub fn act(&mut self, alloc: Global, action: &Action) -> Result<(), DeskFault>
         ensures acts { DeskActs self.old.live action.now result self.new.live }
         ensures store { self.new.store ≡ self.old.store }
@@ -94,7 +100,7 @@ impl<S: Store> Desk1<S> {
         Ok(self.live.act(alloc, action)?)
     }
 
-    /// Takes the APDU that the bytes are, and nothing else.
+    /// Takes a message: the bytes must be exactly one APDU.
     pub fn take_bytes(&mut self, alloc: Global, bytes: &[u8]) -> Result<Taking, DeskFault>
         ensures takes { DeskTakes self.old.live (apdu_at bytes.now) result self.new.live }
         ensures store { self.new.store ≡ self.old.store }
@@ -104,14 +110,19 @@ impl<S: Store> Desk1<S> {
         Ok(self.live.take(alloc, &apdu)?)
     }
 
-    /// Saves the side, and releases all its messages; or leaves the side and what is released.
+    /// Saves the side, so that all its messages may be sent. After a fault the side, and which
+    /// messages may be sent, are as before.
     pub fn save(&mut self, alloc: Global) -> Result<(), DeskFault>
         ensures live { self.new.live ≡ self.old.live }
-        ensures released { self.new.released ≡ released_after result self.old.live self.old.released }
-        ensures landed { S.is_honest self.old.store ≡ true → SaveLands (S.plan self.old.store) (record_spelling self.old.live) result (S.landed self.old.store) (S.landed self.new.store) }
+        ensures released { self.new.released ≡
+            released_after result self.old.live self.old.released }
+        ensures landed { S.is_honest self.old.store ≡ true →
+            SaveLands (S.plan self.old.store) (record_spelling self.old.live) result
+            (S.landed self.old.store) (S.landed self.new.store) }
         ensures plan { PlanAfter result (S.plan self.old.store) (S.plan self.new.store) }
         ensures faults { IsSaveFault result }
-        ensures counted { CountsDeskFailure result (S.failures self.old.store) (S.failures self.new.store) }
+        ensures counted { CountsDeskFailure result (S.failures self.old.store)
+            (S.failures self.new.store) }
         ensures honest { S.is_honest self.new.store ≡ S.is_honest self.old.store }
     {
         let bytes = encode_record(alloc, &self.live)?;
@@ -120,14 +131,19 @@ impl<S: Store> Desk1<S> {
         Ok(())
     }
 
-    /// Goes back to the side that has landed, all of whose messages are released; or changes nothing of
-    /// the side and of what is released.
+    /// Goes back to the side in the store, all of whose messages may be sent, or to one that begins
+    /// if the store has none. After a fault the side, and which messages may be sent, are as
+    /// before.
     pub fn restart(&mut self, alloc: Global) -> Result<(), DeskFault>
-        ensures restarts { S.is_honest self.old.store ≡ true → Restarts (landed_side (S.landed self.old.store) self.old.live) (S.plan self.old.store) result self.new.live }
+        ensures restarts { S.is_honest self.old.store ≡ true →
+            Restarts (landed_side (S.landed self.old.store) self.old.live) (S.plan self.old.store)
+            result self.new.live }
         ensures leaves { RestartLeaves result self.old self.new }
-        ensures landed { S.is_honest self.old.store ≡ true → S.landed self.new.store ≡ S.landed self.old.store }
+        ensures landed { S.is_honest self.old.store ≡ true →
+            S.landed self.new.store ≡ S.landed self.old.store }
         ensures plan { S.plan self.new.store ≡ spent (S.plan self.old.store) }
-        ensures counted { CountsDeskFailure result (S.failures self.old.store) (S.failures self.new.store) }
+        ensures counted { CountsDeskFailure result (S.failures self.old.store)
+            (S.failures self.new.store) }
         ensures honest { S.is_honest self.new.store ≡ S.is_honest self.old.store }
     {
         let found = load_side(&mut self.store, alloc)?;
@@ -137,9 +153,11 @@ impl<S: Store> Desk1<S> {
         Ok(())
     }
 
-    /// The bytes of the message with this number, where it is released.
+    /// The bytes of the message with this number, to send it. It must have been issued (else
+    /// `NoSuchMessage`) and saved (else `NotSaved`).
     pub fn message(&self, alloc: Global, number: Number) -> Result<Vec<u8>, DeskFault>
-        ensures { Sends (λ bytes. bytes.items) (message (issued_of self.now.live) number) (nat_le number self.now.released) result }
+        ensures { Sends (λ bytes. bytes.items) (message (issued_of self.now.live) number)
+            (nat_le number self.now.released) result }
     {
         let Some(apdu) = self.live.issued(number) else {
             return Err(DeskFault::NoSuchMessage);
@@ -150,16 +168,17 @@ impl<S: Store> Desk1<S> {
         Ok(encode(alloc, apdu)?)
     }
 
-    /// The side.
+    /// The side, as it is in memory.
     pub fn side(&self) -> &Side
         ensures value { result.now ≡ self.now.live }
         ensures issued { self.now.released ≤ length (issued_of self.now.live) }
-        ensures backed { S.is_honest self.now.store ≡ true → IsBacked (S.landed self.now.store) self.now.live self.now.released }
+        ensures backed { S.is_honest self.now.store ≡ true →
+            IsBacked (S.landed self.now.store) self.now.live self.now.released }
     {
         &self.live
     }
 
-    /// How many messages may be sent: those up to this number.
+    /// How many messages may be sent: those with numbers up to this one.
     pub fn released(&self) -> u8
         ensures { result ≡ self.now.released }
     {
@@ -168,7 +187,7 @@ impl<S: Store> Desk1<S> {
 }
 
 impl Desk1<MemoryStore> {
-    /// Plans the next call of the store.
+    /// Plans the next call of the store. The plan holds for that call alone.
     pub fn set_next(&mut self, next: NextCall)
         ensures { self.new ≡ record self.old { store = record self.old.store { next = next } } }
     {
@@ -190,7 +209,8 @@ fn one_apdu(alloc: Global, bytes: &[u8]) -> Result<Apdu, DeskFault>
 
 /// The side that has landed in a store, if any.
 fn load_side<S: Store>(store: &mut S, alloc: Global) -> Result<Option<Side>, DeskFault>
-    ensures loads { S.is_honest store.old ≡ true → LoadsSide (S.landed store.old) (S.plan store.old) result }
+    ensures loads { S.is_honest store.old ≡ true →
+        LoadsSide (S.landed store.old) (S.plan store.old) result }
     ensures faults { IfErr result IsLoadFault }
     ensures landed { S.is_honest store.old ≡ true → S.landed store.new ≡ S.landed store.old }
     ensures plan { S.plan store.new ≡ spent (S.plan store.old) }
@@ -203,7 +223,8 @@ fn load_side<S: Store>(store: &mut S, alloc: Global) -> Result<Option<Side>, Des
     }
 }
 
-/// The side that was found, or else the side of the same role and transaction before its first message.
+/// The side that was found, or else the side of the same role and transaction before its first
+/// message.
 fn or_idle(alloc: Global, found: Option<Side>, live: &Side) -> Result<Side, OutOfMemory>
     ensures { IfOk result (λ side. IsFoundOrIdle found live.now side) }
 {

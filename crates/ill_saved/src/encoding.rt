@@ -18,7 +18,7 @@ use ill_der::encode_onto;
 use ill_values::{Apdu, Day, Number, OutOfMemory, TxnId};
 use std::alloc::Global;
 
-/// The one spelling of a side as a record.
+/// Encodes a side as a saved record: its one spelling.
 #[tactic(auto, unfolding(crate::specs::Records::record_spelling))]
 pub fn encode_record(alloc: Global, side: &Side) -> Result<Vec<u8>, OutOfMemory>
     ensures bytes { IfOk result (λ bytes. bytes.items ≡ record_spelling side.now) }
@@ -35,7 +35,8 @@ pub fn encode_record(alloc: Global, side: &Side) -> Result<Vec<u8>, OutOfMemory>
 
 /// Adds all that stands before the messages issued.
 fn push_requester(bytes: &mut Vec<u8>, requester: &Requester) -> Result<(), OutOfMemory>
-    ensures bytes { OnOk result (bytes.new.items ++ (counted apdu).spell requester.now.issued ≡ bytes.old.items ++ (spell_start false ++ spell_requester requester.now)) }
+    ensures bytes { OnOk result (bytes.new.items ++ (counted apdu).spell requester.now.issued ≡
+        bytes.old.items ++ (spell_start false ++ spell_requester requester.now)) }
     ensures range { OnOk result (RequesterInRange requester.now) }
     ensures consistent { IsRequester requester.now }
 {
@@ -49,7 +50,8 @@ fn push_requester(bytes: &mut Vec<u8>, requester: &Requester) -> Result<(), OutO
 
 /// Adds all that stands before the messages issued.
 fn push_responder(bytes: &mut Vec<u8>, responder: &Responder) -> Result<(), OutOfMemory>
-    ensures bytes { OnOk result (bytes.new.items ++ (counted apdu).spell responder.now.issued ≡ bytes.old.items ++ (spell_start true ++ spell_responder responder.now)) }
+    ensures bytes { OnOk result (bytes.new.items ++ (counted apdu).spell responder.now.issued ≡
+        bytes.old.items ++ (spell_start true ++ spell_responder responder.now)) }
     ensures range { OnOk result (ResponderInRange responder.now) }
     ensures consistent { IsResponder responder.now }
 {
@@ -68,7 +70,8 @@ fn push_responder(bytes: &mut Vec<u8>, responder: &Responder) -> Result<(), OutO
 
 /// Adds the state and the qualifiers of the transaction.
 fn push_front(bytes: &mut Vec<u8>, state: State, txn: &TxnId) -> Result<(), OutOfMemory>
-    ensures bytes { OnOk result (bytes.new.items ≡ bytes.old.items ++ (front requester_states).spell (state, (txn.now.group, txn.now.transaction))) }
+    ensures bytes { OnOk result (bytes.new.items ≡ bytes.old.items
+        ++ (front requester_states).spell (state, (txn.now.group, txn.now.transaction))) }
     ensures range { OnOk result (AreQualifiers txn.now) }
 {
     bytes.push(code(state))?;
@@ -99,7 +102,8 @@ fn push_due(bytes: &mut Vec<u8>, due: Option<Day>) -> Result<(), OutOfMemory>
 
 /// Adds the ILL-Request, if there is one.
 fn push_request(bytes: &mut Vec<u8>, request: Option<&Apdu>) -> Result<(), OutOfMemory>
-    ensures bytes { OnOk result (bytes.new.items ≡ bytes.old.items ++ (marked ill_request).spell (option_map (λ a. a.now) request.entry)) }
+    ensures bytes { OnOk result (bytes.new.items ≡ bytes.old.items
+        ++ (marked ill_request).spell (option_map (λ a. a.now) request.entry)) }
     ensures range { OnOk result (IfSome (option_map (λ a. a.now) request.entry) IsApdu) }
 {
     match request {
@@ -117,7 +121,8 @@ fn push_request(bytes: &mut Vec<u8>, request: Option<&Apdu>) -> Result<(), OutOf
 /// Adds the count of the messages issued, and these.
 fn push_issued(bytes: &mut Vec<u8>, apdus: &[Apdu]) -> Result<(), OutOfMemory>
     requires few { length apdus.now ≤ 255 }
-    ensures bytes { OnOk result (bytes.new.items ≡ bytes.old.items ++ (counted apdu).spell apdus.now) }
+    ensures bytes { OnOk result (bytes.new.items ≡ bytes.old.items
+        ++ (counted apdu).spell apdus.now) }
     ensures range { OnOk result (Each IsApdu apdus.now) }
 {
     bytes.push(apdus.len() as u8)?;

@@ -12,26 +12,29 @@ use ill_der::DerFault;
 use std::alloc::{AllocError, AllocFailed};
 use thiserror::Error;
 
-/// The first fault of bytes that are no saved record. A place is counted from the record's first byte.
+/// The first fault of bytes that are no saved record. Offsets are in bytes from the record's first.
 #[derive(Clone, Copy, Debug, PartialEq, Eq, Hash, Error)]
 pub enum RecordFault {
-    /// The bytes end within a field, or before one that must stand.
+    /// The bytes end within a field, or before one that must follow.
     #[error("short")]
     Short,
-    /// At this place stands what may not stand there.
+    /// The bytes at this offset are no value of their field, or stand behind the record.
     #[error("bad at {0}")]
     Bad(u32),
-    /// The fields are whole, and no side has them.
+    /// Each field is good by itself, but no side has them together.
     #[error("inconsistent")]
     Inconsistent,
+    /// Memory ran out, before the checks that would follow.
     #[error("memory")]
     OutOfMemory,
 }
 
-/// The first place at which bytes leave the layout of a record.
+/// The first fault of bytes that have not the layout of a record.
 #[derive(Clone, Copy, Debug, PartialEq, Eq, Hash)]
 pub enum LayoutFault {
+    /// The bytes end within a field, or before one that must follow.
     Short,
+    /// The bytes at this offset are no value of their field.
     Bad(u32),
 }
 
@@ -62,36 +65,37 @@ impl<T: Drop> From<AllocFailed<T>> for RecordFault {
     }
 }
 
-/// Why a desk did nothing.
+/// Why a desk did not do what it was asked.
 #[derive(Clone, Copy, Debug, PartialEq, Eq, Hash, Error)]
 pub enum DeskFault {
-    /// The side refused it. This is never `Refusal::OutOfMemory`.
+    /// The side refused the action or the message. This is never `Refusal::OutOfMemory`.
     #[error("{0}")]
     Core(Refusal),
-    /// The bytes begin with no APDU. This is never `DerFault::OutOfMemory`.
+    /// The bytes do not begin with an APDU. This is never `DerFault::OutOfMemory`.
     #[error("{0}")]
     Bytes(DerFault),
-    /// Bytes stand behind the APDU.
+    /// More bytes follow the APDU.
     #[error("trailing")]
     Trailing,
-    /// No message was issued with this number.
+    /// The side has issued no message with this number.
     #[error("no such message")]
     NoSuchMessage,
-    /// The message was issued, and is not saved yet.
+    /// The message was issued but is not saved yet, so that it may not be sent.
     #[error("not saved")]
     NotSaved,
-    /// The store has a record.
+    /// A new desk was asked for, but the store has a record.
     #[error("exists")]
     Exists,
-    /// The store has no record.
+    /// The desk was to start from the store's record, but the store has none.
     #[error("no record")]
     NoRecord,
-    /// The store failed. This is never `StoreFault::OutOfMemory`.
+    /// The store did not load or save. This is never `StoreFault::OutOfMemory`.
     #[error("store {0}")]
     Store(StoreFault),
-    /// What the store has is no record. This is never `RecordFault::OutOfMemory`.
+    /// The bytes in the store are no record. This is never `RecordFault::OutOfMemory`.
     #[error("record {0}")]
     Saved(RecordFault),
+    /// Memory ran out.
     #[error("memory")]
     OutOfMemory,
 }

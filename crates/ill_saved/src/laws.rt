@@ -7,7 +7,8 @@ ghost use Rattle.ill_saved.specs.Side.{issued_of, Follows, IsFrontOf};
 ghost use Rattle.ill_saved.specs.Records.{record_at, record_spelling};
 ghost use Rattle.ill_saved.specs.Ranges.{IsInRange, IsSide};
 
-/// A side is read from its spelling: with this, `decode_record` gives back what `encode_record` spelled.
+/// A side is read from its spelling: with this, `decode_record` gives back what `encode_record`
+/// spelled.
 #[tactic(auto, using(crate::proofs::RecordLaws::side_again))]
 pub fn read_again()
     ensures { (side : Side) → IsSide side → record_at (record_spelling side) ≡ Ok side }

@@ -9,7 +9,7 @@ use crate::store::{NextCall, Store, StoreFault};
 use std::alloc::Global;
 use std::marker::Model;
 
-/// A store in memory. It fails only where its next call is planned to.
+/// A store in memory, for tests. It fails only where its next call is planned to.
 #[derive(Debug, Drop)]
 pub struct MemoryStore {
     alloc: Global,
@@ -21,11 +21,15 @@ pub struct MemoryStore {
 impl Model for MemoryStore {
     ghost Value = { Memory };
 
-    ghost view = { λ m. record { landed = option_map (λ b. b.items) m.landed; failures = m.failures; next = m.next } };
+    ghost view = { λ m. record {
+      landed = option_map (λ b. b.items) m.landed;
+      failures = m.failures;
+      next = m.next;
+    } };
 }
 
 impl MemoryStore {
-    /// A store in which nothing has landed.
+    /// A store in which nothing was saved, and whose next call works. It takes no memory.
     pub fn new(alloc: Global) -> MemoryStore
         ensures { result ≡ record { landed = None; failures = 0; next = plans.Works } }
     {
@@ -37,7 +41,7 @@ impl MemoryStore {
         }
     }
 
-    /// Plans the next call.
+    /// Plans the next call of `load` or `save`. The plan holds for that call alone.
     pub fn set_next(&mut self, next: NextCall)
         ensures { self.new ≡ record self.old { next = next } }
     {
@@ -65,9 +69,9 @@ impl MemoryStore {
     }
 }
 
-/// A `load` fails only under a plan to fail, and takes memory under none of these. A `save` that is planned
-/// to fail and to leave the old bytes takes no memory; one that leaves the new ones lands them first, or
-/// answers want of memory.
+/// A `load` fails only under a plan to fail, and takes memory under none of these. A `save` that is
+/// planned to fail and to leave the old bytes takes no memory; one that leaves the new ones lands
+/// them first, or answers want of memory.
 impl Store for MemoryStore {
     ghost landed = { λ m. m.landed };
 

@@ -12,23 +12,24 @@ use std::alloc::Global;
 /// One side of a transaction: the one that asks for an item, or the one that is asked.
 #[derive(Debug, Drop)]
 pub enum Side {
-    /// The one that asks.
+    /// The side that asks for an item.
     Requester(Requester),
-    /// The one that is asked.
+    /// The side that is asked for it.
     Responder(Responder),
 }
 
-/// What a library decides: a requester's wish, or a responder's deed on a day.
+/// What a library may decide to do: a requester's wish, or a responder's deed on a day.
 #[derive(Debug, PartialEq, Eq, Drop)]
 pub enum Action {
-    /// Of a requester.
+    /// What a requester wishes.
     Wish(Wish),
-    /// Of a responder, with the day on which it is done.
+    /// What a responder does, and the day on which it is done.
     Deed(Deed, Day),
 }
 
 impl Side {
-    /// Does what its library decides. A wish on a responder, or a deed on a requester, is `WrongRole`.
+    /// Does what the library decides, and issues the message that tells the other side. A wish of a
+    /// responder, or a deed of a requester, is `WrongRole`. A refusal changes nothing.
     pub fn act(&mut self, alloc: Global, action: &Action) -> Result<(), Refusal>
         ensures { Acts self.old action.now result self.new }
     {
@@ -41,7 +42,7 @@ impl Side {
         }
     }
 
-    /// Takes a message of the other side.
+    /// Takes a message of the other side, and answers what it did. A refusal changes nothing.
     pub fn take(&mut self, alloc: Global, apdu: &Apdu) -> Result<Taking, Refusal>
         ensures { Takes self.old apdu.now result self.new }
     {
@@ -54,7 +55,7 @@ impl Side {
         }
     }
 
-    /// The transaction.
+    /// The id of the transaction.
     pub fn txn(&self) -> &TxnId
         ensures { result.now ≡ txn_of self.now }
     {
@@ -64,7 +65,7 @@ impl Side {
         }
     }
 
-    /// The state.
+    /// The present state.
     pub fn state(&self) -> State
         ensures { result ≡ state_of self.now }
     {
@@ -74,7 +75,7 @@ impl Side {
         }
     }
 
-    /// The day on which the item is due.
+    /// The day on which the item is due, once it was shipped.
     pub fn due(&self) -> Option<Day>
         ensures { result ≡ due_date_of self.now }
     {
@@ -84,7 +85,7 @@ impl Side {
         }
     }
 
-    /// The messages that were issued, in their order.
+    /// The messages that this side has issued, in order: the n-th has number n.
     pub fn all_issued(&self) -> &[Apdu]
         ensures value { result.now ≡ issued_of self.now }
         ensures few { length (issued_of self.now) ≤ 255 }
@@ -95,7 +96,7 @@ impl Side {
         }
     }
 
-    /// How many messages were issued.
+    /// How many messages this side has issued: 0 to 255.
     pub fn issued_count(&self) -> u8
         ensures { result ≡ length (issued_of self.now) }
     {
@@ -105,7 +106,7 @@ impl Side {
         }
     }
 
-    /// The message that was issued with this number.
+    /// The message that this side issued with this number, if it did.
     pub fn issued(&self, number: Number) -> Option<&Apdu>
         ensures { option_map (λ a. a.now) result ≡ message (issued_of self.now) number }
     {
@@ -115,7 +116,7 @@ impl Side {
         }
     }
 
-    /// The side of the same role and transaction before its first message.
+    /// A side of the same role and transaction that has issued and taken nothing.
     pub fn idle_again(&self, alloc: Global) -> Result<Side, OutOfMemory>
         ensures { IfOk result (λ idle. idle ≡ idle_of self.now) }
     {

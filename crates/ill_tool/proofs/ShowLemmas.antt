@@ -10,9 +10,9 @@ use Rattle.ill_der.specs.Stream.{ReadsApdu}
 use Rattle.ill_der.proofs.WriteLemmas.{appends_more, appends_nothing}
 use Rattle.ill_tool.specs.declared.fault.ToolFault.{ToolFault}
 use Rattle.ill_tool.specs.declared.fault.ToolFault.TheVariants.{Der, TooMany, Read, Write, OutOfMemory}
-use Rattle.ill_tool.specs.Lines.{shown}
+use Rattle.ill_tool.specs.Lines.{lines_of}
 use Rattle.ill_tool.specs.Input.{tool_fault, EndsReading, EndsFull}
-use Rattle.ill_tool.specs.Show.{all_shown, Ended, Shows, ShowsNext}
+use Rattle.ill_tool.specs.Show.{all_lines, Ended, Shows, ShowsNext}
 use Rattle.ill_tool.proofs.InputLemmas.{ReadSoFar, none_read, one_flat, one_more_read, taken_with, stops_by, ends_with}
 
 -- ---- the APDUs so far
@@ -21,7 +21,7 @@ use Rattle.ill_tool.proofs.InputLemmas.{ReadSoFar, none_read, one_flat, one_more
 pub record ShownSoFar (old new before after : Option (List ℕ)) (count : ℕ) : Type 0 where
   pub apdus : List Apdu
   pub taken : ReadSoFar old new count apdus
-  pub written : Appends before after (all_shown apdus)
+  pub written : Appends before after (all_lines apdus)
 
 pub none_shown : (old before : Option (List ℕ)) → ShownSoFar old old before before 0
 none_shown old before = record { apdus = []; taken = none_read old; written = appends_nothing before }
@@ -33,7 +33,7 @@ one_more_shown old middle new before between after count so_far next =
     record {
       apdus = apdus ++ next.0 ∷ [];
       taken = one_more_read old middle new count apdus next.0 so_far.taken next.1 next.2;
-      written = subst (Appends before after) (sym (one_flat shown apdus next.0)) (appends_more before between after (all_shown apdus) (shown next.0) so_far.written next.3);
+      written = subst (Appends before after) (sym (one_flat lines_of apdus next.0)) (appends_more before between after (all_lines apdus) (lines_of next.0) so_far.written next.3);
     }
 
 -- ---- the end
@@ -46,7 +46,7 @@ shown_whole old middle new before between after count few so_far next = (
   [],
   record {
     taken = taken_with old middle new count so_far.apdus [] few so_far.taken next.0;
-    written = appends_more before between after (all_shown so_far.apdus) [] so_far.written next.2;
+    written = appends_more before between after (all_lines so_far.apdus) [] so_far.written next.2;
     ended = (sym so_far.taken.counted, refl, next.1, refl);
   },
 )
@@ -59,7 +59,7 @@ shown_until old middle new before between after count fault few so_far next = (
   next.1,
   record {
     taken = taken_with old middle new count so_far.apdus next.0 few so_far.taken next.2;
-    written = appends_more before between after (all_shown so_far.apdus) next.1 so_far.written next.3;
+    written = appends_more before between after (all_lines so_far.apdus) next.1 so_far.written next.3;
     ended = next.4 (length so_far.apdus);
   },
 )
@@ -83,7 +83,7 @@ shown_all old middle new before after count result all so_far end =
       [],
       record {
         taken = taken_with old middle new count apdus end.0 (omega (arith, all)) so_far.taken end.1;
-        written = appends_more before after after (all_shown apdus) [] so_far.written (appends_nothing after);
+        written = appends_more before after after (all_lines apdus) [] so_far.written (appends_nothing after);
         ended = ended_unwritten result (length apdus) end.0 new (ends_with end.0 new (length apdus) result full end.2);
       },
     )

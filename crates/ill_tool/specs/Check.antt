@@ -10,7 +10,8 @@ use Rattle.ill_tool.specs.Lines.{count_line}
 -- writer failed; or nothing, without memory for the line.
 abbrev pub WritesCount : Option (List ℕ) → Option (List ℕ) → ℕ → Result ℕ ToolFault → Type 0
 WritesCount before after count (Ok n) = (n ≡ count) × Appends before after (count_line count)
-WritesCount before after count (Err Write) = (size : ℕ) × Appends before after (take size (count_line count))
+WritesCount before after count (Err Write) =
+    (size : ℕ) × Appends before after (take size (count_line count))
 WritesCount before after count (Err OutOfMemory) = Appends before after []
 WritesCount before after count (Err (Der fault)) = ⊥
 WritesCount before after count (Err TooMany) = ⊥
@@ -23,5 +24,7 @@ Reports (Err fault) before after result = (result ≡ Err fault) × Appends befo
 
 -- Checking, from what the reader had left to what it has left, and from what the writer held to
 -- what it holds: the APDUs were counted, and then that was reported.
-abbrev pub Checks : Option (List ℕ) → Option (List ℕ) → Option (List ℕ) → Option (List ℕ) → Result ℕ ToolFault → Type 0
-Checks old new before after result = (counted : Result ℕ ToolFault) × Counts old new counted × Reports counted before after result
+abbrev pub Checks : Option (List ℕ) → Option (List ℕ) → Option (List ℕ) → Option (List ℕ) →
+    Result ℕ ToolFault → Type 0
+Checks old new before after result =
+    (counted : Result ℕ ToolFault) × Counts old new counted × Reports counted before after result

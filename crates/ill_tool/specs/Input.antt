@@ -31,7 +31,8 @@ pub record Takes (old new : Option (List ℕ)) (apdus : List Apdu) (bytes : List
 -- What stopped the reading: of the number of APDUs, of the bytes that were read behind them, and of
 -- what the reader has left.
 abbrev pub StopsReading : ToolFault → ℕ → List ℕ → Option (List ℕ) → Type 0
-StopsReading (Der fault) count bytes left = (apdu_at bytes ≡ Err fault) × AreUnfinished bytes × IfShort fault (IsAtEnd left)
+StopsReading (Der fault) count bytes left =
+    (apdu_at bytes ≡ Err fault) × AreUnfinished bytes × IfShort fault (IsAtEnd left)
 StopsReading TooMany count bytes left = (count ≡ 100000) × SpellsOne bytes
 StopsReading Read count bytes left = IsUnfinished bytes
 StopsReading Write count bytes left = ⊥
@@ -44,7 +45,9 @@ EndsReading (Err fault) count bytes left = StopsReading fault count bytes left
 
 -- Counting the APDUs, from what the reader had left to what it has left.
 abbrev pub Counts : Option (List ℕ) → Option (List ℕ) → Result ℕ ToolFault → Type 0
-Counts old new result = (apdus : List Apdu) × (bytes : List ℕ) × Takes old new apdus bytes × EndsReading result (length apdus) bytes new
+Counts old new result =
+    (apdus : List Apdu) × (bytes : List ℕ) × Takes old new apdus bytes
+    × EndsReading result (length apdus) bytes new
 
 -- the end was looked for behind as many APDUs as there may be
 abbrev pub EndsFull : Option (List ℕ) → Option (List ℕ) → Result ℕ ToolFault → Type 0

@@ -55,7 +55,8 @@ optional_date_line None = []
 optional_date_line (Some d) = date_line d
 
 abbrev pub reply_lines : ℕ → Bool → List ℕ
-reply_lines answers accepts = number_line (codes "answers") answers ++ line (codes "reply") (reply_word accepts)
+reply_lines answers accepts =
+    number_line (codes "answers") answers ++ line (codes "reply") (reply_word accepts)
 
 -- a renewal is granted by a date, and refused without one
 abbrev pub grant_lines : ℕ → Option Date → List ℕ
@@ -85,11 +86,13 @@ id_lines id = line (codes "group") id.group ++ line (codes "transaction") id.tra
 
 -- the lines of what each APDU has: its type, its transaction and its number
 abbrev pub head_lines : Apdu → List ℕ
-head_lines apdu = line (codes "apdu") (name_of apdu.body) ++ (id_lines apdu.txn ++ number_line (codes "number") apdu.number)
+head_lines apdu =
+    line (codes "apdu") (name_of apdu.body)
+    ++ (id_lines apdu.txn ++ number_line (codes "number") apdu.number)
 
 -- the lines of an APDU
-unfoldable pub shown : Apdu → List ℕ
-shown apdu = head_lines apdu ++ field_lines apdu.body
+unfoldable pub lines_of : Apdu → List ℕ
+lines_of apdu = head_lines apdu ++ field_lines apdu.body
 
 -- the line of how many APDUs there are
 abbrev pub count_line : ℕ → List ℕ

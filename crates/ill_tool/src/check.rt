@@ -9,10 +9,10 @@ use crate::output::write_whole;
 use std::alloc::Global;
 use std::io::{Read, Write};
 
-/// Reads the whole input, then writes the line of how many APDUs it has, and answers their number.
+/// Checks the whole input, then writes how many APDUs it has, and answers that number.
 ///
-/// With a fault of bytes, too many APDUs, a failing reader or without memory nothing is written;
-/// after a failing writer, a front of that line.
+/// If an APDU is faulty, there are too many, the reader fails or memory runs out, nothing is written;
+/// if the writer fails, a front of the line.
 pub fn run_check<R: Read, W: Write>(
     alloc: Global,
     reader: &mut R,

@@ -6,7 +6,9 @@ use std::alloc::Global;
 /// What a command line asks for.
 #[derive(Clone, Copy, Debug, PartialEq, Eq)]
 pub enum Request {
+    /// Show each APDU of the input: `ill show`.
     Show,
+    /// Check the input and count its APDUs: `ill check`.
     Check,
 }
 

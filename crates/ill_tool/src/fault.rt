@@ -11,7 +11,7 @@ use thiserror::Error;
 /// Why a command stopped. What was written before stays written.
 #[derive(Clone, Copy, Debug, PartialEq, Eq, Hash, Error)]
 pub enum ToolFault {
-    /// The input has these bytes where an APDU must stand. This is never `DerFault::OutOfMemory`.
+    /// The input has bytes that are no APDU. This is never `DerFault::OutOfMemory`.
     #[error("{0}")]
     Der(DerFault),
     /// The input has more than 100,000 APDUs.
@@ -23,6 +23,7 @@ pub enum ToolFault {
     /// The writer failed.
     #[error("write")]
     Write,
+    /// Memory ran out.
     #[error("memory")]
     OutOfMemory,
 }

@@ -8,7 +8,7 @@ use std::alloc::Global;
 use std::io::Read;
 
 /// The most APDUs of one input.
-pub const MOST_APDUS: u32 = 100_000;
+pub const MAX_APDUS: u32 = 100_000;
 
 /// Reads the input to its end, and answers how many APDUs there were. It keeps none of them.
 ///
@@ -17,7 +17,7 @@ pub const MOST_APDUS: u32 = 100_000;
 pub fn count_apdus<R: Read>(alloc: Global, reader: &mut R) -> Result<u32, ToolFault>
     ensures { Counts (R.remaining reader.old) (R.remaining reader.new) result }
 {
-    for count in 0..MOST_APDUS {
+    for count in 0..MAX_APDUS {
         match read_apdu(alloc, reader) {
             Ok(Some(_)) => {}
             Ok(None) => return Ok(count),
@@ -32,7 +32,7 @@ pub fn end<R: Read>(alloc: Global, reader: &mut R) -> Result<u32, ToolFault>
     ensures { EndsFull (R.remaining reader.old) (R.remaining reader.new) result }
 {
     match read_apdu(alloc, reader) {
-        Ok(None) => Ok(MOST_APDUS),
+        Ok(None) => Ok(MAX_APDUS),
         Ok(Some(_)) => Err(ToolFault::TooMany),
         Err(fault) => Err(fault.into()),
     }

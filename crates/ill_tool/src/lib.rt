@@ -15,4 +15,3 @@ pub use fault::ToolFault;
 pub use ill_der::DerFault;
 pub use show::run_show;
 pub use words::run_words;
-

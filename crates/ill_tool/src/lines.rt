@@ -1,14 +1,14 @@
 //! The lines that the commands write.
 
 ghost use Rattle.std.specs.Prelude.{◌≡◌, ◌++◌, OnOk};
-ghost use Rattle.ill_tool.specs.Lines.{line, name_of, word_of, reply_word, number_line, date_line, optional_date_line, reply_lines, grant_lines, field_lines, id_lines, head_lines, shown, count_line};
+ghost use Rattle.ill_tool.specs.Lines.{line, name_of, word_of, reply_word, number_line, date_line, optional_date_line, reply_lines, grant_lines, field_lines, id_lines, head_lines, lines_of, count_line};
 
 use ill_values::{AnswerResult, Apdu, Body, Day, Number, OutOfMemory, TxnId};
 
 /// Adds the lines of an APDU.
-#[tactic(auto, unfolding(crate::specs::Lines::shown))]
+#[tactic(auto, unfolding(crate::specs::Lines::lines_of))]
 pub fn push_apdu(lines: &mut Vec<u8>, apdu: &Apdu) -> Result<(), OutOfMemory>
-    ensures { OnOk result (lines.new.items ≡ lines.old.items ++ shown apdu.now) }
+    ensures { OnOk result (lines.new.items ≡ lines.old.items ++ lines_of apdu.now) }
 {
     push_head(lines, apdu)?;
     push_fields(lines, &apdu.body)

@@ -3,17 +3,18 @@
 ghost use Rattle.ill_tool.specs.Show.{Shows, ShowsNext};
 
 use crate::fault::ToolFault;
-use crate::input::{MOST_APDUS, end};
+use crate::input::{MAX_APDUS, end};
 use crate::lines::push_apdu;
 use crate::output::write_whole;
 use ill_der::read_apdu;
 use std::alloc::Global;
 use std::io::{Read, Write};
 
-/// Writes the lines of each APDU of the input, to its end, and answers how many there were.
+/// Shows each APDU of the input, up to its end, and answers how many there were.
 ///
-/// With a fault of bytes, too many APDUs or a failing reader, the lines of the APDUs before it are
-/// written; without memory, those of a front of them; after a failing writer, a front of that text.
+/// If an APDU is faulty, there are too many, or the reader fails, the lines of the APDUs before are
+/// written. If memory runs out, those of some of the first APDUs are, and if the writer fails, a
+/// front of that text.
 pub fn run_show<R: Read, W: Write>(
     alloc: Global,
     reader: &mut R,
@@ -23,7 +24,7 @@ pub fn run_show<R: Read, W: Write>(
         (W.contents writer.old) (W.contents writer.new) result }
 {
     let mut lines = Vec::new(alloc);
-    for count in 0..MOST_APDUS {
+    for count in 0..MAX_APDUS {
         match show_next(alloc, reader, writer, &mut lines) {
             Ok(true) => {}
             Ok(false) => return Ok(count),

@@ -3,7 +3,8 @@ use Rattle.std.specs.Prelude.{ℕ, List, Result, Ok}
 use Rattle.ill_values.specs.declared.fault.TextFault.{TextFault}
 use Rattle.ill_values.specs.Text.{qualifier_check, IsQualifier, ◌>>=◌}
 
--- a transaction group qualifier and a transaction qualifier (this profile's own form of the transaction id)
+-- a transaction group qualifier and a transaction qualifier (this profile's own form of the
+-- transaction id)
 pub record Qualifiers : Type 0 where
   pub group : List ℕ
   pub transaction : List ℕ
@@ -15,4 +16,5 @@ pub record AreQualifiers (id : Qualifiers) : Type 0 where
 -- the id with these qualifiers, or the first fault: the group is judged before the transaction
 abbrev pub txn_id_of : List ℕ → List ℕ → Result Qualifiers TextFault
 txn_id_of group transaction =
-    qualifier_check group >>= λ _. qualifier_check transaction >>= λ _. Ok (record { group = group; transaction = transaction })
+    qualifier_check group >>= λ _. qualifier_check transaction >>= λ _.
+    Ok (record { group = group; transaction = transaction })

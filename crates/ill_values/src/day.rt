@@ -14,7 +14,7 @@ use std::marker::Model;
 
 /// The most days that a span of jiff holds. To refuse more loses no day of this profile: even from
 /// its first, 1 January 1900, so many days lead past its last, 31 December 9999.
-const MOST_DAYS: u32 = 7_304_484;
+const MAX_DAYS: u32 = 7_304_484;
 
 /// A day of the Gregorian calendar, from 1 January 1900 to 31 December 9999.
 ///
@@ -37,7 +37,9 @@ impl Model for Day {
 }
 
 impl Day {
-    /// The day, where the calendar has it and its year is 1900 to 9999.
+    /// The day with this year, month (1 to 12) and day of the month (1 to 31).
+    ///
+    /// A year other than 1900 to 9999 is `OutOfRange`, and a day that the calendar lacks `NotADate`.
     pub fn new(year: u16, month: u8, day: u8) -> Result<Day, DayFault>
         ensures { result ≡ date_of year month day }
     {
@@ -51,7 +53,7 @@ impl Day {
         }
     }
 
-    /// The day that eight digits spell, as `20250315`.
+    /// The day that eight ASCII digits spell, as `20250315`. Any other text is `NotDigits`.
     pub fn read(text: &[u8]) -> Result<Day, DayFault>
         ensures { result ≡ read_date text.now }
     {
@@ -62,7 +64,7 @@ impl Day {
         Day::new(year, two_digits(text, 4), two_digits(text, 6))
     }
 
-    /// The day as eight digits, as `20250315`.
+    /// The day as eight ASCII digits, as `20250315`.
     pub fn digits(&self) -> [u8; 8]
         ensures value { result ≡ date_text self.now }
         ensures date { IsDate self.now }
@@ -79,13 +81,13 @@ impl Day {
         ]
     }
 
-    /// The day so many days later, up to 31 December 9999.
+    /// The day that many days later. A day after 31 December 9999 is `OutOfRange`.
     pub fn after(&self, days: u32) -> Result<Day, DayFault>
         ensures value { result ≡ day_after days self.now }
         ensures date { IsDate self.now }
     {
         let date = self.to_civil();
-        if days > MOST_DAYS {
+        if days > MAX_DAYS {
             return Err(DayFault::OutOfRange);
         }
         match date.checked_add(i64::from(days).days()) {
@@ -125,14 +127,16 @@ fn is_in_calendar(year: u16, month: u8, day: u8) -> bool
 fn is_eight_digits(text: &[u8]) -> bool
     ensures value { result ≡ eight_digits text.now }
     ensures length { OnTrue result (length text.now ≡ 8) }
-    ensures digits { OnTrue result (EachIndex text.now (λ k. IsInRange 48 57 (slice_index text.now k))) }
+    ensures digits { OnTrue result (EachIndex text.now
+        (λ k. IsInRange 48 57 (slice_index text.now k))) }
 {
     text.len() == 8 && is_digits(text)
 }
 
 fn is_digits(text: &[u8]) -> bool
     ensures value { result ≡ list_all is_ascii_digit text.now }
-    ensures each { OnTrue result (EachIndex text.now (λ k. IsInRange 48 57 (slice_index text.now k))) }
+    ensures each { OnTrue result (EachIndex text.now
+        (λ k. IsInRange 48 57 (slice_index text.now k))) }
 {
     text.iter().all(|byte| byte.is_ascii_digit())
 }

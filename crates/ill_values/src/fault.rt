@@ -6,26 +6,34 @@ ghost use Rattle.ill_values.specs.declared.fault.TextFault.TheVariants.{OutOfMem
 use std::alloc::AllocError;
 use thiserror::Error;
 
-/// Why bytes are no qualifier or no item: the first of these that holds.
+/// Why bytes are no qualifier or no item. Where more than one holds, it is the first in this order.
 #[derive(Clone, Copy, Debug, PartialEq, Eq, Hash, Error)]
 pub enum TextFault {
+    /// The text has no bytes.
     #[error("the text is empty")]
     Empty,
+    /// The text has more than 64 bytes (a qualifier) or more than 200 (an item).
     #[error("the text is too long")]
     TooLong,
+    /// A qualifier has a byte other than 0x20 to 0x7E, or an item is not UTF-8 or has a control
+    /// character of ASCII.
     #[error("the text has a byte that may not stand there")]
     BadByte,
+    /// The text is good, and memory ran out.
     #[error("out of memory")]
     OutOfMemory,
 }
 
-/// Why there is no such day: the first of these that holds.
+/// Why there is no such day. Where more than one holds, it is the first in this order.
 #[derive(Clone, Copy, Debug, PartialEq, Eq, Hash, Error)]
 pub enum DayFault {
+    /// The text is not exactly eight ASCII digits. Only `Day::read` gives this.
     #[error("a date is eight digits")]
     NotDigits,
+    /// The year is not 1900 to 9999, or a day so many days later is after 31 December 9999.
     #[error("the years are 1900 to 9999")]
     OutOfRange,
+    /// The calendar has no such day.
     #[error("the calendar has no such day")]
     NotADate,
 }

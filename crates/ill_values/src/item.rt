@@ -40,7 +40,7 @@ impl Eq for Item {
 }
 
 impl Item {
-    /// The item with this text.
+    /// The item with this text, on its own memory, or the first fault of the text.
     pub fn new(alloc: Global, text: &[u8]) -> Result<Item, TextFault>
         ensures { Gives (item_of text.now) result }
     {
@@ -50,7 +50,7 @@ impl Item {
         })
     }
 
-    /// An equal item, on its own memory.
+    /// A copy of the item, on its own memory.
     pub fn copy(&self, alloc: Global) -> Result<Item, OutOfMemory>
         ensures { IfOk result (λ item. item ≡ self.now) }
     {
@@ -59,7 +59,7 @@ impl Item {
         })
     }
 
-    /// Whether a text is an item.
+    /// Whether the bytes are the text of an item. It takes no memory.
     pub fn is_item(text: &[u8]) -> bool
         ensures { result ≡ is_ok (item_check text.now) }
     {

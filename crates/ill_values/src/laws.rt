@@ -60,5 +60,6 @@ pub fn equal_apdus()
 /// The text of a day spells that day, and each text spells one day at most.
 pub fn date_texts()
     ensures spelled { (d : Date) → IsDate d → read_date (date_text d) ≡ Ok d }
-    ensures read { (text : List ℕ) (d : Date) → read_date text ≡ Ok d → IsDate d × (text ≡ date_text d) }
+    ensures read { (text : List ℕ) (d : Date) → read_date text ≡ Ok d →
+        IsDate d × (text ≡ date_text d) }
 {}

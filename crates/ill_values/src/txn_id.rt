@@ -25,7 +25,8 @@ impl Model for TxnId {
 
     ghost view = { λ id. record { group = id.group.items; transaction = id.transaction.items } };
 
-    ghost invariant = { λ id. AreQualifiers (record { group = id.group.items; transaction = id.transaction.items }) };
+    ghost invariant = { λ id. AreQualifiers
+        (record { group = id.group.items; transaction = id.transaction.items }) };
 }
 
 impl PartialEq for TxnId {
@@ -43,7 +44,8 @@ impl Eq for TxnId {
 }
 
 impl TxnId {
-    /// The id with these qualifiers. The group is judged before the transaction, and memory last.
+    /// The id with these qualifiers, on its own memory, or the first fault: of the group, then of the
+    /// transaction, then want of memory.
     pub fn new(alloc: Global, group: &[u8], transaction: &[u8]) -> Result<TxnId, TextFault>
         ensures { Gives (txn_id_of group.now transaction.now) result }
     {
@@ -55,7 +57,7 @@ impl TxnId {
         })
     }
 
-    /// An equal id, on its own memory.
+    /// A copy of the id, on its own memory.
     pub fn copy(&self, alloc: Global) -> Result<TxnId, OutOfMemory>
         ensures { IfOk result (λ id. id ≡ self.now) }
     {
@@ -65,14 +67,14 @@ impl TxnId {
         })
     }
 
-    /// Whether a text is a qualifier.
+    /// Whether the bytes are a qualifier. It takes no memory.
     pub fn is_qualifier(text: &[u8]) -> bool
         ensures { result ≡ is_ok (qualifier_check text.now) }
     {
         check_qualifier(text).is_ok()
     }
 
-    /// The transaction group qualifier.
+    /// The transaction group qualifier: 1 to 64 bytes.
     pub fn group(&self) -> &[u8]
         ensures value { result.now ≡ self.now.group }
         ensures id { AreQualifiers self.now }
@@ -81,7 +83,7 @@ impl TxnId {
         &self.group
     }
 
-    /// The transaction qualifier.
+    /// The transaction qualifier: 1 to 64 bytes.
     pub fn transaction(&self) -> &[u8]
         ensures value { result.now ≡ self.now.transaction }
         ensures id { AreQualifiers self.now }

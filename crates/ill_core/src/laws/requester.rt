@@ -19,19 +19,22 @@ ghost use Rattle.ill_core.specs.RequesterFacts as facts;
 
 /// A wish issues exactly one APDU, with the next number, and a message none.
 pub fn requester_issues()
-    ensures acts { (x new : RequesterRecord) (wish : Wish) → acts x wish ≡ Ok new → IssuesNext x.txn x.issued new.issued }
+    ensures acts { (x new : RequesterRecord) (wish : Wish) → acts x wish ≡ Ok new →
+        IssuesNext x.txn x.issued new.issued }
     ensures takes { (x : RequesterRecord) (a : Apdu) → (takes x a).1.issued ≡ x.issued }
 {}
 
 /// The transaction stays.
 pub fn requester_keeps_txn()
-    ensures acts { (x new : RequesterRecord) (wish : Wish) → acts x wish ≡ Ok new → new.txn ≡ x.txn }
+    ensures acts { (x new : RequesterRecord) (wish : Wish) → acts x wish ≡ Ok new →
+        new.txn ≡ x.txn }
     ensures takes { (x : RequesterRecord) (a : Apdu) → (takes x a).1.txn ≡ x.txn }
 {}
 
 /// A record that keeps the rules of a requester keeps them.
 pub fn requester_keeps_rules()
-    ensures acts { (x new : RequesterRecord) (wish : Wish) → acts x wish ≡ Ok new → IsRequester x → IsRequester new }
+    ensures acts { (x new : RequesterRecord) (wish : Wish) → acts x wish ≡ Ok new →
+        IsRequester x → IsRequester new }
     ensures takes { (x : RequesterRecord) (a : Apdu) → IsRequester x → IsRequester (takes x a).1 }
 {}
 
@@ -43,9 +46,11 @@ pub fn requester_is_quiet()
 /// CANCELLED, NOT-SUPPLIED and RETURNED are final.
 pub fn requester_is_final()
     ensures acts { (x new : RequesterRecord) (wish : Wish) → acts x wish ≡ Ok new →
-        is_among (states.Cancelled ∷ states.NotSupplied ∷ states.Returned ∷ []) x.state ≡ true → new.state ≡ x.state }
+        is_among (states.Cancelled ∷ states.NotSupplied ∷ states.Returned ∷ []) x.state ≡ true →
+        new.state ≡ x.state }
     ensures takes { (x : RequesterRecord) (a : Apdu) →
-        is_among (states.Cancelled ∷ states.NotSupplied ∷ states.Returned ∷ []) x.state ≡ true → (takes x a).1.state ≡ x.state }
+        is_among (states.Cancelled ∷ states.NotSupplied ∷ states.Returned ∷ []) x.state ≡ true →
+        (takes x a).1.state ≡ x.state }
 {}
 
 /// A requester in SHIPPED or later stays there.
@@ -58,7 +63,8 @@ pub fn requester_stays_later()
 
 /// A due date is kept or raised, where it is there exactly in SHIPPED or later.
 pub fn requester_keeps_due()
-    ensures acts { (x new : RequesterRecord) (wish : Wish) → acts x wish ≡ Ok new → new.due ≡ x.due }
+    ensures acts { (x new : RequesterRecord) (wish : Wish) → acts x wish ≡ Ok new →
+        new.due ≡ x.due }
     ensures takes { (x : RequesterRecord) (a : Apdu) →
         is_some x.due ≡ is_among later x.state → KeepsDue x.due (takes x a).1.due }
 {}
@@ -71,7 +77,8 @@ pub fn requester_shows()
         Shows (takes x a).1 fact → Shows x fact ⊎ Tells a.body fact }
 {}
 
-/// A Conditional-Reply is issued only in CONDITIONAL, to the conditions held, which were not declined.
+/// A Conditional-Reply is issued only in CONDITIONAL, to the conditions held, which were not
+/// declined.
 pub fn requester_replies()
     ensures { (x new : RequesterRecord) (wish : Wish) → acts x wish ≡ Ok new → Replies x new }
 {}
@@ -84,19 +91,24 @@ pub fn requester_holds()
 /// Conditions are answered once, where they are held exactly in CONDITIONAL.
 pub fn requester_answers_once()
     ensures acts { (x new : RequesterRecord) (wish : Wish) → acts x wish ≡ Ok new →
-        is_some x.held ≡ is_among (states.Conditional ∷ []) x.state → AnswersOnce x → AnswersOnce new }
+        is_some x.held ≡ is_among (states.Conditional ∷ []) x.state →
+        AnswersOnce x → AnswersOnce new }
     ensures takes { (x : RequesterRecord) (a : Apdu) → AnswersOnce x → AnswersOnce (takes x a).1 }
 {}
 
-/// Where the loan can still end so, and the message is of the transaction, Shipped leads to SHIPPED or later,
-/// the end of the request to NOT-SUPPLIED, and the yes to the last Cancel to CANCELLED.
+/// Where the loan can still end so, and the message is of the transaction, Shipped leads to SHIPPED
+/// or later, the end of the request to NOT-SUPPLIED, and the yes to the last Cancel to CANCELLED.
 pub fn requester_follows()
-    ensures shipped { (x : RequesterRecord) (a : Apdu) (due : Date) → is_same_txn a.txn x.txn ≡ true → a.body ≡ types.Shipped due →
-        is_among (states.Pending ∷ states.Conditional ∷ states.CancelPending ∷ later) x.state ≡ true → LeadsTo later (takes x a) }
-    ensures ended { (x : RequesterRecord) (a : Apdu) → is_same_txn a.txn x.txn ≡ true → Tells a.body facts.Ended →
-        is_among (states.Pending ∷ states.Conditional ∷ states.CancelPending ∷ states.NotSupplied ∷ []) x.state ≡ true →
-        LeadsTo (states.NotSupplied ∷ []) (takes x a) }
-    ensures cancelled { (x : RequesterRecord) (a : Apdu) (c : ℕ) → is_same_txn a.txn x.txn ≡ true → a.body ≡ types.CancelReply c true →
-        is_the c (last_cancel x) ≡ true → is_among (states.CancelPending ∷ states.Cancelled ∷ []) x.state ≡ true →
+    ensures shipped { (x : RequesterRecord) (a : Apdu) (due : Date) →
+        is_same_txn a.txn x.txn ≡ true → a.body ≡ types.Shipped due →
+        is_among (states.Pending ∷ states.Conditional ∷ states.CancelPending ∷ later)
+        x.state ≡ true → LeadsTo later (takes x a) }
+    ensures ended { (x : RequesterRecord) (a : Apdu) → is_same_txn a.txn x.txn ≡ true →
+        Tells a.body facts.Ended →
+        is_among (states.Pending ∷ states.Conditional ∷ states.CancelPending ∷ states.NotSupplied ∷ [])
+        x.state ≡ true → LeadsTo (states.NotSupplied ∷ []) (takes x a) }
+    ensures cancelled { (x : RequesterRecord) (a : Apdu) (c : ℕ) → is_same_txn a.txn x.txn ≡ true →
+        a.body ≡ types.CancelReply c true → is_the c (last_cancel x) ≡ true →
+        is_among (states.CancelPending ∷ states.Cancelled ∷ []) x.state ≡ true →
         LeadsTo (states.Cancelled ∷ []) (takes x a) }
 {}

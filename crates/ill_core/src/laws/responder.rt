@@ -18,19 +18,22 @@ ghost use Rattle.ill_core.specs.ResponderFacts.{Fact, Shows, Tells, IssuesUnfill
 /// A deed issues exactly one APDU, with the next number; a message none, or to a Conditional-Reply no
 /// one ILL-Answer unfilled.
 pub fn responder_issues()
-    ensures acts { (y new : ResponderRecord) (deed : Deed) (today : Date) → acts y deed today ≡ Ok new → IssuesNext y.txn y.issued new.issued }
+    ensures acts { (y new : ResponderRecord) (deed : Deed) (today : Date) →
+        acts y deed today ≡ Ok new → IssuesNext y.txn y.issued new.issued }
     ensures takes { (y : ResponderRecord) (a : Apdu) → IssuesUnfilled y a.body (takes y a).1 }
 {}
 
 /// The transaction stays.
 pub fn responder_keeps_txn()
-    ensures acts { (y new : ResponderRecord) (deed : Deed) (today : Date) → acts y deed today ≡ Ok new → new.txn ≡ y.txn }
+    ensures acts { (y new : ResponderRecord) (deed : Deed) (today : Date) →
+        acts y deed today ≡ Ok new → new.txn ≡ y.txn }
     ensures takes { (y : ResponderRecord) (a : Apdu) → (takes y a).1.txn ≡ y.txn }
 {}
 
 /// A record that keeps the rules of a responder keeps them.
 pub fn responder_keeps_rules()
-    ensures acts { (y new : ResponderRecord) (deed : Deed) (today : Date) → acts y deed today ≡ Ok new → IsResponder y → IsResponder new }
+    ensures acts { (y new : ResponderRecord) (deed : Deed) (today : Date) →
+        acts y deed today ≡ Ok new → IsResponder y → IsResponder new }
     ensures takes { (y : ResponderRecord) (a : Apdu) → IsResponder y → IsResponder (takes y a).1 }
 {}
 
@@ -41,68 +44,88 @@ pub fn responder_is_quiet()
 
 /// NOT-SUPPLIED, CANCELLED and CHECKED-IN are final.
 pub fn responder_is_final()
-    ensures acts { (y new : ResponderRecord) (deed : Deed) (today : Date) → acts y deed today ≡ Ok new →
-        is_among (states.NotSupplied ∷ states.Cancelled ∷ states.CheckedIn ∷ []) y.state ≡ true → new.state ≡ y.state }
+    ensures acts { (y new : ResponderRecord) (deed : Deed) (today : Date) →
+        acts y deed today ≡ Ok new →
+        is_among (states.NotSupplied ∷ states.Cancelled ∷ states.CheckedIn ∷ []) y.state ≡ true →
+        new.state ≡ y.state }
     ensures takes { (y : ResponderRecord) (a : Apdu) →
-        is_among (states.NotSupplied ∷ states.Cancelled ∷ states.CheckedIn ∷ []) y.state ≡ true → (takes y a).1.state ≡ y.state }
+        is_among (states.NotSupplied ∷ states.Cancelled ∷ states.CheckedIn ∷ []) y.state ≡ true →
+        (takes y a).1.state ≡ y.state }
 {}
 
-/// A responder in SHIPPED or later stays there, and one in RETURNED stays there or checks the item in.
+/// A responder in SHIPPED or later stays there, and one in RETURNED stays there or checks the item
+/// in.
 pub fn responder_stays_later()
-    ensures acts { (y new : ResponderRecord) (deed : Deed) (today : Date) → acts y deed today ≡ Ok new → StaysLater y new }
+    ensures acts { (y new : ResponderRecord) (deed : Deed) (today : Date) →
+        acts y deed today ≡ Ok new → StaysLater y new }
     ensures takes { (y : ResponderRecord) (a : Apdu) → StaysLater y (takes y a).1 }
 {}
 
 /// An end is issued only while the request is open, and leads to its state.
 pub fn responder_ends()
-    ensures acts { (y new : ResponderRecord) (deed : Deed) (today : Date) → acts y deed today ≡ Ok new → Ends y new }
+    ensures acts { (y new : ResponderRecord) (deed : Deed) (today : Date) →
+        acts y deed today ≡ Ok new → Ends y new }
     ensures takes { (y : ResponderRecord) (a : Apdu) → Ends y (takes y a).1 }
 {}
 
-/// NOT-SUPPLIED, CANCELLED, and SHIPPED or later, are entered only by issuing the end that leads there.
+/// NOT-SUPPLIED, CANCELLED, and SHIPPED or later, are entered only by issuing the end that leads
+/// there.
 pub fn responder_enters_by_end()
-    ensures acts { (y new : ResponderRecord) (deed : Deed) (today : Date) → acts y deed today ≡ Ok new → EntersByEnd y new }
+    ensures acts { (y new : ResponderRecord) (deed : Deed) (today : Date) →
+        acts y deed today ≡ Ok new → EntersByEnd y new }
     ensures takes { (y : ResponderRecord) (a : Apdu) → EntersByEnd y (takes y a).1 }
 {}
 
 /// A request ends once, and the state says how.
 pub fn responder_ends_once()
-    ensures acts { (y new : ResponderRecord) (deed : Deed) (today : Date) → acts y deed today ≡ Ok new → EndsOnce y → EndsOnce new }
+    ensures acts { (y new : ResponderRecord) (deed : Deed) (today : Date) →
+        acts y deed today ≡ Ok new → EndsOnce y → EndsOnce new }
     ensures takes { (y : ResponderRecord) (a : Apdu) → EndsOnce y → EndsOnce (takes y a).1 }
 {}
 
-/// A Cancel or a Renew is answered only while it waits for its answer, which names the last one taken.
+/// A Cancel or a Renew is answered only while it waits for its answer, which names the last one
+/// taken.
 pub fn responder_answers_last()
-    ensures acts { (question : Question) (y new : ResponderRecord) (deed : Deed) (today : Date) → acts y deed today ≡ Ok new → AnswersLast question y new }
-    ensures takes { (question : Question) (y : ResponderRecord) (a : Apdu) → AnswersLast question y (takes y a).1 }
+    ensures acts { (question : Question) (y new : ResponderRecord) (deed : Deed) (today : Date) →
+        acts y deed today ≡ Ok new → AnswersLast question y new }
+    ensures takes { (question : Question) (y : ResponderRecord) (a : Apdu) →
+        AnswersLast question y (takes y a).1 }
 {}
 
-/// The last Cancel or Renew changes, and one waits that did not, only where one comes with a number above the
-/// last one's.
+/// The last Cancel or Renew changes, and one waits that did not, only where one comes with a number
+/// above the last one's.
 pub fn responder_keeps_last()
-    ensures acts { (question : Question) (y new : ResponderRecord) (deed : Deed) (today : Date) → acts y deed today ≡ Ok new → KeepsLast question y new }
+    ensures acts { (question : Question) (y new : ResponderRecord) (deed : Deed) (today : Date) →
+        acts y deed today ≡ Ok new → KeepsLast question y new }
     ensures takes { (question : Question) (y : ResponderRecord) (a : Apdu) →
         KeepsLast question y (takes y a).1 ⊎ TakesNew question a.number a.body y (takes y a).1 }
 {}
 
 /// Each Cancel and each Renew is answered once, where one that waits is there.
 pub fn responder_answers_once()
-    ensures acts { (question : Question) (y new : ResponderRecord) (deed : Deed) (today : Date) → acts y deed today ≡ Ok new →
-        implies (waits question y.state) (is_some (last_asked question y)) ≡ true → AnswersOnce question y → AnswersOnce question new }
-    ensures takes { (question : Question) (y : ResponderRecord) (a : Apdu) → AnswersOnce question y → AnswersOnce question (takes y a).1 }
+    ensures acts { (question : Question) (y new : ResponderRecord) (deed : Deed) (today : Date) →
+        acts y deed today ≡ Ok new →
+        implies (waits question y.state) (is_some (last_asked question y)) ≡ true →
+        AnswersOnce question y → AnswersOnce question new }
+    ensures takes { (question : Question) (y : ResponderRecord) (a : Apdu) →
+        AnswersOnce question y → AnswersOnce question (takes y a).1 }
 {}
 
-/// What a record shows to have come was shown before, or is told by the message that it took; a deed shows nothing
-/// new, where a Cancel that waits is there.
+/// What a record shows to have come was shown before, or is told by the message that it took; a
+/// deed shows nothing new, where a Cancel that waits is there.
 pub fn responder_shows()
-    ensures acts { (y new : ResponderRecord) (deed : Deed) (today : Date) (fact : Fact) → acts y deed today ≡ Ok new →
-        implies (waits MayCancel y.state) (is_some y.last_cancel) ≡ true → Shows new fact → Shows y fact }
+    ensures acts { (y new : ResponderRecord) (deed : Deed) (today : Date) (fact : Fact) →
+        acts y deed today ≡ Ok new →
+        implies (waits MayCancel y.state) (is_some y.last_cancel) ≡ true →
+        Shows new fact → Shows y fact }
     ensures takes { (y : ResponderRecord) (a : Apdu) (fact : Fact) →
         Shows (takes y a).1 fact → Shows y fact ⊎ Tells a.number a.body fact }
 {}
 
-/// Where the item was shipped, a Returned of the transaction leads to RETURNED, or the item is checked in already.
+/// Where the item was shipped, a Returned of the transaction leads to RETURNED, or the item is
+/// checked in already.
 pub fn responder_follows()
-    ensures { (y : ResponderRecord) (a : Apdu) → is_same_txn a.txn y.txn ≡ true → a.body ≡ types.Returned → is_among later y.state ≡ true →
+    ensures { (y : ResponderRecord) (a : Apdu) → is_same_txn a.txn y.txn ≡ true →
+        a.body ≡ types.Returned → is_among later y.state ≡ true →
         LeadsTo (states.Returned ∷ states.CheckedIn ∷ []) (takes y a) }
 {}

@@ -10,13 +10,14 @@ use crate::state::State;
 use ill_values::{Body, Day, Item, Number};
 use std::alloc::Global;
 
-/// Where a wish leads.
+/// What a wish leads to.
 #[derive(Debug, Drop)]
 pub struct Row {
+    /// The state after the wish.
     pub next: State,
-    /// What is issued.
+    /// The message that is issued.
     pub body: Body,
-    /// The conditions that are held then.
+    /// The number of the conditions that are held after the wish.
     pub held: Option<Number>,
 }
 

@@ -153,7 +153,8 @@ fn take_renew_answer(requester: &mut Requester, answers: Number, granted: Option
 
 /// What the answer to the open Renew does.
 fn take_renewal(requester: &mut Requester, granted: Option<Day>) -> Taking
-    requires open { is_among (State.RenewPending ∷ State.RenewOverdue ∷ []) requester.old.state ≡ true }
+    requires open { is_among (State.RenewPending ∷ State.RenewOverdue ∷ [])
+        requester.old.state ≡ true }
     ensures { (Ok result, requester.new) ≡ take_renewal requester.old granted }
 {
     match granted {

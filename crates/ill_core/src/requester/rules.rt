@@ -13,10 +13,12 @@ use crate::issued::is_requesters;
 use crate::state::State;
 use ill_values::{Apdu, Body};
 
-/// Whether a requester can have these parts: whether conditions are held, the item was checked in and a
-/// due date is there.
+/// Whether a requester can have these parts: whether conditions are held, the item was checked in
+/// and a due date is there.
 pub fn are_kept(state: State, held: bool, checked_in: bool, due: bool, apdus: &[Apdu]) -> bool
-    ensures { (result ≡ true) ↔ (list_all (λ a. is_requesters a.body) apdus.now ≡ true) × (begins_with_request apdus.now ≡ true) × PartsFit state held due checked_in × IssuedFits state apdus.now }
+    ensures { (result ≡ true) ↔ (list_all (λ a. is_requesters a.body) apdus.now ≡ true)
+        × (begins_with_request apdus.now ≡ true) × PartsFit state held due checked_in
+        × IssuedFits state apdus.now }
 {
     if !is_role(apdus) {
         return false;

@@ -5,18 +5,19 @@ ghost use Rattle.std.specs.Option.{unwrap_or};
 ghost use Rattle.ill_core.specs.declared.state.State.TheVariants as states;
 ghost use Rattle.ill_core.specs.State.{is_among};
 ghost use Rattle.ill_core.specs.Dates.{is_after_due};
-ghost use Rattle.ill_core.specs.ResponderActions.{leads_to, row_of, answer_row, after_answer, cancel_reply_row, ship_row, renew_answer_row, renewed, overdue_row, overdue, recall_row, check_in_row, expire_row, expiry_of};
+ghost use Rattle.ill_core.specs.ResponderActions.{leads_to, row_of, answer_row, after_answer, cancel_reply_row, ship_row, renew_answer_row, renewal_row, overdue_row, overdue_row_to, recall_row, check_in_row, expire_row, expiry_of};
 
 use super::{Deed, Responder};
 use crate::refusal::Refusal;
 use crate::state::State;
 use ill_values::{AnswerResult, Body, Day, Number};
 
-/// Where a deed leads.
+/// What a deed leads to.
 #[derive(Debug, Drop)]
 pub struct Row {
+    /// The state after the deed.
     pub next: State,
-    /// What is issued.
+    /// The message that is issued.
     pub body: Body,
 }
 
@@ -63,7 +64,7 @@ fn cancel_reply_row(responder: &Responder, yes: bool) -> Result<Row, Refusal>
 {
     match responder.state {
         State::CancelPending => {
-            let answers = known(responder.last_cancel);
+            let answers = question_number(responder.last_cancel);
             let body = Body::CancelReply { answers, yes };
             if yes {
                 leads_to(State::Cancelled, body)
@@ -89,18 +90,23 @@ fn renew_answer_row(responder: &Responder, granted: Option<Day>) -> Result<Row, 
     ensures { result ≡ renew_answer_row responder.now granted }
 {
     match responder.state {
-        State::RenewPending => renewed(responder, State::Shipped, granted),
-        State::RenewOverdue => renewed(responder, State::Overdue, granted),
+        State::RenewPending => renewal_row(responder, State::Shipped, granted),
+        State::RenewOverdue => renewal_row(responder, State::Overdue, granted),
         state => Err(Refusal::NotNow(state)),
     }
 }
 
-/// The answer to the last Renew: a no leads to this state.
-fn renewed(responder: &Responder, unrenewed: State, granted: Option<Day>) -> Result<Row, Refusal>
-    requires waits { is_among (states.RenewPending ∷ states.RenewOverdue ∷ []) responder.now.state ≡ true }
-    ensures { result ≡ renewed responder.now unrenewed granted }
+/// What the answer to the last Renew leads to, where a no leads to the state `unrenewed`.
+fn renewal_row(
+    responder: &Responder,
+    unrenewed: State,
+    granted: Option<Day>,
+) -> Result<Row, Refusal>
+    requires waits { is_among (states.RenewPending ∷ states.RenewOverdue ∷ [])
+        responder.now.state ≡ true }
+    ensures { result ≡ renewal_row responder.now unrenewed granted }
 {
-    let answers = known(responder.last_renew);
+    let answers = question_number(responder.last_renew);
     match granted {
         Some(day) if !is_after(day, responder.due()) => Err(Refusal::DateNotLater),
         Some(_) => leads_to(State::Shipped, Body::RenewAnswer { answers, granted }),
@@ -112,15 +118,15 @@ fn overdue_row(responder: &Responder, today: Day) -> Result<Row, Refusal>
     ensures { result ≡ overdue_row responder.now today }
 {
     match responder.state {
-        State::Shipped => overdue(responder, today, State::Overdue),
-        State::RenewPending => overdue(responder, today, State::RenewOverdue),
+        State::Shipped => overdue_row_to(responder, today, State::Overdue),
+        State::RenewPending => overdue_row_to(responder, today, State::RenewOverdue),
         state => Err(Refusal::NotNow(state)),
     }
 }
 
-/// Overdue leads to this state from the day after the due date on.
-fn overdue(responder: &Responder, today: Day, next: State) -> Result<Row, Refusal>
-    ensures { result ≡ overdue responder.now today next }
+/// What an Overdue leads to, from the day after the due date on: the state `next`.
+fn overdue_row_to(responder: &Responder, today: Day, next: State) -> Result<Row, Refusal>
+    ensures { result ≡ overdue_row_to responder.now today next }
 {
     match responder.due() {
         Some(due) if due < today => leads_to(next, Body::Overdue { due }),
@@ -189,7 +195,7 @@ fn expiry(responder: &Responder) -> Option<Day>
 }
 
 /// The number of a question that waits, which is there.
-fn known(number: Option<Number>) -> Number
+fn question_number(number: Option<Number>) -> Number
     requires there { IsSome number }
     ensures { result ≡ unwrap_or number 0 }
 {

@@ -23,7 +23,8 @@ pub fn take_message(
     apdu: &Apdu,
 ) -> Result<Taking, Refusal>
     requires same { is_same_txn apdu.now.txn responder.old.txn ≡ true }
-    ensures { MayWantMemory (take_message responder.old apdu.now apdu.now.body) (takes_memory responder.old apdu.now.body) responder.old result responder.new }
+    ensures { MayWantMemory (take_message responder.old apdu.now apdu.now.body)
+        (takes_memory responder.old apdu.now.body) responder.old result responder.new }
 {
     match &apdu.body {
         Body::IllRequest { .. } => take_request(responder, alloc, apdu),
@@ -41,7 +42,8 @@ pub fn take_message(
 fn take_request(responder: &mut Responder, alloc: Global, apdu: &Apdu) -> Result<Taking, Refusal>
     requires same { is_same_txn apdu.now.txn responder.old.txn ≡ true }
     requires request { is_ill_request apdu.now.body ≡ true }
-    ensures { MayWantMemory (take_request responder.old apdu.now) (is_among (states.Idle ∷ []) responder.old.state) responder.old result responder.new }
+    ensures { MayWantMemory (take_request responder.old apdu.now)
+        (is_among (states.Idle ∷ []) responder.old.state) responder.old result responder.new }
 {
     if responder.state != State::Idle {
         return Ok(Taking::Repeat);
@@ -72,7 +74,9 @@ fn take_yes(responder: &mut Responder, answers: Number) -> Taking
 
 #[tactic(auto, using(crate::proofs::ResponderKept::no_kept))]
 fn take_no(responder: &mut Responder, alloc: Global) -> Result<Taking, Refusal>
-    ensures { MayWantMemory (take_no responder.old) (is_among (states.InProcess ∷ states.Conditional ∷ []) responder.old.state) responder.old result responder.new }
+    ensures { MayWantMemory (take_no responder.old)
+        (is_among (states.InProcess ∷ states.Conditional ∷ []) responder.old.state) responder.old
+        result responder.new }
 {
     match responder.state {
         State::InProcess | State::Conditional => {

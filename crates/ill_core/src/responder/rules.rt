@@ -4,16 +4,16 @@ ghost use Rattle.std.specs.Prelude.{◌≡◌, ◌↔◌, true, false, not, ◌&
 ghost use Rattle.std.specs.List.{list_all, filter_map, count_by};
 ghost use Rattle.ill_core.specs.Bodies.{is_requesters, is_shipped, is_renewal, is_checked_in, names_conditions};
 ghost use Rattle.ill_core.specs.Issued.{is_none, granted_day, has};
-ghost use Rattle.ill_core.specs.Responder.{rises, PartsFit, IssuedFits, is_request_of, is_named, are_rising, ships_first, ends_with_conditions};
+ghost use Rattle.ill_core.specs.Responder.{rises, PartsFit, IssuedFits, IssuedKeepsRules, is_request_of, is_named, are_rising, ships_first, ends_with_conditions};
 
 use super::deliveries::{is_conditional, is_later};
 use crate::issued::{granted_day, is_requesters};
 use crate::state::State;
 use ill_values::{Apdu, Body, Day, Number, TxnId};
 
-/// Whether what was issued keeps the rules.
+/// Whether what was issued keeps the rules of a responder in this state.
 pub fn are_kept(state: State, accepted: &Option<Number>, apdus: &[Apdu]) -> bool
-    ensures { (result ≡ true) ↔ (list_all (λ a. not (is_requesters a.body)) apdus.now ≡ true) × IssuedFits state apdus.now × (is_named accepted.now apdus.now ≡ true) × (are_rising (filter_map granted_day apdus.now) ≡ true) × (ships_first apdus.now ≡ true) }
+    ensures { (result ≡ true) ↔ IssuedKeepsRules state accepted.now apdus.now }
 {
     if !is_role(apdus) {
         return false;
@@ -47,20 +47,27 @@ pub fn is_role(apdus: &[Apdu]) -> bool
     apdus.iter().all(|apdu| !is_requesters(&apdu.body))
 }
 
-/// Which parts are there.
+/// Which parts of a responder are there.
 #[derive(Clone, Copy, Debug, PartialEq, Eq, Hash)]
 pub struct Present {
+    /// The ILL-Request.
     pub request: bool,
+    /// The number of the conditions accepted last.
     pub accepted: bool,
+    /// The number of the last Cancel.
     pub last_cancel: bool,
+    /// The number of the last Renew.
     pub last_renew: bool,
+    /// Whether a Received was taken.
     pub received: bool,
+    /// Whether no message was issued.
     pub nothing_issued: bool,
 }
 
 /// Whether the state has the parts that it wants.
 pub fn parts_fit(state: State, present: Present) -> bool
-    ensures { (result ≡ true) ↔ PartsFit state present.request present.accepted present.last_cancel present.last_renew present.received present.nothing_issued }
+    ensures { (result ≡ true) ↔ PartsFit state present.request present.accepted present.last_cancel
+        present.last_renew present.received present.nothing_issued }
 {
     match state {
         State::Pending | State::Received | State::NotReceivedOverdue => false,
@@ -73,7 +80,8 @@ pub fn parts_fit(state: State, present: Present) -> bool
 }
 
 fn is_empty(present: Present) -> bool
-    ensures { result ≡ (not present.request && (not present.accepted && (not present.last_cancel && (not present.last_renew && (not present.received && present.nothing_issued))))) }
+    ensures { result ≡ (not present.request && (not present.accepted && (not present.last_cancel
+        && (not present.last_renew && (not present.received && present.nothing_issued))))) }
 {
     !present.request
         && !present.accepted

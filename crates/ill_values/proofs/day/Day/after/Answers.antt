@@ -13,27 +13,27 @@ span_of_days n given s few e only =
     let fits : FitsSigned w64 given = rw e (omega (arith, signed_arith)) in
     rw e at (simp to_z-of_z at only)
 
-pub returns-then-days-gt-MOST_DAYS-clause-value : goal.returns-then-days-gt-MOST_DAYS-clause-value
-returns-then-days-gt-MOST_DAYS-clause-value c = refused_too_many c.args.days c.args.self.now c.to_civil-date.ensures.valid c.if-days-gt-MOST_DAYS.true
+pub returns-then-days-gt-MAX_DAYS-clause-value : goal.returns-then-days-gt-MAX_DAYS-clause-value
+returns-then-days-gt-MAX_DAYS-clause-value c = refused_too_many c.args.days c.args.self.now c.to_civil-date.ensures.valid c.if-days-gt-MAX_DAYS.true
 
 pub from_civil-requires : goal.from_civil-requires
 from_civil-requires c =
     let date = c.to_civil-date in
-    let span = span_of_days c.args.days c.from.result c.days.result c.if-days-gt-MOST_DAYS.false c.from.ensures c.days.ensures in
+    let span = span_of_days c.args.days c.from.result c.days.result c.if-days-gt-MAX_DAYS.false c.from.ensures c.days.ensures in
     let number = c.in-Ok.ensures.value ∙ date_add-days date.result (pos c.args.days) c.days.result span in
     reached_year c.args.days c.args.self.now date.result c.in-Ok.later date.ensures.valid date.ensures.value number
 
 pub returns-in-Ok-clause-value : goal.returns-in-Ok-clause-value
 returns-in-Ok-clause-value c =
     let date = c.to_civil-date in
-    let span = span_of_days c.args.days c.from.result c.days.result c.if-days-gt-MOST_DAYS.false c.from.ensures c.days.ensures in
+    let span = span_of_days c.args.days c.from.result c.days.result c.if-days-gt-MAX_DAYS.false c.from.ensures c.days.ensures in
     let number = c.in-Ok.ensures.value ∙ date_add-days date.result (pos c.args.days) c.days.result span in
     c.from_civil.ensures ∙ reached c.args.days c.args.self.now date.result c.in-Ok.later date.ensures.valid date.ensures.value number
 
 pub returns-in-Err-clause-value : goal.returns-in-Err-clause-value
 returns-in-Err-clause-value c =
     let date = c.to_civil-date in
-    let span = span_of_days c.args.days c.from.result c.days.result c.if-days-gt-MOST_DAYS.false c.from.ensures c.days.ensures in
+    let span = span_of_days c.args.days c.from.result c.days.result c.if-days-gt-MAX_DAYS.false c.from.ensures c.days.ensures in
     let can = can_add-days date.result (pos c.args.days) c.days.result span in
     refused_beyond c.args.days c.args.self.now date.result date.ensures.valid date.ensures.value
     (λ day. let none : false ≡ true = c.in-Err.ensures.succeeds.1 (can.1 day) in cc)

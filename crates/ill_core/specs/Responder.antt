@@ -79,7 +79,7 @@ abbrev pub is_named : Option ℕ → List Apdu → Bool
 is_named None apdus = true
 is_named (Some c) apdus = was names_conditions apdus c
 
--- there is no request exactly in IDLE; it is an ILL-Request of the transaction
+-- there is no request, or it is an ILL-Request of the transaction
 abbrev pub is_request_of : Qualifiers → Option Apdu → Bool
 is_request_of txn None = true
 is_request_of txn (Some a) = is_same_txn a.txn txn && is_ill_request a.body

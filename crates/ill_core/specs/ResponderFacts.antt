@@ -148,7 +148,7 @@ TakesNew question number body y new =
     (asks question body ≡ true) × (is_at_most number (last_asked question y) ≡ false)
     × (last_asked question new ≡ Some number)
 
--- the numbers of the questions that were answered_number, in the order of the answers
+-- the numbers of the questions that were answered, in the order of the answers
 abbrev pub answers_to : Question → List Apdu → List ℕ
 answers_to question apdus = filter_map (λ a. answered_number question a.body) apdus
 

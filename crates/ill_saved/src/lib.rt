@@ -1,4 +1,4 @@
-//! Saved records of the sides of an interlibrary loan.
+//! Saved records of the sides of an interlibrary loan, stores for them, and one side with its store.
 #![tactic(auto)]
 
 mod cursor;

@@ -6,6 +6,7 @@
 #![tactic(auto)]
 
 mod actions;
+mod again;
 mod bench;
 mod calls;
 mod desks;

@@ -1,5 +1,6 @@
 //! What bytes are as a saved record, and what the readers of a side tell.
 
+use crate::again::written_and_read;
 use crate::line::Line;
 use crate::runs::Run;
 use crate::words::{body_name, write_record_fault};
@@ -24,7 +25,7 @@ pub fn write_side(alloc: Global, line: &mut Line, side: &Side, bytes: &[u8]) {
     }
     write_issued(alloc, line, side);
     let is_same = match encode_record(alloc, side) {
-        Ok(record) => record.as_slice() == bytes,
+        Ok(record) => record.as_slice() == bytes && written_and_read(alloc, side).is_ok(),
         Err(_) => false,
     };
     line.text(if is_same {

@@ -1,7 +1,7 @@
 //! What lies on the bench: nothing at first, then a store, or a desk with its store.
 
 ghost use Rattle.std.specs.Prelude.{◌≡◌, IfSome};
-ghost use Rattle.ill_saved.specs.Desk.{idle_of};
+ghost use Rattle.ill_saved.specs.Side.{idle_of};
 
 use crate::calls::{BytesCall, WordsCall};
 use crate::desks;

@@ -121,7 +121,8 @@ impl Bench {
         }
         match &mut self.side {
             Some(side) => happen(self.alloc, side, &mut self.record, event, effect, is_new),
-            None => (event.absent(), ""),
+            None if self.record.is_readable => (event.absent(), ""),
+            None => (event.absent(), "!"),
         }
     }
 }

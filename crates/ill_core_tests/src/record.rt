@@ -257,9 +257,20 @@ impl Record {
         }
     }
 
-    /// Has no wanted message of this letter any more.
+    /// Wants no message of this letter any more.
     fn leave_out(&mut self, word: &str) {
+        let _ = self.words.push(' ');
         let _ = self.words.push_str(word);
+    }
+
+    /// Whether it has a message of this letter, or is to be without.
+    fn has(&self, letter: &str) -> bool {
+        for word in self.words.split_whitespace() {
+            if word.starts_with(letter) {
+                return true;
+            }
+        }
+        false
     }
 
     /// Wants nothing behind the word `only`.
@@ -279,7 +290,7 @@ impl Record {
         let wanted = self.wanted;
         self.wanted = &[];
         for letter in wanted {
-            if !self.words.contains(*letter) {
+            if !self.has(letter) {
                 self.push(alloc, letter);
             }
         }

@@ -42,7 +42,7 @@ use Rattle.ill_saved.proofs.RecordLaws.{side_again}
 use Rattle.ill_saved.specs.Desk.{landed_side, IsBackedBy, IsBackedByRead, IsBacked, DeskActs, DeskTakes, IsOneApdu, LoadsSide, IsFoundOrIdle}
 
 -- a row keeps the role and the transaction, and takes no message away
-abbrev Grows : Side → Side → Type 0
+abbrev pub Grows : Side → Side → Type 0
 Grows old new = (idle_of new ≡ idle_of old) × IsFrontOf (issued_of old) (issued_of new)
 
 one_more : (apdus : List Apdu) (a : Apdu) → IsFrontOf apdus (apdus ++ a ∷ [])
@@ -96,7 +96,7 @@ takes_grow (sides.Responder y) a =
     let new = (responder_deliveries.takes y a).1 in
     responder_grows y new (responder.takes_txn y a) (unfilled_grows y new a (responder.takes_issue y a))
 
-row_grows : (old new : Side) → IsRow old new → Grows old new
+pub row_grows : (old new : Side) → IsRow old new → Grows old new
 row_grows old new (acted action e) = acts_grow old new action e
 row_grows old new (took a e) = subst (Grows old) e (takes_grow old a)
 

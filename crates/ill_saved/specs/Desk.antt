@@ -1,6 +1,7 @@
 -- One side with its store (this profile's own).
 use Rattle.std.specs.Prelude.{◌≡◌, ◌⊎◌, ℕ, ◌≤◌, List, [], ◌∷◌, ◌++◌, length, Bool, Option, Some, None, is_ok, Result, Ok, Err, MatchResult, true, false}
 use Rattle.ill_values.specs.declared.apdu.Apdu.{Apdu}
+use Rattle.ill_values.specs.Apdu.{IsApdu}
 use Rattle.ill_der.specs.declared.fault.DerFault.{DerFault}
 use Rattle.ill_der.specs.ShortForm.{spelling}
 use Rattle.ill_core.specs.declared.refusal.Refusal.{Refusal}
@@ -16,6 +17,7 @@ use Rattle.ill_saved.specs.declared.fault.DeskFault.{DeskFault}
 use Rattle.ill_saved.specs.declared.fault.DeskFault.TheVariants.{Core, Bytes, Trailing, NoSuchMessage, NotSaved, Exists, NoRecord, Store, Saved, OutOfMemory}
 use Rattle.ill_saved.specs.Side.{issued_of, idle_of, IsConsistent, acts, takes, Follows}
 use Rattle.ill_saved.specs.Records.{record_at, begins_as_record, Decodes}
+use Rattle.ill_saved.specs.Ranges.{IsSide}
 use Rattle.ill_saved.specs.Store.{Allows, LandsAtFailure, CountsFailure, spent}
 
 -- the side in memory, its store, and how many of its messages may be sent
@@ -76,7 +78,7 @@ abbrev pub Sends : {X : Type 0} → (X → List ℕ) → Option Apdu → Bool �
 Sends view None is_released answer = answer ≡ Err NoSuchMessage
 Sends view (Some a) false answer = answer ≡ Err NotSaved
 Sends view (Some a) true answer =
-    MatchResult answer (λ bytes. view bytes ≡ spelling a) (λ fault. fault ≡ OutOfMemory)
+    MatchResult answer (λ bytes. IsApdu a × (view bytes ≡ spelling a)) (λ fault. fault ≡ OutOfMemory)
 
 -- after a save all messages are released; after a fault those that were
 abbrev pub released_after : Result (Unit {0}) DeskFault → Side → ℕ → ℕ
@@ -91,6 +93,11 @@ SaveLands plan bytes (Err (Store stores.Failed)) old new =
     LandsAtFailure plan bytes old new × Allows {X = Unit {0}} plan (Err stores.Failed)
 SaveLands plan bytes (Err OutOfMemory) old new = new ≡ old
 SaveLands plan bytes (Err other) old new = ⊥
+
+-- once a side could be spelled for its store, its parts are in range
+abbrev pub WasSpelled : Result (Unit {0}) DeskFault → Side → Type 0
+WasSpelled (Err OutOfMemory) live = Unit {0}
+WasSpelled answer live = IsSide live
 
 -- the plan is spent; want of memory may come before the store is called
 abbrev pub PlanAfter : Result (Unit {0}) DeskFault → Option NextCall → Option NextCall → Type 0

@@ -4,7 +4,7 @@ ghost use Rattle.std.specs.Prelude.{◌≡◌, ◌≤◌, true, length, nat_le, 
 ghost use Rattle.ill_core.specs.Issued.{message};
 ghost use Rattle.ill_saved.specs.Side.{issued_of, idle_of};
 ghost use Rattle.ill_saved.specs.Records.{record_spelling};
-ghost use Rattle.ill_saved.specs.Desk.{DeskOf, IsBacked, DeskActs, DeskTakes, IsOneApdu, Sends, released_after, SaveLands, PlanAfter, IsSaveFault, landed_side, LoadsSide, IsLoadFault, Restarts, RestartLeaves, IsFoundOrIdle, answer_of, store_of, Creates, IsCreateAnswer, Starts, IsStartAnswer, IsWhole, CountsDeskFailure};
+ghost use Rattle.ill_saved.specs.Desk.{DeskOf, IsBacked, DeskActs, DeskTakes, IsOneApdu, Sends, released_after, SaveLands, PlanAfter, IsSaveFault, landed_side, LoadsSide, IsLoadFault, Restarts, RestartLeaves, IsFoundOrIdle, answer_of, store_of, Creates, IsCreateAnswer, Starts, IsStartAnswer, IsWhole, CountsDeskFailure, WasSpelled};
 ghost use Rattle.ill_saved.specs.Store.{spent};
 ghost use Rattle.ill_der.specs.ShortForm.{apdu_at};
 
@@ -120,6 +120,7 @@ impl<S: Store> Desk1<S> {
             SaveLands (S.plan self.old.store) (record_spelling self.old.live) result
             (S.landed self.old.store) (S.landed self.new.store) }
         ensures plan { PlanAfter result (S.plan self.old.store) (S.plan self.new.store) }
+        ensures side { WasSpelled result self.old.live }
         ensures faults { IsSaveFault result }
         ensures counted { CountsDeskFailure result (S.failures self.old.store)
             (S.failures self.new.store) }

@@ -3,7 +3,7 @@
 ghost use Rattle.std.specs.Prelude.{◌≡◌, ℕ, List, Ok};
 ghost use Rattle.ill_der.specs.Laws.{IsBytes};
 ghost use Rattle.ill_saved.specs.declared.side.Side.{Side};
-ghost use Rattle.ill_saved.specs.Side.{issued_of, Follows, IsFrontOf};
+ghost use Rattle.ill_saved.specs.Side.{issued_of, idle_of, IsRow, Follows, IsFrontOf};
 ghost use Rattle.ill_saved.specs.Records.{record_at, record_spelling};
 ghost use Rattle.ill_saved.specs.Ranges.{IsInRange, IsSide};
 
@@ -23,6 +23,11 @@ pub fn spelled()
 /// No bytes spell two sides.
 pub fn one_side()
     ensures { (s t : Side) → IsSide s → IsSide t → record_spelling s ≡ record_spelling t → s ≡ t }
+{}
+
+/// A row keeps the role and the transaction of a side.
+pub fn row_keeps_idle()
+    ensures { (old new : Side) → IsRow old new → idle_of new ≡ idle_of old }
 {}
 
 /// What a side has issued is the front of what a side that follows from it has issued.

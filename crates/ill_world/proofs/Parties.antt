@@ -1,0 +1,28 @@
+-- What a desk answers, as a party answers it.
+use Rattle.std.proofs.Common.{rules, ◌≡◌, List, [], ℕ, Option, Some, Result, Ok, Err, refl, sym, ap, subst, ◌∙◌}
+use Rattle.ill_values.specs.declared.apdu.Apdu.{Apdu}
+use Rattle.ill_der.specs.declared.fault.DerFault.{DerFault}
+use Rattle.ill_core.specs.declared.refusal.Refusal.{Refusal}
+use Rattle.ill_core.specs.declared.taking.Taking.{Taking}
+use Rattle.ill_saved.specs.declared.side.Side.{Side}
+use Rattle.ill_saved.specs.declared.fault.DeskFault.{DeskFault}
+use Rattle.ill_saved.specs.declared.fault.DeskFault.TheVariants as faults
+use Rattle.ill_saved.specs.Side.{idle_of, takes, IsRow, took}
+use Rattle.ill_saved.specs.Desk.{landed_side, DeskTakes}
+
+-- a row keeps the role and the transaction
+abbrev pub KeepsIdle : Type 0
+KeepsIdle = (old new : Side) → IsRow old new → idle_of new ≡ idle_of old
+
+-- what a desk answers to exactly one APDU, and the side after it
+pub takes_one : (old new : Side) (read : Result (Apdu × List ℕ) DerFault) (a : Apdu) (answer : Result Taking DeskFault) → read ≡ Ok (a, []) → DeskTakes old read answer new
+    → DeskTakes old (Ok (a, [])) answer new
+takes_one old new read a answer e takes = subst (λ r. DeskTakes old r answer new) e takes
+
+-- it keeps the role and the transaction
+pub taken_idle : KeepsIdle → (old new : Side) (a : Apdu) (answer : Result Taking DeskFault) → DeskTakes old (Ok (a, [])) answer new → idle_of new ≡ idle_of old
+taken_idle keeps old new a (Ok answered) is = keeps old new (took a (ap (λ (r : Result Taking Refusal × Side). r.1) is))
+taken_idle keeps old new a (Err (faults.Core refusal)) is = keeps old new (took a (ap (λ (r : Result Taking Refusal × Side). r.1) is))
+taken_idle keeps old new a (Err faults.OutOfMemory) is = ap idle_of is
+taken_idle keeps old new a (Err faults.Trailing) is = absurd is
+taken_idle keeps old new a (Err other) is = absurd is

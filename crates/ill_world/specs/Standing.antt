@@ -1,0 +1,64 @@
+-- How the two-party model sees what a party has in memory and in its store.
+use Rattle.std.specs.Prelude.{◌≡◌, ◌≤◌, ℕ, List, [], length, Option, Result, Ok, Err}
+use Rattle.ill_values.specs.declared.apdu.Apdu.{Apdu}
+use Rattle.ill_values.specs.declared.apdu.Body.TheVariants.{Cancel}
+use Rattle.ill_der.specs.declared.fault.DerFault.{DerFault}
+use Rattle.ill_saved.specs.declared.fault.LayoutFault.{LayoutFault}
+use Rattle.ill_saved.specs.declared.side.Side.{Side}
+use Rattle.ill_saved.specs.declared.side.Side.TheVariants as sides
+use Rattle.ill_saved.specs.declared.store.NextCall.TheVariants.{Works}
+use Rattle.ill_saved.specs.Side.{idle_of}
+use Rattle.ill_saved.specs.Store.{Memory}
+use Rattle.ill_saved.specs.Desk.{DeskOf, landed_side}
+use Rattle.ill_world.specs.declared.event.Outcome.{Outcome}
+use Rattle.ill_world.specs.World.{Party, Parties}
+
+-- ---- messages
+
+-- the APDU that bytes are which are none
+abbrev no_apdu : Apdu
+no_apdu = record { txn = record { group = []; transaction = [] }; number = 0; body = Cancel }
+
+-- the APDU at the front of bytes
+abbrev pub apdu_of : Result (Apdu × List ℕ) DerFault → Apdu
+apdu_of (Ok (a, rest)) = a
+apdu_of (Err fault) = no_apdu
+
+-- ---- parties
+
+-- the side that was read; there is one where the store is honest
+abbrev pub side_or : Side → Result Side LayoutFault → Side
+side_or live (Ok side) = side
+side_or live (Err fault) = live
+
+-- the side that has landed in the store of a desk
+abbrev pub landed_of : DeskOf Memory → Side
+landed_of desk = side_or desk.live (landed_side desk.store.landed desk.live)
+
+-- the party that a desk and the messages sent from it stand for
+abbrev pub party_of : DeskOf Memory → List (Option Apdu) → Party
+party_of desk sent = record { live = desk.live; landed = landed_of desk; released = desk.released; sent = sent }
+
+-- Between two events the next call of the store works, and what has landed is a side of the same
+-- role and transaction.
+pub record IsReady (desk : DeskOf Memory) : Type 0 where
+  pub works : desk.store.next ≡ Works
+  pub landed : landed_side desk.store.landed desk.live ≡ Ok (landed_of desk)
+  pub idle : idle_of (landed_of desk) ≡ idle_of desk.live
+
+-- ---- answers
+
+-- what a party answers to an event, and the party after it: as expected, or nothing has changed for
+-- want of memory
+abbrev pub Gives : {M P : Type 0} → Outcome × P → P → Result Outcome M → P → Type 0
+Gives expected old (Ok outcome) new = expected ≡ (outcome, new)
+Gives expected old (Err memory) new = new ≡ old
+
+-- the two sides of a world have different roles
+abbrev pub IsRequester : Side → Type 0
+IsRequester (sides.Requester x) = Unit {0}
+IsRequester (sides.Responder y) = ⊥
+
+abbrev pub IsResponder : Side → Type 0
+IsResponder (sides.Requester x) = ⊥
+IsResponder (sides.Responder y) = Unit {0}

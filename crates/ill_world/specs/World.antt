@@ -1,0 +1,159 @@
+-- The two-party model: two sides, what has landed of each, and what each has sent (this profile's
+-- own). It knows no bytes but those of noise, and no stores.
+use Rattle.std.specs.Prelude.{◌≡◌, ℕ, zero, suc, Bool, true, false, nat_le, List, [], ◌∷◌, length, replicate, slice_get, Option, Some, None, Result, Ok, Err, if◌then◌else◌}
+use Rattle.std.specs.List.{slice_set}
+use Rattle.std.specs.Option.{option_flatten}
+use Rattle.ill_values.specs.declared.apdu.Apdu.{Apdu}
+use Rattle.ill_values.specs.TxnId.{Qualifiers}
+use Rattle.ill_der.specs.declared.fault.DerFault.{DerFault}
+use Rattle.ill_der.specs.ShortForm.{apdu_at}
+use Rattle.ill_core.specs.declared.state.State.TheVariants.{Idle}
+use Rattle.ill_core.specs.declared.refusal.Refusal.{Refusal}
+use Rattle.ill_core.specs.declared.refusal.Refusal.TheVariants.{OtherTransaction}
+use Rattle.ill_core.specs.declared.taking.Taking.{Taking}
+use Rattle.ill_core.specs.Issued.{message, is_same_txn}
+use Rattle.ill_core.specs.Requester.{requester_of}
+use Rattle.ill_core.specs.Responder.{responder_of}
+use Rattle.ill_saved.specs.declared.side.Side.{Side}
+use Rattle.ill_saved.specs.declared.side.Side.TheVariants as sides
+use Rattle.ill_saved.specs.declared.side.Action.{Action}
+use Rattle.ill_saved.specs.declared.side.Action.TheVariants as actions
+use Rattle.ill_saved.specs.Side.{issued_of, txn_of, acts, takes}
+use Rattle.ill_world.specs.declared.event.Who.{Who}
+use Rattle.ill_world.specs.declared.event.Who.TheVariants.{Requester, Responder}
+use Rattle.ill_world.specs.declared.event.Event.{Event}
+use Rattle.ill_world.specs.declared.event.Event.TheVariants.{Wish, Deed, Save, SaveFault, Send, Deliver, Noise, Restart}
+use Rattle.ill_world.specs.declared.event.Outcome.{Outcome}
+use Rattle.ill_world.specs.declared.event.Outcome.TheVariants.{Done, Saved, Faulted, Sent, Answered, Refused, NoSuchMessage, NotSaved, NotSent, Garbled, Forged, Restarted}
+
+-- ---- the world
+
+-- A party: its side as it is in memory; its side as it has landed, which is idle where nothing has;
+-- how many of its messages are released; and by number the messages that it has sent, the n-th being
+-- message n.
+pub record Party : Type 0 where
+  pub live : Side
+  pub landed : Side
+  pub released : ℕ
+  pub sent : List (Option Apdu)
+
+pub record Parties : Type 0 where
+  pub requester : Party
+  pub responder : Party
+
+-- a party that has done nothing yet
+abbrev pub first_party : Side → Party
+first_party idle = record { live = idle; landed = idle; released = 0; sent = replicate 255 None }
+
+-- the two idle sides of a transaction
+abbrev pub first_world : Qualifiers → Parties
+first_world txn = record {
+  requester = first_party (sides.Requester (requester_of txn Idle None false None []));
+  responder = first_party (sides.Responder (responder_of txn Idle None None None false None []));
+}
+
+abbrev pub other : Who → Who
+other Requester = Responder
+other Responder = Requester
+
+abbrev pub party : Parties → Who → Party
+party w Requester = w.requester
+party w Responder = w.responder
+
+abbrev pub with_party : Parties → Who → Party → Parties
+with_party w Requester p = record w { requester = p }
+with_party w Responder p = record w { responder = p }
+
+-- message n of a party, if it has sent it
+abbrev pub sent_message : List (Option Apdu) → ℕ → Option Apdu
+sent_message sent zero = None
+sent_message sent (suc n) = option_flatten (slice_get sent n)
+
+-- the messages that were sent, and message n
+abbrev pub with_sent : List (Option Apdu) → ℕ → Apdu → List (Option Apdu)
+with_sent sent zero a = sent
+with_sent sent (suc n) a = slice_set sent n (Some a)
+
+-- ---- one event
+
+-- a decision of the library
+abbrev pub decides : Party → Result Side Refusal → Outcome × Party
+decides p (Ok new) = (Done, record p { live = new })
+decides p (Err refusal) = (Refused refusal, p)
+
+-- A save lands the live record, and releases all its messages.
+abbrev pub saves : Party → Party
+saves p = record p { landed = p.live; released = length (issued_of p.live) }
+
+-- A save that fails may have landed. It releases nothing.
+abbrev pub fails_to_save : Party → Bool → Party
+fails_to_save p true = record p { landed = p.live }
+fails_to_save p false = p
+
+-- A message that was issued may be sent once it is released.
+abbrev pub sends : Party → ℕ → Option Apdu → Bool → Outcome × Party
+sends p n None is_released = (NoSuchMessage, p)
+sends p n (Some a) false = (NotSaved, p)
+sends p n (Some a) true = (Sent, record p { sent = with_sent p.sent n a })
+
+-- what is seen of a message that was delivered
+abbrev pub answer_to : Result Taking Refusal → Outcome
+answer_to (Ok taking) = Answered taking
+answer_to (Err refusal) = Refused refusal
+
+-- a message of the other party
+abbrev pub takes_message : Party → Apdu → Outcome × Party
+takes_message p a = (answer_to (takes p.live a).0, record p { live = (takes p.live a).1 })
+
+-- Only a message that the other party has sent is delivered.
+abbrev pub receives : Party → Option Apdu → Outcome × Party
+receives p None = (NotSent, p)
+receives p (Some a) = takes_message p a
+
+-- What other bytes are, by what stands at their front. They change nothing: nobody forges an APDU of
+-- the transaction, and one of another is refused.
+abbrev pub hears : Party → Result (Apdu × List ℕ) DerFault → Outcome
+hears p (Ok (a, [])) = if is_same_txn a.txn (txn_of p.live) then Forged else Refused OtherTransaction
+hears p (Ok (a, byte ∷ rest)) = Garbled
+hears p (Err fault) = Garbled
+
+-- A restart takes the record that has landed, and releases all its messages.
+abbrev pub restarts : Party → Party
+restarts p = record p { live = p.landed; released = length (issued_of p.landed) }
+
+-- What is seen of an event, and the party after it to whom it happens. The other party has sent
+-- these messages.
+abbrev pub happens_to : Party → List (Option Apdu) → Event → Outcome × Party
+happens_to p sent (Wish wish) = decides p (acts p.live (actions.Wish wish))
+happens_to p sent (Deed deed today) = decides p (acts p.live (actions.Deed deed today))
+happens_to p sent (Save who) = (Saved, saves p)
+happens_to p sent (SaveFault who landed) = (Faulted, fails_to_save p landed)
+happens_to p sent (Send who n) = sends p n (message (issued_of p.live) n) (nat_le n p.released)
+happens_to p sent (Deliver who n) = receives p (sent_message sent n)
+happens_to p sent (Noise who bytes) = (hears p (apdu_at bytes), p)
+happens_to p sent (Restart who) = (Restarted, restarts p)
+
+-- to whom an event happens
+abbrev pub who_of : Event → Who
+who_of (Wish wish) = Requester
+who_of (Deed deed today) = Responder
+who_of (Save who) = who
+who_of (SaveFault who landed) = who
+who_of (Send who n) = who
+who_of (Deliver who n) = who
+who_of (Noise who bytes) = who
+who_of (Restart who) = who
+
+-- What is seen of an event, and the world after it: the other party stays as it is.
+abbrev pub happens : Parties → Event → Outcome × Parties
+happens w event =
+    let who = who_of event in
+    let after = happens_to (party w who) (party w (other who)).sent event in
+    (after.0, with_party w who after.1)
+
+-- ---- a run: one event after another
+
+-- the world after events
+unfoldable pub run_of : Parties → List Event → Parties
+run_of w [] = w
+run_of w (event ∷ events) = run_of (happens w event).1 events

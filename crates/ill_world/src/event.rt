@@ -1,0 +1,103 @@
+//! What may happen to two sides, and what is seen of it.
+
+ghost use Rattle.std.specs.Prelude.{◌≡◌};
+ghost use Rattle.ill_world.specs.World.{who_of, other};
+
+use crate::bytes::Bytes;
+use ill_core::{Deed, Refusal, Taking, Wish};
+use ill_values::{Day, Number};
+
+/// One of the two sides.
+#[derive(Clone, Copy, Debug, PartialEq, Eq, Hash)]
+pub enum Who {
+    /// The side that asks for an item.
+    Requester,
+    /// The side that is asked for it.
+    Responder,
+}
+
+impl Who {
+    /// The other side.
+    pub fn other(self) -> Who
+        ensures { result ≡ other self }
+    {
+        match self {
+            Who::Requester => Who::Responder,
+            Who::Responder => Who::Requester,
+        }
+    }
+}
+
+/// What may happen to one of the two sides.
+#[derive(Debug, PartialEq, Eq, Drop)]
+pub enum Event {
+    /// The requester's library decides this.
+    Wish(Wish),
+    /// The responder's library decides this, on this day.
+    Deed(Deed, Day),
+    /// The side is saved.
+    Save(Who),
+    /// A save fails.
+    SaveFault {
+        /// Whose save it is.
+        who: Who,
+        /// Whether the new record has landed nevertheless.
+        landed: bool,
+    },
+    /// The side sends its message with this number.
+    Send(Who, Number),
+    /// The message of the other side with this number reaches this side.
+    Deliver(Who, Number),
+    /// Other bytes reach the side.
+    Noise(Who, Bytes),
+    /// The side begins again from the record that has landed.
+    Restart(Who),
+}
+
+impl Event {
+    /// The side that it happens to.
+    pub fn who(&self) -> Who
+        ensures { result ≡ who_of self.now }
+    {
+        match self {
+            Event::Wish(_) => Who::Requester,
+            Event::Deed(_, _) => Who::Responder,
+            Event::Save(who)
+            | Event::SaveFault { who, .. }
+            | Event::Send(who, _)
+            | Event::Deliver(who, _)
+            | Event::Noise(who, _)
+            | Event::Restart(who) => *who,
+        }
+    }
+}
+
+/// What is seen of an event. Those from `Refused` on to `Forged` change nothing, and neither does
+/// `Answered` with another taking than `Taken`.
+#[derive(Clone, Copy, Debug, PartialEq, Eq, Hash)]
+pub enum Outcome {
+    /// The action was done.
+    Done,
+    /// The side was saved, and all its messages are released.
+    Saved,
+    /// The save failed; no message is released by it.
+    Faulted,
+    /// The message was sent.
+    Sent,
+    /// The message was delivered, and this is what it did.
+    Answered(Taking),
+    /// The action or the message was refused.
+    Refused(Refusal),
+    /// The side has issued no message with this number.
+    NoSuchMessage,
+    /// The message is not known to be saved, so it may not be sent.
+    NotSaved,
+    /// The other side has sent no message with this number.
+    NotSent,
+    /// The bytes are not exactly one APDU.
+    Garbled,
+    /// The bytes are an APDU of this transaction, which only the other side may send.
+    Forged,
+    /// The side has begun again from the record that has landed.
+    Restarted,
+}

@@ -1,0 +1,43 @@
+//! A message that was sent.
+
+ghost use Rattle.std.specs.Prelude.{◌≡◌, [], Ok};
+ghost use Rattle.ill_values.specs.declared.apdu.Apdu.{Apdu};
+ghost use Rattle.ill_values.specs.Apdu.{IsApdu};
+ghost use Rattle.ill_der.specs.ShortForm.{spelling, apdu_at};
+ghost use Rattle.ill_world.specs.Standing.{apdu_of};
+
+use ill_der::laws::read_again;
+use std::marker::Model;
+
+/// A message as it was sent: its bytes, which are exactly one APDU. Contracts see that APDU.
+#[derive(Debug, Drop)]
+pub struct Message {
+    bytes: Vec<u8>,
+}
+
+impl Model for Message {
+    ghost Value = { Apdu };
+
+    ghost view = { λ message. apdu_of (apdu_at message.bytes.items) };
+
+    ghost invariant = { λ message. apdu_at message.bytes.items
+        ≡ Ok (apdu_of (apdu_at message.bytes.items), []) };
+}
+
+impl Message {
+    /// The message with these bytes.
+    pub fn new(bytes: Vec<u8>) -> Message
+        requires spelled { (a : Apdu) × IsApdu a × (bytes.items ≡ spelling a) }
+        ensures { (a : Apdu) → IsApdu a → bytes.items ≡ spelling a → result ≡ a }
+    {
+        read_again();
+        Message { bytes }
+    }
+
+    /// The bytes of the message.
+    pub fn bytes(&self) -> &[u8]
+        ensures { apdu_at result.now ≡ Ok (self.now, []) }
+    {
+        &self.bytes
+    }
+}

@@ -1,0 +1,155 @@
+//! One of the two sides, with its store and what it has sent.
+
+ghost use Rattle.std.specs.Prelude.{◌≡◌, length, nat_le, option_map, IfOk};
+ghost use Rattle.ill_der.specs.ShortForm.{apdu_at};
+ghost use Rattle.ill_core.specs.Issued.{message};
+ghost use Rattle.ill_saved.specs.Side.{acts, issued_of, idle_of};
+ghost use Rattle.ill_world.specs.World as model;
+ghost use Rattle.ill_world.specs.declared.event.Outcome.TheVariants as outcomes;
+ghost use Rattle.ill_world.specs.Standing.{party_of, IsReady, Gives};
+
+use crate::event::Outcome;
+use crate::message::Message;
+use ill_core::Refusal;
+use ill_der::{DerFault, decode};
+use ill_saved::laws::{read_again, row_keeps_idle};
+use ill_saved::{Action, Desk1, DeskFault, MemoryStore, NextCall, Side, StoreFault};
+use ill_values::{Number, OutOfMemory};
+use std::alloc::Global;
+use std::marker::Model;
+
+/// How many messages a side may send: one for each number.
+const MESSAGES: usize = 255;
+
+/// One of the two sides: its desk, and by number the messages that it has sent.
+#[derive(Debug, Drop)]
+pub struct Party {
+    desk: Desk1<MemoryStore>,
+    sent: Vec<Option<Message>>,
+}
+
+impl Model for Party {
+    ghost Value = { model.Party };
+
+    ghost view = { λ p. party_of p.desk p.sent.items };
+
+    ghost invariant = { λ p. IsReady p.desk × (length p.sent.items ≡ 255) };
+}
+
+impl Party {
+    /// Does what the library decides.
+    pub fn act(&mut self, alloc: Global, action: &Action) -> Result<Outcome, OutOfMemory>
+        ensures gives { Gives (model.decides self.old (acts self.old.live action.now))
+            self.old result self.new }
+        ensures idle { idle_of self.new.live ≡ idle_of self.old.live }
+    {
+        row_keeps_idle();
+        match self.desk.act(alloc, action) {
+            Ok(()) => Ok(Outcome::Done),
+            Err(DeskFault::Core(refusal)) => Ok(Outcome::Refused(refusal)),
+            Err(DeskFault::OutOfMemory) => Err(OutOfMemory),
+            Err(_) => unreachable!(),
+        }
+    }
+
+    /// Takes a message of the other side.
+    pub fn take(&mut self, alloc: Global, message: &Message) -> Result<Outcome, OutOfMemory>
+        ensures gives { Gives (model.takes_message self.old message.now) self.old result self.new }
+        ensures idle { idle_of self.new.live ≡ idle_of self.old.live }
+    {
+        row_keeps_idle();
+        match self.desk.take_bytes(alloc, message.bytes()) {
+            Ok(taking) => Ok(Outcome::Answered(taking)),
+            Err(DeskFault::Core(refusal)) => Ok(Outcome::Refused(refusal)),
+            Err(DeskFault::OutOfMemory) => Err(OutOfMemory),
+            Err(_) => unreachable!(),
+        }
+    }
+
+    /// Saves the side.
+    pub fn save(&mut self, alloc: Global) -> Result<Outcome, OutOfMemory>
+        ensures gives { Gives (outcomes.Saved, model.saves self.old) self.old result self.new }
+        ensures idle { idle_of self.new.live ≡ idle_of self.old.live }
+    {
+        read_again();
+        match self.desk.save(alloc) {
+            Ok(()) => Ok(Outcome::Saved),
+            Err(DeskFault::OutOfMemory) => Err(OutOfMemory),
+            Err(_) => unreachable!(),
+        }
+    }
+
+    /// Tries to save the side, and fails: the new record has landed, or it has not.
+    pub fn fail_to_save(&mut self, alloc: Global, landed: bool) -> Result<Outcome, OutOfMemory>
+        ensures gives { Gives (outcomes.Faulted, model.fails_to_save self.old landed)
+            self.old result self.new }
+        ensures idle { idle_of self.new.live ≡ idle_of self.old.live }
+    {
+        read_again();
+        self.desk.set_next(if landed {
+            NextCall::FailsNew
+        } else {
+            NextCall::FailsOld
+        });
+        match self.desk.save(alloc) {
+            Err(DeskFault::Store(StoreFault::Failed)) => Ok(Outcome::Faulted),
+            Err(DeskFault::OutOfMemory) => {
+                self.desk.set_next(NextCall::Works);
+                Err(OutOfMemory)
+            }
+            _ => unreachable!(),
+        }
+    }
+
+    /// Begins again from what has landed.
+    pub fn restart(&mut self, alloc: Global) -> Result<Outcome, OutOfMemory>
+        ensures gives { Gives (outcomes.Restarted, model.restarts self.old)
+            self.old result self.new }
+        ensures idle { idle_of self.new.live ≡ idle_of self.old.live }
+    {
+        match self.desk.restart(alloc) {
+            Ok(()) => Ok(Outcome::Restarted),
+            Err(DeskFault::OutOfMemory) => Err(OutOfMemory),
+            Err(_) => unreachable!(),
+        }
+    }
+
+    /// Sends the message with this number.
+    pub fn send(&mut self, alloc: Global, number: Number) -> Result<Outcome, OutOfMemory>
+        ensures gives { Gives (model.sends self.old number (message (issued_of self.old.live) number)
+            (nat_le number self.old.released)) self.old result self.new }
+        ensures idle { idle_of self.new.live ≡ idle_of self.old.live }
+    {
+        match self.desk.message(alloc, number) {
+            Ok(bytes) => {
+                self.sent[usize::from(number.get()) - 1] = Some(Message::new(bytes));
+                Ok(Outcome::Sent)
+            }
+            Err(DeskFault::NoSuchMessage) => Ok(Outcome::NoSuchMessage),
+            Err(DeskFault::NotSaved) => Ok(Outcome::NotSaved),
+            Err(DeskFault::OutOfMemory) => Err(OutOfMemory),
+            Err(_) => unreachable!(),
+        }
+    }
+
+    /// The message with this number, if it was sent.
+    pub fn sent(&self, number: Number) -> Option<&Message>
+        ensures { option_map (λ m. m.now) result ≡ model.sent_message self.now.sent number }
+    {
+        self.sent.get(usize::from(number.get()) - 1)?.as_ref()
+    }
+
+    /// The side, as it is in memory.
+    pub fn side(&self) -> &Side
+        ensures { result.now ≡ self.now.live }
+    {
+        self.desk.side()
+    }
+
+    /// How many messages of the side are released.
+    pub fn released(&self) -> u8
+        ensures { result ≡ self.now.released }
+    {
+        self.desk.released()
+    }
+}

@@ -1,6 +1,8 @@
 -- How the two-party model sees what a party has in memory and in its store.
-use Rattle.std.specs.Prelude.{◌≡◌, ◌≤◌, ℕ, List, [], length, Option, Result, Ok, Err}
+use Rattle.std.specs.Prelude.{◌≡◌, ◌≤◌, ℕ, Bool, false, List, [], ◌∷◌, length, Option, Result, Ok, Err}
 use Rattle.ill_values.specs.declared.apdu.Apdu.{Apdu}
+use Rattle.ill_values.specs.TxnId.{Qualifiers}
+use Rattle.ill_core.specs.Issued.{is_same_txn}
 use Rattle.ill_values.specs.declared.apdu.Body.TheVariants.{Cancel}
 use Rattle.ill_der.specs.declared.fault.DerFault.{DerFault}
 use Rattle.ill_saved.specs.declared.fault.LayoutFault.{LayoutFault}
@@ -23,6 +25,12 @@ no_apdu = record { txn = record { group = []; transaction = [] }; number = 0; bo
 abbrev pub apdu_of : Result (Apdu × List ℕ) DerFault → Apdu
 apdu_of (Ok (a, rest)) = a
 apdu_of (Err fault) = no_apdu
+
+-- whether bytes are an APDU of a transaction, by what stands at their front
+abbrev pub is_of : Qualifiers → Result (Apdu × List ℕ) DerFault → Bool
+is_of txn (Ok (a, [])) = is_same_txn a.txn txn
+is_of txn (Ok (a, byte ∷ rest)) = false
+is_of txn (Err fault) = false
 
 -- ---- parties
 

@@ -6,6 +6,8 @@ mod bytes;
 mod event;
 mod message;
 mod party;
+mod world;
 
 pub use bytes::Bytes;
 pub use event::{Event, Outcome, Who};
+pub use world::World;

@@ -1,16 +1,15 @@
 //! One of the two sides, with its store and what it has sent.
 
-ghost use Rattle.std.specs.Prelude.{◌≡◌, length, nat_le, option_map, IfOk};
+ghost use Rattle.std.specs.Prelude.{◌≡◌, false, None, replicate, length, nat_le, option_map, IfOk};
 ghost use Rattle.ill_der.specs.ShortForm.{apdu_at};
 ghost use Rattle.ill_core.specs.Issued.{message};
-ghost use Rattle.ill_saved.specs.Side.{acts, issued_of, idle_of};
+ghost use Rattle.ill_saved.specs.Side.{acts, issued_of, idle_of, txn_of};
 ghost use Rattle.ill_world.specs.World as model;
 ghost use Rattle.ill_world.specs.declared.event.Outcome.TheVariants as outcomes;
-ghost use Rattle.ill_world.specs.Standing.{party_of, IsReady, Gives};
+ghost use Rattle.ill_world.specs.Standing.{party_of, IsReady, Gives, is_of};
 
 use crate::event::Outcome;
 use crate::message::Message;
-use ill_core::Refusal;
 use ill_der::{DerFault, decode};
 use ill_saved::laws::{read_again, row_keeps_idle};
 use ill_saved::{Action, Desk1, DeskFault, MemoryStore, NextCall, Side, StoreFault};
@@ -37,6 +36,19 @@ impl Model for Party {
 }
 
 impl Party {
+    /// The party of a side that begins. Nothing is saved, and nothing was sent.
+    pub fn new(alloc: Global, first: Side) -> Result<Party, OutOfMemory>
+        requires idle { first ≡ idle_of first }
+        ensures { IfOk result (λ party. party ≡ model.first_party first) }
+    {
+        let sent = nothing_sent(alloc)?;
+        match Desk1::create(alloc, MemoryStore::new(alloc), first) {
+            Ok(desk) => Ok(Party { desk, sent }),
+            Err((DeskFault::OutOfMemory, _)) => Err(OutOfMemory),
+            Err(_) => unreachable!(),
+        }
+    }
+
     /// Does what the library decides.
     pub fn act(&mut self, alloc: Global, action: &Action) -> Result<Outcome, OutOfMemory>
         ensures gives { Gives (model.decides self.old (acts self.old.live action.now))
@@ -132,6 +144,44 @@ impl Party {
         }
     }
 
+    /// Is handed other bytes. An APDU of the transaction would be forged, and is not handed on.
+    pub fn hear(&mut self, alloc: Global, bytes: &[u8]) -> Result<Outcome, OutOfMemory>
+        ensures gives { Gives (model.hears self.old (apdu_at bytes.now), self.old)
+            self.old result self.new }
+        ensures idle { idle_of self.new.live ≡ idle_of self.old.live }
+    {
+        if self.is_forged(alloc, bytes)? {
+            return Ok(Outcome::Forged);
+        }
+        self.refuse(alloc, bytes)
+    }
+
+    /// Whether the bytes are an APDU of this transaction.
+    fn is_forged(&self, alloc: Global, bytes: &[u8]) -> Result<bool, OutOfMemory>
+        ensures { IfOk result (λ forged. forged ≡ is_of (txn_of self.now.live) (apdu_at bytes.now)) }
+    {
+        match decode(alloc, bytes) {
+            Ok((apdu, size)) => Ok(size == bytes.len() && apdu.txn == *self.side().txn()),
+            Err(DerFault::OutOfMemory) => Err(OutOfMemory),
+            Err(_) => Ok(false),
+        }
+    }
+
+    /// Is handed bytes that are no APDU of this transaction.
+    fn refuse(&mut self, alloc: Global, bytes: &[u8]) -> Result<Outcome, OutOfMemory>
+        requires other { is_of (txn_of self.old.live) (apdu_at bytes.now) ≡ false }
+        ensures gives { Gives (model.hears self.old (apdu_at bytes.now), self.old)
+            self.old result self.new }
+        ensures idle { idle_of self.new.live ≡ idle_of self.old.live }
+    {
+        match self.desk.take_bytes(alloc, bytes) {
+            Err(DeskFault::Core(refusal)) => Ok(Outcome::Refused(refusal)),
+            Err(DeskFault::Bytes(_) | DeskFault::Trailing) => Ok(Outcome::Garbled),
+            Err(DeskFault::OutOfMemory) => Err(OutOfMemory),
+            _ => unreachable!(),
+        }
+    }
+
     /// The message with this number, if it was sent.
     pub fn sent(&self, number: Number) -> Option<&Message>
         ensures { option_map (λ m. m.now) result ≡ model.sent_message self.now.sent number }
@@ -152,4 +202,15 @@ impl Party {
     {
         self.desk.released()
     }
+}
+
+/// A place for each message, and nothing sent.
+fn nothing_sent(alloc: Global) -> Result<Vec<Option<Message>>, OutOfMemory>
+    ensures { IfOk result (λ sent. sent.items ≡ replicate 255 None) }
+{
+    let mut sent = Vec::with_capacity(alloc, MESSAGES)?;
+    for _ in 0..MESSAGES {
+        sent.push(None)?;
+    }
+    Ok(sent)
 }

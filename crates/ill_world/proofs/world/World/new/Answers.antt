@@ -1,0 +1,6 @@
+use Rattle.ill_world.proofs.Worlds.{first_is}
+use Rattle.ill_world.proofs.world.World.new.Goals as goal
+
+pub returns : goal.returns
+returns c =
+    first_is c.args.txn.now _ _ _ _ _ _ c.in_ok-copy.ensures c.in_ok-copy-2.ensures c.idle-requester.ensures c.idle-responder.ensures c.in_ok-new.ensures c.in_ok-new-2.ensures

@@ -1,0 +1,132 @@
+//! Two sides, with what they have sent.
+
+ghost use Rattle.std.specs.Prelude.{◌≡◌, IfOk};
+ghost use Rattle.ill_saved.specs.declared.side.Side.TheVariants as sides;
+ghost use Rattle.ill_saved.specs.Side.{idle_of};
+ghost use Rattle.ill_world.specs.World as model;
+ghost use Rattle.ill_world.specs.Standing.{IsRequester, IsResponder, Gives};
+
+use crate::event::{Event, Outcome, Who};
+use crate::party::Party;
+use ill_core::{Requester, Responder, Wish};
+use ill_saved::{Action, Side};
+use ill_values::{OutOfMemory, TxnId};
+use std::alloc::Global;
+use std::marker::Model;
+
+/// Two sides of one transaction, each with its store, and what either has sent.
+///
+/// It begins with two sides that have done nothing, and changes by events.
+#[derive(Debug, Drop)]
+pub struct World {
+    requester: Party,
+    responder: Party,
+}
+
+impl Model for World {
+    ghost Value = { model.Parties };
+
+    ghost view = { λ w. record { requester = w.requester; responder = w.responder } };
+
+    ghost invariant = { λ w. IsRequester w.requester.live × IsResponder w.responder.live };
+}
+
+impl World {
+    /// Two idle sides of this transaction. Nothing has landed, and nothing was sent.
+    pub fn new(alloc: Global, txn: &TxnId) -> Result<World, OutOfMemory>
+        ensures { IfOk result (λ world. world ≡ model.first_world txn.now) }
+    {
+        let requester = Requester::idle(alloc, txn.copy(alloc)?);
+        let responder = Responder::idle(alloc, txn.copy(alloc)?);
+        Ok(World {
+            requester: Party::new(alloc, Side::Requester(requester))?,
+            responder: Party::new(alloc, Side::Responder(responder))?,
+        })
+    }
+
+    /// Performs an event, and answers what is seen of it. If memory runs out, nothing has changed.
+    ///
+    /// Only `Done`, `Saved`, `Sent`, `Restarted`, `Answered(Taken)` and `Faulted` change the world,
+    /// and `Faulted` only what has landed.
+    pub fn step(&mut self, alloc: Global, event: &Event) -> Result<Outcome, OutOfMemory>
+        ensures { Gives (model.happens self.old event.now) self.old result self.new }
+    {
+        match event.who() {
+            Who::Requester => perform(&mut self.requester, &self.responder, alloc, event),
+            Who::Responder => perform(&mut self.responder, &self.requester, alloc, event),
+        }
+    }
+
+    /// The requester, as it is in memory.
+    pub fn requester(&self) -> &Requester
+        ensures { self.now.requester.live ≡ sides.Requester result.now }
+    {
+        match self.requester.side() {
+            Side::Requester(requester) => requester,
+            Side::Responder(_) => unreachable!(),
+        }
+    }
+
+    /// The responder, as it is in memory.
+    pub fn responder(&self) -> &Responder
+        ensures { self.now.responder.live ≡ sides.Responder result.now }
+    {
+        match self.responder.side() {
+            Side::Responder(responder) => responder,
+            Side::Requester(_) => unreachable!(),
+        }
+    }
+
+    /// How many messages of a side are released: those with numbers up to this one may be sent.
+    pub fn released(&self, who: Who) -> u8
+        ensures { result ≡ (model.party self.now who).released }
+    {
+        match who {
+            Who::Requester => self.requester.released(),
+            Who::Responder => self.responder.released(),
+        }
+    }
+}
+
+/// Performs an event of a party. The other one has sent what it may deliver.
+fn perform(
+    party: &mut Party,
+    other: &Party,
+    alloc: Global,
+    event: &Event,
+) -> Result<Outcome, OutOfMemory>
+    ensures gives { Gives (model.happens_to party.old other.now.sent event.now)
+        party.old result party.new }
+    ensures idle { idle_of party.new.live ≡ idle_of party.old.live }
+{
+    match event {
+        Event::Wish(wish) => party.act(alloc, &Action::Wish(copy(alloc, wish)?)),
+        Event::Deed(deed, today) => party.act(alloc, &Action::Deed(*deed, *today)),
+        Event::Save(_) => party.save(alloc),
+        Event::SaveFault { landed, .. } => party.fail_to_save(alloc, *landed),
+        Event::Send(_, number) => party.send(alloc, *number),
+        Event::Deliver(_, number) => match other.sent(*number) {
+            Some(message) => party.take(alloc, message),
+            None => Ok(Outcome::NotSent),
+        },
+        Event::Noise(_, bytes) => party.hear(alloc, bytes.as_slice()),
+        Event::Restart(_) => party.restart(alloc),
+    }
+}
+
+/// The same wish, on its own memory.
+fn copy(alloc: Global, wish: &Wish) -> Result<Wish, OutOfMemory>
+    ensures { IfOk result (λ copy. copy ≡ wish.now) }
+{
+    Ok(match wish {
+        Wish::Request { expiry, item } => Wish::Request {
+            expiry: *expiry,
+            item: item.copy(alloc)?,
+        },
+        Wish::Cancel => Wish::Cancel,
+        Wish::Reply { yes } => Wish::Reply { yes: *yes },
+        Wish::Receive => Wish::Receive,
+        Wish::Renew { wished } => Wish::Renew { wished: *wished },
+        Wish::Return => Wish::Return,
+    })
+}

@@ -1,3 +1,4 @@
 pub mod Messages
 pub mod Parties
 pub mod Worlds
+pub mod Runs

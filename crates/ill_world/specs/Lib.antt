@@ -1,2 +1,5 @@
 pub mod World
 pub mod Standing
+pub mod Script
+pub mod Trace
+pub mod Simulation

@@ -4,10 +4,14 @@
 
 mod bytes;
 mod event;
+mod fault;
 mod message;
 mod party;
+mod script;
+mod trace;
 mod world;
 
 pub use bytes::Bytes;
 pub use event::{Event, Outcome, Who};
-pub use world::World;
+pub use fault::SimFault;
+pub use world::{World, run};

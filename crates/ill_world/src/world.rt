@@ -1,13 +1,15 @@
 //! Two sides, with what they have sent.
 
-ghost use Rattle.std.specs.Prelude.{◌≡◌, IfOk};
+ghost use Rattle.std.specs.Prelude.{◌≡◌, ◌++◌, IfOk, OnOk};
 ghost use Rattle.ill_saved.specs.declared.side.Side.TheVariants as sides;
 ghost use Rattle.ill_saved.specs.Side.{idle_of};
 ghost use Rattle.ill_world.specs.World as model;
+ghost use Rattle.ill_world.specs.Trace.{line};
 ghost use Rattle.ill_world.specs.Standing.{IsRequester, IsResponder, Gives};
 
 use crate::event::{Event, Outcome, Who};
 use crate::party::Party;
+use crate::trace::push_line;
 use ill_core::{Requester, Responder, Wish};
 use ill_saved::{Action, Side};
 use ill_values::{OutOfMemory, TxnId};
@@ -77,6 +79,18 @@ impl World {
         }
     }
 
+    /// Adds the line of a trace that shows this world after an event with this number.
+    pub(crate) fn push_line(
+        &self,
+        text: &mut Vec<u8>,
+        number: u32,
+        outcome: Outcome,
+    ) -> Result<(), OutOfMemory>
+        ensures { OnOk result (text.new.items ≡ text.old.items ++ line number outcome self.now) }
+    {
+        push_line(text, number, outcome, &self.requester, &self.responder)
+    }
+
     /// How many messages of a side are released: those with numbers up to this one may be sent.
     pub fn released(&self, who: Who) -> u8
         ensures { result ≡ (model.party self.now who).released }
@@ -86,6 +100,18 @@ impl World {
             Who::Responder => self.responder.released(),
         }
     }
+}
+
+/// The world after these events, from two idle sides of the transaction on.
+pub fn run(alloc: Global, txn: &TxnId, events: &[Event]) -> Result<World, OutOfMemory>
+    ensures { IfOk result (λ world. world ≡
+        model.run_of (model.first_world txn.now) events.now) }
+{
+    let mut world = World::new(alloc, txn)?;
+    for event in events {
+        world.step(alloc, event)?;
+    }
+    Ok(world)
 }
 
 /// Performs an event of a party. The other one has sent what it may deliver.

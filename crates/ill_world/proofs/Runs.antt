@@ -1,0 +1,26 @@
+-- A run, one event after another.
+use Rattle.std.proofs.Common.{arith, ◌≡◌, ℕ, suc, ◌+◌, ◌<◌, ◌≤◌, List, [], ◌∷◌, length, drop, get_or, refl, sym, ap, ◌∙◌, drop-cons, add-one}
+use Rattle.std.proofs.lemmas.List.{length-drop}
+use Rattle.ill_world.specs.declared.event.Event.{Event}
+use Rattle.ill_world.specs.declared.event.Outcome.{Outcome}
+use Rattle.ill_world.specs.World.{Parties, happens, run_of}
+
+run_next : (w new : Parties) (events : List Event) (event : Event) (outcome : Outcome) → happens w event ≡ (outcome, new) → run_of w (event ∷ events) ≡ run_of new events
+unfolding run_of
+run_next w new events event outcome happened = ap (λ (after : Outcome × Parties). run_of after.1 events) happened
+
+-- the next event leads on
+pub run_on : (w new : Parties) (events : List Event) (i : ℕ) (event : Event) (outcome : Outcome) → i < length events → event ≡ get_or events i event → happens w event ≡ (outcome, new)
+    → run_of w (drop i events) ≡ run_of new (drop (i + 1) events)
+run_on w new events i event outcome less is happened =
+    let first = drop-cons events i event less ∙ ap (λ e. e ∷ drop (suc i) events) (sym is) ∙ ap (λ j. event ∷ drop j events) (sym (add-one i)) in
+    ap (run_of w) first ∙ run_next w new (drop (i + 1) events) event outcome happened
+
+run_of_none : (w : Parties) (events : List Event) → length events ≡ 0 → run_of w events ≡ w
+unfolding run_of
+run_of_none w [] none = refl
+run_of_none w (event ∷ events) none = absurd (omega (arith, none))
+
+-- no event is left
+pub run_ended : (w : Parties) (events : List Event) (i : ℕ) → length events ≤ i → run_of w (drop i events) ≡ w
+run_ended w events i all = run_of_none w (drop i events) (omega (arith, length-drop i events, all))

@@ -1,0 +1,32 @@
+//! Why a simulation stopped.
+
+ghost use Rattle.std.specs.Prelude.{◌≡◌};
+ghost use Rattle.ill_world.specs.declared.fault.SimFault.TheVariants.{OutOfMemory};
+
+use std::alloc::AllocError;
+use thiserror::Error;
+
+/// Why a simulation stopped. What was written before stays written.
+#[derive(Clone, Copy, Debug, PartialEq, Eq, Hash, Error)]
+pub enum SimFault {
+    /// The line of the script with this number, from 1 on, is bad.
+    #[error("script at line {0}")]
+    Script(u32),
+    /// The reader failed.
+    #[error("read")]
+    Read,
+    /// The writer failed.
+    #[error("write")]
+    Write,
+    /// Memory ran out.
+    #[error("memory")]
+    OutOfMemory,
+}
+
+impl From<AllocError> for SimFault {
+    ghost from_gives = { λ _ fault. fault ≡ OutOfMemory };
+
+    fn from(_error: AllocError) -> SimFault {
+        SimFault::OutOfMemory
+    }
+}

@@ -1,7 +1,69 @@
--- The lines of a trace.
-use Rattle.std.specs.Prelude.{ℕ, List, []}
+-- The trace of a run: a line for each event, with what is seen of it and how both sides stand after it
+-- (this profile's own).
+use Rattle.std.specs.Prelude.{ℕ, List, ◌++◌, length, Option, Some, None, codes}
+use Rattle.std.specs.Fmt.{decimal}
+use Rattle.ill_values.specs.Day.{Date, date_text}
+use Rattle.ill_core.specs.declared.refusal.Refusal.{Refusal}
+use Rattle.ill_core.specs.declared.refusal.Refusal.TheVariants as refusals
+use Rattle.ill_core.specs.declared.taking.Taking.{Taking}
+use Rattle.ill_core.specs.declared.taking.Taking.TheVariants.{Taken, Repeat, Stale, Conflict}
+use Rattle.ill_core.specs.State.{state_name}
+use Rattle.ill_saved.specs.Side.{issued_of, state_of, due_date_of}
 use Rattle.ill_world.specs.declared.event.Outcome.{Outcome}
-use Rattle.ill_world.specs.World.{Parties}
+use Rattle.ill_world.specs.declared.event.Outcome.TheVariants.{Done, Saved, Faulted, Sent, Answered, Refused, NoSuchMessage, NotSaved, NotSent, Garbled, Forged, Restarted}
+use Rattle.ill_world.specs.World.{Party, Parties}
 
+-- what a message did, in a word
+abbrev pub taking_word : Taking → List ℕ
+taking_word Taken = codes "taken"
+taking_word Repeat = codes "repeat"
+taking_word Stale = codes "stale"
+taking_word (Conflict state) = codes "conflict"
+
+-- why an action or a message was refused, in a word
+abbrev pub refusal_word : Refusal → List ℕ
+refusal_word refusals.OtherTransaction = codes "other-transaction"
+refusal_word refusals.WrongRole = codes "wrong-role"
+refusal_word (refusals.NotNow state) = codes "not-now"
+refusal_word refusals.DateEarlier = codes "date-earlier"
+refusal_word refusals.DateNotLater = codes "date-not-later"
+refusal_word refusals.NotDue = codes "not-due"
+refusal_word refusals.NotExpired = codes "not-expired"
+refusal_word refusals.NumbersUsed = codes "numbers-used"
+refusal_word refusals.OutOfMemory = codes "memory"
+
+-- what is seen of an event, in a word
+abbrev pub outcome_word : Outcome → List ℕ
+outcome_word Done = codes "done"
+outcome_word Saved = codes "saved"
+outcome_word Faulted = codes "faulted"
+outcome_word Sent = codes "sent"
+outcome_word (Answered taking) = taking_word taking
+outcome_word (Refused refusal) = refusal_word refusal
+outcome_word NoSuchMessage = codes "no-such-message"
+outcome_word NotSaved = codes "not-saved"
+outcome_word NotSent = codes "not-sent"
+outcome_word Garbled = codes "garbled"
+outcome_word Forged = codes "forged"
+outcome_word Restarted = codes "restarted"
+
+-- the number of an event, and what is seen of it
+abbrev pub event_text : ℕ → Outcome → List ℕ
+event_text number outcome = decimal number ++ codes " " ++ outcome_word outcome
+
+-- a due date, or a dash where there is none
+abbrev pub due_text : Option Date → List ℕ
+due_text None = codes "-"
+due_text (Some d) = date_text d
+
+-- how a side stands: its state, its due date, and how many of its messages are released and issued
+abbrev pub side_text : Party → List ℕ
+side_text p =
+    state_name (state_of p.live) ++ codes " " ++ due_text (due_date_of p.live) ++ codes " "
+    ++ decimal p.released ++ codes "/" ++ decimal (length (issued_of p.live))
+
+-- the line of the event with this number
 unfoldable pub line : ℕ → Outcome → Parties → List ℕ
-line n outcome w = []
+line number outcome after =
+    event_text number outcome ++ codes " requester " ++ side_text after.requester ++ codes " responder "
+    ++ side_text after.responder ++ codes "\n"

@@ -1,23 +1,123 @@
-//! The lines of a trace.
+//! The lines of a trace, which show what is seen of each event and how both sides stand after it.
 
 ghost use Rattle.std.specs.Prelude.{◌≡◌, ◌++◌, OnOk};
-ghost use Rattle.ill_world.specs.Trace.{line};
+ghost use Rattle.ill_world.specs.Trace.{line, event_text, side_text, due_text, outcome_word, taking_word, refusal_word};
 
 use crate::event::Outcome;
 use crate::party::Party;
-use ill_values::OutOfMemory;
+use ill_core::{Refusal, Taking};
+use ill_values::{Day, OutOfMemory};
+use itoa::{Buffer, Integer};
 
-/// Adds the line of an event.
+/// Adds the line of the event with this number, counted from 1: its number, its outcome, and for
+/// each side the state, the due date, and how many of its messages are released and issued.
 #[tactic(auto, unfolding(crate::specs::Trace::line))]
-pub fn push_line(
-    text: &mut Vec<u8>,
-    _number: u32,
-    _outcome: Outcome,
-    _requester: &Party,
-    _responder: &Party,
+pub(crate) fn push_line(
+    lines: &mut Vec<u8>,
+    number: u32,
+    outcome: Outcome,
+    requester: &Party,
+    responder: &Party,
 ) -> Result<(), OutOfMemory>
-    ensures { OnOk result (text.new.items ≡ text.old.items ++ line _number _outcome
-        (record { requester = _requester.now; responder = _responder.now })) }
+    ensures { OnOk result (lines.new.items ≡ lines.old.items ++ line number outcome
+        (record { requester = requester.now; responder = responder.now })) }
 {
+    push_event(lines, number, outcome)?;
+    lines.extend_from_slice(b" requester ")?;
+    push_side(lines, requester)?;
+    lines.extend_from_slice(b" responder ")?;
+    push_side(lines, responder)?;
+    lines.push(b'\n')?;
     Ok(())
+}
+
+/// Adds the number of an event and what is seen of it, as `12 saved`.
+fn push_event(lines: &mut Vec<u8>, number: u32, outcome: Outcome) -> Result<(), OutOfMemory>
+    ensures { OnOk result (lines.new.items ≡ lines.old.items ++ event_text number outcome) }
+{
+    push_number(lines, number)?;
+    lines.push(b' ')?;
+    lines.extend_from_slice(word(outcome).as_bytes())?;
+    Ok(())
+}
+
+/// Adds how a side stands, as `SHIPPED 20250315 2/3`.
+fn push_side(lines: &mut Vec<u8>, party: &Party) -> Result<(), OutOfMemory>
+    ensures { OnOk result (lines.new.items ≡ lines.old.items ++ side_text party.now) }
+{
+    let side = party.side();
+    let state = side.state().to_string(*lines.allocator())?;
+    lines.extend_from_slice(state.as_bytes())?;
+    lines.push(b' ')?;
+    push_due(lines, side.due())?;
+    lines.push(b' ')?;
+    push_number(lines, party.released())?;
+    lines.push(b'/')?;
+    push_number(lines, side.issued_count())
+}
+
+/// Adds a due date as eight digits, or a dash where there is none.
+fn push_due(lines: &mut Vec<u8>, due: Option<Day>) -> Result<(), OutOfMemory>
+    ensures { OnOk result (lines.new.items ≡ lines.old.items ++ due_text due) }
+{
+    match due {
+        None => lines.push(b'-')?,
+        Some(day) => lines.extend_from_slice(&day.digits())?,
+    }
+    Ok(())
+}
+
+/// Adds a number in decimal.
+fn push_number<I: Integer>(lines: &mut Vec<u8>, number: I) -> Result<(), OutOfMemory>
+    ensures { OnOk result (lines.new.items ≡ lines.old.items ++ I.text number) }
+{
+    lines.extend_from_slice(Buffer::new().format(number).as_bytes())?;
+    Ok(())
+}
+
+/// The word for what is seen of an event.
+fn word(outcome: Outcome) -> &'static str
+    ensures { result.now ≡ outcome_word outcome }
+{
+    match outcome {
+        Outcome::Done => "done",
+        Outcome::Saved => "saved",
+        Outcome::Faulted => "faulted",
+        Outcome::Sent => "sent",
+        Outcome::Answered(taking) => word_of_taking(taking),
+        Outcome::Refused(refusal) => word_of_refusal(refusal),
+        Outcome::NoSuchMessage => "no-such-message",
+        Outcome::NotSaved => "not-saved",
+        Outcome::NotSent => "not-sent",
+        Outcome::Garbled => "garbled",
+        Outcome::Forged => "forged",
+        Outcome::Restarted => "restarted",
+    }
+}
+
+fn word_of_taking(taking: Taking) -> &'static str
+    ensures { result.now ≡ taking_word taking }
+{
+    match taking {
+        Taking::Taken => "taken",
+        Taking::Repeat => "repeat",
+        Taking::Stale => "stale",
+        Taking::Conflict(_) => "conflict",
+    }
+}
+
+fn word_of_refusal(refusal: Refusal) -> &'static str
+    ensures { result.now ≡ refusal_word refusal }
+{
+    match refusal {
+        Refusal::OtherTransaction => "other-transaction",
+        Refusal::WrongRole => "wrong-role",
+        Refusal::NotNow(_) => "not-now",
+        Refusal::DateEarlier => "date-earlier",
+        Refusal::DateNotLater => "date-not-later",
+        Refusal::NotDue => "not-due",
+        Refusal::NotExpired => "not-expired",
+        Refusal::NumbersUsed => "numbers-used",
+        Refusal::OutOfMemory => "memory",
+    }
 }

@@ -3,3 +3,4 @@ pub mod Standing
 pub mod Script
 pub mod Trace
 pub mod Simulation
+pub mod Simulating

@@ -3,7 +3,7 @@
 ghost use Rattle.std.specs.Prelude.{◌≡◌};
 ghost use Rattle.ill_world.specs.declared.fault.SimFault.TheVariants.{OutOfMemory};
 
-use std::alloc::AllocError;
+use std::alloc::{AllocError, AllocFailed};
 use thiserror::Error;
 
 /// Why a simulation stopped. What was written before stays written.
@@ -27,6 +27,14 @@ impl From<AllocError> for SimFault {
     ghost from_gives = { λ _ fault. fault ≡ OutOfMemory };
 
     fn from(_error: AllocError) -> SimFault {
+        SimFault::OutOfMemory
+    }
+}
+
+impl<T: Drop> From<AllocFailed<T>> for SimFault {
+    ghost from_gives = { λ _ fault. fault ≡ OutOfMemory };
+
+    fn from(_error: AllocFailed<T>) -> SimFault {
         SimFault::OutOfMemory
     }
 }

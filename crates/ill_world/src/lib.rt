@@ -5,13 +5,16 @@
 mod bytes;
 mod event;
 mod fault;
+mod lines;
 mod message;
 mod party;
 mod script;
+mod simulation;
 mod trace;
 mod world;
 
 pub use bytes::Bytes;
 pub use event::{Event, Outcome, Who};
 pub use fault::SimFault;
+pub use simulation::simulate;
 pub use world::{World, run};

@@ -1,0 +1,168 @@
+//! A whole script, performed line by line.
+
+ghost use Rattle.std.specs.Prelude.{◌≡◌, ◌≤◌, ◌+◌, IfOk};
+ghost use Rattle.ill_values.specs.TxnId.{Qualifiers};
+ghost use Rattle.ill_world.specs.World.{first_world};
+ghost use Rattle.ill_world.specs.Simulation.{Simulates, line_at};
+ghost use Rattle.ill_world.specs.Script.{meaning};
+ghost use Rattle.ill_world.specs.Simulating.{Performs, PerformsLine, StepsLine, FindsEnd};
+
+use crate::event::Event;
+use crate::fault::SimFault;
+use crate::lines::{Found, next_byte, next_line};
+use crate::script::{Line, read_line};
+use crate::world::World;
+use ill_der::write_bytes;
+use ill_values::{OutOfMemory, TxnId};
+use std::alloc::Global;
+use std::io::{Read, Write};
+
+/// The most lines of a script.
+const MAX_LINES: u32 = 100_000;
+
+/// Performs a script from two idle sides on, and writes a line for each event, with both sides after
+/// it. It answers the number of events.
+///
+/// At a bad line, and where the reader fails, the lines of all events before are written. If memory
+/// runs out, those of some of the first events are, and if the writer fails, a front of that text.
+pub fn simulate<R: Read, W: Write>(
+    alloc: Global,
+    txn: &TxnId,
+    reader: &mut R,
+    writer: &mut W,
+) -> Result<u32, SimFault>
+    ensures { Simulates txn.now (R.remaining reader.old) (R.remaining reader.new)
+        (W.contents writer.old) (W.contents writer.new) result }
+{
+    let mut simulation = Simulation::new(alloc, txn)?;
+    simulation.run(alloc, reader, writer)
+}
+
+/// A simulation in the midst of a script.
+#[derive(Debug, Drop)]
+struct Simulation {
+    /// The two sides as they are now.
+    world: World,
+    /// How many events have happened.
+    count: u32,
+    /// The line of the script that was read last.
+    line: Vec<u8>,
+    /// The line of the trace that was written last.
+    shown: Vec<u8>,
+}
+
+impl Simulation {
+    fn new(alloc: Global, txn: &TxnId) -> Result<Simulation, OutOfMemory>
+        ensures { IfOk result (λ s. (s.world ≡ first_world txn.now) × (s.count ≡ 0)) }
+    {
+        Ok(Simulation {
+            world: World::new(alloc, txn)?,
+            count: 0,
+            line: Vec::new(alloc),
+            shown: Vec::new(alloc),
+        })
+    }
+
+    /// Performs the whole script.
+    fn run<R: Read, W: Write>(
+        &mut self,
+        alloc: Global,
+        reader: &mut R,
+        writer: &mut W,
+    ) -> Result<u32, SimFault>
+        requires begins { self.old.count ≡ 0 }
+        ensures { (txn : Qualifiers) → self.old.world ≡ first_world txn →
+            Simulates txn (R.remaining reader.old) (R.remaining reader.new)
+            (W.contents writer.old) (W.contents writer.new) result }
+    {
+        for before in 0..MAX_LINES {
+            match self.step(alloc, reader, writer, before + 1) {
+                Ok(true) => {}
+                Ok(false) => return Ok(self.count),
+                Err(fault) => return Err(fault),
+            }
+        }
+        self.end(reader)
+    }
+
+    /// Performs the next line, which has this number, and answers whether another may follow.
+    fn step<R: Read, W: Write>(
+        &mut self,
+        alloc: Global,
+        reader: &mut R,
+        writer: &mut W,
+        number: u32,
+    ) -> Result<bool, SimFault>
+        requires few { self.old.count + 1 ≤ number }
+        requires number { number ≤ 100000 }
+        ensures steps { StepsLine number self.old.world self.old.count
+            (R.remaining reader.old) (R.remaining reader.new)
+            (W.contents writer.old) (W.contents writer.new) result self.new.world self.new.count }
+        ensures few { self.new.count ≤ self.old.count + 1 }
+    {
+        match next_line(reader, &mut self.line)? {
+            Found::Line => {
+                self.perform_line(alloc, writer, number)?;
+                Ok(true)
+            }
+            Found::Rest if self.line.is_empty() => Ok(false),
+            Found::Rest => {
+                self.perform_line(alloc, writer, number)?;
+                Ok(false)
+            }
+            Found::TooLong => Err(SimFault::Script(number)),
+        }
+    }
+
+    /// Performs the line that was read.
+    fn perform_line<W: Write>(
+        &mut self,
+        alloc: Global,
+        writer: &mut W,
+        number: u32,
+    ) -> Result<(), SimFault>
+        requires few { self.old.count ≤ 100000 }
+        ensures performs { PerformsLine (meaning self.old.line.items) number
+            self.old.world self.old.count (W.contents writer.old) (W.contents writer.new)
+            result self.new.world self.new.count }
+        ensures few { self.new.count ≤ self.old.count + 1 }
+    {
+        match read_line(alloc, &self.line)? {
+            Line::Skipped => Ok(()),
+            Line::Event(event) => self.perform(alloc, writer, &event),
+            Line::Bad => Err(SimFault::Script(number)),
+        }
+    }
+
+    /// Performs an event, and writes its line.
+    fn perform<W: Write>(
+        &mut self,
+        alloc: Global,
+        writer: &mut W,
+        event: &Event,
+    ) -> Result<(), SimFault>
+        requires few { self.old.count ≤ 100000 }
+        ensures performs { Performs self.old.world self.old.count event.now
+            (W.contents writer.old) (W.contents writer.new) result self.new.world self.new.count }
+        ensures few { self.new.count ≤ self.old.count + 1 }
+    {
+        let outcome = self.world.step(alloc, event)?;
+        self.count += 1;
+        self.shown.clear();
+        self.world.push_line(&mut self.shown, self.count, outcome)?;
+        match write_bytes(writer, &self.shown) {
+            Ok(()) => Ok(()),
+            Err(_) => Err(SimFault::Write),
+        }
+    }
+
+    /// Finds the end of a script that has as many lines as it may have.
+    fn end<R: Read>(&self, reader: &mut R) -> Result<u32, SimFault>
+        ensures { FindsEnd self.now.count (R.remaining reader.old) (R.remaining reader.new) result }
+    {
+        match next_byte(reader)? {
+            None => Ok(self.count),
+            Some(_) => Err(SimFault::Script(MAX_LINES + 1)),
+        }
+    }
+}

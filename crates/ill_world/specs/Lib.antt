@@ -1,3 +1,5 @@
 pub mod World
 pub mod Standing
 pub mod Trace
+pub mod Words
+pub mod Script

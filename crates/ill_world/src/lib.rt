@@ -6,6 +6,7 @@ mod bytes;
 mod event;
 mod message;
 mod party;
+mod script;
 mod trace;
 
 pub use bytes::Bytes;

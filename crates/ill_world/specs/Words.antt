@@ -1,7 +1,8 @@
 -- The words of a script and of a command line: what one word may stand for, and what the words of a
 -- requester's wish and of a responder's deed say (this profile's own).
-use Rattle.std.specs.Prelude.{ℕ, ◌+◌, ◌-◌, ◌*◌, ◌&&◌, fold, nat_le, Bool, true, false, if◌then◌else◌, List, [], ◌∷◌, ◌++◌, length, flat_map, bytes_eq, codes, Option, Some, None, option_map, Result, Ok, Err}
+use Rattle.std.specs.Prelude.{ℕ, ◌+◌, ◌-◌, ◌*◌, ◌&&◌, fold, nat_le, Bool, true, false, if◌then◌else◌, List, [], ◌∷◌, ◌++◌, length, flat_map, bytes_eq, codes, Option, Some, None, option_map}
 use Rattle.std.specs.List.{list_all}
+use Rattle.std.specs.Result.{result_ok}
 use Rattle.std.specs.Char.{is_ascii_digit}
 use Rattle.hex.specs.Hex.{decode_of}
 use Rattle.ill_values.specs.Day.{Date, read_date}
@@ -14,6 +15,12 @@ use Rattle.ill_core.specs.declared.responder.Deed.{Deed}
 use Rattle.ill_core.specs.declared.responder.Deed.TheVariants.{Answer, CancelReply, Ship, RenewAnswer, Overdue, Recall, CheckIn, Expire}
 use Rattle.ill_world.specs.declared.event.Who.{Who}
 use Rattle.ill_world.specs.declared.event.Who.TheVariants.{Requester, Responder}
+
+-- one step after another, as long as each gives a value
+infixl 10 ◌>>=◌
+abbrev pub ◌>>=◌ : {A B : Type 0} → Option A → (A → Option B) → Option B
+Some value >>= next = next value
+None >>= next = None
 
 -- ---- one word
 
@@ -28,7 +35,11 @@ yes_of = named ((codes "yes", true) ∷ (codes "no", false) ∷ [])
 abbrev pub who_named : List ℕ → Option Who
 who_named = named ((codes "requester", Requester) ∷ (codes "responder", Responder) ∷ [])
 
-abbrev pub result_named : List ℕ → Option AnswerResult
+-- whether a save that fails has landed nevertheless: the store has the new record, or the old one
+abbrev pub landed_of : List ℕ → Option Bool
+landed_of = named ((codes "new", true) ∷ (codes "old", false) ∷ [])
+
+unfoldable pub result_named : List ℕ → Option AnswerResult
 result_named = named (
     (codes "conditional", Conditional)
     ∷ (codes "retry", Retry)
@@ -39,14 +50,9 @@ result_named = named (
     ∷ (codes "estimate", Estimate)
     ∷ [])
 
--- the value of a reading that did not fail
-abbrev pub value_of : {A E : Type 0} → Result A E → Option A
-value_of (Ok value) = Some value
-value_of (Err fault) = None
-
 -- a day as eight digits
 abbrev pub day_of : List ℕ → Option Date
-day_of word = value_of (read_date word)
+day_of word = result_ok (read_date word)
 
 -- a day, or the word for none
 abbrev pub optional_day_of : List ℕ → Option (Option Date)
@@ -54,7 +60,7 @@ optional_day_of word = if bytes_eq word (codes "none") then Some None else optio
 
 -- the number that decimal digits stand for
 abbrev pub decimal_value : List ℕ → ℕ
-decimal_value digits = fold (λ n digit. 10 * n + (digit - 48)) 0 digits
+decimal_value digits = fold (λ n digit. 10 * n + (digit - 0x30)) 0 digits
 
 -- a number of a message
 abbrev pub is_number : ℕ → Bool
@@ -70,7 +76,7 @@ number_of word = if is_numeral word && is_number (decimal_value word) then Some 
 
 -- bytes as hexadecimal digits, two for each, or the word for none
 abbrev pub bytes_of : List ℕ → Option (List ℕ)
-bytes_of word = if bytes_eq word (codes "none") then Some [] else value_of (decode_of word)
+bytes_of word = if bytes_eq word (codes "none") then Some [] else result_ok (decode_of word)
 
 -- ---- a requester's wish
 
@@ -86,22 +92,22 @@ wish_with verb word =
 
 -- words with a space between each and the next
 abbrev pub spaced : List ℕ → List (List ℕ) → List ℕ
-spaced first more = first ++ flat_map (λ word. 32 ∷ word) more
+spaced first more = first ++ flat_map (λ word. 0x20 ∷ word) more
 
-abbrev pub request_of : Option (Option Date) → Option (List ℕ) → Option Wish
-request_of (Some expiry) (Some item) = Some (Request expiry item)
-request_of (Some expiry) None = None
-request_of None item = None
+-- a request until a day, or without an end, for the item of this text
+abbrev pub request_of : List ℕ → List ℕ → Option Wish
+request_of expiry text = do
+  day ← optional_day_of expiry
+  item ← result_ok (item_of text)
+  Some (Request day item)
 
 -- the wish that words say
-abbrev pub wish_of : List (List ℕ) → Option Wish
+unfoldable pub wish_of : List (List ℕ) → Option Wish
 wish_of [] = None
 wish_of (verb ∷ []) = bare_wish_of verb
 wish_of (verb ∷ word ∷ []) = wish_with verb word
 wish_of (verb ∷ expiry ∷ first ∷ more) =
-    if bytes_eq verb (codes "request")
-    then request_of (optional_day_of expiry) (value_of (item_of (spaced first more)))
-    else None
+    if bytes_eq verb (codes "request") then request_of expiry (spaced first more) else None
 
 -- ---- a responder's deed
 
@@ -117,7 +123,7 @@ bare_deed_of = named (
 abbrev pub refusal_of : List ℕ → Option Deed
 refusal_of = named ((codes "no", RenewAnswer None) ∷ [])
 
-abbrev pub deed_with : List ℕ → List ℕ → Option Deed
+unfoldable pub deed_with : List ℕ → List ℕ → Option Deed
 deed_with verb word =
     if bytes_eq verb (codes "answer") then option_map Answer (result_named word)
     else if bytes_eq verb (codes "cancel-reply") then option_map CancelReply (yes_of word)
@@ -126,14 +132,14 @@ deed_with verb word =
     else None
 
 -- a renewal is granted with its date
-abbrev pub grant_with : List ℕ → List ℕ → List ℕ → Option Deed
+unfoldable pub grant_with : List ℕ → List ℕ → List ℕ → Option Deed
 grant_with verb word due =
     if bytes_eq verb (codes "renew-answer") && bytes_eq word (codes "yes")
     then option_map (λ day. RenewAnswer (Some day)) (day_of due)
     else None
 
 -- the deed that words say
-abbrev pub deed_of : List (List ℕ) → Option Deed
+unfoldable pub deed_of : List (List ℕ) → Option Deed
 deed_of (verb ∷ []) = bare_deed_of verb
 deed_of (verb ∷ word ∷ []) = deed_with verb word
 deed_of (verb ∷ word ∷ due ∷ []) = grant_with verb word due

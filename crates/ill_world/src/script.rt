@@ -1,4 +1,4 @@
-//! Scripts: the lines that say what happens to the two sides.
+//! The lines of a script, which say what happens to the two sides.
 
 mod actions;
 mod events;
@@ -13,21 +13,21 @@ use ill_values::OutOfMemory;
 use std::alloc::Global;
 
 /// What a line of a script says.
-#[derive(Debug, PartialEq, Eq, Drop)]
+#[derive(Debug, Drop)]
 pub(crate) enum Line {
-    /// Nothing: the line has no words, or is a remark.
+    /// Nothing: it has no words, or is a remark.
     Skipped,
-    /// This event is to happen.
+    /// That this happens.
     Event(Event),
-    /// The line is neither, and no part of a script.
+    /// Something that no script may say.
     Bad,
 }
 
-/// Reads a line of a script, without the LF that ends it.
+/// Reads a line of a script, which ends before its LF.
 ///
-/// Words are the runs of bytes other than spaces. A line without words says nothing, and neither
-/// does a remark, a line whose very first byte is `#`. Any other line says one of these events, or
-/// is `Bad`:
+/// The words of a line are its runs of bytes other than spaces; a tab, a CR and a NUL are bytes of
+/// words. A line without words says nothing, and neither does a remark: a line whose very first byte
+/// is `#`. Any other line says one of these events, or is `Bad`:
 ///
 /// | Words | Event |
 /// |---|---|
@@ -50,10 +50,12 @@ pub(crate) enum Line {
 /// | `deliver SIDE NUMBER` | `Deliver` |
 /// | `noise SIDE HEX` | `Noise` |
 ///
-/// A day is eight digits, as `20250315`; EXPIRY and WISHED are a day or `none`. SIDE is `requester`
-/// or `responder`, RESULT the name of an `AnswerResult` in small letters, as `hold-placed`, NUMBER
-/// one to three decimal digits for 1 to 255, and HEX two hexadecimal digits for each byte, or `none`
-/// for no bytes. ITEM is all the words that remain, with one space between each and the next.
+/// TODAY and DUE are days as eight digits, such as `20250315`, and EXPIRY and WISHED are such days or
+/// `none`. SIDE is `requester` or `responder`. RESULT is an `AnswerResult` in small letters, such as
+/// `hold-placed`. NUMBER is one to three decimal digits for 1 to 255. HEX is two hexadecimal digits,
+/// of either case, for each byte, or `none` for no bytes. ITEM is the text of an item: all the words
+/// that remain, with one space between each and the next.
+#[tactic(auto, unfolding(crate::specs::Script::meaning))]
 pub(crate) fn read_line(alloc: Global, line: &[u8]) -> Result<Line, OutOfMemory>
     ensures { IfOk result (λ read. read ≡ meaning line.now) }
 {

@@ -1,8 +1,7 @@
 //! What the words of a library's decision say: a requester's wish, or a responder's deed.
 
 ghost use Rattle.std.specs.Prelude.{◌≡◌, map, IfOk};
-ghost use Rattle.ill_world.specs.Words.{bare_wish_of, wish_with, request_of, optional_day_of, value_of, spaced, wish_of, bare_deed_of, refusal_of, deed_with, grant_with, deed_of};
-ghost use Rattle.ill_values.specs.Text.{item_of};
+ghost use Rattle.ill_world.specs.Words.{bare_wish_of, wish_with, request_of, spaced, wish_of, bare_deed_of, refusal_of, deed_with, grant_with, deed_of};
 
 use crate::script::words::{answer_result, day, is, optional_day, yes};
 use ill_core::{Deed, Wish};
@@ -10,6 +9,7 @@ use ill_values::{Item, OutOfMemory, TextFault};
 use std::alloc::Global;
 
 /// The wish that the words behind `requester` say, if they say one.
+#[tactic(auto, unfolding(crate::specs::Words::wish_of))]
 pub(crate) fn wish(alloc: Global, words: &[&[u8]]) -> Result<Option<Wish>, OutOfMemory>
     ensures { IfOk result (λ wish. wish ≡ wish_of (map (λ word. word.now) words.now)) }
 {
@@ -60,8 +60,8 @@ fn request(
     first: &[u8],
     more: &[&[u8]],
 ) -> Result<Option<Wish>, OutOfMemory>
-    ensures { IfOk result (λ wish. wish ≡ request_of (optional_day_of expiry.now)
-        (value_of (item_of (spaced first.now (map (λ word. word.now) more.now))))) }
+    ensures { IfOk result (λ wish. wish
+        ≡ request_of expiry.now (spaced first.now (map (λ word. word.now) more.now))) }
 {
     let Some(expiry) = optional_day(expiry) else {
         return Ok(None);
@@ -88,6 +88,7 @@ fn joined(alloc: Global, first: &[u8], more: &[&[u8]]) -> Result<Vec<u8>, OutOfM
 }
 
 /// The deed that the words behind the day say, if they say one.
+#[tactic(auto, unfolding(crate::specs::Words::deed_of))]
 pub(crate) fn deed(words: &[&[u8]]) -> Option<Deed>
     ensures { result ≡ deed_of (map (λ word. word.now) words.now) }
 {
@@ -101,6 +102,7 @@ pub(crate) fn deed(words: &[&[u8]]) -> Option<Deed>
 }
 
 /// The grant of a renewal, if the words say one.
+#[tactic(auto, unfolding(crate::specs::Words::grant_with))]
 fn grant(verb: &[u8], word: &[u8], due: &[u8]) -> Option<Deed>
     ensures { result ≡ grant_with verb.now word.now due.now }
 {
@@ -127,6 +129,7 @@ fn bare_deed(verb: &[u8]) -> Option<Deed>
     }
 }
 
+#[tactic(auto, unfolding(crate::specs::Words::deed_with))]
 fn deed_with_word(verb: &[u8], word: &[u8]) -> Option<Deed>
     ensures { result ≡ deed_with verb.now word.now }
 {

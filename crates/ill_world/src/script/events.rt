@@ -1,11 +1,11 @@
 //! What the words of a line say.
 
 ghost use Rattle.std.specs.Prelude.{◌≡◌, map, IfOk};
-ghost use Rattle.ill_world.specs.Script.{event_of, deed_event, side_event, bare_event, event_with, landed_of};
+ghost use Rattle.ill_world.specs.Script.{event_of, deed_event, side_event, bare_event, event_with};
 
 use crate::event::{Event, Who};
 use crate::script::actions::{deed, wish};
-use crate::script::words::{bytes, day, is, number, who};
+use crate::script::words::{bytes, day, is, landed, number, who};
 use ill_values::OutOfMemory;
 use std::alloc::Global;
 
@@ -48,10 +48,7 @@ fn side_event(alloc: Global, verb: &[u8], words: &[&[u8]]) -> Result<Option<Even
 {
     match words {
         [] => Ok(None),
-        [side] => Ok(match who(side) {
-            Some(who) => bare_event(verb, who),
-            None => None,
-        }),
+        [side] => Ok(who(side).and_then(|who| bare_event(verb, who))),
         [side, word] => match who(side) {
             Some(who) => event_with_word(alloc, verb, word, who),
             None => Ok(None),
@@ -90,18 +87,5 @@ fn event_with_word(
         Ok(bytes(alloc, word)?.map(|bytes| Event::Noise(who, bytes)))
     } else {
         Ok(None)
-    }
-}
-
-/// Whether a save that fails has landed nevertheless, as `new` and `old` say.
-fn landed(word: &[u8]) -> Option<bool>
-    ensures { result ≡ landed_of word.now }
-{
-    if is(word, "new") {
-        Some(true)
-    } else if is(word, "old") {
-        Some(false)
-    } else {
-        None
     }
 }

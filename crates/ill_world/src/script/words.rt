@@ -5,7 +5,7 @@ ghost use Rattle.std.specs.Bool.{OnTrue};
 ghost use Rattle.std.specs.List.{list_all};
 ghost use Rattle.std.specs.Int.{IsInRange};
 ghost use Rattle.std.specs.Char.{is_ascii_digit};
-ghost use Rattle.ill_world.specs.Words.{yes_of, who_named, result_named, day_of, optional_day_of, is_numeral, decimal_value, number_of, bytes_of};
+ghost use Rattle.ill_world.specs.Words.{yes_of, who_named, landed_of, result_named, day_of, optional_day_of, is_numeral, decimal_value, number_of, bytes_of};
 
 use crate::bytes::Bytes;
 use crate::event::Who;
@@ -46,7 +46,22 @@ pub(super) fn who(word: &[u8]) -> Option<Who>
     }
 }
 
+/// Whether a save that fails has landed nevertheless, if the word says so: the store has the `new`
+/// record, or the `old` one.
+pub(super) fn landed(word: &[u8]) -> Option<bool>
+    ensures { result ≡ landed_of word.now }
+{
+    if is(word, "new") {
+        Some(true)
+    } else if is(word, "old") {
+        Some(false)
+    } else {
+        None
+    }
+}
+
 /// The result that the word names, if it names one.
+#[tactic(auto, unfolding(crate::specs::Words::result_named))]
 pub(super) fn answer_result(word: &[u8]) -> Option<AnswerResult>
     ensures { result ≡ result_named word.now }
 {
@@ -92,14 +107,14 @@ pub(super) fn optional_day(word: &[u8]) -> Option<Option<Day>>
 pub(super) fn number(word: &[u8]) -> Option<Number>
     ensures { result ≡ number_of word.now }
 {
-    if is_short_numeral(word) {
+    if is_numeral(word) {
         Number::new(u8::try_from(decimal(word)).ok()?)
     } else {
         None
     }
 }
 
-fn is_short_numeral(word: &[u8]) -> bool
+fn is_numeral(word: &[u8]) -> bool
     ensures value { result ≡ is_numeral word.now }
     ensures few { OnTrue result (length word.now ≤ 3) }
     ensures digits { OnTrue result (EachIndex word.now

@@ -17,7 +17,7 @@ returns c =
     (λ (word : List ℕ). not (length word == 0))
     (YieldsList-from_slice_split
     _
-    (λ byte. byte == 32)
+    (λ byte. byte == 0x20)
     c.args.line.now
     (ap split_rest source ∙ c.split.ensures.rest)
     (ap split_done source ∙ c.split.ensures.done)

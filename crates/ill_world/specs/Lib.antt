@@ -1,5 +1,6 @@
 pub mod World
 pub mod Standing
+pub mod Words
 pub mod Script
 pub mod Trace
 pub mod Simulation

@@ -1,0 +1,7 @@
+use Rattle.std.proofs.Common.{◌≡◌, map, take}
+use Rattle.ill_world.specs.Words.{spaced}
+use Rattle.ill_world.proofs.script.actions.joined.Given as goal
+
+-- the text has the words so far
+abbrev pub invariant-loop-word : goal.invariant-loop-word
+invariant-loop-word l = l.text.items ≡ spaced l.first (map (λ word. word.now) (take l.word-index l.more))

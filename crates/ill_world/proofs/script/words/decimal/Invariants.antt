@@ -1,0 +1,8 @@
+use Rattle.std.proofs.Common.{◌≡◌, ◌<◌, ◌^◌, take}
+use Rattle.ill_world.specs.Words.{decimal_value}
+use Rattle.ill_world.proofs.script.words.decimal.Given as goal
+
+-- the value is that of the digits so far
+abbrev pub invariant-loop-digit : goal.invariant-loop-digit
+invariant-loop-digit l =
+    record { below : l.value < 10 ^ l.digit-index; value : l.value ≡ decimal_value (take l.digit-index l.digits) }

@@ -1,0 +1,146 @@
+-- The words of a script and of a command line: what one word may stand for, and what the words of a
+-- requester's wish and of a responder's deed say (this profile's own).
+use Rattle.std.specs.Prelude.{ℕ, ◌+◌, ◌-◌, ◌*◌, ◌&&◌, fold, nat_le, Bool, true, false, if◌then◌else◌, List, [], ◌∷◌, ◌++◌, length, flat_map, bytes_eq, codes, Option, Some, None, option_map}
+use Rattle.std.specs.List.{list_all}
+use Rattle.std.specs.Result.{result_ok}
+use Rattle.std.specs.Char.{is_ascii_digit}
+use Rattle.hex.specs.Hex.{decode_of}
+use Rattle.ill_values.specs.Day.{Date, read_date}
+use Rattle.ill_values.specs.Text.{item_of}
+use Rattle.ill_values.specs.declared.apdu.AnswerResult.{AnswerResult}
+use Rattle.ill_values.specs.declared.apdu.AnswerResult.TheVariants.{Conditional, Retry, Unfilled, LocationsProvided, WillSupply, HoldPlaced, Estimate}
+use Rattle.ill_core.specs.declared.requester.Wish.{Wish}
+use Rattle.ill_core.specs.declared.requester.Wish.TheVariants.{Request, Cancel, Reply, Receive, Renew, Return}
+use Rattle.ill_core.specs.declared.responder.Deed.{Deed}
+use Rattle.ill_core.specs.declared.responder.Deed.TheVariants.{Answer, CancelReply, Ship, RenewAnswer, Overdue, Recall, CheckIn, Expire}
+use Rattle.ill_world.specs.declared.event.Who.{Who}
+use Rattle.ill_world.specs.declared.event.Who.TheVariants.{Requester, Responder}
+
+-- one step after another, as long as each gives a value
+infixl 10 ◌>>=◌
+abbrev pub ◌>>=◌ : {A B : Type 0} → Option A → (A → Option B) → Option B
+Some value >>= next = next value
+None >>= next = None
+
+-- ---- one word
+
+-- the value beside a word in a table
+abbrev pub named : {A : Type 0} → List (List ℕ × A) → List ℕ → Option A
+named [] word = None
+named ((name, value) ∷ more) word = if bytes_eq word name then Some value else named more word
+
+abbrev pub yes_of : List ℕ → Option Bool
+yes_of = named ((codes "yes", true) ∷ (codes "no", false) ∷ [])
+
+abbrev pub who_named : List ℕ → Option Who
+who_named = named ((codes "requester", Requester) ∷ (codes "responder", Responder) ∷ [])
+
+-- whether a save that fails has landed nevertheless: the store has the new record, or the old one
+abbrev pub landed_of : List ℕ → Option Bool
+landed_of = named ((codes "new", true) ∷ (codes "old", false) ∷ [])
+
+unfoldable pub result_named : List ℕ → Option AnswerResult
+result_named = named (
+    (codes "conditional", Conditional)
+    ∷ (codes "retry", Retry)
+    ∷ (codes "unfilled", Unfilled)
+    ∷ (codes "locations-provided", LocationsProvided)
+    ∷ (codes "will-supply", WillSupply)
+    ∷ (codes "hold-placed", HoldPlaced)
+    ∷ (codes "estimate", Estimate)
+    ∷ [])
+
+-- a day as eight digits
+abbrev pub day_of : List ℕ → Option Date
+day_of word = result_ok (read_date word)
+
+-- a day, or the word for none
+abbrev pub optional_day_of : List ℕ → Option (Option Date)
+optional_day_of word = if bytes_eq word (codes "none") then Some None else option_map Some (day_of word)
+
+-- the number that decimal digits stand for
+abbrev pub decimal_value : List ℕ → ℕ
+decimal_value digits = fold (λ n digit. 10 * n + (digit - 0x30)) 0 digits
+
+-- a number of a message
+abbrev pub is_number : ℕ → Bool
+is_number n = nat_le 1 n && nat_le n 255
+
+-- one to three decimal digits
+abbrev pub is_numeral : List ℕ → Bool
+is_numeral word = nat_le 1 (length word) && nat_le (length word) 3 && list_all is_ascii_digit word
+
+-- the number of a message: one to three digits, with zeros before it or not
+abbrev pub number_of : List ℕ → Option ℕ
+number_of word = if is_numeral word && is_number (decimal_value word) then Some (decimal_value word) else None
+
+-- bytes as hexadecimal digits, two for each, or the word for none
+abbrev pub bytes_of : List ℕ → Option (List ℕ)
+bytes_of word = if bytes_eq word (codes "none") then Some [] else result_ok (decode_of word)
+
+-- ---- a requester's wish
+
+abbrev pub bare_wish_of : List ℕ → Option Wish
+bare_wish_of =
+    named ((codes "cancel", Cancel) ∷ (codes "receive", Receive) ∷ (codes "return", Return) ∷ [])
+
+abbrev pub wish_with : List ℕ → List ℕ → Option Wish
+wish_with verb word =
+    if bytes_eq verb (codes "reply") then option_map Reply (yes_of word)
+    else if bytes_eq verb (codes "renew") then option_map Renew (optional_day_of word)
+    else None
+
+-- words with a space between each and the next
+abbrev pub spaced : List ℕ → List (List ℕ) → List ℕ
+spaced first more = first ++ flat_map (λ word. 0x20 ∷ word) more
+
+-- a request until a day, or without an end, for the item of this text
+abbrev pub request_of : List ℕ → List ℕ → Option Wish
+request_of expiry text = do
+  day ← optional_day_of expiry
+  item ← result_ok (item_of text)
+  Some (Request day item)
+
+-- the wish that words say
+unfoldable pub wish_of : List (List ℕ) → Option Wish
+wish_of [] = None
+wish_of (verb ∷ []) = bare_wish_of verb
+wish_of (verb ∷ word ∷ []) = wish_with verb word
+wish_of (verb ∷ expiry ∷ first ∷ more) =
+    if bytes_eq verb (codes "request") then request_of expiry (spaced first more) else None
+
+-- ---- a responder's deed
+
+abbrev pub bare_deed_of : List ℕ → Option Deed
+bare_deed_of = named (
+    (codes "overdue", Overdue)
+    ∷ (codes "recall", Recall)
+    ∷ (codes "check-in", CheckIn)
+    ∷ (codes "expire", Expire)
+    ∷ [])
+
+-- a renewal is refused by the word alone
+abbrev pub refusal_of : List ℕ → Option Deed
+refusal_of = named ((codes "no", RenewAnswer None) ∷ [])
+
+unfoldable pub deed_with : List ℕ → List ℕ → Option Deed
+deed_with verb word =
+    if bytes_eq verb (codes "answer") then option_map Answer (result_named word)
+    else if bytes_eq verb (codes "cancel-reply") then option_map CancelReply (yes_of word)
+    else if bytes_eq verb (codes "ship") then option_map Ship (day_of word)
+    else if bytes_eq verb (codes "renew-answer") then refusal_of word
+    else None
+
+-- a renewal is granted with its date
+unfoldable pub grant_with : List ℕ → List ℕ → List ℕ → Option Deed
+grant_with verb word due =
+    if bytes_eq verb (codes "renew-answer") && bytes_eq word (codes "yes")
+    then option_map (λ day. RenewAnswer (Some day)) (day_of due)
+    else None
+
+-- the deed that words say
+unfoldable pub deed_of : List (List ℕ) → Option Deed
+deed_of (verb ∷ []) = bare_deed_of verb
+deed_of (verb ∷ word ∷ []) = deed_with verb word
+deed_of (verb ∷ word ∷ due ∷ []) = grant_with verb word due
+deed_of words = None

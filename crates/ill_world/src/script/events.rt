@@ -1,0 +1,91 @@
+//! What the words of a line say.
+
+ghost use Rattle.std.specs.Prelude.{◌≡◌, map, IfOk};
+ghost use Rattle.ill_world.specs.Script.{event_of, deed_event, side_event, bare_event, event_with};
+
+use crate::event::{Event, Who};
+use crate::script::actions::{deed, wish};
+use crate::script::words::{bytes, day, is, landed, number, who};
+use ill_values::OutOfMemory;
+use std::alloc::Global;
+
+/// The event that the words say, if they say one.
+#[tactic(auto, unfolding(crate::specs::Script::event_of))]
+pub(super) fn event(alloc: Global, words: &[&[u8]]) -> Result<Option<Event>, OutOfMemory>
+    ensures { IfOk result (λ event. event ≡ event_of (map (λ word. word.now) words.now)) }
+{
+    match words {
+        [] => Ok(None),
+        [first, words @ ..] => {
+            if is(first, "requester") {
+                Ok(wish(alloc, words)?.map(Event::Wish))
+            } else if is(first, "responder") {
+                Ok(deed_on_day(words))
+            } else {
+                side_event(alloc, first, words)
+            }
+        }
+    }
+}
+
+/// The deed and its day that the words behind `responder` say, if they say them.
+fn deed_on_day(words: &[&[u8]]) -> Option<Event>
+    ensures { result ≡ deed_event (map (λ word. word.now) words.now) }
+{
+    match words {
+        [] => None,
+        [today, words @ ..] => {
+            let today = day(today)?;
+            Some(Event::Deed(deed(words)?, today))
+        }
+    }
+}
+
+/// What the words behind the verb say, of which the first names a side.
+fn side_event(alloc: Global, verb: &[u8], words: &[&[u8]]) -> Result<Option<Event>, OutOfMemory>
+    ensures { IfOk result (λ event. event
+        ≡ side_event verb.now (map (λ word. word.now) words.now)) }
+{
+    match words {
+        [] => Ok(None),
+        [side] => Ok(who(side).and_then(|who| bare_event(verb, who))),
+        [side, word] => match who(side) {
+            Some(who) => event_with_word(alloc, verb, word, who),
+            None => Ok(None),
+        },
+        _ => Ok(None),
+    }
+}
+
+fn bare_event(verb: &[u8], who: Who) -> Option<Event>
+    ensures { result ≡ bare_event verb.now who }
+{
+    if is(verb, "save") {
+        Some(Event::Save(who))
+    } else if is(verb, "restart") {
+        Some(Event::Restart(who))
+    } else {
+        None
+    }
+}
+
+fn event_with_word(
+    alloc: Global,
+    verb: &[u8],
+    word: &[u8],
+    who: Who,
+) -> Result<Option<Event>, OutOfMemory>
+    ensures { IfOk result (λ event. event ≡ event_with verb.now word.now who) }
+{
+    if is(verb, "save-fault") {
+        Ok(landed(word).map(|landed| Event::SaveFault { who, landed }))
+    } else if is(verb, "send") {
+        Ok(number(word).map(|number| Event::Send(who, number)))
+    } else if is(verb, "deliver") {
+        Ok(number(word).map(|number| Event::Deliver(who, number)))
+    } else if is(verb, "noise") {
+        Ok(bytes(alloc, word)?.map(|bytes| Event::Noise(who, bytes)))
+    } else {
+        Ok(None)
+    }
+}

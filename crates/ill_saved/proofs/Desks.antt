@@ -23,7 +23,6 @@ use Rattle.ill_core.specs.ResponderActions as responder_actions
 use Rattle.ill_core.specs.ResponderDeliveries as responder_deliveries
 use Rattle.ill_core.proofs.RequesterLaws as requester
 use Rattle.ill_core.proofs.ResponderLaws as responder
-use Rattle.ill_saved.specs.declared.fault.DeskFault.{DeskFault}
 use Rattle.ill_saved.specs.declared.fault.DeskFault.TheVariants as faults
 use Rattle.ill_saved.specs.declared.fault.LayoutFault.{LayoutFault}
 use Rattle.ill_saved.specs.declared.side.Side.{Side}
@@ -39,7 +38,7 @@ use Rattle.ill_saved.specs.Records.{record_spelling}
 use Rattle.ill_saved.specs.Ranges.{IsSide}
 use Rattle.ill_saved.specs.Store.{LandsAtSave, Allows}
 use Rattle.ill_saved.proofs.RecordLaws.{side_again}
-use Rattle.ill_saved.specs.Desk.{landed_side, IsBackedBy, IsBackedByRead, IsBacked, DeskActs, DeskTakes, IsOneApdu, LoadsSide, IsFoundOrIdle}
+use Rattle.ill_saved.specs.Desk.{landed_side, IsBackedBy, IsBackedByRead, IsBacked, IsOneApdu, LoadsSide, IsFoundOrIdle}
 
 -- a row keeps the role and the transaction, and takes no message away
 abbrev pub Grows : Side → Side → Type 0

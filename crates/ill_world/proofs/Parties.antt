@@ -1,5 +1,5 @@
 -- What a desk answers, as a party answers it.
-use Rattle.std.proofs.Common.{rules, ◌≡◌, List, [], ℕ, Option, Some, Result, Ok, Err, refl, sym, ap, subst, ◌∙◌}
+use Rattle.std.proofs.Common.{◌≡◌, List, [], ℕ, Result, Ok, Err, ap, subst}
 use Rattle.ill_values.specs.declared.apdu.Apdu.{Apdu}
 use Rattle.ill_der.specs.declared.fault.DerFault.{DerFault}
 use Rattle.ill_core.specs.declared.refusal.Refusal.{Refusal}
@@ -8,7 +8,7 @@ use Rattle.ill_saved.specs.declared.side.Side.{Side}
 use Rattle.ill_saved.specs.declared.fault.DeskFault.{DeskFault}
 use Rattle.ill_saved.specs.declared.fault.DeskFault.TheVariants as faults
 use Rattle.ill_saved.specs.Side.{idle_of, takes, IsRow, took}
-use Rattle.ill_saved.specs.Desk.{landed_side, DeskTakes}
+use Rattle.ill_saved.specs.Desk.{DeskTakes}
 
 -- a row keeps the role and the transaction
 abbrev pub KeepsIdle : Type 0

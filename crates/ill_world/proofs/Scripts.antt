@@ -1,12 +1,11 @@
 -- What a script says, line by line.
-use Rattle.std.proofs.Common.{rules, arith, ◌≡◌, ℕ, ◌+◌, ◌<◌, ◌≤◌, Bool, true, false, ◌&&◌, nat_le, if◌then◌else◌, cond, ◌==◌, List, [], ◌∷◌, ◌++◌, length, Option, Some, None, refl, sym, ap, ◌∙◌, subst, length-append}
+use Rattle.std.proofs.Common.{arith, ◌≡◌, ℕ, ◌+◌, ◌<◌, ◌≤◌, Bool, true, false, ◌&&◌, nat_le, if◌then◌else◌, cond, ◌==◌, List, [], ◌∷◌, ◌++◌, length, Some, refl, sym, ap, ◌∙◌, length-append}
 use Rattle.std.specs.List.{onto_first}
 use Rattle.std.proofs.lemmas.Bool.{le-leb, lt-leb}
-use Rattle.ill_world.specs.declared.script.Line.{Line}
 use Rattle.ill_world.specs.declared.script.Line.TheVariants as lines
 use Rattle.ill_world.specs.Script.{meaning}
 use Rattle.ill_world.specs.Simulation.{Said, says_nothing, is_within, line_at, then_says, ends, breaks_off, says_from, lines_in}
-use Rattle.ill_world.specs.Simulating.{has_lf, IsLine, says_on}
+use Rattle.ill_world.specs.Simulating.{has_lf, says_on}
 use Rattle.ill_world.proofs.Texts.{line_first, line_alone, some_line, line_begins}
 
 -- only a bad line, with this number

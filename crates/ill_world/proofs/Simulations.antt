@@ -1,6 +1,6 @@
 -- A simulation, from line to line.
-use Rattle.std.proofs.Common.{rules, arith, ◌≡◌, ℕ, ◌+◌, ◌≤◌, Bool, true, false, List, [], ◌∷◌, ◌++◌, length, take, drop, Option, Some, None, Result, Ok, Err, refl, sym, ap, ◌∙◌, subst, append_assoc, append-nil, length-append}
-use Rattle.std.specs.Io.KnownBytes.{Consumes, Appends, IsAtEnd}
+use Rattle.std.proofs.Common.{arith, ◌≡◌, ℕ, ◌+◌, true, List, [], ◌∷◌, ◌++◌, length, Option, Some, Result, Ok, Err, refl, sym, ap, ◌∙◌, subst, append_assoc, append-nil, length-append}
+use Rattle.std.specs.Io.KnownBytes.{Consumes, Appends}
 use Rattle.std.proofs.KnownBytes.{Consumes-nil, Consumes-trans, Appends-nil, Appends-trans}
 use Rattle.ill_values.specs.TxnId.{Qualifiers}
 use Rattle.ill_world.specs.declared.event.Event.{Event}
@@ -10,9 +10,9 @@ use Rattle.ill_world.specs.declared.fault.SimFault.{SimFault}
 use Rattle.ill_world.specs.declared.fault.SimFault.TheVariants.{Script, Read, Write, OutOfMemory}
 use Rattle.ill_world.specs.World.{Parties, first_world, happens, run_of}
 use Rattle.ill_world.specs.Trace.{line}
-use Rattle.ill_world.specs.Simulation.{Said, says_nothing, line_at, then_says, ends, breaks_off, script, trace_from, trace_of, IsFront, OfAll, Answers, Simulates}
-use Rattle.ill_world.specs.Simulating.{IsLine, line_of, Performs, PerformsLine, says_on, AnswersFrom, SimulatesFrom, StepsLine, FindsEnd}
-use Rattle.ill_world.proofs.Scripts.{says_line, says_rest, ends_line}
+use Rattle.ill_world.specs.Simulation.{Said, line_at, then_says, ends, breaks_off, trace_from, trace_of, IsFront, Answers, Simulates}
+use Rattle.ill_world.specs.Simulating.{IsLine, line_of, PerformsLine, says_on, AnswersFrom, SimulatesFrom, StepsLine}
+use Rattle.ill_world.proofs.Scripts.{says_line}
 
 -- ---- the trace of more events
 
@@ -129,7 +129,7 @@ one_more txn old middle new before between after n w next count next_count bytes
       counted = omega (arith, done.1, so_far.counted, length-append events (event ∷ []));
       world = done.0 ∙ ap (λ v. (happens v event).1) so_far.world ∙ sym (run_more (first_world txn) events event);
       says =
-        λ end rest.
+          λ end rest.
           says_one_more end n so_far.text bytes rest events (lines.Event event) is e (so_far.says end)
           ∙ ap (λ es. record { events = es; bad = (says_on end (n + 1) rest).bad }) (sym (append_assoc events (event ∷ []) (says_on end (n + 1) rest).events));
     }
@@ -158,38 +158,39 @@ answers_on txn n w count front text shown trace events left (Ok total) is counte
       answers.0,
       ap (λ (s : Said). s.bad) said ∙ answers.1,
       ap (λ t. t ++ trace) is ∙ ap (λ t. trace_of txn events ++ t) answers.2 ∙ sym (trace_on txn w count events rest.events counted world)
-      ∙ ap (λ (s : Said). trace_of txn s.events) (sym said),
+          ∙ ap (λ (s : Said). trace_of txn s.events) (sym said),
       (let sum : total ≡ length (events ++ rest.events) = omega (arith, answers.3, counted, length-append events rest.events) in sum) ∙ ap (λ (s : Said). length s.events) (sym said),
     )
 answers_on txn n w count front text shown trace events left (Err (Script m)) is counted world so_far answers =
     λ more e.
-      let rest = says_on ends n (text ++ more) in
-      let told = answers more e in
-      said_of_all ends front text more (λ s. (s.bad ≡ Some m) × (shown ++ trace ≡ trace_of txn s.events)) n events (so_far ends)
-      (told.0, ap (λ t. t ++ trace) is ∙ ap (λ t. trace_of txn events ++ t) told.1 ∙ sym (trace_on txn w count events rest.events counted world))
+    let rest = says_on ends n (text ++ more) in
+    let told = answers more e in
+    said_of_all ends front text more (λ s. (s.bad ≡ Some m) × (shown ++ trace ≡ trace_of txn s.events)) n events (so_far ends)
+    (told.0, ap (λ t. t ++ trace) is ∙ ap (λ t. trace_of txn events ++ t) told.1 ∙ sym (trace_on txn w count events rest.events counted world))
 answers_on txn n w count front text shown trace events left (Err Read) is counted world so_far answers =
     let said = so_far breaks_off text in
     let rest = says_on breaks_off n text in (
       ap (λ (s : Said). s.bad) said ∙ answers.0,
       ap (λ t. t ++ trace) is ∙ ap (λ t. trace_of txn events ++ t) answers.1 ∙ sym (trace_on txn w count events rest.events counted world)
-      ∙ ap (λ (s : Said). trace_of txn s.events) (sym said),
+          ∙ ap (λ (s : Said). trace_of txn s.events) (sym said),
     )
 answers_on txn n w count front text shown trace events left (Err Write) is counted world so_far answers =
     λ more e.
-      let rest = says_on ends n (text ++ more) in
-      let told = answers more e in
-      said_of_all ends front text more (λ s. IsFront (shown ++ trace) (trace_of txn s.events)) n events (so_far ends)
-      (told.0, trace_on txn w count events rest.events counted world ∙ ap (λ t. trace_of txn events ++ t) told.1
-      ∙ sym (append_assoc (trace_of txn events) trace told.0) ∙ ap (λ t. (t ++ trace) ++ told.0) (sym is))
+    let rest = says_on ends n (text ++ more) in
+    let told = answers more e in
+    said_of_all ends front text more (λ s. IsFront (shown ++ trace) (trace_of txn s.events)) n events (so_far ends) (
+      told.0,
+      trace_on txn w count events rest.events counted world ∙ ap (λ t. trace_of txn events ++ t) told.1
+          ∙ sym (append_assoc (trace_of txn events) trace told.0) ∙ ap (λ t. (t ++ trace) ++ told.0) (sym is),
+    )
 answers_on txn n w count front text shown trace events left (Err OutOfMemory) is counted world so_far answers =
     λ more e.
-      let told = answers more e in
-      said_of_all ends front text more (λ s. (es : List Event) × IsFront es s.events × (shown ++ trace ≡ trace_of txn es)) n events (so_far ends)
-      (
-        events ++ told.0,
-        (told.1.0, ap (λ es. events ++ es) told.1.1 ∙ sym (append_assoc events told.0 told.1.0)),
-        ap (λ t. t ++ trace) is ∙ ap (λ t. trace_of txn events ++ t) told.2 ∙ sym (trace_on txn w count events told.0 counted world),
-      )
+    let told = answers more e in
+    said_of_all ends front text more (λ s. (es : List Event) × IsFront es s.events × (shown ++ trace ≡ trace_of txn es)) n events (so_far ends) (
+      events ++ told.0,
+      (told.1.0, ap (λ es. events ++ es) told.1.1 ∙ sym (append_assoc events told.0 told.1.0)),
+      ap (λ t. t ++ trace) is ∙ ap (λ t. trace_of txn events ++ t) told.2 ∙ sym (trace_on txn w count events told.0 counted world),
+    )
 
 -- the rest of a script, behind the lines that were performed
 pub simulates_on : (txn : Qualifiers) (old middle new before between after : Option (List ℕ)) (n : ℕ) (w : Parties) (count : ℕ) (result : Result ℕ SimFault)

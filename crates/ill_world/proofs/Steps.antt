@@ -1,12 +1,11 @@
 -- One line of a script in a simulation.
-use Rattle.std.proofs.Common.{rules, arith, ◌≡◌, ℕ, ◌+◌, ◌≤◌, Bool, true, false, List, [], ◌∷◌, ◌++◌, length, take, drop, Option, Some, None, Result, Ok, Err, refl, sym, ap, ◌∙◌, subst, append_assoc, append-nil}
+use Rattle.std.proofs.Common.{arith, ◌≡◌, ℕ, ◌+◌, ◌≤◌, Bool, List, [], ◌∷◌, ◌++◌, length, take, drop, Option, Some, Result, Ok, Err, refl, sym, ap, ◌∙◌, subst, append_assoc, append-nil}
 use Rattle.std.specs.Prelude.{IsErrAnd}
 use Rattle.std.specs.Io.KnownBytes.{Consumes, Appends, IsAtEnd}
 use Rattle.std.proofs.KnownBytes.{Appends-nil, Consumes-nil}
 use Rattle.std.proofs.Math.ListN.{take-append-drop}
 use Rattle.ill_values.specs.TxnId.{Qualifiers}
 use Rattle.ill_world.specs.declared.event.Event.{Event}
-use Rattle.ill_world.specs.declared.lines.Found.{Found}
 use Rattle.ill_world.specs.declared.lines.Found.TheVariants as found
 use Rattle.ill_world.specs.declared.script.Line.{Line}
 use Rattle.ill_world.specs.declared.script.Line.TheVariants as lines
@@ -14,9 +13,9 @@ use Rattle.ill_world.specs.declared.fault.SimFault.{SimFault}
 use Rattle.ill_world.specs.declared.fault.SimFault.TheVariants.{Script, Read, Write, OutOfMemory}
 use Rattle.ill_world.specs.World.{Parties, first_world, happens}
 use Rattle.ill_world.specs.Script.{meaning}
-use Rattle.ill_world.specs.Simulation.{Said, says_nothing, line_at, then_says, ends, breaks_off, says_from, trace_from, trace_of, IsFront, script, Answers, Simulates}
+use Rattle.ill_world.specs.Simulation.{Said, says_nothing, line_at, then_says, ends, breaks_off, says_from, trace_from, IsFront, script, Simulates}
 use Rattle.ill_world.specs.Simulating.{IsLine, ReadsLine, line_of, PerformsLine, says_on, AnswersFrom, SimulatesFrom, StepsLine, FindsEnd}
-use Rattle.ill_world.proofs.Scripts.{only_bad, within, line_within, says_line, says_rest, ends_line, breaks_nothing, says_too_long, says_too_many}
+use Rattle.ill_world.proofs.Scripts.{within, line_within, says_line, says_rest, ends_line, breaks_nothing, says_too_long, says_too_many}
 use Rattle.ill_world.proofs.Simulations.{trace_of_none, trace_next, trace_of_one}
 
 -- ---- what was read says
@@ -34,8 +33,8 @@ nothing_left left more at_end e = subst IsAtEnd e at_end
 pub begins_last : (n : ℕ) (bytes : List ℕ) (left : Option (List ℕ)) → IsLine bytes → 1 ≤ length bytes → IsAtEnd left → Begins n bytes bytes left
 begins_last n bytes left is some at_end =
     λ more e.
-      let all : bytes ++ more ≡ bytes = ap (λ m. bytes ++ m) (nothing_left left more at_end e) ∙ append-nil bytes in
-      (says_nothing, ap (says_on ends n) all ∙ says_rest ends n bytes is.0 ∙ ends_line n bytes some)
+    let all : bytes ++ more ≡ bytes = ap (λ m. bytes ++ m) (nothing_left left more at_end e) ∙ append-nil bytes in
+    (says_nothing, ap (says_on ends n) all ∙ says_rest ends n bytes is.0 ∙ ends_line n bytes some)
 
 -- ---- a line that failed
 
@@ -129,20 +128,24 @@ last_performed n w next count next_count old new before after bytes lines.Skippe
   [],
   read,
   done.2,
-  (at_end,
-  ap (λ (s : Said). s.bad) said,
-  sym (trace_of_none (count + 1) w) ∙ ap (λ (s : Said). trace_from (count + 1) w s.events) (sym said),
-  (let zero : next_count ≡ count + length (then_says lines.Skipped n says_nothing).events = omega (arith, done.1) in zero) ∙ ap (λ (s : Said). count + length s.events) (sym said)),
+  (
+    at_end,
+    ap (λ (s : Said). s.bad) said,
+    sym (trace_of_none (count + 1) w) ∙ ap (λ (s : Said). trace_from (count + 1) w s.events) (sym said),
+    (let zero : next_count ≡ count + length (then_says lines.Skipped n says_nothing).events = omega (arith, done.1) in zero) ∙ ap (λ (s : Said). count + length s.events) (sym said),
+  ),
 )
 last_performed n w next count next_count old new before after bytes (lines.Event event) read at_end said done = (
   bytes,
   line_of w count event,
   read,
   done.2,
-  (at_end,
-  ap (λ (s : Said). s.bad) said,
-  sym (trace_of_one (count + 1) w event) ∙ ap (λ (s : Said). trace_from (count + 1) w s.events) (sym said),
-  (let one : next_count ≡ count + length (then_says (lines.Event event) n says_nothing).events = omega (arith, done.1) in one) ∙ ap (λ (s : Said). count + length s.events) (sym said)),
+  (
+    at_end,
+    ap (λ (s : Said). s.bad) said,
+    sym (trace_of_one (count + 1) w event) ∙ ap (λ (s : Said). trace_from (count + 1) w s.events) (sym said),
+    (let one : next_count ≡ count + length (then_says (lines.Event event) n says_nothing).events = omega (arith, done.1) in one) ∙ ap (λ (s : Said). count + length s.events) (sym said),
+  ),
 )
 last_performed n w next count next_count old new before after bytes lines.Bad read at_end said done = absurd done
 

@@ -1,5 +1,5 @@
 -- How the two-party model sees what a party has in memory and in its store.
-use Rattle.std.specs.Prelude.{◌≡◌, ◌≤◌, ℕ, Bool, false, List, [], ◌∷◌, length, Option, Result, Ok, Err}
+use Rattle.std.specs.Prelude.{◌≡◌, ℕ, Bool, false, List, [], ◌∷◌, Option, Result, Ok, Err}
 use Rattle.ill_values.specs.declared.apdu.Apdu.{Apdu}
 use Rattle.ill_values.specs.TxnId.{Qualifiers}
 use Rattle.ill_core.specs.Issued.{is_same_txn}
@@ -13,7 +13,7 @@ use Rattle.ill_saved.specs.Side.{idle_of}
 use Rattle.ill_saved.specs.Store.{Memory}
 use Rattle.ill_saved.specs.Desk.{DeskOf, landed_side}
 use Rattle.ill_world.specs.declared.event.Outcome.{Outcome}
-use Rattle.ill_world.specs.World.{Party, Parties}
+use Rattle.ill_world.specs.World.{Party}
 
 -- ---- messages
 

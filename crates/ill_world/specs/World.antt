@@ -1,6 +1,6 @@
 -- The two-party model: two sides, what has landed of each, and what each has sent (this profile's
 -- own). It knows no bytes but those of noise, and no stores.
-use Rattle.std.specs.Prelude.{◌≡◌, ℕ, zero, suc, Bool, true, false, nat_le, List, [], ◌∷◌, length, replicate, slice_get, Option, Some, None, Result, Ok, Err, if◌then◌else◌}
+use Rattle.std.specs.Prelude.{ℕ, zero, suc, Bool, true, false, nat_le, List, [], ◌∷◌, length, replicate, slice_get, Option, Some, None, Result, Ok, Err, if◌then◌else◌}
 use Rattle.std.specs.List.{slice_set}
 use Rattle.std.specs.Option.{option_flatten}
 use Rattle.ill_values.specs.declared.apdu.Apdu.{Apdu}
@@ -16,7 +16,6 @@ use Rattle.ill_core.specs.Requester.{requester_of}
 use Rattle.ill_core.specs.Responder.{responder_of}
 use Rattle.ill_saved.specs.declared.side.Side.{Side}
 use Rattle.ill_saved.specs.declared.side.Side.TheVariants as sides
-use Rattle.ill_saved.specs.declared.side.Action.{Action}
 use Rattle.ill_saved.specs.declared.side.Action.TheVariants as actions
 use Rattle.ill_saved.specs.Side.{issued_of, txn_of, acts, takes}
 use Rattle.ill_world.specs.declared.event.Who.{Who}

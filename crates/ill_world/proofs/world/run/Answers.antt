@@ -1,4 +1,4 @@
-use Rattle.std.proofs.Common.{rules, arith, ap, sym, ◌∙◌}
+use Rattle.std.proofs.Common.{arith, ap, sym, ◌∙◌}
 use Rattle.ill_world.specs.World.{run_of}
 use Rattle.ill_world.proofs.Runs.{run_on, run_ended}
 use Rattle.ill_world.proofs.world.run.Goals as goal

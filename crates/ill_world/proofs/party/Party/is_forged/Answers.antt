@@ -10,10 +10,10 @@ returns-after-size-bytes c =
     let txn = txn_of c.args.self.now.live in
     let bytes = c.args.bytes.now in
     elim c.if-size-bytes.branch [
-      then-size-bytes w ↦
-        let whole = whole_is_of txn bytes (apdu_at bytes) c.in-Ok.apdu c.in-Ok.size c.in-Ok.ensures.read w.if-size-bytes.true in
-        search (rules, whole)
-    | else-size-bytes w ↦
-        let part = part_is_of txn bytes (apdu_at bytes) c.in-Ok.apdu c.in-Ok.size c.in-Ok.ensures.read w.if-size-bytes.false in
-        search (rules, part)
+      | then-size-bytes w ↦
+          let whole = whole_is_of txn bytes (apdu_at bytes) c.in-Ok.apdu c.in-Ok.size c.in-Ok.ensures.read w.if-size-bytes.true in
+          search (rules, whole)
+      | else-size-bytes w ↦
+          let part = part_is_of txn bytes (apdu_at bytes) c.in-Ok.apdu c.in-Ok.size c.in-Ok.ensures.read w.if-size-bytes.false in
+          search (rules, part)
     ]

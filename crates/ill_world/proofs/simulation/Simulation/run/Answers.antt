@@ -1,4 +1,4 @@
-use Rattle.std.proofs.Common.{arith, ◌≡◌, ◌+◌, Bool, Ok, Err, subst}
+use Rattle.std.proofs.Common.{arith, ◌+◌, Bool, Ok, Err, subst}
 use Rattle.ill_world.specs.Simulating.{StepsLine}
 use Rattle.ill_world.proofs.Simulations.{none_performed, one_more_performed, simulates_on}
 use Rattle.ill_world.proofs.Steps.{finds_end}

@@ -1,6 +1,6 @@
 use Rattle.std.proofs.Common.{arith, ◌≡◌, ◌≤◌, length, Ok, subst}
 use Rattle.ill_world.specs.Simulating.{ReadsLine}
-use Rattle.ill_world.proofs.Steps.{passes_on, not_read, line_stops, nothing_follows, ended_with_line, too_long_stops, begins_closed, begins_last, performs_at}
+use Rattle.ill_world.proofs.Steps.{passes_on, not_read, line_stops, nothing_follows, ended_with_line, too_long_stops, begins_closed, begins_last}
 use Rattle.ill_world.proofs.simulation.Simulation.step.Goals as goal
 
 pub returns-in_err-next_line-clause-steps : goal.returns-in_err-next_line-clause-steps

@@ -80,10 +80,12 @@ bytes_of word = if bytes_eq word (codes "none") then Some [] else result_ok (dec
 
 -- ---- a requester's wish
 
+-- a wish of one word
 abbrev pub bare_wish_of : List ℕ → Option Wish
 bare_wish_of =
     named ((codes "cancel", Cancel) ∷ (codes "receive", Receive) ∷ (codes "return", Return) ∷ [])
 
+-- a wish of a word and what it is about
 abbrev pub wish_with : List ℕ → List ℕ → Option Wish
 wish_with verb word =
     if bytes_eq verb (codes "reply") then option_map Reply (yes_of word)
@@ -111,6 +113,7 @@ wish_of (verb ∷ expiry ∷ first ∷ more) =
 
 -- ---- a responder's deed
 
+-- a deed of one word
 abbrev pub bare_deed_of : List ℕ → Option Deed
 bare_deed_of = named (
     (codes "overdue", Overdue)
@@ -119,10 +122,11 @@ bare_deed_of = named (
     ∷ (codes "expire", Expire)
     ∷ [])
 
--- a renewal is refused by the word alone
+-- a renewal is refused without a date
 abbrev pub refusal_of : List ℕ → Option Deed
 refusal_of = named ((codes "no", RenewAnswer None) ∷ [])
 
+-- a deed of a word and what it is about
 unfoldable pub deed_with : List ℕ → List ℕ → Option Deed
 deed_with verb word =
     if bytes_eq verb (codes "answer") then option_map Answer (result_named word)
@@ -131,7 +135,7 @@ deed_with verb word =
     else if bytes_eq verb (codes "renew-answer") then refusal_of word
     else None
 
--- a renewal is granted with its date
+-- a renewal is granted by two words and the new due date
 unfoldable pub grant_with : List ℕ → List ℕ → List ℕ → Option Deed
 grant_with verb word due =
     if bytes_eq verb (codes "renew-answer") && bytes_eq word (codes "yes")

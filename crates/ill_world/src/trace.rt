@@ -10,7 +10,8 @@ use ill_values::{Day, OutOfMemory};
 use itoa::{Buffer, Integer};
 
 /// Adds the line of the event with this number, counted from 1: its number, its outcome, and for
-/// each side the state, the due date, and how many of its messages are released and issued.
+/// each side the state, the due date, and how many of its messages are released and issued, as
+/// `3 saved requester PENDING - 1/1 responder IDLE - 0/0` with an LF behind it.
 #[tactic(auto, unfolding(crate::specs::Trace::line))]
 pub(crate) fn push_line(
     lines: &mut Vec<u8>,

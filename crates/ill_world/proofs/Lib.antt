@@ -6,3 +6,6 @@ pub mod Texts
 pub mod Scripts
 pub mod Simulations
 pub mod Steps
+pub mod Sendings
+pub mod Kept
+pub mod Standings

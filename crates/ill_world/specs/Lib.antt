@@ -5,3 +5,5 @@ pub mod Script
 pub mod Trace
 pub mod Simulation
 pub mod Simulating
+pub mod Safety
+pub mod Invariant

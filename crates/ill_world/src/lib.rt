@@ -5,6 +5,7 @@
 mod bytes;
 mod event;
 mod fault;
+pub mod laws;
 mod lines;
 mod message;
 mod party;

@@ -1,0 +1,101 @@
+-- What an event keeps of a party.
+use Rattle.std.proofs.Common.{rules, ◌≡◌, ℕ, Bool, true, false, nat_le, List, [], ◌∷◌, Option, Some, None, Result, Ok, Err, refl, sym, ap, ◌∙◌, subst}
+use Rattle.ill_values.specs.declared.apdu.Apdu.{Apdu}
+use Rattle.ill_core.specs.declared.refusal.Refusal.{Refusal}
+use Rattle.ill_core.specs.declared.taking.Taking.{Taking}
+use Rattle.ill_core.specs.Issued.{message}
+use Rattle.ill_saved.specs.declared.side.Side.{Side}
+use Rattle.ill_saved.specs.declared.side.Action.{Action}
+use Rattle.ill_saved.specs.declared.side.Action.TheVariants as actions
+use Rattle.ill_saved.specs.Side.{issued_of, acts, takes, IsFrontOf, IsRow, acted, took, Follows, same, further}
+use Rattle.ill_world.specs.declared.event.Event.{Event}
+use Rattle.ill_world.specs.declared.event.Event.TheVariants as events
+use Rattle.ill_world.specs.World.{Party, sent_message, decides, sends, receives, happens_to}
+use Rattle.ill_world.specs.Invariant.{WasSent, SendsSaved, PartyStands}
+use Rattle.ill_world.proofs.Sendings.{live_grows, saved_now, saved_by_fault, saved_at_restart, saved_by_send, sent_stays}
+
+-- ---- what is used of the rows
+
+-- what a side has issued is the front of what it has issued after rows
+abbrev pub Issues : Type 0
+Issues = (old new : Side) → Follows old new → IsFrontOf (issued_of old) (issued_of new)
+
+-- An action keeps K, and so does a message that was sent, and whatever is sent further.
+pub record Keeps (K : Side → List (Option Apdu) → Type 0) : Type 0 where
+  pub acts : (old new : Side) (action : Action) (told : List (Option Apdu)) → acts old action ≡ Ok new → K old told → K new told
+  pub more : (side : Side) (told more : List (Option Apdu)) → ((a : Apdu) → WasSent told a → WasSent more a) → K side told → K side more
+  pub takes : (old : Side) (a : Apdu) (told : List (Option Apdu)) → WasSent told a → K old told → K (takes old a).1 told
+
+row_issues : Issues → (old new : Side) → IsRow old new → IsFrontOf (issued_of old) (issued_of new)
+row_issues issues old new row = issues old new (further old new same row)
+
+-- ---- one event
+
+party_decides : (K : Side → List (Option Apdu) → Type 0) (p : Party) (told : List (Option Apdu)) (action : Action) (result : Result Side Refusal) → Issues → Keeps K → acts p.live action ≡ result
+    → PartyStands K p told → PartyStands K (decides p result).1 told
+party_decides K p told action (Ok new) issues keeps e stands = record {
+  saved = live_grows p new (row_issues issues p.live new (acted action e)) stands.saved;
+  live = keeps.acts p.live new action told e stands.live;
+  landed = stands.landed;
+}
+party_decides K p told action (Err refusal) issues keeps e stands = stands
+
+party_receives : (K : Side → List (Option Apdu) → Type 0) (p : Party) (told : List (Option Apdu)) (n : ℕ) (found : Option Apdu) → Issues → Keeps K → sent_message told n ≡ found
+    → PartyStands K p told → PartyStands K (receives p found).1 told
+party_receives K p told n None issues keeps e stands = stands
+party_receives K p told n (Some a) issues keeps e stands = record {
+  saved = live_grows p (takes p.live a).1 (row_issues issues p.live (takes p.live a).1 (took a refl)) stands.saved;
+  live = keeps.takes p.live a told (n, e) stands.live;
+  landed = stands.landed;
+}
+
+party_fails : (K : Side → List (Option Apdu) → Type 0) (p : Party) (told : List (Option Apdu)) (who : _) (landed : Bool) → PartyStands K p told → PartyStands K (happens_to p told (events.SaveFault who landed)).1 told
+party_fails K p told who true stands = record { saved = saved_by_fault p true stands.saved; live = stands.live; landed = stands.live }
+party_fails K p told who false stands = stands
+
+party_sends : (K : Side → List (Option Apdu) → Type 0) (p : Party) (told : List (Option Apdu)) (n : ℕ) (found : Option Apdu) (released : Bool) → message (issued_of p.live) n ≡ found
+    → nat_le n p.released ≡ released → PartyStands K p told → PartyStands K (sends p n found released).1 told
+party_sends K p told n None released is e stands = stands
+party_sends K p told n (Some a) false is e stands = stands
+party_sends K p told n (Some a) true is e stands = record { saved = saved_by_send p n (Some a) true is e stands.saved; live = stands.live; landed = stands.landed }
+
+pub party_kept : (K : Side → List (Option Apdu) → Type 0) (p : Party) (told : List (Option Apdu)) (event : Event) → Issues → Keeps K → PartyStands K p told
+    → PartyStands K (happens_to p told event).1 told
+party_kept K p told (events.Wish wish) issues keeps stands = party_decides K p told (actions.Wish wish) (acts p.live (actions.Wish wish)) issues keeps refl stands
+party_kept K p told (events.Deed deed today) issues keeps stands = party_decides K p told (actions.Deed deed today) (acts p.live (actions.Deed deed today)) issues keeps refl stands
+party_kept K p told (events.Save who) issues keeps stands = record { saved = saved_now p stands.saved; live = stands.live; landed = stands.live }
+party_kept K p told (events.SaveFault who landed) issues keeps stands = party_fails K p told who landed stands
+party_kept K p told (events.Send who n) issues keeps stands = party_sends K p told n (message (issued_of p.live) n) (nat_le n p.released) refl refl stands
+party_kept K p told (events.Deliver who n) issues keeps stands = party_receives K p told n (sent_message told n) issues keeps refl stands
+party_kept K p told (events.Noise who bytes) issues keeps stands = stands
+party_kept K p told (events.Restart who) issues keeps stands = record { saved = saved_at_restart p stands.saved; live = stands.landed; landed = stands.landed }
+
+-- what the other party sends further
+pub told_more : (K : Side → List (Option Apdu) → Type 0) (p : Party) (told more : List (Option Apdu)) → Keeps K → ((a : Apdu) → WasSent told a → WasSent more a) → PartyStands K p told
+    → PartyStands K p more
+told_more K p told more keeps stays stands = record { saved = stands.saved; live = keeps.more p.live told more stays stands.live; landed = keeps.more p.landed told more stays stands.landed }
+
+-- ---- what it has sent
+
+decides_sends : (p : Party) (result : Result Side Refusal) → (decides p result).1.sent ≡ p.sent
+decides_sends p (Ok new) = refl
+decides_sends p (Err refusal) = refl
+
+receives_sends : (p : Party) (found : Option Apdu) → (receives p found).1.sent ≡ p.sent
+receives_sends p None = refl
+receives_sends p (Some a) = refl
+
+fails_sends : (p : Party) (told : List (Option Apdu)) (who : _) (landed : Bool) → (happens_to p told (events.SaveFault who landed)).1.sent ≡ p.sent
+fails_sends p told who true = refl
+fails_sends p told who false = refl
+
+-- what a party has sent stays sent
+pub stays_sent : (p : Party) (told : List (Option Apdu)) (event : Event) → SendsSaved p → (a : Apdu) → WasSent p.sent a → WasSent (happens_to p told event).1.sent a
+stays_sent p told (events.Wish wish) saved a was = subst (λ s. WasSent s a) (sym (decides_sends p (acts p.live (actions.Wish wish)))) was
+stays_sent p told (events.Deed deed today) saved a was = subst (λ s. WasSent s a) (sym (decides_sends p (acts p.live (actions.Deed deed today)))) was
+stays_sent p told (events.Save who) saved a was = was
+stays_sent p told (events.SaveFault who landed) saved a was = subst (λ s. WasSent s a) (sym (fails_sends p told who landed)) was
+stays_sent p told (events.Send who n) saved a was = sent_stays p n (message (issued_of p.live) n) (nat_le n p.released) refl refl saved a was
+stays_sent p told (events.Deliver who n) saved a was = subst (λ s. WasSent s a) (sym (receives_sends p (sent_message told n))) was
+stays_sent p told (events.Noise who bytes) saved a was = was
+stays_sent p told (events.Restart who) saved a was = was

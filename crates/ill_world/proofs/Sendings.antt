@@ -1,0 +1,139 @@
+-- What a party has sent, issued and saved.
+use Rattle.std.proofs.Common.{rules, arith, ◌≡◌, ◌⊎◌, inl, inr, ℕ, zero, suc, ◌+◌, ◌≤◌, Bool, true, false, ◌||◌, nat_le, List, [], ◌∷◌, ◌++◌, length, Option, Some, None, refl, sym, ap, ◌∙◌, subst, append_assoc, append-nil, length-append}
+use Rattle.std.specs.Prelude.{slice_get}
+use Rattle.std.specs.List.{slice_set, list_any}
+use Rattle.std.specs.Option.{option_flatten}
+use Rattle.std.proofs.lemmas.Bool.{leb-true}
+use Rattle.ill_values.specs.declared.apdu.Apdu.{Apdu}
+use Rattle.ill_values.specs.declared.apdu.Body.{Body}
+use Rattle.ill_core.specs.Issued.{message, has}
+use Rattle.ill_saved.specs.declared.side.Side.{Side}
+use Rattle.ill_saved.specs.Side.{issued_of, IsFrontOf}
+use Rattle.ill_world.specs.World.{Party, sent_message, with_sent, saves, fails_to_save, restarts, sends}
+use Rattle.ill_world.specs.Invariant.{WasSent, SendsSaved}
+
+-- ---- lists
+
+-- what stands in a list after a value was put there: that value, or what stood there before
+put_there : (slots : List (Option Apdu)) (i j : ℕ) (a b : Apdu) → option_flatten (slice_get (slice_set slots i (Some a)) j) ≡ Some b → ((j ≡ i) × (b ≡ a)) ⊎ (option_flatten (slice_get slots j) ≡ Some b)
+put_there [] i j a b e = inr e
+put_there (slot ∷ slots) zero zero a b e = inl (refl, search rules)
+put_there (slot ∷ slots) zero (suc j) a b e = inr e
+put_there (slot ∷ slots) (suc i) zero a b e = inr e
+put_there (slot ∷ slots) (suc i) (suc j) a b e = elim (put_there slots i j a b e) [ inl here ↦ inl (ap suc here.0, here.1) | inr before ↦ inr before ]
+
+-- what stood there stays, where the same is put there
+still_there : (slots : List (Option Apdu)) (i j : ℕ) (a b : Apdu) → option_flatten (slice_get slots j) ≡ Some b → (j ≡ i → a ≡ b) → option_flatten (slice_get (slice_set slots i (Some a)) j) ≡ Some b
+still_there [] i j a b e same = e
+still_there (slot ∷ slots) zero zero a b e same = ap Some (same refl)
+still_there (slot ∷ slots) zero (suc j) a b e same = e
+still_there (slot ∷ slots) (suc i) zero a b e same = e
+still_there (slot ∷ slots) (suc i) (suc j) a b e same = still_there slots i j a b e (λ at. same (ap suc at))
+
+get_front : (front more : List Apdu) (i : ℕ) (a : Apdu) → slice_get front i ≡ Some a → slice_get (front ++ more) i ≡ Some a
+get_front [] more i a e = search rules
+get_front (b ∷ front) more zero a e = e
+get_front (b ∷ front) more (suc i) a e = get_front front more i a e
+
+get_within : (front more : List Apdu) (i : ℕ) (a : Apdu) → i + 1 ≤ length front → slice_get (front ++ more) i ≡ Some a → slice_get front i ≡ Some a
+get_within [] more i a less e = absurd (omega (arith, less))
+get_within (b ∷ front) more zero a less e = e
+get_within (b ∷ front) more (suc i) a less e = get_within front more i a (omega (arith, less)) e
+
+-- a message of the front is that of the whole
+pub front_message : (front apdus : List Apdu) (n : ℕ) (a : Apdu) → IsFrontOf front apdus → message front n ≡ Some a → message apdus n ≡ Some a
+front_message front apdus zero a is e = search rules
+front_message front apdus (suc n) a is e = subst (λ l. slice_get l n ≡ Some a) (sym is.1) (get_front front is.0 n a e)
+
+-- and a message of the whole that of the front, where it is as long
+within_front : (front apdus : List Apdu) (n : ℕ) (a : Apdu) → IsFrontOf front apdus → n ≤ length front → message apdus n ≡ Some a → message front n ≡ Some a
+within_front front apdus zero a is few e = search rules
+within_front front apdus (suc n) a is few e = get_within front is.0 n a (omega (arith, few)) (subst (λ l. slice_get l n ≡ Some a) is.1 e)
+
+pub front_of_front : (a b c : List Apdu) → IsFrontOf a b → IsFrontOf b c → IsFrontOf a c
+front_of_front a b c first second = (first.0 ++ second.0, second.1 ∙ ap (λ l. l ++ second.0) first.1 ∙ append_assoc a first.0 second.0)
+
+pub front_of_itself : (a : List Apdu) → IsFrontOf a a
+front_of_itself a = ([], sym (append-nil a))
+
+front_is_shorter : (a b : List Apdu) → IsFrontOf a b → length a ≤ length b
+front_is_shorter a b is = omega (arith, ap length is.1, length-append a is.0)
+
+some_is : (a b : Apdu) → ◌≡◌ {A = Option Apdu} (Some a) (Some b) → a ≡ b
+some_is a b e = search rules
+
+or_true : (b : Bool) → (b || true) ≡ true
+or_true true = refl
+or_true false = refl
+
+-- a message is one of those that were issued
+pub message_has : (says : Body → Bool) (apdus : List Apdu) (n : ℕ) (a : Apdu) → message apdus n ≡ Some a → says a.body ≡ true → has says apdus ≡ true
+message_has says apdus zero a e is = search rules
+message_has says [] (suc n) a e is = search rules
+message_has says (b ∷ apdus) (suc zero) a e is = ap (λ (r : Bool). r || has says apdus) (subst (λ (x : Apdu). says x.body ≡ true) (sym (some_is b a e)) is)
+message_has says (b ∷ apdus) (suc (suc n)) a e is = ap (λ (r : Bool). says b.body || r) (message_has says apdus (suc n) a e is) ∙ or_true (says b.body)
+
+-- ---- a party
+
+pub live_grows : (p : Party) (new : Side) → IsFrontOf (issued_of p.live) (issued_of new) → SendsSaved p → SendsSaved (record p { live = new })
+live_grows p new grows saved = record {
+  landed = saved.landed;
+  front = front_of_front (issued_of p.landed) (issued_of p.live) (issued_of new) saved.front grows;
+  released = saved.released;
+}
+
+pub saved_now : (p : Party) → SendsSaved p → SendsSaved (saves p)
+saved_now p saved = record {
+  landed = λ n a e. front_message (issued_of p.landed) (issued_of p.live) n a saved.front (saved.landed n a e);
+  front = front_of_itself (issued_of p.live);
+  released = omega arith;
+}
+
+pub saved_by_fault : (p : Party) (landed : Bool) → SendsSaved p → SendsSaved (fails_to_save p landed)
+saved_by_fault p true saved = record {
+  landed = λ n a e. front_message (issued_of p.landed) (issued_of p.live) n a saved.front (saved.landed n a e);
+  front = front_of_itself (issued_of p.live);
+  released = omega (arith, saved.released, front_is_shorter (issued_of p.landed) (issued_of p.live) saved.front);
+}
+saved_by_fault p false saved = saved
+
+pub saved_at_restart : (p : Party) → SendsSaved p → SendsSaved (restarts p)
+saved_at_restart p saved = record { landed = saved.landed; front = front_of_itself (issued_of p.landed); released = omega arith }
+
+-- the message that is sent has landed
+sent_landed : (p : Party) (n : ℕ) (a : Apdu) → SendsSaved p → message (issued_of p.live) n ≡ Some a → nat_le n p.released ≡ true → message (issued_of p.landed) n ≡ Some a
+sent_landed p n a saved is released = within_front (issued_of p.landed) (issued_of p.live) n a saved.front (omega (arith, leb-true n p.released released, saved.released)) is
+
+sent_with : (sent : List (Option Apdu)) (n m : ℕ) (a b : Apdu) → sent_message (with_sent sent n a) m ≡ Some b → ((m ≡ n) × (b ≡ a)) ⊎ (sent_message sent m ≡ Some b)
+sent_with sent zero m a b e = inr e
+sent_with sent (suc n) zero a b e = inr e
+sent_with sent (suc n) (suc m) a b e = elim (put_there sent n m a b e) [ inl here ↦ inl (ap suc here.0, here.1) | inr before ↦ inr before ]
+
+sent_still : (sent : List (Option Apdu)) (n m : ℕ) (a b : Apdu) → sent_message sent m ≡ Some b → (m ≡ n → a ≡ b) → sent_message (with_sent sent n a) m ≡ Some b
+sent_still sent zero m a b e same = e
+sent_still sent (suc n) zero a b e same = search rules
+sent_still sent (suc n) (suc m) a b e same = still_there sent n m a b e (λ at. same (ap suc at))
+
+pub saved_by_send : (p : Party) (n : ℕ) (found : Option Apdu) (released : Bool) → message (issued_of p.live) n ≡ found → nat_le n p.released ≡ released → SendsSaved p → SendsSaved (sends p n found released).1
+saved_by_send p n None released is e saved = saved
+saved_by_send p n (Some a) false is e saved = saved
+saved_by_send p n (Some a) true is e saved = record {
+  landed =
+    λ m b was. elim (sent_with p.sent n m a b was) [
+        inl here ↦ subst (λ x. message (issued_of p.landed) m ≡ Some x) (sym here.1) (subst (λ k. message (issued_of p.landed) k ≡ Some a) (sym here.0) (sent_landed p n a saved is e))
+      | inr before ↦ saved.landed m b before
+      ];
+  front = saved.front;
+  released = saved.released;
+}
+
+-- what was sent stays sent
+pub sent_stays : (p : Party) (n : ℕ) (found : Option Apdu) (released : Bool) → message (issued_of p.live) n ≡ found → nat_le n p.released ≡ released → SendsSaved p → (b : Apdu) → WasSent p.sent b
+    → WasSent (sends p n found released).1.sent b
+sent_stays p n None released is e saved b was = was
+sent_stays p n (Some a) false is e saved b was = was
+sent_stays p n (Some a) true is e saved b was = (
+  was.0,
+  sent_still p.sent n was.0 a b was.1
+  (λ at. some_is a b (sym (sent_landed p n a saved is e) ∙ ap (message (issued_of p.landed)) (sym at) ∙ saved.landed was.0 b was.1)),
+)

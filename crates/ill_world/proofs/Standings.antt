@@ -1,0 +1,202 @@
+-- What one record keeps.
+use Rattle.std.proofs.Common.{rules, arith, ◌≡◌, ◌+◌, ◌≤◌, replicate, ℕ, zero, suc, Bool, true, false, ◌||◌, ◌==◌, List, [], ◌∷◌, Option, Some, None, Result, Ok, Err, refl, subst}
+use Rattle.std.specs.Prelude.{slice_get}
+use Rattle.std.specs.Option.{option_flatten}
+use Rattle.ill_values.specs.Day.{Date}
+use Rattle.ill_values.specs.TxnId.{Qualifiers}
+use Rattle.ill_values.specs.declared.apdu.Apdu.{Apdu}
+use Rattle.ill_core.specs.declared.refusal.Refusal.{Refusal}
+use Rattle.ill_core.specs.declared.requester.Wish.{Wish}
+use Rattle.ill_core.specs.declared.responder.Deed.{Deed}
+use Rattle.ill_core.specs.Issued.{are_numbered}
+use Rattle.ill_core.specs.Numbers.{are_distinct}
+use Rattle.ill_core.specs.Requester.{RequesterRecord, IsRequester, requester_of}
+use Rattle.ill_core.specs.RequesterActions as requester_actions
+use Rattle.ill_core.specs.RequesterDeliveries as requester_deliveries
+use Rattle.ill_core.specs.RequesterFacts as requester
+use Rattle.ill_core.specs.Responder.{ResponderRecord, IsResponder, responder_of, rise_from, ships_first}
+use Rattle.ill_core.specs.ResponderActions as responder_actions
+use Rattle.ill_core.specs.ResponderDeliveries as responder_deliveries
+use Rattle.ill_core.specs.ResponderFacts as responder
+use Rattle.ill_saved.specs.declared.side.Side.{Side}
+use Rattle.ill_saved.specs.declared.side.Side.TheVariants as sides
+use Rattle.ill_saved.specs.declared.side.Action.{Action}
+use Rattle.ill_saved.specs.declared.side.Action.TheVariants as actions
+use Rattle.ill_saved.specs.Side.{done_by, acts, takes, issued_of}
+use Rattle.ill_world.specs.World.{Party, Parties, first_party, first_world, with_party, party, other, who_of, happens, happens_to, sent_message}
+use Rattle.ill_world.specs.declared.event.Who.{Who}
+use Rattle.ill_world.specs.declared.event.Who.TheVariants as who
+use Rattle.ill_world.specs.declared.event.Event.{Event}
+use Rattle.ill_world.specs.Invariant.{WasSent, RequesterKnows, ResponderKnows, RequesterStands, ResponderStands, StandsAsRequester, StandsAsResponder, SendsSaved, PartyStands, Stands}
+use Rattle.ill_world.proofs.Sendings.{front_of_itself}
+use Rattle.ill_world.proofs.Kept.{Issues, Keeps, party_kept, told_more, stays_sent}
+use Rattle.ill_core.specs.declared.state.State.{State}
+use Rattle.ill_core.specs.declared.state.State.TheVariants.{Idle, CancelPending, Cancelled}
+use Rattle.ill_core.specs.State.{is_among, place_of}
+use Rattle.ill_core.specs.Rules.{implies}
+
+-- a Cancel that waits is there
+pub cancel_is_there : (state : State) (there : Bool) → implies (is_among (CancelPending ∷ Cancelled ∷ []) state) there ≡ true → implies (is_among (CancelPending ∷ []) state) there ≡ true
+cancel_is_there state there = go (place_of CancelPending == place_of state) (place_of Cancelled == place_of state) there
+  where
+    go : (waits done there : Bool) → implies (waits || (done || false)) there ≡ true → implies (waits || false) there ≡ true
+    go true done there rule = rule
+    go false done there rule = refl
+
+-- ---- before the first message
+
+requester_shows_nothing : (txn : Qualifiers) (fact : requester.Fact) → requester.Shows (requester_of txn Idle None false None []) fact → ⊥
+requester_shows_nothing txn requester.Cancelled shows = search rules
+requester_shows_nothing txn requester.Ended shows = search rules
+requester_shows_nothing txn (requester.Granted due) shows = search rules
+requester_shows_nothing txn (requester.Refused zero) shows = search rules
+requester_shows_nothing txn (requester.Refused (suc n)) shows = search rules
+requester_shows_nothing txn requester.GivenBack shows = search rules
+
+responder_shows_nothing : (txn : Qualifiers) (fact : responder.Fact) → responder.Shows (responder_of txn Idle None None None false None []) fact → ⊥
+responder_shows_nothing txn responder.Requested shows = search rules
+responder_shows_nothing txn (responder.Accepted conditions) shows = search rules
+responder_shows_nothing txn (responder.CancelAsked cancel) shows = search rules
+responder_shows_nothing txn responder.Arrived shows = search rules
+responder_shows_nothing txn responder.SentBack shows = search rules
+
+requester_rules : (txn : Qualifiers) → IsRequester (requester_of txn Idle None false None [])
+unfolding are_numbered
+requester_rules txn = search rules
+
+responder_rules : (txn : Qualifiers) → IsResponder (responder_of txn Idle None None None false None [])
+unfolding are_numbered rise_from ships_first
+responder_rules txn = search rules
+
+requester_first : (txn : Qualifiers) (sent : List (Option Apdu)) → RequesterStands txn (requester_of txn Idle None false None []) sent
+unfolding are_distinct
+requester_first txn sent = record {
+  same_txn = refl;
+  rules = requester_rules txn;
+  replies = search rules;
+  knows = λ fact shows. absurd (requester_shows_nothing txn fact shows);
+}
+
+responder_first : (txn : Qualifiers) (sent : List (Option Apdu)) → ResponderStands txn (responder_of txn Idle None None None false None []) sent
+unfolding are_distinct
+responder_first txn sent = record {
+  same_txn = refl;
+  rules = responder_rules txn;
+  ends = search rules;
+  cancels = search rules;
+  renewals = search rules;
+  knows = λ fact shows. absurd (responder_shows_nothing txn fact shows);
+}
+
+-- ---- the rows of either role
+
+abbrev pub RequesterActs : Type 0
+RequesterActs = (txn : Qualifiers) (x new : RequesterRecord) (wish : Wish) (sent : List (Option Apdu)) → requester_actions.acts x wish ≡ Ok new → RequesterStands txn x sent → RequesterStands txn new sent
+
+abbrev pub RequesterTakes : Type 0
+RequesterTakes = (txn : Qualifiers) (x : RequesterRecord) (a : Apdu) (sent : List (Option Apdu)) → WasSent sent a → RequesterStands txn x sent
+    → RequesterStands txn (requester_deliveries.takes x a).1 sent
+
+abbrev pub ResponderActs : Type 0
+ResponderActs = (txn : Qualifiers) (y new : ResponderRecord) (deed : Deed) (today : Date) (sent : List (Option Apdu)) → responder_actions.acts y deed today ≡ Ok new → ResponderStands txn y sent
+    → ResponderStands txn new sent
+
+abbrev pub ResponderTakes : Type 0
+ResponderTakes = (txn : Qualifiers) (y : ResponderRecord) (a : Apdu) (sent : List (Option Apdu)) → WasSent sent a → ResponderStands txn y sent
+    → ResponderStands txn (responder_deliveries.takes y a).1 sent
+
+done_is : {R : Type 0} (make : R → Side) (result : Result R Refusal) (new : Side) → done_by make result ≡ Ok new → (made : R) × (result ≡ Ok made) × (make made ≡ new)
+done_is make (Ok made) new e = (made, refl, search rules)
+done_is make (Err refusal) new e = search rules
+
+requester_acts : RequesterActs → (txn : Qualifiers) (old new : Side) (action : Action) (told : List (Option Apdu)) → acts old action ≡ Ok new → StandsAsRequester txn old told → StandsAsRequester txn new told
+requester_acts law txn (sides.Requester x) new (actions.Wish wish) told e stands =
+    let is = done_is sides.Requester (requester_actions.acts x wish) new e in
+    subst (λ side. StandsAsRequester txn side told) is.2 (law txn x is.0 wish told is.1 stands)
+requester_acts law txn (sides.Requester x) new (actions.Deed deed today) told e stands = search rules
+requester_acts law txn (sides.Responder y) new action told e stands = absurd stands
+
+requester_takes : RequesterTakes → (txn : Qualifiers) (old : Side) (a : Apdu) (told : List (Option Apdu)) → WasSent told a → StandsAsRequester txn old told → StandsAsRequester txn (takes old a).1 told
+requester_takes law txn (sides.Requester x) a told was stands = law txn x a told was stands
+requester_takes law txn (sides.Responder y) a told was stands = absurd stands
+
+requester_more : (txn : Qualifiers) (side : Side) (told more : List (Option Apdu)) → ((a : Apdu) → WasSent told a → WasSent more a) → StandsAsRequester txn side told → StandsAsRequester txn side more
+requester_more txn (sides.Requester x) told more stays stands = record {
+  same_txn = stands.same_txn;
+  rules = stands.rules;
+  replies = stands.replies;
+  knows = λ fact shows. let known = stands.knows fact shows in (known.0, stays known.0 known.1, known.2);
+}
+requester_more txn (sides.Responder y) told more stays stands = absurd stands
+
+responder_acts : ResponderActs → (txn : Qualifiers) (old new : Side) (action : Action) (told : List (Option Apdu)) → acts old action ≡ Ok new → StandsAsResponder txn old told → StandsAsResponder txn new told
+responder_acts law txn (sides.Responder y) new (actions.Deed deed today) told e stands =
+    let is = done_is sides.Responder (responder_actions.acts y deed today) new e in
+    subst (λ side. StandsAsResponder txn side told) is.2 (law txn y is.0 deed today told is.1 stands)
+responder_acts law txn (sides.Responder y) new (actions.Wish wish) told e stands = search rules
+responder_acts law txn (sides.Requester x) new action told e stands = absurd stands
+
+responder_takes : ResponderTakes → (txn : Qualifiers) (old : Side) (a : Apdu) (told : List (Option Apdu)) → WasSent told a → StandsAsResponder txn old told → StandsAsResponder txn (takes old a).1 told
+responder_takes law txn (sides.Responder y) a told was stands = law txn y a told was stands
+responder_takes law txn (sides.Requester x) a told was stands = absurd stands
+
+responder_more : (txn : Qualifiers) (side : Side) (told more : List (Option Apdu)) → ((a : Apdu) → WasSent told a → WasSent more a) → StandsAsResponder txn side told → StandsAsResponder txn side more
+responder_more txn (sides.Responder y) told more stays stands = record {
+  same_txn = stands.same_txn;
+  rules = stands.rules;
+  ends = stands.ends;
+  cancels = stands.cancels;
+  renewals = stands.renewals;
+  knows = λ fact shows. let known = stands.knows fact shows in (known.0, stays known.0 known.1, known.2);
+}
+responder_more txn (sides.Requester x) told more stays stands = absurd stands
+
+pub requester_keeps : RequesterActs → RequesterTakes → (txn : Qualifiers) → Keeps (StandsAsRequester txn)
+requester_keeps acted took txn = record { acts = requester_acts acted txn; more = requester_more txn; takes = requester_takes took txn }
+
+pub responder_keeps : ResponderActs → ResponderTakes → (txn : Qualifiers) → Keeps (StandsAsResponder txn)
+responder_keeps acted took txn = record { acts = responder_acts acted txn; more = responder_more txn; takes = responder_takes took txn }
+
+-- ---- a world
+
+none_there : (size i : ℕ) (a : Apdu) → option_flatten (slice_get (replicate size None) i) ≡ Some a → ⊥
+none_there zero i a e = search rules
+none_there (suc size) zero a e = search rules
+none_there (suc size) (suc i) a e = none_there size i a e
+
+none_sent : (n : ℕ) (a : Apdu) → sent_message (replicate 255 None) n ≡ Some a → ⊥
+none_sent zero a e = search rules
+none_sent (suc n) a e = none_there 255 n a e
+
+first_stands : (K : Side → List (Option Apdu) → Type 0) (idle : Side) (told : List (Option Apdu)) → K idle told → PartyStands K (first_party idle) told
+first_stands K idle told stands = record {
+  saved = record {
+      landed = λ n a e. absurd (none_sent n a e);
+      front = front_of_itself (issued_of idle);
+      released = omega arith;
+    };
+  live = stands;
+  landed = stands;
+}
+
+pub world_first : (txn : Qualifiers) → Stands txn (first_world txn)
+world_first txn = record {
+  asking = first_stands (StandsAsRequester txn) _ _ (requester_first txn _);
+  asked = first_stands (StandsAsResponder txn) _ _ (responder_first txn _);
+}
+
+world_kept : (txn : Qualifiers) (w : Parties) (of : Who) (event : Event) → Issues → Keeps (StandsAsRequester txn) → Keeps (StandsAsResponder txn) → Stands txn w
+    → Stands txn (with_party w of (happens_to (party w of) (party w (other of)).sent event).1)
+world_kept txn w who.Requester event issues asking asked stands = record {
+  asking = party_kept (StandsAsRequester txn) w.requester w.responder.sent event issues asking stands.asking;
+  asked =
+    told_more (StandsAsResponder txn) w.responder w.requester.sent _ asked (stays_sent w.requester w.responder.sent event stands.asking.saved) stands.asked;
+}
+world_kept txn w who.Responder event issues asking asked stands = record {
+  asking =
+    told_more (StandsAsRequester txn) w.requester w.responder.sent _ asking (stays_sent w.responder w.requester.sent event stands.asked.saved) stands.asking;
+  asked = party_kept (StandsAsResponder txn) w.responder w.requester.sent event issues asked stands.asked;
+}
+
+pub world_after : (txn : Qualifiers) (w : Parties) (event : Event) → Issues → Keeps (StandsAsRequester txn) → Keeps (StandsAsResponder txn) → Stands txn w → Stands txn (happens w event).1
+world_after txn w event issues asking asked stands = world_kept txn w (who_of event) event issues asking asked stands

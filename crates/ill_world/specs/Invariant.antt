@@ -1,0 +1,76 @@
+-- Why every world is safe: what each record keeps by itself and with what the other side has sent. No
+-- part of it joins the two sides' records.
+use Rattle.std.specs.Prelude.{◌≡◌, ℕ, ◌≤◌, List, length, Option, Some}
+use Rattle.ill_values.specs.TxnId.{Qualifiers}
+use Rattle.ill_values.specs.declared.apdu.Apdu.{Apdu}
+use Rattle.ill_core.specs.Issued.{message}
+use Rattle.ill_core.specs.Requester.{RequesterRecord, IsRequester}
+use Rattle.ill_core.specs.Responder.{ResponderRecord, IsResponder}
+use Rattle.ill_core.specs.RequesterFacts as requester
+use Rattle.ill_core.specs.ResponderFacts as responder
+use Rattle.ill_saved.specs.declared.side.Side.{Side}
+use Rattle.ill_saved.specs.declared.side.Side.TheVariants as sides
+use Rattle.ill_saved.specs.Side.{issued_of, due_date_of, IsFrontOf}
+use Rattle.ill_world.specs.World.{Party, Parties, sent_message}
+
+-- ---- one record, and what the other side has sent
+
+-- an APDU was sent
+abbrev pub WasSent : List (Option Apdu) → Apdu → Type 0
+WasSent sent a = (n : ℕ) × (sent_message sent n ≡ Some a)
+
+-- Whatever a requester's record shows to have come, a message tells that the responder has sent.
+abbrev pub RequesterKnows : RequesterRecord → List (Option Apdu) → Type 0
+RequesterKnows x sent =
+    (fact : requester.Fact) → requester.Shows x fact → (a : Apdu) × WasSent sent a × requester.Tells a.body fact
+
+abbrev pub ResponderKnows : ResponderRecord → List (Option Apdu) → Type 0
+ResponderKnows y sent =
+    (fact : responder.Fact) → responder.Shows y fact → (a : Apdu) × WasSent sent a × responder.Tells a.number a.body fact
+
+-- A requester's record keeps its rules, answers conditions once, and shows what was sent to it.
+pub record RequesterStands (txn : Qualifiers) (x : RequesterRecord) (sent : List (Option Apdu)) : Type 0 where
+  pub same_txn : x.txn ≡ txn
+  pub rules : IsRequester x
+  pub replies : requester.AnswersOnce x
+  pub knows : RequesterKnows x sent
+
+-- A responder's record keeps its rules, ends the request once, answers each question once, and shows
+-- what was sent to it.
+pub record ResponderStands (txn : Qualifiers) (y : ResponderRecord) (sent : List (Option Apdu)) : Type 0 where
+  pub same_txn : y.txn ≡ txn
+  pub rules : IsResponder y
+  pub ends : responder.EndsOnce y
+  pub cancels : responder.AnswersOnce responder.MayCancel y
+  pub renewals : responder.AnswersOnce responder.MayRenew y
+  pub knows : ResponderKnows y sent
+
+-- a side of the requester, and one of the responder
+abbrev pub StandsAsRequester : Qualifiers → Side → List (Option Apdu) → Type 0
+StandsAsRequester txn (sides.Requester x) sent = RequesterStands txn x sent
+StandsAsRequester txn (sides.Responder y) sent = ⊥
+
+abbrev pub StandsAsResponder : Qualifiers → Side → List (Option Apdu) → Type 0
+StandsAsResponder txn (sides.Requester x) sent = ⊥
+StandsAsResponder txn (sides.Responder y) sent = ResponderStands txn y sent
+
+-- ---- a party and what it has sent
+
+-- Each message that was sent has landed; what has landed is the front of what is issued; and only
+-- what has landed is released.
+pub record SendsSaved (p : Party) : Type 0 where
+  pub landed : (n : ℕ) (a : Apdu) → sent_message p.sent n ≡ Some a → message (issued_of p.landed) n ≡ Some a
+  pub front : IsFrontOf (issued_of p.landed) (issued_of p.live)
+  pub released : p.released ≤ length (issued_of p.landed)
+
+-- A party sends only what it has saved, and each of its records stands by what the other has sent.
+pub record PartyStands (K : Side → List (Option Apdu) → Type 0) (p : Party) (told : List (Option Apdu)) : Type 0 where
+  pub saved : SendsSaved p
+  pub live : K p.live told
+  pub landed : K p.landed told
+
+-- ---- a world
+
+pub record Stands (txn : Qualifiers) (w : Parties) : Type 0 where
+  pub asking : PartyStands (StandsAsRequester txn) w.requester w.responder.sent
+  pub asked : PartyStands (StandsAsResponder txn) w.responder w.requester.sent

@@ -1,0 +1,56 @@
+-- What holds in every world of every run (this profile's own): no side acts on what the other's
+-- record contradicts.
+use Rattle.std.specs.Prelude.{◌≡◌, ℕ, true, List, Option, Some, take}
+use Rattle.ill_values.specs.TxnId.{Qualifiers}
+use Rattle.ill_values.specs.Day.{Date}
+use Rattle.ill_values.specs.declared.apdu.Apdu.{Apdu}
+use Rattle.ill_core.specs.declared.state.State.TheVariants.{Cancelled, NotSupplied}
+use Rattle.ill_core.specs.State.{is_among}
+use Rattle.ill_core.specs.Bodies.{is_shipped, grant_in}
+use Rattle.ill_core.specs.Issued.{message, has}
+use Rattle.ill_core.specs.Requester.{later}
+use Rattle.ill_saved.specs.declared.side.Side.{Side}
+use Rattle.ill_saved.specs.Side.{state_of, due_date_of, issued_of}
+use Rattle.ill_world.specs.declared.event.Event.{Event}
+use Rattle.ill_world.specs.World.{Parties, first_world, run_of}
+
+-- ---- a requester's side, and the responder's that it faces
+
+-- A requester in CANCELLED faces a responder in CANCELLED, and one in NOT-SUPPLIED one in NOT-SUPPLIED.
+abbrev pub EndsAlike : Side → Side → Type 0
+EndsAlike requester responder =
+    (state_of requester ≡ Cancelled → state_of responder ≡ Cancelled)
+    × (state_of requester ≡ NotSupplied → state_of responder ≡ NotSupplied)
+
+-- A requester in SHIPPED or later faces a responder that has issued a Shipped.
+abbrev pub WasShipped : Side → Side → Type 0
+WasShipped requester responder =
+    is_among later (state_of requester) ≡ true → has is_shipped (issued_of responder) ≡ true
+
+-- one of the APDUs is a Shipped or a Renew-Answer yes with this date
+abbrev pub Grants : List Apdu → Date → Type 0
+Grants apdus due = (n : ℕ) × (a : Apdu) × (message apdus n ≡ Some a) × (grant_in a.body ≡ Some due)
+
+-- A requester's due date is one that the responder has granted.
+abbrev pub WasGranted : Side → Side → Type 0
+WasGranted requester responder =
+    (due : Date) → due_date_of requester ≡ Some due → Grants (issued_of responder) due
+
+-- ---- worlds
+
+-- It holds of the requester as it is in memory and as it has landed, with the responder as it is in
+-- memory and as it has landed.
+pub record OfBoth (P : Side → Side → Type 0) (w : Parties) : Type 0 where
+  pub live : P w.requester.live w.responder.live
+  pub live_landed : P w.requester.live w.responder.landed
+  pub landed_live : P w.requester.landed w.responder.live
+  pub landed : P w.requester.landed w.responder.landed
+
+pub record Safe (w : Parties) : Type 0 where
+  pub ends : OfBoth EndsAlike w
+  pub shipped : OfBoth WasShipped w
+  pub granted : OfBoth WasGranted w
+
+-- Every world is safe that these events lead through, from two idle sides of the transaction on.
+abbrev pub IsSafeRun : Qualifiers → List Event → Type 0
+IsSafeRun txn events = (n : ℕ) → Safe (run_of (first_world txn) (take n events))

@@ -1,0 +1,93 @@
+//! What holds of every world, as contracts of functions that do nothing.
+
+ghost use Rattle.std.specs.Prelude.{◌≡◌, ℕ, List, Option, Some, Ok};
+ghost use Rattle.ill_values.specs.Day.{Date};
+ghost use Rattle.ill_values.specs.TxnId.{Qualifiers};
+ghost use Rattle.ill_values.specs.declared.apdu.Apdu.{Apdu};
+ghost use Rattle.ill_core.specs.declared.requester.Wish.{Wish};
+ghost use Rattle.ill_core.specs.declared.responder.Deed.{Deed};
+ghost use Rattle.ill_core.specs.Requester.{RequesterRecord};
+ghost use Rattle.ill_core.specs.RequesterActions as requester_actions;
+ghost use Rattle.ill_core.specs.RequesterDeliveries as requester_deliveries;
+ghost use Rattle.ill_core.specs.Responder.{ResponderRecord};
+ghost use Rattle.ill_core.specs.ResponderActions as responder_actions;
+ghost use Rattle.ill_core.specs.ResponderDeliveries as responder_deliveries;
+ghost use Rattle.ill_world.specs.declared.event.Event.{Event};
+ghost use Rattle.ill_world.specs.World.{Parties, first_world, happens};
+ghost use Rattle.ill_world.specs.Safety.{OfBoth, EndsAlike, WasShipped, WasGranted, IsSafeRun};
+ghost use Rattle.ill_world.specs.Invariant.{WasSent, RequesterStands, ResponderStands, Stands};
+
+use ill_core::laws::{
+    requester_answers_once, requester_keeps_rules, requester_keeps_txn, requester_shows,
+    responder_answers_once, responder_ends_once, responder_keeps_rules, responder_keeps_txn,
+    responder_shows,
+};
+use ill_saved::laws::follows_issues;
+
+/// A requester stands by what the responder has sent, after every wish and every message of it.
+pub fn requester_stands()
+    ensures acts { (txn : Qualifiers) (x new : RequesterRecord) (wish : Wish)
+        (sent : List (Option Apdu)) → requester_actions.acts x wish ≡ Ok new →
+        RequesterStands txn x sent → RequesterStands txn new sent }
+    ensures takes { (txn : Qualifiers) (x : RequesterRecord) (a : Apdu)
+        (sent : List (Option Apdu)) → WasSent sent a →
+        RequesterStands txn x sent → RequesterStands txn (requester_deliveries.takes x a).1 sent }
+{
+    requester_keeps_txn();
+    requester_keeps_rules();
+    requester_answers_once();
+    requester_shows();
+}
+
+/// A responder stands by what the requester has sent, after every deed and every message of it.
+pub fn responder_stands()
+    ensures acts { (txn : Qualifiers) (y new : ResponderRecord) (deed : Deed) (today : Date)
+        (sent : List (Option Apdu)) → responder_actions.acts y deed today ≡ Ok new →
+        ResponderStands txn y sent → ResponderStands txn new sent }
+    ensures takes { (txn : Qualifiers) (y : ResponderRecord) (a : Apdu)
+        (sent : List (Option Apdu)) → WasSent sent a →
+        ResponderStands txn y sent → ResponderStands txn (responder_deliveries.takes y a).1 sent }
+{
+    responder_keeps_txn();
+    responder_keeps_rules();
+    responder_ends_once();
+    responder_answers_once();
+    responder_shows();
+}
+
+/// The world of two idle sides stands, and so does every world that an event leads to from one.
+pub fn world_stands()
+    ensures first { (txn : Qualifiers) → Stands txn (first_world txn) }
+    ensures after { (txn : Qualifiers) (w : Parties) (event : Event) → Stands txn w →
+        Stands txn (happens w event).1 }
+{
+    requester_stands();
+    responder_stands();
+    follows_issues();
+}
+
+/// Where the world stands, a requester in CANCELLED or NOT-SUPPLIED faces a responder in the same
+/// state.
+pub fn ends_alike()
+    ensures { (txn : Qualifiers) (w : Parties) → Stands txn w → OfBoth EndsAlike w }
+{}
+
+/// Where the world stands, a requester in SHIPPED or later faces a responder that has shipped.
+pub fn was_shipped()
+    ensures { (txn : Qualifiers) (w : Parties) → Stands txn w → OfBoth WasShipped w }
+{}
+
+/// Where the world stands, a requester's due date is one that the responder has granted.
+pub fn was_granted()
+    ensures { (txn : Qualifiers) (w : Parties) → Stands txn w → OfBoth WasGranted w }
+{}
+
+/// Every world of every run is safe.
+pub fn every_run_is_safe()
+    ensures { (txn : Qualifiers) (events : List Event) → IsSafeRun txn events }
+{
+    world_stands();
+    ends_alike();
+    was_shipped();
+    was_granted();
+}

@@ -9,3 +9,4 @@ pub mod Steps
 pub mod Sendings
 pub mod Kept
 pub mod Standings
+pub mod Claims

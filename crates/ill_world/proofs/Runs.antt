@@ -3,7 +3,9 @@ use Rattle.std.proofs.Common.{arith, ◌≡◌, ℕ, suc, ◌+◌, ◌<◌, ◌�
 use Rattle.std.proofs.lemmas.List.{length-drop}
 use Rattle.ill_world.specs.declared.event.Event.{Event}
 use Rattle.ill_world.specs.declared.event.Outcome.{Outcome}
-use Rattle.ill_world.specs.World.{Parties, happens, run_of}
+use Rattle.ill_values.specs.TxnId.{Qualifiers}
+use Rattle.ill_world.specs.World.{Parties, happens, first_world, run_of}
+use Rattle.ill_world.specs.Invariant.{Stands}
 
 run_next : (w new : Parties) (events : List Event) (event : Event) (outcome : Outcome) → happens w event ≡ (outcome, new) → run_of w (event ∷ events) ≡ run_of new events
 unfolding run_of
@@ -24,3 +26,10 @@ run_of_none w (event ∷ events) none = absurd (omega (arith, none))
 -- no event is left
 pub run_ended : (w : Parties) (events : List Event) (i : ℕ) → length events ≤ i → run_of w (drop i events) ≡ w
 run_ended w events i all = run_of_none w (drop i events) (omega (arith, length-drop i events, all))
+
+-- ---- what every world of a run keeps
+
+pub run_stands : (txn : Qualifiers) → ((w : Parties) (event : Event) → Stands txn w → Stands txn (happens w event).1) → (w : Parties) (events : List Event) → Stands txn w → Stands txn (run_of w events)
+unfolding run_of
+run_stands txn after w [] stands = stands
+run_stands txn after w (event ∷ events) stands = run_stands txn after (happens w event).1 events (after w event stands)

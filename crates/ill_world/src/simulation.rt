@@ -1,14 +1,17 @@
 //! A whole script, performed line by line.
 
-ghost use Rattle.std.specs.Prelude.{◌≡◌, ◌≤◌, ◌+◌, IfOk};
+ghost use Rattle.std.specs.Prelude.{◌≡◌, ◌≤◌, ◌+◌, List, IfOk};
 ghost use Rattle.ill_values.specs.TxnId.{Qualifiers};
+ghost use Rattle.ill_world.specs.declared.event.Event.{Event};
 ghost use Rattle.ill_world.specs.World.{first_world};
+ghost use Rattle.ill_world.specs.Safety.{IsSafeRun};
 ghost use Rattle.ill_world.specs.Simulation.{Simulates, line_at};
 ghost use Rattle.ill_world.specs.Script.{meaning};
 ghost use Rattle.ill_world.specs.Simulating.{Performs, PerformsLine, StepsLine, FindsEnd};
 
 use crate::event::Event;
 use crate::fault::SimFault;
+use crate::laws::every_run_is_safe;
 use crate::lines::{Found, next_byte, next_line};
 use crate::script::{Line, read_line};
 use crate::world::World;
@@ -25,15 +28,22 @@ const MAX_LINES: u32 = 100_000;
 ///
 /// At a bad line, and where the reader fails, the lines of all events before are written. If memory
 /// runs out, those of some of the first events are, and if the writer fails, a front of that text.
+///
+/// Whatever the script says, each world that a line shows is safe: a requester in CANCELLED or
+/// NOT-SUPPLIED faces a responder in the same state, one in SHIPPED or later faces one that has
+/// shipped, and its due date is one that this responder has granted; in memory and in the stores
+/// alike.
 pub fn simulate<R: Read, W: Write>(
     alloc: Global,
     txn: &TxnId,
     reader: &mut R,
     writer: &mut W,
 ) -> Result<u32, SimFault>
-    ensures { Simulates txn.now (R.remaining reader.old) (R.remaining reader.new)
+    ensures simulates { Simulates txn.now (R.remaining reader.old) (R.remaining reader.new)
         (W.contents writer.old) (W.contents writer.new) result }
+    ensures safe { (events : List Event) → IsSafeRun txn.now events }
 {
+    every_run_is_safe();
     let mut simulation = Simulation::new(alloc, txn)?;
     simulation.run(alloc, reader, writer)
 }

@@ -5,9 +5,11 @@ ghost use Rattle.ill_saved.specs.declared.side.Side.TheVariants as sides;
 ghost use Rattle.ill_saved.specs.Side.{idle_of};
 ghost use Rattle.ill_world.specs.World as model;
 ghost use Rattle.ill_world.specs.Trace.{line};
+ghost use Rattle.ill_world.specs.Safety.{IsSafeRun};
 ghost use Rattle.ill_world.specs.Standing.{IsRequester, IsResponder, Gives};
 
 use crate::event::{Event, Outcome, Who};
+use crate::laws::every_run_is_safe;
 use crate::party::Party;
 use crate::trace::push_line;
 use ill_core::{Requester, Responder, Wish};
@@ -103,10 +105,16 @@ impl World {
 }
 
 /// The world after these events, from two idle sides of the transaction on.
+///
+/// Every world on the way is safe: a requester in CANCELLED or NOT-SUPPLIED faces a responder in the
+/// same state, one in SHIPPED or later faces one that has shipped, and its due date is one that this
+/// responder has granted; in memory and in the stores alike.
 pub fn run(alloc: Global, txn: &TxnId, events: &[Event]) -> Result<World, OutOfMemory>
-    ensures { IfOk result (λ world. world ≡
+    ensures runs { IfOk result (λ world. world ≡
         model.run_of (model.first_world txn.now) events.now) }
+    ensures safe { IsSafeRun txn.now events.now }
 {
+    every_run_is_safe();
     let mut world = World::new(alloc, txn)?;
     for event in events {
         world.step(alloc, event)?;

@@ -11,5 +11,14 @@ loop-event-preserved c =
     let on = run_on c.loop-event.world c.step.new.self c.args.events.now c.loop-event.event-index c.event-item.result c.in_ok-step.field-0 (omega (arith, c.loop-event-test.true)) c.event-item.is c.in_ok-step.ensures in
     sym on ∙ c.loop-event.invariant
 
-pub returns : goal.returns
-returns c = sym (run_ended c.loop-event.world c.args.events.now c.loop-event.event-index (omega (arith, c.loop-event-test.false))) ∙ c.loop-event.invariant
+pub returns-clause-runs : goal.returns-clause-runs
+returns-clause-runs c = sym (run_ended c.loop-event.world c.args.events.now c.loop-event.event-index (omega (arith, c.loop-event-test.false))) ∙ c.loop-event.invariant
+
+pub returns-in_err-world-clause-safe : goal.returns-in_err-world-clause-safe
+returns-in_err-world-clause-safe c = c.every_run_is_safe.ensures c.args.txn.now c.args.events.now
+
+pub returns-in_err-step-clause-safe : goal.returns-in_err-step-clause-safe
+returns-in_err-step-clause-safe c = c.every_run_is_safe.ensures c.args.txn.now c.args.events.now
+
+pub returns-clause-safe : goal.returns-clause-safe
+returns-clause-safe c = c.every_run_is_safe.ensures c.args.txn.now c.args.events.now

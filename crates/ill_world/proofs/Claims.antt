@@ -1,0 +1,154 @@
+-- Why a world that stands is safe: of a requester's record and a responder's that it faces.
+use Rattle.std.proofs.Common.{rules, ◌≡◌, ◌⊎◌, inl, inr, ℕ, Bool, true, false, not, ◌&&◌, ◌||◌, List, [], ◌∷◌, Option, Some, None, is_some, refl, sym, ap, ◌∙◌, subst}
+use Rattle.ill_values.specs.Day.{Date}
+use Rattle.ill_values.specs.TxnId.{Qualifiers}
+use Rattle.ill_values.specs.declared.apdu.Apdu.{Apdu}
+use Rattle.ill_values.specs.declared.apdu.Body.{Body}
+use Rattle.ill_values.specs.declared.apdu.Body.TheVariants as types
+use Rattle.ill_core.specs.declared.state.State.{State}
+use Rattle.ill_core.specs.declared.state.State.TheVariants as states
+use Rattle.ill_core.specs.State.{is_among}
+use Rattle.ill_core.specs.Bodies.{is_shipped, is_renewal, grant_in}
+use Rattle.ill_core.specs.Issued.{message, has}
+use Rattle.ill_core.specs.Requester.{RequesterRecord, later}
+use Rattle.ill_core.specs.RequesterFacts as requester
+use Rattle.ill_core.specs.Responder.{ResponderRecord, ships_first}
+use Rattle.ill_core.specs.ResponderFacts as responder
+use Rattle.ill_saved.specs.declared.side.Side.{Side}
+use Rattle.ill_saved.specs.declared.side.Side.TheVariants as sides
+use Rattle.ill_saved.specs.Side.{issued_of}
+use Rattle.ill_world.specs.World.{Party, Parties}
+use Rattle.ill_world.specs.Safety.{OfBoth, EndsAlike, WasShipped, WasGranted}
+use Rattle.ill_world.specs.Invariant.{WasSent, RequesterStands, ResponderStands, StandsAsRequester, StandsAsResponder, SendsSaved, PartyStands, Stands}
+use Rattle.ill_world.proofs.Sendings.{front_message, message_has}
+
+-- ---- what a message tells
+
+tells_cancelled : (body : Body) → requester.Tells body requester.Cancelled → responder.is_cancelled body ≡ true
+tells_cancelled (types.CancelReply c true) tells = refl
+tells_cancelled (types.CancelReply c false) tells = absurd tells
+tells_cancelled body tells = search rules
+
+tells_ended : (body : Body) → requester.Tells body requester.Ended → responder.is_unsupplied body ≡ true
+tells_ended (types.IllAnswer answer) tells = tells
+tells_ended types.Expired tells = refl
+tells_ended body tells = search rules
+
+-- it grants a date
+tells_grant : (body : Body) (due : Date) → requester.Tells body (requester.Granted due) → grant_in body ≡ Some due
+tells_grant (types.Shipped d) due tells = ap Some tells
+tells_grant (types.RenewAnswer c (Some d)) due tells = ap Some tells
+tells_grant (types.RenewAnswer c None) due tells = absurd tells
+tells_grant body due tells = search rules
+
+tells_shipped : (body : Body) (due : Date) → requester.Tells body (requester.Granted due) → (is_shipped body ≡ true) ⊎ (is_renewal body ≡ true)
+tells_shipped (types.Shipped d) due tells = inl refl
+tells_shipped (types.RenewAnswer c (Some d)) due tells = inr refl
+tells_shipped (types.RenewAnswer c None) due tells = absurd tells
+tells_shipped body due tells = search rules
+
+-- ---- what a responder's record says
+
+is_in_cancelled : (state : State) → is_among (states.Cancelled ∷ []) state ≡ true → state ≡ states.Cancelled
+is_in_cancelled states.Cancelled e = refl
+is_in_cancelled state e = search rules
+
+is_in_not_supplied : (state : State) → is_among (states.NotSupplied ∷ []) state ≡ true → state ≡ states.NotSupplied
+is_in_not_supplied states.NotSupplied e = refl
+is_in_not_supplied state e = search rules
+
+-- a Shipped stands before each renewal
+ships_before : (apdus : List Apdu) → ships_first apdus ≡ true → has is_renewal apdus ≡ true → has is_shipped apdus ≡ true
+unfolding ships_first
+ships_before [] first renewed = search rules
+ships_before (a ∷ apdus) first renewed = go (is_shipped a.body) (is_renewal a.body) (ships_before apdus) first renewed
+  where
+    go : (shipped renewal : Bool) → (ships_first apdus ≡ true → has is_renewal apdus ≡ true → has is_shipped apdus ≡ true) → (shipped || (not renewal && ships_first apdus)) ≡ true → (renewal || has is_renewal apdus) ≡ true → (shipped || has is_shipped apdus) ≡ true
+    go true renewal before first renewed = refl
+    go false true before first renewed = search rules
+    go false false before first renewed = before first renewed
+
+-- ---- a requester's record and a responder's
+
+-- what was sent is among what this side has issued
+abbrev pub AreIssued : List (Option Apdu) → List Apdu → Type 0
+AreIssued sent apdus = (a : Apdu) → WasSent sent a → (n : ℕ) × (message apdus n ≡ Some a)
+
+abbrev Pair : (Side → Side → Type 0) → Type 0
+Pair P = (txn : Qualifiers) (x y : Side) (told heard : List (Option Apdu)) → StandsAsRequester txn x told → StandsAsResponder txn y heard → AreIssued told (issued_of y) → P x y
+
+-- a message that was sent tells what the responder has issued
+has_issued : (apdus : List Apdu) (told : List (Option Apdu)) (says : Body → Bool) (a : Apdu) → AreIssued told apdus → WasSent told a → says a.body ≡ true → has says apdus ≡ true
+has_issued apdus told says a issued was is = let at = issued a was in message_has says apdus at.0 a at.1 is
+
+cancelled_faces : (txn : Qualifiers) (x : RequesterRecord) (y : ResponderRecord) (told heard : List (Option Apdu)) → RequesterStands txn x told → ResponderStands txn y heard → AreIssued told y.issued
+    → x.state ≡ states.Cancelled → y.state ≡ states.Cancelled
+cancelled_faces txn x y told heard asking asked issued e =
+    let known = asking.knows requester.Cancelled e in
+    is_in_cancelled y.state (sym asked.ends.cancelled ∙ has_issued y.issued told responder.is_cancelled known.0 issued known.1 (tells_cancelled known.0.body known.2))
+
+not_supplied_faces : (txn : Qualifiers) (x : RequesterRecord) (y : ResponderRecord) (told heard : List (Option Apdu)) → RequesterStands txn x told → ResponderStands txn y heard
+    → AreIssued told y.issued → x.state ≡ states.NotSupplied → y.state ≡ states.NotSupplied
+not_supplied_faces txn x y told heard asking asked issued e =
+    let known = asking.knows requester.Ended e in
+    is_in_not_supplied y.state (sym asked.ends.unsupplied ∙ has_issued y.issued told responder.is_unsupplied known.0 issued known.1 (tells_ended known.0.body known.2))
+
+ends_pair : Pair EndsAlike
+ends_pair txn (sides.Requester x) (sides.Responder y) told heard asking asked issued =
+    (cancelled_faces txn x y told heard asking asked issued, not_supplied_faces txn x y told heard asking asked issued)
+ends_pair txn (sides.Responder x) y told heard asking asked issued = absurd asking
+ends_pair txn (sides.Requester x) (sides.Requester y) told heard asking asked issued = absurd asked
+
+grant_pair : Pair WasGranted
+grant_pair txn (sides.Requester x) (sides.Responder y) told heard asking asked issued =
+    λ due e.
+      let known = asking.knows (requester.Granted due) e in
+      let at = issued known.0 known.1 in
+      (at.0, known.0, at.1, tells_grant known.0.body due known.2)
+grant_pair txn (sides.Responder x) y told heard asking asked issued = absurd asking
+grant_pair txn (sides.Requester x) (sides.Requester y) told heard asking asked issued = absurd asked
+
+shipped_by : (txn : Qualifiers) (x : RequesterRecord) (y : ResponderRecord) (told heard : List (Option Apdu)) (due : Option Date) → RequesterStands txn x told → ResponderStands txn y heard
+    → AreIssued told y.issued → x.due ≡ due → is_some due ≡ true → has is_shipped y.issued ≡ true
+shipped_by txn x y told heard None asking asked issued e some = search rules
+shipped_by txn x y told heard (Some d) asking asked issued e some =
+    let known = asking.knows (requester.Granted d) e in
+    elim (tells_shipped known.0.body d known.2) [
+      inl shipped ↦ has_issued y.issued told is_shipped known.0 issued known.1 shipped
+    | inr renewal ↦ ships_before y.issued asked.rules.ships_first (has_issued y.issued told is_renewal known.0 issued known.1 renewal)
+    ]
+
+shipped_pair : Pair WasShipped
+shipped_pair txn (sides.Requester x) (sides.Responder y) told heard asking asked issued = λ is. shipped_by txn x y told heard x.due asking asked issued refl (asking.rules.parts.due ∙ is)
+shipped_pair txn (sides.Responder x) y told heard asking asked issued = absurd asking
+shipped_pair txn (sides.Requester x) (sides.Requester y) told heard asking asked issued = absurd asked
+
+-- ---- both records of either
+
+landed_issues : (p : Party) → SendsSaved p → AreIssued p.sent (issued_of p.landed)
+landed_issues p saved = λ a was. (was.0, saved.landed was.0 a was.1)
+
+live_issues : (p : Party) → SendsSaved p → AreIssued p.sent (issued_of p.live)
+live_issues p saved = λ a was. (was.0, front_message (issued_of p.landed) (issued_of p.live) was.0 a saved.front (saved.landed was.0 a was.1))
+
+of_both : (P : Side → Side → Type 0) → Pair P → (txn : Qualifiers) (w : Parties) → Stands txn w → OfBoth P w
+of_both P pair txn w stands =
+    let sent = w.responder.sent in
+    let heard = w.requester.sent in
+    let live = live_issues w.responder stands.asked.saved in
+    let landed = landed_issues w.responder stands.asked.saved in
+    record {
+      live = pair txn w.requester.live w.responder.live sent heard stands.asking.live stands.asked.live live;
+      live_landed = pair txn w.requester.live w.responder.landed sent heard stands.asking.live stands.asked.landed landed;
+      landed_live = pair txn w.requester.landed w.responder.live sent heard stands.asking.landed stands.asked.live live;
+      landed = pair txn w.requester.landed w.responder.landed sent heard stands.asking.landed stands.asked.landed landed;
+    }
+
+pub ends_alike : (txn : Qualifiers) (w : Parties) → Stands txn w → OfBoth EndsAlike w
+ends_alike = of_both EndsAlike ends_pair
+
+pub was_shipped : (txn : Qualifiers) (w : Parties) → Stands txn w → OfBoth WasShipped w
+was_shipped = of_both WasShipped shipped_pair
+
+pub was_granted : (txn : Qualifiers) (w : Parties) → Stands txn w → OfBoth WasGranted w
+was_granted = of_both WasGranted grant_pair

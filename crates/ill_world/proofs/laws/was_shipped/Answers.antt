@@ -1,0 +1,5 @@
+use Rattle.ill_world.proofs.Claims.{was_shipped}
+use Rattle.ill_world.proofs.laws.was_shipped.Goals as goal
+
+pub returns : goal.returns
+returns c = was_shipped

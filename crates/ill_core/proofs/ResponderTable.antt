@@ -1,5 +1,5 @@
 -- The rows of a responder's table of actions, one by one.
-use Rattle.std.proofs.Common.{rules, ◌≡◌, Bool, true, false, not, [], ◌∷◌, Option, Some, None, Result, Ok, Err, if◌then◌else◌, refl, subst}
+use Rattle.std.proofs.Common.{rules, ◌≡◌, Bool, true, false, [], ◌∷◌, Some, None, Result, Ok, if◌then◌else◌, refl, subst}
 use Rattle.std.specs.Option.{unwrap_or}
 use Rattle.ill_values.specs.Day.{Date}
 use Rattle.ill_values.specs.declared.apdu.Body.TheVariants as types

@@ -77,6 +77,13 @@ IssuedFits state issued =
     IssuedFit state (is_none issued) (has is_received issued) (has is_cancel issued) (has is_renew issued)
     (has is_returned issued) (has declines issued)
 
+-- What was issued keeps the rules of a requester: it issues each of these types, the first and no
+-- other is an ILL-Request, and they fit its state.
+abbrev pub IssuedKeepsRules : State → List Apdu → Type 0
+IssuedKeepsRules state issued =
+    (list_all (λ a. is_requesters a.body) issued ≡ true) × (begins_with_request issued ≡ true)
+    × IssuedFits state issued
+
 -- A record is a requester's where it keeps these rules.
 pub record IsRequester (x : RequesterRecord) : Type 0 where
   pub numbered : are_numbered x.txn 1 x.issued ≡ true

@@ -1,7 +1,7 @@
 -- What a requester does: its table of actions (this profile's own; the services are those of ISO
 -- 10160). A row says from which states, to which state, what is issued, and what is held then; a
 -- wish that no row has is not done now.
-use Rattle.std.specs.Prelude.{◌≡◌, ℕ, Bool, true, false, not, ◌&&◌, [], ◌∷◌, List, Option, Some, None, Result, Ok, Err, IsOk, if◌then◌else◌}
+use Rattle.std.specs.Prelude.{◌≡◌, ℕ, Bool, true, false, not, ◌&&◌, [], ◌∷◌, List, Option, None, Result, Ok, Err, IsOk, if◌then◌else◌}
 use Rattle.std.specs.Option.{unwrap_or}
 use Rattle.ill_values.specs.Day.{Date}
 use Rattle.ill_values.specs.declared.apdu.Body.{Body}

@@ -2,10 +2,9 @@
 
 ghost use Rattle.std.specs.Prelude.{◌≡◌, ◌≤◌, ◌<◌, ◌==◌, ◌&&◌, true, length, [], Ok, Some, is_some, IfOk, IfErr, IfSome, OnOk, OnErr, option_map};
 ghost use Rattle.ill_core.specs.declared.refusal.Refusal.TheVariants as refusals;
-ghost use Rattle.ill_core.specs.Numbers.{is_at_most};
-ghost use Rattle.ill_core.specs.Bodies.{is_requesters};
 ghost use Rattle.ill_core.specs.Issued.{IssuedList, is_same_txn, are_numbered, message, next_number, with_next, first_refusal, Admits, last_of, sought_number, granted_day};
 
+use crate::body::grant_in;
 use crate::refusal::Refusal;
 use ill_values::{Apdu, Body, Day, Number, TxnId};
 use std::alloc::Global;
@@ -121,7 +120,7 @@ impl Issued {
     {
         let mut last = None;
         for apdu in &self.apdus {
-            last = granted_day(apdu).or(last);
+            last = grant_in(&apdu.body).or(last);
         }
         last
     }
@@ -164,17 +163,6 @@ impl Issued {
     }
 }
 
-/// The date that a message grants.
-pub fn granted_day(apdu: &Apdu) -> Option<Day>
-    ensures { result ≡ granted_day apdu.now }
-{
-    match &apdu.body {
-        Body::Shipped { due } => Some(*due),
-        Body::RenewAnswer { granted, .. } => *granted,
-        _ => None,
-    }
-}
-
 /// Whether each APDU is of the transaction, and the n-th has number n.
 pub fn are_numbered(txn: &TxnId, apdus: &[Apdu]) -> bool
     ensures value { result ≡ are_numbered txn.now 1 apdus.now }
@@ -194,29 +182,4 @@ fn is_message(apdu: &Apdu, txn: &TxnId, number: usize) -> bool
     ensures few { result ≡ true → number ≤ 255 }
 {
     apdu.txn == *txn && usize::from(apdu.number.get()) == number
-}
-
-/// Whether a requester issues APDUs of this type. A responder issues the others.
-pub fn is_requesters(body: &Body) -> bool
-    ensures { result ≡ is_requesters body.now }
-{
-    match body {
-        Body::IllRequest { .. }
-        | Body::ConditionalReply { .. }
-        | Body::Cancel
-        | Body::Received
-        | Body::Renew { .. }
-        | Body::Returned => true,
-        _ => false,
-    }
-}
-
-/// Whether there is a number, and this one is at most that.
-pub fn is_at_most(number: Number, most: Option<Number>) -> bool
-    ensures { result ≡ is_at_most number most }
-{
-    match most {
-        Some(most) => number <= most,
-        None => false,
-    }
 }

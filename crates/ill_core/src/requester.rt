@@ -6,12 +6,14 @@ mod rules;
 
 ghost use Rattle.std.specs.Prelude.{◌≡◌, ◌≤◌, ◌↔◌, [], None, false, length, IsSome, IfSome, option_map};
 ghost use Rattle.ill_core.specs.declared.state.State.TheVariants as State;
+ghost use Rattle.ill_core.specs.State.{is_among};
 ghost use Rattle.ill_core.specs.Issued.{message};
-ghost use Rattle.ill_core.specs.Requester.{RequesterRecord, requester_of, IsRequester, accepted_number, is_declined, is_received_by};
+ghost use Rattle.ill_core.specs.Requester.{RequesterRecord, requester_of, IsRequester, accepted_number, is_declined, is_received_by, later};
 ghost use Rattle.ill_core.specs.RequesterActions.{Acts};
 ghost use Rattle.ill_core.specs.RequesterDeliveries.{Takes};
 
-use crate::issued::{Issued, Sought, are_numbered, is_requesters};
+use crate::body::is_requesters;
+use crate::issued::{Issued, Sought, are_numbered};
 use crate::refusal::Refusal;
 use crate::state::State;
 use crate::taking::Taking;
@@ -98,7 +100,10 @@ impl Requester {
         if !are_numbered(&txn, &issued) {
             return None;
         }
-        if !rules::are_kept(state, held.is_some(), checked_in, due.is_some(), &issued) {
+        if !rules::parts_fit(state, held.is_some(), due.is_some(), checked_in) {
+            return None;
+        }
+        if !rules::are_kept(state, &issued) {
             return None;
         }
         Some(Requester {
@@ -211,4 +216,21 @@ impl Requester {
     {
         self.checked_in
     }
+}
+
+/// SHIPPED or later, of a requester.
+fn is_later(state: State) -> bool
+    ensures { result ≡ is_among later state }
+{
+    matches!(
+        state,
+        State::Shipped
+            | State::Received
+            | State::RenewPending
+            | State::Overdue
+            | State::RenewOverdue
+            | State::NotReceivedOverdue
+            | State::Recall
+            | State::Returned
+    )
 }

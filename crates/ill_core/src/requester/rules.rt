@@ -6,27 +6,22 @@ ghost use Rattle.ill_core.specs.declared.state.State.TheVariants as states;
 ghost use Rattle.ill_core.specs.State.{is_among};
 ghost use Rattle.ill_core.specs.Bodies.{is_requesters, is_received, is_cancel, is_renew, is_returned, is_ill_request, declines};
 ghost use Rattle.ill_core.specs.Issued.{has};
-ghost use Rattle.ill_core.specs.Requester.{PartsFit, IssuedFits, begins_with_request};
+ghost use Rattle.ill_core.specs.Requester.{PartsFit, IssuedFits, IssuedKeepsRules, begins_with_request};
 
-use super::deliveries::is_later;
-use crate::issued::is_requesters;
+use super::is_later;
+use crate::body::{is_ill_request, is_requesters};
 use crate::state::State;
 use ill_values::{Apdu, Body};
 
-/// Whether a requester can have these parts: whether conditions are held, the item was checked in
-/// and a due date is there.
-pub fn are_kept(state: State, held: bool, checked_in: bool, due: bool, apdus: &[Apdu]) -> bool
-    ensures { (result ≡ true) ↔ (list_all (λ a. is_requesters a.body) apdus.now ≡ true)
-        × (begins_with_request apdus.now ≡ true) × PartsFit state held due checked_in
-        × IssuedFits state apdus.now }
+/// Whether what was issued keeps the rules of a requester in this state.
+pub fn are_kept(state: State, apdus: &[Apdu]) -> bool
+    requires role { is_among (states.InProcess ∷ states.CheckedIn ∷ []) state ≡ false }
+    ensures { (result ≡ true) ↔ IssuedKeepsRules state apdus.now }
 {
     if !is_role(apdus) {
         return false;
     }
     if !begins_with_request(apdus) {
-        return false;
-    }
-    if !parts_fit(state, held, checked_in, due) {
         return false;
     }
     issued_fits(state, apdus)
@@ -55,14 +50,8 @@ fn has_ill_request(apdus: &[Apdu]) -> bool
     apdus.iter().any(|apdu| is_ill_request(&apdu.body))
 }
 
-fn is_ill_request(body: &Body) -> bool
-    ensures { result ≡ is_ill_request body.now }
-{
-    matches!(body, Body::IllRequest { .. })
-}
-
 /// Whether the state has the conditions, the due date and the mark that it wants, and no more.
-fn parts_fit(state: State, held: bool, checked_in: bool, due: bool) -> bool
+pub fn parts_fit(state: State, held: bool, due: bool, checked_in: bool) -> bool
     ensures { (result ≡ true) ↔ PartsFit state held due checked_in }
 {
     match state {

@@ -6,8 +6,10 @@ ghost use Rattle.ill_core.specs.Bodies.{is_requesters, is_shipped, is_renewal, i
 ghost use Rattle.ill_core.specs.Issued.{is_none, granted_day, has};
 ghost use Rattle.ill_core.specs.Responder.{rises, PartsFit, IssuedFits, IssuedKeepsRules, is_request_of, is_named, are_rising, ships_first, ends_with_conditions};
 
-use super::deliveries::{is_conditional, is_later};
-use crate::issued::{granted_day, is_requesters};
+use super::is_later;
+use crate::body::{
+    grant_in, is_ill_request, is_renewal, is_requesters, is_shipped, names_conditions,
+};
 use crate::state::State;
 use ill_values::{Apdu, Body, Day, Number, TxnId};
 
@@ -35,7 +37,7 @@ pub fn is_request_of(txn: &TxnId, request: &Option<Apdu>) -> bool
     ensures { result ≡ is_request_of txn.now request.now }
 {
     match request {
-        Some(apdu) => apdu.txn == *txn && matches!(apdu.body, Body::IllRequest { .. }),
+        Some(apdu) => apdu.txn == *txn && is_ill_request(&apdu.body),
         None => true,
     }
 }
@@ -97,7 +99,7 @@ pub fn is_named(accepted: &Option<Number>, apdus: &[Apdu]) -> bool
 {
     match accepted {
         Some(number) => match apdus.get(usize::from(number.get()) - 1) {
-            Some(apdu) => is_conditional(&apdu.body),
+            Some(apdu) => names_conditions(&apdu.body),
             None => false,
         },
         None => true,
@@ -142,7 +144,7 @@ fn ends_with_conditions(apdus: &[Apdu]) -> bool
         return false;
     }
     match apdus.get(apdus.len() - 1) {
-        Some(apdu) => is_conditional(&apdu.body),
+        Some(apdu) => names_conditions(&apdu.body),
         None => false,
     }
 }
@@ -154,7 +156,7 @@ pub fn dates_rise(apdus: &[Apdu]) -> bool
 {
     let mut last = None;
     for apdu in apdus {
-        let found = granted_day(apdu);
+        let found = grant_in(&apdu.body);
         if !may_follow(&found, &last) {
             return false;
         }
@@ -187,22 +189,4 @@ pub fn ships_first(apdus: &[Apdu]) -> bool
         }
     }
     true
-}
-
-fn is_shipped(body: &Body) -> bool
-    ensures { result ≡ is_shipped body.now }
-{
-    matches!(body, Body::Shipped { .. })
-}
-
-fn is_renewal(body: &Body) -> bool
-    ensures { result ≡ is_renewal body.now }
-{
-    matches!(
-        body,
-        Body::RenewAnswer {
-            granted: Some(_),
-            ..
-        }
-    )
 }

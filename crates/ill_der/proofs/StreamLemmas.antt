@@ -1,6 +1,7 @@
 -- Reading one byte after another.
-use Rattle.std.proofs.Common.{◌≡◌, ℕ, ◌<◌, List, [], ◌∷◌, ◌++◌, length, take, drop, Option, Some, None, Result, Ok, Err, ◌⊎◌, inl, inr, refl, sym, ap, subst, ◌∙◌, append_assoc, arith}
-use Rattle.std.specs.Io.KnownBytes.{Consumes, Keeps}
+use Rattle.std.proofs.Common.{◌≡◌, ℕ, ◌<◌, List, [], ◌∷◌, length, take, drop, Option, Result, Ok, Err, ◌⊎◌, inl, inr, refl, sym, ap, subst, ◌∙◌, arith}
+use Rattle.std.specs.Io.KnownBytes.{Consumes}
+use Rattle.std.proofs.KnownBytes.{Consumes-trans}
 use Rattle.std.proofs.lemmas.List.{append-nil, take_at, length-append}
 use Rattle.ill_values.specs.declared.apdu.Apdu.{Apdu}
 use Rattle.ill_der.specs.declared.fault.DerFault.{DerFault}
@@ -48,18 +49,5 @@ spelled_without_memory bytes fits fronts h =
 
 -- ---- what was read
 
-pub consumes_more : (old middle new : Option (List ℕ)) (front bytes : List ℕ) → Consumes old middle front → Consumes middle new bytes → Consumes old new (front ++ bytes)
-consumes_more None middle new front bytes first second = tt
-consumes_more (Some xs) None new front bytes first second = absurd first
-consumes_more (Some xs) (Some ys) None front bytes first second = absurd second
-consumes_more (Some xs) (Some ys) (Some zs) front bytes first second = first ∙ ap (λ (x : List ℕ). front ++ x) second ∙ sym (append_assoc front bytes zs)
-
 pub consumes_nothing : (old middle new : Option (List ℕ)) (front : List ℕ) → Consumes old middle front → Consumes middle new [] → Consumes old new front
-consumes_nothing old middle new front first second = subst (Consumes old new) (append-nil front) (consumes_more old middle new front [] first second)
-
--- a reader that kept its bytes
-pub consumes_kept : (old middle new : Option (List ℕ)) (front : List ℕ) → Consumes old middle front → Keeps middle new → Consumes old new front
-consumes_kept None middle new front first second = tt
-consumes_kept (Some xs) None new front first second = absurd first
-consumes_kept (Some xs) (Some ys) None front first second = absurd second
-consumes_kept (Some xs) (Some ys) (Some zs) front first second = first ∙ ap (λ (x : List ℕ). front ++ x) (sym second)
+consumes_nothing old middle new front first second = subst (Consumes old new) (append-nil front) (Consumes-trans old middle new front [] first second)

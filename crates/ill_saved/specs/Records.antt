@@ -7,8 +7,8 @@ use Rattle.ill_values.specs.declared.apdu.Apdu.{Apdu}
 use Rattle.ill_der.specs.Format.{◌>>=◌, Left, left_at}
 use Rattle.ill_core.specs.declared.state.State.{State}
 use Rattle.ill_core.specs.declared.state.State.TheVariants.{Idle, Pending, InProcess, Conditional, CancelPending, Cancelled, NotSupplied, Shipped, Received, RenewPending, Overdue, RenewOverdue, NotReceivedOverdue, Recall, Returned, CheckedIn}
-use Rattle.ill_core.specs.Requester.{RequesterRecord, requester_of, IsRequester}
-use Rattle.ill_core.specs.Responder.{ResponderRecord, responder_of, IsResponder}
+use Rattle.ill_core.specs.Requester.{RequesterRecord, requester_of}
+use Rattle.ill_core.specs.Responder.{ResponderRecord, responder_of}
 use Rattle.ill_saved.specs.declared.fault.LayoutFault.{LayoutFault}
 use Rattle.ill_saved.specs.declared.fault.LayoutFault.TheVariants.{Short, Bad}
 use Rattle.ill_saved.specs.declared.fault.RecordFault.{RecordFault}

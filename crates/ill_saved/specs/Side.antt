@@ -90,3 +90,7 @@ pub data Follows (old : Side) : Side → Type 0 where
 -- one list is the front of another
 abbrev pub IsFrontOf : List Apdu → List Apdu → Type 0
 IsFrontOf front apdus = (more : List Apdu) × (apdus ≡ front ++ more)
+
+-- a row keeps the role and the transaction, and takes no message away
+abbrev pub Grows : Side → Side → Type 0
+Grows old new = (idle_of new ≡ idle_of old) × IsFrontOf (issued_of old) (issued_of new)

@@ -11,6 +11,7 @@ use Rattle.ill_der.specs.ShortForm.{spelling, apdu_at, Decodes}
 use Rattle.ill_der.specs.Stream.{AreUnfinished, SpellsOne}
 use Rattle.ill_der.proofs.Chains.{no_value}
 use Rattle.ill_der.specs.Laws.{IsBytes}
+use Rattle.ill_der.proofs.ContentsLaws.{Values}
 use Rattle.ill_der.proofs.ShortFormLaws.{apdu_takes, apdu_again, apdu_memory}
 
 -- ---- what decoding a front says
@@ -25,26 +26,26 @@ decodes_err bytes (Ok x) fault h = inr (h, (x, refl))
 decodes_err bytes (Err f) fault h = inl (let e : f ≡ fault = cc in ap Err e)
 
 -- all of the bytes are the APDU, where each shorter front is unfinished
-exact : (bytes rest : List ℕ) (apdu : Apdu) → IsBytes bytes → AreUnfinished bytes → apdu_at bytes ≡ Ok (apdu, rest) → IsApdu apdu × (bytes ≡ spelling apdu)
-exact bytes [] apdu fits fronts e =
-    let taken = apdu_takes bytes apdu [] fits e in
+exact : Values → (bytes rest : List ℕ) (apdu : Apdu) → IsBytes bytes → AreUnfinished bytes → apdu_at bytes ≡ Ok (apdu, rest) → IsApdu apdu × (bytes ≡ spelling apdu)
+exact values bytes [] apdu fits fronts e =
+    let taken = apdu_takes values bytes apdu [] fits e in
     (taken.0, taken.1 ∙ append-nil (spelling apdu))
-exact bytes (x ∷ rest) apdu fits fronts e =
-    let taken = apdu_takes bytes apdu (x ∷ rest) fits e in
+exact values bytes (x ∷ rest) apdu fits fronts e =
+    let taken = apdu_takes values bytes apdu (x ∷ rest) fits e in
     let text = spelling apdu in
     let longer : length text < length bytes = omega (arith, ap length taken.1, length-append text (x ∷ rest)) in
     let front : take (length text) bytes ≡ text = ap (take (length text)) taken.1 ∙ take_at text (x ∷ rest) (length text) refl in
-    let again : apdu_at text ≡ Ok (apdu, []) = ap apdu_at (sym (append-nil text)) ∙ apdu_again apdu [] taken.0 in
+    let again : apdu_at text ≡ Ok (apdu, []) = ap apdu_at (sym (append-nil text)) ∙ apdu_again values apdu [] taken.0 in
     absurd (no_value (Short (length (take (length text) bytes))) (apdu, []) (sym again ∙ ap apdu_at (sym front) ∙ fronts (length text) longer))
 
-pub spelled_exactly : (bytes : List ℕ) (found : Apdu × ℕ) → IsBytes bytes → AreUnfinished bytes → Decodes bytes (apdu_at bytes) (Ok found) → IsApdu found.0 × (bytes ≡ spelling found.0)
-spelled_exactly bytes found fits fronts h = exact bytes (drop found.1 bytes) found.0 fits fronts (decodes_ok bytes (apdu_at bytes) found h)
+pub spelled_exactly : Values → (bytes : List ℕ) (found : Apdu × ℕ) → IsBytes bytes → AreUnfinished bytes → Decodes bytes (apdu_at bytes) (Ok found) → IsApdu found.0 × (bytes ≡ spelling found.0)
+spelled_exactly values bytes found fits fronts h = exact values bytes (drop found.1 bytes) found.0 fits fronts (decodes_ok bytes (apdu_at bytes) found h)
 
-pub spelled_without_memory : (bytes : List ℕ) → IsBytes bytes → AreUnfinished bytes → Decodes bytes (apdu_at bytes) (Err OutOfMemory) → SpellsOne bytes
-spelled_without_memory bytes fits fronts h =
+pub spelled_without_memory : Values → (bytes : List ℕ) → IsBytes bytes → AreUnfinished bytes → Decodes bytes (apdu_at bytes) (Err OutOfMemory) → SpellsOne bytes
+spelled_without_memory values bytes fits fronts h =
     elim (decodes_err bytes (apdu_at bytes) OutOfMemory h) [
-      | inl e ↦ absurd (apdu_memory bytes e)
-      | inr e ↦ let is = exact bytes e.1.0.1 e.1.0.0 fits fronts e.1.1 in (e.1.0.0, is.0, is.1)
+      | inl e ↦ absurd (apdu_memory values bytes e)
+      | inr e ↦ let is = exact values bytes e.1.0.1 e.1.0.0 fits fronts e.1.1 in (e.1.0.0, is.0, is.1)
     ]
 
 -- ---- what was read

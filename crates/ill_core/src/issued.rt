@@ -2,9 +2,10 @@
 
 ghost use Rattle.std.specs.Prelude.{◌≡◌, ◌≤◌, ◌<◌, ◌==◌, ◌&&◌, true, length, [], Ok, Some, is_some, IfOk, IfErr, IfSome, OnOk, OnErr, option_map};
 ghost use Rattle.ill_core.specs.declared.refusal.Refusal.TheVariants as refusals;
-ghost use Rattle.ill_core.specs.Issued.{IssuedList, is_same_txn, are_numbered, message, next_number, with_next, first_refusal, Admits, last_of, sought_number, granted_day};
+ghost use Rattle.ill_core.specs.Issued.{IssuedList, is_same_txn, are_numbered, message, next_number, with_next, first_refusal, Admits, last_of, sought_number, granted_day, has};
+ghost use Rattle.ill_core.specs.Bodies.{is_ill_request, is_received, is_cancel, is_renew, is_returned, is_checked_in, declines};
 
-use crate::body::grant_in;
+use crate::body::{grant_in, is_ill_request};
 use crate::refusal::Refusal;
 use ill_values::{Apdu, Body, Day, Number, TxnId};
 use std::alloc::Global;
@@ -182,4 +183,57 @@ fn is_message(apdu: &Apdu, txn: &TxnId, number: usize) -> bool
     ensures few { result ≡ true → number ≤ 255 }
 {
     apdu.txn == *txn && usize::from(apdu.number.get()) == number
+}
+
+/// Whether an ILL-Request is among them.
+pub fn has_ill_request(apdus: &[Apdu]) -> bool
+    ensures { result ≡ has is_ill_request apdus.now }
+{
+    apdus.iter().any(|apdu| is_ill_request(&apdu.body))
+}
+
+/// Whether a Received is among them.
+pub fn has_received(apdus: &[Apdu]) -> bool
+    ensures { result ≡ has is_received apdus.now }
+{
+    apdus.iter().any(|apdu| matches!(apdu.body, Body::Received))
+}
+
+/// Whether a Cancel is among them.
+pub fn has_cancel(apdus: &[Apdu]) -> bool
+    ensures { result ≡ has is_cancel apdus.now }
+{
+    apdus.iter().any(|apdu| matches!(apdu.body, Body::Cancel))
+}
+
+/// Whether a Renew is among them.
+pub fn has_renew(apdus: &[Apdu]) -> bool
+    ensures { result ≡ has is_renew apdus.now }
+{
+    apdus
+        .iter()
+        .any(|apdu| matches!(apdu.body, Body::Renew { .. }))
+}
+
+/// Whether a Returned is among them.
+pub fn has_returned(apdus: &[Apdu]) -> bool
+    ensures { result ≡ has is_returned apdus.now }
+{
+    apdus.iter().any(|apdu| matches!(apdu.body, Body::Returned))
+}
+
+/// Whether a Conditional-Reply no is among them.
+pub fn has_declined(apdus: &[Apdu]) -> bool
+    ensures { result ≡ has declines apdus.now }
+{
+    apdus.iter().any(|apdu| matches!(apdu.body, Body::ConditionalReply { yes: false, .. }))
+}
+
+/// Whether a Checked-In is among them.
+pub fn has_checked_in(apdus: &[Apdu]) -> bool
+    ensures { result ≡ has is_checked_in apdus.now }
+{
+    apdus
+        .iter()
+        .any(|apdu| matches!(apdu.body, Body::CheckedIn))
 }

@@ -13,7 +13,7 @@ ghost use Rattle.ill_core.specs.RequesterActions.{Acts};
 ghost use Rattle.ill_core.specs.RequesterDeliveries.{Takes};
 
 use crate::body::is_requesters;
-use crate::issued::{Issued, Sought, are_numbered};
+use crate::issued::{Issued, Sought, are_numbered, has_declined, has_received};
 use crate::refusal::Refusal;
 use crate::state::State;
 use crate::taking::Taking;
@@ -186,7 +186,7 @@ impl Requester {
     pub fn is_received(&self) -> bool
         ensures { result ≡ is_received_by self.now }
     {
-        rules::has_received(self.issued.apdus())
+        has_received(self.issued.apdus())
     }
 
     /// The number of the ILL-Answer whose conditions were accepted last, if any.
@@ -207,7 +207,7 @@ impl Requester {
     pub fn is_declined(&self) -> bool
         ensures { result ≡ is_declined self.now }
     {
-        self.state == State::Conditional && rules::has_declined(self.issued.apdus())
+        self.state == State::Conditional && has_declined(self.issued.apdus())
     }
 
     /// Whether the responder has said that the item is back.

@@ -4,14 +4,16 @@ ghost use Rattle.std.specs.Prelude.{◌≡◌, ◌↔◌, true, false, [], ◌�
 ghost use Rattle.std.specs.List.{list_all};
 ghost use Rattle.ill_core.specs.declared.state.State.TheVariants as states;
 ghost use Rattle.ill_core.specs.State.{is_among};
-ghost use Rattle.ill_core.specs.Bodies.{is_requesters, is_received, is_cancel, is_renew, is_returned, is_ill_request, declines};
-ghost use Rattle.ill_core.specs.Issued.{has};
+ghost use Rattle.ill_core.specs.Bodies.{is_requesters};
 ghost use Rattle.ill_core.specs.Requester.{PartsFit, IssuedFits, IssuedKeepsRules, begins_with_request};
 
 use super::is_later;
 use crate::body::{is_ill_request, is_requesters};
+use crate::issued::{
+    has_cancel, has_declined, has_ill_request, has_received, has_renew, has_returned,
+};
 use crate::state::State;
-use ill_values::{Apdu, Body};
+use ill_values::Apdu;
 
 /// Whether what was issued keeps the rules of a requester in this state.
 pub fn are_kept(state: State, apdus: &[Apdu]) -> bool
@@ -42,12 +44,6 @@ fn begins_with_request(apdus: &[Apdu]) -> bool
         Some((first, others)) => is_ill_request(&first.body) && !has_ill_request(others),
         None => true,
     }
-}
-
-fn has_ill_request(apdus: &[Apdu]) -> bool
-    ensures { result ≡ has is_ill_request apdus.now }
-{
-    apdus.iter().any(|apdu| is_ill_request(&apdu.body))
 }
 
 /// Whether the state has the conditions, the due date and the mark that it wants, and no more.
@@ -83,38 +79,4 @@ fn issued_fits(state: State, apdus: &[Apdu]) -> bool
         State::Returned => received && returned,
         _ => !received && !returned,
     }
-}
-
-/// Whether a Received is among them.
-pub fn has_received(apdus: &[Apdu]) -> bool
-    ensures { result ≡ has is_received apdus.now }
-{
-    apdus.iter().any(|apdu| matches!(apdu.body, Body::Received))
-}
-
-fn has_cancel(apdus: &[Apdu]) -> bool
-    ensures { result ≡ has is_cancel apdus.now }
-{
-    apdus.iter().any(|apdu| matches!(apdu.body, Body::Cancel))
-}
-
-fn has_renew(apdus: &[Apdu]) -> bool
-    ensures { result ≡ has is_renew apdus.now }
-{
-    apdus
-        .iter()
-        .any(|apdu| matches!(apdu.body, Body::Renew { .. }))
-}
-
-fn has_returned(apdus: &[Apdu]) -> bool
-    ensures { result ≡ has is_returned apdus.now }
-{
-    apdus.iter().any(|apdu| matches!(apdu.body, Body::Returned))
-}
-
-/// Whether a Conditional-Reply no is among them.
-pub fn has_declined(apdus: &[Apdu]) -> bool
-    ensures { result ≡ has declines apdus.now }
-{
-    apdus.iter().any(|apdu| matches!(apdu.body, Body::ConditionalReply { yes: false, .. }))
 }

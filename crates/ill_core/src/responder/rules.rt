@@ -1,17 +1,18 @@
 //! Which parts make a responder.
 
-ghost use Rattle.std.specs.Prelude.{◌≡◌, ◌↔◌, true, false, not, ◌&&◌, is_some};
+ghost use Rattle.std.specs.Prelude.{◌≡◌, ◌↔◌, true, false, not, ◌&&◌};
 ghost use Rattle.std.specs.List.{list_all, filter_map, count_by};
-ghost use Rattle.ill_core.specs.Bodies.{is_requesters, is_shipped, is_renewal, is_checked_in, names_conditions};
-ghost use Rattle.ill_core.specs.Issued.{is_none, granted_day, has};
+ghost use Rattle.ill_core.specs.Bodies.{is_requesters, is_shipped};
+ghost use Rattle.ill_core.specs.Issued.{granted_day};
 ghost use Rattle.ill_core.specs.Responder.{rises, PartsFit, IssuedFits, IssuedKeepsRules, is_request_of, is_named, are_rising, ships_first, ends_with_conditions};
 
 use super::is_later;
 use crate::body::{
     grant_in, is_ill_request, is_renewal, is_requesters, is_shipped, names_conditions,
 };
+use crate::issued::has_checked_in;
 use crate::state::State;
-use ill_values::{Apdu, Body, Day, Number, TxnId};
+use ill_values::{Apdu, Day, Number, TxnId};
 
 /// Whether what was issued keeps the rules of a responder in this state.
 pub fn are_kept(state: State, accepted: &Option<Number>, apdus: &[Apdu]) -> bool
@@ -126,14 +127,6 @@ fn shipped_count(apdus: &[Apdu]) -> usize
     ensures { result ≡ count_by (λ a. is_shipped a.body) apdus.now }
 {
     apdus.iter().filter(|apdu| is_shipped(&apdu.body)).count()
-}
-
-fn has_checked_in(apdus: &[Apdu]) -> bool
-    ensures { result ≡ has is_checked_in apdus.now }
-{
-    apdus
-        .iter()
-        .any(|apdu| matches!(apdu.body, Body::CheckedIn))
 }
 
 /// Whether the last of them names conditions.

@@ -4,8 +4,9 @@ mod actions;
 mod deliveries;
 mod rules;
 
-ghost use Rattle.std.specs.Prelude.{◌≡◌, ◌≤◌, ◌↔◌, [], None, false, length, IsSome, IfSome, option_map};
+ghost use Rattle.std.specs.Prelude.{◌≡◌, ◌≤◌, ◌↔◌, [], None, Err, false, length, IsSome, IfSome, option_map};
 ghost use Rattle.ill_core.specs.declared.state.State.TheVariants as State;
+ghost use Rattle.ill_core.specs.declared.refusal.Refusal.TheVariants as refusals;
 ghost use Rattle.ill_core.specs.State.{is_among};
 ghost use Rattle.ill_core.specs.Issued.{message};
 ghost use Rattle.ill_core.specs.Requester.{RequesterRecord, requester_of, IsRequester, accepted_number, is_declined, is_received_by, later};
@@ -130,9 +131,11 @@ impl Requester {
         Ok(())
     }
 
-    /// Takes a message of the responder, and answers what it did. A refusal changes nothing.
+    /// Takes a message of the responder, and answers what it did. A refusal changes nothing, and no
+    /// memory is wanted.
     pub fn take(&mut self, apdu: &Apdu) -> Result<Taking, Refusal>
-        ensures { Takes self.old apdu.now result self.new }
+        ensures takes { Takes self.old apdu.now result self.new }
+        ensures memory { result ≡ Err refusals.OutOfMemory → ⊥ }
     {
         self.issued.admit(apdu, is_requesters(&apdu.body))?;
         Ok(deliveries::take_message(self, apdu))

@@ -185,28 +185,28 @@ fn is_message(apdu: &Apdu, txn: &TxnId, number: usize) -> bool
     apdu.txn == *txn && usize::from(apdu.number.get()) == number
 }
 
-/// Whether an ILL-Request is among them.
+/// Whether an ILL-Request is among the APDUs.
 pub fn has_ill_request(apdus: &[Apdu]) -> bool
     ensures { result ≡ has is_ill_request apdus.now }
 {
     apdus.iter().any(|apdu| is_ill_request(&apdu.body))
 }
 
-/// Whether a Received is among them.
+/// Whether a Received is among the APDUs.
 pub fn has_received(apdus: &[Apdu]) -> bool
     ensures { result ≡ has is_received apdus.now }
 {
     apdus.iter().any(|apdu| matches!(apdu.body, Body::Received))
 }
 
-/// Whether a Cancel is among them.
+/// Whether a Cancel is among the APDUs.
 pub fn has_cancel(apdus: &[Apdu]) -> bool
     ensures { result ≡ has is_cancel apdus.now }
 {
     apdus.iter().any(|apdu| matches!(apdu.body, Body::Cancel))
 }
 
-/// Whether a Renew is among them.
+/// Whether a Renew is among the APDUs.
 pub fn has_renew(apdus: &[Apdu]) -> bool
     ensures { result ≡ has is_renew apdus.now }
 {
@@ -215,21 +215,21 @@ pub fn has_renew(apdus: &[Apdu]) -> bool
         .any(|apdu| matches!(apdu.body, Body::Renew { .. }))
 }
 
-/// Whether a Returned is among them.
+/// Whether a Returned is among the APDUs.
 pub fn has_returned(apdus: &[Apdu]) -> bool
     ensures { result ≡ has is_returned apdus.now }
 {
     apdus.iter().any(|apdu| matches!(apdu.body, Body::Returned))
 }
 
-/// Whether a Conditional-Reply no is among them.
+/// Whether a Conditional-Reply no is among the APDUs.
 pub fn has_declined(apdus: &[Apdu]) -> bool
     ensures { result ≡ has declines apdus.now }
 {
     apdus.iter().any(|apdu| matches!(apdu.body, Body::ConditionalReply { yes: false, .. }))
 }
 
-/// Whether a Checked-In is among them.
+/// Whether a Checked-In is among the APDUs.
 pub fn has_checked_in(apdus: &[Apdu]) -> bool
     ensures { result ≡ has is_checked_in apdus.now }
 {

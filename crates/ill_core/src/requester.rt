@@ -221,7 +221,7 @@ impl Requester {
     }
 }
 
-/// SHIPPED or later, of a requester.
+/// Whether the state is SHIPPED or later.
 fn is_later(state: State) -> bool
     ensures { result ≡ is_among later state }
 {

@@ -257,7 +257,7 @@ impl Responder {
     }
 }
 
-/// SHIPPED or later, of a responder.
+/// Whether the state is SHIPPED or later.
 fn is_later(state: State) -> bool
     ensures { result ≡ is_among later state }
 {

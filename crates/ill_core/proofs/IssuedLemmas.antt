@@ -1,13 +1,11 @@
 -- What one more APDU changes in a list of issued ones.
 use Rattle.std.proofs.Common.{rules, arith, ◌≡◌, ◌⊎◌, inl, inr, ℕ, zero, suc, ◌+◌, ◌<◌, ◌≤◌, Bool, true, false, not, ◌&&◌, ◌||◌, nat_eq, List, [], ◌∷◌, ◌++◌, length, drop, Option, Some, None, Ok, Err, nat_lt, if◌then◌else◌, refl, ap, append-nil, length-append, eq-eqb, subst, sym, ◌∙◌}
-use native.Mathlib.Numerals.{unary_clauses}
 use Rattle.std.proofs.lemmas.Bool.{and_parts, and_from, or_from}
 use Rattle.std.proofs.Math.Bool.{or-false}
 use Rattle.std.specs.List.{list_all, filter_map, cons_option, last_or}
 use Rattle.std.specs.Option.{option_or}
 use Rattle.std.proofs.Math.ListN.{get_or}
-use Rattle.std.proofs.Math.Seq.{drop-cons}
-use Rattle.std.proofs.lemmas.List.{at_drop_all, append_cancel_left}
+use Rattle.std.proofs.lemmas.List.{at_drop_all, append_cancel_left, drop_more}
 use Rattle.std.proofs.lemmas.List.Elements.{filter_map-append}
 use Rattle.std.proofs.lemmas.List.Folds.{list_any-append, list_all-append}
 use Rattle.ill_values.specs.TxnId.{Qualifiers}
@@ -25,10 +23,6 @@ numbered_cons : (txn : Qualifiers) (number : ℕ) (a : Apdu) (apdus : List Apdu)
 unfolding are_numbered
 numbered_cons txn number a apdus = refl
 
--- the element at a place, and those behind it
-pub front_at : {X : Type 0} → (xs : List X) (i : ℕ) (d : X) → i < length xs → drop i xs ≡ get_or xs i d ∷ drop (i + 1) xs
-front_at xs i d within = simp unary_clauses (drop-cons xs i d within)
-
 pub numbered_none : (txn : Qualifiers) (number : ℕ) → are_numbered txn number [] ≡ true
 unfolding are_numbered
 numbered_none txn number = refl
@@ -38,7 +32,7 @@ pub numbered_at : (txn : Qualifiers) (apdus : List Apdu) (i : ℕ) (a : Apdu) (j
     → judged ≡ (is_same_txn a.txn txn && nat_eq a.number (i + 1))
     → are_numbered txn (i + 1) (drop i apdus) ≡ (judged && are_numbered txn (i + 1 + 1) (drop (i + 1) apdus))
 numbered_at txn apdus i a judged within there is =
-    let front : are_numbered txn (i + 1) (drop i apdus) ≡ are_numbered txn (i + 1) (get_or apdus i a ∷ drop (i + 1) apdus) = ap (are_numbered txn (i + 1)) (front_at apdus i a within) in
+    let front : are_numbered txn (i + 1) (drop i apdus) ≡ are_numbered txn (i + 1) (get_or apdus i a ∷ drop (i + 1) apdus) = ap (are_numbered txn (i + 1)) (drop_more apdus i a within) in
     let same : are_numbered txn (i + 1) (get_or apdus i a ∷ drop (i + 1) apdus) ≡ are_numbered txn (i + 1) (a ∷ drop (i + 1) apdus) = ap (λ b. are_numbered txn (i + 1) (b ∷ drop (i + 1) apdus)) (sym there) in
     front ∙ (same ∙ (numbered_cons txn (i + 1) a (drop (i + 1) apdus) ∙ ap (λ b. b && are_numbered txn (i + 1 + 1) (drop (i + 1) apdus)) (sym is)))
 
@@ -54,7 +48,7 @@ found_first o (Some x) others = refl
 pub last_at : {X : Type 0} (f : Apdu → Option X) (o : Option X) (apdus : List Apdu) (i : ℕ) (d : Apdu) → i < length apdus
     → last_or o (filter_map f (drop i apdus)) ≡ last_or (option_or (f (get_or apdus i d)) o) (filter_map f (drop (i + 1) apdus))
 last_at f o apdus i d within =
-    let front : last_or o (filter_map f (drop i apdus)) ≡ last_or o (filter_map f (get_or apdus i d ∷ drop (i + 1) apdus)) = ap (λ xs. last_or o (filter_map f xs)) (front_at apdus i d within) in
+    let front : last_or o (filter_map f (drop i apdus)) ≡ last_or o (filter_map f (get_or apdus i d ∷ drop (i + 1) apdus)) = ap (λ xs. last_or o (filter_map f xs)) (drop_more apdus i d within) in
     front ∙ found_first o (f (get_or apdus i d)) (filter_map f (drop (i + 1) apdus))
 
 -- the next APDU keeps the numbering

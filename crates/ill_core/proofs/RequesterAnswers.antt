@@ -1,9 +1,9 @@
 -- Conditions are answered once.
-use Rattle.std.proofs.Common.{rules, ◌≡◌, inl, inr, ℕ, Bool, true, false, not, ◌||◌, nat_eq, List, [], ◌∷◌, ◌++◌, Option, Some, None, is_some, Ok, if◌then◌else◌, refl, ap, sym, subst, ◌∙◌}
+use Rattle.std.proofs.Common.{rules, ◌≡◌, inl, inr, ℕ, Bool, true, false, ◌||◌, [], ◌∷◌, ◌++◌, Option, Some, None, is_some, if◌then◌else◌, refl, ap, sym, subst, ◌∙◌}
 use Rattle.std.specs.List.{list_all, filter_map, last_or}
 use Rattle.std.specs.Option.{unwrap_or}
-use Rattle.std.proofs.lemmas.Bool.{and_parts, and_from, or_from}
-use Rattle.std.proofs.lemmas.List.Folds.{list_all-append, list_any-append}
+use Rattle.std.proofs.lemmas.Bool.{and_from}
+use Rattle.std.proofs.lemmas.List.Folds.{list_all-append}
 use Rattle.std.proofs.Math.Bool.{or-false, or-true}
 use Rattle.ill_values.specs.declared.apdu.Apdu.{Apdu}
 use Rattle.ill_values.specs.declared.apdu.Body.{Body}
@@ -61,7 +61,7 @@ below_held : (x : RequesterRecord) (n : ℕ) → x.held ≡ Some n → is_among 
 below_held x n is here undeclined once = subst (λ o. list_all (λ m. is_below m o) (replies x.issued) ≡ true) is (once.held here undeclined)
 
 -- a yes to the conditions that are held
-pub yes_once : (x : RequesterRecord) (n : ℕ) → x.held ≡ Some n → is_among (Conditional ∷ []) x.state ≡ true → has declines x.issued ≡ false → AnswersOnce x
+yes_once : (x : RequesterRecord) (n : ℕ) → x.held ≡ Some n → is_among (Conditional ∷ []) x.state ≡ true → has declines x.issued ≡ false → AnswersOnce x
     → AnswersOnce (requester_of x.txn Pending None x.checked_in x.due (with_next x.txn x.issued (types.ConditionalReply n true)))
 yes_once x n is here undeclined once =
     let a : Apdu = next_apdu x.txn x.issued (types.ConditionalReply n true) in
@@ -77,7 +77,7 @@ yes_once x n is here undeclined once =
     }
 
 -- a no to the conditions that are held
-pub no_once : (x : RequesterRecord) (n : ℕ) → x.held ≡ Some n → is_among (Conditional ∷ []) x.state ≡ true → has declines x.issued ≡ false → AnswersOnce x
+no_once : (x : RequesterRecord) (n : ℕ) → x.held ≡ Some n → is_among (Conditional ∷ []) x.state ≡ true → has declines x.issued ≡ false → AnswersOnce x
     → AnswersOnce (requester_of x.txn Conditional x.held x.checked_in x.due (with_next x.txn x.issued (types.ConditionalReply n false)))
 no_once x n is here undeclined once =
     let a : Apdu = next_apdu x.txn x.issued (types.ConditionalReply n false) in
@@ -88,6 +88,13 @@ no_once x n is here undeclined once =
       above = λ no. search (rules, declined);
       held = λ here no. search (rules, declined);
     }
+
+-- an answer to the conditions that are held
+pub reply_once : (x : RequesterRecord) (answer : Bool) (n : ℕ) → x.held ≡ Some n → is_among (Conditional ∷ []) x.state ≡ true → has declines x.issued ≡ false → AnswersOnce x
+    → AnswersOnce (requester_of x.txn (if answer then Pending else Conditional) (if answer then None else x.held) x.checked_in x.due
+    (with_next x.txn x.issued (types.ConditionalReply n answer)))
+reply_once x true = yes_once x
+reply_once x false = no_once x
 
 pub held_number : (o : Option ℕ) → is_some o ≡ true → o ≡ Some (unwrap_or o 0)
 held_number (Some n) there = refl

@@ -1,5 +1,5 @@
 -- A wish keeps the rules of a requester's record.
-use Rattle.std.proofs.Common.{rules, arith, ◌≡◌, ℕ, Bool, true, false, not, ◌||◌, if◌then◌else◌, List, [], ◌∷◌, Option, Some, is_some, IsOk, Result, Ok, Err, refl, ap, subst, sym, ◌∙◌}
+use Rattle.std.proofs.Common.{rules, arith, ◌≡◌, ℕ, Bool, true, false, not, ◌||◌, List, [], ◌∷◌, Option, is_some, IsOk, Result, Ok, Err, refl, ap, subst, sym, ◌∙◌}
 use Rattle.ill_values.specs.Day.{Date}
 use Rattle.ill_values.specs.TxnId.{Qualifiers}
 use Rattle.ill_values.specs.declared.apdu.Apdu.{Apdu}
@@ -19,7 +19,7 @@ use Rattle.ill_core.specs.declared.refusal.Refusal.{Refusal}
 use Rattle.ill_core.specs.declared.refusal.Refusal.TheVariants as refusals
 use Rattle.ill_core.specs.Issued.{next_number}
 use Rattle.ill_core.specs.RequesterActions.{answer_held, row_of, acts_by, FindsRow, Acts}
-use Rattle.ill_core.proofs.RowLemmas.{at_line, no_more}
+use Rattle.ill_core.proofs.RowLemmas.{at_line, is_this, no_more}
 use Rattle.ill_core.proofs.IssuedLemmas.{numbered_next, not_true, same_txn, has_more, all_more, none_more, begins_more}
 
 -- a state fits a record that has issued one more APDU
@@ -75,15 +75,18 @@ pub fits : (txn : Qualifiers) (state : State) (held : Option ℕ) (checked_in : 
 fits txn Idle held checked_in due issued (wishes.Request expiry item) row h leads = search rules
 fits txn Conditional held checked_in due issued (wishes.Reply answer) row h leads =
     let x : RequesterRecord = requester_of txn Conditional held checked_in due issued in
-    at_line (λ r. FitsWith r.next r.held x r.body) (not (has declines issued)) _ _ row (λ undeclined. reply_fits txn held checked_in due issued answer h (not_true _ undeclined))
+    at_line (λ r. FitsWith r.next r.held x r.body) (not (has declines issued)) _ _ row
+    (λ undeclined. is_this (λ r. FitsWith r.next r.held x r.body) _ row (reply_fits txn held checked_in due issued answer h (not_true _ undeclined)))
     (no_more (λ r. FitsWith r.next r.held x r.body) _ row) leads
 fits txn Recall held checked_in due issued wishes.Receive row h leads =
     let x : RequesterRecord = requester_of txn Recall held checked_in due issued in
-    at_line (λ r. FitsWith r.next r.held x r.body) (not (has is_received issued)) _ _ row (λ is. receive_fits txn held checked_in due issued h (not_true _ is))
+    at_line (λ r. FitsWith r.next r.held x r.body) (not (has is_received issued)) _ _ row
+    (λ is. is_this (λ r. FitsWith r.next r.held x r.body) _ row (receive_fits txn held checked_in due issued h (not_true _ is)))
     (no_more (λ r. FitsWith r.next r.held x r.body) _ row) leads
 fits txn Recall held checked_in due issued wishes.Return row h leads =
     let x : RequesterRecord = requester_of txn Recall held checked_in due issued in
-    at_line (λ r. FitsWith r.next r.held x r.body) (has is_received issued) _ _ row (return_fits txn held checked_in due issued h)
+    at_line (λ r. FitsWith r.next r.held x r.body) (has is_received issued) _ _ row
+    (λ is. is_this (λ r. FitsWith r.next r.held x r.body) _ row (return_fits txn held checked_in due issued h is))
     (no_more (λ r. FitsWith r.next r.held x r.body) _ row) leads
 fits txn state held checked_in due issued wish row h leads = search rules
 

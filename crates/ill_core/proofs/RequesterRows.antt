@@ -19,7 +19,7 @@ use Rattle.ill_core.specs.Numbers.{is_at_most, is_the}
 use Rattle.ill_core.specs.Bodies.{is_requesters, is_cancel, is_renew, declines, accepts}
 use Rattle.ill_core.specs.Issued.{first_refusal, was, has, next_number, next_apdu, number_of_cancel, last_of}
 use Rattle.ill_core.specs.Requester.{RequesterRecord, IsRequester, later, accepted_number, is_declined, is_received_by, last_cancel, last_renew}
-use Rattle.ill_core.specs.RequesterActions.{acts, acts_by, row_of, record_after, answer_held, not_now}
+use Rattle.ill_core.specs.RequesterActions.{acts, acts_by, row_of, record_after, answer_held}
 use Rattle.ill_core.specs.Answers.{taken, unless_refused}
 use Rattle.ill_core.specs.RequesterDeliveries.{take_message, takes, take_end, take_cancel_reply, take_renew_answer, take_renewal}
 use Rattle.ill_core.specs.Dates.{is_after_due, is_due_on}
@@ -27,8 +27,8 @@ use Rattle.ill_core.specs.declared.refusal.Refusal.{Refusal}
 use Rattle.ill_core.specs.RequesterFacts.{Fact, Shows, Tells, KeepsDue, Holds, ShowsRefused, AnswersOnce, replied_number}
 use Rattle.ill_core.specs.RequesterFacts as facts
 use Rattle.ill_core.proofs.IssuedLemmas.{was_more, still_cancel, last_cancel_more, older_cancel}
-use Rattle.ill_core.proofs.RowLemmas.{at_line, no_more}
-use Rattle.ill_core.proofs.RequesterAnswers.{silent_once, yes_once, no_once, held_number}
+use Rattle.ill_core.proofs.RowLemmas.{at_line, is_this, no_more}
+use Rattle.ill_core.proofs.RequesterAnswers.{silent_once, reply_once, held_number}
 
 not_both : {P : Type 0} (b : Bool) → b ≡ false → b ≡ true → P
 not_both b is_false is_true = search rules
@@ -210,22 +210,18 @@ cancel_refused_before x c is shown =
       search (rules, is),
     )
 
+answer_goes_on : (answer : Bool) → is_among (Cancelled ∷ NotSupplied ∷ []) (if answer then Pending else Conditional) ≡ false
+answer_goes_on true = refl
+answer_goes_on false = refl
+
 answers_held : (x : RequesterRecord) (answer : Bool) → is_among (Conditional ∷ []) x.state ≡ true → has declines x.issued ≡ false → Issues x (answer_held x answer)
-answers_held x true here undeclined =
+answers_held x answer here undeclined =
     record {
       final = λ is. search rules;
       stays = λ is. search rules;
-      shows = goes_on x (answer_held x true) refl (λ c shown. (still_cancel x.issued _ c refl shown.0, search (rules, here), search (rules, here)));
+      shows = goes_on x (answer_held x answer) (answer_goes_on answer) (λ c shown. (still_cancel x.issued _ c refl shown.0, search (rules, here), search (rules, here)));
       replies = λ n answer is. (here, undeclined, search rules);
-      once = λ held once. yes_once x (unwrap_or x.held 0) (held_number x.held (held ∙ here)) here undeclined once;
-    }
-answers_held x false here undeclined =
-    record {
-      final = λ is. search rules;
-      stays = λ is. search rules;
-      shows = goes_on x (answer_held x false) refl (λ c shown. (still_cancel x.issued _ c refl shown.0, search (rules, here), search (rules, here)));
-      replies = λ n answer is. (here, undeclined, search rules);
-      once = λ held once. no_once x (unwrap_or x.held 0) (held_number x.held (held ∙ here)) here undeclined once;
+      once = λ held once. reply_once x answer (unwrap_or x.held 0) (held_number x.held (held ∙ here)) here undeclined once;
     }
 
 undeclined_there : (conditional declined : Bool) → conditional && not (conditional && declined) ≡ true → (conditional ≡ true) × (declined ≡ false)
@@ -234,28 +230,30 @@ undeclined_there conditional declined h = search rules
 
 wish_row : (x : RequesterRecord) (wish : Wish) (row : Row) → row_of x wish ≡ Ok row → Issues x row
 wish_row x (wishes.Request expiry item) row =
-    at_line (Issues x) (is_among (Idle ∷ []) x.state) _ _ row (λ is.
-    silent_row x Pending (types.IllRequest expiry item) refl refl refl refl refl (search (rules, is)) (search (rules, is))
-    (λ c shown. (still_cancel x.issued _ c refl shown.0, search (rules, is), search (rules, is)))) (no_more (Issues x) _ row)
+    at_line (Issues x) (is_among (Idle ∷ []) x.state) _ _ row (λ is. is_this (Issues x) _ row
+    (silent_row x Pending (types.IllRequest expiry item) refl refl refl refl refl (search (rules, is)) (search (rules, is))
+    (λ c shown. (still_cancel x.issued _ c refl shown.0, search (rules, is), search (rules, is))))) (no_more (Issues x) _ row)
 wish_row x wishes.Cancel row =
-    at_line (Issues x) (is_among (Pending ∷ []) x.state) _ _ row (λ is.
-    silent_row x CancelPending types.Cancel refl refl refl refl refl (search (rules, is)) (search (rules, is)) (λ c. cancel_refused_before x c is)) (no_more (Issues x) _ row)
+    at_line (Issues x) (is_among (Pending ∷ []) x.state) _ _ row (λ is. is_this (Issues x) _ row
+    (silent_row x CancelPending types.Cancel refl refl refl refl refl (search (rules, is)) (search (rules, is)) (λ c. cancel_refused_before x c is))) (no_more (Issues x) _ row)
 wish_row x (wishes.Reply answer) row =
-    at_line (Issues x) (is_among (Conditional ∷ []) x.state && not (is_declined x)) (answer_held x answer) (not_now x) row
-    (λ is. let there = undeclined_there (is_among (Conditional ∷ []) x.state) (has declines x.issued) is in answers_held x answer there.0 there.1) (no_more (Issues x) _ row)
+    at_line (Issues x) (is_among (Conditional ∷ []) x.state && not (is_declined x)) _ _ row (λ is.
+    let there = undeclined_there (is_among (Conditional ∷ []) x.state) (has declines x.issued) is in
+    is_this (Issues x) _ row (answers_held x answer there.0 there.1)) (no_more (Issues x) _ row)
 wish_row x wishes.Receive row =
-    at_line (Issues x) (is_among (Shipped ∷ []) x.state) _ _ row (λ is. loan_row x Received types.Received refl refl refl (search (rules, is)) refl) (
-    at_line (Issues x) (is_among (NotReceivedOverdue ∷ []) x.state) _ _ row (λ is. loan_row x Overdue types.Received refl refl refl (search (rules, is)) refl) (
-    at_line (Issues x) (is_among (Recall ∷ []) x.state && not (is_received_by x)) _ _ row
-    (λ is. loan_row x Recall types.Received refl refl refl (search (rules, (and_parts (is_among (Recall ∷ []) x.state) (not (is_received_by x)) is).0)) refl) (no_more (Issues x) _ row)))
+    at_line (Issues x) (is_among (Shipped ∷ []) x.state) _ _ row (λ is. is_this (Issues x) _ row (loan_row x Received types.Received refl refl refl (search (rules, is)) refl)) (
+    at_line (Issues x) (is_among (NotReceivedOverdue ∷ []) x.state) _ _ row (λ is. is_this (Issues x) _ row (loan_row x Overdue types.Received refl refl refl (search (rules, is)) refl)) (
+    at_line (Issues x) (is_among (Recall ∷ []) x.state && not (is_received_by x)) _ _ row (λ is. is_this (Issues x) _ row
+    (loan_row x Recall types.Received refl refl refl (search (rules, (and_parts (is_among (Recall ∷ []) x.state) (not (is_received_by x)) is).0)) refl)) (no_more (Issues x) _ row)))
 wish_row x (wishes.Renew wished) row =
-    at_line (Issues x) (is_among (Received ∷ []) x.state) _ _ row (λ is. loan_row x RenewPending (types.Renew wished) refl refl refl (search (rules, is)) refl) (
-    at_line (Issues x) (is_among (Overdue ∷ []) x.state) _ _ row (λ is. loan_row x RenewOverdue (types.Renew wished) refl refl refl (search (rules, is)) refl)
+    at_line (Issues x) (is_among (Received ∷ []) x.state) _ _ row (λ is. is_this (Issues x) _ row (loan_row x RenewPending (types.Renew wished) refl refl refl (search (rules, is)) refl)) (
+    at_line (Issues x) (is_among (Overdue ∷ []) x.state) _ _ row (λ is. is_this (Issues x) _ row (loan_row x RenewOverdue (types.Renew wished) refl refl refl (search (rules, is)) refl))
     (no_more (Issues x) _ row))
 wish_row x wishes.Return row =
-    at_line (Issues x) (is_among (Received ∷ RenewPending ∷ Overdue ∷ RenewOverdue ∷ []) x.state) _ _ row (λ is. loan_row x Returned types.Returned refl refl refl (search (rules, is)) refl) (
-    at_line (Issues x) (is_among (Recall ∷ []) x.state && is_received_by x) _ _ row
-    (λ is. loan_row x Returned types.Returned refl refl refl (search (rules, (and_parts (is_among (Recall ∷ []) x.state) (is_received_by x) is).0)) refl) (no_more (Issues x) _ row))
+    at_line (Issues x) (is_among (Received ∷ RenewPending ∷ Overdue ∷ RenewOverdue ∷ []) x.state) _ _ row (λ is. is_this (Issues x) _ row
+    (loan_row x Returned types.Returned refl refl refl (search (rules, is)) refl)) (
+    at_line (Issues x) (is_among (Recall ∷ []) x.state && is_received_by x) _ _ row (λ is. is_this (Issues x) _ row
+    (loan_row x Returned types.Returned refl refl refl (search (rules, (and_parts (is_among (Recall ∷ []) x.state) (is_received_by x) is).0)) refl)) (no_more (Issues x) _ row))
 
 ok_is : (x y : RequesterRecord) → ◌≡◌ {A = Result RequesterRecord Refusal} (Ok x) (Ok y) → x ≡ y
 ok_is x y h = search rules

@@ -5,7 +5,7 @@ use Rattle.std.proofs.lemmas.Bool.{and_parts, and_from}
 use Rattle.std.proofs.lemmas.List.Sums.{sum_by-append, sum_by-cons}
 use Rattle.std.specs.Option.{option_or}
 use Rattle.std.proofs.Math.ListN.{get_or}
-use Rattle.std.proofs.lemmas.List.{at_drop_all}
+use Rattle.std.proofs.lemmas.List.{at_drop_all, drop_more}
 use Rattle.ill_values.specs.Day.{Date}
 use Rattle.ill_values.specs.declared.apdu.Apdu.{Apdu}
 use Rattle.ill_values.specs.declared.apdu.Body.{Body}
@@ -14,7 +14,7 @@ use Rattle.ill_core.specs.Dates.{is_after_due}
 use Rattle.ill_core.specs.Bodies.{is_shipped, is_renewal, names_conditions, grant_in}
 use Rattle.ill_core.specs.Issued.{was, granted_day, last_of}
 use Rattle.ill_core.specs.Responder.{rises, rise_from, ships_first, ends_with_conditions, is_named}
-use Rattle.ill_core.proofs.IssuedLemmas.{not_true, front_at}
+use Rattle.ill_core.proofs.IssuedLemmas.{not_true}
 
 -- one more APDU may count
 pub count_more : (says : Body → Bool) (apdus : List Apdu) (a : Apdu) → count_by (λ b. says b.body) (apdus ++ a ∷ []) ≡ count_by (λ b. says b.body) apdus + (if says a.body then 1 else 0)
@@ -68,7 +68,7 @@ pub rise_at : (last found next : Option Date) (follows : Bool) (apdus : List Apd
     → rise_from last (filter_map granted_day (drop i apdus)) ≡ (follows && rise_from next (filter_map granted_day (drop (i + 1) apdus)))
 rise_at last found next follows apdus i a within there is may then_last =
     let others = filter_map granted_day (drop (i + 1) apdus) in
-    let front : rise_from last (filter_map granted_day (drop i apdus)) ≡ rise_from last (filter_map granted_day (get_or apdus i a ∷ drop (i + 1) apdus)) = ap (λ xs. rise_from last (filter_map granted_day xs)) (front_at apdus i a within) in
+    let front : rise_from last (filter_map granted_day (drop i apdus)) ≡ rise_from last (filter_map granted_day (get_or apdus i a ∷ drop (i + 1) apdus)) = ap (λ xs. rise_from last (filter_map granted_day xs)) (drop_more apdus i a within) in
     let same : rise_from last (filter_map granted_day (get_or apdus i a ∷ drop (i + 1) apdus)) ≡ rise_from last (filter_map granted_day (a ∷ drop (i + 1) apdus)) = ap (λ b. rise_from last (filter_map granted_day (b ∷ drop (i + 1) apdus))) (sym there) in
     let known : rise_from last (filter_map granted_day (a ∷ drop (i + 1) apdus)) ≡ rise_from last (cons_option found others) = ap (λ o. rise_from last (cons_option o others)) (sym is) in
     front ∙ (same ∙ (known ∙ (grant_rises last found others ∙ (ap (λ b. b && rise_from (option_or found last) others) (sym may) ∙ ap (λ o. follows && rise_from o others) (sym then_last)))))
@@ -89,7 +89,7 @@ pub ships_at : (shipped renewal : Bool) (apdus : List Apdu) (i : ℕ) (a : Apdu)
     → ships_first (drop i apdus) ≡ (shipped || (not renewal && ships_first (drop (i + 1) apdus)))
 ships_at shipped renewal apdus i a within there is_s is_r =
     let others = ships_first (drop (i + 1) apdus) in
-    let front : ships_first (drop i apdus) ≡ ships_first (get_or apdus i a ∷ drop (i + 1) apdus) = ap ships_first (front_at apdus i a within) in
+    let front : ships_first (drop i apdus) ≡ ships_first (get_or apdus i a ∷ drop (i + 1) apdus) = ap ships_first (drop_more apdus i a within) in
     let same : ships_first (get_or apdus i a ∷ drop (i + 1) apdus) ≡ ships_first (a ∷ drop (i + 1) apdus) = ap (λ b. ships_first (b ∷ drop (i + 1) apdus)) (sym there) in
     front ∙ (same ∙ (ships_cons a (drop (i + 1) apdus) ∙ (ap (λ b. b || (not (is_renewal a.body) && others)) (sym is_s) ∙ ap (λ b. shipped || (not b && others)) (sym is_r))))
 

@@ -1,5 +1,5 @@
 -- The rows of a responder's table of actions, one by one.
-use Rattle.std.proofs.Common.{rules, ◌≡◌, Bool, true, false, not, [], ◌∷◌, Option, Some, None, Result, Ok, Err, if◌then◌else◌, refl, subst}
+use Rattle.std.proofs.Common.{rules, ◌≡◌, Bool, true, false, [], ◌∷◌, Some, None, Ok, refl, subst}
 use Rattle.std.specs.Option.{unwrap_or}
 use Rattle.ill_values.specs.Day.{Date}
 use Rattle.ill_values.specs.declared.apdu.Body.TheVariants as types
@@ -13,7 +13,7 @@ use Rattle.ill_core.specs.State.{is_among}
 use Rattle.ill_core.specs.Dates.{is_after_due}
 use Rattle.ill_core.specs.Responder.{ResponderRecord, due_of}
 use Rattle.ill_core.specs.ResponderActions.{after_answer, if_allowed, no_date, row_of}
-use Rattle.ill_core.proofs.RowLemmas.{row_is, no_more}
+use Rattle.ill_core.proofs.RowLemmas.{row_is, at_line, is_this, no_more}
 
 pub data IsRow (y : ResponderRecord) : Row → Type 0 where
   answers : (answer : AnswerResult) → is_among (InProcess ∷ []) y.state ≡ true → IsRow y (record { next = after_answer answer; body = types.IllAnswer answer })
@@ -29,16 +29,6 @@ pub data IsRow (y : ResponderRecord) : Row → Type 0 where
   recalls : is_among (Shipped ∷ Overdue ∷ []) y.state ≡ true → IsRow y (record { next = Recall; body = types.Recall })
   checks_in : is_among (Returned ∷ []) y.state ≡ true → IsRow y (record { next = CheckedIn; body = types.CheckedIn })
   expires : is_among (InProcess ∷ Conditional ∷ []) y.state ≡ true → IsRow y (record { next = NotSupplied; body = types.Expired })
-
--- a line of the table, or those behind it
-at_line : (P : Row → Type 0) (is_here : Bool) (here others : Result Row Refusal) (row : Row) → (is_here ≡ true → here ≡ Ok row → P row) → (others ≡ Ok row → P row)
-    → (if is_here then here else others) ≡ Ok row → P row
-at_line P true here others row leads behind e = leads refl e
-at_line P false here others row leads behind e = behind e
-
--- the row of a line
-is_this : (P : Row → Type 0) (here row : Row) → P here → ◌≡◌ {A = Result Row Refusal} (Ok here) (Ok row) → P row
-is_this P here row there e = subst P (row_is here row e) there
 
 -- a row that its date allows
 allowed : (P : Row → Type 0) (is_allowed : Bool) (refusal : Refusal) (here row : Row) → (is_allowed ≡ true → P here) → if_allowed is_allowed refusal (Ok here) ≡ Ok row → P row

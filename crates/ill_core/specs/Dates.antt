@@ -14,7 +14,8 @@ is_due_on d (Some due) = is_same_day d due
 -- a day is before another
 abbrev pub is_before : Date → Date → Bool
 is_before a b =
-    if a.year == b.year then (if a.month == b.month then nat_lt a.day b.day else nat_lt a.month b.month)
+    if a.year == b.year
+    then (if a.month == b.month then nat_lt a.day b.day else nat_lt a.month b.month)
     else nat_lt a.year b.year
 
 -- this day is after the due date

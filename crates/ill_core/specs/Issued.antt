@@ -1,5 +1,5 @@
 -- What a side has issued in a transaction, and what both roles ask of it (this profile's own).
-use Rattle.std.specs.Prelude.{◌≡◌, ℕ, zero, suc, ◌+◌, Bool, true, false, not, ◌&&◌, ◌||◌, ◌==◌, nat_lt, nat_le, List, [], ◌∷◌, ◌++◌, length, slice_get, Option, Some, None, Result, Ok, Err, if◌then◌else◌}
+use Rattle.std.specs.Prelude.{◌≡◌, ℕ, zero, suc, ◌+◌, Bool, true, false, ◌&&◌, ◌==◌, nat_lt, List, [], ◌∷◌, ◌++◌, length, slice_get, Option, Some, None, Result, Ok, Err, if◌then◌else◌}
 use Rattle.std.specs.List.{list_any, filter_map, last_or}
 use Rattle.std.specs.Str.{bytes_eq}
 use Rattle.ill_values.specs.TxnId.{Qualifiers}
@@ -88,10 +88,12 @@ with_next txn apdus body = apdus ++ next_apdu txn apdus body ∷ []
 abbrev pub IssuesNext : Qualifiers → List Apdu → List Apdu → Type 0
 IssuesNext txn old new = (body : Body) × (new ≡ with_next txn old body)
 
--- Before its table a side refuses an APDU of another transaction, and then one that its own role issues.
+-- Before its table a side refuses an APDU of another transaction, and then one that its own role
+-- issues.
 abbrev pub first_refusal : Qualifiers → Bool → Apdu → Option Refusal
 first_refusal txn is_own a =
-    if is_same_txn a.txn txn then (if is_own then Some WrongRole else None) else Some OtherTransaction
+    if is_same_txn a.txn txn then (if is_own then Some WrongRole else None)
+    else Some OtherTransaction
 
 -- A side admits an APDU, or refuses it.
 abbrev pub Admits : Option Refusal → Result Unit Refusal → Type 0

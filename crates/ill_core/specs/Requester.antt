@@ -20,9 +20,17 @@ pub record RequesterRecord : Type 0 where
   pub issued : List Apdu
 
 -- the record of these parts
-abbrev pub requester_of : Qualifiers → State → Option ℕ → Bool → Option Date → List Apdu → RequesterRecord
+abbrev pub requester_of : Qualifiers → State → Option ℕ → Bool → Option Date → List Apdu →
+    RequesterRecord
 requester_of txn state held checked_in due issued =
-    record { txn = txn; state = state; held = held; checked_in = checked_in; due = due; issued = issued }
+    record {
+      txn = txn;
+      state = state;
+      held = held;
+      checked_in = checked_in;
+      due = due;
+      issued = issued;
+    }
 
 -- the number answered by the last Conditional-Reply yes
 abbrev pub accepted_number : RequesterRecord → Option ℕ
@@ -44,7 +52,9 @@ last_renew x = last_of number_of_renew x.issued
 
 -- SHIPPED or later
 abbrev pub later : List State
-later = Shipped ∷ Received ∷ RenewPending ∷ Overdue ∷ RenewOverdue ∷ NotReceivedOverdue ∷ Recall ∷ Returned ∷ []
+later =
+    Shipped ∷ Received ∷ RenewPending ∷ Overdue ∷ RenewOverdue ∷ NotReceivedOverdue ∷ Recall
+    ∷ Returned ∷ []
 
 -- the first APDU, and no other, is an ILL-Request
 abbrev pub begins_with_request : List Apdu → Bool
@@ -61,21 +71,32 @@ pub record PartsFit (state : State) (is_held is_due is_marked : Bool) : Type 0 w
 
 -- What was issued fits a state: whether nothing was, and whether a Received, a Cancel, a Renew, a
 -- Returned and a Conditional-Reply no were.
-pub record IssuedFit (state : State) (none has_received has_cancel has_renew has_returned has_no : Bool) : Type 0 where
+pub record IssuedFit (state : State) (none has_received has_cancel has_renew has_returned has_no : Bool)
+    : Type 0 where
   pub idle : none ≡ is_among (Idle ∷ []) state
   pub received : implies
-      (is_among (Received ∷ RenewPending ∷ Overdue ∷ RenewOverdue ∷ Returned ∷ []) state) has_received ≡ true
+      (is_among (Received ∷ RenewPending ∷ Overdue ∷ RenewOverdue ∷ Returned ∷ []) state)
+      has_received ≡ true
   pub not_received : implies has_received
-      (is_among (Received ∷ RenewPending ∷ Overdue ∷ RenewOverdue ∷ Recall ∷ Returned ∷ []) state) ≡ true
+      (is_among (Received ∷ RenewPending ∷ Overdue ∷ RenewOverdue ∷ Recall ∷ Returned ∷ []) state)
+      ≡ true
   pub cancel : implies (is_among (CancelPending ∷ Cancelled ∷ []) state) has_cancel ≡ true
   pub renew : implies (is_among (RenewPending ∷ RenewOverdue ∷ []) state) has_renew ≡ true
   pub returned : has_returned ≡ is_among (Returned ∷ []) state
-  pub declined : implies has_no (not (is_among (Pending ∷ CancelPending ∷ Cancelled ∷ []) state)) ≡ true
+  pub declined : implies has_no
+      (not (is_among (Pending ∷ CancelPending ∷ Cancelled ∷ []) state)) ≡ true
 
 abbrev pub IssuedFits : State → List Apdu → Type 0
 IssuedFits state issued =
-    IssuedFit state (is_none issued) (has is_received issued) (has is_cancel issued) (has is_renew issued)
-    (has is_returned issued) (has declines issued)
+    IssuedFit state (is_none issued) (has is_received issued) (has is_cancel issued)
+    (has is_renew issued) (has is_returned issued) (has declines issued)
+
+-- What was issued keeps the rules of a requester: it issues each of these types, the first and no
+-- other is an ILL-Request, and they fit its state.
+abbrev pub IssuedKeepsRules : State → List Apdu → Type 0
+IssuedKeepsRules state issued =
+    (list_all (λ a. is_requesters a.body) issued ≡ true) × (begins_with_request issued ≡ true)
+    × IssuedFits state issued
 
 -- A record is a requester's where it keeps these rules.
 pub record IsRequester (x : RequesterRecord) : Type 0 where

@@ -1,7 +1,7 @@
 -- What a requester does: its table of actions (this profile's own; the services are those of ISO
 -- 10160). A row says from which states, to which state, what is issued, and what is held then; a
 -- wish that no row has is not done now.
-use Rattle.std.specs.Prelude.{◌≡◌, ℕ, Bool, true, false, not, ◌&&◌, [], ◌∷◌, List, Option, Some, None, Result, Ok, Err, IsOk, if◌then◌else◌}
+use Rattle.std.specs.Prelude.{◌≡◌, ℕ, Bool, true, not, ◌&&◌, [], ◌∷◌, List, Option, None, Result, Ok, Err, IsOk, if◌then◌else◌}
 use Rattle.std.specs.Option.{unwrap_or}
 use Rattle.ill_values.specs.Day.{Date}
 use Rattle.ill_values.specs.declared.apdu.Body.{Body}
@@ -36,8 +36,12 @@ cancel_row x =
 
 -- the answer to the conditions held; none are held once they are accepted
 abbrev pub answer_held : RequesterRecord → Bool → Row
-answer_held x true = record { next = Pending; body = types.ConditionalReply (unwrap_or x.held 0) true; held = None }
-answer_held x false = record { next = Conditional; body = types.ConditionalReply (unwrap_or x.held 0) false; held = x.held }
+answer_held x answer =
+    record {
+      next = if answer then Pending else Conditional;
+      body = types.ConditionalReply (unwrap_or x.held 0) answer;
+      held = if answer then None else x.held;
+    }
 
 abbrev pub reply_row : RequesterRecord → Bool → Result Row Refusal
 reply_row x answer =
@@ -48,7 +52,8 @@ abbrev pub receive_row : RequesterRecord → Result Row Refusal
 receive_row x =
     if is_among (Shipped ∷ []) x.state then leads_to Received types.Received x
     else if is_among (NotReceivedOverdue ∷ []) x.state then leads_to Overdue types.Received x
-    else if is_among (Recall ∷ []) x.state && not (is_received_by x) then leads_to Recall types.Received x
+    else if is_among (Recall ∷ []) x.state && not (is_received_by x)
+    then leads_to Recall types.Received x
     else not_now x
 
 abbrev pub renew_row : RequesterRecord → Option Date → Result Row Refusal
@@ -59,8 +64,10 @@ renew_row x wished =
 
 abbrev pub return_row : RequesterRecord → Result Row Refusal
 return_row x =
-    if is_among (Received ∷ RenewPending ∷ Overdue ∷ RenewOverdue ∷ []) x.state then leads_to Returned types.Returned x
-    else if is_among (Recall ∷ []) x.state && is_received_by x then leads_to Returned types.Returned x
+    if is_among (Received ∷ RenewPending ∷ Overdue ∷ RenewOverdue ∷ []) x.state
+    then leads_to Returned types.Returned x
+    else if is_among (Recall ∷ []) x.state && is_received_by x
+    then leads_to Returned types.Returned x
     else not_now x
 
 -- the row of a wish, or that it has no place now
@@ -74,7 +81,8 @@ row_of x wishes.Return = return_row x
 
 -- The row is found, or memory is wanted for the ILL-Request that it issues.
 abbrev pub FindsRow : RequesterRecord → Wish → Result Row Refusal → Type 0
-FindsRow x wish (Err refusals.OutOfMemory) = IsOk (row_of x wish) × (is_among (Idle ∷ []) x.state ≡ true)
+FindsRow x wish (Err refusals.OutOfMemory) =
+    IsOk (row_of x wish) × (is_among (Idle ∷ []) x.state ≡ true)
 FindsRow x wish found = found ≡ row_of x wish
 
 -- the record after a row

@@ -7,7 +7,6 @@ use Rattle.ill_values.specs.declared.apdu.Body.{Body}
 use Rattle.ill_values.specs.declared.apdu.Body.TheVariants as types
 use Rattle.ill_values.specs.declared.apdu.AnswerResult.{AnswerResult}
 use Rattle.ill_values.specs.declared.apdu.AnswerResult.TheVariants as results
-use Rattle.ill_core.specs.declared.state.State.{State}
 use Rattle.ill_core.specs.declared.state.State.TheVariants.{Pending, Conditional, CancelPending, Cancelled, NotSupplied, Shipped, Received, RenewPending, Overdue, RenewOverdue, NotReceivedOverdue, Recall, Returned}
 use Rattle.ill_core.specs.declared.refusal.Refusal.{Refusal}
 use Rattle.ill_core.specs.declared.taking.Taking.{Taking}
@@ -23,7 +22,8 @@ abbrev pub take_conditions : RequesterRecord → ℕ → Result Taking Refusal �
 take_conditions x k =
     if is_at_most k (accepted_number x) then repeat x
     else if is_among (Conditional ∷ []) x.state && is_the k x.held then repeat x
-    else if is_among (Pending ∷ []) x.state then taken (record x { state = Conditional; held = Some k })
+    else if is_among (Pending ∷ []) x.state
+    then taken (record x { state = Conditional; held = Some k })
     else conflict x.state x
 
 abbrev pub take_promise : RequesterRecord → Result Taking Refusal × RequesterRecord
@@ -32,19 +32,23 @@ take_promise x = if is_among (Pending ∷ []) x.state then taken x else conflict
 abbrev pub take_end : RequesterRecord → Result Taking Refusal × RequesterRecord
 take_end x =
     if is_among (NotSupplied ∷ []) x.state then repeat x
-    else if is_among (Pending ∷ Conditional ∷ CancelPending ∷ []) x.state then taken (record x { state = NotSupplied; held = None })
+    else if is_among (Pending ∷ Conditional ∷ CancelPending ∷ []) x.state
+    then taken (record x { state = NotSupplied; held = None })
     else conflict x.state x
 
 abbrev pub take_cancel_reply : RequesterRecord → ℕ → Bool → Result Taking Refusal × RequesterRecord
 take_cancel_reply x c answer =
-    if is_among (CancelPending ∷ []) x.state && is_the c (last_cancel x) then taken (record x { state = (if answer then Cancelled else Pending) })
-    else if is_among (Cancelled ∷ []) x.state && (answer && is_the c (last_cancel x)) then repeat x
+    if is_among (CancelPending ∷ []) x.state && is_the c (last_cancel x)
+    then taken (record x { state = (if answer then Cancelled else Pending) })
+    else if is_among (Cancelled ∷ []) x.state && (answer && is_the c (last_cancel x))
+    then repeat x
     else if was is_cancel x.issued c then stale x
     else conflict x.state x
 
 abbrev pub take_shipped : RequesterRecord → Date → Result Taking Refusal × RequesterRecord
 take_shipped x d =
-    if is_among (Pending ∷ Conditional ∷ CancelPending ∷ []) x.state then taken (record x { state = Shipped; due = Some d; held = None })
+    if is_among (Pending ∷ Conditional ∷ CancelPending ∷ []) x.state
+    then taken (record x { state = Shipped; due = Some d; held = None })
     else if is_among later x.state then repeat x
     else conflict x.state x
 
@@ -65,25 +69,31 @@ take_renewal x (Some d) =
 take_renewal x None =
     taken (record x { state = (if is_among (RenewPending ∷ []) x.state then Received else Overdue) })
 
-abbrev pub take_renew_answer : RequesterRecord → ℕ → Option Date → Result Taking Refusal × RequesterRecord
+abbrev pub take_renew_answer : RequesterRecord → ℕ → Option Date →
+    Result Taking Refusal × RequesterRecord
 take_renew_answer x c granted =
-    if is_among (RenewPending ∷ RenewOverdue ∷ []) x.state && is_the c (last_renew x) then take_renewal x granted
+    if is_among (RenewPending ∷ RenewOverdue ∷ []) x.state && is_the c (last_renew x)
+    then take_renewal x granted
     else if was is_renew x.issued c then stale x
     else conflict x.state x
 
 abbrev pub take_recall : RequesterRecord → Result Taking Refusal × RequesterRecord
 take_recall x =
-    if is_among (Shipped ∷ NotReceivedOverdue ∷ Received ∷ Overdue ∷ RenewPending ∷ RenewOverdue ∷ []) x.state then taken (record x { state = Recall })
+    if is_among
+    (Shipped ∷ NotReceivedOverdue ∷ Received ∷ Overdue ∷ RenewPending ∷ RenewOverdue ∷ []) x.state
+    then taken (record x { state = Recall })
     else if is_among (Recall ∷ []) x.state then repeat x
     else conflict x.state x
 
 abbrev pub take_checked_in : RequesterRecord → Result Taking Refusal × RequesterRecord
 take_checked_in x =
-    if is_among (Returned ∷ []) x.state && not x.checked_in then taken (record x { checked_in = true })
+    if is_among (Returned ∷ []) x.state && not x.checked_in
+    then taken (record x { checked_in = true })
     else if is_among (Returned ∷ []) x.state then repeat x
     else conflict x.state x
 
-abbrev pub take_answer : RequesterRecord → ℕ → AnswerResult → Result Taking Refusal × RequesterRecord
+abbrev pub take_answer : RequesterRecord → ℕ → AnswerResult →
+    Result Taking Refusal × RequesterRecord
 take_answer x k results.Conditional = take_conditions x k
 take_answer x k results.WillSupply = take_promise x
 take_answer x k results.HoldPlaced = take_promise x
@@ -103,7 +113,8 @@ take_message x a other = conflict x.state x
 
 -- What an APDU does to a requester.
 abbrev pub takes : RequesterRecord → Apdu → Result Taking Refusal × RequesterRecord
-takes x a = unless_refused (first_refusal x.txn (is_requesters a.body) a) x (take_message x a a.body)
+takes x a =
+    unless_refused (first_refusal x.txn (is_requesters a.body) a) x (take_message x a a.body)
 
 -- What a requester answers to an APDU, and the record after it.
 abbrev pub Takes : RequesterRecord → Apdu → Result Taking Refusal → RequesterRecord → Type 0

@@ -30,7 +30,8 @@ pub data Fact : Type 0 where
 -- A Cancel is open while it is the last one, in the states that wait for its answer or have the
 -- answer yes.
 abbrev pub is_open : RequesterRecord → ℕ → Bool
-is_open x c = is_among (states.CancelPending ∷ states.Cancelled ∷ []) x.state && is_the c (last_cancel x)
+is_open x c =
+    is_among (states.CancelPending ∷ states.Cancelled ∷ []) x.state && is_the c (last_cancel x)
 
 -- A record shows that a Cancel was refused where it issued that one, the Cancel is not open, and no
 -- other end has come.
@@ -65,7 +66,8 @@ is_raised old (Some d) = is_after_due d old
 abbrev pub KeepsDue : Option Date → Option Date → Type 0
 KeepsDue old new = (old ≡ None) ⊎ (new ≡ old) ⊎ (is_raised old new ≡ true)
 
--- Conditions are held that were not: in PENDING, with the number of the message, above those accepted.
+-- Conditions are held that were not: in PENDING, with the number of the message, above those
+-- accepted.
 abbrev pub HoldsNew : RequesterRecord → ℕ → RequesterRecord → Type 0
 HoldsNew x k new =
     (x.state ≡ states.Pending) × (new.state ≡ states.Conditional) × (new.held ≡ Some k)

@@ -15,7 +15,7 @@ use Rattle.ill_core.specs.Issued.{are_numbered, is_same_txn, has, was, last_of, 
 pub record ResponderRecord : Type 0 where
   pub txn : Qualifiers
   pub state : State
-  pub accepted : Option ℕ  -- the number of the conditions that the last Conditional-Reply yes taken answered
+  pub accepted : Option ℕ  -- the number of the conditions that were accepted last
   pub last_cancel : Option ℕ  -- the number of the last Cancel taken
   pub last_renew : Option ℕ  -- the number of the last Renew taken
   pub received : Bool  -- the requester has the item
@@ -45,7 +45,8 @@ due_of y = last_of granted_day y.issued
 -- issued
 abbrev pub outstanding_number : ResponderRecord → Option ℕ
 outstanding_number y =
-    if is_among (Conditional ∷ []) y.state then (if is_none y.issued then None else Some (length y.issued))
+    if is_among (Conditional ∷ []) y.state
+    then (if is_none y.issued then None else Some (length y.issued))
     else None
 
 -- SHIPPED or later
@@ -86,7 +87,8 @@ is_request_of txn (Some a) = is_same_txn a.txn txn && is_ill_request a.body
 
 -- A state has the numbers and the mark that it wants, and in IDLE none: whether a request is there,
 -- a number of each kind, the mark, and whether nothing was issued.
-pub record PartsFit (state : State) (has_request has_accepted has_cancel has_renew is_marked none : Bool) : Type 0 where
+pub record PartsFit (state : State) (has_request has_accepted has_cancel has_renew is_marked none : Bool)
+    : Type 0 where
   pub role : is_among (Pending ∷ Received ∷ NotReceivedOverdue ∷ []) state ≡ false
   pub idle : has_request ≡ not (is_among (Idle ∷ []) state)
   pub empty : implies (is_among (Idle ∷ []) state)

@@ -49,13 +49,15 @@ answer_row y answer =
 abbrev pub cancel_reply_row : ResponderRecord → Bool → Result Row Refusal
 cancel_reply_row y answer =
     if is_among (CancelPending ∷ []) y.state
-    then leads_to (if answer then Cancelled else InProcess) (types.CancelReply (unwrap_or y.last_cancel 0) answer)
+    then leads_to (if answer then Cancelled else InProcess)
+    (types.CancelReply (unwrap_or y.last_cancel 0) answer)
     else not_now y
 
 abbrev pub ship_row : ResponderRecord → Date → Date → Result Row Refusal
 ship_row y due today =
     if is_among (InProcess ∷ []) y.state
-    then if_allowed (not (is_before due today)) refusals.DateEarlier (leads_to Shipped (types.Shipped due))
+    then if_allowed (not (is_before due today)) refusals.DateEarlier
+    (leads_to Shipped (types.Shipped due))
     else not_now y
 
 -- a renewal, which has to be later than the due date, or none
@@ -108,7 +110,8 @@ expiry_of (Some a) = expiry_in a.body
 abbrev pub expire_row : ResponderRecord → Date → Result Row Refusal
 expire_row y today =
     if is_among (InProcess ∷ Conditional ∷ []) y.state
-    then if_allowed (is_after_due today (expiry_of y.request)) refusals.NotExpired (leads_to NotSupplied types.Expired)
+    then if_allowed (is_after_due today (expiry_of y.request)) refusals.NotExpired
+    (leads_to NotSupplied types.Expired)
     else not_now y
 
 -- the row of a deed, or why it has no place now, or which date forbids it

@@ -1,11 +1,10 @@
 -- What the messages of a requester do to a responder: its table of deliveries (this profile's own).
 -- The first line that fits decides; an APDU that no line fits is a conflict with the present state.
-use Rattle.std.specs.Prelude.{◌≡◌, ℕ, Bool, true, false, not, ◌&&◌, [], ◌∷◌, Option, Some, None, Result, Ok, Err, if◌then◌else◌}
+use Rattle.std.specs.Prelude.{◌≡◌, ℕ, Bool, true, false, not, ◌&&◌, [], ◌∷◌, Some, Result, Ok, Err, if◌then◌else◌}
 use Rattle.ill_values.specs.declared.apdu.Apdu.{Apdu}
 use Rattle.ill_values.specs.declared.apdu.Body.{Body}
 use Rattle.ill_values.specs.declared.apdu.Body.TheVariants as types
 use Rattle.ill_values.specs.declared.apdu.AnswerResult.TheVariants.{Unfilled}
-use Rattle.ill_core.specs.declared.state.State.{State}
 use Rattle.ill_core.specs.declared.state.State.TheVariants.{Idle, InProcess, Conditional, CancelPending, NotSupplied, Shipped, RenewPending, Overdue, RenewOverdue, Recall, Returned, CheckedIn}
 use Rattle.ill_core.specs.declared.refusal.Refusal.{Refusal}
 use Rattle.ill_core.specs.declared.refusal.Refusal.TheVariants as refusals
@@ -45,7 +44,8 @@ take_no y =
 abbrev pub take_cancel : ResponderRecord → ℕ → Result Taking Refusal × ResponderRecord
 take_cancel y n =
     if is_at_most n y.last_cancel then repeat y
-    else if is_among (InProcess ∷ Conditional ∷ []) y.state then taken (record y { state = CancelPending; last_cancel = Some n })
+    else if is_among (InProcess ∷ Conditional ∷ []) y.state
+    then taken (record y { state = CancelPending; last_cancel = Some n })
     else conflict y.state y
 
 abbrev pub take_received : ResponderRecord → Result Taking Refusal × ResponderRecord
@@ -57,13 +57,16 @@ take_received y =
 abbrev pub take_renew : ResponderRecord → ℕ → Result Taking Refusal × ResponderRecord
 take_renew y n =
     if is_at_most n y.last_renew then repeat y
-    else if is_among (Shipped ∷ []) y.state then taken (record y { state = RenewPending; last_renew = Some n })
-    else if is_among (Overdue ∷ []) y.state then taken (record y { state = RenewOverdue; last_renew = Some n })
+    else if is_among (Shipped ∷ []) y.state
+    then taken (record y { state = RenewPending; last_renew = Some n })
+    else if is_among (Overdue ∷ []) y.state
+    then taken (record y { state = RenewOverdue; last_renew = Some n })
     else conflict y.state y
 
 abbrev pub take_returned : ResponderRecord → Result Taking Refusal × ResponderRecord
 take_returned y =
-    if is_among (Shipped ∷ RenewPending ∷ Overdue ∷ RenewOverdue ∷ Recall ∷ []) y.state then taken (record y { state = Returned })
+    if is_among (Shipped ∷ RenewPending ∷ Overdue ∷ RenewOverdue ∷ Recall ∷ []) y.state
+    then taken (record y { state = Returned })
     else if is_among (Returned ∷ CheckedIn ∷ []) y.state then repeat y
     else conflict y.state y
 

@@ -57,7 +57,8 @@ IssuesUnfilled y body new =
 abbrev pub StaysLater : ResponderRecord → ResponderRecord → Type 0
 StaysLater y new =
     (is_among later y.state ≡ true → is_among later new.state ≡ true)
-    × (is_among (Returned ∷ []) y.state ≡ true → is_among (Returned ∷ CheckedIn ∷ []) new.state ≡ true)
+    × (is_among (Returned ∷ []) y.state ≡ true →
+    is_among (Returned ∷ CheckedIn ∷ []) new.state ≡ true)
 
 -- The ends of a request: the item is not supplied, the request is cancelled, or the item is shipped.
 abbrev pub is_unsupplied : Body → Bool

@@ -2,10 +2,10 @@
 
 ghost use Rattle.std.specs.Prelude.{◌≡◌, ◌≤◌, ◌<◌, ◌==◌, ◌&&◌, true, length, [], Ok, Some, is_some, IfOk, IfErr, IfSome, OnOk, OnErr, option_map};
 ghost use Rattle.ill_core.specs.declared.refusal.Refusal.TheVariants as refusals;
-ghost use Rattle.ill_core.specs.Numbers.{is_at_most};
-ghost use Rattle.ill_core.specs.Bodies.{is_requesters};
-ghost use Rattle.ill_core.specs.Issued.{IssuedList, is_same_txn, are_numbered, message, next_number, with_next, first_refusal, Admits, last_of, sought_number, granted_day};
+ghost use Rattle.ill_core.specs.Issued.{IssuedList, is_same_txn, are_numbered, message, next_number, with_next, first_refusal, Admits, last_of, sought_number, granted_day, has};
+ghost use Rattle.ill_core.specs.Bodies.{is_ill_request, is_received, is_cancel, is_renew, is_returned, is_checked_in, declines};
 
+use crate::body::{grant_in, is_ill_request};
 use crate::refusal::Refusal;
 use ill_values::{Apdu, Body, Day, Number, TxnId};
 use std::alloc::Global;
@@ -121,7 +121,7 @@ impl Issued {
     {
         let mut last = None;
         for apdu in &self.apdus {
-            last = granted_day(apdu).or(last);
+            last = grant_in(&apdu.body).or(last);
         }
         last
     }
@@ -164,17 +164,6 @@ impl Issued {
     }
 }
 
-/// The date that a message grants.
-pub fn granted_day(apdu: &Apdu) -> Option<Day>
-    ensures { result ≡ granted_day apdu.now }
-{
-    match &apdu.body {
-        Body::Shipped { due } => Some(*due),
-        Body::RenewAnswer { granted, .. } => *granted,
-        _ => None,
-    }
-}
-
 /// Whether each APDU is of the transaction, and the n-th has number n.
 pub fn are_numbered(txn: &TxnId, apdus: &[Apdu]) -> bool
     ensures value { result ≡ are_numbered txn.now 1 apdus.now }
@@ -196,27 +185,55 @@ fn is_message(apdu: &Apdu, txn: &TxnId, number: usize) -> bool
     apdu.txn == *txn && usize::from(apdu.number.get()) == number
 }
 
-/// Whether a requester issues APDUs of this type. A responder issues the others.
-pub fn is_requesters(body: &Body) -> bool
-    ensures { result ≡ is_requesters body.now }
+/// Whether an ILL-Request is among the APDUs.
+pub fn has_ill_request(apdus: &[Apdu]) -> bool
+    ensures { result ≡ has is_ill_request apdus.now }
 {
-    match body {
-        Body::IllRequest { .. }
-        | Body::ConditionalReply { .. }
-        | Body::Cancel
-        | Body::Received
-        | Body::Renew { .. }
-        | Body::Returned => true,
-        _ => false,
-    }
+    apdus.iter().any(|apdu| is_ill_request(&apdu.body))
 }
 
-/// Whether there is a number, and this one is at most that.
-pub fn is_at_most(number: Number, most: Option<Number>) -> bool
-    ensures { result ≡ is_at_most number most }
+/// Whether a Received is among the APDUs.
+pub fn has_received(apdus: &[Apdu]) -> bool
+    ensures { result ≡ has is_received apdus.now }
 {
-    match most {
-        Some(most) => number <= most,
-        None => false,
-    }
+    apdus.iter().any(|apdu| matches!(apdu.body, Body::Received))
+}
+
+/// Whether a Cancel is among the APDUs.
+pub fn has_cancel(apdus: &[Apdu]) -> bool
+    ensures { result ≡ has is_cancel apdus.now }
+{
+    apdus.iter().any(|apdu| matches!(apdu.body, Body::Cancel))
+}
+
+/// Whether a Renew is among the APDUs.
+pub fn has_renew(apdus: &[Apdu]) -> bool
+    ensures { result ≡ has is_renew apdus.now }
+{
+    apdus
+        .iter()
+        .any(|apdu| matches!(apdu.body, Body::Renew { .. }))
+}
+
+/// Whether a Returned is among the APDUs.
+pub fn has_returned(apdus: &[Apdu]) -> bool
+    ensures { result ≡ has is_returned apdus.now }
+{
+    apdus.iter().any(|apdu| matches!(apdu.body, Body::Returned))
+}
+
+/// Whether a Conditional-Reply no is among the APDUs.
+pub fn has_declined(apdus: &[Apdu]) -> bool
+    ensures { result ≡ has declines apdus.now }
+{
+    apdus.iter().any(|apdu| matches!(apdu.body, Body::ConditionalReply { yes: false, .. }))
+}
+
+/// Whether a Checked-In is among the APDUs.
+pub fn has_checked_in(apdus: &[Apdu]) -> bool
+    ensures { result ≡ has is_checked_in apdus.now }
+{
+    apdus
+        .iter()
+        .any(|apdu| matches!(apdu.body, Body::CheckedIn))
 }

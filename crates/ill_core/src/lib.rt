@@ -4,8 +4,11 @@
 //! does.
 #![tactic(auto)]
 
+mod body;
+mod date;
 mod issued;
 pub mod laws;
+mod number;
 mod refusal;
 mod requester;
 mod responder;

@@ -4,14 +4,17 @@ mod actions;
 mod deliveries;
 mod rules;
 
-ghost use Rattle.std.specs.Prelude.{◌≡◌, ◌≤◌, ◌↔◌, [], None, false, length, IsSome, IfSome, option_map};
+ghost use Rattle.std.specs.Prelude.{◌≡◌, ◌≤◌, ◌↔◌, [], None, Err, false, length, IsSome, IfSome, option_map};
 ghost use Rattle.ill_core.specs.declared.state.State.TheVariants as State;
+ghost use Rattle.ill_core.specs.declared.refusal.Refusal.TheVariants as refusals;
+ghost use Rattle.ill_core.specs.State.{is_among};
 ghost use Rattle.ill_core.specs.Issued.{message};
-ghost use Rattle.ill_core.specs.Requester.{RequesterRecord, requester_of, IsRequester, accepted_number, is_declined, is_received_by};
+ghost use Rattle.ill_core.specs.Requester.{RequesterRecord, requester_of, IsRequester, accepted_number, is_declined, is_received_by, later};
 ghost use Rattle.ill_core.specs.RequesterActions.{Acts};
 ghost use Rattle.ill_core.specs.RequesterDeliveries.{Takes};
 
-use crate::issued::{Issued, Sought, are_numbered, is_requesters};
+use crate::body::is_requesters;
+use crate::issued::{Issued, Sought, are_numbered, has_declined, has_received};
 use crate::refusal::Refusal;
 use crate::state::State;
 use crate::taking::Taking;
@@ -98,7 +101,10 @@ impl Requester {
         if !are_numbered(&txn, &issued) {
             return None;
         }
-        if !rules::are_kept(state, held.is_some(), checked_in, due.is_some(), &issued) {
+        if !rules::parts_fit(state, held.is_some(), due.is_some(), checked_in) {
+            return None;
+        }
+        if !rules::are_kept(state, &issued) {
             return None;
         }
         Some(Requester {
@@ -125,9 +131,11 @@ impl Requester {
         Ok(())
     }
 
-    /// Takes a message of the responder, and answers what it did. A refusal changes nothing.
+    /// Takes a message of the responder, and answers what it did. A refusal changes nothing, and no
+    /// memory is wanted.
     pub fn take(&mut self, apdu: &Apdu) -> Result<Taking, Refusal>
-        ensures { Takes self.old apdu.now result self.new }
+        ensures takes { Takes self.old apdu.now result self.new }
+        ensures memory { result ≡ Err refusals.OutOfMemory → ⊥ }
     {
         self.issued.admit(apdu, is_requesters(&apdu.body))?;
         Ok(deliveries::take_message(self, apdu))
@@ -181,7 +189,7 @@ impl Requester {
     pub fn is_received(&self) -> bool
         ensures { result ≡ is_received_by self.now }
     {
-        rules::has_received(self.issued.apdus())
+        has_received(self.issued.apdus())
     }
 
     /// The number of the ILL-Answer whose conditions were accepted last, if any.
@@ -202,7 +210,7 @@ impl Requester {
     pub fn is_declined(&self) -> bool
         ensures { result ≡ is_declined self.now }
     {
-        self.state == State::Conditional && rules::has_declined(self.issued.apdus())
+        self.state == State::Conditional && has_declined(self.issued.apdus())
     }
 
     /// Whether the responder has said that the item is back.
@@ -211,4 +219,21 @@ impl Requester {
     {
         self.checked_in
     }
+}
+
+/// Whether the state is SHIPPED or later.
+fn is_later(state: State) -> bool
+    ensures { result ≡ is_among later state }
+{
+    matches!(
+        state,
+        State::Shipped
+            | State::Received
+            | State::RenewPending
+            | State::Overdue
+            | State::RenewOverdue
+            | State::NotReceivedOverdue
+            | State::Recall
+            | State::Returned
+    )
 }

@@ -6,12 +6,14 @@ mod rules;
 
 ghost use Rattle.std.specs.Prelude.{◌≡◌, ◌≤◌, ◌↔◌, [], None, false, length, IsSome, IfSome, option_map};
 ghost use Rattle.ill_core.specs.declared.state.State.TheVariants as State;
+ghost use Rattle.ill_core.specs.State.{is_among};
 ghost use Rattle.ill_core.specs.Issued.{message};
-ghost use Rattle.ill_core.specs.Responder.{ResponderRecord, responder_of, IsResponder, due_of, outstanding_number};
+ghost use Rattle.ill_core.specs.Responder.{ResponderRecord, responder_of, IsResponder, due_of, outstanding_number, later};
 ghost use Rattle.ill_core.specs.ResponderActions.{Acts};
 ghost use Rattle.ill_core.specs.ResponderDeliveries.{Takes};
 
-use crate::issued::{Issued, Sought, are_numbered, is_requesters};
+use crate::body::is_requesters;
+use crate::issued::{Issued, Sought, are_numbered};
 use crate::refusal::Refusal;
 use crate::state::State;
 use crate::taking::Taking;
@@ -253,4 +255,20 @@ impl Responder {
     {
         self.request.as_ref()
     }
+}
+
+/// Whether the state is SHIPPED or later.
+fn is_later(state: State) -> bool
+    ensures { result ≡ is_among later state }
+{
+    matches!(
+        state,
+        State::Shipped
+            | State::RenewPending
+            | State::Overdue
+            | State::RenewOverdue
+            | State::Recall
+            | State::Returned
+            | State::CheckedIn
+    )
 }

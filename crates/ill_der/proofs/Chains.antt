@@ -1,5 +1,5 @@
 -- What a step of reading that did not fail says.
-use Rattle.std.proofs.Common.{◌≡◌, ℕ, Bool, true, false, cond, Option, Some, Result, Ok, Err, refl, subst, inl, inr, ◌⊎◌}
+use Rattle.std.proofs.Common.{◌≡◌, ℕ, Bool, true, false, cond, Result, Ok, Err, refl, subst, inl, inr, ◌⊎◌}
 use Rattle.ill_der.specs.declared.fault.DerFault.{DerFault}
 use Rattle.ill_der.specs.declared.fault.DerFault.TheVariants.{Short, Tag, Length, Field, OutOfMemory}
 use Rattle.ill_der.specs.Format.{◌>>=◌}
@@ -34,12 +34,6 @@ done x = Ok x
 
 pub ok_is : {E A : Type 0} (x y : A) → done {E = E} x ≡ done y → x ≡ y
 ok_is x y e = cc
-
-abbrev pub there : {A : Type 0} → A → Option A
-there x = Some x
-
-pub some_is : {A : Type 0} (x y : A) → there x ≡ there y → x ≡ y
-some_is x y e = cc
 
 abbrev pub failed : {E A : Type 0} → E → Result A E
 failed d = Err d

@@ -3,26 +3,27 @@ use Rattle.std.proofs.Common.{◌≡◌, ℕ, ◌<◌, ◌≤◌, Bool, true, fa
 use Rattle.std.specs.Prelude.{is_ok, find, ◌⊎◌}
 use Rattle.std.specs.Str.{bytes_eq}
 use Rattle.std.specs.Result.{result_ok}
-use Rattle.std.specs.List.{list_all}
-use Rattle.std.proofs.lemmas.Bool.{cases_lt, lt-ltb, le-ltb, le-leb, ltb-true, ltb-false, leb-true, eqb-true, and_parts}
+use Rattle.std.proofs.lemmas.Bool.{cases_lt, lt-ltb, le-ltb, le-leb, ltb-true, leb-true, eqb-true, and_parts}
 use Rattle.std.proofs.lemmas.Slice.Eq.{bytes_eq-Decides}
+use Rattle.std.proofs.lemmas.Option.{same_Some, cond_some}
 use Rattle.ill_values.specs.declared.fault.TextFault.{TextFault}
-use Rattle.ill_values.specs.declared.fault.TextFault.TheVariants.{Empty, TooLong, BadByte}
 use Rattle.ill_values.specs.declared.fault.DayFault.{DayFault}
 use Rattle.ill_values.specs.Apdu.{IsNumber}
 use Rattle.ill_values.specs.Day.{Date, IsDate, date_text, read_date}
-use Rattle.ill_values.specs.Text.{is_printable, is_item_text, text_check, qualifier_check, IsQualifier, item_check, IsItem}
-use Rattle.ill_values.proofs.Dates.{date_read, date_again}
+use Rattle.ill_values.specs.Text.{qualifier_check, IsQualifier, item_check, IsItem}
 use Rattle.ill_values.specs.declared.apdu.AnswerResult.{AnswerResult}
 use Rattle.ill_values.specs.declared.apdu.AnswerResult.TheVariants.{Conditional, Retry, Unfilled, LocationsProvided, WillSupply, HoldPlaced, Estimate}
 use Rattle.ill_der.specs.Contents.{code_of, all_results, result_from, answer_result, yes_no_from, yes_no, number_octets, number_from, number, version, version_from, qualifier, qualifier_from, item, item_from, date}
-use Rattle.ill_der.proofs.Chains.{chosen, some_is}
+use Rattle.ill_der.proofs.Chains.{chosen}
 use Rattle.ill_der.specs.Laws.{IsBytes}
 use Rattle.ill_der.proofs.Formats.{IsContents}
 
-pub some_passed : {A : Type 0} (b : Bool) (x y : A) → cond b (Some x) None ≡ Some y → (b ≡ true) × (x ≡ y)
-some_passed true x y e = (refl, some_is x y e)
-some_passed false x y e = absurd cc
+-- What the laws of ill_values say: a day is read from its text alone, and how long the texts are.
+pub record Values : Type 0 where
+  pub day_spelled : (d : Date) → IsDate d → read_date (date_text d) ≡ Ok d
+  pub day_read : (text : List ℕ) (d : Date) → read_date text ≡ Ok d → IsDate d × (text ≡ date_text d)
+  pub qualifier_size : (text : List ℕ) → IsQualifier text → (1 ≤ length text) × (length text ≤ 64)
+  pub item_size : (text : List ℕ) → IsItem text → (1 ≤ length text) × (length text ≤ 200)
 
 abbrev pub IsAnyResult : AnswerResult → Type 0
 IsAnyResult v = Unit {0}
@@ -32,7 +33,7 @@ IsAnyAnswer v = Unit {0}
 
 -- the first of a list is found, or one behind it
 found_first : {A : Type 0} (b : Bool) (a : A) (o : Option A) (x : A) → cond b (Some a) o ≡ Some x → ((b ≡ true) × (a ≡ x)) ⊎ (o ≡ Some x)
-found_first true a o x e = inl (refl, some_is a x e)
+found_first true a o x e = inl (refl, same_Some a x e)
 found_first false a o x e = inr e
 
 -- ---- numbers
@@ -46,13 +47,13 @@ two_octets n le = rw (le-ltb n 128 le) refl
 number_takes : (bytes : List ℕ) (v : ℕ) → IsBytes bytes → number_from bytes ≡ Some v → (bytes ≡ number_octets v) × IsNumber v
 number_takes [] v fits e = absurd cc
 number_takes (n ∷ []) v fits e =
-    let is = some_passed (leb 1 n && ltb n 128) n v e in
+    let is = cond_some (leb 1 n && ltb n 128) n v e in
     let range = and_parts (leb 1 n) (ltb n 128) is.0 in
     let from = leb-true 1 n range.0 in
     let to = ltb-true n 128 range.1 in
     subst (λ (x : ℕ). (n ∷ [] ≡ number_octets x) × IsNumber x) is.1 (sym (one_octet n to), (from, omega arith))
 number_takes (high ∷ n ∷ []) v fits e =
-    let is = some_passed (eqb high 0 && leb 128 n) n v e in
+    let is = cond_some (eqb high 0 && leb 128 n) n v e in
     let range = and_parts (eqb high 0) (leb 128 n) is.0 in
     let none = eqb-true high 0 range.0 in
     let from = leb-true 128 n range.1 in
@@ -83,7 +84,7 @@ abbrev pub Always : Unit {0} → Type 0
 Always v = Unit {0}
 
 version_takes : (bytes : List ℕ) (v : Unit {0}) → IsBytes bytes → version_from bytes ≡ Some v → (bytes ≡ 1 ∷ []) × Always v
-version_takes bytes v fits e = ((bytes_eq-Decides bytes (1 ∷ [])).0 (some_passed (bytes_eq bytes (1 ∷ [])) tt v e).0, tt)
+version_takes bytes v fits e = ((bytes_eq-Decides bytes (1 ∷ [])).0 (cond_some (bytes_eq bytes (1 ∷ [])) tt v e).0, tt)
 
 pub version_is : IsContents Always 1 version
 version_is = record { takes = version_takes; again = λ v p. refl; bound = λ v p. omega arith }
@@ -94,60 +95,43 @@ checked : (r : Result (Unit {0}) TextFault) → is_ok r ≡ true → r ≡ Ok tt
 checked (Ok x) e = refl
 checked (Err f) e = absurd cc
 
-abbrev pub fault : TextFault → Result (Unit {0}) TextFault
-fault f = Err f
-
-pub no_fault : (f : TextFault) → fault f ≡ Ok tt → ⊥
-no_fault f e = cc
-
-pub text_bound : (most : ℕ) (passes : List ℕ → Bool) (text : List ℕ) → text_check most passes text ≡ Ok tt → length text ≤ most
-text_bound most passes text e =
-    let rest : Result (Unit {0}) TextFault = cond (ltb most (length text)) (fault TooLong) (cond (passes text) (Ok tt) (fault BadByte)) in
-    elim (chosen (eqb (length text) 0) (fault Empty) rest (Ok tt) e) [
-      | inl h ↦ absurd (no_fault Empty h.1)
-      | inr h ↦ elim (chosen (ltb most (length text)) (fault TooLong) (cond (passes text) (Ok tt) (fault BadByte)) (Ok tt) h.1) [
-        | inl g ↦ absurd (no_fault TooLong g.1)
-        | inr g ↦ ltb-false most (length text) g.0
-      ]
-    ]
-
 qualifier_takes : (bytes v : List ℕ) → IsBytes bytes → qualifier_from bytes ≡ Some v → (bytes ≡ v) × IsQualifier v
 qualifier_takes bytes v fits e =
-    let is = some_passed (is_ok (qualifier_check bytes)) bytes v e in
+    let is = cond_some (is_ok (qualifier_check bytes)) bytes v e in
     (is.1, subst IsQualifier is.1 (checked (qualifier_check bytes) is.0))
 
-pub qualifier_is : IsContents IsQualifier 64 qualifier
-qualifier_is = record {
+pub qualifier_is : Values → IsContents IsQualifier 64 qualifier
+qualifier_is values = record {
   takes = qualifier_takes;
   again = λ v p. rw p refl;
-  bound = λ v p. text_bound 64 (list_all is_printable) v p;
+  bound = λ v p. (values.qualifier_size v p).1;
 }
 
 item_takes : (bytes v : List ℕ) → IsBytes bytes → item_from bytes ≡ Some v → (bytes ≡ v) × IsItem v
 item_takes bytes v fits e =
-    let is = some_passed (is_ok (item_check bytes)) bytes v e in
+    let is = cond_some (is_ok (item_check bytes)) bytes v e in
     (is.1, subst IsItem is.1 (checked (item_check bytes) is.0))
 
-pub item_is : IsContents IsItem 200 item
-item_is = record {
+pub item_is : Values → IsContents IsItem 200 item
+item_is values = record {
   takes = item_takes;
   again = λ v p. rw p refl;
-  bound = λ v p. text_bound 200 is_item_text v p;
+  bound = λ v p. (values.item_size v p).1;
 }
 
 -- ---- days
 
 day_found : (r : Result Date DayFault) (d : Date) → result_ok r ≡ Some d → r ≡ Ok d
-day_found (Ok x) d e = ap Ok (some_is x d e)
+day_found (Ok x) d e = ap Ok (same_Some x d e)
 day_found (Err f) d e = absurd cc
 
-date_takes : (bytes : List ℕ) (d : Date) → IsBytes bytes → result_ok (read_date bytes) ≡ Some d → (bytes ≡ date_text d) × IsDate d
-date_takes bytes d fits e = let is = date_read bytes d (day_found (read_date bytes) d e) in (is.1, is.0)
+date_takes : Values → (bytes : List ℕ) (d : Date) → IsBytes bytes → result_ok (read_date bytes) ≡ Some d → (bytes ≡ date_text d) × IsDate d
+date_takes values bytes d fits e = let is = values.day_read bytes d (day_found (read_date bytes) d e) in (is.1, is.0)
 
-pub date_is : IsContents IsDate 8 date
-date_is = record {
-  takes = date_takes;
-  again = λ d p. rw (date_again d p) refl;
+pub date_is : Values → IsContents IsDate 8 date
+date_is values = record {
+  takes = date_takes values;
+  again = λ d p. rw (values.day_spelled d p) refl;
   bound = λ d p. omega arith;
 }
 
@@ -185,9 +169,9 @@ yes_no_takes : (bytes : List ℕ) (v : Bool) → IsBytes bytes → yes_no_from b
 yes_no_takes [] v fits e = absurd cc
 yes_no_takes (octet ∷ []) v fits e =
     elim (chosen (eqb octet 0) (Some false) (cond (eqb octet 0xFF) (Some true) None) (Some v) e) [
-      | inl h ↦ subst (λ (x : Bool). (octet ∷ [] ≡ yes_no.spell x) × IsAnyAnswer x) (some_is false v h.1) (ap (λ (x : ℕ). x ∷ []) (eqb-true octet 0 h.0), tt)
+      | inl h ↦ subst (λ (x : Bool). (octet ∷ [] ≡ yes_no.spell x) × IsAnyAnswer x) (same_Some false v h.1) (ap (λ (x : ℕ). x ∷ []) (eqb-true octet 0 h.0), tt)
       | inr h ↦
-          let is = some_passed (eqb octet 0xFF) true v h.1 in
+          let is = cond_some (eqb octet 0xFF) true v h.1 in
           subst (λ (x : Bool). (octet ∷ [] ≡ yes_no.spell x) × IsAnyAnswer x) is.1 (ap (λ (x : ℕ). x ∷ []) (eqb-true octet 0xFF is.0), tt)
     ]
 yes_no_takes (octet ∷ more ∷ rest) v fits e = absurd cc

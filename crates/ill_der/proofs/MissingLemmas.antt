@@ -17,6 +17,7 @@ use Rattle.ill_der.specs.Stream.{IsUnfinished, AreUnfinished, IfShort, missing_b
 use Rattle.ill_der.proofs.Chains.{bind_err, chosen, no_value, tag_inside, length_inside}
 use Rattle.ill_der.proofs.Lengths.{length_few}
 use Rattle.ill_der.proofs.StreamLemmas.{decodes_err}
+use Rattle.ill_der.proofs.ContentsLaws.{Values}
 use Rattle.ill_der.proofs.ShortFormLaws.{IsFinal, length_more, outer_with, inside_faults}
 
 -- ---- bytes of which some are missing, with fewer behind them
@@ -76,31 +77,31 @@ unfolding missing_of outer_at
 enough_outer [] n none e = omega (arith, none)
 enough_outer (first ∷ bytes) n none e = enough_of (type_with first) bytes n none e
 
-enough : (bytes : List ℕ) (n : ℕ) → missing_of bytes ≡ 0 → apdu_at bytes ≡ Err (Short n) → ⊥
+enough : Values → (bytes : List ℕ) (n : ℕ) → missing_of bytes ≡ 0 → apdu_at bytes ≡ Err (Short n) → ⊥
 unfolding apdu_at
-enough bytes n none e =
+enough values bytes n none e =
     elim (bind_err (outer_at bytes) (λ outer. inside_of outer.apdu_type outer.inside >>= λ apdu. Ok (apdu, drop outer.size bytes)) (Short n) e) [
       | inl h ↦ enough_outer bytes n none h
       | inr h ↦ elim (bind_err (inside_of h.0.apdu_type h.0.inside) (λ apdu. Ok (apdu, drop h.0.size bytes)) (Short n) h.2) [
-        | inl g ↦ inside_faults h.0.apdu_type h.0.inside (Short n) g
+        | inl g ↦ inside_faults values h.0.apdu_type h.0.inside (Short n) g
         | inr g ↦ no_value (Short n) (g.0, drop h.0.size bytes) g.2
       ]
     ]
 
 -- a fault of bytes of which none is missing is not Short
-pub not_short : (bytes : List ℕ) (fault : DerFault) → missing_of bytes ≡ 0 → apdu_at bytes ≡ Err fault → IfShort fault ⊥
-not_short bytes (Short n) none e = enough bytes n none e
-not_short bytes (Tag at) none e = tt
-not_short bytes (Length at) none e = tt
-not_short bytes (Field at) none e = tt
-not_short bytes OutOfMemory none e = tt
+pub not_short : Values → (bytes : List ℕ) (fault : DerFault) → missing_of bytes ≡ 0 → apdu_at bytes ≡ Err fault → IfShort fault ⊥
+not_short values bytes (Short n) none e = enough values bytes n none e
+not_short values bytes (Tag at) none e = tt
+not_short values bytes (Length at) none e = tt
+not_short values bytes (Field at) none e = tt
+not_short values bytes OutOfMemory none e = tt
 
 -- a fault other than want of memory, of bytes of which none is missing
-pub refused : (bytes : List ℕ) (fault : DerFault) → (fault ≡ OutOfMemory → ⊥) → missing_of bytes ≡ 0 → Decodes bytes (apdu_at bytes) (Err fault)
+pub refused : Values → (bytes : List ℕ) (fault : DerFault) → (fault ≡ OutOfMemory → ⊥) → missing_of bytes ≡ 0 → Decodes bytes (apdu_at bytes) (Err fault)
     → (apdu_at bytes ≡ Err fault) × IfShort fault ⊥
-refused bytes fault other none h =
+refused values bytes fault other none h =
     elim (decodes_err bytes (apdu_at bytes) fault h) [
-      | inl e ↦ (e, not_short bytes fault none e)
+      | inl e ↦ (e, not_short values bytes fault none e)
       | inr e ↦ absurd (other e.0)
     ]
 

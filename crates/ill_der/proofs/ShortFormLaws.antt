@@ -26,7 +26,7 @@ use Rattle.ill_der.proofs.Bytes.{IsBytes-drop, IsBytes-take}
 use Rattle.ill_der.proofs.Lengths.{length_again, length_takes, length_few}
 use Rattle.ill_der.proofs.Elements.{assembled, ended_faults, ended_is}
 use Rattle.ill_der.proofs.Formats.{IsFormat, Any, Stands, Both, required_is, optional_is, followed_is, where_is, constructed_is}
-use Rattle.ill_der.proofs.ContentsLaws.{Always, IsAnyResult, IsAnyAnswer, found_with, version_is, number_is, qualifier_is, date_is, item_is, result_is, yes_no_is}
+use Rattle.ill_der.proofs.ContentsLaws.{Values, Always, IsAnyResult, IsAnyAnswer, found_with, version_is, number_is, qualifier_is, date_is, item_is, result_is, yes_no_is}
 
 -- ---- the fields that each type has
 
@@ -36,20 +36,20 @@ IsId = Both IsQualifier IsQualifier
 abbrev IsHead : Unit {0} × ((List ℕ × List ℕ) × ℕ) → Type 0
 IsHead = Both Always (Both IsId IsNumber)
 
-txn_id_is : IsFormat IsId Any 135 txn_id
-txn_id_is =
+txn_id_is : Values → IsFormat IsId Any 135 txn_id
+txn_id_is values =
     constructed_is IsId Any 132 (followed_by (required 0x81 qualifier) (required 0x82 qualifier)) 0xA1 (omega arith)
     (followed_is IsQualifier IsQualifier Any Any 66 66 (required 0x81 qualifier) (required 0x82 qualifier)
-    (required_is IsQualifier 64 qualifier 0x81 (omega arith) qualifier_is)
-    (required_is IsQualifier 64 qualifier 0x82 (omega arith) qualifier_is)
+    (required_is IsQualifier 64 qualifier 0x81 (omega arith) (qualifier_is values))
+    (required_is IsQualifier 64 qualifier 0x82 (omega arith) (qualifier_is values))
     (λ w more q. tt))
     tt
 
-head_is : IsFormat IsHead Any 142 head
-head_is =
+head_is : Values → IsFormat IsHead Any 142 head
+head_is values =
     followed_is Always (Both IsId IsNumber) Any Any 3 139 (required 0x80 version) (followed_by txn_id (required 0x82 number))
     (required_is Always 1 version 0x80 (omega arith) version_is)
-    (followed_is IsId IsNumber Any Any 135 4 txn_id (required 0x82 number) txn_id_is (required_is IsNumber 2 number 0x82 (omega arith) number_is) (λ w more q. tt))
+    (followed_is IsId IsNumber Any Any 135 4 txn_id (required 0x82 number) (txn_id_is values) (required_is IsNumber 2 number 0x82 (omega arith) number_is) (λ w more q. tt))
     (λ w more q. tt)
 
 -- ---- the further fields of each type
@@ -61,11 +61,11 @@ item_no_date : (text more : List ℕ) → stands_at 0x85 (element 0x86 text ++ m
 unfolding element
 item_no_date text more = refl
 
-request_is : IsFormat IsRequest Any 213 request
-request_is =
+request_is : Values → IsFormat IsRequest Any 213 request
+request_is values =
     followed_is (λ o. IfSome o IsDate) IsItem (Stands false 0x85) Any 10 203 (optional 0x85 date) (required 0x86 item)
-    (optional_is IsDate 8 date 0x85 (omega arith) date_is)
-    (required_is IsItem 200 item 0x86 (omega arith) item_is)
+    (optional_is IsDate 8 date 0x85 (omega arith) (date_is values))
+    (required_is IsItem 200 item 0x86 (omega arith) (item_is values))
     (λ text more q. item_no_date text more)
 
 reply_is : IsFormat (Both IsNumber IsAnyAnswer) Any 7 reply
@@ -73,20 +73,20 @@ reply_is =
     followed_is IsNumber IsAnyAnswer Any Any 4 3 (required 0x83 number) (required 0x84 yes_no)
     (required_is IsNumber 2 number 0x83 (omega arith) number_is) (required_is IsAnyAnswer 1 yes_no 0x84 (omega arith) yes_no_is) (λ w more q. tt)
 
-due_date_is : IsFormat IsDate Any 10 due_date
-due_date_is = required_is IsDate 8 date 0x85 (omega arith) date_is
+due_date_is : Values → IsFormat IsDate Any 10 due_date
+due_date_is values = required_is IsDate 8 date 0x85 (omega arith) (date_is values)
 
 answer_is : IsFormat IsAnyResult Any 3 answer
 answer_is = required_is IsAnyResult 1 answer_result 0x84 (omega arith) result_is
 
-wish_is : IsFormat (λ o. IfSome o IsDate) (Stands false 0x85) 10 wish
-wish_is = optional_is IsDate 8 date 0x85 (omega arith) date_is
+wish_is : Values → IsFormat (λ o. IfSome o IsDate) (Stands false 0x85) 10 wish
+wish_is values = optional_is IsDate 8 date 0x85 (omega arith) (date_is values)
 
-grant_is : IsFormat (Both IsNumber (λ o. IfSome o IsDate)) Any 17 grant
-grant_is =
+grant_is : Values → IsFormat (Both IsNumber (λ o. IfSome o IsDate)) Any 17 grant
+grant_is values =
     followed_is IsNumber (λ o. IfSome o IsDate) Any Any 4 13 (required 0x83 number) (where_yes (required 0x84 yes_no) (required 0x85 date))
     (required_is IsNumber 2 number 0x83 (omega arith) number_is)
-    (where_is IsAnyAnswer IsDate Any 3 10 (required 0x84 yes_no) (required 0x85 date) (required_is IsAnyAnswer 1 yes_no 0x84 (omega arith) yes_no_is) due_date_is (λ b. tt))
+    (where_is IsAnyAnswer IsDate Any 3 10 (required 0x84 yes_no) (required 0x85 date) (required_is IsAnyAnswer 1 yes_no 0x84 (omega arith) yes_no_is) (due_date_is values) (λ b. tt))
     (λ w more q. tt)
 
 -- the further fields of a type were read
@@ -111,21 +111,21 @@ plain_takes make body apdu_type left rest spells is k fits e =
     let both : (make, left) ≡ (body, rest) = ok_is (make, left) (body, rest) e in
     subst (λ (x : Body × Left). TakesBody apdu_type left.bytes x.0 x.1.bytes) both (ap (λ (x : List ℕ). x ++ left.bytes) (sym spells), is, k, fits)
 
-body_takes : (apdu_type : ApduType) (left : Left) (body : Body) (rest : Left) → IsBytes left.bytes → read_body apdu_type left ≡ Ok (body, rest) → TakesBody apdu_type left.bytes body rest.bytes
-body_takes types.IllRequest = made_takes IsRequest Any 213 request (λ found. IllRequest found.0 found.1) types.IllRequest request_is (λ v. refl) (λ v p. p) (λ v. refl)
-body_takes types.Shipped = made_takes IsDate Any 10 due_date Shipped types.Shipped due_date_is (λ v. refl) (λ v p. p) (λ v. refl)
-body_takes types.IllAnswer = made_takes IsAnyResult Any 3 answer IllAnswer types.IllAnswer answer_is (λ v. refl) (λ v p. p) (λ v. refl)
-body_takes types.ConditionalReply = made_takes (Both IsNumber IsAnyAnswer) Any 7 reply (λ found. ConditionalReply found.0 found.1) types.ConditionalReply reply_is (λ v. refl) (λ v p. p.0) (λ v. refl)
-body_takes types.CancelReply = made_takes (Both IsNumber IsAnyAnswer) Any 7 reply (λ found. CancelReply found.0 found.1) types.CancelReply reply_is (λ v. refl) (λ v p. p.0) (λ v. refl)
-body_takes types.Overdue = made_takes IsDate Any 10 due_date Overdue types.Overdue due_date_is (λ v. refl) (λ v p. p) (λ v. refl)
-body_takes types.Renew = made_takes (λ o. IfSome o IsDate) (Stands false 0x85) 10 wish Renew types.Renew wish_is (λ v. refl) (λ v p. p) (λ v. refl)
-body_takes types.RenewAnswer = made_takes (Both IsNumber (λ o. IfSome o IsDate)) Any 17 grant (λ found. RenewAnswer found.0 found.1) types.RenewAnswer grant_is (λ v. refl) (λ v p. p) (λ v. refl)
-body_takes types.Cancel = λ left body rest. plain_takes Cancel body types.Cancel left rest refl tt refl
-body_takes types.Received = λ left body rest. plain_takes Received body types.Received left rest refl tt refl
-body_takes types.Recall = λ left body rest. plain_takes Recall body types.Recall left rest refl tt refl
-body_takes types.Returned = λ left body rest. plain_takes Returned body types.Returned left rest refl tt refl
-body_takes types.CheckedIn = λ left body rest. plain_takes CheckedIn body types.CheckedIn left rest refl tt refl
-body_takes types.Expired = λ left body rest. plain_takes Expired body types.Expired left rest refl tt refl
+body_takes : Values → (apdu_type : ApduType) (left : Left) (body : Body) (rest : Left) → IsBytes left.bytes → read_body apdu_type left ≡ Ok (body, rest) → TakesBody apdu_type left.bytes body rest.bytes
+body_takes values types.IllRequest = made_takes IsRequest Any 213 request (λ found. IllRequest found.0 found.1) types.IllRequest (request_is values) (λ v. refl) (λ v p. p) (λ v. refl)
+body_takes values types.Shipped = made_takes IsDate Any 10 due_date Shipped types.Shipped (due_date_is values) (λ v. refl) (λ v p. p) (λ v. refl)
+body_takes values types.IllAnswer = made_takes IsAnyResult Any 3 answer IllAnswer types.IllAnswer answer_is (λ v. refl) (λ v p. p) (λ v. refl)
+body_takes values types.ConditionalReply = made_takes (Both IsNumber IsAnyAnswer) Any 7 reply (λ found. ConditionalReply found.0 found.1) types.ConditionalReply reply_is (λ v. refl) (λ v p. p.0) (λ v. refl)
+body_takes values types.CancelReply = made_takes (Both IsNumber IsAnyAnswer) Any 7 reply (λ found. CancelReply found.0 found.1) types.CancelReply reply_is (λ v. refl) (λ v p. p.0) (λ v. refl)
+body_takes values types.Overdue = made_takes IsDate Any 10 due_date Overdue types.Overdue (due_date_is values) (λ v. refl) (λ v p. p) (λ v. refl)
+body_takes values types.Renew = made_takes (λ o. IfSome o IsDate) (Stands false 0x85) 10 wish Renew types.Renew (wish_is values) (λ v. refl) (λ v p. p) (λ v. refl)
+body_takes values types.RenewAnswer = made_takes (Both IsNumber (λ o. IfSome o IsDate)) Any 17 grant (λ found. RenewAnswer found.0 found.1) types.RenewAnswer (grant_is values) (λ v. refl) (λ v p. p) (λ v. refl)
+body_takes values types.Cancel = λ left body rest. plain_takes Cancel body types.Cancel left rest refl tt refl
+body_takes values types.Received = λ left body rest. plain_takes Received body types.Received left rest refl tt refl
+body_takes values types.Recall = λ left body rest. plain_takes Recall body types.Recall left rest refl tt refl
+body_takes values types.Returned = λ left body rest. plain_takes Returned body types.Returned left rest refl tt refl
+body_takes values types.CheckedIn = λ left body rest. plain_takes CheckedIn body types.CheckedIn left rest refl tt refl
+body_takes values types.Expired = λ left body rest. plain_takes Expired body types.Expired left rest refl tt refl
 
 -- a spelled body is read again, at the end of an APDU
 abbrev BodyAgain : Body → ℕ → Type 0
@@ -138,32 +138,32 @@ made_again P F n f make fs closes v at p =
     let whole : f.read (left_at at (f.spell v)) ≡ Ok (v, left_at read.0 []) = ap (λ (x : List ℕ). f.read (left_at at x)) (sym (append-nil (f.spell v))) ∙ read.1 in
     (read.0, rw whole refl)
 
-body_again : (body : Body) (at : ℕ) → IsBody body → BodyAgain body at
-body_again (IllRequest expiry text) at is = made_again IsRequest Any 213 request (λ found. IllRequest found.0 found.1) request_is tt (expiry, text) at is
-body_again (Shipped due) at is = made_again IsDate Any 10 due_date Shipped due_date_is tt due at is
-body_again (IllAnswer result) at is = made_again IsAnyResult Any 3 answer IllAnswer answer_is tt result at tt
-body_again (ConditionalReply answers accepts) at is = made_again (Both IsNumber IsAnyAnswer) Any 7 reply (λ found. ConditionalReply found.0 found.1) reply_is tt (answers, accepts) at (is, tt)
-body_again (CancelReply answers accepts) at is = made_again (Both IsNumber IsAnyAnswer) Any 7 reply (λ found. CancelReply found.0 found.1) reply_is tt (answers, accepts) at (is, tt)
-body_again (Overdue due) at is = made_again IsDate Any 10 due_date Overdue due_date_is tt due at is
-body_again (Renew wished) at is = made_again (λ o. IfSome o IsDate) (Stands false 0x85) 10 wish Renew wish_is refl wished at is
-body_again (RenewAnswer answers granted) at is = made_again (Both IsNumber (λ o. IfSome o IsDate)) Any 17 grant (λ found. RenewAnswer found.0 found.1) grant_is tt (answers, granted) at is
-body_again Cancel at is = (at, refl)
-body_again Received at is = (at, refl)
-body_again Recall at is = (at, refl)
-body_again Returned at is = (at, refl)
-body_again CheckedIn at is = (at, refl)
-body_again Expired at is = (at, refl)
+body_again : Values → (body : Body) (at : ℕ) → IsBody body → BodyAgain body at
+body_again values (IllRequest expiry text) at is = made_again IsRequest Any 213 request (λ found. IllRequest found.0 found.1) (request_is values) tt (expiry, text) at is
+body_again values (Shipped due) at is = made_again IsDate Any 10 due_date Shipped (due_date_is values) tt due at is
+body_again values (IllAnswer result) at is = made_again IsAnyResult Any 3 answer IllAnswer answer_is tt result at tt
+body_again values (ConditionalReply answers accepts) at is = made_again (Both IsNumber IsAnyAnswer) Any 7 reply (λ found. ConditionalReply found.0 found.1) reply_is tt (answers, accepts) at (is, tt)
+body_again values (CancelReply answers accepts) at is = made_again (Both IsNumber IsAnyAnswer) Any 7 reply (λ found. CancelReply found.0 found.1) reply_is tt (answers, accepts) at (is, tt)
+body_again values (Overdue due) at is = made_again IsDate Any 10 due_date Overdue (due_date_is values) tt due at is
+body_again values (Renew wished) at is = made_again (λ o. IfSome o IsDate) (Stands false 0x85) 10 wish Renew (wish_is values) refl wished at is
+body_again values (RenewAnswer answers granted) at is = made_again (Both IsNumber (λ o. IfSome o IsDate)) Any 17 grant (λ found. RenewAnswer found.0 found.1) (grant_is values) tt (answers, granted) at is
+body_again values Cancel at is = (at, refl)
+body_again values Received at is = (at, refl)
+body_again values Recall at is = (at, refl)
+body_again values Returned at is = (at, refl)
+body_again values CheckedIn at is = (at, refl)
+body_again values Expired at is = (at, refl)
 
-body_bound : (body : Body) → IsBody body → length (spell_body body) ≤ 213
-body_bound (IllRequest expiry text) is = request_is.bound (expiry, text) is
-body_bound (Shipped due) is = omega (arith, due_date_is.bound due is)
-body_bound (IllAnswer result) is = omega (arith, answer_is.bound result tt)
-body_bound (ConditionalReply answers accepts) is = omega (arith, reply_is.bound (answers, accepts) (is, tt))
-body_bound (CancelReply answers accepts) is = omega (arith, reply_is.bound (answers, accepts) (is, tt))
-body_bound (Overdue due) is = omega (arith, due_date_is.bound due is)
-body_bound (Renew wished) is = omega (arith, wish_is.bound wished is)
-body_bound (RenewAnswer answers granted) is = omega (arith, grant_is.bound (answers, granted) is)
-body_bound _ is = omega arith
+body_bound : Values → (body : Body) → IsBody body → length (spell_body body) ≤ 213
+body_bound values (IllRequest expiry text) is = (request_is values).bound (expiry, text) is
+body_bound values (Shipped due) is = omega (arith, (due_date_is values).bound due is)
+body_bound values (IllAnswer result) is = omega (arith, answer_is.bound result tt)
+body_bound values (ConditionalReply answers accepts) is = omega (arith, reply_is.bound (answers, accepts) (is, tt))
+body_bound values (CancelReply answers accepts) is = omega (arith, reply_is.bound (answers, accepts) (is, tt))
+body_bound values (Overdue due) is = omega (arith, (due_date_is values).bound due is)
+body_bound values (Renew wished) is = omega (arith, (wish_is values).bound wished is)
+body_bound values (RenewAnswer answers granted) is = omega (arith, (grant_is values).bound (answers, granted) is)
+body_bound values _ is = omega arith
 
 made_faults : {V : Type 0} (P : V → Type 0) (F : List ℕ → Type 0) (n : ℕ) (f : Format V) (make : V → Body) → IsFormat P F n f
     → (left : Left) (d : DerFault) → made_of f make left ≡ Err d → IsInside d
@@ -173,21 +173,21 @@ made_faults P F n f make fs left d e =
       | inr h ↦ absurd (no_value d (make h.0.0, h.0.1) h.2)
     ]
 
-body_faults : (apdu_type : ApduType) (left : Left) (d : DerFault) → read_body apdu_type left ≡ Err d → IsInside d
-body_faults types.IllRequest = made_faults IsRequest Any 213 request (λ found. IllRequest found.0 found.1) request_is
-body_faults types.Shipped = made_faults IsDate Any 10 due_date Shipped due_date_is
-body_faults types.IllAnswer = made_faults IsAnyResult Any 3 answer IllAnswer answer_is
-body_faults types.ConditionalReply = made_faults (Both IsNumber IsAnyAnswer) Any 7 reply (λ found. ConditionalReply found.0 found.1) reply_is
-body_faults types.CancelReply = made_faults (Both IsNumber IsAnyAnswer) Any 7 reply (λ found. CancelReply found.0 found.1) reply_is
-body_faults types.Overdue = made_faults IsDate Any 10 due_date Overdue due_date_is
-body_faults types.Renew = made_faults (λ o. IfSome o IsDate) (Stands false 0x85) 10 wish Renew wish_is
-body_faults types.RenewAnswer = made_faults (Both IsNumber (λ o. IfSome o IsDate)) Any 17 grant (λ found. RenewAnswer found.0 found.1) grant_is
-body_faults types.Cancel = λ left d e. absurd (no_value d (Cancel, left) e)
-body_faults types.Received = λ left d e. absurd (no_value d (Received, left) e)
-body_faults types.Recall = λ left d e. absurd (no_value d (Recall, left) e)
-body_faults types.Returned = λ left d e. absurd (no_value d (Returned, left) e)
-body_faults types.CheckedIn = λ left d e. absurd (no_value d (CheckedIn, left) e)
-body_faults types.Expired = λ left d e. absurd (no_value d (Expired, left) e)
+body_faults : Values → (apdu_type : ApduType) (left : Left) (d : DerFault) → read_body apdu_type left ≡ Err d → IsInside d
+body_faults values types.IllRequest = made_faults IsRequest Any 213 request (λ found. IllRequest found.0 found.1) (request_is values)
+body_faults values types.Shipped = made_faults IsDate Any 10 due_date Shipped (due_date_is values)
+body_faults values types.IllAnswer = made_faults IsAnyResult Any 3 answer IllAnswer answer_is
+body_faults values types.ConditionalReply = made_faults (Both IsNumber IsAnyAnswer) Any 7 reply (λ found. ConditionalReply found.0 found.1) reply_is
+body_faults values types.CancelReply = made_faults (Both IsNumber IsAnyAnswer) Any 7 reply (λ found. CancelReply found.0 found.1) reply_is
+body_faults values types.Overdue = made_faults IsDate Any 10 due_date Overdue (due_date_is values)
+body_faults values types.Renew = made_faults (λ o. IfSome o IsDate) (Stands false 0x85) 10 wish Renew (wish_is values)
+body_faults values types.RenewAnswer = made_faults (Both IsNumber (λ o. IfSome o IsDate)) Any 17 grant (λ found. RenewAnswer found.0 found.1) (grant_is values)
+body_faults values types.Cancel = λ left d e. absurd (no_value d (Cancel, left) e)
+body_faults values types.Received = λ left d e. absurd (no_value d (Received, left) e)
+body_faults values types.Recall = λ left d e. absurd (no_value d (Recall, left) e)
+body_faults values types.Returned = λ left d e. absurd (no_value d (Returned, left) e)
+body_faults values types.CheckedIn = λ left d e. absurd (no_value d (CheckedIn, left) e)
+body_faults values types.Expired = λ left d e. absurd (no_value d (Expired, left) e)
 
 -- ---- the contents of an APDU
 
@@ -195,24 +195,24 @@ body_faults types.Expired = λ left d e. absurd (no_value d (Expired, left) e)
 abbrev IsBodyOf : ApduType → List ℕ → Body → Type 0
 IsBodyOf apdu_type bytes body = (bytes ≡ spell_body body) × IsBody body × (type_of body ≡ apdu_type)
 
-whole_body_takes : (apdu_type : ApduType) (left : Left) (body : Body) → IsBytes left.bytes → body_of apdu_type left ≡ Ok body → IsBodyOf apdu_type left.bytes body
+whole_body_takes : Values → (apdu_type : ApduType) (left : Left) (body : Body) → IsBytes left.bytes → body_of apdu_type left ≡ Ok body → IsBodyOf apdu_type left.bytes body
 unfolding body_of
-whole_body_takes apdu_type left body fits e =
+whole_body_takes values apdu_type left body fits e =
     let found = bind_ok (read_body apdu_type left) (λ body. ended body.1 >>= λ _. Ok body.0) body e in
     let over = bind_ok (ended found.0.1) (λ _. Ok found.0.0) body found.2 in
-    let taken = body_takes apdu_type left found.0.0 found.0.1 fits found.1 in
+    let taken = body_takes values apdu_type left found.0.0 found.0.1 fits found.1 in
     let whole : left.bytes ≡ spell_body found.0.0 = taken.0 ∙ ap (λ (x : List ℕ). spell_body found.0.0 ++ x) (ended_is found.0.1 over.0 over.1) ∙ append-nil (spell_body found.0.0) in
     subst (IsBodyOf apdu_type left.bytes) (ok_is found.0.0 body over.2) (whole, taken.1, taken.2)
 
-whole_body_again : (body : Body) (at : ℕ) → IsBody body → body_of (type_of body) (left_at at (spell_body body)) ≡ Ok body
+whole_body_again : Values → (body : Body) (at : ℕ) → IsBody body → body_of (type_of body) (left_at at (spell_body body)) ≡ Ok body
 unfolding body_of
-whole_body_again body at is = rw (body_again body at is).1 refl
+whole_body_again values body at is = rw (body_again values body at is).1 refl
 
-whole_body_faults : (apdu_type : ApduType) (left : Left) (d : DerFault) → body_of apdu_type left ≡ Err d → IsInside d
+whole_body_faults : Values → (apdu_type : ApduType) (left : Left) (d : DerFault) → body_of apdu_type left ≡ Err d → IsInside d
 unfolding body_of
-whole_body_faults apdu_type left d e =
+whole_body_faults values apdu_type left d e =
     elim (bind_err (read_body apdu_type left) (λ body. ended body.1 >>= λ _. Ok body.0) d e) [
-      | inl h ↦ body_faults apdu_type left d h
+      | inl h ↦ body_faults values apdu_type left d h
       | inr h ↦ elim (bind_err (ended h.0.1) (λ _. Ok h.0.0) d h.2) [
         | inl g ↦ ended_faults h.0.1 d g
         | inr g ↦ absurd (no_value d h.0.0 g.2)
@@ -225,14 +225,14 @@ made front body = record { txn = record { group = front.1.0.0; transaction = fro
 abbrev IsWhole : ApduType → List ℕ → Apdu → Type 0
 IsWhole apdu_type bytes apdu = (bytes ≡ contents_of apdu) × IsApdu apdu × (type_of apdu.body ≡ apdu_type)
 
-inside_takes : (apdu_type : ApduType) (left : Left) (apdu : Apdu) → IsBytes left.bytes → inside_of apdu_type left ≡ Ok apdu → IsWhole apdu_type left.bytes apdu
+inside_takes : Values → (apdu_type : ApduType) (left : Left) (apdu : Apdu) → IsBytes left.bytes → inside_of apdu_type left ≡ Ok apdu → IsWhole apdu_type left.bytes apdu
 unfolding inside_of
-inside_takes apdu_type left apdu fits e =
+inside_takes values apdu_type left apdu fits e =
     let front = bind_ok (head.read left) (λ front. body_of apdu_type front.1 >>= λ body. Ok (made front.0 body)) apdu e in
     let body = bind_ok (body_of apdu_type front.0.1) (λ body. Ok (made front.0.0 body)) apdu front.2 in
     let is : made front.0.0 body.0 ≡ apdu = ok_is (made front.0.0 body.0) apdu body.2 in
-    let first = head_is.takes left front.0.0 front.0.1 fits front.1 in
-    let second = whole_body_takes apdu_type front.0.1 body.0 first.2 body.1 in
+    let first = (head_is values).takes left front.0.0 front.0.1 fits front.1 in
+    let second = whole_body_takes values apdu_type front.0.1 body.0 first.2 body.1 in
     let whole : left.bytes ≡ contents_of (made front.0.0 body.0) = first.0 ∙ ap (λ (x : List ℕ). head.spell front.0.0 ++ x) second.0 in
     let parts : IsApdu (made front.0.0 body.0) = record {
       txn = record { group = first.1.1.0.0; transaction = first.1.1.0.1 };
@@ -241,25 +241,25 @@ inside_takes apdu_type left apdu fits e =
     } in
     subst (λ (x : Apdu). IsWhole apdu_type left.bytes x) is (whole, parts, second.2)
 
-inside_again : (apdu : Apdu) (at : ℕ) → IsApdu apdu → inside_of (type_of apdu.body) (left_at at (contents_of apdu)) ≡ Ok apdu
+inside_again : Values → (apdu : Apdu) (at : ℕ) → IsApdu apdu → inside_of (type_of apdu.body) (left_at at (contents_of apdu)) ≡ Ok apdu
 unfolding inside_of
-inside_again apdu at is =
+inside_again values apdu at is =
     let front : Unit {0} × ((List ℕ × List ℕ) × ℕ) = (tt, ((apdu.txn.group, apdu.txn.transaction), apdu.number)) in
-    let first = head_is.again front at (spell_body apdu.body) (tt, ((is.txn.group, is.txn.transaction), is.number)) tt in
-    rw (first.1, whole_body_again apdu.body first.0 is.body) refl
+    let first = (head_is values).again front at (spell_body apdu.body) (tt, ((is.txn.group, is.txn.transaction), is.number)) tt in
+    rw (first.1, whole_body_again values apdu.body first.0 is.body) refl
 
-pub contents_bound : (apdu : Apdu) → IsApdu apdu → length (contents_of apdu) ≤ 355
-contents_bound apdu is =
+pub contents_bound : Values → (apdu : Apdu) → IsApdu apdu → length (contents_of apdu) ≤ 355
+contents_bound values apdu is =
     let front : Unit {0} × ((List ℕ × List ℕ) × ℕ) = (tt, ((apdu.txn.group, apdu.txn.transaction), apdu.number)) in
-    omega (arith, length-append (head.spell front) (spell_body apdu.body), head_is.bound front (tt, ((is.txn.group, is.txn.transaction), is.number)), body_bound apdu.body is.body)
+    omega (arith, length-append (head.spell front) (spell_body apdu.body), (head_is values).bound front (tt, ((is.txn.group, is.txn.transaction), is.number)), body_bound values apdu.body is.body)
 
-pub inside_faults : (apdu_type : ApduType) (left : Left) (d : DerFault) → inside_of apdu_type left ≡ Err d → IsInside d
+pub inside_faults : Values → (apdu_type : ApduType) (left : Left) (d : DerFault) → inside_of apdu_type left ≡ Err d → IsInside d
 unfolding inside_of
-inside_faults apdu_type left d e =
+inside_faults values apdu_type left d e =
     elim (bind_err (head.read left) (λ front. body_of apdu_type front.1 >>= λ body. Ok (made front.0 body)) d e) [
-      | inl h ↦ head_is.faults left d h
+      | inl h ↦ (head_is values).faults left d h
       | inr h ↦ elim (bind_err (body_of apdu_type h.0.1) (λ body. Ok (made h.0.0 body)) d h.2) [
-        | inl g ↦ whole_body_faults apdu_type h.0.1 d g
+        | inl g ↦ whole_body_faults values apdu_type h.0.1 d g
         | inr g ↦ absurd (no_value d (made h.0.0 g.0) g.2)
       ]
     ]
@@ -374,39 +374,39 @@ abbrev IsAtFront : List ℕ → Apdu → List ℕ → Type 0
 IsAtFront bytes apdu rest = IsApdu apdu × (bytes ≡ spelling apdu ++ rest)
 
 -- what is read at the front of bytes is spelled there
-pub apdu_takes : (bytes : List ℕ) (apdu : Apdu) (rest : List ℕ) → IsBytes bytes → apdu_at bytes ≡ Ok (apdu, rest) → IsApdu apdu × (bytes ≡ spelling apdu ++ rest)
+pub apdu_takes : Values → (bytes : List ℕ) (apdu : Apdu) (rest : List ℕ) → IsBytes bytes → apdu_at bytes ≡ Ok (apdu, rest) → IsApdu apdu × (bytes ≡ spelling apdu ++ rest)
 unfolding apdu_at spelling
-apdu_takes bytes apdu rest fits e =
+apdu_takes values bytes apdu rest fits e =
     let outer = bind_ok (outer_at bytes) (λ outer. inside_of outer.apdu_type outer.inside >>= λ apdu. Ok (apdu, drop outer.size bytes)) (apdu, rest) e in
     let size = outer.0.size in
     let apdu_type = outer.0.apdu_type in
     let inner = bind_ok (inside_of apdu_type outer.0.inside) (λ apdu. Ok (apdu, drop size bytes)) (apdu, rest) outer.2 in
     let both : (inner.0, drop size bytes) ≡ (apdu, rest) = ok_is (inner.0, drop size bytes) (apdu, rest) inner.2 in
     let whole = outer_takes bytes outer.0 fits outer.1 in
-    let inside = inside_takes apdu_type outer.0.inside inner.0 whole.inside_fits inner.1 in
+    let inside = inside_takes values apdu_type outer.0.inside inner.0 whole.inside_fits inner.1 in
     let parts : bytes ≡ element (octet_of (type_of inner.0.body)) (contents_of inner.0) ++ drop size bytes =
     whole.parts ∙ ap (λ (x : List ℕ). element (octet_of apdu_type) x ++ drop size bytes) inside.0
     ∙ ap (λ (k : ApduType). element (octet_of k) (contents_of inner.0) ++ drop size bytes) (sym inside.2) in
     subst (λ (x : Apdu × List ℕ). IsAtFront bytes x.0 x.1) both (inside.1, parts)
 
 -- a spelling is read again, whatever follows it
-pub apdu_again : (apdu : Apdu) (rest : List ℕ) → IsApdu apdu → apdu_at (spelling apdu ++ rest) ≡ Ok (apdu, rest)
+pub apdu_again : Values → (apdu : Apdu) (rest : List ℕ) → IsApdu apdu → apdu_at (spelling apdu ++ rest) ≡ Ok (apdu, rest)
 unfolding apdu_at spelling
-apdu_again apdu rest is =
+apdu_again values apdu rest is =
     let text = element (octet_of (type_of apdu.body)) (contents_of apdu) in
-    let outer = outer_again (type_of apdu.body) (contents_of apdu) rest (contents_bound apdu is) in
-    let inner = inside_again apdu outer.0 is in
+    let outer = outer_again (type_of apdu.body) (contents_of apdu) rest (contents_bound values apdu is) in
+    let inner = inside_again values apdu outer.0 is in
     let behind : drop (length text) (text ++ rest) ≡ rest = drop_at text rest (length text) refl in
     rw (outer.1, inner, behind) refl
 
 -- short bytes are fewer than the longest APDU has, and the fault has their number
-pub apdu_short : (bytes : List ℕ) (n : ℕ) → apdu_at bytes ≡ Err (Short n) → (n ≡ length bytes) × (length bytes ≤ 358)
+pub apdu_short : Values → (bytes : List ℕ) (n : ℕ) → apdu_at bytes ≡ Err (Short n) → (n ≡ length bytes) × (length bytes ≤ 358)
 unfolding apdu_at
-apdu_short bytes n e =
+apdu_short values bytes n e =
     elim (bind_err (outer_at bytes) (λ outer. inside_of outer.apdu_type outer.inside >>= λ apdu. Ok (apdu, drop outer.size bytes)) (Short n) e) [
       | inl h ↦ outer_short bytes n h
       | inr h ↦ elim (bind_err (inside_of h.0.apdu_type h.0.inside) (λ apdu. Ok (apdu, drop h.0.size bytes)) (Short n) h.2) [
-        | inl g ↦ absurd (inside_faults h.0.apdu_type h.0.inside (Short n) g)
+        | inl g ↦ absurd (inside_faults values h.0.apdu_type h.0.inside (Short n) g)
         | inr g ↦ absurd (no_value (Short n) (g.0, drop h.0.size bytes) g.2)
       ]
     ]
@@ -433,13 +433,13 @@ outer_memory [] e = short_or_memory 0 e
 outer_memory (first ∷ bytes) e = outer_of_memory (type_with first) bytes e
 
 -- no bytes have want of memory as their fault
-pub apdu_memory : (bytes : List ℕ) → apdu_at bytes ≡ Err OutOfMemory → ⊥
+pub apdu_memory : Values → (bytes : List ℕ) → apdu_at bytes ≡ Err OutOfMemory → ⊥
 unfolding apdu_at
-apdu_memory bytes e =
+apdu_memory values bytes e =
     elim (bind_err (outer_at bytes) (λ outer. inside_of outer.apdu_type outer.inside >>= λ apdu. Ok (apdu, drop outer.size bytes)) OutOfMemory e) [
       | inl h ↦ outer_memory bytes h
       | inr h ↦ elim (bind_err (inside_of h.0.apdu_type h.0.inside) (λ apdu. Ok (apdu, drop h.0.size bytes)) OutOfMemory h.2) [
-        | inl g ↦ inside_faults h.0.apdu_type h.0.inside OutOfMemory g
+        | inl g ↦ inside_faults values h.0.apdu_type h.0.inside OutOfMemory g
         | inr g ↦ no_value OutOfMemory (g.0, drop h.0.size bytes) g.2
       ]
     ]

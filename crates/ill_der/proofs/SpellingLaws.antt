@@ -15,19 +15,24 @@ use Rattle.ill_der.specs.ShortForm.{contents_of, spelling, apdu_at}
 use Rattle.ill_der.specs.Laws.{IsBytes, BeginsWithOne}
 use Rattle.ill_der.proofs.Chains.{ok_is, no_value}
 use Rattle.ill_der.proofs.Sizes.{element_length}
+use Rattle.ill_der.proofs.ContentsLaws.{Values}
 use Rattle.ill_der.proofs.ShortFormLaws.{apdu_takes, apdu_again, apdu_memory, contents_bound}
 
-read_alone : (apdu : Apdu) → IsApdu apdu → apdu_at (spelling apdu) ≡ Ok (apdu, [])
-read_alone apdu is = ap apdu_at (sym (append-nil (spelling apdu))) ∙ apdu_again apdu [] is
+-- an APDU is read from its spelling, as the law says
+abbrev pub ReadsAgain : Type 0
+ReadsAgain = (apdu : Apdu) (rest : List ℕ) → IsApdu apdu → apdu_at (spelling apdu ++ rest) ≡ Ok (apdu, rest)
 
-pub one_apdu : (a b : Apdu) → IsApdu a → IsApdu b → spelling a ≡ spelling b → a ≡ b
-one_apdu a b first second e =
-    let both : (a, []) ≡ (b, []) = ok_is (a, []) (b, []) (sym (read_alone a first) ∙ ap apdu_at e ∙ read_alone b second) in
+read_alone : ReadsAgain → (apdu : Apdu) → IsApdu apdu → apdu_at (spelling apdu) ≡ Ok (apdu, [])
+read_alone again apdu is = ap apdu_at (sym (append-nil (spelling apdu))) ∙ again apdu [] is
+
+pub one_apdu : ReadsAgain → (a b : Apdu) → IsApdu a → IsApdu b → spelling a ≡ spelling b → a ≡ b
+one_apdu again a b first second e =
+    let both : (a, []) ≡ (b, []) = ok_is (a, []) (b, []) (sym (read_alone again a first) ∙ ap apdu_at e ∙ read_alone again b second) in
     ap (λ (x : Apdu × List ℕ). x.0) both
 
-pub no_prefix : (a b : Apdu) (rest : List ℕ) → IsApdu a → IsApdu b → spelling b ≡ spelling a ++ rest → rest ≡ []
-no_prefix a b rest first second e =
-    let both : (a, rest) ≡ (b, []) = ok_is (a, rest) (b, []) (sym (apdu_again a rest first) ∙ ap apdu_at (sym e) ∙ read_alone b second) in
+pub no_prefix : ReadsAgain → (a b : Apdu) (rest : List ℕ) → IsApdu a → IsApdu b → spelling b ≡ spelling a ++ rest → rest ≡ []
+no_prefix again a b rest first second e =
+    let both : (a, rest) ≡ (b, []) = ok_is (a, rest) (b, []) (sym (again a rest first) ∙ ap apdu_at (sym e) ∙ read_alone again b second) in
     ap (λ (x : Apdu × List ℕ). x.1) both
 
 few_octets : (short middle : Bool) (a b c d e f : ℕ) → length (cond short (a ∷ []) (cond middle (b ∷ c ∷ []) (d ∷ e ∷ f ∷ []))) ≤ 3
@@ -39,25 +44,25 @@ few_length_octets : (n : ℕ) → length (length_octets n) ≤ 3
 unfolding length_octets
 few_length_octets n = few_octets (ltb n 128) (ltb n 256) n 0x81 n 0x82 (n / 256) (n % 256)
 
-pub spelled_most : (apdu : Apdu) → IsApdu apdu → length (spelling apdu) ≤ 359
+pub spelled_most : Values → (apdu : Apdu) → IsApdu apdu → length (spelling apdu) ≤ 359
 unfolding spelling
-spelled_most apdu is =
+spelled_most values apdu is =
     let contents = contents_of apdu in
-    omega (arith, element_length (octet_of (type_of apdu.body)) contents, few_length_octets (length contents), contents_bound apdu is)
+    omega (arith, element_length (octet_of (type_of apdu.body)) contents, few_length_octets (length contents), contents_bound values apdu is)
 
 -- ---- bytes of any kind
 
-begins_with_one : (bytes : List ℕ) (read : Result (Apdu × List ℕ) DerFault) → IsBytes bytes → apdu_at bytes ≡ read → BeginsWithOne bytes read
-begins_with_one bytes (Ok found) fits e =
-    let takes = apdu_takes bytes found.0 found.1 fits e in
-    (takes, λ apdu rest begins. ok_is (apdu, rest) found (sym (apdu_again apdu rest begins.0) ∙ ap apdu_at (sym begins.1) ∙ e))
-begins_with_one bytes (Err fault) fits e = (
-  λ is. apdu_memory bytes (e ∙ ap Err is),
-  λ apdu rest begins. no_value fault (apdu, rest) (sym (apdu_again apdu rest begins.0) ∙ ap apdu_at (sym begins.1) ∙ e),
+begins_with_one : Values → (bytes : List ℕ) (read : Result (Apdu × List ℕ) DerFault) → IsBytes bytes → apdu_at bytes ≡ read → BeginsWithOne bytes read
+begins_with_one values bytes (Ok found) fits e =
+    let takes = apdu_takes values bytes found.0 found.1 fits e in
+    (takes, λ apdu rest begins. ok_is (apdu, rest) found (sym (apdu_again values apdu rest begins.0) ∙ ap apdu_at (sym begins.1) ∙ e))
+begins_with_one values bytes (Err fault) fits e = (
+  λ is. apdu_memory values bytes (e ∙ ap Err is),
+  λ apdu rest begins. no_value fault (apdu, rest) (sym (apdu_again values apdu rest begins.0) ∙ ap apdu_at (sym begins.1) ∙ e),
 )
 
-pub prefix_or_fault : (bytes : List ℕ) → IsBytes bytes → BeginsWithOne bytes (apdu_at bytes)
-prefix_or_fault bytes fits = begins_with_one bytes (apdu_at bytes) fits refl
+pub prefix_or_fault : Values → (bytes : List ℕ) → IsBytes bytes → BeginsWithOne bytes (apdu_at bytes)
+prefix_or_fault values bytes fits = begins_with_one values bytes (apdu_at bytes) fits refl
 
 -- ---- a longest APDU
 

@@ -1,6 +1,7 @@
 -- Reading one byte after another.
-use Rattle.std.proofs.Common.{◌≡◌, ℕ, ◌<◌, List, [], ◌∷◌, ◌++◌, length, take, drop, Option, Some, None, Result, Ok, Err, ◌⊎◌, inl, inr, refl, sym, ap, subst, ◌∙◌, append_assoc, arith}
-use Rattle.std.specs.Io.KnownBytes.{Consumes, Keeps}
+use Rattle.std.proofs.Common.{◌≡◌, ℕ, ◌<◌, List, [], ◌∷◌, length, take, drop, Option, Result, Ok, Err, ◌⊎◌, inl, inr, refl, sym, ap, subst, ◌∙◌, arith}
+use Rattle.std.specs.Io.KnownBytes.{Consumes}
+use Rattle.std.proofs.KnownBytes.{Consumes-trans}
 use Rattle.std.proofs.lemmas.List.{append-nil, take_at, length-append}
 use Rattle.ill_values.specs.declared.apdu.Apdu.{Apdu}
 use Rattle.ill_der.specs.declared.fault.DerFault.{DerFault}
@@ -10,6 +11,7 @@ use Rattle.ill_der.specs.ShortForm.{spelling, apdu_at, Decodes}
 use Rattle.ill_der.specs.Stream.{AreUnfinished, SpellsOne}
 use Rattle.ill_der.proofs.Chains.{no_value}
 use Rattle.ill_der.specs.Laws.{IsBytes}
+use Rattle.ill_der.proofs.ContentsLaws.{Values}
 use Rattle.ill_der.proofs.ShortFormLaws.{apdu_takes, apdu_again, apdu_memory}
 
 -- ---- what decoding a front says
@@ -24,42 +26,29 @@ decodes_err bytes (Ok x) fault h = inr (h, (x, refl))
 decodes_err bytes (Err f) fault h = inl (let e : f ≡ fault = cc in ap Err e)
 
 -- all of the bytes are the APDU, where each shorter front is unfinished
-exact : (bytes rest : List ℕ) (apdu : Apdu) → IsBytes bytes → AreUnfinished bytes → apdu_at bytes ≡ Ok (apdu, rest) → IsApdu apdu × (bytes ≡ spelling apdu)
-exact bytes [] apdu fits fronts e =
-    let taken = apdu_takes bytes apdu [] fits e in
+exact : Values → (bytes rest : List ℕ) (apdu : Apdu) → IsBytes bytes → AreUnfinished bytes → apdu_at bytes ≡ Ok (apdu, rest) → IsApdu apdu × (bytes ≡ spelling apdu)
+exact values bytes [] apdu fits fronts e =
+    let taken = apdu_takes values bytes apdu [] fits e in
     (taken.0, taken.1 ∙ append-nil (spelling apdu))
-exact bytes (x ∷ rest) apdu fits fronts e =
-    let taken = apdu_takes bytes apdu (x ∷ rest) fits e in
+exact values bytes (x ∷ rest) apdu fits fronts e =
+    let taken = apdu_takes values bytes apdu (x ∷ rest) fits e in
     let text = spelling apdu in
     let longer : length text < length bytes = omega (arith, ap length taken.1, length-append text (x ∷ rest)) in
     let front : take (length text) bytes ≡ text = ap (take (length text)) taken.1 ∙ take_at text (x ∷ rest) (length text) refl in
-    let again : apdu_at text ≡ Ok (apdu, []) = ap apdu_at (sym (append-nil text)) ∙ apdu_again apdu [] taken.0 in
+    let again : apdu_at text ≡ Ok (apdu, []) = ap apdu_at (sym (append-nil text)) ∙ apdu_again values apdu [] taken.0 in
     absurd (no_value (Short (length (take (length text) bytes))) (apdu, []) (sym again ∙ ap apdu_at (sym front) ∙ fronts (length text) longer))
 
-pub spelled_exactly : (bytes : List ℕ) (found : Apdu × ℕ) → IsBytes bytes → AreUnfinished bytes → Decodes bytes (apdu_at bytes) (Ok found) → IsApdu found.0 × (bytes ≡ spelling found.0)
-spelled_exactly bytes found fits fronts h = exact bytes (drop found.1 bytes) found.0 fits fronts (decodes_ok bytes (apdu_at bytes) found h)
+pub spelled_exactly : Values → (bytes : List ℕ) (found : Apdu × ℕ) → IsBytes bytes → AreUnfinished bytes → Decodes bytes (apdu_at bytes) (Ok found) → IsApdu found.0 × (bytes ≡ spelling found.0)
+spelled_exactly values bytes found fits fronts h = exact values bytes (drop found.1 bytes) found.0 fits fronts (decodes_ok bytes (apdu_at bytes) found h)
 
-pub spelled_without_memory : (bytes : List ℕ) → IsBytes bytes → AreUnfinished bytes → Decodes bytes (apdu_at bytes) (Err OutOfMemory) → SpellsOne bytes
-spelled_without_memory bytes fits fronts h =
+pub spelled_without_memory : Values → (bytes : List ℕ) → IsBytes bytes → AreUnfinished bytes → Decodes bytes (apdu_at bytes) (Err OutOfMemory) → SpellsOne bytes
+spelled_without_memory values bytes fits fronts h =
     elim (decodes_err bytes (apdu_at bytes) OutOfMemory h) [
-      | inl e ↦ absurd (apdu_memory bytes e)
-      | inr e ↦ let is = exact bytes e.1.0.1 e.1.0.0 fits fronts e.1.1 in (e.1.0.0, is.0, is.1)
+      | inl e ↦ absurd (apdu_memory values bytes e)
+      | inr e ↦ let is = exact values bytes e.1.0.1 e.1.0.0 fits fronts e.1.1 in (e.1.0.0, is.0, is.1)
     ]
 
 -- ---- what was read
 
-pub consumes_more : (old middle new : Option (List ℕ)) (front bytes : List ℕ) → Consumes old middle front → Consumes middle new bytes → Consumes old new (front ++ bytes)
-consumes_more None middle new front bytes first second = tt
-consumes_more (Some xs) None new front bytes first second = absurd first
-consumes_more (Some xs) (Some ys) None front bytes first second = absurd second
-consumes_more (Some xs) (Some ys) (Some zs) front bytes first second = first ∙ ap (λ (x : List ℕ). front ++ x) second ∙ sym (append_assoc front bytes zs)
-
 pub consumes_nothing : (old middle new : Option (List ℕ)) (front : List ℕ) → Consumes old middle front → Consumes middle new [] → Consumes old new front
-consumes_nothing old middle new front first second = subst (Consumes old new) (append-nil front) (consumes_more old middle new front [] first second)
-
--- a reader that kept its bytes
-pub consumes_kept : (old middle new : Option (List ℕ)) (front : List ℕ) → Consumes old middle front → Keeps middle new → Consumes old new front
-consumes_kept None middle new front first second = tt
-consumes_kept (Some xs) None new front first second = absurd first
-consumes_kept (Some xs) (Some ys) None front first second = absurd second
-consumes_kept (Some xs) (Some ys) (Some zs) front first second = first ∙ ap (λ (x : List ℕ). front ++ x) (sym second)
+consumes_nothing old middle new front first second = subst (Consumes old new) (append-nil front) (Consumes-trans old middle new front [] first second)

@@ -61,7 +61,8 @@ code_of HoldPlaced = 6
 code_of Estimate = 7
 
 abbrev pub all_results : List AnswerResult
-all_results = Conditional ∷ Retry ∷ Unfilled ∷ LocationsProvided ∷ WillSupply ∷ HoldPlaced ∷ Estimate ∷ []
+all_results =
+    Conditional ∷ Retry ∷ Unfilled ∷ LocationsProvided ∷ WillSupply ∷ HoldPlaced ∷ Estimate ∷ []
 
 abbrev pub result_from : List ℕ → Option AnswerResult
 result_from [] = None
@@ -74,7 +75,8 @@ answer_result = record { spell = λ result. code_of result ∷ []; read = result
 -- a BOOLEAN: the octet 00 for no, and FF for yes (X.690 8.2, 11.1)
 abbrev pub yes_no_from : List ℕ → Option Bool
 yes_no_from [] = None
-yes_no_from (octet ∷ []) = if octet == 0 then Some false else (if octet == 0xFF then Some true else None)
+yes_no_from (octet ∷ []) =
+    if octet == 0 then Some false else (if octet == 0xFF then Some true else None)
 yes_no_from (octet ∷ more ∷ rest) = None
 
 abbrev pub yes_no : Contents Bool

@@ -38,7 +38,8 @@ unfoldable pub length_of : List ℕ → LengthForm
 length_of [] = Truncated
 length_of (first ∷ rest) =
     if nat_lt first 128 then Definite first 1
-    else (if first == 0x81 then one_octet_length rest else (if first == 0x82 then two_octet_length rest else Invalid))
+    else (if first == 0x81 then one_octet_length rest
+    else (if first == 0x82 then two_octet_length rest else Invalid))
 
 -- a truncated length ends within two octets, and no length has more than three
 abbrev pub IsFew : LengthForm → ℕ → Type 0
@@ -65,7 +66,10 @@ left_at at bytes = record { at = at; bytes = bytes }
 abbrev pub contents_by : LengthForm → Left → Result (Left × Left) DerFault
 contents_by (Definite n octets) left =
     if nat_lt (length left.bytes) (octets + n) then Err (Length left.at)
-    else Ok (left_at (left.at + octets) (take n (drop octets left.bytes)), left_at (left.at + (octets + n)) (drop (octets + n) left.bytes))
+    else Ok (
+      left_at (left.at + octets) (take n (drop octets left.bytes)),
+      left_at (left.at + (octets + n)) (drop (octets + n) left.bytes),
+    )
 contents_by Truncated left = Err (Length left.at)
 contents_by Invalid left = Err (Length left.at)
 
@@ -77,7 +81,8 @@ stands_at identifier (first ∷ rest) = first == identifier
 -- the contents of the element with this identifier that must stand here, and what follows it
 unfoldable pub element_at : ℕ → Left → Result (Left × Left) DerFault
 element_at identifier left =
-    if stands_at identifier left.bytes then contents_by (length_of (drop 1 left.bytes)) (left_at (left.at + 1) (drop 1 left.bytes))
+    if stands_at identifier left.bytes
+    then contents_by (length_of (drop 1 left.bytes)) (left_at (left.at + 1) (drop 1 left.bytes))
     else Err (Tag left.at)
 
 -- nothing is left
@@ -100,7 +105,8 @@ value_of None at = Err (Field at)
 abbrev pub required : {V : Type 0} → ℕ → Contents V → Format V
 required identifier kind = record {
   spell = λ value. element identifier (kind.spell value);
-  read = λ left. element_at identifier left >>= λ part. value_of (kind.read part.0.bytes) part.0.at >>= λ value. Ok (value, part.1);
+  read = λ left. element_at identifier left >>= λ part.
+      value_of (kind.read part.0.bytes) part.0.at >>= λ value. Ok (value, part.1);
 }
 
 abbrev pub spell_some : {V : Type 0} → (V → List ℕ) → Option V → List ℕ
@@ -111,7 +117,9 @@ spell_some spell (Some value) = spell value
 abbrev pub optional : {V : Type 0} → ℕ → Contents V → Format (Option V)
 optional identifier kind = record {
   spell = spell_some (required identifier kind).spell;
-  read = λ left. if stands_at identifier left.bytes then ((required identifier kind).read left >>= λ field. Ok (Some field.0, field.1)) else Ok (None, left);
+  read = λ left. if stands_at identifier left.bytes
+      then ((required identifier kind).read left >>= λ field. Ok (Some field.0, field.1))
+      else Ok (None, left);
 }
 
 -- fields, and then further fields
@@ -125,7 +133,9 @@ followed_by first second = record {
 abbrev pub where_yes : {V : Type 0} → Format Bool → Format V → Format (Option V)
 where_yes answer field = record {
   spell = λ o. answer.spell (is_some o) ++ spell_some field.spell o;
-  read = λ left. answer.read left >>= λ accepts. if accepts.0 then (field.read accepts.1 >>= λ found. Ok (Some found.0, found.1)) else Ok (None, accepts.1);
+  read = λ left. answer.read left >>= λ accepts. if accepts.0
+      then (field.read accepts.1 >>= λ found. Ok (Some found.0, found.1))
+      else Ok (None, accepts.1);
 }
 
 -- no field
@@ -136,7 +146,8 @@ nothing = record { spell = λ _. []; read = λ left. Ok (tt, left) }
 abbrev pub constructed : {V : Type 0} → ℕ → Format V → Format V
 constructed identifier inside = record {
   spell = λ value. element identifier (inside.spell value);
-  read = λ left. element_at identifier left >>= λ part. inside.read part.0 >>= λ found. ended found.1 >>= λ _. Ok (found.0, part.1);
+  read = λ left. element_at identifier left >>= λ part. inside.read part.0 >>= λ found.
+      ended found.1 >>= λ _. Ok (found.0, part.1);
 }
 
 -- ---- what the code gives

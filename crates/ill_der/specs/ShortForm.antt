@@ -117,7 +117,11 @@ abbrev pub outer_by : ApduType → LengthForm → List ℕ → Result Outer DerF
 outer_by apdu_type (Definite n octets) bytes =
     if nat_lt 355 n then Err (Length 1)
     else (if nat_lt (length bytes) (octets + n) then Err (Short (length bytes + 1))
-    else Ok (record { apdu_type = apdu_type; inside = left_at (1 + octets) (take n (drop octets bytes)); size = 1 + (octets + n) }))
+    else Ok (record {
+      apdu_type = apdu_type;
+      inside = left_at (1 + octets) (take n (drop octets bytes));
+      size = 1 + (octets + n);
+    }))
 outer_by apdu_type Truncated bytes = Err (Short (length bytes + 1))
 outer_by apdu_type Invalid bytes = Err (Length 1)
 
@@ -161,7 +165,8 @@ abbrev pub Finds : {X V : Type 0} → (X → V) → Result X DerFault → Result
 Finds view (Ok value) read = read ≡ Ok (view value)
 Finds view (Err fault) read = read ≡ Err fault
 
--- A call that takes memory last gave what reading gives: its fault, or its value unless memory ran out.
+-- A call that takes memory last gave what reading gives: its fault, or its value unless memory ran
+-- out.
 abbrev pub Gives : {V : Type 0} → Result V DerFault → Result V DerFault → Type 0
 Gives (Err fault) result = result ≡ Err fault
 Gives (Ok value) result = MatchResult result (λ made. made ≡ value) (λ fault. fault ≡ OutOfMemory)

@@ -25,8 +25,8 @@ octet_of Expired = 0x74
 
 abbrev pub all_types : List ApduType
 all_types =
-    IllRequest ∷ Shipped ∷ IllAnswer ∷ ConditionalReply ∷ Cancel ∷ CancelReply ∷ Received ∷ Recall ∷ Returned ∷ CheckedIn
-    ∷ Overdue ∷ Renew ∷ RenewAnswer ∷ Expired ∷ []
+    IllRequest ∷ Shipped ∷ IllAnswer ∷ ConditionalReply ∷ Cancel ∷ CancelReply ∷ Received ∷ Recall
+    ∷ Returned ∷ CheckedIn ∷ Overdue ∷ Renew ∷ RenewAnswer ∷ Expired ∷ []
 
 -- the type with an identifier octet
 abbrev pub type_with : ℕ → Option ApduType

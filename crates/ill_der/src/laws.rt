@@ -9,34 +9,49 @@ ghost use Rattle.ill_der.specs.ShortForm.{spelling, apdu_at};
 ghost use Rattle.ill_der.specs.Stream.{IfShort};
 ghost use Rattle.ill_der.specs.Laws.{IsBytes, BeginsWithOne};
 
+use ill_values::laws::{date_texts, text_sizes};
+
 /// An APDU is read from its spelling, whatever follows: with this, `decode` gives back what `encode`
 /// spelled.
 pub fn read_again()
     ensures { (apdu : Apdu) (rest : List ℕ) → IsApdu apdu →
         apdu_at (spelling apdu ++ rest) ≡ Ok (apdu, rest) }
-{}
+{
+    date_texts();
+    text_sizes();
+}
 
 /// No bytes spell two APDUs.
 pub fn one_apdu()
     ensures { (a b : Apdu) → IsApdu a → IsApdu b → spelling a ≡ spelling b → a ≡ b }
-{}
+{
+    read_again();
+}
 
 /// No spelling is a proper prefix of another.
 pub fn no_prefix()
     ensures { (a b : Apdu) (rest : List ℕ) → IsApdu a → IsApdu b →
         spelling b ≡ spelling a ++ rest → rest ≡ [] }
-{}
+{
+    read_again();
+}
 
 /// The longest spelling has 359 bytes.
 pub fn longest()
     ensures most { (apdu : Apdu) → IsApdu apdu → length (spelling apdu) ≤ 359 }
     ensures reached { (apdu : Apdu) × IsApdu apdu × (length (spelling apdu) ≡ 359) }
-{}
+{
+    date_texts();
+    text_sizes();
+}
 
 /// Bytes have either one spelled prefix or one fault.
 pub fn prefix_or_fault()
     ensures { (bytes : List ℕ) → IsBytes bytes → BeginsWithOne bytes (apdu_at bytes) }
-{}
+{
+    date_texts();
+    text_sizes();
+}
 
 /// A fault other than Short is the fault of the bytes followed by anything.
 pub fn fault_stays()
@@ -48,4 +63,7 @@ pub fn fault_stays()
 pub fn short_has_the_size()
     ensures { (bytes : List ℕ) (n : ℕ) → apdu_at bytes ≡ Err (Short n) →
         (n ≡ length bytes) × (n ≤ 358) }
-{}
+{
+    date_texts();
+    text_sizes();
+}

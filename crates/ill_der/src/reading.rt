@@ -11,6 +11,7 @@ use crate::fault::{DerFault, ReadFault};
 use crate::length::{LengthForm, length_at_front};
 use crate::steps::Steps;
 use ill_values::Apdu;
+use ill_values::laws::{date_texts, text_sizes};
 use std::alloc::Global;
 use std::io::Read;
 use std::marker::Brand;
@@ -117,6 +118,8 @@ fn judge(alloc: Global, bytes: &[u8]) -> Result<Option<Apdu>, ReadFault>
     requires enough { missing_of bytes.now ≡ 0 }
     ensures { IsJudged bytes.now result }
 {
+    date_texts();
+    text_sizes();
     match decode(alloc, bytes) {
         Ok((apdu, _)) => Ok(Some(apdu)),
         Err(DerFault::OutOfMemory) => Err(ReadFault::OutOfMemory),

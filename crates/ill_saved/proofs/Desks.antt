@@ -8,8 +8,8 @@ use Rattle.ill_core.specs.declared.taking.Taking.{Taking}
 use Rattle.std.proofs.lemmas.List.{length-drop}
 use Rattle.ill_der.specs.declared.fault.DerFault.{DerFault}
 use Rattle.ill_der.specs.declared.fault.DerFault.TheVariants as der
-use Rattle.ill_der.specs.ShortForm.{apdu_at, Decodes}
-use Rattle.ill_der.proofs.ShortFormLaws.{apdu_memory}
+use Rattle.ill_der.specs.ShortForm.{Decodes}
+use Rattle.ill_der.specs.Laws.{BeginsWithOne}
 use Rattle.ill_core.specs.declared.requester.Wish.{Wish}
 use Rattle.ill_core.specs.declared.responder.Deed.{Deed}
 use Rattle.ill_values.specs.TxnId.{Qualifiers}
@@ -21,8 +21,6 @@ use Rattle.ill_core.specs.RequesterActions as requester_actions
 use Rattle.ill_core.specs.RequesterDeliveries as requester_deliveries
 use Rattle.ill_core.specs.ResponderActions as responder_actions
 use Rattle.ill_core.specs.ResponderDeliveries as responder_deliveries
-use Rattle.ill_core.proofs.RequesterLaws as requester
-use Rattle.ill_core.proofs.ResponderLaws as responder
 use Rattle.ill_saved.specs.declared.fault.DeskFault.TheVariants as faults
 use Rattle.ill_saved.specs.declared.fault.LayoutFault.{LayoutFault}
 use Rattle.ill_saved.specs.declared.side.Side.{Side}
@@ -33,16 +31,22 @@ use Rattle.ill_saved.specs.declared.store.StoreFault.{StoreFault}
 use Rattle.ill_saved.specs.declared.store.StoreFault.TheVariants as stores
 use Rattle.ill_saved.specs.declared.store.NextCall.{NextCall}
 use Rattle.ill_saved.specs.declared.store.NextCall.TheVariants as plans
-use Rattle.ill_saved.specs.Side.{issued_of, IsConsistent, idle_of, done_by, acts, takes, Acts, Takes, IsRow, IsFrontOf, acted, took, Follows, same, further}
-use Rattle.ill_saved.specs.Records.{record_spelling}
+use Rattle.ill_saved.specs.Side.{issued_of, IsConsistent, idle_of, done_by, acts, takes, Acts, Takes, IsRow, IsFrontOf, Grows, acted, took, Follows, same, further}
+use Rattle.ill_saved.specs.Records.{record_at, record_spelling}
 use Rattle.ill_saved.specs.Ranges.{IsSide}
 use Rattle.ill_saved.specs.Store.{LandsAtSave, Allows}
-use Rattle.ill_saved.proofs.RecordLaws.{side_again}
 use Rattle.ill_saved.specs.Desk.{landed_side, IsBackedBy, IsBackedByRead, IsBacked, IsOneApdu, LoadsSide, IsFoundOrIdle}
 
--- a row keeps the role and the transaction, and takes no message away
-abbrev pub Grows : Side → Side → Type 0
-Grows old new = (idle_of new ≡ idle_of old) × IsFrontOf (issued_of old) (issued_of new)
+-- What the laws of ill_core say of rows: they keep the transaction, and issue one APDU or none.
+pub record CoreRows : Type 0 where
+  pub wish_txn : (x new : RequesterRecord) (wish : Wish) → requester_actions.acts x wish ≡ Ok new → new.txn ≡ x.txn
+  pub wish_issues : (x new : RequesterRecord) (wish : Wish) → requester_actions.acts x wish ≡ Ok new → IssuesNext x.txn x.issued new.issued
+  pub deed_txn : (y new : ResponderRecord) (deed : Deed) (today : Date) → responder_actions.acts y deed today ≡ Ok new → new.txn ≡ y.txn
+  pub deed_issues : (y new : ResponderRecord) (deed : Deed) (today : Date) → responder_actions.acts y deed today ≡ Ok new → IssuesNext y.txn y.issued new.issued
+  pub requester_txn : (x : RequesterRecord) (a : Apdu) → (requester_deliveries.takes x a).1.txn ≡ x.txn
+  pub requester_issues : (x : RequesterRecord) (a : Apdu) → (requester_deliveries.takes x a).1.issued ≡ x.issued
+  pub responder_txn : (y : ResponderRecord) (a : Apdu) → (responder_deliveries.takes y a).1.txn ≡ y.txn
+  pub responder_issues : (y : ResponderRecord) (a : Apdu) → IssuesUnfilled y a.body (responder_deliveries.takes y a).1
 
 one_more : (apdus : List Apdu) (a : Apdu) → IsFrontOf apdus (apdus ++ a ∷ [])
 one_more apdus a = (a ∷ [], refl)
@@ -66,45 +70,49 @@ responder_grows y made txn more = (ap (λ t. idle_of (sides.Responder (record y 
 issues_more : (txn : Qualifiers) (old new : List Apdu) → IssuesNext txn old new → IsFrontOf old new
 issues_more txn old new more = subst (IsFrontOf old) (sym more.1) (one_more old _)
 
-wish_grows : (x made : RequesterRecord) (wish : Wish) → requester_actions.acts x wish ≡ Ok made → Grows (sides.Requester x) (sides.Requester made)
-wish_grows x made wish e = requester_grows x made (requester.acts_txn x made wish e) (issues_more x.txn x.issued made.issued (requester.acts_issue x made wish e))
+wish_grows : CoreRows → (x made : RequesterRecord) (wish : Wish) → requester_actions.acts x wish ≡ Ok made → Grows (sides.Requester x) (sides.Requester made)
+wish_grows rows x made wish e = requester_grows x made (rows.wish_txn x made wish e) (issues_more x.txn x.issued made.issued (rows.wish_issues x made wish e))
 
-deed_grows : (y made : ResponderRecord) (deed : Deed) (today : Date) → responder_actions.acts y deed today ≡ Ok made → Grows (sides.Responder y) (sides.Responder made)
-deed_grows y made deed today e =
-    responder_grows y made (responder.acts_txn y made deed today e) (issues_more y.txn y.issued made.issued (responder.acts_issue y made deed today e))
+deed_grows : CoreRows → (y made : ResponderRecord) (deed : Deed) (today : Date) → responder_actions.acts y deed today ≡ Ok made → Grows (sides.Responder y) (sides.Responder made)
+deed_grows rows y made deed today e =
+    responder_grows y made (rows.deed_txn y made deed today e) (issues_more y.txn y.issued made.issued (rows.deed_issues y made deed today e))
 
-acts_grow : (old new : Side) (action : Action) → acts old action ≡ Ok new → Grows old new
-acts_grow (sides.Requester x) new (actions.Wish wish) e =
+acts_grow : CoreRows → (old new : Side) (action : Action) → acts old action ≡ Ok new → Grows old new
+acts_grow rows (sides.Requester x) new (actions.Wish wish) e =
     let is = done_is sides.Requester (requester_actions.acts x wish) new e in
-    subst (Grows (sides.Requester x)) is.2 (wish_grows x is.0 wish is.1)
-acts_grow (sides.Responder y) new (actions.Deed deed today) e =
+    subst (Grows (sides.Requester x)) is.2 (wish_grows rows x is.0 wish is.1)
+acts_grow rows (sides.Responder y) new (actions.Deed deed today) e =
     let is = done_is sides.Responder (responder_actions.acts y deed today) new e in
-    subst (Grows (sides.Responder y)) is.2 (deed_grows y is.0 deed today is.1)
-acts_grow (sides.Requester x) new (actions.Deed deed today) e = search rules
-acts_grow (sides.Responder y) new (actions.Wish wish) e = search rules
+    subst (Grows (sides.Responder y)) is.2 (deed_grows rows y is.0 deed today is.1)
+acts_grow rows (sides.Requester x) new (actions.Deed deed today) e = search rules
+acts_grow rows (sides.Responder y) new (actions.Wish wish) e = search rules
 
 unfilled_grows : (y new : ResponderRecord) (a : Apdu) → IssuesUnfilled y a.body new → IsFrontOf y.issued new.issued
 unfilled_grows y new a (inl none) = none_more y.issued new.issued none
 unfilled_grows y new a (inr more) = subst (IsFrontOf y.issued) (sym more.1) (one_more y.issued _)
 
-takes_grow : (old : Side) (a : Apdu) → Grows old (takes old a).1
-takes_grow (sides.Requester x) a =
+takes_grow : CoreRows → (old : Side) (a : Apdu) → Grows old (takes old a).1
+takes_grow rows (sides.Requester x) a =
     let new = (requester_deliveries.takes x a).1 in
-    requester_grows x new (requester.takes_txn x a) (none_more x.issued new.issued (requester.takes_issue x a))
-takes_grow (sides.Responder y) a =
+    requester_grows x new (rows.requester_txn x a) (none_more x.issued new.issued (rows.requester_issues x a))
+takes_grow rows (sides.Responder y) a =
     let new = (responder_deliveries.takes y a).1 in
-    responder_grows y new (responder.takes_txn y a) (unfilled_grows y new a (responder.takes_issue y a))
+    responder_grows y new (rows.responder_txn y a) (unfilled_grows y new a (rows.responder_issues y a))
 
-pub row_grows : (old new : Side) → IsRow old new → Grows old new
-row_grows old new (acted action e) = acts_grow old new action e
-row_grows old new (took a e) = subst (Grows old) e (takes_grow old a)
+pub row_grows : CoreRows → (old new : Side) → IsRow old new → Grows old new
+row_grows rows old new (acted action e) = acts_grow rows old new action e
+row_grows rows old new (took a e) = subst (Grows old) e (takes_grow rows old a)
+
+-- every row grows, as the law says
+abbrev pub RowsGrow : Type 0
+RowsGrow = (old new : Side) → IsRow old new → Grows old new
 
 -- what a side has issued is the front of what a side that follows from it has issued
-pub follows_issues : (old new : Side) → Follows old new → IsFrontOf (issued_of old) (issued_of new)
-follows_issues old _ same = none_more (issued_of old) (issued_of old) refl
-follows_issues old _ (further between new follows row) =
-    let before = follows_issues old between follows in
-    let after = (row_grows between new row).1 in
+pub follows_issues : RowsGrow → (old new : Side) → Follows old new → IsFrontOf (issued_of old) (issued_of new)
+follows_issues grows old _ same = none_more (issued_of old) (issued_of old) refl
+follows_issues grows old _ (further between new follows row) =
+    let before = follows_issues grows old between follows in
+    let after = (grows between new row).1 in
     (before.0 ++ after.0, after.1 ∙ (ap (λ l. l ++ after.0) before.1 ∙ append_assoc (issued_of old) before.0 after.0))
 
 -- ---- what has landed backs the side after a row
@@ -114,41 +122,41 @@ read_backs (Ok side) old new released row backed =
     record { consistent = backed.consistent; follows = further old new backed.follows row; has-released = backed.has-released }
 read_backs (Err fault) old new released row backed = backed
 
-pub row_backs : (landed : Option (List ℕ)) (old new : Side) (released : ℕ) → IsRow old new → IsBacked landed old released → IsBacked landed new released
-row_backs None old new released row backed =
-    subst (λ side. IsBackedByRead (Ok side) new released) (sym (row_grows old new row).0) (read_backs (Ok (idle_of old)) old new released row backed)
-row_backs (Some bytes) old new released row backed = read_backs (landed_side (Some bytes) old) old new released row backed
+pub row_backs : RowsGrow → (landed : Option (List ℕ)) (old new : Side) (released : ℕ) → IsRow old new → IsBacked landed old released → IsBacked landed new released
+row_backs grows None old new released row backed =
+    subst (λ side. IsBackedByRead (Ok side) new released) (sym (grows old new row).0) (read_backs (Ok (idle_of old)) old new released row backed)
+row_backs grows (Some bytes) old new released row backed = read_backs (landed_side (Some bytes) old) old new released row backed
 
 -- the rules of a desk
 abbrev pub Kept : Bool → Option (List ℕ) → Side → ℕ → Type 0
 Kept honest landed live released = (released ≤ length (issued_of live)) × (honest ≡ true → IsBacked landed live released)
 
-pub row_kept : (honest : Bool) (landed : Option (List ℕ)) (old new : Side) (released : ℕ) → IsRow old new → Kept honest landed old released → Kept honest landed new released
-row_kept honest landed old new released row kept = (omega (arith, kept.0, no_less _ _ (row_grows old new row).1), λ is. row_backs landed old new released row (kept.1 is))
+pub row_kept : RowsGrow → (honest : Bool) (landed : Option (List ℕ)) (old new : Side) (released : ℕ) → IsRow old new → Kept honest landed old released → Kept honest landed new released
+row_kept grows honest landed old new released row kept = (omega (arith, kept.0, no_less _ _ (grows old new row).1), λ is. row_backs grows landed old new released row (kept.1 is))
 
 same_kept : (honest : Bool) (landed : Option (List ℕ)) (old new : Side) (released : ℕ) → new ≡ old → Kept honest landed old released → Kept honest landed new released
 same_kept honest landed old new released e kept = subst (λ side. Kept honest landed side released) (sym e) kept
 
-pub acts_kept : (honest : Bool) (landed : Option (List ℕ)) (old new : Side) (released : ℕ) (action : Action) (answer : Result (Unit {0}) Refusal)
+pub acts_kept : RowsGrow → (honest : Bool) (landed : Option (List ℕ)) (old new : Side) (released : ℕ) (action : Action) (answer : Result (Unit {0}) Refusal)
     → Acts old action answer new → Kept honest landed old released → Kept honest landed new released
-acts_kept honest landed old new released action (Ok done) acts kept = row_kept honest landed old new released (acted action acts) kept
-acts_kept honest landed old new released action (Err refusals.OutOfMemory) acts kept = same_kept honest landed old new released acts.1 kept
-acts_kept honest landed old new released action (Err refusal) acts kept = same_kept honest landed old new released acts.1 kept
+acts_kept grows honest landed old new released action (Ok done) acts kept = row_kept grows honest landed old new released (acted action acts) kept
+acts_kept grows honest landed old new released action (Err refusals.OutOfMemory) acts kept = same_kept honest landed old new released acts.1 kept
+acts_kept grows honest landed old new released action (Err refusal) acts kept = same_kept honest landed old new released acts.1 kept
 
-pub takes_kept : (honest : Bool) (landed : Option (List ℕ)) (old new : Side) (released : ℕ) (a : Apdu) (answer : Result Taking Refusal)
+pub takes_kept : RowsGrow → (honest : Bool) (landed : Option (List ℕ)) (old new : Side) (released : ℕ) (a : Apdu) (answer : Result Taking Refusal)
     → Takes old a answer new → Kept honest landed old released → Kept honest landed new released
-takes_kept honest landed old new released a (Err refusals.OutOfMemory) unchanged kept = same_kept honest landed old new released unchanged kept
-takes_kept honest landed old new released a answer takes kept =
-    row_kept honest landed old new released (took a (ap (λ (r : Result Taking Refusal × Side). r.1) takes)) kept
+takes_kept grows honest landed old new released a (Err refusals.OutOfMemory) takes kept = same_kept honest landed old new released takes.1 kept
+takes_kept grows honest landed old new released a answer takes kept =
+    row_kept grows honest landed old new released (took a (ap (λ (r : Result Taking Refusal × Side). r.1) takes)) kept
 
 -- ---- one APDU
 
 memory_is : (fault : DerFault) → ◌≡◌ {A = Result (Apdu × ℕ) DerFault} (Err der.OutOfMemory) (Err fault) → fault ≡ der.OutOfMemory
 memory_is fault e = search rules
 
-pub memory_alone : (bytes : List ℕ) (read : Result (Apdu × List ℕ) DerFault) → apdu_at bytes ≡ read → Decodes bytes read (Err der.OutOfMemory) → IsOneApdu read (Err faults.OutOfMemory)
-memory_alone bytes (Ok found) e decodes = tt
-memory_alone bytes (Err fault) e decodes = absurd (apdu_memory bytes (e ∙ ap Err (memory_is fault decodes)))
+pub memory_alone : (bytes : List ℕ) (read : Result (Apdu × List ℕ) DerFault) → BeginsWithOne bytes read → Decodes bytes read (Err der.OutOfMemory) → IsOneApdu read (Err faults.OutOfMemory)
+memory_alone bytes (Ok found) begins decodes = tt
+memory_alone bytes (Err fault) begins decodes = absurd (begins.0 (memory_is fault decodes))
 
 behind_one : (a : Apdu) (rest : List ℕ) → 1 ≤ length rest → IsOneApdu (Ok (a, rest)) (Err faults.Trailing)
 behind_one a [] more = absurd (omega (arith, more))
@@ -161,27 +169,31 @@ trailing_alone bytes (Err fault) found less decodes = search rules
 
 -- ---- saving
 
-saved_backs : (live : Side) (released : ℕ) → IsSide live → released ≤ length (issued_of live) → IsBacked (Some (record_spelling live)) live released
-saved_backs live released is few =
-    subst (λ read. IsBackedByRead read live released) (sym (side_again live is)) (record { consistent = is.0; follows = same; has-released = few })
+-- a side is read from its spelling, as the law says
+abbrev pub ReadsAgain : Type 0
+ReadsAgain = (side : Side) → IsSide side → record_at (record_spelling side) ≡ Ok side
 
-landed_backs : (bytes : List ℕ) (landed : Option (List ℕ)) (live : Side) (released : ℕ) → IsSide live → bytes ≡ record_spelling live → landed ≡ Some bytes → released ≤ length (issued_of live)
+saved_backs : ReadsAgain → (live : Side) (released : ℕ) → IsSide live → released ≤ length (issued_of live) → IsBacked (Some (record_spelling live)) live released
+saved_backs again live released is few =
+    subst (λ read. IsBackedByRead read live released) (sym (again live is)) (record { consistent = is.0; follows = same; has-released = few })
+
+landed_backs : ReadsAgain → (bytes : List ℕ) (landed : Option (List ℕ)) (live : Side) (released : ℕ) → IsSide live → bytes ≡ record_spelling live → landed ≡ Some bytes → released ≤ length (issued_of live)
     → IsBacked landed live released
-landed_backs bytes landed live released is spelled e few =
-    subst (λ o. IsBacked o live released) (sym (e ∙ ap Some spelled)) (saved_backs live released is few)
+landed_backs again bytes landed live released is spelled e few =
+    subst (λ o. IsBacked o live released) (sym (e ∙ ap Some spelled)) (saved_backs again live released is few)
 
 -- what was encoded has landed
-pub save_kept : (old_honest honest : Bool) (landed : Option (List ℕ)) (bytes : List ℕ) (live : Side) (count : ℕ) → honest ≡ old_honest → IsSide live → bytes ≡ record_spelling live
+pub save_kept : ReadsAgain → (old_honest honest : Bool) (landed : Option (List ℕ)) (bytes : List ℕ) (live : Side) (count : ℕ) → honest ≡ old_honest → IsSide live → bytes ≡ record_spelling live
     → (old_honest ≡ true → landed ≡ Some bytes) → count ≡ length (issued_of live) → Kept honest landed live count
-save_kept old_honest honest landed bytes live count stays is spelled lands all = (
+save_kept again old_honest honest landed bytes live count stays is spelled lands all = (
   omega (arith, all),
-  λ now. landed_backs bytes landed live count is spelled (lands (sym stays ∙ now)) (omega (arith, all)),
+  λ now. landed_backs again bytes landed live count is spelled (lands (sym stays ∙ now)) (omega (arith, all)),
 )
 
-either_backs : (old new : Option (List ℕ)) (bytes : List ℕ) (live : Side) (released : ℕ) → IsSide live → bytes ≡ record_spelling live → released ≤ length (issued_of live)
+either_backs : ReadsAgain → (old new : Option (List ℕ)) (bytes : List ℕ) (live : Side) (released : ℕ) → IsSide live → bytes ≡ record_spelling live → released ≤ length (issued_of live)
     → IsBacked old live released → (new ≡ old) ⊎ (new ≡ Some bytes) → IsBacked new live released
-either_backs old new bytes live released is spelled few backed (inl e) = subst (λ o. IsBacked o live released) (sym e) backed
-either_backs old new bytes live released is spelled few backed (inr e) = landed_backs bytes new live released is spelled e few
+either_backs again old new bytes live released is spelled few backed (inl e) = subst (λ o. IsBacked o live released) (sym e) backed
+either_backs again old new bytes live released is spelled few backed (inr e) = landed_backs again bytes new live released is spelled e few
 
 old_or_new : (plan : Option NextCall) (bytes : List ℕ) (fault : StoreFault) (old new : Option (List ℕ)) → LandsAtSave plan bytes (Err fault) old new → (new ≡ old) ⊎ (new ≡ Some bytes)
 old_or_new (Some plans.FailsOld) bytes stores.Failed old new lands = inl lands
@@ -192,13 +204,13 @@ old_or_new plan bytes stores.TooLarge old new lands = absurd lands
 old_or_new plan bytes stores.OutOfMemory old new lands = inl lands
 
 -- the old record or the new one has landed
-pub fault_kept : (old_honest honest : Bool) (plan : Option NextCall) (old new : Option (List ℕ)) (bytes : List ℕ) (live : Side) (released : ℕ) (fault : StoreFault) → honest ≡ old_honest
+pub fault_kept : ReadsAgain → (old_honest honest : Bool) (plan : Option NextCall) (old new : Option (List ℕ)) (bytes : List ℕ) (live : Side) (released : ℕ) (fault : StoreFault) → honest ≡ old_honest
     → IsSide live → bytes ≡ record_spelling live → (old_honest ≡ true → LandsAtSave plan bytes (Err fault) old new) → Kept old_honest old live released → Kept honest new live released
-fault_kept old_honest honest plan old new bytes live released fault stays is spelled lands kept = (
+fault_kept again old_honest honest plan old new bytes live released fault stays is spelled lands kept = (
   kept.0,
   λ now.
       let was = sym stays ∙ now in
-      either_backs old new bytes live released is spelled kept.0 (kept.1 was) (old_or_new plan bytes fault old new (lands was)),
+      either_backs again old new bytes live released is spelled kept.0 (kept.1 was) (old_or_new plan bytes fault old new (lands was)),
 )
 
 -- ---- loading

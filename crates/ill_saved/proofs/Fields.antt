@@ -1,24 +1,21 @@
 -- The laws of a description of fields: what is read is spelled so, and what is spelled is read again. They are kept by
 -- each way to make a description of others.
 use Rattle.std.proofs.Common.{◌≡◌, ℕ, zero, suc, ◌+◌, ◌<◌, ◌≤◌, Bool, true, false, cond, ◌&&◌, eqb, leb, ltb, List, [], ◌∷◌, ◌++◌, length, take, drop, Option, Some, None, Result, Ok, Err, refl, sym, ap, subst, ◌∙◌, inl, inr, append_assoc, length-append, arith, rules}
-use Rattle.std.specs.Prelude.{IfSome}
-use Rattle.std.specs.List.{list_all}
+use Rattle.std.specs.Prelude.{IfSome, is_ok}
 use Rattle.std.proofs.lemmas.Bool.{eqb-true, eq-eqb, leb-true, le-leb, and_parts, ltb-false, le-ltb}
 use Rattle.std.proofs.lemmas.List.{take_at, drop_at, take-append-drop, length-take-le}
+use Rattle.std.proofs.lemmas.Option.{same_Some, cond_some}
 use Rattle.ill_values.specs.declared.apdu.Apdu.{Apdu}
-use Rattle.ill_values.specs.declared.fault.TextFault.TheVariants.{Empty}
+use Rattle.ill_values.specs.declared.fault.TextFault.{TextFault}
 use Rattle.ill_values.specs.Apdu.{IsApdu, IsNumber}
-use Rattle.ill_values.specs.Text.{IsQualifier, is_printable, text_check}
+use Rattle.ill_values.specs.Day.{Date, IsDate, date_text, read_date}
+use Rattle.ill_values.specs.Text.{IsQualifier, qualifier_check}
 use Rattle.ill_der.specs.declared.fault.DerFault.{DerFault}
 use Rattle.ill_der.specs.declared.fault.DerFault.TheVariants as der
 use Rattle.ill_der.specs.Contents.{Contents, qualifier}
 use Rattle.ill_der.specs.Format.{◌>>=◌, Left, left_at}
 use Rattle.ill_der.specs.ShortForm.{spelling, apdu_at}
-use Rattle.ill_der.specs.Laws.{IsBytes}
-use Rattle.ill_der.proofs.Bytes.{IsBytes-take, IsBytes-rest}
-use Rattle.ill_der.proofs.Chains.{bind_ok, passed, went_on, chosen, ok_is, some_is}
-use Rattle.ill_der.proofs.ContentsLaws.{qualifier_is, some_passed, text_bound, no_fault, found_with}
-use Rattle.ill_der.proofs.ShortFormLaws.{apdu_takes, apdu_again}
+use Rattle.ill_der.specs.Laws.{IsBytes, BeginsWithOne}
 use Rattle.ill_core.specs.declared.state.State.{State}
 use Rattle.ill_core.specs.Bodies.{is_ill_request}
 use Rattle.ill_saved.specs.declared.fault.LayoutFault.{LayoutFault}
@@ -26,6 +23,16 @@ use Rattle.ill_saved.specs.declared.fault.LayoutFault.TheVariants.{Short, Bad}
 use Rattle.ill_saved.specs.Layout.{Field, bytes_at, value_at, sized, one_octet, octet, followed_by, constant, count, number_octet, optional_number, mark, text_size, counted_text, apdu_by, apdu, ill_request, marked, spell_all, read_all, counted}
 use Rattle.ill_saved.specs.Records.{state_code, state_with, state_in}
 use Rattle.ill_saved.specs.Ranges.{Each}
+use Rattle.ill_saved.proofs.Steps.{bind_ok, passed, went_on, chosen, ok_is, found_with, IsBytes-take, IsBytes-rest}
+
+-- What the laws of the crates below say: a day is read from its text alone, a qualifier has 1 to 64
+-- bytes, and an APDU is read from its spelling alone.
+pub record Below : Type 0 where
+  pub day_spelled : (d : Date) → IsDate d → read_date (date_text d) ≡ Ok d
+  pub day_read : (text : List ℕ) (d : Date) → read_date text ≡ Ok d → IsDate d × (text ≡ date_text d)
+  pub text_size : (text : List ℕ) → IsQualifier text → (1 ≤ length text) × (length text ≤ 64)
+  pub apdu_again : (a : Apdu) (rest : List ℕ) → IsApdu a → apdu_at (spelling a ++ rest) ≡ Ok (a, rest)
+  pub apdu_or_fault : (bytes : List ℕ) → IsBytes bytes → BeginsWithOne bytes (apdu_at bytes)
 
 -- a spelled value is read again, from whatever place
 abbrev pub ReadsAgain : {V : Type 0} → Field V → V → ℕ → List ℕ → Type 0
@@ -97,13 +104,13 @@ abbrev pub Any : {V : Type 0} → V → Type 0
 Any v = Unit {0}
 
 constant_takes : (wanted n : ℕ) (v : Unit {0}) → n < 256 → cond (eqb n wanted) (Some tt) None ≡ Some v → (n ≡ wanted) × Any v
-constant_takes wanted n v small e = (eqb-true n wanted (some_passed (eqb n wanted) tt v e).0, tt)
+constant_takes wanted n v small e = (eqb-true n wanted (cond_some (eqb n wanted) tt v e).0, tt)
 
 pub constant_is : (n : ℕ) → IsField Any (constant n)
 constant_is n = octet_is Any (λ _. n) (λ m. cond (eqb m n) (Some tt) None) (constant_takes n) (λ v p. rw (eq-eqb n n refl) refl)
 
 pub count_is : IsField (λ n. n < 256) count
-count_is = octet_is (λ n. n < 256) (λ n. n) Some (λ n v small e. (some_is n v e, subst (λ m. m < 256) (some_is n v e) small)) (λ v p. refl)
+count_is = octet_is (λ n. n < 256) (λ n. n) Some (λ n v small e. (same_Some n v e, subst (λ m. m < 256) (same_Some n v e) small)) (λ v p. refl)
 
 number_takes : (n : ℕ) (o : Option ℕ) → n < 256 → Some (cond (eqb n 0) None (Some n)) ≡ Some o → (n ≡ number_octet o) × IfSome o IsNumber
 number_takes n o small e = search rules
@@ -118,9 +125,9 @@ optional_number_is = octet_is (λ o. IfSome o IsNumber) number_octet (λ n. Some
 mark_takes : (n : ℕ) (b : Bool) → n < 256 → cond (eqb n 0) (Some false) (cond (eqb n 1) (Some true) None) ≡ Some b → (n ≡ cond b 1 0) × Any b
 mark_takes n b small e =
     elim (chosen (eqb n 0) (Some false) (cond (eqb n 1) (Some true) None) (Some b) e) [
-      | inl h ↦ subst (λ (x : Bool). (n ≡ cond x 1 0) × Any x) (some_is false b h.1) (eqb-true n 0 h.0, tt)
+      | inl h ↦ subst (λ (x : Bool). (n ≡ cond x 1 0) × Any x) (same_Some false b h.1) (eqb-true n 0 h.0, tt)
       | inr h ↦
-          let is = some_passed (eqb n 1) true b h.1 in
+          let is = cond_some (eqb n 1) true b h.1 in
           subst (λ (x : Bool). (n ≡ cond x 1 0) × Any x) is.1 (eqb-true n 1 is.0, tt)
     ]
 
@@ -136,7 +143,7 @@ IsTextSize n = (1 ≤ n) × (n ≤ 64)
 
 text_size_takes : (n v : ℕ) → n < 256 → cond (leb 1 n && leb n 64) (Some n) None ≡ Some v → (n ≡ v) × IsTextSize v
 text_size_takes n v small e =
-    let is = some_passed (leb 1 n && leb n 64) n v e in
+    let is = cond_some (leb 1 n && leb n 64) n v e in
     let range = and_parts (leb 1 n) (leb n 64) is.0 in
     subst (λ (x : ℕ). (n ≡ x) × IsTextSize x) is.1 (refl, (leb-true 1 n range.0, leb-true n 64 range.1))
 
@@ -184,17 +191,17 @@ followed_is P Q f g fs gs = record { takes = followed_takes P Q f g fs gs; again
 
 -- ---- a qualifier behind its length
 
+checked : (r : Result (Unit {0}) TextFault) → is_ok r ≡ true → r ≡ Ok tt
+checked (Ok x) e = refl
+checked (Err f) e = absurd cc
+
 qualifier_sized : (n : ℕ) → IsSized (λ text. IsQualifier text × (length text ≡ n)) n qualifier
 qualifier_sized n = record {
   takes = λ bytes v fits size e.
-      let is = qualifier_is.takes bytes v fits e in
-      (is.0, (is.1, ap length (sym is.0) ∙ size));
-  again = λ v p. (qualifier_is.again v p.0, p.1);
+      let is = cond_some (is_ok (qualifier_check bytes)) bytes v e in
+      (is.1, (subst IsQualifier is.1 (checked (qualifier_check bytes) is.0), ap length (sym is.1) ∙ size));
+  again = λ v p. (rw p.0 refl, p.1);
 }
-
-not_empty : (most : ℕ) (passes : List ℕ → Bool) (text : List ℕ) → text_check most passes text ≡ Ok tt → 1 ≤ length text
-not_empty most passes [] e = absurd (no_fault Empty e)
-not_empty most passes (byte ∷ text) e = omega arith
 
 text_takes : (left : Left) (v : List ℕ) (rest : Left) → IsBytes left.bytes → counted_text.read left ≡ Ok (v, rest) → Takes counted_text IsQualifier left.bytes v rest.bytes
 text_takes left v rest fits e =
@@ -203,14 +210,14 @@ text_takes left v rest fits e =
     let second = (sized_is _ size.0.0 qualifier (qualifier_sized size.0.0)).takes size.0.1 v rest (rest_fits IsTextSize text_size text_size_is left size.0.0 size.0.1 fits size.1) size.2 in
     (first.0 ∙ ap (λ (x : List ℕ). size.0.0 ∷ x) second.0 ∙ ap (λ (n : ℕ). n ∷ (v ++ rest.bytes)) (sym second.1.1), second.1.0)
 
-text_again : (v : List ℕ) (at : ℕ) (more : List ℕ) → IsQualifier v → ReadsAgain counted_text v at more
-text_again v at more p =
-    let size = text_size_is.again (length v) at (v ++ more) (not_empty 64 (list_all is_printable) v p, text_bound 64 (list_all is_printable) v p) in
+text_again : Below → (v : List ℕ) (at : ℕ) (more : List ℕ) → IsQualifier v → ReadsAgain counted_text v at more
+text_again below v at more p =
+    let size = text_size_is.again (length v) at (v ++ more) (below.text_size v p) in
     let text = (sized_is _ (length v) qualifier (qualifier_sized (length v))).again v size.0 more (p, refl) in
     (text.0, rw (size.1, text.1) refl)
 
-pub counted_text_is : IsField IsQualifier counted_text
-counted_text_is = record { takes = text_takes; again = text_again }
+pub counted_text_is : Below → IsField IsQualifier counted_text
+counted_text_is below = record { takes = text_takes; again = text_again below }
 
 -- ---- APDUs
 
@@ -224,32 +231,32 @@ apdu_found left (Err (der.Length at)) v rest e = absurd cc
 apdu_found left (Err (der.Field at)) v rest e = absurd cc
 apdu_found left (Err der.OutOfMemory) v rest e = absurd cc
 
-one_taken : (left : Left) (v : Apdu) (rest : Left) → IsBytes left.bytes → apdu.read left ≡ Ok (v, rest) → Takes apdu IsApdu left.bytes v rest.bytes
-one_taken left v rest fits e =
-    let is = apdu_takes left.bytes v rest.bytes fits (apdu_found left (apdu_at left.bytes) v rest e) in
-    (is.1, is.0)
+one_taken : Below → (left : Left) (v : Apdu) (rest : Left) → IsBytes left.bytes → apdu.read left ≡ Ok (v, rest) → Takes apdu IsApdu left.bytes v rest.bytes
+one_taken below left v rest fits e =
+    let is = subst (BeginsWithOne left.bytes) (apdu_found left (apdu_at left.bytes) v rest e) (below.apdu_or_fault left.bytes fits) in
+    (is.0.1, is.0.0)
 
-pub apdu_is : IsField IsApdu apdu
-apdu_is = record { takes = one_taken; again = λ v at more p. (_, ap (apdu_by (left_at at (spelling v ++ more))) (apdu_again v more p)) }
+pub apdu_is : Below → IsField IsApdu apdu
+apdu_is below = record { takes = one_taken below; again = λ v at more p. (_, ap (apdu_by (left_at at (spelling v ++ more))) (below.apdu_again v more p)) }
 
 abbrev pub IsRequest : Apdu → Type 0
 IsRequest a = IsApdu a × (is_ill_request a.body ≡ true)
 
-request_takes : (left : Left) (v : Apdu) (rest : Left) → IsBytes left.bytes → ill_request.read left ≡ Ok (v, rest) → Takes ill_request IsRequest left.bytes v rest.bytes
-request_takes left v rest fits e =
+request_takes : Below → (left : Left) (v : Apdu) (rest : Left) → IsBytes left.bytes → ill_request.read left ≡ Ok (v, rest) → Takes ill_request IsRequest left.bytes v rest.bytes
+request_takes below left v rest fits e =
     let found = bind_ok (apdu.read left) (λ found. cond (is_ill_request found.0.body) (Ok found) (Err (Bad left.at))) (v, rest) e in
     let is = passed (is_ill_request found.0.0.body) (Ok found.0) (Bad left.at) (v, rest) found.2 in
     let both : found.0 ≡ (v, rest) = ok_is found.0 (v, rest) is.1 in
-    let taken = apdu_is.takes left v rest fits (found.1 ∙ ap Ok both) in
+    let taken = (apdu_is below).takes left v rest fits (found.1 ∙ ap Ok both) in
     (taken.0, (taken.1, ap (λ (x : Apdu × Left). is_ill_request x.0.body) (sym both) ∙ is.0))
 
-request_again : (v : Apdu) (at : ℕ) (more : List ℕ) → IsRequest v → ReadsAgain ill_request v at more
-request_again v at more p =
-    let read = apdu_is.again v at more p.0 in
+request_again : Below → (v : Apdu) (at : ℕ) (more : List ℕ) → IsRequest v → ReadsAgain ill_request v at more
+request_again below v at more p =
+    let read = (apdu_is below).again v at more p.0 in
     (read.0, rw (read.1, p.1) refl)
 
-pub ill_request_is : IsField IsRequest ill_request
-ill_request_is = record { takes = request_takes; again = request_again }
+pub ill_request_is : Below → IsField IsRequest ill_request
+ill_request_is below = record { takes = request_takes below; again = request_again below }
 
 -- ---- a field behind a mark
 

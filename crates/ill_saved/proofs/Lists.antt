@@ -7,8 +7,7 @@ use Rattle.ill_saved.specs.declared.fault.RecordFault.{RecordFault}
 use Rattle.ill_saved.specs.declared.fault.RecordFault.TheVariants as faults
 use Rattle.ill_saved.specs.Layout.{Field, read_all, spell_all, ReadsInMemory}
 use Rattle.std.proofs.Math.ListN.{get_or}
-use Rattle.std.proofs.lemmas.List.{at_drop_all}
-use Rattle.ill_core.proofs.IssuedLemmas.{front_at}
+use Rattle.std.proofs.lemmas.List.{at_drop_all, drop_more}
 use Rattle.ill_saved.specs.Ranges.{Each}
 
 -- further values behind those that were read
@@ -74,7 +73,7 @@ all_spelled spell bytes values i all =
 pub one_spelled : {V : Type 0} (spell : V → List ℕ) (bytes : List ℕ) (values : List V) (i : ℕ) (v : V) → i < length values → v ≡ get_or values i v
     → (bytes ++ spell v) ++ spell_all spell (drop (i + 1) values) ≡ bytes ++ spell_all spell (drop i values)
 one_spelled spell bytes values i v within there =
-    let front : drop i values ≡ v ∷ drop (i + 1) values = front_at values i v within ∙ ap (λ x. x ∷ drop (i + 1) values) (sym there) in
+    let front : drop i values ≡ v ∷ drop (i + 1) values = drop_more values i v within ∙ ap (λ x. x ∷ drop (i + 1) values) (sym there) in
     append_assoc bytes (spell v) (spell_all spell (drop (i + 1) values))
     ∙ ap (λ t. bytes ++ t) (sym (spell_more spell v (drop (i + 1) values)) ∙ ap (spell_all spell) (sym front))
 
@@ -82,7 +81,7 @@ one_spelled spell bytes values i v within there =
 pub one_each : {V : Type 0} (P : V → Type 0) (values : List V) (i : ℕ) (v : V) → i < length values → v ≡ get_or values i v → P v → Each P (drop (i + 1) values) → Each P (drop i values)
 unfolding Each
 one_each P values i v within there is others =
-    let front : drop i values ≡ v ∷ drop (i + 1) values = front_at values i v within ∙ ap (λ x. x ∷ drop (i + 1) values) (sym there) in
+    let front : drop i values ≡ v ∷ drop (i + 1) values = drop_more values i v within ∙ ap (λ x. x ∷ drop (i + 1) values) (sym there) in
     subst (Each P) (sym front) (is, others)
 
 -- behind the last there is none

@@ -1,21 +1,20 @@
 -- The laws of saved records: what is read is spelled so, and what is spelled is read again.
-use Rattle.std.proofs.Common.{◌≡◌, ℕ, Bool, true, false, List, [], ◌∷◌, ◌++◌, length, Option, Some, None, Ok, refl, sym, ap, subst, ◌∙◌, inl, inr, append-nil, eqb, arith, rules}
+use Rattle.std.proofs.Common.{◌≡◌, ℕ, Bool, true, false, List, [], ◌∷◌, ◌++◌, length, Option, Some, None, Result, Ok, Err, refl, sym, ap, subst, ◌∙◌, inl, inr, append-nil, eqb, arith, rules}
 use Rattle.std.specs.Prelude.{IfSome}
 use Rattle.std.specs.Str.{bytes_eq}
 use Rattle.std.specs.Result.{result_ok}
 use Rattle.std.proofs.lemmas.Bool.{eqb-true, and_parts}
 use Rattle.std.proofs.lemmas.List.{nil_from_length}
+use Rattle.std.proofs.lemmas.Option.{same_Some}
 use Rattle.std.proofs.lemmas.Slice.Eq.{bytes_eq-Decides}
 use Rattle.ill_values.specs.declared.apdu.Apdu.{Apdu}
 use Rattle.ill_values.specs.Day.{Date, IsDate, date_text, read_date}
 use Rattle.ill_values.specs.Apdu.{IsApdu, IsNumber}
 use Rattle.ill_values.specs.Text.{IsQualifier}
 use Rattle.ill_values.specs.TxnId.{Qualifiers}
-use Rattle.ill_values.proofs.Dates.{date_again}
+use Rattle.ill_values.specs.declared.fault.DayFault.{DayFault}
 use Rattle.ill_der.specs.Format.{◌>>=◌, Left, left_at}
 use Rattle.ill_der.specs.Laws.{IsBytes}
-use Rattle.ill_der.proofs.Chains.{bind_ok, chosen, passed, ok_is, some_is}
-use Rattle.ill_der.proofs.ContentsLaws.{date_is}
 use Rattle.ill_core.specs.declared.state.State.{State}
 use Rattle.ill_core.specs.declared.state.State.TheVariants.{Idle, Pending, InProcess, Received, NotReceivedOverdue, CheckedIn}
 use Rattle.ill_core.specs.State.{is_among}
@@ -28,21 +27,27 @@ use Rattle.ill_saved.specs.declared.side.Side.TheVariants as sides
 use Rattle.ill_saved.specs.Layout.{ended, apdu, ill_request, marked, counted, counted_text, optional_number, mark, constant, followed_by}
 use Rattle.ill_saved.specs.Records.{no_date, due_text, due_from, found_date, due, front, requester_states, responder_states, requester_rest, responder_rest, requester_fields, responder_fields, version, start, spell_start, is_responder, spell_fields, record_spelling, read_requester, read_responder, read_fields, side_at, record_at, state_in}
 use Rattle.ill_saved.specs.Ranges.{IsInRange, IsSide}
-use Rattle.ill_saved.proofs.Fields.{IsField, Any, Both, Counted, IsAmong, IsRequest, rest_fits, sized_is, constant_is, optional_number_is, mark_is, state_is, followed_is, counted_text_is, apdu_is, ill_request_is, marked_is, counted_is}
+use Rattle.ill_saved.proofs.Steps.{bind_ok, chosen, passed, ok_is}
+use Rattle.ill_saved.proofs.Fields.{Below, IsField, Any, Both, Counted, IsAmong, IsRequest, rest_fits, sized_is, constant_is, optional_number_is, mark_is, state_is, followed_is, counted_text_is, apdu_is, ill_request_is, marked_is, counted_is}
 
 -- ---- due dates
 
 found_is : (o : Option Date) (v : Option Date) → found_date o ≡ Some v → (d : Date) × (o ≡ Some d) × (Some d ≡ v)
 found_is None v e = absurd cc
-found_is (Some d) v e = (d, refl, some_is (Some d) v e)
+found_is (Some d) v e = (d, refl, same_Some (Some d) v e)
 
-due_takes : (bytes : List ℕ) (o : Option Date) → IsBytes bytes → length bytes ≡ 8 → due_from bytes ≡ Some o → (bytes ≡ due_text o) × IfSome o IsDate
-due_takes bytes o fits size e =
+day_found : (r : Result Date DayFault) (d : Date) → result_ok r ≡ Some d → r ≡ Ok d
+day_found (Ok x) d e = ap Ok (same_Some x d e)
+day_found (Err f) d e = absurd cc
+
+due_takes : Below → (bytes : List ℕ) (o : Option Date) → IsBytes bytes → length bytes ≡ 8 → due_from bytes ≡ Some o → (bytes ≡ due_text o) × IfSome o IsDate
+due_takes below bytes o fits size e =
     elim (chosen (bytes_eq bytes no_date) (Some None) (found_date (result_ok (read_date bytes))) (Some o) e) [
-      | inl h ↦ subst (λ (x : Option Date). (bytes ≡ due_text x) × IfSome x IsDate) (some_is None o h.1) ((bytes_eq-Decides bytes no_date).0 h.0, tt)
+      | inl h ↦ subst (λ (x : Option Date). (bytes ≡ due_text x) × IfSome x IsDate) (same_Some None o h.1) ((bytes_eq-Decides bytes no_date).0 h.0, tt)
       | inr h ↦
           let found = found_is (result_ok (read_date bytes)) o h.1 in
-          subst (λ (x : Option Date). (bytes ≡ due_text x) × IfSome x IsDate) found.2 (date_is.takes bytes found.0 fits found.1)
+          let is = below.day_read bytes found.0 (day_found (read_date bytes) found.0 found.1) in
+          subst (λ (x : Option Date). (bytes ≡ due_text x) × IfSome x IsDate) found.2 (is.1, is.0)
     ]
 
 no_zero_date : (d : Date) → read_date (date_text d) ≡ Ok d → date_text d ≡ no_date → ⊥
@@ -52,24 +57,24 @@ another_text : (d : Date) (b : Bool) → read_date (date_text d) ≡ Ok d → by
 another_text d true again is = absurd (no_zero_date d again ((bytes_eq-Decides (date_text d) no_date).0 is))
 another_text d false again is = refl
 
-due_again : (o : Option Date) → IfSome o IsDate → (due_from (due_text o) ≡ Some o) × (length (due_text o) ≡ 8)
-due_again None p = (refl, refl)
-due_again (Some d) p =
-    let again = date_again d p in
+due_again : Below → (o : Option Date) → IfSome o IsDate → (due_from (due_text o) ≡ Some o) × (length (due_text o) ≡ 8)
+due_again below None p = (refl, refl)
+due_again below (Some d) p =
+    let again = below.day_spelled d p in
     (rw (another_text d (bytes_eq (date_text d) no_date) again refl, again) refl, refl)
 
-due_is : IsField (λ o. IfSome o IsDate) due
-due_is = sized_is (λ o. IfSome o IsDate) 8 _ (record { takes = due_takes; again = due_again })
+due_is : Below → IsField (λ o. IfSome o IsDate) due
+due_is below = sized_is (λ o. IfSome o IsDate) 8 _ (record { takes = due_takes below; again = due_again below })
 
 -- ---- whole records
 
 abbrev FrontParts : List State → State × (List ℕ × List ℕ) → Type 0
 FrontParts states = Both (IsAmong states) (Both IsQualifier IsQualifier)
 
-front_is : (states : List State) → IsField (FrontParts states) (front states)
-front_is states =
+front_is : Below → (states : List State) → IsField (FrontParts states) (front states)
+front_is below states =
     followed_is (IsAmong states) (Both IsQualifier IsQualifier) (state_in states) (followed_by counted_text counted_text) (state_is states)
-    (followed_is IsQualifier IsQualifier counted_text counted_text counted_text_is counted_text_is)
+    (followed_is IsQualifier IsQualifier counted_text counted_text (counted_text_is below) (counted_text_is below))
 
 abbrev IsOptionalNumber : Option ℕ → Type 0
 IsOptionalNumber o = IfSome o IsNumber
@@ -77,12 +82,12 @@ IsOptionalNumber o = IfSome o IsNumber
 abbrev RequesterRest : Option ℕ × (Bool × (Option Date × List Apdu)) → Type 0
 RequesterRest = Both IsOptionalNumber (Both Any (Both (λ o. IfSome o IsDate) (Counted IsApdu)))
 
-requester_fields_is : IsField (Both (FrontParts requester_states) RequesterRest) requester_fields
-requester_fields_is =
-    followed_is (FrontParts requester_states) RequesterRest (front requester_states) requester_rest (front_is requester_states)
+requester_fields_is : Below → IsField (Both (FrontParts requester_states) RequesterRest) requester_fields
+requester_fields_is below =
+    followed_is (FrontParts requester_states) RequesterRest (front requester_states) requester_rest (front_is below requester_states)
     (followed_is IsOptionalNumber (Both Any (Both (λ o. IfSome o IsDate) (Counted IsApdu))) optional_number (followed_by mark (followed_by due (counted apdu))) optional_number_is
     (followed_is Any (Both (λ o. IfSome o IsDate) (Counted IsApdu)) mark (followed_by due (counted apdu)) mark_is
-    (followed_is (λ o. IfSome o IsDate) (Counted IsApdu) due (counted apdu) due_is (counted_is IsApdu apdu apdu_is))))
+    (followed_is (λ o. IfSome o IsDate) (Counted IsApdu) due (counted apdu) (due_is below) (counted_is IsApdu apdu (apdu_is below)))))
 
 abbrev RequestAndIssued : Option Apdu × List Apdu → Type 0
 RequestAndIssued = Both (λ o. IfSome o IsRequest) (Counted IsApdu)
@@ -90,14 +95,14 @@ RequestAndIssued = Both (λ o. IfSome o IsRequest) (Counted IsApdu)
 abbrev ResponderRest : Option ℕ × (Option ℕ × (Option ℕ × (Bool × (Option Apdu × List Apdu)))) → Type 0
 ResponderRest = Both IsOptionalNumber (Both IsOptionalNumber (Both IsOptionalNumber (Both Any RequestAndIssued)))
 
-responder_fields_is : IsField (Both (FrontParts responder_states) ResponderRest) responder_fields
-responder_fields_is =
-    followed_is (FrontParts responder_states) ResponderRest (front responder_states) responder_rest (front_is responder_states)
+responder_fields_is : Below → IsField (Both (FrontParts responder_states) ResponderRest) responder_fields
+responder_fields_is below =
+    followed_is (FrontParts responder_states) ResponderRest (front responder_states) responder_rest (front_is below responder_states)
     (followed_is IsOptionalNumber _ optional_number _ optional_number_is
     (followed_is IsOptionalNumber _ optional_number _ optional_number_is
     (followed_is IsOptionalNumber _ optional_number _ optional_number_is
     (followed_is Any _ mark _ mark_is
-    (followed_is (λ o. IfSome o IsRequest) (Counted IsApdu) (marked ill_request) (counted apdu) (marked_is IsRequest ill_request ill_request_is) (counted_is IsApdu apdu apdu_is))))))
+    (followed_is (λ o. IfSome o IsRequest) (Counted IsApdu) (marked ill_request) (counted apdu) (marked_is IsRequest ill_request (ill_request_is below)) (counted_is IsApdu apdu (apdu_is below)))))))
 
 version_is : IsField (Both Any (Both Any (Both Any Any))) version
 version_is =
@@ -119,11 +124,11 @@ request_is txn (Some a) of p = (p, (and_parts (is_same_txn a.txn txn) (is_ill_re
 abbrev ReadsSide : Bool → Left → Side → Left → Type 0
 ReadsSide b left side rest = (is_responder side ≡ b) × (left.bytes ≡ spell_fields side ++ rest.bytes) × IsInRange side
 
-requester_takes : (left : Left) (side : Side) (rest : Left) → IsBytes left.bytes → read_requester left ≡ Ok (side, rest) → ReadsSide false left side rest
-requester_takes left side rest fits e =
+requester_takes : Below → (left : Left) (side : Side) (rest : Left) → IsBytes left.bytes → read_requester left ≡ Ok (side, rest) → ReadsSide false left side rest
+requester_takes below left side rest fits e =
     let fields = bind_ok (requester_fields.read left) _ (side, rest) e in
     let both = ok_is _ (side, rest) fields.2 in
-    let is = requester_fields_is.takes left fields.0.0 fields.0.1 fits fields.1 in
+    let is = (requester_fields_is below).takes left fields.0.0 fields.0.1 fits fields.1 in
     subst (λ (x : Side × Left). ReadsSide false left x.0 x.1) both (
       refl,
       is.0,
@@ -138,11 +143,11 @@ requester_takes left side rest fits e =
       },
     )
 
-responder_takes : (left : Left) (side : Side) (rest : Left) → IsBytes left.bytes → read_responder left ≡ Ok (side, rest) → ReadsSide true left side rest
-responder_takes left side rest fits e =
+responder_takes : Below → (left : Left) (side : Side) (rest : Left) → IsBytes left.bytes → read_responder left ≡ Ok (side, rest) → ReadsSide true left side rest
+responder_takes below left side rest fits e =
     let fields = bind_ok (responder_fields.read left) _ (side, rest) e in
     let both = ok_is _ (side, rest) fields.2 in
-    let is = responder_fields_is.takes left fields.0.0 fields.0.1 fits fields.1 in
+    let is = (responder_fields_is below).takes left fields.0.0 fields.0.1 fits fields.1 in
     subst (λ (x : Side × Left). ReadsSide true left x.0 x.1) both (
       refl,
       is.0,
@@ -159,23 +164,23 @@ responder_takes left side rest fits e =
       },
     )
 
-fields_take : (b : Bool) (left : Left) (side : Side) (rest : Left) → IsBytes left.bytes → read_fields b left ≡ Ok (side, rest) → ReadsSide b left side rest
-fields_take true left side rest fits e = responder_takes left side rest fits e
-fields_take false left side rest fits e = requester_takes left side rest fits e
+fields_take : Below → (b : Bool) (left : Left) (side : Side) (rest : Left) → IsBytes left.bytes → read_fields b left ≡ Ok (side, rest) → ReadsSide b left side rest
+fields_take below true left side rest fits e = responder_takes below left side rest fits e
+fields_take below false left side rest fits e = requester_takes below left side rest fits e
 
 ends : (left : Left) (x : Unit {0}) → ended left ≡ Ok x → left.bytes ≡ []
 ends left x e = nil_from_length left.bytes (eqb-true (length left.bytes) 0 (passed (eqb (length left.bytes) 0) (Ok tt) (Bad left.at) x e).0)
 
-pub side_takes : (bytes : List ℕ) (side : Side) → IsBytes bytes → record_at bytes ≡ Ok side → (bytes ≡ record_spelling side) × IsInRange side
+pub side_takes : Below → (bytes : List ℕ) (side : Side) → IsBytes bytes → record_at bytes ≡ Ok side → (bytes ≡ record_spelling side) × IsInRange side
 unfolding record_at record_spelling
-side_takes bytes side fits e =
+side_takes below bytes side fits e =
     let begun = bind_ok (start.read (left_at 0 bytes)) (λ start. side_at start.0.1 start.1) side e in
     let first = start_is.takes (left_at 0 bytes) begun.0.0 begun.0.1 fits begun.1 in
     let behind_fits = rest_fits _ start start_is (left_at 0 bytes) begun.0.0 begun.0.1 fits begun.1 in
     let found = bind_ok (read_fields begun.0.0.1 begun.0.1) (λ found. ended found.1 >>= λ _. Ok found.0) side begun.2 in
     let last = bind_ok (ended found.0.1) (λ _. Ok found.0.0) side found.2 in
     let same : found.0.0 ≡ side = ok_is found.0.0 side last.2 in
-    let fields = fields_take begun.0.0.1 begun.0.1 found.0.0 found.0.1 behind_fits found.1 in
+    let fields = fields_take below begun.0.0.1 begun.0.1 found.0.0 found.0.1 behind_fits found.1 in
     let parts : bytes ≡ spell_start (is_responder found.0.0) ++ spell_fields found.0.0 =
     first.0 ∙ ap (λ (b : Bool). spell_start b ++ begun.0.1.bytes) (sym fields.0)
     ∙ ap (λ (x : List ℕ). spell_start (is_responder found.0.0) ++ x) (fields.1 ∙ ap (λ (x : List ℕ). spell_fields found.0.0 ++ x) (ends found.0.1 last.0 last.1) ∙ append-nil (spell_fields found.0.0)) in
@@ -190,29 +195,30 @@ responder_state_is Idle role = refl
 responder_state_is state role = search rules
 
 -- the fields of a side are read again
-fields_again : (side : Side) (at : ℕ) (more : List ℕ) → IsSide side → (after : ℕ) × (read_fields (is_responder side) (left_at at (spell_fields side ++ more)) ≡ Ok (side, left_at after more))
-fields_again (sides.Requester x) at more is =
+fields_again : Below → (side : Side) (at : ℕ) (more : List ℕ) → IsSide side → (after : ℕ) × (read_fields (is_responder side) (left_at at (spell_fields side ++ more)) ≡ Ok (side, left_at after more))
+fields_again below (sides.Requester x) at more is =
     let range = is.1 in
-    let read = requester_fields_is.again ((x.state, (x.txn.group, x.txn.transaction)), (x.held, (x.checked_in, (x.due, x.issued)))) at more
+    let read = (requester_fields_is below).again ((x.state, (x.txn.group, x.txn.transaction)), (x.held, (x.checked_in, (x.due, x.issued)))) at more
     ((requester_state_is x.state is.0.parts.role, (range.parts.txn.group, range.parts.txn.transaction)), (range.parts.held, (tt, (range.parts.due, (range.issued, omega (arith, range.few)))))) in
     (read.0, rw read.1 refl)
-fields_again (sides.Responder y) at more is =
+fields_again below (sides.Responder y) at more is =
     let range = is.1 in
-    let read = responder_fields_is.again
+    let read = (responder_fields_is below).again
     ((y.state, (y.txn.group, y.txn.transaction)), (y.accepted, (y.last_cancel, (y.last_renew, (y.received, (y.request, y.issued)))))) at more (
       (responder_state_is y.state is.0.parts.role, (range.parts.txn.group, range.parts.txn.transaction)),
       (range.parts.accepted, (range.parts.last_cancel, (range.parts.last_renew, (tt, (request_is y.txn y.request is.0.request range.parts.request, (range.issued, omega (arith, range.few))))))),
     ) in
     (read.0, rw read.1 refl)
 
-pub side_again : (side : Side) → IsSide side → record_at (record_spelling side) ≡ Ok side
+pub side_again : Below → (side : Side) → IsSide side → record_at (record_spelling side) ≡ Ok side
 unfolding record_at record_spelling
-side_again side is =
+side_again below side is =
     let begun = start_is.again ((tt, (tt, (tt, tt))), is_responder side) 0 (spell_fields side) ((tt, (tt, (tt, tt))), tt) in
-    let fields = fields_again side begun.0 [] is in
+    let fields = fields_again below side begun.0 [] is in
     let whole : read_fields (is_responder side) (left_at begun.0 (spell_fields side)) ≡ Ok (side, left_at fields.0 []) =
     ap (λ (x : List ℕ). read_fields (is_responder side) (left_at begun.0 x)) (sym (append-nil (spell_fields side))) ∙ fields.1 in
     rw (begun.1, whole) refl
 
-pub one_side : (s t : Side) → IsSide s → IsSide t → record_spelling s ≡ record_spelling t → s ≡ t
-one_side s t first second e = ok_is s t (sym (side_again s first) ∙ ap record_at e ∙ side_again t second)
+pub one_side : ((side : Side) → IsSide side → record_at (record_spelling side) ≡ Ok side)
+    → (s t : Side) → IsSide s → IsSide t → record_spelling s ≡ record_spelling t → s ≡ t
+one_side again s t first second e = ok_is s t (sym (again s first) ∙ ap record_at e ∙ again t second)

@@ -1,28 +1,22 @@
 -- What a side answers, from what its role answers.
-use Rattle.std.proofs.Common.{rules, ◌≡◌, ◌⊎◌, inl, inr, Result, Ok, Err, ap, sym, ◌∙◌}
+use Rattle.std.proofs.Common.{◌≡◌, Result, Err, ap, sym, refl}
 use Rattle.ill_values.specs.declared.apdu.Apdu.{Apdu}
 use Rattle.ill_core.specs.declared.refusal.Refusal.{Refusal}
 use Rattle.ill_core.specs.declared.refusal.Refusal.TheVariants as refusals
 use Rattle.ill_core.specs.declared.taking.Taking.{Taking}
-use Rattle.ill_core.specs.declared.taking.Taking.TheVariants.{Taken}
 use Rattle.ill_core.specs.Requester.{RequesterRecord}
 use Rattle.ill_core.specs.RequesterDeliveries as requester
 use Rattle.ill_saved.specs.declared.side.Side.{Side}
 use Rattle.ill_saved.specs.declared.side.Side.TheVariants as sides
 use Rattle.ill_saved.specs.Side.{Takes}
 
--- a requester wants no memory: what it refuses changes nothing
-refused_same : (x new : RequesterRecord) (answer : Result Taking Refusal × RequesterRecord) → (answer.0 ≡ Ok Taken) ⊎ (answer.1 ≡ x)
-    → ◌≡◌ {A = Result Taking Refusal × RequesterRecord} (Err refusals.OutOfMemory, new) answer → sides.Requester new ≡ sides.Requester x
-refused_same x new answer (inl taken) e = search rules
-refused_same x new answer (inr same) e = ap sides.Requester (ap (λ (r : Result Taking Refusal × RequesterRecord). r.1) e ∙ same)
-
 as_side : (new : RequesterRecord) (answer : Result Taking Refusal) (found : Result Taking Refusal × RequesterRecord)
     → ◌≡◌ {A = Result Taking Refusal × RequesterRecord} (answer, new) found
     → ◌≡◌ {A = Result Taking Refusal × Side} (found.0, sides.Requester found.1) (answer, sides.Requester new)
 as_side new answer found e = sym (ap (λ (r : Result Taking Refusal × RequesterRecord). (r.0, sides.Requester r.1)) e)
 
-pub requester_takes : (x new : RequesterRecord) (a : Apdu) (answer : Result Taking Refusal) → ((requester.takes x a).0 ≡ Ok Taken) ⊎ ((requester.takes x a).1 ≡ x)
+-- a requester wants no memory
+pub requester_takes : (x new : RequesterRecord) (a : Apdu) (answer : Result Taking Refusal) → (answer ≡ Err refusals.OutOfMemory → ⊥)
     → ◌≡◌ {A = Result Taking Refusal × RequesterRecord} (answer, new) (requester.takes x a) → Takes (sides.Requester x) a answer (sides.Requester new)
-requester_takes x new a (Err refusals.OutOfMemory) quiet e = refused_same x new (requester.takes x a) quiet e
-requester_takes x new a answer quiet e = as_side new answer (requester.takes x a) e
+requester_takes x new a (Err refusals.OutOfMemory) never e = absurd (never refl)
+requester_takes x new a answer never e = as_side new answer (requester.takes x a) e

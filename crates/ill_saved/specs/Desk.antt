@@ -190,7 +190,8 @@ IsCreateAnswer (Err OutOfMemory) = Unit {0}
 IsCreateAnswer (Err other) = ⊥
 
 -- What starting a desk answers, over an honest store: the consistent side that has landed.
-abbrev pub Starts : {S : Type 0} → Option (List ℕ) → Option NextCall → Result (DeskOf S) (DeskFault × S) →
+abbrev pub Starts : {S : Type 0} → Option (List ℕ) → Option NextCall →
+    Result (DeskOf S) (DeskFault × S) →
     Type 0
 Starts (Some bytes) plan (Ok desk) =
     (record_at bytes ≡ Ok desk.live) × IsConsistent desk.live × Allows {X = Unit {0}} plan (Ok tt)

@@ -21,7 +21,8 @@ pub record Field (V : Type 0) : Type 0 where
 -- so many bytes, which must stand
 abbrev pub bytes_at : ℕ → Left → Result (List ℕ × Left) LayoutFault
 bytes_at n left =
-    if nat_lt (length left.bytes) n then Err Short else Ok (take n left.bytes, left_at (left.at + n) (drop n left.bytes))
+    if nat_lt (length left.bytes) n then Err Short
+    else Ok (take n left.bytes, left_at (left.at + n) (drop n left.bytes))
 
 -- the value, or that it is wrong at its first byte
 abbrev pub value_at : {V : Type 0} → ℕ → Option V → Result V LayoutFault
@@ -32,7 +33,8 @@ value_at at None = Err (Bad at)
 abbrev pub sized : {V : Type 0} → ℕ → Contents V → Field V
 sized n contents = record {
   spell = contents.spell;
-  read = λ left. bytes_at n left >>= λ part. value_at left.at (contents.read part.0) >>= λ value. Ok (value, part.1);
+  read = λ left. bytes_at n left >>= λ part.
+      value_at left.at (contents.read part.0) >>= λ value. Ok (value, part.1);
 }
 
 -- one octet that stands for a value
@@ -85,7 +87,8 @@ counted_text = record {
 
 -- an APDU in its short form, where the bytes begin with one
 abbrev pub apdu_by : Left → Result (Apdu × List ℕ) DerFault → Result (Apdu × Left) LayoutFault
-apdu_by left (Ok found) = Ok (found.0, left_at (left.at + (length left.bytes - length found.1)) found.1)
+apdu_by left (Ok found) =
+    Ok (found.0, left_at (left.at + (length left.bytes - length found.1)) found.1)
 apdu_by left (Err (der.Short n)) = Err Short
 apdu_by left (Err other) = Err (Bad left.at)
 
@@ -96,7 +99,8 @@ apdu = record { spell = spelling; read = λ left. apdu_by left (apdu_at left.byt
 abbrev pub ill_request : Field Apdu
 ill_request = record {
   spell = spelling;
-  read = λ left. apdu.read left >>= λ found. if is_ill_request found.0.body then Ok found else Err (Bad left.at);
+  read = λ left. apdu.read left >>= λ found.
+      if is_ill_request found.0.body then Ok found else Err (Bad left.at);
 }
 
 -- a mark, and the field where it says yes
@@ -107,7 +111,9 @@ spell_marked spell (Some value) = mark.spell true ++ spell value
 abbrev pub marked : {V : Type 0} → Field V → Field (Option V)
 marked field = record {
   spell = spell_marked field.spell;
-  read = λ left. mark.read left >>= λ is. if is.0 then (field.read is.1 >>= λ found. Ok (Some found.0, found.1)) else Ok (None, is.1);
+  read = λ left. mark.read left >>= λ is. if is.0
+      then (field.read is.1 >>= λ found. Ok (Some found.0, found.1))
+      else Ok (None, is.1);
 }
 
 -- so many of a field
@@ -118,7 +124,8 @@ spell_all spell (v ∷ values) = spell v ++ spell_all spell values
 unfoldable pub read_all : {V : Type 0} → Field V → ℕ → Left → Result (List V × Left) LayoutFault
 read_all field zero left = Ok ([], left)
 read_all field (suc n) left =
-    field.read left >>= λ first. read_all field n first.1 >>= λ others. Ok (first.0 ∷ others.0, others.1)
+    field.read left >>= λ first. read_all field n first.1 >>= λ others.
+    Ok (first.0 ∷ others.0, others.1)
 
 -- their count, and so many of a field
 abbrev pub counted : {V : Type 0} → Field V → Field (List V)

@@ -39,13 +39,13 @@ state_code CheckedIn = 14
 
 abbrev pub requester_states : List State
 requester_states =
-    Idle ∷ Pending ∷ Conditional ∷ CancelPending ∷ Cancelled ∷ NotSupplied ∷ Shipped ∷ Received ∷ RenewPending ∷ Overdue
-    ∷ RenewOverdue ∷ NotReceivedOverdue ∷ Recall ∷ Returned ∷ []
+    Idle ∷ Pending ∷ Conditional ∷ CancelPending ∷ Cancelled ∷ NotSupplied ∷ Shipped ∷ Received
+    ∷ RenewPending ∷ Overdue ∷ RenewOverdue ∷ NotReceivedOverdue ∷ Recall ∷ Returned ∷ []
 
 abbrev pub responder_states : List State
 responder_states =
-    Idle ∷ InProcess ∷ Conditional ∷ CancelPending ∷ Cancelled ∷ NotSupplied ∷ Shipped ∷ RenewPending ∷ Overdue
-    ∷ RenewOverdue ∷ Recall ∷ Returned ∷ CheckedIn ∷ []
+    Idle ∷ InProcess ∷ Conditional ∷ CancelPending ∷ Cancelled ∷ NotSupplied ∷ Shipped
+    ∷ RenewPending ∷ Overdue ∷ RenewOverdue ∷ Recall ∷ Returned ∷ CheckedIn ∷ []
 
 -- the state of a role with an octet
 abbrev pub state_with : List State → ℕ → Option State
@@ -91,7 +91,8 @@ responder_rest =
 
 -- the four octets `ILL1`
 abbrev pub version : Field (Unit {0} × (Unit {0} × (Unit {0} × Unit {0})))
-version = followed_by (constant 73) (followed_by (constant 76) (followed_by (constant 76) (constant 49)))
+version =
+    followed_by (constant 73) (followed_by (constant 76) (followed_by (constant 76) (constant 49)))
 
 -- the version and the role: whether it is a responder
 abbrev pub start : Field ((Unit {0} × (Unit {0} × (Unit {0} × Unit {0}))) × Bool)

@@ -9,6 +9,7 @@ use Rattle.ill_core.specs.declared.state.State.TheVariants.{Idle}
 use Rattle.ill_core.specs.declared.refusal.Refusal.{Refusal}
 use Rattle.ill_core.specs.declared.refusal.Refusal.TheVariants as refusals
 use Rattle.ill_core.specs.declared.taking.Taking.{Taking}
+use Rattle.ill_core.specs.declared.taking.Taking.TheVariants.{Taken}
 use Rattle.ill_core.specs.Requester.{requester_of, IsRequester}
 use Rattle.ill_core.specs.RequesterActions as requester_actions
 use Rattle.ill_core.specs.RequesterDeliveries as requester_deliveries
@@ -72,9 +73,10 @@ Acts old action (Ok done) new = acts old action ≡ Ok new
 Acts old action (Err refusals.OutOfMemory) new = (is_ok (acts old action) ≡ true) × (new ≡ old)
 Acts old action (Err refusal) new = (acts old action ≡ Err refusal) × (new ≡ old)
 
--- What a side answers to an APDU, and the side after it. Want of memory changes nothing.
+-- What a side answers to an APDU, and the side after it. Memory is wanted only for an APDU that would
+-- be taken, and want of it changes nothing.
 abbrev pub Takes : Side → Apdu → Result Taking Refusal → Side → Type 0
-Takes old a (Err refusals.OutOfMemory) new = new ≡ old
+Takes old a (Err refusals.OutOfMemory) new = ((takes old a).0 ≡ Ok Taken) × (new ≡ old)
 Takes old a answer new = takes old a ≡ (answer, new)
 
 -- one row of its tables leads a side to another
@@ -90,3 +92,7 @@ pub data Follows (old : Side) : Side → Type 0 where
 -- one list is the front of another
 abbrev pub IsFrontOf : List Apdu → List Apdu → Type 0
 IsFrontOf front apdus = (more : List Apdu) × (apdus ≡ front ++ more)
+
+-- a row keeps the role and the transaction, and takes no message away
+abbrev pub Grows : Side → Side → Type 0
+Grows old new = (idle_of new ≡ idle_of old) × IsFrontOf (issued_of old) (issued_of new)

@@ -64,7 +64,8 @@ failed store = record store { failures = min (store.failures + 1) most_failures;
 
 -- What a load answers by its plan, and the store after it. Only a load that works takes memory,
 -- where something has landed.
-abbrev pub MemoryLoads : {X : Type 0} → (X → List ℕ) → NextCall → Memory → Result (Option X) StoreFault →
+abbrev pub MemoryLoads : {X : Type 0} → (X → List ℕ) → NextCall → Memory →
+    Result (Option X) StoreFault →
     Memory → Type 0
 MemoryLoads bytes_of Works old (Ok found) new =
     (option_map bytes_of found ≡ old.landed) × (new ≡ called old)

@@ -11,10 +11,12 @@ ghost use Rattle.ill_der.specs.ShortForm.{apdu_at};
 use crate::decoding::decode_record;
 use crate::encoding::encode_record;
 use crate::fault::DeskFault;
+use crate::laws::{read_again, rows_grow};
 use crate::memory_store::MemoryStore;
 use crate::side::{Action, Side};
 use crate::store::{NextCall, Store};
 use ill_core::Taking;
+use ill_der::laws::prefix_or_fault;
 use ill_der::{DerFault, decode, encode};
 use ill_values::{Apdu, Number, OutOfMemory};
 use std::alloc::Global;
@@ -97,6 +99,7 @@ impl<S: Store> Desk1<S> {
         ensures store { self.new.store ≡ self.old.store }
         ensures released { self.new.released ≡ self.old.released }
     {
+        rows_grow();
         Ok(self.live.act(alloc, action)?)
     }
 
@@ -107,6 +110,7 @@ impl<S: Store> Desk1<S> {
         ensures released { self.new.released ≡ self.old.released }
     {
         let apdu = one_apdu(alloc, bytes)?;
+        rows_grow();
         Ok(self.live.take(alloc, &apdu)?)
     }
 
@@ -126,6 +130,7 @@ impl<S: Store> Desk1<S> {
             (S.failures self.new.store) }
         ensures honest { S.is_honest self.new.store ≡ S.is_honest self.old.store }
     {
+        read_again();
         let bytes = encode_record(alloc, &self.live)?;
         self.store.save(alloc, &bytes)?;
         self.released = self.live.issued_count();
@@ -200,6 +205,7 @@ impl Desk1<MemoryStore> {
 fn one_apdu(alloc: Global, bytes: &[u8]) -> Result<Apdu, DeskFault>
     ensures { IsOneApdu (apdu_at bytes.now) result }
 {
+    prefix_or_fault();
     match decode(alloc, bytes) {
         Ok((apdu, size)) if size == bytes.len() => Ok(apdu),
         Ok(_) => Err(DeskFault::Trailing),

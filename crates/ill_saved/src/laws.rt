@@ -3,34 +3,52 @@
 ghost use Rattle.std.specs.Prelude.{◌≡◌, ℕ, List, Ok};
 ghost use Rattle.ill_der.specs.Laws.{IsBytes};
 ghost use Rattle.ill_saved.specs.declared.side.Side.{Side};
-ghost use Rattle.ill_saved.specs.Side.{issued_of, idle_of, IsRow, Follows, IsFrontOf};
+ghost use Rattle.ill_saved.specs.Side.{issued_of, IsRow, Grows, Follows, IsFrontOf};
 ghost use Rattle.ill_saved.specs.Records.{record_at, record_spelling};
 ghost use Rattle.ill_saved.specs.Ranges.{IsInRange, IsSide};
 
 /// A side is read from its spelling: with this, `decode_record` gives back what `encode_record`
 /// spelled.
-#[tactic(auto, using(crate::proofs::RecordLaws::side_again))]
 pub fn read_again()
     ensures { (side : Side) → IsSide side → record_at (record_spelling side) ≡ Ok side }
-{}
+{
+    ill_values::laws::date_texts();
+    ill_values::laws::text_sizes();
+    ill_der::laws::read_again();
+    ill_der::laws::prefix_or_fault();
+}
 
 /// What is read as a side is the spelling of that side.
 pub fn spelled()
     ensures { (bytes : List ℕ) (side : Side) → IsBytes bytes → record_at bytes ≡ Ok side →
         (bytes ≡ record_spelling side) × IsInRange side }
-{}
+{
+    ill_values::laws::date_texts();
+    ill_values::laws::text_sizes();
+    ill_der::laws::read_again();
+    ill_der::laws::prefix_or_fault();
+}
 
 /// No bytes spell two sides.
 pub fn one_side()
     ensures { (s t : Side) → IsSide s → IsSide t → record_spelling s ≡ record_spelling t → s ≡ t }
-{}
+{
+    read_again();
+}
 
-/// A row keeps the role and the transaction of a side.
-pub fn row_keeps_idle()
-    ensures { (old new : Side) → IsRow old new → idle_of new ≡ idle_of old }
-{}
+/// An action or a message keeps the role and the transaction, and takes no message away.
+pub fn rows_grow()
+    ensures { (old new : Side) → IsRow old new → Grows old new }
+{
+    ill_core::laws::requester_issues();
+    ill_core::laws::requester_keeps_txn();
+    ill_core::laws::responder_issues();
+    ill_core::laws::responder_keeps_txn();
+}
 
 /// What a side has issued is the front of what a side that follows from it has issued.
 pub fn follows_issues()
     ensures { (old new : Side) → Follows old new → IsFrontOf (issued_of old) (issued_of new) }
-{}
+{
+    rows_grow();
+}

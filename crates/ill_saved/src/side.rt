@@ -4,7 +4,6 @@ ghost use Rattle.std.specs.Prelude.{◌≡◌, ◌≤◌, length, option_map, If
 ghost use Rattle.ill_core.specs.Issued.{message};
 ghost use Rattle.ill_saved.specs.Side.{Acts, Takes, issued_of, idle_of, txn_of, state_of, due_date_of};
 
-use ill_core::laws::requester_is_quiet;
 use ill_core::{Deed, Refusal, Requester, Responder, State, Taking, Wish};
 use ill_values::{Apdu, Day, Number, OutOfMemory, TxnId};
 use std::alloc::Global;
@@ -47,10 +46,7 @@ impl Side {
         ensures { Takes self.old apdu.now result self.new }
     {
         match self {
-            Side::Requester(requester) => {
-                requester_is_quiet();
-                requester.take(apdu)
-            }
+            Side::Requester(requester) => requester.take(apdu),
             Side::Responder(responder) => responder.take(alloc, apdu),
         }
     }

@@ -1,7 +1,8 @@
 -- Reading one APDU after another.
-use Rattle.std.proofs.Common.{◌≡◌, ℕ, ◌+◌, ◌≤◌, List, [], ◌∷◌, ◌++◌, length, Option, Some, None, Result, Ok, Err, refl, sym, ap, subst, ◌∙◌, arith}
+use Rattle.std.proofs.Common.{◌≡◌, ℕ, ◌+◌, ◌≤◌, List, [], ◌∷◌, ◌++◌, length, Option, Some, Result, Ok, Err, refl, sym, ap, subst, ◌∙◌, arith}
 use Rattle.std.specs.List.{flat_map, AllByRecursion}
 use Rattle.std.specs.Io.KnownBytes.{Consumes}
+use Rattle.std.proofs.KnownBytes.{Consumes-nil, Consumes-trans}
 use Rattle.std.proofs.lemmas.List.{append-nil, length-append}
 use Rattle.std.proofs.lemmas.Grind.{flat_map-append}
 use Rattle.ill_values.specs.declared.apdu.Apdu.{Apdu}
@@ -10,7 +11,6 @@ use Rattle.ill_der.specs.declared.fault.ReadFault.{ReadFault}
 use Rattle.ill_der.specs.declared.fault.ReadFault.TheVariants as reading
 use Rattle.ill_der.specs.ShortForm.{spelling}
 use Rattle.ill_der.specs.Stream.{IsAnswer, ReadsApdu}
-use Rattle.ill_der.proofs.StreamLemmas.{consumes_more}
 use Rattle.ill_tool.specs.declared.fault.ToolFault.{ToolFault}
 use Rattle.ill_tool.specs.Input.{tool_fault, spellings, Takes, StopsReading, EndsReading}
 
@@ -22,12 +22,8 @@ pub record ReadSoFar (old new : Option (List ℕ)) (count : ℕ) (apdus : List A
   pub counted : length apdus ≡ count
   pub read : Consumes old new (spellings apdus)
 
-consumes_none : (old : Option (List ℕ)) → Consumes old old []
-consumes_none None = tt
-consumes_none (Some xs) = refl
-
 pub none_read : (old : Option (List ℕ)) → ReadSoFar old old 0 []
-none_read old = record { spelled = tt; counted = refl; read = consumes_none old }
+none_read old = record { spelled = tt; counted = refl; read = Consumes-nil old }
 
 all_with : (apdus : List Apdu) (apdu : Apdu) → AllByRecursion IsApdu apdus → IsApdu apdu → AllByRecursion IsApdu (apdus ++ apdu ∷ [])
 all_with [] apdu all is = (is, tt)
@@ -41,7 +37,7 @@ pub one_more_read : (old middle new : Option (List ℕ)) (count : ℕ) (apdus : 
 one_more_read old middle new count apdus apdu so_far is read = record {
   spelled = all_with apdus apdu so_far.spelled is;
   counted = omega (arith, so_far.counted, length-append apdus (apdu ∷ []));
-  read = subst (Consumes old new) (sym (one_flat spelling apdus apdu)) (consumes_more old middle new (spellings apdus) (spelling apdu) so_far.read read);
+  read = subst (Consumes old new) (sym (one_flat spelling apdus apdu)) (Consumes-trans old middle new (spellings apdus) (spelling apdu) so_far.read read);
 }
 
 -- ---- the end
@@ -51,7 +47,7 @@ pub taken_with : (old middle new : Option (List ℕ)) (count : ℕ) (apdus : Lis
 taken_with old middle new count apdus bytes few so_far read = record {
   spelled = so_far.spelled;
   most = omega (arith, so_far.counted);
-  read = consumes_more old middle new (spellings apdus) bytes so_far.read read;
+  read = Consumes-trans old middle new (spellings apdus) bytes so_far.read read;
 }
 
 -- reading failed, whatever the number of APDUs before

@@ -2,12 +2,12 @@
 use Rattle.std.proofs.Common.{◌≡◌, ℕ, ◌+◌, ◌≤◌, Bool, true, false, List, [], ◌∷◌, ◌++◌, length, Option, Some, Result, Ok, Err, refl, sym, subst, arith}
 use Rattle.std.specs.Prelude.{IsErrAnd}
 use Rattle.std.specs.Io.KnownBytes.{Consumes, Appends}
+use Rattle.std.proofs.KnownBytes.{Appends-nil, Appends-trans}
 use Rattle.ill_values.specs.declared.apdu.Apdu.{Apdu}
 use Rattle.ill_values.specs.Apdu.{IsApdu}
 use Rattle.ill_der.specs.declared.fault.ReadFault.{ReadFault}
 use Rattle.ill_der.specs.ShortForm.{spelling}
 use Rattle.ill_der.specs.Stream.{ReadsApdu}
-use Rattle.ill_der.proofs.WriteLemmas.{appends_more, appends_nothing}
 use Rattle.ill_tool.specs.declared.fault.ToolFault.{ToolFault}
 use Rattle.ill_tool.specs.declared.fault.ToolFault.TheVariants.{Der, TooMany, Read, Write, OutOfMemory}
 use Rattle.ill_tool.specs.Lines.{lines_of}
@@ -24,7 +24,7 @@ pub record ShownSoFar (old new before after : Option (List ℕ)) (count : ℕ) :
   pub written : Appends before after (all_lines apdus)
 
 pub none_shown : (old before : Option (List ℕ)) → ShownSoFar old old before before 0
-none_shown old before = record { apdus = []; taken = none_read old; written = appends_nothing before }
+none_shown old before = record { apdus = []; taken = none_read old; written = Appends-nil before }
 
 pub one_more_shown : (old middle new before between after : Option (List ℕ)) (count : ℕ) → ShownSoFar old middle before between count → ShowsNext middle new between after (Ok true)
     → ShownSoFar old new before after (count + 1)
@@ -33,7 +33,7 @@ one_more_shown old middle new before between after count so_far next =
     record {
       apdus = apdus ++ next.0 ∷ [];
       taken = one_more_read old middle new count apdus next.0 so_far.taken next.1 next.2;
-      written = subst (Appends before after) (sym (one_flat lines_of apdus next.0)) (appends_more before between after (all_lines apdus) (lines_of next.0) so_far.written next.3);
+      written = subst (Appends before after) (sym (one_flat lines_of apdus next.0)) (Appends-trans before between after (all_lines apdus) (lines_of next.0) so_far.written next.3);
     }
 
 -- ---- the end
@@ -46,7 +46,7 @@ shown_whole old middle new before between after count few so_far next = (
   [],
   record {
     taken = taken_with old middle new count so_far.apdus [] few so_far.taken next.0;
-    written = appends_more before between after (all_lines so_far.apdus) [] so_far.written next.2;
+    written = Appends-trans before between after (all_lines so_far.apdus) [] so_far.written next.2;
     ended = (sym so_far.taken.counted, refl, next.1, refl);
   },
 )
@@ -59,7 +59,7 @@ shown_until old middle new before between after count fault few so_far next = (
   next.1,
   record {
     taken = taken_with old middle new count so_far.apdus next.0 few so_far.taken next.2;
-    written = appends_more before between after (all_lines so_far.apdus) next.1 so_far.written next.3;
+    written = Appends-trans before between after (all_lines so_far.apdus) next.1 so_far.written next.3;
     ended = next.4 (length so_far.apdus);
   },
 )
@@ -83,7 +83,7 @@ shown_all old middle new before after count result all so_far end =
       [],
       record {
         taken = taken_with old middle new count apdus end.0 (omega (arith, all)) so_far.taken end.1;
-        written = appends_more before after after (all_lines apdus) [] so_far.written (appends_nothing after);
+        written = Appends-trans before after after (all_lines apdus) [] so_far.written (Appends-nil after);
         ended = ended_unwritten result (length apdus) end.0 new (ends_with end.0 new (length apdus) result full end.2);
       },
     )
@@ -100,10 +100,10 @@ no_memory_for old new before apdu (Ok shown) read failed = absurd failed
 no_memory_for old new before apdu (Err fault) read failed =
     let taken = taken_of old new apdu read in
     subst (λ (f : ToolFault). ShowsNext old new before before (Err f)) (sym failed)
-    (spelling apdu, [], taken.1, appends_nothing before, λ count. ((apdu, taken.0, refl), refl))
+    (spelling apdu, [], taken.1, Appends-nil before, λ count. ((apdu, taken.0, refl), refl))
 
 -- no APDU was read, for this fault
 pub not_read : (old new before : Option (List ℕ)) (fault : ReadFault) (tool : ToolFault) → tool ≡ tool_fault fault → ReadsApdu old new (Err fault) → ShowsNext old new before before (Err tool)
 not_read old new before fault tool is read =
     subst (λ (f : ToolFault). ShowsNext old new before before (Err f)) (sym is)
-    (read.0, [], read.1, appends_nothing before, λ count. ended_unwritten (Err (tool_fault fault)) count read.0 new (stops_by read.0 new count fault read.2))
+    (read.0, [], read.1, Appends-nil before, λ count. ended_unwritten (Err (tool_fault fault)) count read.0 new (stops_by read.0 new count fault read.2))

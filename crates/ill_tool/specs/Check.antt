@@ -18,7 +18,8 @@ WritesCount before after count (Err TooMany) = ⊥
 WritesCount before after count (Err Read) = ⊥
 
 -- what follows the counting: the line of the number, or nothing but the fault of the reading
-abbrev pub Reports : Result ℕ ToolFault → Option (List ℕ) → Option (List ℕ) → Result ℕ ToolFault → Type 0
+abbrev pub Reports : Result ℕ ToolFault → Option (List ℕ) → Option (List ℕ) →
+    Result ℕ ToolFault → Type 0
 Reports (Ok count) before after result = WritesCount before after count result
 Reports (Err fault) before after result = (result ≡ Err fault) × Appends before after []
 

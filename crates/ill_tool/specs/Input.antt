@@ -51,4 +51,5 @@ Counts old new result =
 
 -- the end was looked for behind as many APDUs as there may be
 abbrev pub EndsFull : Option (List ℕ) → Option (List ℕ) → Result ℕ ToolFault → Type 0
-EndsFull old new result = (bytes : List ℕ) × Consumes old new bytes × EndsReading result 100000 bytes new
+EndsFull old new result =
+    (bytes : List ℕ) × Consumes old new bytes × EndsReading result 100000 bytes new

@@ -5,7 +5,8 @@ use Rattle.ill_tool.specs.declared.fault.ToolFault.{ToolFault}
 use Rattle.ill_tool.specs.declared.fault.ToolFault.TheVariants.{Write}
 
 -- all bytes were written, or a front of them where the writer failed
-abbrev pub WritesFront : Option (List ℕ) → Option (List ℕ) → List ℕ → Result (Unit {0}) ToolFault → Type 0
+abbrev pub WritesFront : Option (List ℕ) → Option (List ℕ) → List ℕ →
+    Result (Unit {0}) ToolFault → Type 0
 WritesFront before after bytes (Ok done) = Appends before after bytes
 WritesFront before after bytes (Err fault) =
     (fault ≡ Write) × ((size : ℕ) × Appends before after (take size bytes))

@@ -36,7 +36,8 @@ Ended (Err fault) count bytes left text = Stopped fault count bytes left text
 
 -- The command read the spellings of these APDUs and then these bytes, and wrote the lines of the
 -- APDUs and then this text.
-pub record ShowsApdus (old new : Option (List ℕ)) (before after : Option (List ℕ)) (result : Result ℕ ToolFault) (apdus : List Apdu) (bytes text : List ℕ) : Type 0 where
+pub record ShowsApdus (old new before after : Option (List ℕ)) (result : Result ℕ ToolFault)
+    (apdus : List Apdu) (bytes text : List ℕ) : Type 0 where
   pub taken : Takes old new apdus bytes
   pub written : Appends before after (all_lines apdus ++ text)
   pub ended : Ended result (length apdus) bytes new text
@@ -53,7 +54,8 @@ Shows old new before after result =
 abbrev pub ShowsNext : Option (List ℕ) → Option (List ℕ) → Option (List ℕ) → Option (List ℕ) →
     Result Bool ToolFault → Type 0
 ShowsNext old new before after (Ok true) =
-    (apdu : Apdu) × IsApdu apdu × Consumes old new (spelling apdu) × Appends before after (lines_of apdu)
+    (apdu : Apdu) × IsApdu apdu × Consumes old new (spelling apdu)
+    × Appends before after (lines_of apdu)
 ShowsNext old new before after (Ok false) = Consumes old new [] × IsAtEnd new × Appends before after []
 ShowsNext old new before after (Err fault) =
     (bytes : List ℕ) × (text : List ℕ) × Consumes old new bytes × Appends before after text

@@ -1,8 +1,12 @@
--- The test of UTF-8 that computes, from what std's `from_utf8` says.
-use Rattle.std.proofs.Common.{◌≡◌, ℕ, Bool, true, false, List, Result, Ok, Err, sym, refl}
+-- The tests of texts: UTF-8, from what std's `from_utf8` says, and how long a text may be.
+use Rattle.std.proofs.Common.{◌≡◌, ℕ, ◌≤◌, Bool, true, false, cond, eqb, ltb, List, [], ◌∷◌, length, Result, Ok, Err, sym, refl, arith}
 use Rattle.std.specs.Prelude.{MatchResult, is_ok}
 use Rattle.std.specs.Str.{IsUtf8, is_utf8}
 use Rattle.std.proofs.lemmas.Str.{is_utf8-from_IsUtf8, IsUtf8-from_is_utf8}
+use Rattle.std.proofs.lemmas.Bool.{ltb-false}
+use Rattle.ill_values.specs.declared.fault.TextFault.{TextFault}
+use Rattle.ill_values.specs.declared.fault.TextFault.TheVariants.{Empty, TooLong, BadByte}
+use Rattle.ill_values.specs.Text.{text_check}
 
 is_false : (b : Bool) → (b ≡ true → ⊥) → false ≡ b
 is_false true never = absurd (never refl)
@@ -11,3 +15,21 @@ is_false false never = refl
 pub is_ok-from_utf8 : {S E : Type 0} (bs : List ℕ) (r : Result S E) (P : S → Type 0) (Q : E → Type 0) → MatchResult r (λ s. P s × IsUtf8 bs) (λ e. ¬ (IsUtf8 bs) × Q e) → is_ok r ≡ is_utf8 bs
 is_ok-from_utf8 bs (Ok s) P Q h = sym (is_utf8-from_IsUtf8 bs h.1)
 is_ok-from_utf8 bs (Err e) P Q h = is_false (is_utf8 bs) (λ is. h.0 (IsUtf8-from_is_utf8 bs is))
+
+-- a test that found no fault
+no_fault : (b : Bool) (r : Result (Unit {0}) TextFault) (fault : TextFault) → cond b (Err fault) r ≡ Ok tt → (b ≡ false) × (r ≡ Ok tt)
+no_fault true r fault e = absurd cc
+no_fault false r fault e = (refl, e)
+
+text_most : (most : ℕ) (passes : List ℕ → Bool) (text : List ℕ) → text_check most passes text ≡ Ok tt → length text ≤ most
+text_most most passes text e =
+    let some = no_fault (eqb (length text) 0) (cond (ltb most (length text)) (Err TooLong) (cond (passes text) (Ok tt) (Err BadByte))) Empty e in
+    let few = no_fault (ltb most (length text)) (cond (passes text) (Ok tt) (Err BadByte)) TooLong some.1 in
+    ltb-false most (length text) few.0
+
+text_least : (most : ℕ) (passes : List ℕ → Bool) (text : List ℕ) → text_check most passes text ≡ Ok tt → 1 ≤ length text
+text_least most passes [] e = absurd cc
+text_least most passes (byte ∷ text) e = omega arith
+
+pub text_size : (most : ℕ) (passes : List ℕ → Bool) (text : List ℕ) → text_check most passes text ≡ Ok tt → (1 ≤ length text) × (length text ≤ most)
+text_size most passes text e = (text_least most passes text e, text_most most passes text e)

@@ -42,14 +42,18 @@ pub record IsDate (d : Date) : Type 0 where
 -- the day with this year, month and day of the month, or why there is none
 abbrev pub date_of : ℕ → ℕ → ℕ → Result Date DayFault
 date_of year month day =
-    if is_year year then (if is_in_year year month day then Ok (record { year = year; month = month; day = day }) else Err NotADate)
+    if is_year year
+    then (if is_in_year year month day then Ok (record { year = year; month = month; day = day })
+    else Err NotADate)
     else Err OutOfRange
 
 -- the following day: in the month, in the year, or in the next year
 abbrev pub next_day : Date → Date
 next_day d =
-    if nat_lt d.day (days_in_month d.year d.month) then record { year = d.year; month = d.month; day = d.day + 1 }
-    else (if nat_lt d.month 12 then record { year = d.year; month = d.month + 1; day = 1 } else record { year = d.year + 1; month = 1; day = 1 })
+    if nat_lt d.day (days_in_month d.year d.month)
+    then record { year = d.year; month = d.month; day = d.day + 1 }
+    else (if nat_lt d.month 12 then record { year = d.year; month = d.month + 1; day = 1 }
+    else record { year = d.year + 1; month = 1; day = 1 })
 
 -- the day so many days later: the following day, so many times
 unfoldable pub days_later : ℕ → Date → Date
@@ -58,7 +62,9 @@ days_later (suc n) d = next_day (days_later n d)
 
 -- the day so many days later, refused where that passes 31 December 9999
 abbrev pub day_after : ℕ → Date → Result Date DayFault
-day_after n d = let later = days_later n d in if nat_le later.year 9999 then Ok later else Err OutOfRange
+day_after n d =
+    let later = days_later n d in
+    if nat_le later.year 9999 then Ok later else Err OutOfRange
 
 -- the last decimal digit of a number, in ASCII
 abbrev pub last_digit : ℕ → ℕ
@@ -85,7 +91,9 @@ two_digits_at text place = 10 * digit_at text place + digit_at text (place + 1)
 -- the day that a text spells, or why it spells none
 abbrev pub read_date : List ℕ → Result Date DayFault
 read_date text =
-    if eight_digits text then date_of (two_digits_at text 0 * 100 + two_digits_at text 2) (two_digits_at text 4) (two_digits_at text 6)
+    if eight_digits text
+    then date_of (two_digits_at text 0 * 100 + two_digits_at text 2)
+    (two_digits_at text 4) (two_digits_at text 6)
     else Err NotDigits
 
 -- a day comes before another: by year, then by month, then by day of the month

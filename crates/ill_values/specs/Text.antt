@@ -27,7 +27,8 @@ abbrev pub ◌>>=◌ : {A B : Type 0} → Result A TextFault → (A → Result B
 abbrev pub text_check : ℕ → (List ℕ → Bool) → List ℕ → Result (Unit {0}) TextFault
 text_check most passes text =
     if length text == 0 then Err Empty
-    else (if nat_lt most (length text) then Err TooLong else (if passes text then Ok tt else Err BadByte))
+    else (if nat_lt most (length text) then Err TooLong
+    else (if passes text then Ok tt else Err BadByte))
 
 -- a qualifier of a transaction id (this profile's own)
 abbrev pub qualifier_check : List ℕ → Result (Unit {0}) TextFault

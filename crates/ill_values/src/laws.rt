@@ -1,6 +1,7 @@
 //! What holds of the values, as contracts of functions that do nothing.
 
-ghost use Rattle.std.specs.Prelude.{◌≡◌, ◌↔◌, ℕ, List, IsTrue, Ok};
+ghost use Rattle.std.specs.Prelude.{◌≡◌, ◌≤◌, ◌↔◌, ℕ, List, length, IsTrue, Ok};
+ghost use Rattle.ill_values.specs.Text.{IsQualifier, IsItem};
 ghost use Rattle.ill_values.specs.TxnId.{Qualifiers};
 ghost use Rattle.ill_values.specs.declared.apdu.Apdu.{Apdu};
 ghost use Rattle.ill_values.specs.declared.apdu.Body.{Body};
@@ -56,6 +57,13 @@ pub fn equal_apdus()
     equal_txn_ids();
     equal_bodies();
 }
+
+/// A qualifier has 1 to 64 bytes, and an item 1 to 200.
+pub fn text_sizes()
+    ensures qualifier { (text : List ℕ) → IsQualifier text →
+        (1 ≤ length text) × (length text ≤ 64) }
+    ensures item { (text : List ℕ) → IsItem text → (1 ≤ length text) × (length text ≤ 200) }
+{}
 
 /// The text of a day spells that day, and each text spells one day at most.
 pub fn date_texts()

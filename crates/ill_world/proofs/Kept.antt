@@ -7,7 +7,7 @@ use Rattle.ill_core.specs.Issued.{message}
 use Rattle.ill_saved.specs.declared.side.Side.{Side}
 use Rattle.ill_saved.specs.declared.side.Action.{Action}
 use Rattle.ill_saved.specs.declared.side.Action.TheVariants as actions
-use Rattle.ill_saved.specs.Side.{issued_of, acts, takes, IsFrontOf, IsRow, acted, took, Follows, same, further}
+use Rattle.ill_saved.specs.Side.{issued_of, acts, takes, IsRow, Grows, acted, took}
 use Rattle.ill_world.specs.declared.event.Event.{Event}
 use Rattle.ill_world.specs.declared.event.Event.TheVariants as events
 use Rattle.ill_world.specs.World.{Party, sent_message, decides, sends, receives, happens_to}
@@ -16,9 +16,9 @@ use Rattle.ill_world.proofs.Sendings.{live_grows, saved_now, saved_by_fault, sav
 
 -- ---- what is used of the rows
 
--- what a side has issued is the front of what it has issued after rows
-abbrev pub Issues : Type 0
-Issues = (old new : Side) → Follows old new → IsFrontOf (issued_of old) (issued_of new)
+-- a row takes no message away
+abbrev pub RowsGrow : Type 0
+RowsGrow = (old new : Side) → IsRow old new → Grows old new
 
 -- An action keeps K, and so does a message that was sent, and whatever is sent further.
 pub record Keeps (K : Side → List (Option Apdu) → Type 0) : Type 0 where
@@ -26,25 +26,22 @@ pub record Keeps (K : Side → List (Option Apdu) → Type 0) : Type 0 where
   pub more : (side : Side) (told more : List (Option Apdu)) → ((a : Apdu) → WasSent told a → WasSent more a) → K side told → K side more
   pub takes : (old : Side) (a : Apdu) (told : List (Option Apdu)) → WasSent told a → K old told → K (takes old a).1 told
 
-row_issues : Issues → (old new : Side) → IsRow old new → IsFrontOf (issued_of old) (issued_of new)
-row_issues issues old new row = issues old new (further old new same row)
-
 -- ---- one event
 
-party_decides : (K : Side → List (Option Apdu) → Type 0) (p : Party) (told : List (Option Apdu)) (action : Action) (result : Result Side Refusal) → Issues → Keeps K → acts p.live action ≡ result
+party_decides : (K : Side → List (Option Apdu) → Type 0) (p : Party) (told : List (Option Apdu)) (action : Action) (result : Result Side Refusal) → RowsGrow → Keeps K → acts p.live action ≡ result
     → PartyStands K p told → PartyStands K (decides p result).1 told
-party_decides K p told action (Ok new) issues keeps e stands = record {
-  saved = live_grows p new (row_issues issues p.live new (acted action e)) stands.saved;
+party_decides K p told action (Ok new) grows keeps e stands = record {
+  saved = live_grows p new (grows p.live new (acted action e)).1 stands.saved;
   live = keeps.acts p.live new action told e stands.live;
   landed = stands.landed;
 }
-party_decides K p told action (Err refusal) issues keeps e stands = stands
+party_decides K p told action (Err refusal) grows keeps e stands = stands
 
-party_receives : (K : Side → List (Option Apdu) → Type 0) (p : Party) (told : List (Option Apdu)) (n : ℕ) (found : Option Apdu) → Issues → Keeps K → sent_message told n ≡ found
+party_receives : (K : Side → List (Option Apdu) → Type 0) (p : Party) (told : List (Option Apdu)) (n : ℕ) (found : Option Apdu) → RowsGrow → Keeps K → sent_message told n ≡ found
     → PartyStands K p told → PartyStands K (receives p found).1 told
-party_receives K p told n None issues keeps e stands = stands
-party_receives K p told n (Some a) issues keeps e stands = record {
-  saved = live_grows p (takes p.live a).1 (row_issues issues p.live (takes p.live a).1 (took a refl)) stands.saved;
+party_receives K p told n None grows keeps e stands = stands
+party_receives K p told n (Some a) grows keeps e stands = record {
+  saved = live_grows p (takes p.live a).1 (grows p.live (takes p.live a).1 (took a refl)).1 stands.saved;
   live = keeps.takes p.live a told (n, e) stands.live;
   landed = stands.landed;
 }
@@ -59,16 +56,16 @@ party_sends K p told n None released is e stands = stands
 party_sends K p told n (Some a) false is e stands = stands
 party_sends K p told n (Some a) true is e stands = record { saved = saved_by_send p n (Some a) true is e stands.saved; live = stands.live; landed = stands.landed }
 
-pub party_kept : (K : Side → List (Option Apdu) → Type 0) (p : Party) (told : List (Option Apdu)) (event : Event) → Issues → Keeps K → PartyStands K p told
+pub party_kept : (K : Side → List (Option Apdu) → Type 0) (p : Party) (told : List (Option Apdu)) (event : Event) → RowsGrow → Keeps K → PartyStands K p told
     → PartyStands K (happens_to p told event).1 told
-party_kept K p told (events.Wish wish) issues keeps stands = party_decides K p told (actions.Wish wish) (acts p.live (actions.Wish wish)) issues keeps refl stands
-party_kept K p told (events.Deed deed today) issues keeps stands = party_decides K p told (actions.Deed deed today) (acts p.live (actions.Deed deed today)) issues keeps refl stands
-party_kept K p told (events.Save who) issues keeps stands = record { saved = saved_now p stands.saved; live = stands.live; landed = stands.live }
-party_kept K p told (events.SaveFault who landed) issues keeps stands = party_fails K p told who landed stands
-party_kept K p told (events.Send who n) issues keeps stands = party_sends K p told n (message (issued_of p.live) n) (nat_le n p.released) refl refl stands
-party_kept K p told (events.Deliver who n) issues keeps stands = party_receives K p told n (sent_message told n) issues keeps refl stands
-party_kept K p told (events.Noise who bytes) issues keeps stands = stands
-party_kept K p told (events.Restart who) issues keeps stands = record { saved = saved_at_restart p stands.saved; live = stands.landed; landed = stands.landed }
+party_kept K p told (events.Wish wish) grows keeps stands = party_decides K p told (actions.Wish wish) (acts p.live (actions.Wish wish)) grows keeps refl stands
+party_kept K p told (events.Deed deed today) grows keeps stands = party_decides K p told (actions.Deed deed today) (acts p.live (actions.Deed deed today)) grows keeps refl stands
+party_kept K p told (events.Save who) grows keeps stands = record { saved = saved_now p stands.saved; live = stands.live; landed = stands.live }
+party_kept K p told (events.SaveFault who landed) grows keeps stands = party_fails K p told who landed stands
+party_kept K p told (events.Send who n) grows keeps stands = party_sends K p told n (message (issued_of p.live) n) (nat_le n p.released) refl refl stands
+party_kept K p told (events.Deliver who n) grows keeps stands = party_receives K p told n (sent_message told n) grows keeps refl stands
+party_kept K p told (events.Noise who bytes) grows keeps stands = stands
+party_kept K p told (events.Restart who) grows keeps stands = record { saved = saved_at_restart p stands.saved; live = stands.landed; landed = stands.landed }
 
 -- what the other party sends further
 pub told_more : (K : Side → List (Option Apdu) → Type 0) (p : Party) (told more : List (Option Apdu)) → Keeps K → ((a : Apdu) → WasSent told a → WasSent more a) → PartyStands K p told

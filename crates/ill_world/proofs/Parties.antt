@@ -7,12 +7,12 @@ use Rattle.ill_core.specs.declared.taking.Taking.{Taking}
 use Rattle.ill_saved.specs.declared.side.Side.{Side}
 use Rattle.ill_saved.specs.declared.fault.DeskFault.{DeskFault}
 use Rattle.ill_saved.specs.declared.fault.DeskFault.TheVariants as faults
-use Rattle.ill_saved.specs.Side.{idle_of, takes, IsRow, took}
+use Rattle.ill_saved.specs.Side.{idle_of, takes, IsRow, Grows, took}
 use Rattle.ill_saved.specs.Desk.{DeskTakes}
 
--- a row keeps the role and the transaction
-abbrev pub KeepsIdle : Type 0
-KeepsIdle = (old new : Side) → IsRow old new → idle_of new ≡ idle_of old
+-- a row keeps the role and the transaction, and takes no message away
+abbrev pub RowsGrow : Type 0
+RowsGrow = (old new : Side) → IsRow old new → Grows old new
 
 -- what a desk answers to exactly one APDU, and the side after it
 pub takes_one : (old new : Side) (read : Result (Apdu × List ℕ) DerFault) (a : Apdu) (answer : Result Taking DeskFault) → read ≡ Ok (a, []) → DeskTakes old read answer new
@@ -20,9 +20,9 @@ pub takes_one : (old new : Side) (read : Result (Apdu × List ℕ) DerFault) (a 
 takes_one old new read a answer e takes = subst (λ r. DeskTakes old r answer new) e takes
 
 -- it keeps the role and the transaction
-pub taken_idle : KeepsIdle → (old new : Side) (a : Apdu) (answer : Result Taking DeskFault) → DeskTakes old (Ok (a, [])) answer new → idle_of new ≡ idle_of old
-taken_idle keeps old new a (Ok answered) is = keeps old new (took a (ap (λ (r : Result Taking Refusal × Side). r.1) is))
-taken_idle keeps old new a (Err (faults.Core refusal)) is = keeps old new (took a (ap (λ (r : Result Taking Refusal × Side). r.1) is))
-taken_idle keeps old new a (Err faults.OutOfMemory) is = ap idle_of is
-taken_idle keeps old new a (Err faults.Trailing) is = absurd is
-taken_idle keeps old new a (Err other) is = absurd is
+pub taken_idle : RowsGrow → (old new : Side) (a : Apdu) (answer : Result Taking DeskFault) → DeskTakes old (Ok (a, [])) answer new → idle_of new ≡ idle_of old
+taken_idle grows old new a (Ok answered) is = (grows old new (took a (ap (λ (r : Result Taking Refusal × Side). r.1) is))).0
+taken_idle grows old new a (Err (faults.Core refusal)) is = (grows old new (took a (ap (λ (r : Result Taking Refusal × Side). r.1) is))).0
+taken_idle grows old new a (Err faults.OutOfMemory) is = ap idle_of is
+taken_idle grows old new a (Err faults.Trailing) is = absurd is
+taken_idle grows old new a (Err other) is = absurd is

@@ -29,7 +29,7 @@ use Rattle.ill_world.specs.declared.event.Who.TheVariants as who
 use Rattle.ill_world.specs.declared.event.Event.{Event}
 use Rattle.ill_world.specs.Invariant.{WasSent, RequesterKnows, ResponderKnows, RequesterStands, ResponderStands, StandsAsRequester, StandsAsResponder, SendsSaved, PartyStands, Stands}
 use Rattle.ill_world.proofs.Sendings.{front_of_itself}
-use Rattle.ill_world.proofs.Kept.{Issues, Keeps, party_kept, told_more, stays_sent}
+use Rattle.ill_world.proofs.Kept.{RowsGrow, Keeps, party_kept, told_more, stays_sent}
 use Rattle.ill_core.specs.declared.state.State.{State}
 use Rattle.ill_core.specs.declared.state.State.TheVariants.{Idle, CancelPending, Cancelled}
 use Rattle.ill_core.specs.State.{is_among, place_of}
@@ -185,18 +185,18 @@ world_first txn = record {
   asked = first_stands (StandsAsResponder txn) _ _ (responder_first txn _);
 }
 
-world_kept : (txn : Qualifiers) (w : Parties) (of : Who) (event : Event) → Issues → Keeps (StandsAsRequester txn) → Keeps (StandsAsResponder txn) → Stands txn w
+world_kept : (txn : Qualifiers) (w : Parties) (of : Who) (event : Event) → RowsGrow → Keeps (StandsAsRequester txn) → Keeps (StandsAsResponder txn) → Stands txn w
     → Stands txn (with_party w of (happens_to (party w of) (party w (other of)).sent event).1)
-world_kept txn w who.Requester event issues asking asked stands = record {
-  asking = party_kept (StandsAsRequester txn) w.requester w.responder.sent event issues asking stands.asking;
+world_kept txn w who.Requester event grows asking asked stands = record {
+  asking = party_kept (StandsAsRequester txn) w.requester w.responder.sent event grows asking stands.asking;
   asked =
     told_more (StandsAsResponder txn) w.responder w.requester.sent _ asked (stays_sent w.requester w.responder.sent event stands.asking.saved) stands.asked;
 }
-world_kept txn w who.Responder event issues asking asked stands = record {
+world_kept txn w who.Responder event grows asking asked stands = record {
   asking =
     told_more (StandsAsRequester txn) w.requester w.responder.sent _ asking (stays_sent w.responder w.requester.sent event stands.asked.saved) stands.asking;
-  asked = party_kept (StandsAsResponder txn) w.responder w.requester.sent event issues asked stands.asked;
+  asked = party_kept (StandsAsResponder txn) w.responder w.requester.sent event grows asked stands.asked;
 }
 
-pub world_after : (txn : Qualifiers) (w : Parties) (event : Event) → Issues → Keeps (StandsAsRequester txn) → Keeps (StandsAsResponder txn) → Stands txn w → Stands txn (happens w event).1
-world_after txn w event issues asking asked stands = world_kept txn w (who_of event) event issues asking asked stands
+pub world_after : (txn : Qualifiers) (w : Parties) (event : Event) → RowsGrow → Keeps (StandsAsRequester txn) → Keeps (StandsAsResponder txn) → Stands txn w → Stands txn (happens w event).1
+world_after txn w event grows asking asked stands = world_kept txn w (who_of event) event grows asking asked stands

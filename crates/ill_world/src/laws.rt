@@ -22,7 +22,7 @@ use ill_core::laws::{
     responder_answers_once, responder_ends_once, responder_keeps_rules, responder_keeps_txn,
     responder_shows,
 };
-use ill_saved::laws::follows_issues;
+use ill_saved::laws::rows_grow;
 
 /// A requester stands by what the responder has sent, after every wish and every message of it.
 pub fn requester_stands()
@@ -63,7 +63,7 @@ pub fn world_stands()
 {
     requester_stands();
     responder_stands();
-    follows_issues();
+    rows_grow();
 }
 
 /// Where the world stands, a requester in CANCELLED or NOT-SUPPLIED faces a responder in the same

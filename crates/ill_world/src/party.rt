@@ -11,7 +11,7 @@ ghost use Rattle.ill_world.specs.Standing.{party_of, IsReady, Gives, is_of};
 use crate::event::Outcome;
 use crate::message::Message;
 use ill_der::{DerFault, decode};
-use ill_saved::laws::{read_again, row_keeps_idle};
+use ill_saved::laws::{read_again, rows_grow};
 use ill_saved::{Action, Desk1, DeskFault, MemoryStore, NextCall, Side, StoreFault};
 use ill_values::{Number, OutOfMemory};
 use std::alloc::Global;
@@ -55,7 +55,7 @@ impl Party {
             self.old result self.new }
         ensures idle { idle_of self.new.live ≡ idle_of self.old.live }
     {
-        row_keeps_idle();
+        rows_grow();
         match self.desk.act(alloc, action) {
             Ok(()) => Ok(Outcome::Done),
             Err(DeskFault::Core(refusal)) => Ok(Outcome::Refused(refusal)),
@@ -69,7 +69,7 @@ impl Party {
         ensures gives { Gives (model.takes_message self.old message.now) self.old result self.new }
         ensures idle { idle_of self.new.live ≡ idle_of self.old.live }
     {
-        row_keeps_idle();
+        rows_grow();
         match self.desk.take_bytes(alloc, message.bytes()) {
             Ok(taking) => Ok(Outcome::Answered(taking)),
             Err(DeskFault::Core(refusal)) => Ok(Outcome::Refused(refusal)),

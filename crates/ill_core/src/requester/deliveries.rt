@@ -4,13 +4,13 @@ ghost use Rattle.std.specs.Prelude.{◌≡◌, true, [], ◌∷◌, Ok};
 ghost use Rattle.ill_core.specs.declared.state.State.TheVariants as State;
 ghost use Rattle.ill_core.specs.Bodies.{is_cancel, is_renew};
 ghost use Rattle.ill_core.specs.Issued.{was};
-ghost use Rattle.ill_core.specs.Requester.{later};
 ghost use Rattle.ill_core.specs.RequesterDeliveries.{take_message, take_answer, take_conditions, take_promise, take_end, take_cancel_reply, take_shipped, take_overdue, take_renew_answer, take_renewal, take_recall, take_checked_in};
-ghost use Rattle.ill_core.specs.Dates.{is_due_on};
 ghost use Rattle.ill_core.specs.State.{is_among};
 
-use super::Requester;
-use crate::issued::{Sought, is_at_most};
+use super::{Requester, is_later};
+use crate::date::is_due_on;
+use crate::issued::Sought;
+use crate::number::is_at_most;
 use crate::state::State;
 use crate::taking::Taking;
 use ill_values::{AnswerResult, Apdu, Body, Day, Number};
@@ -205,16 +205,6 @@ fn take_checked_in(requester: &mut Requester) -> Taking
     }
 }
 
-/// Whether there is a due date, and this day is it.
-fn is_due_on(day: Day, due: Option<Day>) -> bool
-    ensures { result ≡ is_due_on day due }
-{
-    match due {
-        Some(due) => day == due,
-        None => false,
-    }
-}
-
 fn was_cancel(requester: &Requester, number: Number) -> bool
     ensures { result ≡ was is_cancel requester.now.issued number }
 {
@@ -231,21 +221,4 @@ fn was_renew(requester: &Requester, number: Number) -> bool
         Some(apdu) => matches!(apdu.body, Body::Renew { .. }),
         None => false,
     }
-}
-
-/// SHIPPED or later, of a requester.
-pub fn is_later(state: State) -> bool
-    ensures { result ≡ is_among later state }
-{
-    matches!(
-        state,
-        State::Shipped
-            | State::Received
-            | State::RenewPending
-            | State::Overdue
-            | State::RenewOverdue
-            | State::NotReceivedOverdue
-            | State::Recall
-            | State::Returned
-    )
 }

@@ -4,29 +4,26 @@ ghost use Rattle.std.specs.Prelude.{◌≡◌, ◌↔◌, true, false, [], ◌�
 ghost use Rattle.std.specs.List.{list_all};
 ghost use Rattle.ill_core.specs.declared.state.State.TheVariants as states;
 ghost use Rattle.ill_core.specs.State.{is_among};
-ghost use Rattle.ill_core.specs.Bodies.{is_requesters, is_received, is_cancel, is_renew, is_returned, is_ill_request, declines};
-ghost use Rattle.ill_core.specs.Issued.{has};
-ghost use Rattle.ill_core.specs.Requester.{PartsFit, IssuedFits, begins_with_request};
+ghost use Rattle.ill_core.specs.Bodies.{is_requesters};
+ghost use Rattle.ill_core.specs.Requester.{PartsFit, IssuedFits, IssuedKeepsRules, begins_with_request};
 
-use super::deliveries::is_later;
-use crate::issued::is_requesters;
+use super::is_later;
+use crate::body::{is_ill_request, is_requesters};
+use crate::issued::{
+    has_cancel, has_declined, has_ill_request, has_received, has_renew, has_returned,
+};
 use crate::state::State;
-use ill_values::{Apdu, Body};
+use ill_values::Apdu;
 
-/// Whether a requester can have these parts: whether conditions are held, the item was checked in
-/// and a due date is there.
-pub fn are_kept(state: State, held: bool, checked_in: bool, due: bool, apdus: &[Apdu]) -> bool
-    ensures { (result ≡ true) ↔ (list_all (λ a. is_requesters a.body) apdus.now ≡ true)
-        × (begins_with_request apdus.now ≡ true) × PartsFit state held due checked_in
-        × IssuedFits state apdus.now }
+/// Whether what was issued keeps the rules of a requester in this state.
+pub fn are_kept(state: State, apdus: &[Apdu]) -> bool
+    requires role { is_among (states.InProcess ∷ states.CheckedIn ∷ []) state ≡ false }
+    ensures { (result ≡ true) ↔ IssuedKeepsRules state apdus.now }
 {
     if !is_role(apdus) {
         return false;
     }
     if !begins_with_request(apdus) {
-        return false;
-    }
-    if !parts_fit(state, held, checked_in, due) {
         return false;
     }
     issued_fits(state, apdus)
@@ -49,20 +46,8 @@ fn begins_with_request(apdus: &[Apdu]) -> bool
     }
 }
 
-fn has_ill_request(apdus: &[Apdu]) -> bool
-    ensures { result ≡ has is_ill_request apdus.now }
-{
-    apdus.iter().any(|apdu| is_ill_request(&apdu.body))
-}
-
-fn is_ill_request(body: &Body) -> bool
-    ensures { result ≡ is_ill_request body.now }
-{
-    matches!(body, Body::IllRequest { .. })
-}
-
 /// Whether the state has the conditions, the due date and the mark that it wants, and no more.
-fn parts_fit(state: State, held: bool, checked_in: bool, due: bool) -> bool
+pub fn parts_fit(state: State, held: bool, due: bool, checked_in: bool) -> bool
     ensures { (result ≡ true) ↔ PartsFit state held due checked_in }
 {
     match state {
@@ -94,38 +79,4 @@ fn issued_fits(state: State, apdus: &[Apdu]) -> bool
         State::Returned => received && returned,
         _ => !received && !returned,
     }
-}
-
-/// Whether a Received is among them.
-pub fn has_received(apdus: &[Apdu]) -> bool
-    ensures { result ≡ has is_received apdus.now }
-{
-    apdus.iter().any(|apdu| matches!(apdu.body, Body::Received))
-}
-
-fn has_cancel(apdus: &[Apdu]) -> bool
-    ensures { result ≡ has is_cancel apdus.now }
-{
-    apdus.iter().any(|apdu| matches!(apdu.body, Body::Cancel))
-}
-
-fn has_renew(apdus: &[Apdu]) -> bool
-    ensures { result ≡ has is_renew apdus.now }
-{
-    apdus
-        .iter()
-        .any(|apdu| matches!(apdu.body, Body::Renew { .. }))
-}
-
-fn has_returned(apdus: &[Apdu]) -> bool
-    ensures { result ≡ has is_returned apdus.now }
-{
-    apdus.iter().any(|apdu| matches!(apdu.body, Body::Returned))
-}
-
-/// Whether a Conditional-Reply no is among them.
-pub fn has_declined(apdus: &[Apdu]) -> bool
-    ensures { result ≡ has declines apdus.now }
-{
-    apdus.iter().any(|apdu| matches!(apdu.body, Body::ConditionalReply { yes: false, .. }))
 }

@@ -4,10 +4,10 @@ ghost use Rattle.std.specs.Prelude.{◌≡◌, ◌∷◌, [], true, IsSome};
 ghost use Rattle.std.specs.Option.{unwrap_or};
 ghost use Rattle.ill_core.specs.declared.state.State.TheVariants as states;
 ghost use Rattle.ill_core.specs.State.{is_among};
-ghost use Rattle.ill_core.specs.Dates.{is_after_due};
 ghost use Rattle.ill_core.specs.ResponderActions.{leads_to, row_of, answer_row, after_answer, cancel_reply_row, ship_row, renew_answer_row, renewal_row, overdue_row, overdue_row_to, recall_row, check_in_row, expire_row, expiry_of};
 
 use super::{Deed, Responder};
+use crate::date::is_after;
 use crate::refusal::Refusal;
 use crate::state::State;
 use ill_values::{AnswerResult, Body, Day, Number};
@@ -169,16 +169,6 @@ fn leads_to(next: State, body: Body) -> Result<Row, Refusal>
     ensures { result ≡ leads_to next body }
 {
     Ok(Row { next, body })
-}
-
-/// Whether there is a date, and this day is after it.
-fn is_after(day: Day, date: Option<Day>) -> bool
-    ensures { result ≡ is_after_due day date }
-{
-    match date {
-        Some(date) => date < day,
-        None => false,
-    }
 }
 
 /// The expiry date of the request.

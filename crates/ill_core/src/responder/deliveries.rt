@@ -5,11 +5,11 @@ ghost use Rattle.ill_core.specs.declared.state.State.TheVariants as states;
 ghost use Rattle.ill_core.specs.State.{is_among};
 ghost use Rattle.ill_core.specs.Bodies.{is_ill_request, names_conditions};
 ghost use Rattle.ill_core.specs.Issued.{is_same_txn, was};
-ghost use Rattle.ill_core.specs.Responder.{later};
 ghost use Rattle.ill_core.specs.ResponderDeliveries.{MayWantMemory, takes_memory, take_message, take_request, take_yes, take_no, take_cancel, take_received, take_renew, take_returned};
 
-use super::Responder;
-use crate::issued::is_at_most;
+use super::{Responder, is_later};
+use crate::body::names_conditions;
+use crate::number::is_at_most;
 use crate::refusal::Refusal;
 use crate::state::State;
 use crate::taking::Taking;
@@ -164,35 +164,7 @@ fn was_conditional(responder: &Responder, number: Number) -> bool
     ensures { result ≡ was names_conditions responder.now.issued number }
 {
     match responder.issued.get(number) {
-        Some(apdu) => is_conditional(&apdu.body),
+        Some(apdu) => names_conditions(&apdu.body),
         None => false,
     }
-}
-
-/// Whether a message names conditions.
-pub fn is_conditional(body: &Body) -> bool
-    ensures { result ≡ names_conditions body.now }
-{
-    matches!(
-        body,
-        Body::IllAnswer {
-            result: AnswerResult::Conditional
-        }
-    )
-}
-
-/// SHIPPED or later, of a responder.
-pub fn is_later(state: State) -> bool
-    ensures { result ≡ is_among later state }
-{
-    matches!(
-        state,
-        State::Shipped
-            | State::RenewPending
-            | State::Overdue
-            | State::RenewOverdue
-            | State::Recall
-            | State::Returned
-            | State::CheckedIn
-    )
 }

@@ -1,15 +1,18 @@
 //! Which parts make a responder.
 
-ghost use Rattle.std.specs.Prelude.{◌≡◌, ◌↔◌, true, false, not, ◌&&◌, is_some};
+ghost use Rattle.std.specs.Prelude.{◌≡◌, ◌↔◌, true, false, not, ◌&&◌};
 ghost use Rattle.std.specs.List.{list_all, filter_map, count_by};
-ghost use Rattle.ill_core.specs.Bodies.{is_requesters, is_shipped, is_renewal, is_checked_in, names_conditions};
-ghost use Rattle.ill_core.specs.Issued.{is_none, granted_day, has};
+ghost use Rattle.ill_core.specs.Bodies.{is_requesters, is_shipped};
+ghost use Rattle.ill_core.specs.Issued.{granted_day};
 ghost use Rattle.ill_core.specs.Responder.{rises, PartsFit, IssuedFits, IssuedKeepsRules, is_request_of, is_named, are_rising, ships_first, ends_with_conditions};
 
-use super::deliveries::{is_conditional, is_later};
-use crate::issued::{granted_day, is_requesters};
+use super::is_later;
+use crate::body::{
+    grant_in, is_ill_request, is_renewal, is_requesters, is_shipped, names_conditions,
+};
+use crate::issued::has_checked_in;
 use crate::state::State;
-use ill_values::{Apdu, Body, Day, Number, TxnId};
+use ill_values::{Apdu, Day, Number, TxnId};
 
 /// Whether what was issued keeps the rules of a responder in this state.
 pub fn are_kept(state: State, accepted: &Option<Number>, apdus: &[Apdu]) -> bool
@@ -35,7 +38,7 @@ pub fn is_request_of(txn: &TxnId, request: &Option<Apdu>) -> bool
     ensures { result ≡ is_request_of txn.now request.now }
 {
     match request {
-        Some(apdu) => apdu.txn == *txn && matches!(apdu.body, Body::IllRequest { .. }),
+        Some(apdu) => apdu.txn == *txn && is_ill_request(&apdu.body),
         None => true,
     }
 }
@@ -97,7 +100,7 @@ pub fn is_named(accepted: &Option<Number>, apdus: &[Apdu]) -> bool
 {
     match accepted {
         Some(number) => match apdus.get(usize::from(number.get()) - 1) {
-            Some(apdu) => is_conditional(&apdu.body),
+            Some(apdu) => names_conditions(&apdu.body),
             None => false,
         },
         None => true,
@@ -126,14 +129,6 @@ fn shipped_count(apdus: &[Apdu]) -> usize
     apdus.iter().filter(|apdu| is_shipped(&apdu.body)).count()
 }
 
-fn has_checked_in(apdus: &[Apdu]) -> bool
-    ensures { result ≡ has is_checked_in apdus.now }
-{
-    apdus
-        .iter()
-        .any(|apdu| matches!(apdu.body, Body::CheckedIn))
-}
-
 /// Whether the last of them names conditions.
 fn ends_with_conditions(apdus: &[Apdu]) -> bool
     ensures { result ≡ ends_with_conditions apdus.now }
@@ -142,7 +137,7 @@ fn ends_with_conditions(apdus: &[Apdu]) -> bool
         return false;
     }
     match apdus.get(apdus.len() - 1) {
-        Some(apdu) => is_conditional(&apdu.body),
+        Some(apdu) => names_conditions(&apdu.body),
         None => false,
     }
 }
@@ -154,7 +149,7 @@ pub fn dates_rise(apdus: &[Apdu]) -> bool
 {
     let mut last = None;
     for apdu in apdus {
-        let found = granted_day(apdu);
+        let found = grant_in(&apdu.body);
         if !may_follow(&found, &last) {
             return false;
         }
@@ -187,22 +182,4 @@ pub fn ships_first(apdus: &[Apdu]) -> bool
         }
     }
     true
-}
-
-fn is_shipped(body: &Body) -> bool
-    ensures { result ≡ is_shipped body.now }
-{
-    matches!(body, Body::Shipped { .. })
-}
-
-fn is_renewal(body: &Body) -> bool
-    ensures { result ≡ is_renewal body.now }
-{
-    matches!(
-        body,
-        Body::RenewAnswer {
-            granted: Some(_),
-            ..
-        }
-    )
 }

@@ -2,4 +2,4 @@ use Rattle.ill_der.proofs.SpellingLaws.{no_prefix}
 use Rattle.ill_der.proofs.laws.no_prefix.Goals as goal
 
 pub returns : goal.returns
-returns c = no_prefix
+returns c = no_prefix c.read_again.ensures

@@ -2,4 +2,4 @@ use Rattle.ill_der.proofs.SpellingLaws.{one_apdu}
 use Rattle.ill_der.proofs.laws.one_apdu.Goals as goal
 
 pub returns : goal.returns
-returns c = one_apdu
+returns c = one_apdu c.read_again.ensures

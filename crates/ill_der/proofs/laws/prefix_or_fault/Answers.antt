@@ -2,4 +2,9 @@ use Rattle.ill_der.proofs.SpellingLaws.{prefix_or_fault}
 use Rattle.ill_der.proofs.laws.prefix_or_fault.Goals as goal
 
 pub returns : goal.returns
-returns c = prefix_or_fault
+returns c = prefix_or_fault (record {
+  day_spelled = c.date_texts.ensures.spelled;
+  day_read = c.date_texts.ensures.read;
+  qualifier_size = c.text_sizes.ensures.qualifier;
+  item_size = c.text_sizes.ensures.item;
+})

@@ -2,4 +2,9 @@ use Rattle.ill_der.proofs.ShortFormLaws.{apdu_again}
 use Rattle.ill_der.proofs.laws.read_again.Goals as goal
 
 pub returns : goal.returns
-returns c = apdu_again
+returns c = apdu_again (record {
+  day_spelled = c.date_texts.ensures.spelled;
+  day_read = c.date_texts.ensures.read;
+  qualifier_size = c.text_sizes.ensures.qualifier;
+  item_size = c.text_sizes.ensures.item;
+})

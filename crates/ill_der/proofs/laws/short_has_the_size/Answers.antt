@@ -1,8 +1,15 @@
 use Rattle.std.proofs.Common.{arith}
+use Rattle.ill_der.proofs.ContentsLaws.{Values}
 use Rattle.ill_der.proofs.ShortFormLaws.{apdu_short}
 use Rattle.ill_der.proofs.laws.short_has_the_size.Goals as goal
 
 pub returns : goal.returns
 returns c bytes n e =
-    let short = apdu_short bytes n e in
+    let values : Values = record {
+      day_spelled = c.date_texts.ensures.spelled;
+      day_read = c.date_texts.ensures.read;
+      qualifier_size = c.text_sizes.ensures.qualifier;
+      item_size = c.text_sizes.ensures.item;
+    } in
+    let short = apdu_short values bytes n e in
     (short.0, omega (arith, short.0, short.1))

@@ -3,7 +3,8 @@ use Rattle.std.specs.Io.KnownBytes.{Consumes}
 use Rattle.std.proofs.lemmas.List.{length-take-le}
 use Rattle.ill_der.specs.declared.fault.DerFault.TheVariants.{Short}
 use Rattle.ill_der.specs.Stream.{AreUnfinished}
-use Rattle.ill_der.proofs.StreamLemmas.{consumes_more, consumes_nothing, consumes_kept}
+use Rattle.std.proofs.KnownBytes.{Consumes-trans, Consumes-kept}
+use Rattle.ill_der.proofs.StreamLemmas.{consumes_nothing}
 use Rattle.ill_der.proofs.MissingLemmas.{unfinished_alone, most_missing, read_on, filled, filled_length}
 use Rattle.ill_der.proofs.reading.read_counted.Goals as goal
 
@@ -44,7 +45,7 @@ pub returns-in-Err-clause-read : goal.returns-in-Err-clause-read
 returns-in-Err-clause-read g c =
     let front = take c.loop.size c.loop.bytes in
     let alone = unfinished_alone front (omega (arith, c.missing-missing.ensures, c.if-missing-eq0.false)) in
-    (front, consumes_kept _ _ _ front c.loop.invariant.read c.in-Err.ensures.bytes, alone)
+    (front, Consumes-kept _ _ _ front c.loop.invariant.read c.in-Err.ensures.bytes, alone)
 
 pub loop-preserved : goal.loop-preserved
 loop-preserved g c =
@@ -66,6 +67,6 @@ loop-preserved g c =
       size = omega (arith, most, long, room, few, c.missing-missing.ensures);
       turns = omega (arith, is.turns, some);
       ticks = omega (arith, c.read_once.ensures.count, is.ticks);
-      read = subst (Consumes (remaining c.args.reader.now) (remaining c.read_once.new.self)) (sym now) (consumes_more _ _ _ front more is.read c.in-Ok.ensures.bytes.0);
+      read = subst (Consumes (remaining c.args.reader.now) (remaining c.read_once.new.self)) (sym now) (Consumes-trans _ _ _ front more is.read c.in-Ok.ensures.bytes.0);
       unfinished = subst AreUnfinished (sym now) (read_on front more is.unfinished (omega (arith, length-take-le count c.read_once.new.buffer few, few, room, c.missing-missing.ensures)));
     }

@@ -1,4 +1,4 @@
-use Rattle.std.proofs.Common.{refl, rules, ◌+◌, ◌≤◌, length, subst, Err}
+use Rattle.std.proofs.Common.{arith, rules, ◌+◌, ◌≤◌, length, subst, Err}
 use Rattle.ill_der.specs.ShortForm.{apdu_at, Decodes}
 use Rattle.ill_saved.proofs.Desks.{memory_alone, trailing_alone}
 use Rattle.ill_saved.proofs.desk.one_apdu.Goals as goal
@@ -12,4 +12,4 @@ returns-in-Ok-2 c =
 pub returns-in-Err-OutOfMemory : goal.returns-in-Err-OutOfMemory
 returns-in-Err-OutOfMemory c =
     let bytes = c.args.bytes.now in
-    memory_alone bytes (apdu_at bytes) refl (subst (λ fault. Decodes bytes (apdu_at bytes) (Err fault)) c.in-Err-OutOfMemory.field-0-is c.in-Err-OutOfMemory.ensures.read)
+    memory_alone bytes (apdu_at bytes) (c.prefix_or_fault.ensures bytes (λ i. omega (arith, c.type_inv.bytes i))) (subst (λ fault. Decodes bytes (apdu_at bytes) (Err fault)) c.in-Err-OutOfMemory.field-0-is c.in-Err-OutOfMemory.ensures.read)

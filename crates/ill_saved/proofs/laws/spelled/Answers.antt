@@ -2,4 +2,10 @@ use Rattle.ill_saved.proofs.RecordLaws.{side_takes}
 use Rattle.ill_saved.proofs.laws.spelled.Goals as goal
 
 pub returns : goal.returns
-returns c = side_takes
+returns c = side_takes (record {
+  day_spelled = c.date_texts.ensures.spelled;
+  day_read = c.date_texts.ensures.read;
+  text_size = c.text_sizes.ensures.qualifier;
+  apdu_again = c.read_again.ensures;
+  apdu_or_fault = c.prefix_or_fault.ensures;
+})

@@ -9,4 +9,4 @@ returns-in-Requester c =
     let x = c.in-Requester.requester in
     let a = c.args.apdu.now in
     subst (λ old. Takes old a c.take.result (sides.Requester c.take.new.self)) (sym c.in-Requester.is)
-    (requester_takes x c.take.new.self a c.take.result (c.requester_is_quiet.ensures x a) c.take.ensures)
+    (requester_takes x c.take.new.self a c.take.result c.take.ensures.memory c.take.ensures.takes)

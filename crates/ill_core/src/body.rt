@@ -1,0 +1,71 @@
+//! What an APDU says by its type and fields.
+
+ghost use Rattle.std.specs.Prelude.{◌≡◌};
+ghost use Rattle.ill_core.specs.Bodies.{is_requesters, is_ill_request, is_shipped, is_renewal, names_conditions, grant_in};
+
+use ill_values::{AnswerResult, Body, Day};
+
+/// Whether a requester issues APDUs of this type. A responder issues the others.
+pub fn is_requesters(body: &Body) -> bool
+    ensures { result ≡ is_requesters body.now }
+{
+    match body {
+        Body::IllRequest { .. }
+        | Body::ConditionalReply { .. }
+        | Body::Cancel
+        | Body::Received
+        | Body::Renew { .. }
+        | Body::Returned => true,
+        _ => false,
+    }
+}
+
+/// Whether it is an ILL-Request.
+pub fn is_ill_request(body: &Body) -> bool
+    ensures { result ≡ is_ill_request body.now }
+{
+    matches!(body, Body::IllRequest { .. })
+}
+
+/// Whether it is a Shipped.
+pub fn is_shipped(body: &Body) -> bool
+    ensures { result ≡ is_shipped body.now }
+{
+    matches!(body, Body::Shipped { .. })
+}
+
+/// Whether it is a Renew-Answer yes.
+pub fn is_renewal(body: &Body) -> bool
+    ensures { result ≡ is_renewal body.now }
+{
+    matches!(
+        body,
+        Body::RenewAnswer {
+            granted: Some(_),
+            ..
+        }
+    )
+}
+
+/// Whether it is an ILL-Answer conditional.
+pub fn names_conditions(body: &Body) -> bool
+    ensures { result ≡ names_conditions body.now }
+{
+    matches!(
+        body,
+        Body::IllAnswer {
+            result: AnswerResult::Conditional
+        }
+    )
+}
+
+/// The date that a Shipped or a Renew-Answer yes grants.
+pub fn grant_in(body: &Body) -> Option<Day>
+    ensures { result ≡ grant_in body.now }
+{
+    match body {
+        Body::Shipped { due } => Some(*due),
+        Body::RenewAnswer { granted, .. } => *granted,
+        _ => None,
+    }
+}

@@ -1,0 +1,26 @@
+//! A day beside a date that may be absent.
+
+ghost use Rattle.std.specs.Prelude.{◌≡◌};
+ghost use Rattle.ill_core.specs.Dates.{is_due_on, is_after_due};
+
+use ill_values::Day;
+
+/// Whether there is a due date, and this day is it.
+pub fn is_due_on(day: Day, due: Option<Day>) -> bool
+    ensures { result ≡ is_due_on day due }
+{
+    match due {
+        Some(due) => day == due,
+        None => false,
+    }
+}
+
+/// Whether there is a date, and this day is after it.
+pub fn is_after(day: Day, date: Option<Day>) -> bool
+    ensures { result ≡ is_after_due day date }
+{
+    match date {
+        Some(date) => date < day,
+        None => false,
+    }
+}

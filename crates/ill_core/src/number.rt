@@ -1,0 +1,16 @@
+//! A number beside one that may be absent.
+
+ghost use Rattle.std.specs.Prelude.{◌≡◌};
+ghost use Rattle.ill_core.specs.Numbers.{is_at_most};
+
+use ill_values::Number;
+
+/// Whether there is a number, and this one is at most that.
+pub fn is_at_most(number: Number, most: Option<Number>) -> bool
+    ensures { result ≡ is_at_most number most }
+{
+    match most {
+        Some(most) => number <= most,
+        None => false,
+    }
+}

@@ -1,0 +1,14 @@
+use Rattle.ill_saved.proofs.Desks.{row_grows}
+use Rattle.ill_saved.proofs.laws.rows_grow.Goals as goal
+
+pub returns : goal.returns
+returns c = row_grows (record {
+  wish_txn = c.requester_keeps_txn.ensures.acts;
+  wish_issues = c.requester_issues.ensures.acts;
+  deed_txn = c.responder_keeps_txn.ensures.acts;
+  deed_issues = c.responder_issues.ensures.acts;
+  requester_txn = c.requester_keeps_txn.ensures.takes;
+  requester_issues = c.requester_issues.ensures.takes;
+  responder_txn = c.responder_keeps_txn.ensures.takes;
+  responder_issues = c.responder_issues.ensures.takes;
+})

@@ -1,7 +1,7 @@
 -- What an APDU says by its type and fields (this profile's own).
-use Rattle.std.specs.Prelude.{ℕ, Bool, true, false, Option, Some, None}
+use Rattle.std.specs.Prelude.{ℕ, Bool, true, false, ◌||◌, Option, Some, None}
 use Rattle.ill_values.specs.declared.apdu.Body.{Body}
-use Rattle.ill_values.specs.declared.apdu.Body.TheVariants.{IllRequest, IllAnswer, ConditionalReply, Cancel, Shipped, Received, Returned, CheckedIn, Renew, RenewAnswer}
+use Rattle.ill_values.specs.declared.apdu.Body.TheVariants.{IllRequest, IllAnswer, ConditionalReply, Cancel, CancelReply, Shipped, Received, Returned, CheckedIn, Renew, RenewAnswer, Expired}
 use Rattle.ill_values.specs.declared.apdu.AnswerResult.{AnswerResult}
 use Rattle.ill_values.specs.declared.apdu.AnswerResult.TheVariants.{Conditional, WillSupply, HoldPlaced}
 use Rattle.ill_values.specs.Day.{Date}
@@ -45,6 +45,19 @@ is_final Conditional = false
 is_final WillSupply = false
 is_final HoldPlaced = false
 is_final other = true
+
+-- The ends of a request: the item is not supplied, the request is cancelled, or the item is shipped.
+abbrev pub is_unsupplied : Body → Bool
+is_unsupplied (IllAnswer answer) = is_final answer
+is_unsupplied Expired = true
+is_unsupplied other = false
+
+abbrev pub is_cancelled : Body → Bool
+is_cancelled (CancelReply c true) = true
+is_cancelled other = false
+
+abbrev pub is_end : Body → Bool
+is_end body = is_unsupplied body || (is_cancelled body || is_shipped body)
 
 -- a Renew-Answer yes
 abbrev pub is_renewal : Body → Bool

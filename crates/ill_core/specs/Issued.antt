@@ -6,9 +6,9 @@ use Rattle.ill_values.specs.TxnId.{Qualifiers}
 use Rattle.ill_values.specs.declared.apdu.Apdu.{Apdu}
 use Rattle.ill_values.specs.declared.apdu.Body.{Body}
 use Rattle.ill_values.specs.Day.{Date}
-use Rattle.ill_core.specs.Bodies.{is_cancel, is_renew, grant_in, accepts}
+use Rattle.ill_core.specs.Bodies.{is_cancel, is_renew, is_end, grant_in, accepts}
 use Rattle.ill_core.specs.declared.issued.Sought.{Sought}
-use Rattle.ill_core.specs.declared.issued.Sought.TheVariants.{Accepted, CancelNumber, RenewNumber}
+use Rattle.ill_core.specs.declared.issued.Sought.TheVariants.{Accepted, CancelNumber, RenewNumber, EndNumber}
 use Rattle.ill_core.specs.declared.refusal.Refusal.{Refusal}
 use Rattle.ill_core.specs.declared.refusal.Refusal.TheVariants.{OtherTransaction, WrongRole, NumbersUsed}
 
@@ -66,11 +66,16 @@ number_of_cancel a = if is_cancel a.body then Some a.number else None
 abbrev pub number_of_renew : Apdu → Option ℕ
 number_of_renew a = if is_renew a.body then Some a.number else None
 
+-- an end of the request
+abbrev pub number_of_end : Apdu → Option ℕ
+number_of_end a = if is_end a.body then Some a.number else None
+
 -- what is sought in an APDU
 abbrev pub sought_number : Sought → Apdu → Option ℕ
 sought_number Accepted a = accepted_in a
 sought_number CancelNumber a = number_of_cancel a
 sought_number RenewNumber a = number_of_renew a
+sought_number EndNumber a = number_of_end a
 
 -- the number of the next APDU: there are 255
 abbrev pub next_number : List Apdu → Result ℕ Refusal

@@ -10,7 +10,7 @@ use Rattle.ill_core.specs.State.{is_among}
 use Rattle.ill_core.specs.Dates.{is_after_due}
 use Rattle.ill_core.specs.Rules.{implies}
 use Rattle.ill_core.specs.Bodies.{is_requesters, is_ill_request, is_shipped, is_checked_in, names_conditions, is_renewal}
-use Rattle.ill_core.specs.Issued.{are_numbered, is_same_txn, has, was, last_of, is_none, granted_day}
+use Rattle.ill_core.specs.Issued.{are_numbered, is_same_txn, has, was, last_of, is_none, granted_day, number_of_end}
 
 pub record ResponderRecord : Type 0 where
   pub txn : Qualifiers
@@ -40,6 +40,10 @@ responder_of txn state accepted last_cancel last_renew received request issued =
 -- the date of the last Shipped or Renew-Answer yes
 abbrev pub due_of : ResponderRecord → Option Date
 due_of y = last_of granted_day y.issued
+
+-- the number of the last APDU that ends the request
+abbrev pub end_number : ResponderRecord → Option ℕ
+end_number y = last_of number_of_end y.issued
 
 -- the number of the conditions that wait for an answer: in CONDITIONAL alone, that of the last APDU
 -- issued

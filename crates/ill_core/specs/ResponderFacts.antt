@@ -14,7 +14,8 @@ use Rattle.ill_core.specs.declared.taking.Taking.{Taking}
 use Rattle.ill_core.specs.declared.taking.Taking.TheVariants.{Taken, Repeat}
 use Rattle.ill_core.specs.State.{is_among}
 use Rattle.ill_core.specs.Numbers.{is_at_most, is_below, are_distinct}
-use Rattle.ill_core.specs.Bodies.{is_final, is_shipped, is_cancel, is_renew, declines}
+use Rattle.ill_core.specs.Bodies.{is_shipped, is_cancel, is_renew, declines}
+pub use Rattle.ill_core.specs.Bodies.{is_unsupplied, is_cancelled, is_end}
 use Rattle.ill_core.specs.Issued.{has, with_next}
 use Rattle.ill_core.specs.Responder.{ResponderRecord, later}
 
@@ -59,19 +60,6 @@ StaysLater y new =
     (is_among later y.state ≡ true → is_among later new.state ≡ true)
     × (is_among (Returned ∷ []) y.state ≡ true →
     is_among (Returned ∷ CheckedIn ∷ []) new.state ≡ true)
-
--- The ends of a request: the item is not supplied, the request is cancelled, or the item is shipped.
-abbrev pub is_unsupplied : Body → Bool
-is_unsupplied (types.IllAnswer answer) = is_final answer
-is_unsupplied types.Expired = true
-is_unsupplied other = false
-
-abbrev pub is_cancelled : Body → Bool
-is_cancelled (types.CancelReply c true) = true
-is_cancelled other = false
-
-abbrev pub is_end : Body → Bool
-is_end body = is_unsupplied body || (is_cancelled body || is_shipped body)
 
 -- the states in which an end was issued
 abbrev pub ended : List State

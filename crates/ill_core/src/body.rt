@@ -1,7 +1,7 @@
 //! What an APDU says by its type and fields.
 
 ghost use Rattle.std.specs.Prelude.{◌≡◌};
-ghost use Rattle.ill_core.specs.Bodies.{is_requesters, is_ill_request, is_shipped, is_renewal, names_conditions, grant_in};
+ghost use Rattle.ill_core.specs.Bodies.{is_requesters, is_ill_request, is_shipped, is_end, is_renewal, names_conditions, grant_in};
 
 use ill_values::{AnswerResult, Body, Day};
 
@@ -32,6 +32,22 @@ pub fn is_shipped(body: &Body) -> bool
     ensures { result ≡ is_shipped body.now }
 {
     matches!(body, Body::Shipped { .. })
+}
+
+/// Whether it ends a request: an ILL-Answer after which the item is not supplied, an Expired, a
+/// Cancel-Reply yes, or a Shipped.
+pub fn is_end(body: &Body) -> bool
+    ensures { result ≡ is_end body.now }
+{
+    match body {
+        Body::IllAnswer { result } => !matches!(
+            result,
+            AnswerResult::Conditional | AnswerResult::WillSupply | AnswerResult::HoldPlaced
+        ),
+        Body::CancelReply { yes, .. } => *yes,
+        Body::Expired | Body::Shipped { .. } => true,
+        _ => false,
+    }
 }
 
 /// Whether it is a Renew-Answer yes.

@@ -5,7 +5,7 @@ ghost use Rattle.ill_core.specs.declared.refusal.Refusal.TheVariants as refusals
 ghost use Rattle.ill_core.specs.Issued.{IssuedList, is_same_txn, are_numbered, message, next_number, with_next, first_refusal, Admits, last_of, sought_number, granted_day, has};
 ghost use Rattle.ill_core.specs.Bodies.{is_ill_request, is_received, is_cancel, is_renew, is_returned, is_checked_in, declines};
 
-use crate::body::{grant_in, is_ill_request};
+use crate::body::{grant_in, is_end, is_ill_request};
 use crate::refusal::Refusal;
 use ill_values::{Apdu, Body, Day, Number, TxnId};
 use std::alloc::Global;
@@ -27,6 +27,8 @@ pub enum Sought {
     CancelNumber,
     /// The number of a Renew.
     RenewNumber,
+    /// The number of an APDU that ends the request.
+    EndNumber,
 }
 
 impl Model for Issued {
@@ -46,6 +48,7 @@ impl Sought {
             (Sought::Accepted, Body::ConditionalReply { answers, yes: true }) => Some(*answers),
             (Sought::CancelNumber, Body::Cancel) => Some(apdu.number),
             (Sought::RenewNumber, Body::Renew { .. }) => Some(apdu.number),
+            (Sought::EndNumber, body) if is_end(body) => Some(apdu.number),
             _ => None,
         }
     }

@@ -8,7 +8,7 @@ ghost use Rattle.std.specs.Prelude.{◌≡◌, ◌≤◌, ◌↔◌, [], None, f
 ghost use Rattle.ill_core.specs.declared.state.State.TheVariants as State;
 ghost use Rattle.ill_core.specs.State.{is_among};
 ghost use Rattle.ill_core.specs.Issued.{message};
-ghost use Rattle.ill_core.specs.Responder.{ResponderRecord, responder_of, IsResponder, due_of, outstanding_number, later};
+ghost use Rattle.ill_core.specs.Responder.{ResponderRecord, responder_of, IsResponder, due_of, outstanding_number, end_number, later};
 ghost use Rattle.ill_core.specs.ResponderActions.{Acts};
 ghost use Rattle.ill_core.specs.ResponderDeliveries.{Takes};
 
@@ -247,6 +247,15 @@ impl Responder {
         ensures { result ≡ self.now.last_renew }
     {
         self.last_renew
+    }
+
+    /// The number of the message that ended the request, if one did: an ILL-Answer after which the
+    /// item is not supplied, an Expired, a Cancel-Reply yes, or a Shipped. Once it was sent, one
+    /// arrival of it is enough for the requester.
+    pub fn ending(&self) -> Option<Number>
+        ensures { result ≡ end_number self.now }
+    {
+        self.issued.last(Sought::EndNumber)
     }
 
     /// The ILL-Request, once it was taken.

@@ -10,3 +10,5 @@ pub mod Sendings
 pub mod Kept
 pub mod Standings
 pub mod Claims
+pub mod Calendar
+pub mod DueDates

@@ -1,5 +1,5 @@
 -- What one record keeps.
-use Rattle.std.proofs.Common.{rules, arith, ◌≡◌, ◌+◌, ◌≤◌, replicate, ℕ, zero, suc, Bool, true, false, ◌||◌, ◌==◌, List, [], ◌∷◌, Option, Some, None, Result, Ok, Err, refl, subst}
+use Rattle.std.proofs.Common.{rules, arith, ◌≡◌, ◌+◌, ◌≤◌, replicate, ℕ, zero, suc, Bool, true, false, ◌||◌, ◌==◌, List, [], ◌∷◌, Option, Some, None, Result, Ok, Err, refl, subst, inl}
 use Rattle.std.specs.Prelude.{slice_get}
 use Rattle.std.specs.Option.{option_flatten}
 use Rattle.ill_values.specs.Day.{Date}
@@ -28,6 +28,7 @@ use Rattle.ill_world.specs.declared.event.Who.{Who}
 use Rattle.ill_world.specs.declared.event.Who.TheVariants as who
 use Rattle.ill_world.specs.declared.event.Event.{Event}
 use Rattle.ill_world.specs.Invariant.{WasSent, RequesterKnows, ResponderKnows, RequesterStands, ResponderStands, StandsAsRequester, StandsAsResponder, SendsSaved, PartyStands, Stands}
+use Rattle.ill_world.proofs.DueDates.{RowsKeepDue, due_after}
 use Rattle.ill_world.proofs.Sendings.{front_of_itself}
 use Rattle.ill_world.proofs.Kept.{RowsGrow, Keeps, party_kept, told_more, stays_sent}
 use Rattle.ill_core.specs.declared.state.State.{State}
@@ -183,20 +184,23 @@ pub world_first : (txn : Qualifiers) → Stands txn (first_world txn)
 world_first txn = record {
   asking = first_stands (StandsAsRequester txn) _ _ (requester_first txn _);
   asked = first_stands (StandsAsResponder txn) _ _ (responder_first txn _);
+  due = inl refl;
 }
 
-world_kept : (txn : Qualifiers) (w : Parties) (of : Who) (event : Event) → RowsGrow → Keeps (StandsAsRequester txn) → Keeps (StandsAsResponder txn) → Stands txn w
+world_kept : RowsKeepDue → (txn : Qualifiers) (w : Parties) (of : Who) (event : Event) → RowsGrow → Keeps (StandsAsRequester txn) → Keeps (StandsAsResponder txn) → Stands txn w
     → Stands txn (with_party w of (happens_to (party w of) (party w (other of)).sent event).1)
-world_kept txn w who.Requester event grows asking asked stands = record {
+world_kept rows txn w who.Requester event grows asking asked stands = record {
   asking = party_kept (StandsAsRequester txn) w.requester w.responder.sent event grows asking stands.asking;
   asked =
     told_more (StandsAsResponder txn) w.responder w.requester.sent _ asked (stays_sent w.requester w.responder.sent event stands.asking.saved) stands.asked;
+  due = due_after rows txn w.requester w.responder.sent event stands.asking.live stands.due;
 }
-world_kept txn w who.Responder event grows asking asked stands = record {
+world_kept rows txn w who.Responder event grows asking asked stands = record {
   asking =
     told_more (StandsAsRequester txn) w.requester w.responder.sent _ asking (stays_sent w.responder w.requester.sent event stands.asked.saved) stands.asking;
   asked = party_kept (StandsAsResponder txn) w.responder w.requester.sent event grows asked stands.asked;
+  due = stands.due;
 }
 
-pub world_after : (txn : Qualifiers) (w : Parties) (event : Event) → RowsGrow → Keeps (StandsAsRequester txn) → Keeps (StandsAsResponder txn) → Stands txn w → Stands txn (happens w event).1
-world_after txn w event grows asking asked stands = world_kept txn w (who_of event) event grows asking asked stands
+pub world_after : RowsKeepDue → (txn : Qualifiers) (w : Parties) (event : Event) → RowsGrow → Keeps (StandsAsRequester txn) → Keeps (StandsAsResponder txn) → Stands txn w → Stands txn (happens w event).1
+world_after rows txn w event grows asking asked stands = world_kept rows txn w (who_of event) event grows asking asked stands

@@ -74,3 +74,4 @@ pub record PartyStands (K : Side → List (Option Apdu) → Type 0) (p : Party) 
 pub record Stands (txn : Qualifiers) (w : Parties) : Type 0 where
   pub asking : PartyStands (StandsAsRequester txn) w.requester w.responder.sent
   pub asked : PartyStands (StandsAsResponder txn) w.responder w.requester.sent
+  pub due : requester.KeepsDue (due_date_of w.requester.landed) (due_date_of w.requester.live)

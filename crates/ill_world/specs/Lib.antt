@@ -7,3 +7,4 @@ pub mod Simulation
 pub mod Simulating
 pub mod Safety
 pub mod Invariant
+pub mod Agreement

@@ -18,7 +18,7 @@ ghost use Rattle.ill_world.specs.Safety.{OfBoth, EndsAlike, WasShipped, WasGrant
 ghost use Rattle.ill_world.specs.Invariant.{WasSent, RequesterStands, ResponderStands, Stands};
 
 use ill_core::laws::{
-    requester_answers_once, requester_keeps_rules, requester_keeps_txn, requester_shows,
+    requester_answers_once, requester_keeps_due, requester_keeps_rules, requester_keeps_txn, requester_shows,
     responder_answers_once, responder_ends_once, responder_keeps_rules, responder_keeps_txn,
     responder_shows,
 };
@@ -64,6 +64,7 @@ pub fn world_stands()
     requester_stands();
     responder_stands();
     rows_grow();
+    requester_keeps_due();
 }
 
 /// Where the world stands, a requester in CANCELLED or NOT-SUPPLIED faces a responder in the same

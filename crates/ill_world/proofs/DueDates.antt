@@ -1,0 +1,115 @@
+-- The requester's due date, from event to event.
+use Rattle.std.proofs.Common.{rules, ◌≡◌, inl, inr, ℕ, Bool, true, false, nat_le, List, [], ◌∷◌, Option, Some, None, is_some, Result, Ok, Err, refl, sym, ap, ◌∙◌, subst}
+use Rattle.ill_values.specs.Day.{Date}
+use Rattle.ill_values.specs.TxnId.{Qualifiers}
+use Rattle.ill_values.specs.declared.apdu.Apdu.{Apdu}
+use Rattle.ill_core.specs.declared.refusal.Refusal.{Refusal}
+use Rattle.ill_core.specs.declared.requester.Wish.{Wish}
+use Rattle.ill_core.specs.State.{is_among}
+use Rattle.ill_core.specs.Issued.{message}
+use Rattle.ill_core.specs.Requester.{RequesterRecord, later}
+use Rattle.ill_core.specs.RequesterActions as requester_actions
+use Rattle.ill_core.specs.RequesterDeliveries as requester_deliveries
+use Rattle.ill_core.specs.RequesterFacts.{KeepsDue}
+use Rattle.ill_saved.specs.declared.side.Side.{Side}
+use Rattle.ill_saved.specs.declared.side.Side.TheVariants as sides
+use Rattle.ill_saved.specs.declared.side.Action.{Action}
+use Rattle.ill_saved.specs.declared.side.Action.TheVariants as actions
+use Rattle.ill_saved.specs.Side.{issued_of, due_date_of, done_by, acts, takes}
+use Rattle.ill_world.specs.declared.event.Who.TheVariants as who
+use Rattle.ill_world.specs.declared.event.Event.{Event}
+use Rattle.ill_world.specs.declared.event.Event.TheVariants as events
+use Rattle.ill_world.specs.World.{Party, Parties, sent_message, decides, sends, receives, happens_to, happens}
+use Rattle.ill_world.specs.Invariant.{StandsAsRequester, Stands}
+use Rattle.ill_world.specs.Agreement.{KeepsDates}
+use Rattle.ill_world.proofs.Calendar.{keeps_on}
+
+-- what the rows do to a due date
+pub record RowsKeepDue : Type 0 where
+  pub acts : (x new : RequesterRecord) (wish : Wish) → requester_actions.acts x wish ≡ Ok new → new.due ≡ x.due
+  pub takes : (x : RequesterRecord) (a : Apdu) → is_some x.due ≡ is_among later x.state → KeepsDue x.due (requester_deliveries.takes x a).1.due
+
+stays : (due : Option Date) → KeepsDue due due
+stays due = inr (inl refl)
+
+made_due : (x : RequesterRecord) (result : Result RequesterRecord Refusal) (new : Side) → ((made : RequesterRecord) → result ≡ Ok made → made.due ≡ x.due) → done_by sides.Requester result ≡ Ok new
+    → due_date_of new ≡ x.due
+made_due x (Ok made) new keeps e = let is : sides.Requester made ≡ new = search rules in subst (λ side. due_date_of side ≡ x.due) is (keeps made refl)
+made_due x (Err refusal) new keeps e = search rules
+
+acts_due : RowsKeepDue → (txn : Qualifiers) (old new : Side) (action : Action) (told : List (Option Apdu)) → acts old action ≡ Ok new → StandsAsRequester txn old told → due_date_of new ≡ due_date_of old
+acts_due rows txn (sides.Requester x) new (actions.Wish wish) told e stands = made_due x (requester_actions.acts x wish) new (λ made is. rows.acts x made wish is) e
+acts_due rows txn (sides.Requester x) new (actions.Deed deed today) told e stands = search rules
+acts_due rows txn (sides.Responder y) new action told e stands = absurd stands
+
+takes_due : RowsKeepDue → (txn : Qualifiers) (old : Side) (a : Apdu) (told : List (Option Apdu)) → StandsAsRequester txn old told → KeepsDue (due_date_of old) (due_date_of (takes old a).1)
+takes_due rows txn (sides.Requester x) a told stands = rows.takes x a stands.rules.parts.due
+takes_due rows txn (sides.Responder y) a told stands = absurd stands
+
+decides_due : RowsKeepDue → (txn : Qualifiers) (p : Party) (told : List (Option Apdu)) (action : Action) (result : Result Side Refusal) → acts p.live action ≡ result → StandsAsRequester txn p.live told
+    → KeepsDue (due_date_of p.live) (due_date_of (decides p result).1.live) × ((decides p result).1.landed ≡ p.landed)
+decides_due rows txn p told action (Ok new) e stands = (inr (inl (acts_due rows txn p.live new action told e stands)), refl)
+decides_due rows txn p told action (Err refusal) e stands = (stays (due_date_of p.live), refl)
+
+receives_due : RowsKeepDue → (txn : Qualifiers) (p : Party) (told : List (Option Apdu)) (found : Option Apdu) → StandsAsRequester txn p.live told
+    → KeepsDue (due_date_of p.live) (due_date_of (receives p found).1.live) × ((receives p found).1.landed ≡ p.landed)
+receives_due rows txn p told None stands = (stays (due_date_of p.live), refl)
+receives_due rows txn p told (Some a) stands = (takes_due rows txn p.live a told stands, refl)
+
+sends_same : (p : Party) (n : ℕ) (found : Option Apdu) (released : Bool) → ((sends p n found released).1.live ≡ p.live) × ((sends p n found released).1.landed ≡ p.landed)
+sends_same p n None released = (refl, refl)
+sends_same p n (Some a) false = (refl, refl)
+sends_same p n (Some a) true = (refl, refl)
+
+-- both records of a party have the due dates of another's
+same_dates : (p q : Party) → (q.live ≡ p.live) × (q.landed ≡ p.landed) → KeepsDue (due_date_of p.landed) (due_date_of p.live) → KeepsDue (due_date_of q.landed) (due_date_of q.live)
+same_dates p q same kept = subst (λ side. KeepsDue (due_date_of side) (due_date_of q.live)) (sym same.1) (subst (λ side. KeepsDue (due_date_of p.landed) (due_date_of side)) (sym same.0) kept)
+
+-- the live one is kept, and what has landed stays
+live_kept : (p q : Party) → KeepsDue (due_date_of p.live) (due_date_of q.live) × (q.landed ≡ p.landed) → KeepsDue (due_date_of p.landed) (due_date_of p.live) → KeepsDue (due_date_of q.landed) (due_date_of q.live)
+live_kept p q both kept = subst (λ side. KeepsDue (due_date_of side) (due_date_of q.live)) (sym both.1) (keeps_on (due_date_of p.landed) (due_date_of p.live) (due_date_of q.live) kept both.0)
+
+-- what has landed has no later date than what is in memory
+pub due_after : RowsKeepDue → (txn : Qualifiers) (p : Party) (told : List (Option Apdu)) (event : Event) → StandsAsRequester txn p.live told → KeepsDue (due_date_of p.landed) (due_date_of p.live)
+    → KeepsDue (due_date_of (happens_to p told event).1.landed) (due_date_of (happens_to p told event).1.live)
+due_after rows txn p told (events.Wish wish) stands kept =
+    live_kept p (happens_to p told (events.Wish wish)).1 (decides_due rows txn p told (actions.Wish wish) (acts p.live (actions.Wish wish)) refl stands) kept
+due_after rows txn p told (events.Deed deed today) stands kept =
+    live_kept p (happens_to p told (events.Deed deed today)).1 (decides_due rows txn p told (actions.Deed deed today) (acts p.live (actions.Deed deed today)) refl stands) kept
+due_after rows txn p told (events.Save of) stands kept = stays (due_date_of p.live)
+due_after rows txn p told (events.SaveFault of true) stands kept = stays (due_date_of p.live)
+due_after rows txn p told (events.SaveFault of false) stands kept = kept
+due_after rows txn p told (events.Send of n) stands kept = same_dates p (happens_to p told (events.Send of n)).1 (sends_same p n (message (issued_of p.live) n) (nat_le n p.released)) kept
+due_after rows txn p told (events.Deliver of n) stands kept = live_kept p (happens_to p told (events.Deliver of n)).1 (receives_due rows txn p told (sent_message told n) stands) kept
+due_after rows txn p told (events.Noise of bytes) stands kept = kept
+due_after rows txn p told (events.Restart of) stands kept = stays (due_date_of p.landed)
+
+same_date : (a b : Side) → b ≡ a → KeepsDue (due_date_of a) (due_date_of b)
+same_date a b e = inr (inl (ap due_date_of e))
+
+-- the dates of the requester, at every event
+pub dates_kept : RowsKeepDue → (txn : Qualifiers) (w : Parties) (event : Event) → Stands txn w → KeepsDates w event (happens w event).1
+dates_kept rows txn w (events.Wish wish) stands =
+    let p = w.requester in
+    let kept = decides_due rows txn p w.responder.sent (actions.Wish wish) (acts p.live (actions.Wish wish)) refl stands.asking.live in
+    (kept.0, same_date p.landed _ kept.1)
+dates_kept rows txn w (events.Deed deed today) stands = (stays _, stays _)
+dates_kept rows txn w (events.Save who.Requester) stands = (stays _, stands.due)
+dates_kept rows txn w (events.Save who.Responder) stands = (stays _, stays _)
+dates_kept rows txn w (events.SaveFault who.Requester true) stands = (stays _, stands.due)
+dates_kept rows txn w (events.SaveFault who.Requester false) stands = (stays _, stays _)
+dates_kept rows txn w (events.SaveFault who.Responder landed) stands = (stays _, stays _)
+dates_kept rows txn w (events.Send who.Requester n) stands =
+    let p = w.requester in
+    let same = sends_same p n (message (issued_of p.live) n) (nat_le n p.released) in
+    (same_date p.live _ same.0, same_date p.landed _ same.1)
+dates_kept rows txn w (events.Send who.Responder n) stands = (stays _, stays _)
+dates_kept rows txn w (events.Deliver who.Requester n) stands =
+    let p = w.requester in
+    let kept = receives_due rows txn p w.responder.sent (sent_message w.responder.sent n) stands.asking.live in
+    (kept.0, same_date p.landed _ kept.1)
+dates_kept rows txn w (events.Deliver who.Responder n) stands = (stays _, stays _)
+dates_kept rows txn w (events.Noise who.Requester bytes) stands = (stays _, stays _)
+dates_kept rows txn w (events.Noise who.Responder bytes) stands = (stays _, stays _)
+dates_kept rows txn w (events.Restart who.Requester) stands = (tt, stays _)
+dates_kept rows txn w (events.Restart who.Responder) stands = (stays _, stays _)

@@ -1,0 +1,130 @@
+-- What both sides may rely on in every world of every run (this profile's own).
+use Rattle.std.specs.Prelude.{◌≡◌, ◌⊎◌, ℕ, true, false, List, [], ◌∷◌, Option, Some, Ok, take}
+use Rattle.ill_values.specs.Day.{Date}
+use Rattle.ill_values.specs.TxnId.{Qualifiers}
+use Rattle.ill_values.specs.declared.apdu.Apdu.{Apdu}
+use Rattle.ill_values.specs.declared.apdu.Body.{Body}
+use Rattle.ill_values.specs.declared.apdu.Body.TheVariants as types
+use Rattle.ill_core.specs.declared.state.State.{State}
+use Rattle.ill_core.specs.declared.state.State.TheVariants as states
+use Rattle.ill_core.specs.declared.taking.Taking.TheVariants.{Taken, Repeat}
+use Rattle.ill_core.specs.State.{is_among}
+use Rattle.ill_core.specs.Dates.{is_before}
+use Rattle.ill_core.specs.Bodies.{is_unsupplied, is_cancelled, is_shipped, is_end, is_received, is_returned, accepts}
+use Rattle.ill_core.specs.Issued.{message, has, last_of, number_of_end}
+use Rattle.ill_core.specs.Requester.{RequesterRecord}
+use Rattle.ill_core.specs.Requester as requester
+use Rattle.ill_core.specs.RequesterFacts.{replied_number, KeepsDue}
+use Rattle.ill_core.specs.Responder.{ResponderRecord, due_of}
+use Rattle.ill_core.specs.ResponderFacts.{MayCancel, MayRenew, answered_number}
+use Rattle.ill_saved.specs.declared.side.Side.{Side}
+use Rattle.ill_saved.specs.declared.side.Side.TheVariants as sides
+use Rattle.ill_saved.specs.Side.{issued_of, state_of, due_date_of}
+use Rattle.ill_world.specs.declared.event.Who.TheVariants.{Requester, Responder}
+use Rattle.ill_world.specs.declared.event.Event.{Event}
+use Rattle.ill_world.specs.declared.event.Event.TheVariants.{Deliver, Restart}
+use Rattle.ill_world.specs.declared.event.Outcome.{Outcome}
+use Rattle.ill_world.specs.declared.event.Outcome.TheVariants.{Answered}
+use Rattle.ill_world.specs.World.{Party, Parties, first_world, run_of, happens, sent_message}
+use Rattle.ill_world.specs.Safety.{OfBoth}
+
+-- ---- one answer, and one end
+
+-- No two of the APDUs at these numbers answer the same number.
+abbrev pub AnswersOnce : (Body → Option ℕ) → (ℕ → Option Apdu) → Type 0
+AnswersOnce answered at =
+    (m n k : ℕ) (a b : Apdu) → at m ≡ Some a → at n ≡ Some b →
+    answered a.body ≡ Some k → answered b.body ≡ Some k → m ≡ n
+
+-- in memory, and among what was sent
+abbrev pub AnswersOnceBoth : (Body → Option ℕ) → Party → Type 0
+AnswersOnceBoth answered p = AnswersOnce answered (message (issued_of p.live)) × AnswersOnce answered (sent_message p.sent)
+
+-- Each conditions are replied to once, and each Cancel and each Renew is answered once.
+pub record EachAnsweredOnce (w : Parties) : Type 0 where
+  pub conditions : AnswersOnceBoth replied_number w.requester
+  pub cancels : AnswersOnceBoth (answered_number MayCancel) w.responder
+  pub renewals : AnswersOnceBoth (answered_number MayRenew) w.responder
+
+-- An APDU that ends the request is the only one; its number is the one that the responder gives.
+abbrev pub EndsOnce : Side → Type 0
+EndsOnce side =
+    (n : ℕ) (a : Apdu) → message (issued_of side) n ≡ Some a → is_end a.body ≡ true →
+    last_of number_of_end (issued_of side) ≡ Some n
+
+-- ---- a requester and the responder that it faces
+
+-- a fact on the two records
+abbrev pub Facing : (RequesterRecord → ResponderRecord → Type 0) → Side → Side → Type 0
+Facing P (sides.Requester x) (sides.Responder y) = P x y
+Facing P requester responder = ⊥
+
+-- The conditions that a responder holds as accepted were accepted by a message that the requester has
+-- sent, and has in memory.
+abbrev pub AcceptedBy : Parties → Side → Type 0
+AcceptedBy w (sides.Responder y) =
+    (c : ℕ) → y.accepted ≡ Some c → (n : ℕ) × (a : Apdu) × (sent_message w.requester.sent n ≡ Some a)
+    × (message (issued_of w.requester.live) n ≡ Some a) × (accepts a.body ≡ Some c)
+AcceptedBy w (sides.Requester x) = ⊥
+
+-- The requester's due date is not later than the responder's.
+abbrev pub IsNotLater : RequesterRecord → ResponderRecord → Type 0
+IsNotLater x y = (d : Date) → x.due ≡ Some d → (e : Date) × (due_of y ≡ Some e) × (is_before e d ≡ false)
+
+-- What either record says of the other side is so.
+pub record SaysTrue (x : RequesterRecord) (y : ResponderRecord) : Type 0 where
+  pub returned : is_among (states.Returned ∷ states.CheckedIn ∷ []) y.state ≡ true → x.state ≡ states.Returned
+  pub cancelled : y.state ≡ states.Cancelled →
+      is_among (states.CancelPending ∷ states.Cancelled ∷ []) x.state ≡ true
+  pub received : y.received ≡ true → has is_received x.issued ≡ true
+  pub checked_in : x.checked_in ≡ true → y.state ≡ states.CheckedIn
+
+-- ---- worlds
+
+pub record Agrees (w : Parties) : Type 0 where
+  pub answered : EachAnsweredOnce w
+  pub ended : EndsOnce w.responder.live × EndsOnce w.responder.landed
+  pub accepted : AcceptedBy w w.responder.live × AcceptedBy w w.responder.landed
+  pub dates : OfBoth (Facing IsNotLater) w
+  pub says : OfBoth (Facing SaysTrue) w
+
+-- Both sides agree in every world that these events lead through.
+abbrev pub IsAgreeingRun : Qualifiers → List Event → Type 0
+IsAgreeingRun txn events = (n : ℕ) → Agrees (run_of (first_world txn) (take n events))
+
+-- ---- events
+
+-- At every event but its restart the requester's due date stays or rises, once it is there; what has
+-- landed of it does so at every event.
+abbrev pub KeepsLiveDate : Event → Party → Party → Type 0
+KeepsLiveDate (Restart Requester) old new = Unit {0}
+KeepsLiveDate event old new = KeepsDue (due_date_of old.live) (due_date_of new.live)
+
+abbrev pub KeepsDates : Parties → Event → Parties → Type 0
+KeepsDates old event new =
+    KeepsLiveDate event old.requester new.requester
+    × KeepsDue (due_date_of old.requester.landed) (due_date_of new.requester.landed)
+
+-- the states that the end of a request leads a requester to
+abbrev pub settled_by : Body → List State
+settled_by (types.Shipped due) = requester.later
+settled_by (types.CancelReply c accepted) = states.Cancelled ∷ []
+settled_by other = states.NotSupplied ∷ []
+
+-- A message was taken, or was before, and the side is in one of these states.
+abbrev pub Settles : List State → Outcome → Side → Type 0
+Settles among outcome side =
+    ((outcome ≡ Answered Taken) ⊎ (outcome ≡ Answered Repeat)) × (is_among among (state_of side) ≡ true)
+
+-- One arrival of the end of the request, once it was sent, leads the requester to its outcome; and one
+-- of a Returned leads the responder to RETURNED, or the item is checked in.
+abbrev pub Arrives : Parties → Event → Type 0
+Arrives w (Deliver Requester n) =
+    (a : Apdu) → sent_message w.responder.sent n ≡ Some a → is_end a.body ≡ true →
+    Settles (settled_by a.body) (happens w (Deliver Requester n)).0
+    (happens w (Deliver Requester n)).1.requester.live
+Arrives w (Deliver Responder n) =
+    (a : Apdu) → sent_message w.requester.sent n ≡ Some a → is_returned a.body ≡ true →
+    Settles (states.Returned ∷ states.CheckedIn ∷ []) (happens w (Deliver Responder n)).0
+    (happens w (Deliver Responder n)).1.responder.live
+Arrives w event = Unit {0}

@@ -21,6 +21,7 @@ use Rattle.ill_world.specs.World.{Party, Parties}
 use Rattle.ill_world.specs.Safety.{OfBoth, EndsAlike, WasShipped, WasGranted}
 use Rattle.ill_world.specs.Invariant.{WasSent, RequesterStands, ResponderStands, StandsAsRequester, StandsAsResponder, SendsSaved, PartyStands, Stands}
 use Rattle.ill_world.proofs.Sendings.{front_message, message_has}
+use Rattle.ill_world.proofs.Uniqueness.{has_message}
 
 -- ---- what a message tells
 

@@ -12,3 +12,4 @@ pub mod Standings
 pub mod Claims
 pub mod Calendar
 pub mod DueDates
+pub mod Uniqueness

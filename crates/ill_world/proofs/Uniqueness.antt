@@ -1,0 +1,191 @@
+-- What stands once in a list of APDUs.
+use Rattle.std.proofs.Common.{rules, arith, ◌≡◌, ℕ, zero, suc, ◌+◌, ◌≤◌, Bool, true, false, not, ◌&&◌, ◌||◌, ◌==◌, cond, List, [], ◌∷◌, ◌++◌, Option, Some, None, is_some, if◌then◌else◌, refl, sym, ap, ◌∙◌, subst}
+use Rattle.std.specs.Prelude.{slice_get}
+use Rattle.std.specs.List.{list_any, filter_map, cons_option, last_or, count_by}
+use Rattle.std.proofs.lemmas.List.Sums.{sum_by-cons}
+use Rattle.std.proofs.lemmas.Bool.{and_parts, eq-eqb, eqb-true}
+use Rattle.ill_values.specs.Day.{Date}
+use Rattle.ill_values.specs.TxnId.{Qualifiers}
+use Rattle.ill_values.specs.declared.apdu.Apdu.{Apdu}
+use Rattle.ill_values.specs.declared.apdu.Body.{Body}
+use Rattle.ill_core.specs.Bodies.{is_end}
+use Rattle.ill_core.specs.Dates.{is_before}
+use Rattle.ill_core.specs.Numbers.{are_distinct}
+use Rattle.ill_core.specs.Issued.{message, has, last_of, number_of_end, granted_day, are_numbered, is_same_txn}
+use Rattle.ill_core.specs.Responder.{are_rising, rise_from}
+use Rattle.ill_world.specs.Agreement.{AnswersOnce}
+use Rattle.ill_world.proofs.Calendar.{itself_not_before, not_before_earlier}
+
+-- ---- numbers
+
+-- the n-th APDU is of the transaction and has its number
+at_number : (txn : Qualifiers) (first : ℕ) (apdus : List Apdu) (i : ℕ) (a : Apdu) → are_numbered txn first apdus ≡ true → slice_get apdus i ≡ Some a → (is_same_txn a.txn txn ≡ true) × (a.number ≡ first + i)
+unfolding are_numbered
+at_number txn first [] i a numbered e = search rules
+at_number txn first (b ∷ apdus) zero a numbered e =
+    let is : b ≡ a = search rules in
+    let parts = and_parts _ _ (and_parts _ _ numbered).0 in
+    subst (λ x. (is_same_txn x.txn txn ≡ true) × (x.number ≡ first + 0)) is (parts.0, omega (arith, eqb-true b.number first parts.1))
+at_number txn first (b ∷ apdus) (suc i) a numbered e =
+    let rest = at_number txn (first + 1) apdus i a (and_parts _ _ numbered).1 e in
+    (rest.0, omega (arith, rest.1))
+
+pub message_number : (txn : Qualifiers) (apdus : List Apdu) (n : ℕ) (a : Apdu) → are_numbered txn 1 apdus ≡ true → message apdus n ≡ Some a → (is_same_txn a.txn txn ≡ true) × (a.number ≡ n)
+message_number txn apdus zero a numbered e = search rules
+message_number txn apdus (suc i) a numbered e = let at = at_number txn 1 apdus i a numbered e in (at.0, omega (arith, at.1))
+
+-- ---- answers
+
+or_true : (b : Bool) → (b || true) ≡ true
+or_true true = refl
+or_true false = refl
+
+found_tail : (o : Option ℕ) (ks : List ℕ) (k : ℕ) → list_any (λ m. m == k) ks ≡ true → list_any (λ m. m == k) (cons_option o ks) ≡ true
+found_tail None ks k is = is
+found_tail (Some m) ks k is = ap (λ (r : Bool). (m == k) || r) is ∙ or_true (m == k)
+
+found_head : (o : Option ℕ) (ks : List ℕ) (k : ℕ) → o ≡ Some k → list_any (λ m. m == k) (cons_option o ks) ≡ true
+found_head o ks k is = subst (λ x. list_any (λ m. m == k) (cons_option x ks) ≡ true) (sym is) (ap (λ (r : Bool). r || list_any (λ m. m == k) ks) (eq-eqb k k refl))
+
+same_apdu : (a b : Apdu) → ◌≡◌ {A = Option Apdu} (Some a) (Some b) → a ≡ b
+same_apdu a b e = search rules
+
+-- what f finds in an APDU is among all that it finds
+found_among : (f : Apdu → Option ℕ) (apdus : List Apdu) (i : ℕ) (a : Apdu) (k : ℕ) → slice_get apdus i ≡ Some a → f a ≡ Some k → list_any (λ m. m == k) (filter_map f apdus) ≡ true
+found_among f [] i a k e is = search rules
+found_among f (b ∷ apdus) zero a k e is = found_head (f b) (filter_map f apdus) k (ap f (same_apdu b a e) ∙ is)
+found_among f (b ∷ apdus) (suc i) a k e is = found_tail (f b) (filter_map f apdus) k (found_among f apdus i a k e is)
+
+rest_distinct : (o : Option ℕ) (ks : List ℕ) → are_distinct (cons_option o ks) ≡ true → are_distinct ks ≡ true
+unfolding are_distinct
+rest_distinct None ks distinct = distinct
+rest_distinct (Some m) ks distinct = (and_parts _ _ distinct).1
+
+not_twice : (o : Option ℕ) (ks : List ℕ) (k : ℕ) → o ≡ Some k → are_distinct (cons_option o ks) ≡ true → list_any (λ m. m == k) ks ≡ true → ⊥
+unfolding are_distinct
+not_twice None ks k is distinct twice = search rules
+not_twice (Some m) ks k is distinct twice =
+    let same : m ≡ k = search rules in
+    let once = (and_parts _ _ distinct).0 in
+    let also : list_any (λ n. n == m) ks ≡ true = subst (λ x. list_any (λ n. n == x) ks ≡ true) (sym same) twice in
+    let no : not true ≡ true = ap not (sym also) ∙ once in
+    search rules
+
+-- no two of them answer the same
+distinct_places : (f : Apdu → Option ℕ) (apdus : List Apdu) (i j k : ℕ) (a b : Apdu) → are_distinct (filter_map f apdus) ≡ true → slice_get apdus i ≡ Some a → slice_get apdus j ≡ Some b → f a ≡ Some k
+    → f b ≡ Some k → i ≡ j
+distinct_places f [] i j k a b distinct at_i at_j is_a is_b = search rules
+distinct_places f (c ∷ apdus) zero zero k a b distinct at_i at_j is_a is_b = refl
+distinct_places f (c ∷ apdus) zero (suc j) k a b distinct at_i at_j is_a is_b =
+    absurd (not_twice (f c) (filter_map f apdus) k (ap f (same_apdu c a at_i) ∙ is_a) distinct (found_among f apdus j b k at_j is_b))
+distinct_places f (c ∷ apdus) (suc i) zero k a b distinct at_i at_j is_a is_b =
+    absurd (not_twice (f c) (filter_map f apdus) k (ap f (same_apdu c b at_j) ∙ is_b) distinct (found_among f apdus i a k at_i is_a))
+distinct_places f (c ∷ apdus) (suc i) (suc j) k a b distinct at_i at_j is_a is_b =
+    ap suc (distinct_places f apdus i j k a b (rest_distinct (f c) (filter_map f apdus) distinct) at_i at_j is_a is_b)
+
+pub answers_once : (answered : Body → Option ℕ) (apdus : List Apdu) → are_distinct (filter_map (λ a. answered a.body) apdus) ≡ true → AnswersOnce answered (message apdus)
+answers_once answered apdus distinct zero n k a b at_m at_n is_a is_b = search rules
+answers_once answered apdus distinct (suc m) zero k a b at_m at_n is_a is_b = search rules
+answers_once answered apdus distinct (suc m) (suc n) k a b at_m at_n is_a is_b = ap suc (distinct_places (λ x. answered x.body) apdus m n k a b distinct at_m at_n is_a is_b)
+
+-- ---- the end
+
+none_go : (ends : Bool) (n : ℕ) (rest : List ℕ) (count : ℕ) → (cond ends 1 0) + count ≡ 0 → (count ≡ 0 → rest ≡ []) → cons_option (if ends then Some n else None) rest ≡ []
+none_go true n rest count none more = absurd (omega (arith, none))
+none_go false n rest count none more = more (omega (arith, none))
+
+abbrev ends_in : List Apdu → ℕ
+ends_in apdus = count_by (λ a. is_end a.body) apdus
+
+count_first : (a : Apdu) (apdus : List Apdu) → ends_in (a ∷ apdus) ≡ (cond (is_end a.body) 1 0) + ends_in apdus
+count_first a apdus = sum_by-cons (λ (x : Apdu). cond (is_end x.body) 1 0) a apdus
+
+none_found : (apdus : List Apdu) → ends_in apdus ≡ 0 → filter_map number_of_end apdus ≡ []
+none_found [] none = refl
+none_found (a ∷ apdus) none = none_go (is_end a.body) a.number (filter_map number_of_end apdus) (ends_in apdus) (sym (count_first a apdus) ∙ none) (none_found apdus)
+
+head_go : (ends : Bool) (n : ℕ) (rest : List ℕ) (o : Option ℕ) → ends ≡ true → rest ≡ [] → last_or o (cons_option (if ends then Some n else None) rest) ≡ Some n
+head_go true n rest o is none = ap (last_or (Some n)) none
+head_go false n rest o is none = search rules
+
+tail_go : (ends : Bool) (n m : ℕ) (rest : List ℕ) (o : Option ℕ) → ((o : Option ℕ) → last_or o rest ≡ Some m) → last_or o (cons_option (if ends then Some n else None) rest) ≡ Some m
+tail_go true n m rest o last = last (Some n)
+tail_go false n m rest o last = last o
+
+one_more_end : (ends : Bool) (count : ℕ) → ends ≡ true → (cond ends 1 0) + count ≤ 1 → count ≡ 0
+one_more_end true count is most = omega (arith, most)
+one_more_end false count is most = search rules
+
+-- the last end is the only one
+one_last : (apdus : List Apdu) (i : ℕ) (a : Apdu) (o : Option ℕ) → ends_in apdus ≤ 1 → slice_get apdus i ≡ Some a → is_end a.body ≡ true → last_or o (filter_map number_of_end apdus) ≡ Some a.number
+one_last [] i a o most e is = search rules
+one_last (b ∷ apdus) zero a o most e is =
+    let same : b ≡ a = same_apdu b a e in
+    let ends : is_end b.body ≡ true = ap (λ (x : Apdu). is_end x.body) same ∙ is in
+    let none = none_found apdus (one_more_end (is_end b.body) (ends_in apdus) ends (omega (arith, most, count_first b apdus))) in
+    head_go (is_end b.body) b.number (filter_map number_of_end apdus) o ends none ∙ ap (λ (x : Apdu). Some x.number) same
+one_last (b ∷ apdus) (suc i) a o most e is =
+    tail_go (is_end b.body) b.number a.number (filter_map number_of_end apdus) o (λ p. one_last apdus i a p (omega (arith, most, count_first b apdus)) e is)
+
+pub one_end : (txn : Qualifiers) (apdus : List Apdu) (n : ℕ) (a : Apdu) → are_numbered txn 1 apdus ≡ true → ends_in apdus ≤ 1 → message apdus n ≡ Some a → is_end a.body ≡ true
+    → last_of number_of_end apdus ≡ Some n
+one_end txn apdus zero a numbered most e is = search rules
+one_end txn apdus (suc i) a numbered most e is = one_last apdus i a None most e is ∙ ap Some (message_number txn apdus (suc i) a numbered e).1
+
+-- ---- dates
+
+-- the last date is not before the first
+rise_above : (d : Date) (dates : List Date) → rise_from (Some d) dates ≡ true → (e : Date) × (last_or (Some d) dates ≡ Some e) × (is_before e d ≡ false)
+unfolding rise_from
+rise_above d [] rises = (d, refl, itself_not_before d)
+rise_above d (c ∷ dates) rises =
+    let parts = and_parts _ _ rises in
+    let later = rise_above c dates parts.1 in
+    (later.0, later.1, not_before_earlier d c later.0 parts.0 later.2)
+
+rise_rest : (last : Option Date) (o : Option Date) (dates : List Date) → rise_from last (cons_option o dates) ≡ true → (next : Option Date) × (rise_from next dates ≡ true)
+unfolding rise_from
+rise_rest last None dates rises = (last, rises)
+rise_rest last (Some d) dates rises = (Some d, (and_parts _ _ rises).1)
+
+rise_here : (last : Option Date) (o : Option Date) (dates : List Date) (d : Date) (p : Option Date) → o ≡ Some d → rise_from last (cons_option o dates) ≡ true
+    → (e : Date) × (last_or p (cons_option o dates) ≡ Some e) × (is_before e d ≡ false)
+unfolding rise_from
+rise_here last None dates d p is rises = search rules
+rise_here last (Some c) dates d p is rises =
+    let same : c ≡ d = search rules in
+    subst (λ x. (e : Date) × (last_or (Some c) dates ≡ Some e) × (is_before e x ≡ false)) same (rise_above c dates (and_parts _ _ rises).1)
+
+last_skips : (o : Option Date) (dates : List Date) (d : Date) (p : Option Date) → ((p : Option Date) → (e : Date) × (last_or p dates ≡ Some e) × (is_before e d ≡ false))
+    → (e : Date) × (last_or p (cons_option o dates) ≡ Some e) × (is_before e d ≡ false)
+last_skips None dates d p last = last p
+last_skips (Some c) dates d p last = last (Some c)
+
+-- no date that was granted is after the last one
+last_is_latest : (last : Option Date) (apdus : List Apdu) (i : ℕ) (a : Apdu) (d : Date) (p : Option Date) → rise_from last (filter_map granted_day apdus) ≡ true → slice_get apdus i ≡ Some a
+    → granted_day a ≡ Some d → (e : Date) × (last_or p (filter_map granted_day apdus) ≡ Some e) × (is_before e d ≡ false)
+last_is_latest last [] i a d p rises e is = search rules
+last_is_latest last (b ∷ apdus) zero a d p rises e is = rise_here last (granted_day b) (filter_map granted_day apdus) d p (ap granted_day (same_apdu b a e) ∙ is) rises
+last_is_latest last (b ∷ apdus) (suc i) a d p rises e is =
+    let rest = rise_rest last (granted_day b) (filter_map granted_day apdus) rises in
+    last_skips (granted_day b) (filter_map granted_day apdus) d p (λ q. last_is_latest rest.0 apdus i a d q rest.1 e is)
+
+pub granted_not_later : (apdus : List Apdu) (n : ℕ) (a : Apdu) (d : Date) → are_rising (filter_map granted_day apdus) ≡ true → message apdus n ≡ Some a → granted_day a ≡ Some d
+    → (e : Date) × (last_of granted_day apdus ≡ Some e) × (is_before e d ≡ false)
+granted_not_later apdus zero a d rises e is = search rules
+granted_not_later apdus (suc i) a d rises e is = last_is_latest None apdus i a d None rises e is
+
+-- ---- what is among them
+
+here_or_there : (says : Body → Bool) (apdus : List Apdu) → has says apdus ≡ true → (i : ℕ) × (a : Apdu) × (slice_get apdus i ≡ Some a) × (says a.body ≡ true)
+here_or_there says [] is = search rules
+here_or_there says (b ∷ apdus) is = go (says b.body) refl is (here_or_there says apdus)
+  where
+    go : (here : Bool) → says b.body ≡ here → (here || has says apdus) ≡ true → (has says apdus ≡ true → (i : ℕ) × (a : Apdu) × (slice_get apdus i ≡ Some a) × (says a.body ≡ true))
+        → (i : ℕ) × (a : Apdu) × (slice_get (b ∷ apdus) i ≡ Some a) × (says a.body ≡ true)
+    go true e is there = (0, b, refl, e)
+    go false e is there = let at = there is in (suc at.0, at.1, at.2, at.3)
+
+-- there is a message that says so
+pub has_message : (says : Body → Bool) (apdus : List Apdu) → has says apdus ≡ true → (n : ℕ) × (a : Apdu) × (message apdus n ≡ Some a) × (says a.body ≡ true)
+has_message says apdus is = let at = here_or_there says apdus is in (suc at.0, at.1, at.2, at.3)

@@ -21,7 +21,6 @@ use Rattle.ill_world.specs.World.{Party, Parties}
 use Rattle.ill_world.specs.Safety.{OfBoth, EndsAlike, WasShipped, WasGranted}
 use Rattle.ill_world.specs.Invariant.{WasSent, RequesterStands, ResponderStands, StandsAsRequester, StandsAsResponder, SendsSaved, PartyStands, Stands}
 use Rattle.ill_world.proofs.Sendings.{front_message, message_has}
-use Rattle.ill_world.proofs.Uniqueness.{has_message}
 
 -- ---- what a message tells
 
@@ -36,7 +35,7 @@ tells_ended types.Expired tells = refl
 tells_ended body tells = search rules
 
 -- it grants a date
-tells_grant : (body : Body) (due : Date) → requester.Tells body (requester.Granted due) → grant_in body ≡ Some due
+pub tells_grant : (body : Body) (due : Date) → requester.Tells body (requester.Granted due) → grant_in body ≡ Some due
 tells_grant (types.Shipped d) due tells = ap Some tells
 tells_grant (types.RenewAnswer c (Some d)) due tells = ap Some tells
 tells_grant (types.RenewAnswer c None) due tells = absurd tells
@@ -50,7 +49,7 @@ tells_shipped body due tells = search rules
 
 -- ---- what a responder's record says
 
-is_in_cancelled : (state : State) → is_among (states.Cancelled ∷ []) state ≡ true → state ≡ states.Cancelled
+pub is_in_cancelled : (state : State) → is_among (states.Cancelled ∷ []) state ≡ true → state ≡ states.Cancelled
 is_in_cancelled states.Cancelled e = refl
 is_in_cancelled state e = search rules
 
@@ -79,16 +78,16 @@ abbrev Pair : (Side → Side → Type 0) → Type 0
 Pair P = (txn : Qualifiers) (x y : Side) (told heard : List (Option Apdu)) → StandsAsRequester txn x told → StandsAsResponder txn y heard → AreIssued told (issued_of y) → P x y
 
 -- a message that was sent tells what the responder has issued
-has_issued : (apdus : List Apdu) (told : List (Option Apdu)) (says : Body → Bool) (a : Apdu) → AreIssued told apdus → WasSent told a → says a.body ≡ true → has says apdus ≡ true
+pub has_issued : (apdus : List Apdu) (told : List (Option Apdu)) (says : Body → Bool) (a : Apdu) → AreIssued told apdus → WasSent told a → says a.body ≡ true → has says apdus ≡ true
 has_issued apdus told says a issued was is = let at = issued a was in message_has says apdus at.0 a at.1 is
 
-cancelled_faces : (txn : Qualifiers) (x : RequesterRecord) (y : ResponderRecord) (told heard : List (Option Apdu)) → RequesterStands txn x told → ResponderStands txn y heard → AreIssued told y.issued
+pub cancelled_faces : (txn : Qualifiers) (x : RequesterRecord) (y : ResponderRecord) (told heard : List (Option Apdu)) → RequesterStands txn x told → ResponderStands txn y heard → AreIssued told y.issued
     → x.state ≡ states.Cancelled → y.state ≡ states.Cancelled
 cancelled_faces txn x y told heard asking asked issued e =
     let known = asking.knows requester.Cancelled e in
     is_in_cancelled y.state (sym asked.ends.cancelled ∙ has_issued y.issued told responder.is_cancelled known.0 issued known.1 (tells_cancelled known.0.body known.2))
 
-not_supplied_faces : (txn : Qualifiers) (x : RequesterRecord) (y : ResponderRecord) (told heard : List (Option Apdu)) → RequesterStands txn x told → ResponderStands txn y heard
+pub not_supplied_faces : (txn : Qualifiers) (x : RequesterRecord) (y : ResponderRecord) (told heard : List (Option Apdu)) → RequesterStands txn x told → ResponderStands txn y heard
     → AreIssued told y.issued → x.state ≡ states.NotSupplied → y.state ≡ states.NotSupplied
 not_supplied_faces txn x y told heard asking asked issued e =
     let known = asking.knows requester.Ended e in
@@ -109,7 +108,7 @@ grant_pair txn (sides.Requester x) (sides.Responder y) told heard asking asked i
 grant_pair txn (sides.Responder x) y told heard asking asked issued = absurd asking
 grant_pair txn (sides.Requester x) (sides.Requester y) told heard asking asked issued = absurd asked
 
-shipped_by : (txn : Qualifiers) (x : RequesterRecord) (y : ResponderRecord) (told heard : List (Option Apdu)) (due : Option Date) → RequesterStands txn x told → ResponderStands txn y heard
+pub shipped_by : (txn : Qualifiers) (x : RequesterRecord) (y : ResponderRecord) (told heard : List (Option Apdu)) (due : Option Date) → RequesterStands txn x told → ResponderStands txn y heard
     → AreIssued told y.issued → x.due ≡ due → is_some due ≡ true → has is_shipped y.issued ≡ true
 shipped_by txn x y told heard None asking asked issued e some = search rules
 shipped_by txn x y told heard (Some d) asking asked issued e some =
@@ -126,10 +125,10 @@ shipped_pair txn (sides.Requester x) (sides.Requester y) told heard asking asked
 
 -- ---- both records of either
 
-landed_issues : (p : Party) → SendsSaved p → AreIssued p.sent (issued_of p.landed)
+pub landed_issues : (p : Party) → SendsSaved p → AreIssued p.sent (issued_of p.landed)
 landed_issues p saved = λ a was. (was.0, saved.landed was.0 a was.1)
 
-live_issues : (p : Party) → SendsSaved p → AreIssued p.sent (issued_of p.live)
+pub live_issues : (p : Party) → SendsSaved p → AreIssued p.sent (issued_of p.live)
 live_issues p saved = λ a was. (was.0, front_message (issued_of p.landed) (issued_of p.live) was.0 a saved.front (saved.landed was.0 a was.1))
 
 of_both : (P : Side → Side → Type 0) → Pair P → (txn : Qualifiers) (w : Parties) → Stands txn w → OfBoth P w

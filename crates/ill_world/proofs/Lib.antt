@@ -13,3 +13,4 @@ pub mod Claims
 pub mod Calendar
 pub mod DueDates
 pub mod Uniqueness
+pub mod Agreements

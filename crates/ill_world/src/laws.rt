@@ -15,6 +15,7 @@ ghost use Rattle.ill_core.specs.ResponderDeliveries as responder_deliveries;
 ghost use Rattle.ill_world.specs.declared.event.Event.{Event};
 ghost use Rattle.ill_world.specs.World.{Parties, first_world, happens};
 ghost use Rattle.ill_world.specs.Safety.{OfBoth, EndsAlike, WasShipped, WasGranted, IsSafeRun};
+ghost use Rattle.ill_world.specs.Agreement.{Agrees};
 ghost use Rattle.ill_world.specs.Invariant.{WasSent, RequesterStands, ResponderStands, Stands};
 
 use ill_core::laws::{
@@ -81,6 +82,11 @@ pub fn was_shipped()
 /// Where the world stands, a requester's due date is one that the responder has granted.
 pub fn was_granted()
     ensures { (txn : Qualifiers) (w : Parties) → Stands txn w → OfBoth WasGranted w }
+{}
+
+/// Where the world stands, both sides agree.
+pub fn sides_agree()
+    ensures { (txn : Qualifiers) (w : Parties) → Stands txn w → Agrees w }
 {}
 
 /// Every world of every run is safe.

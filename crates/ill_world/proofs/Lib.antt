@@ -14,3 +14,4 @@ pub mod Calendar
 pub mod DueDates
 pub mod Uniqueness
 pub mod Agreements
+pub mod Arrivals

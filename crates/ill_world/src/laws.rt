@@ -15,12 +15,12 @@ ghost use Rattle.ill_core.specs.ResponderDeliveries as responder_deliveries;
 ghost use Rattle.ill_world.specs.declared.event.Event.{Event};
 ghost use Rattle.ill_world.specs.World.{Parties, first_world, happens};
 ghost use Rattle.ill_world.specs.Safety.{OfBoth, EndsAlike, WasShipped, WasGranted, IsSafeRun};
-ghost use Rattle.ill_world.specs.Agreement.{Agrees};
+ghost use Rattle.ill_world.specs.Agreement.{Agrees, KeepsDates, Arrives};
 ghost use Rattle.ill_world.specs.Invariant.{WasSent, RequesterStands, ResponderStands, Stands};
 
 use ill_core::laws::{
-    requester_answers_once, requester_keeps_due, requester_keeps_rules, requester_keeps_txn, requester_shows,
-    responder_answers_once, responder_ends_once, responder_keeps_rules, responder_keeps_txn,
+    requester_answers_once, requester_follows, requester_keeps_due, requester_keeps_rules, requester_keeps_txn, requester_shows,
+    responder_answers_once, responder_ends_once, responder_follows, responder_keeps_rules, responder_keeps_txn,
     responder_shows,
 };
 use ill_saved::laws::rows_grow;
@@ -97,4 +97,20 @@ pub fn every_run_is_safe()
     ends_alike();
     was_shipped();
     was_granted();
+}
+
+/// Where the world stands, one arrival of the end of a request, or of a Returned, is enough.
+pub fn one_arrival_is_enough()
+    ensures { (txn : Qualifiers) (w : Parties) (event : Event) → Stands txn w → Arrives w event }
+{
+    requester_follows();
+    responder_follows();
+}
+
+/// Where the world stands, an event keeps or raises the requester's due date.
+pub fn due_dates_stay()
+    ensures { (txn : Qualifiers) (w : Parties) (event : Event) → Stands txn w →
+        KeepsDates w event (happens w event).1 }
+{
+    requester_keeps_due();
 }

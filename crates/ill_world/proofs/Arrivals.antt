@@ -1,0 +1,242 @@
+-- One arrival of the end of a request, or of a Returned, is enough.
+use Rattle.std.proofs.Common.{rules, ◌≡◌, ◌⊎◌, inl, inr, ℕ, zero, suc, Bool, true, false, ◌&&◌, ◌||◌, List, [], ◌∷◌, Option, Some, None, Result, Ok, Err, refl, sym, ap, ◌∙◌, subst}
+use Rattle.ill_values.specs.Day.{Date}
+use Rattle.ill_values.specs.TxnId.{Qualifiers}
+use Rattle.ill_values.specs.declared.apdu.Apdu.{Apdu}
+use Rattle.ill_values.specs.declared.apdu.Body.{Body}
+use Rattle.ill_values.specs.declared.apdu.Body.TheVariants as types
+use Rattle.ill_core.specs.declared.state.State.{State}
+use Rattle.ill_core.specs.declared.state.State.TheVariants as states
+use Rattle.ill_core.specs.declared.refusal.Refusal.{Refusal}
+use Rattle.ill_core.specs.declared.taking.Taking.{Taking}
+use Rattle.ill_core.specs.declared.taking.Taking.TheVariants.{Taken, Repeat}
+use Rattle.ill_core.specs.State.{is_among}
+use Rattle.ill_core.specs.Numbers.{is_the}
+use Rattle.ill_core.specs.Bodies.{is_unsupplied, is_cancelled, is_shipped, is_end, is_ill_request, is_returned}
+use Rattle.ill_core.specs.Issued.{message, has, is_none, is_same_txn}
+use Rattle.ill_core.specs.Requester.{RequesterRecord, later, last_cancel}
+use Rattle.ill_core.specs.RequesterDeliveries as requester_deliveries
+use Rattle.ill_core.specs.RequesterFacts as requester
+use Rattle.ill_core.specs.Responder.{ResponderRecord, later as shipped_states}
+use Rattle.ill_core.specs.ResponderDeliveries as responder_deliveries
+use Rattle.ill_core.specs.ResponderFacts as responder
+use Rattle.ill_saved.specs.declared.side.Side.{Side}
+use Rattle.ill_saved.specs.declared.side.Side.TheVariants as sides
+use Rattle.ill_saved.specs.Side.{issued_of, state_of}
+use Rattle.ill_world.specs.declared.event.Who.TheVariants as who
+use Rattle.ill_world.specs.declared.event.Event.{Event}
+use Rattle.ill_world.specs.declared.event.Event.TheVariants as events
+use Rattle.ill_world.specs.declared.event.Outcome.{Outcome}
+use Rattle.ill_world.specs.declared.event.Outcome.TheVariants.{Answered}
+use Rattle.ill_world.specs.World.{Party, Parties, sent_message, answer_to, receives}
+use Rattle.ill_world.specs.Agreement.{settled_by, Settles, Arrives}
+use Rattle.ill_world.specs.Invariant.{RequesterStands, ResponderStands, StandsAsRequester, StandsAsResponder, Stands}
+use Rattle.ill_world.proofs.Sendings.{message_has}
+use Rattle.ill_world.proofs.Uniqueness.{message_number}
+use Rattle.ill_world.proofs.Claims.{AreIssued, has_issued, cancelled_faces, not_supplied_faces, shipped_by, landed_issues, live_issues}
+use Rattle.ill_world.proofs.Agreements.{tells_requested, cancel_is_open}
+
+-- what the rows do with the end of a request, and with a Returned
+pub record RowsFollow : Type 0 where
+  pub shipped : (x : RequesterRecord) (a : Apdu) (due : Date) → is_same_txn a.txn x.txn ≡ true → a.body ≡ types.Shipped due
+      → is_among (states.Pending ∷ states.Conditional ∷ states.CancelPending ∷ later) x.state ≡ true → requester.LeadsTo later (requester_deliveries.takes x a)
+  pub ended : (x : RequesterRecord) (a : Apdu) → is_same_txn a.txn x.txn ≡ true → requester.Tells a.body requester.Ended
+      → is_among (states.Pending ∷ states.Conditional ∷ states.CancelPending ∷ states.NotSupplied ∷ []) x.state ≡ true
+      → requester.LeadsTo (states.NotSupplied ∷ []) (requester_deliveries.takes x a)
+  pub cancelled : (x : RequesterRecord) (a : Apdu) (c : ℕ) → is_same_txn a.txn x.txn ≡ true → a.body ≡ types.CancelReply c true → is_the c (last_cancel x) ≡ true
+      → is_among (states.CancelPending ∷ states.Cancelled ∷ []) x.state ≡ true → requester.LeadsTo (states.Cancelled ∷ []) (requester_deliveries.takes x a)
+  pub returned : (y : ResponderRecord) (a : Apdu) → is_same_txn a.txn y.txn ≡ true → a.body ≡ types.Returned → is_among shipped_states y.state ≡ true
+      → responder.LeadsTo (states.Returned ∷ states.CheckedIn ∷ []) (responder_deliveries.takes y a)
+
+-- ---- states
+
+-- a requester whose request has not ended otherwise may be told that the item is shipped
+may_ship : (state : State) → is_among (states.InProcess ∷ states.CheckedIn ∷ []) state ≡ false → is_among (states.Idle ∷ []) state ≡ false → (state ≡ states.Cancelled → ⊥)
+    → (state ≡ states.NotSupplied → ⊥) → is_among (states.Pending ∷ states.Conditional ∷ states.CancelPending ∷ later) state ≡ true
+may_ship states.Cancelled role idle cancelled ended = absurd (cancelled refl)
+may_ship states.NotSupplied role idle cancelled ended = absurd (ended refl)
+may_ship state role idle cancelled ended = search rules
+
+-- or that it has ended
+may_end : (state : State) → is_among (states.InProcess ∷ states.CheckedIn ∷ []) state ≡ false → is_among (states.Idle ∷ []) state ≡ false → (state ≡ states.Cancelled → ⊥)
+    → (is_among later state ≡ true → ⊥) → is_among (states.Pending ∷ states.Conditional ∷ states.CancelPending ∷ states.NotSupplied ∷ []) state ≡ true
+may_end states.Cancelled role idle cancelled shipped = absurd (cancelled refl)
+may_end states.Shipped role idle cancelled shipped = absurd (shipped refl)
+may_end states.Received role idle cancelled shipped = absurd (shipped refl)
+may_end states.RenewPending role idle cancelled shipped = absurd (shipped refl)
+may_end states.Overdue role idle cancelled shipped = absurd (shipped refl)
+may_end states.RenewOverdue role idle cancelled shipped = absurd (shipped refl)
+may_end states.NotReceivedOverdue role idle cancelled shipped = absurd (shipped refl)
+may_end states.Recall role idle cancelled shipped = absurd (shipped refl)
+may_end states.Returned role idle cancelled shipped = absurd (shipped refl)
+may_end state role idle cancelled shipped = search rules
+
+-- a responder whose request has ended is not idle
+ended_not_idle : (state : State) → is_among responder.ended state ≡ true → is_among (states.Idle ∷ []) state ≡ false
+ended_not_idle states.Idle ended = search rules
+ended_not_idle state ended = refl
+
+shipped_is_ended : (state : State) → is_among shipped_states state ≡ true → is_among responder.ended state ≡ true
+shipped_is_ended states.NotSupplied shipped = refl
+shipped_is_ended states.Cancelled shipped = refl
+shipped_is_ended state shipped = shipped
+
+unsupplied_is_ended : (state : State) → is_among (states.NotSupplied ∷ []) state ≡ true → is_among responder.ended state ≡ true
+unsupplied_is_ended states.NotSupplied e = refl
+unsupplied_is_ended state e = search rules
+
+not_shipped : (state : State) → is_among (states.NotSupplied ∷ []) state ≡ true → is_among shipped_states state ≡ true → ⊥
+not_shipped states.NotSupplied e shipped = search rules
+not_shipped state e shipped = search rules
+
+not_cancelled : (state : State) → state ≡ states.Cancelled → is_among shipped_states state ≡ true → ⊥
+not_cancelled state e shipped = let no : is_among shipped_states states.Cancelled ≡ true = subst (λ s. is_among shipped_states s ≡ true) e shipped in search rules
+
+not_unsupplied : (state : State) → state ≡ states.NotSupplied → is_among shipped_states state ≡ true → ⊥
+not_unsupplied state e shipped = let no : is_among shipped_states states.NotSupplied ≡ true = subst (λ s. is_among shipped_states s ≡ true) e shipped in search rules
+
+not_cancelled_too : (state : State) → state ≡ states.Cancelled → is_among (states.NotSupplied ∷ []) state ≡ true → ⊥
+not_cancelled_too state e ended = let no : is_among (states.NotSupplied ∷ []) states.Cancelled ≡ true = subst (λ s. is_among (states.NotSupplied ∷ []) s ≡ true) e ended in search rules
+
+not_none : (says : Body → Bool) (apdus : List Apdu) → has says apdus ≡ true → is_none apdus ≡ false
+not_none says [] is = search rules
+not_none says (a ∷ apdus) is = refl
+
+-- ---- a requester's record and a responder's
+
+-- the requester has asked for the item
+was_asked : (txn : Qualifiers) (x : RequesterRecord) (y : ResponderRecord) (told heard : List (Option Apdu)) → RequesterStands txn x told → ResponderStands txn y heard → AreIssued heard x.issued
+    → is_among responder.ended y.state ≡ true → is_among (states.Idle ∷ []) x.state ≡ false
+was_asked txn x y told heard asking asked heeded ended =
+    let known = asked.knows responder.Requested (ended_not_idle y.state ended) in
+    let request = has_issued x.issued heard is_ill_request known.0 heeded known.1 (tells_requested known.0.number known.0.body known.2) in
+    sym asking.rules.issued.idle ∙ not_none is_ill_request x.issued request
+
+same_txn_as : (txn : Qualifiers) (x : RequesterRecord) (y : ResponderRecord) (told heard : List (Option Apdu)) (n : ℕ) (a : Apdu) → RequesterStands txn x told → ResponderStands txn y heard
+    → message y.issued n ≡ Some a → is_same_txn a.txn x.txn ≡ true
+same_txn_as txn x y told heard n a asking asked at =
+    subst (λ t. is_same_txn a.txn t ≡ true) (asked.same_txn ∙ sym asking.same_txn) (message_number y.txn y.issued n a asked.rules.numbered at).0
+
+tells_end : (body : Body) → is_unsupplied body ≡ true → requester.Tells body requester.Ended
+tells_end (types.IllAnswer answer) is = is
+tells_end types.Expired is = tt
+tells_end body is = search rules
+
+shipped_arrives : RowsFollow → (txn : Qualifiers) (x : RequesterRecord) (y : ResponderRecord) (told heard : List (Option Apdu)) (n : ℕ) (a : Apdu) (due : Date) → RequesterStands txn x told
+    → ResponderStands txn y heard → AreIssued told y.issued → AreIssued heard x.issued → message y.issued n ≡ Some a → a.body ≡ types.Shipped due
+    → requester.LeadsTo later (requester_deliveries.takes x a)
+shipped_arrives rows txn x y told heard n a due asking asked issued heeded at is =
+    let shipped : is_among shipped_states y.state ≡ true = sym asked.ends.shipped ∙ message_has is_shipped y.issued n a at (ap is_shipped is) in
+    rows.shipped x a due (same_txn_as txn x y told heard n a asking asked at) is
+    (may_ship x.state asking.rules.parts.role (was_asked txn x y told heard asking asked heeded (shipped_is_ended y.state shipped))
+    (λ e. not_cancelled y.state (cancelled_faces txn x y told heard asking asked issued e) shipped)
+    (λ e. not_unsupplied y.state (not_supplied_faces txn x y told heard asking asked issued e) shipped))
+
+end_arrives : RowsFollow → (txn : Qualifiers) (x : RequesterRecord) (y : ResponderRecord) (told heard : List (Option Apdu)) (n : ℕ) (a : Apdu) → RequesterStands txn x told
+    → ResponderStands txn y heard → AreIssued told y.issued → AreIssued heard x.issued → message y.issued n ≡ Some a → is_unsupplied a.body ≡ true
+    → requester.LeadsTo (states.NotSupplied ∷ []) (requester_deliveries.takes x a)
+end_arrives rows txn x y told heard n a asking asked issued heeded at is =
+    let ended : is_among (states.NotSupplied ∷ []) y.state ≡ true = sym asked.ends.unsupplied ∙ message_has is_unsupplied y.issued n a at is in
+    rows.ended x a (same_txn_as txn x y told heard n a asking asked at) (tells_end a.body is)
+    (may_end x.state asking.rules.parts.role (was_asked txn x y told heard asking asked heeded (unsupplied_is_ended y.state ended))
+    (λ e. not_cancelled_too y.state (cancelled_faces txn x y told heard asking asked issued e) ended)
+    (λ shipped. not_shipped y.state ended (sym asked.ends.shipped ∙ shipped_by txn x y told heard x.due asking asked issued refl (asking.rules.parts.due ∙ shipped))))
+
+both_of : (a b : Bool) → (a && b) ≡ true → (a ≡ true) × (b ≡ true)
+both_of true b is = (refl, is)
+both_of false b is = search rules
+
+yes_arrives : RowsFollow → (txn : Qualifiers) (x : RequesterRecord) (y : ResponderRecord) (told heard : List (Option Apdu)) (n c : ℕ) (a : Apdu) → RequesterStands txn x told
+    → ResponderStands txn y heard → AreIssued told y.issued → AreIssued heard x.issued → message y.issued n ≡ Some a → a.body ≡ types.CancelReply c true
+    → requester.LeadsTo (states.Cancelled ∷ []) (requester_deliveries.takes x a)
+yes_arrives rows txn x y told heard n c a asking asked issued heeded at is =
+    let parts = both_of _ _ (cancel_is_open txn x y told heard asking asked issued heeded n c a at is) in
+    rows.cancelled x a c (same_txn_as txn x y told heard n a asking asked at) is parts.1 parts.0
+
+abbrev Leads : RequesterRecord → Apdu → Body → Type 0
+Leads x a body = requester.LeadsTo (settled_by body) (requester_deliveries.takes x a)
+
+-- whichever end it is
+arrives_as : RowsFollow → (txn : Qualifiers) (x : RequesterRecord) (y : ResponderRecord) (told heard : List (Option Apdu)) (n : ℕ) (a : Apdu) (body : Body) → RequesterStands txn x told
+    → ResponderStands txn y heard → AreIssued told y.issued → AreIssued heard x.issued → message y.issued n ≡ Some a → a.body ≡ body → is_end body ≡ true → Leads x a body
+arrives_as rows txn x y told heard n a (types.Shipped due) asking asked issued heeded at is ends = shipped_arrives rows txn x y told heard n a due asking asked issued heeded at is
+arrives_as rows txn x y told heard n a (types.CancelReply c true) asking asked issued heeded at is ends = yes_arrives rows txn x y told heard n c a asking asked issued heeded at is
+arrives_as rows txn x y told heard n a (types.CancelReply c false) asking asked issued heeded at is ends = search rules
+arrives_as rows txn x y told heard n a types.Expired asking asked issued heeded at is ends = end_arrives rows txn x y told heard n a asking asked issued heeded at (ap is_unsupplied is)
+arrives_as rows txn x y told heard n a (types.IllAnswer answer) asking asked issued heeded at is ends =
+    end_arrives rows txn x y told heard n a asking asked issued heeded at (ap is_unsupplied is ∙ plain_end _ ends)
+  where
+    plain_end : (b : Bool) → (b || (false || false)) ≡ true → b ≡ true
+    plain_end true is = refl
+    plain_end false is = search rules
+arrives_as rows txn x y told heard n a body asking asked issued heeded at is ends = search rules
+
+-- ---- what is seen of it
+
+answers : (answer : Result Taking Refusal) → (answer ≡ Ok Taken) ⊎ (answer ≡ Ok Repeat) → (answer_to answer ≡ Answered Taken) ⊎ (answer_to answer ≡ Answered Repeat)
+answers answer (inl taken) = inl (ap answer_to taken)
+answers answer (inr repeat) = inr (ap answer_to repeat)
+
+settles_requester : RowsFollow → (txn : Qualifiers) (p : Party) (side : Side) (told heard : List (Option Apdu)) (n : ℕ) (a : Apdu) (found : Option Apdu) → StandsAsRequester txn p.live told
+    → StandsAsResponder txn side heard → AreIssued told (issued_of side) → AreIssued heard (issued_of p.live) → message (issued_of side) n ≡ Some a → found ≡ Some a → is_end a.body ≡ true
+    → Settles (settled_by a.body) (receives p found).0 (receives p found).1.live
+settles_requester rows txn p side told heard n a found asking asked issued heeded at is ends =
+    subst (λ o. Settles (settled_by a.body) (receives p o).0 (receives p o).1.live) (sym is) (go p.live side asking asked issued heeded at)
+  where
+    go : (live side : Side) → StandsAsRequester txn live told → StandsAsResponder txn side heard → AreIssued told (issued_of side) → AreIssued heard (issued_of live) → message (issued_of side) n ≡ Some a
+        → Settles (settled_by a.body) (receives (record p { live = live }) (Some a)).0 (receives (record p { live = live }) (Some a)).1.live
+    go (sides.Requester x) (sides.Responder y) asking asked issued heeded at =
+        let leads = arrives_as rows txn x y told heard n a a.body asking asked issued heeded at refl ends in
+        (answers (requester_deliveries.takes x a).0 leads.0, leads.1)
+    go (sides.Responder y) side asking asked issued heeded at = absurd asking
+    go (sides.Requester x) (sides.Requester y) asking asked issued heeded at = absurd asked
+
+-- ---- a Returned
+
+returned_is : (body : Body) → is_returned body ≡ true → body ≡ types.Returned
+returned_is types.Returned is = refl
+returned_is body is = search rules
+
+returned_is_later : (state : State) → is_among (states.Returned ∷ []) state ≡ true → is_among later state ≡ true
+returned_is_later states.Returned is = refl
+returned_is_later state is = search rules
+
+returned_arrives : RowsFollow → (txn : Qualifiers) (x : RequesterRecord) (y : ResponderRecord) (told heard : List (Option Apdu)) (n : ℕ) (a : Apdu) → RequesterStands txn x told
+    → ResponderStands txn y heard → AreIssued told y.issued → message x.issued n ≡ Some a → is_returned a.body ≡ true
+    → responder.LeadsTo (states.Returned ∷ states.CheckedIn ∷ []) (responder_deliveries.takes y a)
+returned_arrives rows txn x y told heard n a asking asked issued at is =
+    let returned = sym asking.rules.issued.returned ∙ message_has is_returned x.issued n a at is in
+    let shipped = shipped_by txn x y told heard x.due asking asked issued refl (asking.rules.parts.due ∙ returned_is_later x.state returned) in
+    let same = subst (λ t. is_same_txn a.txn t ≡ true) (asking.same_txn ∙ sym asked.same_txn) (message_number x.txn x.issued n a asking.rules.numbered at).0 in
+    rows.returned y a same (returned_is a.body is) (sym asked.ends.shipped ∙ shipped)
+
+settles_responder : RowsFollow → (txn : Qualifiers) (p : Party) (side : Side) (told heard : List (Option Apdu)) (n : ℕ) (a : Apdu) (found : Option Apdu) → StandsAsRequester txn side told
+    → StandsAsResponder txn p.live heard → AreIssued told (issued_of p.live) → message (issued_of side) n ≡ Some a → found ≡ Some a → is_returned a.body ≡ true
+    → Settles (states.Returned ∷ states.CheckedIn ∷ []) (receives p found).0 (receives p found).1.live
+settles_responder rows txn p side told heard n a found asking asked issued at is returned =
+    subst (λ o. Settles (states.Returned ∷ states.CheckedIn ∷ []) (receives p o).0 (receives p o).1.live) (sym is) (go side p.live asking asked issued at)
+  where
+    go : (side live : Side) → StandsAsRequester txn side told → StandsAsResponder txn live heard → AreIssued told (issued_of live) → message (issued_of side) n ≡ Some a
+        → Settles (states.Returned ∷ states.CheckedIn ∷ []) (receives (record p { live = live }) (Some a)).0 (receives (record p { live = live }) (Some a)).1.live
+    go (sides.Requester x) (sides.Responder y) asking asked issued at =
+        let leads = returned_arrives rows txn x y told heard n a asking asked issued at returned in
+        (answers (responder_deliveries.takes y a).0 leads.0, leads.1)
+    go (sides.Responder y) live asking asked issued at = absurd asking
+    go (sides.Requester x) (sides.Requester y) asking asked issued at = absurd asked
+
+pub arrives : RowsFollow → (txn : Qualifiers) (w : Parties) (event : Event) → Stands txn w → Arrives w event
+arrives rows txn w (events.Deliver who.Requester n) stands =
+    λ a sent ends.
+      settles_requester rows txn w.requester w.responder.landed w.responder.sent w.requester.sent n a (sent_message w.responder.sent n) stands.asking.live stands.asked.landed
+      (landed_issues w.responder stands.asked.saved) (live_issues w.requester stands.asking.saved) (stands.asked.saved.landed n a sent) sent ends
+arrives rows txn w (events.Deliver who.Responder n) stands =
+    λ a sent returned.
+      settles_responder rows txn w.responder w.requester.landed w.responder.sent w.requester.sent n a (sent_message w.requester.sent n) stands.asking.landed stands.asked.live
+      (live_issues w.responder stands.asked.saved) (stands.asking.saved.landed n a sent) sent returned
+arrives rows txn w (events.Wish wish) stands = tt
+arrives rows txn w (events.Deed deed today) stands = tt
+arrives rows txn w (events.Save of) stands = tt
+arrives rows txn w (events.SaveFault of landed) stands = tt
+arrives rows txn w (events.Send of n) stands = tt
+arrives rows txn w (events.Noise of bytes) stands = tt
+arrives rows txn w (events.Restart of) stands = tt

@@ -61,12 +61,3 @@ pub record IsReady (desk : DeskOf Memory) : Type 0 where
 abbrev pub Gives : {M P : Type 0} → Outcome × P → P → Result Outcome M → P → Type 0
 Gives expected old (Ok outcome) new = expected ≡ (outcome, new)
 Gives expected old (Err memory) new = new ≡ old
-
--- the two sides of a world have different roles
-abbrev pub IsRequester : Side → Type 0
-IsRequester (sides.Requester x) = Unit {0}
-IsRequester (sides.Responder y) = ⊥
-
-abbrev pub IsResponder : Side → Type 0
-IsResponder (sides.Requester x) = ⊥
-IsResponder (sides.Responder y) = Unit {0}

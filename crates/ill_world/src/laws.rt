@@ -15,7 +15,7 @@ ghost use Rattle.ill_core.specs.ResponderDeliveries as responder_deliveries;
 ghost use Rattle.ill_world.specs.declared.event.Event.{Event};
 ghost use Rattle.ill_world.specs.World.{Parties, first_world, happens};
 ghost use Rattle.ill_world.specs.Safety.{OfBoth, EndsAlike, WasShipped, WasGranted, IsSafeRun};
-ghost use Rattle.ill_world.specs.Agreement.{Agrees, KeepsDates, Arrives};
+ghost use Rattle.ill_world.specs.Agreement.{Agrees, IsAgreeingRun, KeepsDates, Arrives};
 ghost use Rattle.ill_world.specs.Invariant.{WasSent, RequesterStands, ResponderStands, Stands};
 
 use ill_core::laws::{
@@ -97,6 +97,14 @@ pub fn every_run_is_safe()
     ends_alike();
     was_shipped();
     was_granted();
+}
+
+/// Both sides agree in every world of every run.
+pub fn every_run_agrees()
+    ensures { (txn : Qualifiers) (events : List Event) → IsAgreeingRun txn events }
+{
+    world_stands();
+    sides_agree();
 }
 
 /// Where the world stands, one arrival of the end of a request, or of a Returned, is enough.

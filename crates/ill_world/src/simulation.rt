@@ -5,13 +5,14 @@ ghost use Rattle.ill_values.specs.TxnId.{Qualifiers};
 ghost use Rattle.ill_world.specs.declared.event.Event.{Event};
 ghost use Rattle.ill_world.specs.World.{first_world};
 ghost use Rattle.ill_world.specs.Safety.{IsSafeRun};
+ghost use Rattle.ill_world.specs.Agreement.{IsAgreeingRun};
 ghost use Rattle.ill_world.specs.Simulation.{Simulates, line_at};
 ghost use Rattle.ill_world.specs.Script.{meaning};
 ghost use Rattle.ill_world.specs.Simulating.{Performs, PerformsLine, StepsLine, FindsEnd};
 
 use crate::event::Event;
 use crate::fault::SimFault;
-use crate::laws::every_run_is_safe;
+use crate::laws::{every_run_agrees, every_run_is_safe};
 use crate::lines::{Found, next_byte, next_line};
 use crate::script::{Line, read_line};
 use crate::world::World;
@@ -32,7 +33,7 @@ const MAX_LINES: u32 = 100_000;
 /// Whatever the script says, each world that a line shows is safe: a requester in CANCELLED or
 /// NOT-SUPPLIED faces a responder in the same state, one in SHIPPED or later faces one that has
 /// shipped, and its due date is one that this responder has granted; in memory and in the stores
-/// alike.
+/// alike. And both sides agree, as `run` says.
 pub fn simulate<R: Read, W: Write>(
     alloc: Global,
     txn: &TxnId,
@@ -42,8 +43,10 @@ pub fn simulate<R: Read, W: Write>(
     ensures simulates { Simulates txn.now (R.remaining reader.old) (R.remaining reader.new)
         (W.contents writer.old) (W.contents writer.new) result }
     ensures safe { (events : List Event) → IsSafeRun txn.now events }
+    ensures agrees { (events : List Event) → IsAgreeingRun txn.now events }
 {
     every_run_is_safe();
+    every_run_agrees();
     let mut simulation = Simulation::new(alloc, txn)?;
     simulation.run(alloc, reader, writer)
 }

@@ -1,15 +1,20 @@
 //! Two sides, with what they have sent.
 
 ghost use Rattle.std.specs.Prelude.{◌≡◌, ◌++◌, IfOk, OnOk};
+ghost use Rattle.ill_values.specs.TxnId.{Qualifiers};
 ghost use Rattle.ill_saved.specs.declared.side.Side.TheVariants as sides;
 ghost use Rattle.ill_saved.specs.Side.{idle_of};
 ghost use Rattle.ill_world.specs.World as model;
 ghost use Rattle.ill_world.specs.Trace.{line};
 ghost use Rattle.ill_world.specs.Safety.{IsSafeRun};
-ghost use Rattle.ill_world.specs.Standing.{IsRequester, IsResponder, Gives};
+ghost use Rattle.ill_world.specs.Agreement.{IsAgreeingRun, KeepsDates, Arrives};
+ghost use Rattle.ill_world.specs.Invariant.{Stands};
+ghost use Rattle.ill_world.specs.Standing.{Gives};
 
 use crate::event::{Event, Outcome, Who};
-use crate::laws::every_run_is_safe;
+use crate::laws::{
+    due_dates_stay, every_run_agrees, every_run_is_safe, one_arrival_is_enough, world_stands,
+};
 use crate::party::Party;
 use crate::trace::push_line;
 use ill_core::{Requester, Responder, Wish};
@@ -32,7 +37,8 @@ impl Model for World {
 
     ghost view = { λ w. record { requester = w.requester; responder = w.responder } };
 
-    ghost invariant = { λ w. IsRequester w.requester.live × IsResponder w.responder.live };
+    ghost invariant = { λ w. (txn : Qualifiers) ×
+        Stands txn (record { requester = w.requester; responder = w.responder }) };
 }
 
 impl World {
@@ -40,6 +46,7 @@ impl World {
     pub fn new(alloc: Global, txn: &TxnId) -> Result<World, OutOfMemory>
         ensures { IfOk result (λ world. world ≡ model.first_world txn.now) }
     {
+        world_stands();
         let requester = Requester::idle(alloc, txn.copy(alloc)?);
         let responder = Responder::idle(alloc, txn.copy(alloc)?);
         Ok(World {
@@ -51,10 +58,18 @@ impl World {
     /// Performs an event, and answers what is seen of it. If memory runs out, nothing has changed.
     ///
     /// Only `Done`, `Saved`, `Sent`, `Restarted`, `Answered(Taken)` and `Faulted` change the world,
-    /// and `Faulted` only what has landed.
+    /// and `Faulted` only what has landed. At every event but its restart the requester's due date,
+    /// once it is there, stays or rises. One `Deliver` of the message that ended the request leads
+    /// the requester to its outcome, and one of a Returned the responder to RETURNED, or the item is
+    /// checked in.
     pub fn step(&mut self, alloc: Global, event: &Event) -> Result<Outcome, OutOfMemory>
-        ensures { Gives (model.happens self.old event.now) self.old result self.new }
+        ensures gives { Gives (model.happens self.old event.now) self.old result self.new }
+        ensures dates { KeepsDates self.old event.now self.new }
+        ensures arrives { Arrives self.old event.now }
     {
+        world_stands();
+        due_dates_stay();
+        one_arrival_is_enough();
         match event.who() {
             Who::Requester => perform(&mut self.requester, &self.responder, alloc, event),
             Who::Responder => perform(&mut self.responder, &self.requester, alloc, event),
@@ -108,13 +123,17 @@ impl World {
 ///
 /// Every world on the way is safe: a requester in CANCELLED or NOT-SUPPLIED faces a responder in the
 /// same state, one in SHIPPED or later faces one that has shipped, and its due date is one that this
-/// responder has granted; in memory and in the stores alike.
+/// responder has granted; in memory and in the stores alike. And both sides agree: each question is
+/// answered once, the request ends once, the requester's due date is not after the responder's, and
+/// what either says of the other is so.
 pub fn run(alloc: Global, txn: &TxnId, events: &[Event]) -> Result<World, OutOfMemory>
     ensures runs { IfOk result (λ world. world ≡
         model.run_of (model.first_world txn.now) events.now) }
     ensures safe { IsSafeRun txn.now events.now }
+    ensures agrees { IsAgreeingRun txn.now events.now }
 {
     every_run_is_safe();
+    every_run_agrees();
     let mut world = World::new(alloc, txn)?;
     for event in events {
         world.step(alloc, event)?;

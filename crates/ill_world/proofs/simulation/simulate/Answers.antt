@@ -12,3 +12,9 @@ returns-in_err-simulation-clause-safe g c = c.every_run_is_safe.ensures c.args.t
 
 pub returns-clause-safe : goal.returns-clause-safe
 returns-clause-safe g c = c.every_run_is_safe.ensures c.args.txn.now
+
+pub returns-in_err-simulation-clause-agrees : goal.returns-in_err-simulation-clause-agrees
+returns-in_err-simulation-clause-agrees g c = c.every_run_agrees.ensures c.args.txn.now
+
+pub returns-clause-agrees : goal.returns-clause-agrees
+returns-clause-agrees g c = c.every_run_agrees.ensures c.args.txn.now

@@ -8,7 +8,7 @@ loop-event-init c = ap (λ w. run_of w c.args.events.now) c.in_ok-world.ensures
 
 pub loop-event-preserved : goal.loop-event-preserved
 loop-event-preserved c =
-    let on = run_on c.loop-event.world c.step.new.self c.args.events.now c.loop-event.event-index c.event-item.result c.in_ok-step.field-0 (omega (arith, c.loop-event-test.true)) c.event-item.is c.in_ok-step.ensures in
+    let on = run_on c.loop-event.world c.step.new.self c.args.events.now c.loop-event.event-index c.event-item.result c.in_ok-step.field-0 (omega (arith, c.loop-event-test.true)) c.event-item.is c.in_ok-step.ensures.gives in
     sym on ∙ c.loop-event.invariant
 
 pub returns-clause-runs : goal.returns-clause-runs
@@ -22,3 +22,12 @@ returns-in_err-step-clause-safe c = c.every_run_is_safe.ensures c.args.txn.now c
 
 pub returns-clause-safe : goal.returns-clause-safe
 returns-clause-safe c = c.every_run_is_safe.ensures c.args.txn.now c.args.events.now
+
+pub returns-in_err-world-clause-agrees : goal.returns-in_err-world-clause-agrees
+returns-in_err-world-clause-agrees c = c.every_run_agrees.ensures c.args.txn.now c.args.events.now
+
+pub returns-in_err-step-clause-agrees : goal.returns-in_err-step-clause-agrees
+returns-in_err-step-clause-agrees c = c.every_run_agrees.ensures c.args.txn.now c.args.events.now
+
+pub returns-clause-agrees : goal.returns-clause-agrees
+returns-clause-agrees c = c.every_run_agrees.ensures c.args.txn.now c.args.events.now

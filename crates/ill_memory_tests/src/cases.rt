@@ -2,7 +2,7 @@
 
 use crate::judging::Outcome;
 use crate::words::Words;
-use crate::{codec, desks, records, sides, starts, stores, values};
+use crate::{codec, desks, records, sides, starts, stores, values, worlds};
 use std::alloc::Global;
 
 /// What comes of the case of these words, or `None` where they are none.
@@ -18,6 +18,7 @@ pub fn outcome(alloc: Global, words: &mut Words<'_>) -> Option<Outcome> {
             Some(("MemoryStore", call)) => store_outcome(alloc, call, words),
             Some(("Desk1", call)) => desk_outcome(alloc, call, words),
             Some(("record", call)) => record_outcome(alloc, call, words),
+            Some(("World", call)) => world_outcome(alloc, call, words),
             _ => value_outcome(alloc, call),
         },
     }
@@ -75,5 +76,15 @@ fn desk_outcome(alloc: Global, call: &str, words: &mut Words<'_>) -> Option<Outc
         "start" => starts::starts(alloc, words),
         "restart-idle" => desks::restarts_idle(alloc, words),
         other => desks::outcome(alloc, other, words),
+    }
+}
+
+fn world_outcome(alloc: Global, call: &str, words: &mut Words<'_>) -> Option<Outcome> {
+    match call {
+        "new" => worlds::begins(alloc),
+        "step" => worlds::steps(alloc, words),
+        "run" => worlds::runs(alloc),
+        "readers" => worlds::shows(alloc),
+        _ => None,
     }
 }

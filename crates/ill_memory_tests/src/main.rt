@@ -18,6 +18,7 @@ mod starts;
 mod stores;
 mod values;
 mod words;
+mod worlds;
 
 use std::io;
 use words::Words;

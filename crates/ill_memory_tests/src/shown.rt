@@ -9,7 +9,7 @@ use ill_values::{Apdu, Day, Number, TxnId};
 use std::alloc::Global;
 
 /// What both roles show.
-#[derive(Debug, Drop)]
+#[derive(Debug, PartialEq, Drop)]
 pub struct Shown {
     is_of_t1: bool,
     state: State,
@@ -24,7 +24,7 @@ pub struct Shown {
 }
 
 /// What a requester shows.
-#[derive(Debug, Drop)]
+#[derive(Debug, PartialEq, Drop)]
 pub struct RequesterShown {
     shown: Shown,
     held: Option<Number>,
@@ -33,7 +33,7 @@ pub struct RequesterShown {
 }
 
 /// What a responder shows.
-#[derive(Debug, Drop)]
+#[derive(Debug, PartialEq, Drop)]
 pub struct ResponderShown {
     shown: Shown,
     outstanding: Option<Number>,
@@ -57,7 +57,8 @@ pub fn shows(alloc: Global, side: &Side) -> Option<Outcome> {
     Some(judged(outcome, refused))
 }
 
-fn requester(side: &Requester, txn: &TxnId, one: Number, nine: Number) -> RequesterShown {
+/// What a requester shows, with its messages of two numbers.
+pub fn requester(side: &Requester, txn: &TxnId, one: Number, nine: Number) -> RequesterShown {
     RequesterShown {
         shown: Shown {
             is_of_t1: side.txn() == txn,
@@ -75,7 +76,8 @@ fn requester(side: &Requester, txn: &TxnId, one: Number, nine: Number) -> Reques
     }
 }
 
-fn responder(side: &Responder, txn: &TxnId, one: Number, nine: Number) -> ResponderShown {
+/// What a responder shows, with its messages of two numbers.
+pub fn responder(side: &Responder, txn: &TxnId, one: Number, nine: Number) -> ResponderShown {
     ResponderShown {
         shown: Shown {
             is_of_t1: side.txn() == txn,

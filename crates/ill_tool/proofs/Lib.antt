@@ -1,2 +1,3 @@
 pub mod InputLemmas
 pub mod ShowLemmas
+pub mod SimulateLemmas

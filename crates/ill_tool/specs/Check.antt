@@ -2,7 +2,7 @@
 use Rattle.std.specs.Prelude.{◌≡◌, ℕ, List, [], take, Option, Result, Ok, Err}
 use Rattle.std.specs.Io.KnownBytes.{Appends}
 use Rattle.ill_tool.specs.declared.fault.ToolFault.{ToolFault}
-use Rattle.ill_tool.specs.declared.fault.ToolFault.TheVariants.{Der, TooMany, Read, Write, OutOfMemory}
+use Rattle.ill_tool.specs.declared.fault.ToolFault.TheVariants.{Arguments, Der, TooMany, Script, Read, Write, OutOfMemory}
 use Rattle.ill_tool.specs.Input.{Counts}
 use Rattle.ill_tool.specs.Lines.{count_line}
 
@@ -13,8 +13,10 @@ WritesCount before after count (Ok n) = (n ≡ count) × Appends before after (c
 WritesCount before after count (Err Write) =
     (size : ℕ) × Appends before after (take size (count_line count))
 WritesCount before after count (Err OutOfMemory) = Appends before after []
+WritesCount before after count (Err Arguments) = ⊥
 WritesCount before after count (Err (Der fault)) = ⊥
 WritesCount before after count (Err TooMany) = ⊥
+WritesCount before after count (Err (Script line)) = ⊥
 WritesCount before after count (Err Read) = ⊥
 
 -- what follows the counting: the line of the number, or nothing but the fault of the reading

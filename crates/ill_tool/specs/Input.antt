@@ -9,7 +9,7 @@ use Rattle.ill_der.specs.declared.fault.ReadFault.TheVariants as reading
 use Rattle.ill_der.specs.ShortForm.{spelling, apdu_at}
 use Rattle.ill_der.specs.Stream.{IsUnfinished, AreUnfinished, SpellsOne, IfShort}
 use Rattle.ill_tool.specs.declared.fault.ToolFault.{ToolFault}
-use Rattle.ill_tool.specs.declared.fault.ToolFault.TheVariants.{Der, TooMany, Read, Write, OutOfMemory}
+use Rattle.ill_tool.specs.declared.fault.ToolFault.TheVariants.{Arguments, Der, TooMany, Script, Read, Write, OutOfMemory}
 
 -- the fault of a command whose reading failed so
 abbrev pub tool_fault : ReadFault → ToolFault
@@ -31,9 +31,11 @@ pub record Takes (old new : Option (List ℕ)) (apdus : List Apdu) (bytes : List
 -- What stopped the reading: of the number of APDUs, of the bytes that were read behind them, and of
 -- what the reader has left.
 abbrev pub StopsReading : ToolFault → ℕ → List ℕ → Option (List ℕ) → Type 0
+StopsReading Arguments count bytes left = ⊥
 StopsReading (Der fault) count bytes left =
     (apdu_at bytes ≡ Err fault) × AreUnfinished bytes × IfShort fault (IsAtEnd left)
 StopsReading TooMany count bytes left = (count ≡ 100000) × SpellsOne bytes
+StopsReading (Script line) count bytes left = ⊥
 StopsReading Read count bytes left = IsUnfinished bytes
 StopsReading Write count bytes left = ⊥
 StopsReading OutOfMemory count bytes left = SpellsOne bytes

@@ -3,3 +3,4 @@ pub mod Input
 pub mod Output
 pub mod Show
 pub mod Check
+pub mod Simulate

@@ -6,7 +6,7 @@ use Rattle.ill_values.specs.declared.apdu.Apdu.{Apdu}
 use Rattle.ill_values.specs.Apdu.{IsApdu}
 use Rattle.ill_der.specs.ShortForm.{spelling}
 use Rattle.ill_tool.specs.declared.fault.ToolFault.{ToolFault}
-use Rattle.ill_tool.specs.declared.fault.ToolFault.TheVariants.{Der, TooMany, Read, Write, OutOfMemory}
+use Rattle.ill_tool.specs.declared.fault.ToolFault.TheVariants.{Arguments, Der, TooMany, Script, Read, Write, OutOfMemory}
 use Rattle.ill_tool.specs.Input.{Takes, StopsReading}
 use Rattle.ill_tool.specs.Lines.{lines_of}
 
@@ -23,8 +23,10 @@ IsPartShown bytes text =
 -- What stopped the command: of the number of APDUs that it showed, of the bytes that it read behind
 -- them, of what the reader has left, and of the text that it wrote behind their lines.
 abbrev pub Stopped : ToolFault → ℕ → List ℕ → Option (List ℕ) → List ℕ → Type 0
+Stopped Arguments count bytes left text = ⊥
 Stopped (Der fault) count bytes left text = StopsReading (Der fault) count bytes left × (text ≡ [])
 Stopped TooMany count bytes left text = StopsReading TooMany count bytes left × (text ≡ [])
+Stopped (Script line) count bytes left text = ⊥
 Stopped Read count bytes left text = StopsReading Read count bytes left × (text ≡ [])
 Stopped Write count bytes left text = IsPartShown bytes text
 Stopped OutOfMemory count bytes left text = StopsReading OutOfMemory count bytes left × (text ≡ [])

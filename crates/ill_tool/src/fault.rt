@@ -2,21 +2,29 @@
 
 ghost use Rattle.std.specs.Prelude.{◌≡◌};
 ghost use Rattle.ill_tool.specs.Input.{tool_fault};
+ghost use Rattle.ill_tool.specs.Simulate.{sim_fault};
 ghost use Rattle.ill_tool.specs.declared.fault.ToolFault.TheVariants.{OutOfMemory};
 
 use ill_der::{DerFault, ReadFault};
+use ill_world::SimFault;
 use std::alloc::AllocError;
 use thiserror::Error;
 
 /// Why a command stopped. What was written before stays written.
 #[derive(Clone, Copy, Debug, PartialEq, Eq, Hash, Error)]
 pub enum ToolFault {
+    /// A group or a transaction is no qualifier.
+    #[error("arguments")]
+    Arguments,
     /// The input has bytes that are no APDU. This is never `DerFault::OutOfMemory`.
     #[error("{0}")]
     Der(DerFault),
     /// The input has more than 100,000 APDUs.
     #[error("too-many")]
     TooMany,
+    /// The line of the script with this number, from 1 on, is bad.
+    #[error("script at line {0}")]
+    Script(u32),
     /// The reader failed.
     #[error("read")]
     Read,
@@ -36,6 +44,19 @@ impl From<ReadFault> for ToolFault {
             ReadFault::Bytes(fault) => ToolFault::Der(fault),
             ReadFault::Read => ToolFault::Read,
             ReadFault::OutOfMemory => ToolFault::OutOfMemory,
+        }
+    }
+}
+
+impl From<SimFault> for ToolFault {
+    ghost from_gives = { λ fault tool. tool ≡ sim_fault fault };
+
+    fn from(fault: SimFault) -> ToolFault {
+        match fault {
+            SimFault::Script(line) => ToolFault::Script(line),
+            SimFault::Read => ToolFault::Read,
+            SimFault::Write => ToolFault::Write,
+            SimFault::OutOfMemory => ToolFault::OutOfMemory,
         }
     }
 }

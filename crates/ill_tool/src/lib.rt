@@ -8,10 +8,12 @@ mod input;
 mod lines;
 mod output;
 mod show;
+mod simulate;
 mod words;
 
 pub use check::run_check;
 pub use fault::ToolFault;
 pub use ill_der::DerFault;
 pub use show::run_show;
+pub use simulate::run_simulate;
 pub use words::run_words;

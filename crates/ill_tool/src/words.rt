@@ -4,6 +4,7 @@ use crate::check::run_check;
 use crate::command_line::{Request, read_words};
 use crate::fault::ToolFault;
 use crate::show::run_show;
+use crate::simulate::run_simulate;
 use clap::error::ErrorKind;
 use std::alloc::Global;
 use std::io::{BufReader, BufWriter, Read, Write};
@@ -30,7 +31,7 @@ pub fn run_words<T: Files, R: Read, W: Write, E: Write>(
 /// Performs a command, with a buffer round either stream.
 fn perform<R: Read, W: Write>(
     alloc: Global,
-    request: Request,
+    request: Request<'_>,
     reader: &mut R,
     writer: &mut W,
 ) -> Result<(), ToolFault> {
@@ -39,6 +40,9 @@ fn perform<R: Read, W: Write>(
     let done = match request {
         Request::Show => run_show(alloc, &mut reader, &mut writer),
         Request::Check => run_check(alloc, &mut reader, &mut writer),
+        Request::Simulate { group, transaction } => {
+            run_simulate(alloc, group, transaction, &mut reader, &mut writer)
+        }
     };
     writer.flush().map_err(|_| ToolFault::Write)?;
     done?;
@@ -76,10 +80,11 @@ fn finish<E: Write>(outcome: Result<(), ToolFault>, errors: &mut E) -> u8 {
     }
 }
 
-/// The exit status after a fault: 2 for what the input says, 3 for what the machine could not do.
+/// The exit status after a fault: 2 for what the words or the input say, 3 for what the machine could
+/// not do.
 fn status(fault: ToolFault) -> u8 {
     match fault {
-        ToolFault::Der(_) | ToolFault::TooMany => 2,
+        ToolFault::Arguments | ToolFault::Der(_) | ToolFault::TooMany | ToolFault::Script(_) => 2,
         ToolFault::Read | ToolFault::Write | ToolFault::OutOfMemory => 3,
     }
 }

@@ -13,6 +13,8 @@ mod reading;
 #[cfg(test)]
 mod samples;
 #[cfg(test)]
+mod simulating;
+#[cfg(test)]
 mod streams;
 #[cfg(test)]
 mod words;

@@ -14,14 +14,14 @@ use std::test::Fail;
 
 /// What a command line left: its exit status and both texts.
 #[derive(Drop)]
-struct Left {
-    status: u8,
-    output: Vec<u8>,
-    errors: Vec<u8>,
+pub struct Left {
+    pub status: u8,
+    pub output: Vec<u8>,
+    pub errors: Vec<u8>,
 }
 
 /// Performs a command line over an input.
-fn perform<R: Read>(rt: &impl Files, alloc: Global, words: &[&str], reader: &mut R) -> Left {
+pub fn perform<R: Read>(rt: &impl Files, alloc: Global, words: &[&str], reader: &mut R) -> Left {
     let mut output = Vec::new(alloc);
     let mut errors = Vec::new(alloc);
     let status = run_words(rt, alloc, words, reader, &mut output, &mut errors);
@@ -33,7 +33,7 @@ fn perform<R: Read>(rt: &impl Files, alloc: Global, words: &[&str], reader: &mut
 }
 
 /// Compares the exit status and the line of the fault, if there is one.
-fn expect_end(rt: &impl Abort, status: u8, errors: &[u8], wanted: u8, line: &str) {
+pub fn expect_end(rt: &impl Abort, status: u8, errors: &[u8], wanted: u8, line: &str) {
     assert!(rt; status == wanted, "status with \"{line}\"");
     assert!(rt; errors == line.as_bytes(), "errors in place of \"{line}\"");
 }
@@ -120,7 +120,7 @@ fn expect_read_fault(
 }
 
 /// Performs a command line that cannot write all.
-fn expect_write_fault<R: Read, W: Write>(
+pub fn expect_write_fault<R: Read, W: Write>(
     rt: &(impl Abort + Files),
     alloc: Global,
     words: &[&str],
@@ -169,6 +169,9 @@ fn an_output_that_cannot_be_flushed_has_its_line_and_status(rt: HostRuntime) {
         expect_unflushed(&rt, rt.alloc(), &words, b"");
         expect_unflushed(&rt, rt.alloc(), &words, LATE_FAULT);
     }
+    let words = ["ill", "simulate", "G1", "T1"];
+    expect_unflushed(&rt, rt.alloc(), &words, b"save requester\n");
+    expect_unflushed(&rt, rt.alloc(), &words, b"save\n");
     expect_unflushed(&rt, rt.alloc(), &["ill", "--help"], b"");
     expect_unflushed(&rt, rt.alloc(), &["ill", "--version"], b"");
 }
@@ -210,11 +213,15 @@ fn want_of_memory_has_its_text(rt: HostRuntime) -> Result<(), Fail> {
     Ok(())
 }
 
-const NO_COMMANDS: [&[&str]; 5] = [
+const NO_COMMANDS: [&[&str]; 9] = [
     &["ill"],
     &["ill", "shwo"],
     &["ill", "show", "more"],
     &["ill", "check", "more"],
+    &["ill", "simulate"],
+    &["ill", "simulate", "G1"],
+    &["ill", "simulate", "G1", "T1", "more"],
+    &["ill", "simulate", "-G", "T1"],
     &["ill", "--shwo"],
 ];
 
@@ -229,13 +236,15 @@ fn words_that_are_no_command_are_refused(rt: HostRuntime) {
     }
 }
 
-const HELP: [&[&str]; 7] = [
+const HELP: [&[&str]; 9] = [
     &["ill", "--help"],
     &["ill", "-h"],
     &["ill", "help", "show"],
     &["ill", "show", "--help"],
     &["ill", "help", "check"],
     &["ill", "check", "--help"],
+    &["ill", "help", "simulate"],
+    &["ill", "simulate", "--help"],
     &["ill", "--version"],
 ];
 

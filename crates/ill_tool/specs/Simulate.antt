@@ -1,0 +1,40 @@
+-- Performing a script.
+use Rattle.std.specs.Prelude.{◌≡◌, ℕ, List, [], Option, Result, Ok, Err}
+use Rattle.std.specs.Io.KnownBytes.{Consumes, Appends}
+use Rattle.ill_values.specs.declared.fault.TextFault.{TextFault}
+use Rattle.ill_values.specs.TxnId.{Qualifiers}
+use Rattle.ill_world.specs.declared.fault.SimFault.{SimFault}
+use Rattle.ill_world.specs.declared.fault.SimFault.TheVariants as simulation
+use Rattle.ill_world.specs.Simulation.{Simulates}
+use Rattle.ill_tool.specs.declared.fault.ToolFault.{ToolFault}
+use Rattle.ill_tool.specs.declared.fault.ToolFault.TheVariants.{Arguments, Script, Read, Write, OutOfMemory}
+
+-- the fault of a command whose simulation stopped so
+abbrev pub sim_fault : SimFault → ToolFault
+sim_fault (simulation.Script line) = Script line
+sim_fault simulation.Read = Read
+sim_fault simulation.Write = Write
+sim_fault simulation.OutOfMemory = OutOfMemory
+
+-- the answer of a command whose simulation answered so
+abbrev pub tool_answer : Result ℕ SimFault → Result ℕ ToolFault
+tool_answer (Ok count) = Ok count
+tool_answer (Err fault) = Err (sim_fault fault)
+
+-- The command, from what the reader had left to what it has left, and from what the writer held to
+-- what it holds: a simulation of the transaction, or, where there is no such transaction, nothing but
+-- the fault of the arguments.
+abbrev pub Performs : Result Qualifiers TextFault → Option (List ℕ) → Option (List ℕ) →
+    Option (List ℕ) → Option (List ℕ) → Result ℕ ToolFault → Type 0
+Performs (Ok txn) old new before after result =
+    (simulated : Result ℕ SimFault) × Simulates txn old new before after simulated
+    × (result ≡ tool_answer simulated)
+Performs (Err fault) old new before after result =
+    (result ≡ Err Arguments) × Consumes old new [] × Appends before after []
+
+-- the transaction id of the arguments, or that they are none, unless memory ran out
+abbrev pub GivesId : Result Qualifiers TextFault → Result Qualifiers ToolFault → Type 0
+GivesId (Ok txn) (Ok made) = made ≡ txn
+GivesId (Ok txn) (Err fault) = fault ≡ OutOfMemory
+GivesId (Err fault) (Ok made) = ⊥
+GivesId (Err fault) (Err tool) = tool ≡ Arguments

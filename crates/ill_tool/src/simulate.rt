@@ -1,0 +1,47 @@
+//! The command `simulate`.
+
+ghost use Rattle.ill_values.specs.TxnId.{txn_id_of};
+ghost use Rattle.ill_tool.specs.Simulate.{GivesId, Performs};
+
+use crate::fault::ToolFault;
+use ill_values::{TextFault, TxnId};
+use ill_world::simulate;
+use std::alloc::Global;
+use std::io::{Read, Write};
+
+/// Performs a script of both sides of the transaction with these qualifiers, and writes a line for
+/// each event. It answers the number of events.
+///
+/// If there is no such transaction, nothing is read or written. At a bad line, and where the reader
+/// fails, the lines of all events before are written. If memory runs out, those of some of the first
+/// events are, and if the writer fails, a front of that text.
+pub fn run_simulate<R: Read, W: Write>(
+    alloc: Global,
+    group: &str,
+    transaction: &str,
+    reader: &mut R,
+    writer: &mut W,
+) -> Result<u32, ToolFault>
+    ensures { Performs (txn_id_of group.now transaction.now)
+        (R.remaining reader.old) (R.remaining reader.new)
+        (W.contents writer.old) (W.contents writer.new) result }
+{
+    let txn = id(alloc, group, transaction)?;
+    match simulate(alloc, &txn, reader, writer) {
+        Ok(count) => Ok(count),
+        Err(fault) => Err(fault.into()),
+    }
+}
+
+/// The transaction id with these qualifiers.
+fn id(alloc: Global, group: &str, transaction: &str) -> Result<TxnId, ToolFault>
+    ensures { GivesId (txn_id_of group.now transaction.now) result }
+{
+    match TxnId::new(alloc, group.as_bytes(), transaction.as_bytes()) {
+        Ok(id) => Ok(id),
+        Err(TextFault::OutOfMemory) => Err(ToolFault::OutOfMemory),
+        Err(TextFault::Empty | TextFault::TooLong | TextFault::BadByte) => {
+            Err(ToolFault::Arguments)
+        }
+    }
+}

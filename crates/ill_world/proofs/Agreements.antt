@@ -1,17 +1,15 @@
 -- Why both sides of a world that stands agree.
-use Rattle.std.proofs.Common.{rules, ◌≡◌, ◌⊎◌, inl, inr, ℕ, zero, suc, ◌+◌, ◌≤◌, Bool, true, false, not, ◌&&◌, ◌||◌, ◌==◌, List, [], ◌∷◌, length, Option, Some, None, is_some, Result, Ok, Err, if◌then◌else◌, refl, sym, ap, ◌∙◌, subst, arith}
+use Rattle.std.proofs.Common.{rules, ◌≡◌, ◌⊎◌, inl, inr, ℕ, ◌≤◌, Bool, true, false, List, [], ◌∷◌, Option, Some, if◌then◌else◌, refl, sym, ap, ◌∙◌, arith}
 use Rattle.std.proofs.lemmas.Bool.{and_parts, eq-eqb}
-use Rattle.ill_values.specs.Day.{Date}
 use Rattle.ill_values.specs.TxnId.{Qualifiers}
 use Rattle.ill_values.specs.declared.apdu.Apdu.{Apdu}
 use Rattle.ill_values.specs.declared.apdu.Body.{Body}
 use Rattle.ill_values.specs.declared.apdu.Body.TheVariants as types
-use Rattle.ill_values.specs.declared.apdu.AnswerResult.{AnswerResult}
 use Rattle.ill_core.specs.declared.state.State.{State}
 use Rattle.ill_core.specs.declared.state.State.TheVariants as states
 use Rattle.ill_core.specs.State.{is_among}
-use Rattle.ill_core.specs.Bodies.{is_unsupplied, is_cancelled, is_shipped, is_end, is_ill_request, is_cancel, is_received, is_returned, is_checked_in, accepts, grant_in}
-use Rattle.ill_core.specs.Issued.{message, has, was, is_there, is_none, is_same_txn}
+use Rattle.ill_core.specs.Bodies.{is_cancelled, is_shipped, is_ill_request, is_cancel, is_received, is_returned, is_checked_in, accepts}
+use Rattle.ill_core.specs.Issued.{message, has, was, is_there}
 use Rattle.ill_core.specs.Requester.{RequesterRecord, later}
 use Rattle.ill_core.specs.RequesterFacts as requester
 use Rattle.ill_core.specs.Responder.{ResponderRecord, later as shipped_states}
@@ -21,11 +19,11 @@ use Rattle.ill_saved.specs.declared.side.Side.TheVariants as sides
 use Rattle.ill_saved.specs.Side.{issued_of}
 use Rattle.ill_world.specs.World.{Party, Parties, sent_message}
 use Rattle.ill_world.specs.Safety.{OfBoth}
-use Rattle.ill_world.specs.Agreement.{AnswersOnce, AnswersOnceBoth, EachAnsweredOnce, EndsOnce, Facing, AcceptedBy, IsNotLater, SaysTrue, Agrees}
-use Rattle.ill_world.specs.Invariant.{WasSent, RequesterStands, ResponderStands, StandsAsRequester, StandsAsResponder, SendsSaved, PartyStands, Stands}
+use Rattle.ill_world.specs.Agreement.{AnswersOnce, EndsOnce, Facing, AcceptedBy, IsNotLater, SaysTrue, Agrees}
+use Rattle.ill_world.specs.Invariant.{RequesterStands, ResponderStands, StandsAsRequester, StandsAsResponder, SendsSaved, Stands}
 use Rattle.ill_world.proofs.Sendings.{front_message, message_has}
 use Rattle.ill_world.proofs.Uniqueness.{message_number, answers_once, one_end, granted_not_later, has_message}
-use Rattle.ill_world.proofs.Claims.{AreIssued, tells_grant, is_in_cancelled, has_issued, cancelled_faces, not_supplied_faces, shipped_by, landed_issues, live_issues}
+use Rattle.ill_world.proofs.Claims.{AreIssued, tells_grant, is_in_cancelled, has_issued, not_supplied_faces, shipped_by, landed_issues, live_issues}
 
 -- ---- what a message tells
 
@@ -98,8 +96,8 @@ no_other_end txn x y told heard asking asked issued e = go (is_among (states.Not
     go false is = refl
     go true is =
         elim (split_final x.state is) [
-          inl ended ↦ let no : states.Cancelled ≡ states.NotSupplied = sym e ∙ not_supplied_faces txn x y told heard asking asked issued ended in search rules
-        | inr shipped ↦ absurd (shipped_is_later y txn heard asked (shipped_by txn x y told heard x.due asking asked issued refl (asking.rules.parts.due ∙ shipped)) e)
+          | inl ended ↦ let no : states.Cancelled ≡ states.NotSupplied = sym e ∙ not_supplied_faces txn x y told heard asking asked issued ended in search rules
+          | inr shipped ↦ absurd (shipped_is_later y txn heard asked (shipped_by txn x y told heard x.due asking asked issued refl (asking.rules.parts.due ∙ shipped)) e)
         ]
 
 body_of : (a b : Apdu) → ◌≡◌ {A = Option Apdu} (Some a) (Some b) → a.body ≡ b.body
@@ -136,21 +134,21 @@ cancel_is_open txn x y told heard asking asked issued heeded m c a at is =
 says_true : PairOf SaysTrue
 says_true txn x y told heard asking asked issued heeded = record {
   returned =
-    λ is.
+      λ is.
       let known = asked.knows responder.SentBack is in
       is_in_returned x.state (sym asking.rules.issued.returned ∙ has_issued x.issued heard is_returned known.0 heeded known.1 (tells_sent_back known.0.number known.0.body known.2));
   cancelled =
-    λ e.
+      λ e.
       let ended : has is_cancelled y.issued ≡ true = asked.ends.cancelled ∙ ap (is_among (states.Cancelled ∷ [])) e in
       let at = has_message is_cancelled y.issued ended in
       let by = cancels_with at.1.body at.3 in
       (and_parts _ _ (cancel_is_open txn x y told heard asking asked issued heeded at.0 by.0 at.1 at.2 by.1)).0;
   received =
-    λ is.
+      λ is.
       let known = asked.knows responder.Arrived is in
       has_issued x.issued heard is_received known.0 heeded known.1 (tells_arrived known.0.number known.0.body known.2);
   checked_in =
-    λ is.
+      λ is.
       let known = asking.knows requester.GivenBack is in
       is_in_checked_in y.state (sym asked.rules.issued.checked_in ∙ has_issued y.issued told is_checked_in known.0 issued known.1 (tells_given_back known.0.body known.2));
 }
@@ -158,9 +156,9 @@ says_true txn x y told heard asking asked issued heeded = record {
 not_later : PairOf IsNotLater
 not_later txn x y told heard asking asked issued heeded =
     λ d e.
-      let known = asking.knows (requester.Granted d) e in
-      let at = issued known.0 known.1 in
-      granted_not_later y.issued at.0 known.0 d asked.rules.rising at.1 (tells_grant known.0.body d known.2)
+    let known = asking.knows (requester.Granted d) e in
+    let at = issued known.0 known.1 in
+    granted_not_later y.issued at.0 known.0 d asked.rules.rising at.1 (tells_grant known.0.body d known.2)
 
 -- ---- both records of either
 
@@ -214,10 +212,10 @@ ends_once txn (sides.Requester x) told stands = absurd stands
 accepted_by : (txn : Qualifiers) (w : Parties) (side : Side) → SendsSaved w.requester → StandsAsResponder txn side w.requester.sent → AcceptedBy w side
 accepted_by txn w (sides.Responder y) saved stands =
     λ c e.
-      let known = stands.knows (responder.Accepted c) e in
-      let sent = known.1 in
-      let live = front_message (issued_of w.requester.landed) (issued_of w.requester.live) sent.0 known.0 saved.front (saved.landed sent.0 known.0 sent.1) in
-      (sent.0, known.0, sent.1, live, tells_accepted known.0.number c known.0.body known.2)
+    let known = stands.knows (responder.Accepted c) e in
+    let sent = known.1 in
+    let live = front_message (issued_of w.requester.landed) (issued_of w.requester.live) sent.0 known.0 saved.front (saved.landed sent.0 known.0 sent.1) in
+    (sent.0, known.0, sent.1, live, tells_accepted known.0.number c known.0.body known.2)
 accepted_by txn w (sides.Requester x) saved stands = absurd stands
 
 pub agrees : (txn : Qualifiers) (w : Parties) → Stands txn w → Agrees w
@@ -228,16 +226,16 @@ agrees txn w stands =
     let heard = w.requester.sent in
     record {
       answered = record {
-          conditions = (replies_once txn w.requester.live sent asking.live, once_sent requester.replied_number w.requester asking.saved (replies_once txn w.requester.landed sent asking.landed));
-          cancels = (
-            cancels_once txn w.responder.live heard asked.live,
-            once_sent (responder.answered_number responder.MayCancel) w.responder asked.saved (cancels_once txn w.responder.landed heard asked.landed),
-          );
-          renewals = (
-            renewals_once txn w.responder.live heard asked.live,
-            once_sent (responder.answered_number responder.MayRenew) w.responder asked.saved (renewals_once txn w.responder.landed heard asked.landed),
-          );
-        };
+        conditions = (replies_once txn w.requester.live sent asking.live, once_sent requester.replied_number w.requester asking.saved (replies_once txn w.requester.landed sent asking.landed));
+        cancels = (
+          cancels_once txn w.responder.live heard asked.live,
+          once_sent (responder.answered_number responder.MayCancel) w.responder asked.saved (cancels_once txn w.responder.landed heard asked.landed),
+        );
+        renewals = (
+          renewals_once txn w.responder.live heard asked.live,
+          once_sent (responder.answered_number responder.MayRenew) w.responder asked.saved (renewals_once txn w.responder.landed heard asked.landed),
+        );
+      };
       ended = (ends_once txn w.responder.live heard asked.live, ends_once txn w.responder.landed heard asked.landed);
       accepted = (accepted_by txn w w.responder.live asking.saved asked.live, accepted_by txn w w.responder.landed asking.saved asked.landed);
       dates = of_both_facing IsNotLater not_later txn w stands;

@@ -1,5 +1,5 @@
 -- One arrival of the end of a request, or of a Returned, is enough.
-use Rattle.std.proofs.Common.{rules, ◌≡◌, ◌⊎◌, inl, inr, ℕ, zero, suc, Bool, true, false, ◌&&◌, ◌||◌, List, [], ◌∷◌, Option, Some, None, Result, Ok, Err, refl, sym, ap, ◌∙◌, subst}
+use Rattle.std.proofs.Common.{rules, ◌≡◌, ◌⊎◌, inl, inr, ℕ, Bool, true, false, ◌&&◌, ◌||◌, List, [], ◌∷◌, Option, Some, Result, Ok, refl, sym, ap, ◌∙◌, subst}
 use Rattle.ill_values.specs.Day.{Date}
 use Rattle.ill_values.specs.TxnId.{Qualifiers}
 use Rattle.ill_values.specs.declared.apdu.Apdu.{Apdu}
@@ -12,7 +12,7 @@ use Rattle.ill_core.specs.declared.taking.Taking.{Taking}
 use Rattle.ill_core.specs.declared.taking.Taking.TheVariants.{Taken, Repeat}
 use Rattle.ill_core.specs.State.{is_among}
 use Rattle.ill_core.specs.Numbers.{is_the}
-use Rattle.ill_core.specs.Bodies.{is_unsupplied, is_cancelled, is_shipped, is_end, is_ill_request, is_returned}
+use Rattle.ill_core.specs.Bodies.{is_unsupplied, is_shipped, is_end, is_ill_request, is_returned}
 use Rattle.ill_core.specs.Issued.{message, has, is_none, is_same_txn}
 use Rattle.ill_core.specs.Requester.{RequesterRecord, later, last_cancel}
 use Rattle.ill_core.specs.RequesterDeliveries as requester_deliveries
@@ -22,11 +22,10 @@ use Rattle.ill_core.specs.ResponderDeliveries as responder_deliveries
 use Rattle.ill_core.specs.ResponderFacts as responder
 use Rattle.ill_saved.specs.declared.side.Side.{Side}
 use Rattle.ill_saved.specs.declared.side.Side.TheVariants as sides
-use Rattle.ill_saved.specs.Side.{issued_of, state_of}
+use Rattle.ill_saved.specs.Side.{issued_of}
 use Rattle.ill_world.specs.declared.event.Who.TheVariants as who
 use Rattle.ill_world.specs.declared.event.Event.{Event}
 use Rattle.ill_world.specs.declared.event.Event.TheVariants as events
-use Rattle.ill_world.specs.declared.event.Outcome.{Outcome}
 use Rattle.ill_world.specs.declared.event.Outcome.TheVariants.{Answered}
 use Rattle.ill_world.specs.World.{Party, Parties, sent_message, answer_to, receives}
 use Rattle.ill_world.specs.Agreement.{settled_by, Settles, Arrives}
@@ -227,12 +226,12 @@ settles_responder rows txn p side told heard n a found asking asked issued at is
 pub arrives : RowsFollow → (txn : Qualifiers) (w : Parties) (event : Event) → Stands txn w → Arrives w event
 arrives rows txn w (events.Deliver who.Requester n) stands =
     λ a sent ends.
-      settles_requester rows txn w.requester w.responder.landed w.responder.sent w.requester.sent n a (sent_message w.responder.sent n) stands.asking.live stands.asked.landed
-      (landed_issues w.responder stands.asked.saved) (live_issues w.requester stands.asking.saved) (stands.asked.saved.landed n a sent) sent ends
+    settles_requester rows txn w.requester w.responder.landed w.responder.sent w.requester.sent n a (sent_message w.responder.sent n) stands.asking.live stands.asked.landed
+    (landed_issues w.responder stands.asked.saved) (live_issues w.requester stands.asking.saved) (stands.asked.saved.landed n a sent) sent ends
 arrives rows txn w (events.Deliver who.Responder n) stands =
     λ a sent returned.
-      settles_responder rows txn w.responder w.requester.landed w.responder.sent w.requester.sent n a (sent_message w.requester.sent n) stands.asking.landed stands.asked.live
-      (live_issues w.responder stands.asked.saved) (stands.asking.saved.landed n a sent) sent returned
+    settles_responder rows txn w.responder w.requester.landed w.responder.sent w.requester.sent n a (sent_message w.requester.sent n) stands.asking.landed stands.asked.live
+    (live_issues w.responder stands.asked.saved) (stands.asking.saved.landed n a sent) sent returned
 arrives rows txn w (events.Wish wish) stands = tt
 arrives rows txn w (events.Deed deed today) stands = tt
 arrives rows txn w (events.Save of) stands = tt

@@ -31,9 +31,9 @@ Before a b = Less a.year b.year (Less a.month b.month (a.day < b.day))
 before_is : (a b : Date) → is_before a b ≡ true → Before a b
 before_is a b h =
     elim (less_is a.year b.year (less a.month b.month (nat_lt a.day b.day)) h) [
-      inl lt ↦ inl lt
-    | inr both ↦
-        inr (both.0, elim (less_is a.month b.month (nat_lt a.day b.day) both.1) [ inl lt ↦ inl lt | inr days ↦ inr (days.0, ltb-true a.day b.day days.1) ])
+      | inl lt ↦ inl lt
+      | inr both ↦
+          inr (both.0, elim (less_is a.month b.month (nat_lt a.day b.day) both.1) [ inl lt ↦ inl lt | inr days ↦ inr (days.0, ltb-true a.day b.day days.1) ])
     ]
 
 is_before_by : (a b : Date) → Before a b → is_before a b ≡ true

@@ -1,5 +1,5 @@
 -- Why a world that stands is safe: of a requester's record and a responder's that it faces.
-use Rattle.std.proofs.Common.{rules, ◌≡◌, ◌⊎◌, inl, inr, ℕ, Bool, true, false, not, ◌&&◌, ◌||◌, List, [], ◌∷◌, Option, Some, None, is_some, refl, sym, ap, ◌∙◌, subst}
+use Rattle.std.proofs.Common.{rules, ◌≡◌, ◌⊎◌, inl, inr, ℕ, Bool, true, false, not, ◌&&◌, ◌||◌, List, [], ◌∷◌, Option, Some, None, is_some, refl, sym, ap, ◌∙◌}
 use Rattle.ill_values.specs.Day.{Date}
 use Rattle.ill_values.specs.TxnId.{Qualifiers}
 use Rattle.ill_values.specs.declared.apdu.Apdu.{Apdu}
@@ -10,7 +10,7 @@ use Rattle.ill_core.specs.declared.state.State.TheVariants as states
 use Rattle.ill_core.specs.State.{is_among}
 use Rattle.ill_core.specs.Bodies.{is_shipped, is_renewal, grant_in}
 use Rattle.ill_core.specs.Issued.{message, has}
-use Rattle.ill_core.specs.Requester.{RequesterRecord, later}
+use Rattle.ill_core.specs.Requester.{RequesterRecord}
 use Rattle.ill_core.specs.RequesterFacts as requester
 use Rattle.ill_core.specs.Responder.{ResponderRecord, ships_first}
 use Rattle.ill_core.specs.ResponderFacts as responder
@@ -19,7 +19,7 @@ use Rattle.ill_saved.specs.declared.side.Side.TheVariants as sides
 use Rattle.ill_saved.specs.Side.{issued_of}
 use Rattle.ill_world.specs.World.{Party, Parties}
 use Rattle.ill_world.specs.Safety.{OfBoth, EndsAlike, WasShipped, WasGranted}
-use Rattle.ill_world.specs.Invariant.{WasSent, RequesterStands, ResponderStands, StandsAsRequester, StandsAsResponder, SendsSaved, PartyStands, Stands}
+use Rattle.ill_world.specs.Invariant.{WasSent, RequesterStands, ResponderStands, StandsAsRequester, StandsAsResponder, SendsSaved, Stands}
 use Rattle.ill_world.proofs.Sendings.{front_message, message_has}
 
 -- ---- what a message tells
@@ -102,9 +102,9 @@ ends_pair txn (sides.Requester x) (sides.Requester y) told heard asking asked is
 grant_pair : Pair WasGranted
 grant_pair txn (sides.Requester x) (sides.Responder y) told heard asking asked issued =
     λ due e.
-      let known = asking.knows (requester.Granted due) e in
-      let at = issued known.0 known.1 in
-      (at.0, known.0, at.1, tells_grant known.0.body due known.2)
+    let known = asking.knows (requester.Granted due) e in
+    let at = issued known.0 known.1 in
+    (at.0, known.0, at.1, tells_grant known.0.body due known.2)
 grant_pair txn (sides.Responder x) y told heard asking asked issued = absurd asking
 grant_pair txn (sides.Requester x) (sides.Requester y) told heard asking asked issued = absurd asked
 
@@ -114,8 +114,8 @@ shipped_by txn x y told heard None asking asked issued e some = search rules
 shipped_by txn x y told heard (Some d) asking asked issued e some =
     let known = asking.knows (requester.Granted d) e in
     elim (tells_shipped known.0.body d known.2) [
-      inl shipped ↦ has_issued y.issued told is_shipped known.0 issued known.1 shipped
-    | inr renewal ↦ ships_before y.issued asked.rules.ships_first (has_issued y.issued told is_renewal known.0 issued known.1 renewal)
+      | inl shipped ↦ has_issued y.issued told is_shipped known.0 issued known.1 shipped
+      | inr renewal ↦ ships_before y.issued asked.rules.ships_first (has_issued y.issued told is_renewal known.0 issued known.1 renewal)
     ]
 
 shipped_pair : Pair WasShipped

@@ -4,7 +4,7 @@ use Rattle.std.proofs.lemmas.List.{length-drop}
 use Rattle.ill_world.specs.declared.event.Event.{Event}
 use Rattle.ill_world.specs.declared.event.Outcome.{Outcome}
 use Rattle.ill_values.specs.TxnId.{Qualifiers}
-use Rattle.ill_world.specs.World.{Parties, happens, first_world, run_of}
+use Rattle.ill_world.specs.World.{Parties, happens, run_of}
 use Rattle.ill_world.specs.Invariant.{Stands}
 
 run_next : (w new : Parties) (events : List Event) (event : Event) (outcome : Outcome) → happens w event ≡ (outcome, new) → run_of w (event ∷ events) ≡ run_of new events

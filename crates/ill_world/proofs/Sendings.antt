@@ -1,7 +1,7 @@
 -- What a party has sent, issued and saved.
 use Rattle.std.proofs.Common.{rules, arith, ◌≡◌, ◌⊎◌, inl, inr, ℕ, zero, suc, ◌+◌, ◌≤◌, Bool, true, false, ◌||◌, nat_le, List, [], ◌∷◌, ◌++◌, length, Option, Some, None, refl, sym, ap, ◌∙◌, subst, append_assoc, append-nil, length-append}
 use Rattle.std.specs.Prelude.{slice_get}
-use Rattle.std.specs.List.{slice_set, list_any}
+use Rattle.std.specs.List.{slice_set}
 use Rattle.std.specs.Option.{option_flatten}
 use Rattle.std.proofs.lemmas.Bool.{leb-true}
 use Rattle.ill_values.specs.declared.apdu.Apdu.{Apdu}
@@ -119,9 +119,9 @@ saved_by_send p n None released is e saved = saved
 saved_by_send p n (Some a) false is e saved = saved
 saved_by_send p n (Some a) true is e saved = record {
   landed =
-    λ m b was. elim (sent_with p.sent n m a b was) [
-        inl here ↦ subst (λ x. message (issued_of p.landed) m ≡ Some x) (sym here.1) (subst (λ k. message (issued_of p.landed) k ≡ Some a) (sym here.0) (sent_landed p n a saved is e))
-      | inr before ↦ saved.landed m b before
+      λ m b was. elim (sent_with p.sent n m a b was) [
+        | inl here ↦ subst (λ x. message (issued_of p.landed) m ≡ Some x) (sym here.1) (subst (λ k. message (issued_of p.landed) k ≡ Some a) (sym here.0) (sent_landed p n a saved is e))
+        | inr before ↦ saved.landed m b before
       ];
   front = saved.front;
   released = saved.released;
@@ -135,5 +135,5 @@ sent_stays p n (Some a) false is e saved b was = was
 sent_stays p n (Some a) true is e saved b was = (
   was.0,
   sent_still p.sent n was.0 a b was.1
-  (λ at. some_is a b (sym (sent_landed p n a saved is e) ∙ ap (message (issued_of p.landed)) (sym at) ∙ saved.landed was.0 b was.1)),
+      (λ at. some_is a b (sym (sent_landed p n a saved is e) ∙ ap (message (issued_of p.landed)) (sym at) ∙ saved.landed was.0 b was.1)),
 )

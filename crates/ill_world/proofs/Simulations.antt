@@ -11,7 +11,7 @@ use Rattle.ill_world.specs.declared.fault.SimFault.TheVariants.{Script, Read, Wr
 use Rattle.ill_world.specs.World.{Parties, first_world, happens, run_of}
 use Rattle.ill_world.specs.Trace.{line}
 use Rattle.ill_world.specs.Simulation.{Said, line_at, then_says, ends, breaks_off, trace_from, trace_of, IsFront, Answers, Simulates}
-use Rattle.ill_world.specs.Simulating.{IsLine, line_of, PerformsLine, says_on, AnswersFrom, SimulatesFrom, StepsLine}
+use Rattle.ill_world.specs.Simulating.{IsLine, shown_line, PerformsLine, says_on, AnswersFrom, SimulatesFrom, StepsLine}
 use Rattle.ill_world.proofs.Scripts.{says_line}
 
 -- ---- the trace of more events
@@ -119,13 +119,13 @@ one_more txn old middle new before between after n w next count next_count bytes
 }
 one_more txn old middle new before between after n w next count next_count bytes (lines.Event event) so_far is read e done =
     let events = so_far.events in
-    let shown : trace_of txn events ++ line_of w count event ≡ trace_of txn (events ++ event ∷ []) =
+    let shown : trace_of txn events ++ shown_line w count event ≡ trace_of txn (events ++ event ∷ []) =
     ap (λ t. trace_of txn events ++ t) (sym (trace_of_one (count + 1) w event)) ∙ sym (trace_on txn w count events (event ∷ []) so_far.counted so_far.world) in
     record {
       text = so_far.text ++ (bytes ++ 10 ∷ []);
       events = events ++ event ∷ [];
       read = Consumes-trans old middle new so_far.text (bytes ++ 10 ∷ []) so_far.read read;
-      written = subst (Appends before after) shown (Appends-trans before between after (trace_of txn events) (line_of w count event) so_far.written done.2);
+      written = subst (Appends before after) shown (Appends-trans before between after (trace_of txn events) (shown_line w count event) so_far.written done.2);
       counted = omega (arith, done.1, so_far.counted, length-append events (event ∷ []));
       world = done.0 ∙ ap (λ v. (happens v event).1) so_far.world ∙ sym (run_more (first_world txn) events event);
       says =

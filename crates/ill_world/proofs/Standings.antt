@@ -1,5 +1,5 @@
 -- What one record keeps.
-use Rattle.std.proofs.Common.{rules, arith, ◌≡◌, ◌+◌, ◌≤◌, replicate, ℕ, zero, suc, Bool, true, false, ◌||◌, ◌==◌, List, [], ◌∷◌, Option, Some, None, Result, Ok, Err, refl, subst, inl}
+use Rattle.std.proofs.Common.{rules, arith, ◌≡◌, replicate, ℕ, zero, suc, Bool, true, false, ◌||◌, ◌==◌, List, [], ◌∷◌, Option, Some, None, Result, Ok, Err, refl, subst, inl}
 use Rattle.std.specs.Prelude.{slice_get}
 use Rattle.std.specs.Option.{option_flatten}
 use Rattle.ill_values.specs.Day.{Date}
@@ -23,11 +23,11 @@ use Rattle.ill_saved.specs.declared.side.Side.TheVariants as sides
 use Rattle.ill_saved.specs.declared.side.Action.{Action}
 use Rattle.ill_saved.specs.declared.side.Action.TheVariants as actions
 use Rattle.ill_saved.specs.Side.{done_by, acts, takes, issued_of}
-use Rattle.ill_world.specs.World.{Party, Parties, first_party, first_world, with_party, party, other, who_of, happens, happens_to, sent_message}
+use Rattle.ill_world.specs.World.{Parties, first_party, first_world, with_party, party, other, who_of, happens, happens_to, sent_message}
 use Rattle.ill_world.specs.declared.event.Who.{Who}
 use Rattle.ill_world.specs.declared.event.Who.TheVariants as who
 use Rattle.ill_world.specs.declared.event.Event.{Event}
-use Rattle.ill_world.specs.Invariant.{WasSent, RequesterKnows, ResponderKnows, RequesterStands, ResponderStands, StandsAsRequester, StandsAsResponder, SendsSaved, PartyStands, Stands}
+use Rattle.ill_world.specs.Invariant.{WasSent, RequesterStands, ResponderStands, StandsAsRequester, StandsAsResponder, PartyStands, Stands}
 use Rattle.ill_world.proofs.DueDates.{RowsKeepDue, due_after}
 use Rattle.ill_world.proofs.Sendings.{front_of_itself}
 use Rattle.ill_world.proofs.Kept.{RowsGrow, Keeps, party_kept, told_more, stays_sent}
@@ -172,10 +172,10 @@ none_sent (suc n) a e = none_there 255 n a e
 first_stands : (K : Side → List (Option Apdu) → Type 0) (idle : Side) (told : List (Option Apdu)) → K idle told → PartyStands K (first_party idle) told
 first_stands K idle told stands = record {
   saved = record {
-      landed = λ n a e. absurd (none_sent n a e);
-      front = front_of_itself (issued_of idle);
-      released = omega arith;
-    };
+    landed = λ n a e. absurd (none_sent n a e);
+    front = front_of_itself (issued_of idle);
+    released = omega arith;
+  };
   live = stands;
   landed = stands;
 }
@@ -192,12 +192,12 @@ world_kept : RowsKeepDue → (txn : Qualifiers) (w : Parties) (of : Who) (event 
 world_kept rows txn w who.Requester event grows asking asked stands = record {
   asking = party_kept (StandsAsRequester txn) w.requester w.responder.sent event grows asking stands.asking;
   asked =
-    told_more (StandsAsResponder txn) w.responder w.requester.sent _ asked (stays_sent w.requester w.responder.sent event stands.asking.saved) stands.asked;
+      told_more (StandsAsResponder txn) w.responder w.requester.sent _ asked (stays_sent w.requester w.responder.sent event stands.asking.saved) stands.asked;
   due = due_after rows txn w.requester w.responder.sent event stands.asking.live stands.due;
 }
 world_kept rows txn w who.Responder event grows asking asked stands = record {
   asking =
-    told_more (StandsAsRequester txn) w.requester w.responder.sent _ asking (stays_sent w.responder w.requester.sent event stands.asked.saved) stands.asking;
+      told_more (StandsAsRequester txn) w.requester w.responder.sent _ asking (stays_sent w.responder w.requester.sent event stands.asked.saved) stands.asking;
   asked = party_kept (StandsAsResponder txn) w.responder w.requester.sent event grows asked stands.asked;
   due = stands.due;
 }

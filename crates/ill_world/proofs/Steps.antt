@@ -14,7 +14,7 @@ use Rattle.ill_world.specs.declared.fault.SimFault.TheVariants.{Script, Read, Wr
 use Rattle.ill_world.specs.World.{Parties, first_world, happens}
 use Rattle.ill_world.specs.Script.{meaning}
 use Rattle.ill_world.specs.Simulation.{Said, says_nothing, line_at, then_says, ends, breaks_off, says_from, trace_from, IsFront, script, Simulates}
-use Rattle.ill_world.specs.Simulating.{IsLine, ReadsLine, line_of, PerformsLine, says_on, AnswersFrom, SimulatesFrom, StepsLine, FindsEnd}
+use Rattle.ill_world.specs.Simulating.{IsLine, ReadsLine, shown_line, PerformsLine, says_on, AnswersFrom, SimulatesFrom, StepsLine, FindsEnd}
 use Rattle.ill_world.proofs.Scripts.{within, line_within, says_line, says_rest, ends_line, breaks_nothing, says_too_long, says_too_many}
 use Rattle.ill_world.proofs.Simulations.{trace_of_none, trace_next, trace_of_one}
 
@@ -46,9 +46,9 @@ no_memory : (n : ℕ) (w : Parties) (count : ℕ) (text : List ℕ) (left before
 no_memory n w count text left before after nothing = ([], nothing, λ more e. ([], ((says_on ends n (text ++ more)).events, refl), sym (trace_of_none (count + 1) w)))
 
 -- the front of a line is the front of the trace
-front_of : (w : Parties) (count size : ℕ) (event : Event) (events : List Event) → IsFront (take size (line_of w count event)) (trace_from (count + 1) w (event ∷ events))
+front_of : (w : Parties) (count size : ℕ) (event : Event) (events : List Event) → IsFront (take size (shown_line w count event)) (trace_from (count + 1) w (event ∷ events))
 front_of w count size event events =
-    let shown = line_of w count event in
+    let shown = shown_line w count event in
     let rest = trace_from (count + 1 + 1) (happens w event).1 events in (
       drop size shown ++ rest,
       trace_next (count + 1) w event events ∙ ap (λ t. t ++ rest) (sym (take-append-drop size shown)) ∙ append_assoc (take size shown) (drop size shown) rest,
@@ -60,11 +60,11 @@ line_fails n w next count next_count bytes text left before after lines.Skipped 
 line_fails n w next count next_count bytes text left before after (lines.Event event) OutOfMemory is begins fails = no_memory n w count text left before after fails
 line_fails n w next count next_count bytes text left before after lines.Bad OutOfMemory is begins fails = no_memory n w count text left before after fails
 line_fails n w next count next_count bytes text left before after (lines.Event event) Write is begins fails = (
-  take fails.0 (line_of w count event),
+  take fails.0 (shown_line w count event),
   fails.1,
   λ more e.
       let said = begins more e in
-      subst (λ s. IsFront (take fails.0 (line_of w count event)) (trace_from (count + 1) w s.events)) (sym (said.1 ∙ ap (λ l. then_says l n said.0) is)) (front_of w count fails.0 event said.0.events),
+      subst (λ s. IsFront (take fails.0 (shown_line w count event)) (trace_from (count + 1) w s.events)) (sym (said.1 ∙ ap (λ l. then_says l n said.0) is)) (front_of w count fails.0 event said.0.events),
 )
 line_fails n w next count next_count bytes text left before after lines.Bad (Script m) is begins fails = (
   [],
@@ -137,7 +137,7 @@ last_performed n w next count next_count old new before after bytes lines.Skippe
 )
 last_performed n w next count next_count old new before after bytes (lines.Event event) read at_end said done = (
   bytes,
-  line_of w count event,
+  shown_line w count event,
   read,
   done.2,
   (

@@ -1,5 +1,5 @@
 -- What stands once in a list of APDUs.
-use Rattle.std.proofs.Common.{rules, arith, ◌≡◌, ℕ, zero, suc, ◌+◌, ◌≤◌, Bool, true, false, not, ◌&&◌, ◌||◌, ◌==◌, cond, List, [], ◌∷◌, ◌++◌, Option, Some, None, is_some, if◌then◌else◌, refl, sym, ap, ◌∙◌, subst}
+use Rattle.std.proofs.Common.{rules, arith, ◌≡◌, ℕ, zero, suc, ◌+◌, ◌≤◌, Bool, true, false, not, ◌||◌, ◌==◌, cond, List, [], ◌∷◌, Option, Some, None, if◌then◌else◌, refl, sym, ap, ◌∙◌, subst}
 use Rattle.std.specs.Prelude.{slice_get}
 use Rattle.std.specs.List.{list_any, filter_map, cons_option, last_or, count_by}
 use Rattle.std.proofs.lemmas.List.Sums.{sum_by-cons}
@@ -27,7 +27,7 @@ at_number txn first (b ∷ apdus) zero a numbered e =
     let parts = and_parts _ _ (and_parts _ _ numbered).0 in
     subst (λ x. (is_same_txn x.txn txn ≡ true) × (x.number ≡ first + 0)) is (parts.0, omega (arith, eqb-true b.number first parts.1))
 at_number txn first (b ∷ apdus) (suc i) a numbered e =
-    let rest = at_number txn (first + 1) apdus i a (and_parts _ _ numbered).1 e in
+    let rest : (is_same_txn a.txn txn ≡ true) × (a.number ≡ first + 1 + i) = at_number txn (first + 1) apdus i a (and_parts _ _ numbered).1 e in
     (rest.0, omega (arith, rest.1))
 
 pub message_number : (txn : Qualifiers) (apdus : List Apdu) (n : ℕ) (a : Apdu) → are_numbered txn 1 apdus ≡ true → message apdus n ≡ Some a → (is_same_txn a.txn txn ≡ true) × (a.number ≡ n)

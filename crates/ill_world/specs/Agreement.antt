@@ -1,5 +1,5 @@
 -- What both sides may rely on in every world of every run (this profile's own).
-use Rattle.std.specs.Prelude.{◌≡◌, ◌⊎◌, ℕ, true, false, List, [], ◌∷◌, Option, Some, Ok, take}
+use Rattle.std.specs.Prelude.{◌≡◌, ◌⊎◌, ℕ, true, false, List, [], ◌∷◌, Option, Some, take}
 use Rattle.ill_values.specs.Day.{Date}
 use Rattle.ill_values.specs.TxnId.{Qualifiers}
 use Rattle.ill_values.specs.declared.apdu.Apdu.{Apdu}
@@ -10,7 +10,7 @@ use Rattle.ill_core.specs.declared.state.State.TheVariants as states
 use Rattle.ill_core.specs.declared.taking.Taking.TheVariants.{Taken, Repeat}
 use Rattle.ill_core.specs.State.{is_among}
 use Rattle.ill_core.specs.Dates.{is_before}
-use Rattle.ill_core.specs.Bodies.{is_unsupplied, is_cancelled, is_shipped, is_end, is_received, is_returned, accepts}
+use Rattle.ill_core.specs.Bodies.{is_end, is_received, is_returned, accepts}
 use Rattle.ill_core.specs.Issued.{message, has, last_of, number_of_end}
 use Rattle.ill_core.specs.Requester.{RequesterRecord}
 use Rattle.ill_core.specs.Requester as requester

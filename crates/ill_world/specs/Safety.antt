@@ -1,6 +1,6 @@
 -- What holds in every world of every run (this profile's own): no side acts on what the other's
 -- record contradicts.
-use Rattle.std.specs.Prelude.{◌≡◌, ℕ, true, List, Option, Some, take}
+use Rattle.std.specs.Prelude.{◌≡◌, ℕ, true, List, Some, take}
 use Rattle.ill_values.specs.TxnId.{Qualifiers}
 use Rattle.ill_values.specs.Day.{Date}
 use Rattle.ill_values.specs.declared.apdu.Apdu.{Apdu}

@@ -6,7 +6,7 @@ use Rattle.ill_world.specs.declared.event.Event.{Event}
 use Rattle.ill_world.specs.declared.event.Event.TheVariants.{Wish, Deed, Save, SaveFault, Send, Deliver, Noise, Restart}
 use Rattle.ill_world.specs.declared.script.Line.{Line}
 use Rattle.ill_world.specs.declared.script.Line.TheVariants as lines
-use Rattle.ill_world.specs.Words.{◌>>=◌, named, who_named, landed_of, day_of, number_of, bytes_of, wish_of, deed_of}
+use Rattle.ill_world.specs.Words.{◌>>=◌, named, who_named, landed_named, day_of, number_of, bytes_of, wish_of, deed_of}
 
 -- the words of a line: what stands between its spaces, without the empty runs
 unfoldable pub words_of : List ℕ → List (List ℕ)
@@ -27,7 +27,7 @@ bare_event verb who = named ((codes "save", Save who) ∷ (codes "restart", Rest
 -- what happens to a side, by the verb and the word behind the side
 abbrev pub event_with : List ℕ → List ℕ → Who → Option Event
 event_with verb word who =
-    if bytes_eq verb (codes "save-fault") then option_map (SaveFault who) (landed_of word)
+    if bytes_eq verb (codes "save-fault") then option_map (SaveFault who) (landed_named word)
     else if bytes_eq verb (codes "send") then option_map (Send who) (number_of word)
     else if bytes_eq verb (codes "deliver") then option_map (Deliver who) (number_of word)
     else if bytes_eq verb (codes "noise") then option_map (Noise who) (bytes_of word)

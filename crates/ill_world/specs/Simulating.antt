@@ -42,18 +42,18 @@ ReadsLine old new bytes (Err other) = ⊥
 
 -- ---- performing one event
 
--- the line that shows an event in a world
-abbrev pub line_of : Parties → ℕ → Event → List ℕ
-line_of w count event = line (count + 1) (happens w event).0 (happens w event).1
+-- the line of the trace that shows an event in a world
+abbrev pub shown_line : Parties → ℕ → Event → List ℕ
+shown_line w count event = line (count + 1) (happens w event).0 (happens w event).1
 
 -- An event was performed behind so many others, and its line written: whole, a front of it where the
 -- writer failed, or nothing for want of memory.
 abbrev pub Performs : Parties → ℕ → Event → Option (List ℕ) → Option (List ℕ) →
     Result (Unit {0}) SimFault → Parties → ℕ → Type 0
 Performs w count event before after (Ok done) new new_count =
-    (new ≡ (happens w event).1) × (new_count ≡ count + 1) × Appends before after (line_of w count event)
+    (new ≡ (happens w event).1) × (new_count ≡ count + 1) × Appends before after (shown_line w count event)
 Performs w count event before after (Err Write) new new_count =
-    (size : ℕ) × Appends before after (take size (line_of w count event))
+    (size : ℕ) × Appends before after (take size (shown_line w count event))
 Performs w count event before after (Err OutOfMemory) new new_count = Appends before after []
 Performs w count event before after (Err other) new new_count = ⊥
 

@@ -7,7 +7,6 @@ use Rattle.ill_values.specs.declared.apdu.Body.TheVariants.{Cancel}
 use Rattle.ill_der.specs.declared.fault.DerFault.{DerFault}
 use Rattle.ill_saved.specs.declared.fault.LayoutFault.{LayoutFault}
 use Rattle.ill_saved.specs.declared.side.Side.{Side}
-use Rattle.ill_saved.specs.declared.side.Side.TheVariants as sides
 use Rattle.ill_saved.specs.declared.store.NextCall.TheVariants.{Works}
 use Rattle.ill_saved.specs.Side.{idle_of}
 use Rattle.ill_saved.specs.Store.{Memory}

@@ -36,8 +36,8 @@ abbrev pub who_named : List ℕ → Option Who
 who_named = named ((codes "requester", Requester) ∷ (codes "responder", Responder) ∷ [])
 
 -- whether a save that fails has landed nevertheless: the store has the new record, or the old one
-abbrev pub landed_of : List ℕ → Option Bool
-landed_of = named ((codes "new", true) ∷ (codes "old", false) ∷ [])
+abbrev pub landed_named : List ℕ → Option Bool
+landed_named = named ((codes "new", true) ∷ (codes "old", false) ∷ [])
 
 unfoldable pub result_named : List ℕ → Option AnswerResult
 result_named = named (

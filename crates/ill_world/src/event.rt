@@ -96,7 +96,7 @@ pub enum Outcome {
     NotSent,
     /// The bytes are not exactly one APDU.
     Garbled,
-    /// The bytes are an APDU of this transaction, which only the other side may send.
+    /// The bytes are an APDU of this transaction, which nobody but the two sides may make.
     Forged,
     /// The side has begun again from the record that has landed.
     Restarted,

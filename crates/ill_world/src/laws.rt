@@ -19,9 +19,9 @@ ghost use Rattle.ill_world.specs.Agreement.{Agrees, IsAgreeingRun, KeepsDates, A
 ghost use Rattle.ill_world.specs.Invariant.{WasSent, RequesterStands, ResponderStands, Stands};
 
 use ill_core::laws::{
-    requester_answers_once, requester_follows, requester_keeps_due, requester_keeps_rules, requester_keeps_txn, requester_shows,
-    responder_answers_once, responder_ends_once, responder_follows, responder_keeps_rules, responder_keeps_txn,
-    responder_shows,
+    requester_answers_once, requester_follows, requester_keeps_due, requester_keeps_rules,
+    requester_keeps_txn, requester_shows, responder_answers_once, responder_ends_once,
+    responder_follows, responder_keeps_rules, responder_keeps_txn, responder_shows,
 };
 use ill_saved::laws::rows_grow;
 

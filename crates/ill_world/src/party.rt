@@ -51,9 +51,8 @@ impl Party {
 
     /// Does what the library decides.
     pub fn act(&mut self, alloc: Global, action: &Action) -> Result<Outcome, OutOfMemory>
-        ensures gives { Gives (model.decides self.old (acts self.old.live action.now))
+        ensures { Gives (model.decides self.old (acts self.old.live action.now))
             self.old result self.new }
-        ensures idle { idle_of self.new.live ≡ idle_of self.old.live }
     {
         rows_grow();
         match self.desk.act(alloc, action) {
@@ -66,8 +65,7 @@ impl Party {
 
     /// Takes a message of the other side.
     pub fn take(&mut self, alloc: Global, message: &Message) -> Result<Outcome, OutOfMemory>
-        ensures gives { Gives (model.takes_message self.old message.now) self.old result self.new }
-        ensures idle { idle_of self.new.live ≡ idle_of self.old.live }
+        ensures { Gives (model.takes_message self.old message.now) self.old result self.new }
     {
         rows_grow();
         match self.desk.take_bytes(alloc, message.bytes()) {
@@ -80,8 +78,7 @@ impl Party {
 
     /// Saves the side.
     pub fn save(&mut self, alloc: Global) -> Result<Outcome, OutOfMemory>
-        ensures gives { Gives (outcomes.Saved, model.saves self.old) self.old result self.new }
-        ensures idle { idle_of self.new.live ≡ idle_of self.old.live }
+        ensures { Gives (outcomes.Saved, model.saves self.old) self.old result self.new }
     {
         read_again();
         match self.desk.save(alloc) {
@@ -93,9 +90,8 @@ impl Party {
 
     /// Tries to save the side, and fails: the new record has landed, or it has not.
     pub fn fail_to_save(&mut self, alloc: Global, landed: bool) -> Result<Outcome, OutOfMemory>
-        ensures gives { Gives (outcomes.Faulted, model.fails_to_save self.old landed)
+        ensures { Gives (outcomes.Faulted, model.fails_to_save self.old landed)
             self.old result self.new }
-        ensures idle { idle_of self.new.live ≡ idle_of self.old.live }
     {
         read_again();
         self.desk.set_next(if landed {
@@ -115,9 +111,8 @@ impl Party {
 
     /// Begins again from what has landed.
     pub fn restart(&mut self, alloc: Global) -> Result<Outcome, OutOfMemory>
-        ensures gives { Gives (outcomes.Restarted, model.restarts self.old)
+        ensures { Gives (outcomes.Restarted, model.restarts self.old)
             self.old result self.new }
-        ensures idle { idle_of self.new.live ≡ idle_of self.old.live }
     {
         match self.desk.restart(alloc) {
             Ok(()) => Ok(Outcome::Restarted),
@@ -128,9 +123,8 @@ impl Party {
 
     /// Sends the message with this number.
     pub fn send(&mut self, alloc: Global, number: Number) -> Result<Outcome, OutOfMemory>
-        ensures gives { Gives (model.sends self.old number (message (issued_of self.old.live) number)
+        ensures { Gives (model.sends self.old number (message (issued_of self.old.live) number)
             (nat_le number self.old.released)) self.old result self.new }
-        ensures idle { idle_of self.new.live ≡ idle_of self.old.live }
     {
         match self.desk.message(alloc, number) {
             Ok(bytes) => {
@@ -146,9 +140,8 @@ impl Party {
 
     /// Is handed other bytes. An APDU of the transaction would be forged, and is not handed on.
     pub fn hear(&mut self, alloc: Global, bytes: &[u8]) -> Result<Outcome, OutOfMemory>
-        ensures gives { Gives (model.hears self.old (apdu_at bytes.now), self.old)
+        ensures { Gives (model.hears self.old (apdu_at bytes.now), self.old)
             self.old result self.new }
-        ensures idle { idle_of self.new.live ≡ idle_of self.old.live }
     {
         if self.is_forged(alloc, bytes)? {
             return Ok(Outcome::Forged);
@@ -170,9 +163,8 @@ impl Party {
     /// Is handed bytes that are no APDU of this transaction.
     fn refuse(&mut self, alloc: Global, bytes: &[u8]) -> Result<Outcome, OutOfMemory>
         requires other { is_of (txn_of self.old.live) (apdu_at bytes.now) ≡ false }
-        ensures gives { Gives (model.hears self.old (apdu_at bytes.now), self.old)
+        ensures { Gives (model.hears self.old (apdu_at bytes.now), self.old)
             self.old result self.new }
-        ensures idle { idle_of self.new.live ≡ idle_of self.old.live }
     {
         match self.desk.take_bytes(alloc, bytes) {
             Err(DeskFault::Core(refusal)) => Ok(Outcome::Refused(refusal)),

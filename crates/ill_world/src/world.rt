@@ -3,7 +3,6 @@
 ghost use Rattle.std.specs.Prelude.{◌≡◌, ◌++◌, IfOk, OnOk};
 ghost use Rattle.ill_values.specs.TxnId.{Qualifiers};
 ghost use Rattle.ill_saved.specs.declared.side.Side.TheVariants as sides;
-ghost use Rattle.ill_saved.specs.Side.{idle_of};
 ghost use Rattle.ill_world.specs.World as model;
 ghost use Rattle.ill_world.specs.Trace.{line};
 ghost use Rattle.ill_world.specs.Safety.{IsSafeRun};
@@ -148,9 +147,8 @@ fn perform(
     alloc: Global,
     event: &Event,
 ) -> Result<Outcome, OutOfMemory>
-    ensures gives { Gives (model.happens_to party.old other.now.sent event.now)
+    ensures { Gives (model.happens_to party.old other.now.sent event.now)
         party.old result party.new }
-    ensures idle { idle_of party.new.live ≡ idle_of party.old.live }
 {
     match event {
         Event::Wish(wish) => party.act(alloc, &Action::Wish(copy(alloc, wish)?)),

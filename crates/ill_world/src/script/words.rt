@@ -5,7 +5,7 @@ ghost use Rattle.std.specs.Bool.{OnTrue};
 ghost use Rattle.std.specs.List.{list_all};
 ghost use Rattle.std.specs.Int.{IsInRange};
 ghost use Rattle.std.specs.Char.{is_ascii_digit};
-ghost use Rattle.ill_world.specs.Words.{yes_of, who_named, landed_of, result_named, day_of, optional_day_of, is_numeral, decimal_value, number_of, bytes_of};
+ghost use Rattle.ill_world.specs.Words.{yes_of, who_named, landed_named, result_named, day_of, optional_day_of, is_numeral, decimal_value, number_of, bytes_of};
 
 use crate::bytes::Bytes;
 use crate::event::Who;
@@ -49,7 +49,7 @@ pub(super) fn who(word: &[u8]) -> Option<Who>
 /// Whether a save that fails has landed nevertheless, if the word says so: the store has the `new`
 /// record, or the `old` one.
 pub(super) fn landed(word: &[u8]) -> Option<bool>
-    ensures { result ≡ landed_of word.now }
+    ensures { result ≡ landed_named word.now }
 {
     if is(word, "new") {
         Some(true)

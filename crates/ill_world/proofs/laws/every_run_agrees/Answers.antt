@@ -6,5 +6,5 @@ use Rattle.ill_world.proofs.laws.every_run_agrees.Goals as goal
 pub returns : goal.returns
 returns c =
     λ txn events n.
-      c.sides_agree.ensures txn (run_of (first_world txn) (take n events))
-      (run_stands txn (c.world_stands.ensures.after txn) (first_world txn) (take n events) (c.world_stands.ensures.first txn))
+    c.sides_agree.ensures txn (run_of (first_world txn) (take n events))
+    (run_stands txn (c.world_stands.ensures.after txn) (first_world txn) (take n events) (c.world_stands.ensures.first txn))

@@ -6,6 +6,6 @@ use Rattle.ill_world.proofs.laws.every_run_is_safe.Goals as goal
 pub returns : goal.returns
 returns c =
     λ txn events n.
-      let world = run_of (first_world txn) (take n events) in
-      let stands = run_stands txn (c.world_stands.ensures.after txn) (first_world txn) (take n events) (c.world_stands.ensures.first txn) in
-      record { ends = c.ends_alike.ensures txn world stands; shipped = c.was_shipped.ensures txn world stands; granted = c.was_granted.ensures txn world stands }
+    let world = run_of (first_world txn) (take n events) in
+    let stands = run_stands txn (c.world_stands.ensures.after txn) (first_world txn) (take n events) (c.world_stands.ensures.first txn) in
+    record { ends = c.ends_alike.ensures txn world stands; shipped = c.was_shipped.ensures txn world stands; granted = c.was_granted.ensures txn world stands }

@@ -6,21 +6,21 @@ use Rattle.ill_world.proofs.laws.responder_stands.Goals as goal
 pub returns-clause-acts : goal.returns-clause-acts
 returns-clause-acts c =
     λ txn y new deed today sent done stands. record {
-        same_txn = c.responder_keeps_txn.ensures.acts y new deed today done ∙ stands.same_txn;
-        rules = c.responder_keeps_rules.ensures.acts y new deed today done stands.rules;
-        ends = c.responder_ends_once.ensures.acts y new deed today done stands.ends;
-        cancels = c.responder_answers_once.ensures.acts MayCancel y new deed today done (cancel_is_there y.state _ stands.rules.parts.cancel) stands.cancels;
-        renewals = c.responder_answers_once.ensures.acts MayRenew y new deed today done stands.rules.parts.renew stands.renewals;
-        knows = λ fact shows. stands.knows fact (c.responder_shows.ensures.acts y new deed today fact done (cancel_is_there y.state _ stands.rules.parts.cancel) shows);
-      }
+      same_txn = c.responder_keeps_txn.ensures.acts y new deed today done ∙ stands.same_txn;
+      rules = c.responder_keeps_rules.ensures.acts y new deed today done stands.rules;
+      ends = c.responder_ends_once.ensures.acts y new deed today done stands.ends;
+      cancels = c.responder_answers_once.ensures.acts MayCancel y new deed today done (cancel_is_there y.state _ stands.rules.parts.cancel) stands.cancels;
+      renewals = c.responder_answers_once.ensures.acts MayRenew y new deed today done stands.rules.parts.renew stands.renewals;
+      knows = λ fact shows. stands.knows fact (c.responder_shows.ensures.acts y new deed today fact done (cancel_is_there y.state _ stands.rules.parts.cancel) shows);
+    }
 
 pub returns-clause-takes : goal.returns-clause-takes
 returns-clause-takes c =
     λ txn y a sent was stands. record {
-        same_txn = c.responder_keeps_txn.ensures.takes y a ∙ stands.same_txn;
-        rules = c.responder_keeps_rules.ensures.takes y a stands.rules;
-        ends = c.responder_ends_once.ensures.takes y a stands.ends;
-        cancels = c.responder_answers_once.ensures.takes MayCancel y a stands.cancels;
-        renewals = c.responder_answers_once.ensures.takes MayRenew y a stands.renewals;
-        knows = λ fact shows. elim (c.responder_shows.ensures.takes y a fact shows) [ inl before ↦ stands.knows fact before | inr tells ↦ (a, was, tells) ];
-      }
+      same_txn = c.responder_keeps_txn.ensures.takes y a ∙ stands.same_txn;
+      rules = c.responder_keeps_rules.ensures.takes y a stands.rules;
+      ends = c.responder_ends_once.ensures.takes y a stands.ends;
+      cancels = c.responder_answers_once.ensures.takes MayCancel y a stands.cancels;
+      renewals = c.responder_answers_once.ensures.takes MayRenew y a stands.renewals;
+      knows = λ fact shows. elim (c.responder_shows.ensures.takes y a fact shows) [ inl before ↦ stands.knows fact before | inr tells ↦ (a, was, tells) ];
+    }

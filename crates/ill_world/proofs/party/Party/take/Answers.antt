@@ -9,16 +9,9 @@ invariant_of-self c =
     let idle = taken_idle c.rows_grow.ensures desk.live c.take_bytes.new.self.live c.args.message.now c.take_bytes.result takes in
     search (rules, idle)
 
-pub returns-clause-gives : goal.returns-clause-gives
-returns-clause-gives c =
+pub returns : goal.returns
+returns c =
     let desk = c.self.inside.desk in
     let takes = takes_one desk.live c.take_bytes.new.self.live _ c.args.message.now c.take_bytes.result c.bytes.ensures c.take_bytes.ensures.takes in
     let idle = taken_idle c.rows_grow.ensures desk.live c.take_bytes.new.self.live c.args.message.now c.take_bytes.result takes in
     search (rules, takes, idle)
-
-pub returns-clause-idle : goal.returns-clause-idle
-returns-clause-idle c =
-    let desk = c.self.inside.desk in
-    let takes = takes_one desk.live c.take_bytes.new.self.live _ c.args.message.now c.take_bytes.result c.bytes.ensures c.take_bytes.ensures.takes in
-    let idle = taken_idle c.rows_grow.ensures desk.live c.take_bytes.new.self.live c.args.message.now c.take_bytes.result takes in
-    search (rules, idle)

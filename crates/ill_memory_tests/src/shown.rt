@@ -39,6 +39,7 @@ pub struct ResponderShown {
     outstanding: Option<Number>,
     last_cancel: Option<Number>,
     last_renew: Option<Number>,
+    ending: Option<Number>,
     /// The number of the ILL-Request.
     request: Option<Number>,
 }
@@ -92,6 +93,7 @@ pub fn responder(side: &Responder, txn: &TxnId, one: Number, nine: Number) -> Re
         outstanding: side.outstanding(),
         last_cancel: side.last_cancel(),
         last_renew: side.last_renew(),
+        ending: side.ending(),
         request: number_of(side.request()),
     }
 }

@@ -44,12 +44,23 @@ impl Answers {
     }
 }
 
-/// Lets the reader fail before each byte of the script in turn, and at its end.
+/// Lets the reader fail before each byte of the script in turn, and at its end; and then be interrupted.
 pub fn print_readers(alloc: Global, page: &mut Page, script: &[u8]) -> Option<()> {
+    print_fronts(alloc, page, script, End::Fails, "it fails, ")?;
+    print_fronts(alloc, page, script, End::Interrupts, "it is interrupted, ")
+}
+
+fn print_fronts(
+    alloc: Global,
+    page: &mut Page,
+    script: &[u8],
+    end: End,
+    label: &'static str,
+) -> Option<()> {
     let whole = perform(alloc, script, usize::MAX, End::Stops)?;
-    let mut answers = Answers::new(alloc, "");
+    let mut answers = Answers::new(alloc, label);
     for place in 0..=script.len() {
-        let told = perform(alloc, &script[..place], usize::MAX, End::Fails)?;
+        let told = perform(alloc, &script[..place], usize::MAX, end)?;
         answers.push(page, place, &told, Some(line_count(&told.trace)));
         if !is_whole_lines(&told.trace) || !whole.trace.starts_with(&told.trace) {
             page.line("ANOTHER TRACE");
@@ -62,9 +73,11 @@ fn is_whole_lines(text: &[u8]) -> bool {
     text.is_empty() || text.ends_with(b"\n")
 }
 
-/// Lets the writer take each count of bytes of the trace in turn, and then fail, or take no more.
+/// Lets the writer take each count of bytes of the trace in turn, and then fail, be interrupted, or take
+/// no bytes.
 pub fn print_writers(alloc: Global, page: &mut Page, script: &[u8]) -> Option<()> {
     print_rooms(alloc, page, script, End::Fails, "it fails, ")?;
+    print_rooms(alloc, page, script, End::Interrupts, "it is interrupted, ")?;
     print_rooms(alloc, page, script, End::Stops, "it takes no bytes, ")
 }
 

@@ -1,0 +1,107 @@
+//! Scripts that are performed once, and what is printed of them.
+
+use crate::page::Page;
+use crate::streams::{End, TestReader, TestWriter};
+use ill_values::TxnId;
+use ill_world::{SimFault, simulate};
+use std::alloc::Global;
+
+/// The most lines of a trace that is printed whole, and how many are printed of the front and the end of
+/// a longer one.
+const SHOWN: usize = 50;
+
+const AT_AN_END: usize = 6;
+
+/// What a script was answered, and what was written.
+#[derive(Drop)]
+pub struct Told {
+    pub trace: Vec<u8>,
+    pub answer: Result<u32, SimFault>,
+}
+
+/// The transaction of all tests.
+pub fn txn(alloc: Global) -> Option<TxnId> {
+    TxnId::new(alloc, b"G1", b"T1").ok()
+}
+
+/// Performs a script with a reader and a writer that give and take at most so many bytes at a time.
+pub fn perform(alloc: Global, script: &[u8], at_once: usize, end: End) -> Option<Told> {
+    let mut reader = TestReader {
+        bytes: script,
+        at_once,
+        end,
+    };
+    let mut writer = TestWriter::new(alloc, at_once, usize::MAX, End::Fails);
+    let answer = simulate(alloc, &txn(alloc)?, &mut reader, &mut writer);
+    Some(Told {
+        trace: writer.taken,
+        answer,
+    })
+}
+
+/// Performs a script with a writer that takes so many bytes.
+pub fn perform_into(alloc: Global, script: &[u8], room: usize, end: End) -> Option<Told> {
+    let mut reader = script;
+    let mut writer = TestWriter::new(alloc, usize::MAX, room, end);
+    let answer = simulate(alloc, &txn(alloc)?, &mut reader, &mut writer);
+    Some(Told {
+        trace: writer.taken,
+        answer,
+    })
+}
+
+/// Performs a script, whose reader then does this, and prints its trace and what is answered.
+pub fn print_script(alloc: Global, page: &mut Page, script: &[u8], end: End) -> Option<()> {
+    let told = print_trace(alloc, page, script, end)?;
+    page.text("\n");
+    let slow = perform(alloc, script, 1, end)?;
+    if slow.trace.as_slice() != told.trace.as_slice() || slow.answer != told.answer {
+        page.line("ONE BYTE AT A TIME:");
+        page.push(&slow.trace);
+        print_answer(page, &slow.answer);
+        page.text("\n");
+    }
+    Some(())
+}
+
+/// Performs a script, and prints its trace and, without an end, the line of its answer.
+pub fn print_trace(alloc: Global, page: &mut Page, script: &[u8], end: End) -> Option<Told> {
+    let told = perform(alloc, script, usize::MAX, end)?;
+    print_lines(page, &told.trace);
+    print_answer(page, &told.answer);
+    Some(told)
+}
+
+/// Prints what a script was answered.
+pub fn print_answer(page: &mut Page, answer: &Result<u32, SimFault>) {
+    match answer {
+        Ok(count) => {
+            page.text("ok ");
+            page.show(count);
+        }
+        Err(fault) => page.show(fault),
+    }
+}
+
+/// How many lines a text has.
+pub fn line_count(text: &[u8]) -> usize {
+    text.iter().filter(|byte| **byte == b'\n').count()
+}
+
+/// Prints the lines of a trace, or those of its front and its end.
+fn print_lines(page: &mut Page, trace: &[u8]) {
+    let count = line_count(trace);
+    if count <= SHOWN {
+        return page.push(trace);
+    }
+    let behind = count - AT_AN_END;
+    for (index, line) in trace.split_inclusive(|byte| *byte == b'\n').enumerate() {
+        if index < AT_AN_END || index >= behind {
+            page.push(line);
+        } else if index == AT_AN_END {
+            page.text(".. ");
+            page.show(&(behind - AT_AN_END));
+            page.line(" lines ..");
+        }
+    }
+}

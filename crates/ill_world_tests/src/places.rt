@@ -1,0 +1,101 @@
+//! Scripts whose reader or writer fails at each place in turn.
+
+use crate::page::Page;
+use crate::performing::{Told, line_count, perform, perform_into, print_answer};
+use crate::streams::End;
+use std::alloc::Global;
+
+/// The answers at one place after another. Each is printed where it differs from the one before it.
+#[derive(Drop)]
+struct Answers {
+    alloc: Global,
+    label: &'static str,
+    last: Page,
+}
+
+impl Answers {
+    fn new(alloc: Global, label: &'static str) -> Answers {
+        Answers {
+            alloc,
+            label,
+            last: Page::new(alloc),
+        }
+    }
+
+    /// The answer at the next place, and how many events were performed, if that is to be said.
+    fn push(&mut self, page: &mut Page, place: usize, told: &Told, events: Option<usize>) {
+        let mut text = Page::new(self.alloc);
+        print_answer(&mut text, &told.answer);
+        if let Some(events) = events {
+            text.text(" behind ");
+            text.show(&events);
+            text.text(" events");
+        }
+        if text.bytes() == self.last.bytes() {
+            return;
+        }
+        page.text(self.label);
+        page.text("from ");
+        page.show(&place);
+        page.text(" on: ");
+        page.push(text.bytes().unwrap_or(b"NOT WHOLE"));
+        page.text("\n");
+        self.last = text;
+    }
+}
+
+/// Lets the reader fail before each byte of the script in turn, and at its end; and then be interrupted.
+pub fn print_readers(alloc: Global, page: &mut Page, script: &[u8]) -> Option<()> {
+    print_fronts(alloc, page, script, End::Fails, "it fails, ")?;
+    print_fronts(alloc, page, script, End::Interrupts, "it is interrupted, ")
+}
+
+fn print_fronts(
+    alloc: Global,
+    page: &mut Page,
+    script: &[u8],
+    end: End,
+    label: &'static str,
+) -> Option<()> {
+    let whole = perform(alloc, script, usize::MAX, End::Stops)?;
+    let mut answers = Answers::new(alloc, label);
+    for place in 0..=script.len() {
+        let told = perform(alloc, &script[..place], usize::MAX, end)?;
+        answers.push(page, place, &told, Some(line_count(&told.trace)));
+        if !is_whole_lines(&told.trace) || !whole.trace.starts_with(&told.trace) {
+            page.line("ANOTHER TRACE");
+        }
+    }
+    Some(())
+}
+
+fn is_whole_lines(text: &[u8]) -> bool {
+    text.is_empty() || text.ends_with(b"\n")
+}
+
+/// Lets the writer take each count of bytes of the trace in turn, and then fail, be interrupted, or take
+/// no bytes.
+pub fn print_writers(alloc: Global, page: &mut Page, script: &[u8]) -> Option<()> {
+    print_rooms(alloc, page, script, End::Fails, "it fails, ")?;
+    print_rooms(alloc, page, script, End::Interrupts, "it is interrupted, ")?;
+    print_rooms(alloc, page, script, End::Stops, "it takes no bytes, ")
+}
+
+fn print_rooms(
+    alloc: Global,
+    page: &mut Page,
+    script: &[u8],
+    end: End,
+    label: &'static str,
+) -> Option<()> {
+    let whole = perform(alloc, script, usize::MAX, End::Stops)?;
+    let mut answers = Answers::new(alloc, label);
+    for room in 0..=whole.trace.len() {
+        let told = perform_into(alloc, script, room, end)?;
+        answers.push(page, room, &told, None);
+        if told.trace.as_slice() != &whole.trace[..room] {
+            page.line("ANOTHER TRACE");
+        }
+    }
+    Some(())
+}

@@ -1,0 +1,55 @@
+//! The bytes of a script, from the lines that say them.
+
+/// Adds a line of a script, and its LF: once, or as often as it says at its front. A line that is not
+/// understood is none.
+pub fn push_line(script: &mut Vec<u8>, line: &str) -> Option<()> {
+    let (times, line) = repeated(line).unwrap_or((1, line));
+    for _ in 0..times {
+        push_once(script, line)?;
+    }
+    Some(())
+}
+
+/// How often a line stands there that says so, and the rest of it.
+fn repeated(line: &str) -> Option<(u32, &str)> {
+    let (inside, rest) = line.strip_prefix('[')?.split_once(']')?;
+    let times = inside.strip_suffix('*')?.parse().ok()?;
+    Some((times, rest))
+}
+
+fn push_once(script: &mut Vec<u8>, line: &str) -> Option<()> {
+    if let Some(line) = line.strip_suffix("[]") {
+        return push_text(script, line);
+    }
+    push_text(script, line)?;
+    script.push(b'\n').ok()
+}
+
+/// Adds text, with what stands in brackets in place of it.
+fn push_text(script: &mut Vec<u8>, text: &str) -> Option<()> {
+    let (plain, more) = text.split_once('[').unwrap_or((text, ""));
+    script.extend_from_slice(plain.as_bytes()).ok()?;
+    if more.is_empty() {
+        return Some(());
+    }
+    for part in more.split('[') {
+        let (inside, plain) = part.split_once(']')?;
+        push_inside(script, inside)?;
+        script.extend_from_slice(plain.as_bytes()).ok()?;
+    }
+    Some(())
+}
+
+/// Adds an octet, or a text so often.
+fn push_inside(script: &mut Vec<u8>, inside: &str) -> Option<()> {
+    match inside.split_once('*') {
+        Some((text, times)) => {
+            let times = times.parse::<u32>().ok()?;
+            for _ in 0..times {
+                script.extend_from_slice(text.as_bytes()).ok()?;
+            }
+            Some(())
+        }
+        None => script.push(u8::from_str_radix(inside, 16).ok()?).ok(),
+    }
+}

@@ -1,7 +1,7 @@
 //! Events as values.
 
 use ill_core::{Deed, Wish};
-use ill_values::{Day, Item, Number};
+use ill_values::{AnswerResult, Day, Item, Number};
 use ill_world::{Bytes, Event, Who};
 use std::alloc::Global;
 
@@ -15,6 +15,9 @@ pub fn events(alloc: Global, name: &str) -> Option<Vec<Event>> {
     match name {
         "crossing" => crossing(alloc),
         "refused" => refused(alloc),
+        "cancelled" => cancelled(alloc),
+        "declined" => declined(alloc),
+        "promised" => promised(alloc),
         _ => None,
     }
 }
@@ -22,22 +25,70 @@ pub fn events(alloc: Global, name: &str) -> Option<Vec<Event>> {
 /// A Cancel and a Shipped that cross.
 fn crossing(alloc: Global) -> Option<Vec<Event>> {
     let (one, two) = (Number::new(1)?, Number::new(2)?);
-    let item = Item::new(alloc, b"Maps").ok()?;
-    let request = Wish::Request { expiry: None, item };
     let due = Day::new(2025, 3, 15).ok()?;
-    let mut events = Vec::new(alloc);
-    events.push(Event::Wish(request)).ok()?;
-    push_sent(&mut events, Who::Requester, one)?;
-    events.push(Event::Deliver(Who::Responder, one)).ok()?;
-    events
-        .push(Event::Deed(Deed::Ship { due }, first_of_march()?))
-        .ok()?;
+    let mut events = requested(alloc)?;
+    push_deed(&mut events, Deed::Ship { due })?;
     push_sent(&mut events, Who::Responder, one)?;
     events.push(Event::Wish(Wish::Cancel)).ok()?;
     push_sent(&mut events, Who::Requester, two)?;
     events.push(Event::Deliver(Who::Requester, one)).ok()?;
     events.push(Event::Deliver(Who::Responder, two)).ok()?;
     Some(events)
+}
+
+/// The responder has taken the request.
+fn requested(alloc: Global) -> Option<Vec<Event>> {
+    let item = Item::new(alloc, b"Maps").ok()?;
+    let request = Wish::Request { expiry: None, item };
+    let mut events = Vec::new(alloc);
+    events.push(Event::Wish(request)).ok()?;
+    push_delivered(&mut events, Who::Requester, Number::new(1)?)?;
+    Some(events)
+}
+
+/// A Cancel that is refused, and another that is accepted.
+fn cancelled(alloc: Global) -> Option<Vec<Event>> {
+    let mut events = requested(alloc)?;
+    events.push(Event::Wish(Wish::Cancel)).ok()?;
+    push_delivered(&mut events, Who::Requester, Number::new(2)?)?;
+    push_deed(&mut events, Deed::CancelReply { yes: false })?;
+    push_delivered(&mut events, Who::Responder, Number::new(1)?)?;
+    events.push(Event::Wish(Wish::Cancel)).ok()?;
+    push_delivered(&mut events, Who::Requester, Number::new(3)?)?;
+    push_deed(&mut events, Deed::CancelReply { yes: true })?;
+    push_delivered(&mut events, Who::Responder, Number::new(2)?)?;
+    Some(events)
+}
+
+/// Conditions that are declined.
+fn declined(alloc: Global) -> Option<Vec<Event>> {
+    let mut events = requested(alloc)?;
+    let result = AnswerResult::Conditional;
+    push_deed(&mut events, Deed::Answer(result))?;
+    push_delivered(&mut events, Who::Responder, Number::new(1)?)?;
+    events.push(Event::Wish(Wish::Reply { yes: false })).ok()?;
+    push_delivered(&mut events, Who::Requester, Number::new(2)?)?;
+    push_delivered(&mut events, Who::Responder, Number::new(2)?)?;
+    Some(events)
+}
+
+/// A supply that is promised as often as there are numbers, and once more.
+fn promised(alloc: Global) -> Option<Vec<Event>> {
+    let mut events = requested(alloc)?;
+    for _ in 0..256 {
+        push_deed(&mut events, Deed::Answer(AnswerResult::WillSupply))?;
+    }
+    Some(events)
+}
+
+fn push_deed(events: &mut Vec<Event>, deed: Deed) -> Option<()> {
+    events.push(Event::Deed(deed, first_of_march()?)).ok()
+}
+
+/// A side is saved and sends a message, and the other takes it.
+fn push_delivered(events: &mut Vec<Event>, who: Who, number: Number) -> Option<()> {
+    push_sent(events, who, number)?;
+    events.push(Event::Deliver(who.other(), number)).ok()
 }
 
 fn first_of_march() -> Option<Day> {
@@ -55,9 +106,7 @@ fn refused(alloc: Global) -> Option<Vec<Event>> {
     let one = Number::new(1)?;
     let mut events = Vec::new(alloc);
     events.push(Event::Wish(Wish::Cancel)).ok()?;
-    events
-        .push(Event::Deed(Deed::Expire, first_of_march()?))
-        .ok()?;
+    push_deed(&mut events, Deed::Expire)?;
     events.push(Event::Send(Who::Responder, one)).ok()?;
     events.push(Event::Deliver(Who::Responder, one)).ok()?;
     events.push(noise(alloc, Who::Requester, b"")?).ok()?;

@@ -5,7 +5,7 @@ use crate::performing::{print_script, print_trace};
 use crate::places::{print_readers, print_writers};
 use crate::scripts::push_line;
 use crate::streams::End;
-use crate::worlds::{print_run, print_steps};
+use crate::worlds::{print_ending, print_run, print_steps};
 use std::alloc::Global;
 
 const NOT_UNDERSTOOD: &str = "NOT UNDERSTOOD";
@@ -81,6 +81,7 @@ impl Session {
             "" | "#" => return Some(()),
             "steps" => return print_steps(self.alloc, &mut self.page, name),
             "run" => return print_run(self.alloc, &mut self.page, name),
+            "ending" => return print_ending(self.alloc, &mut self.page, name),
             "each" => self.block = Block::Each,
             _ => self.block = Block::Script(call_of(word)?, Vec::new(self.alloc)),
         }

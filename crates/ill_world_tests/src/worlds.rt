@@ -39,6 +39,20 @@ pub fn print_run(alloc: Global, page: &mut Page, name: &str) -> Option<()> {
     print_world(alloc, page, &world)
 }
 
+/// Performs the events of this name as a list, and prints which message has ended the request.
+pub fn print_ending(alloc: Global, page: &mut Page, name: &str) -> Option<()> {
+    let world = run(alloc, &txn(alloc)?, &events(alloc, name)?).ok()?;
+    match world.responder().ending() {
+        Some(number) => {
+            page.text("message ");
+            page.show(&number.get());
+            page.text("\n");
+        }
+        None => page.line("none"),
+    }
+    Some(())
+}
+
 /// Prints how both sides stand, each with the messages that it has issued, and the request that was taken.
 fn print_world(alloc: Global, page: &mut Page, world: &World) -> Option<()> {
     let requester = world.requester();

@@ -1,15 +1,19 @@
 -- Performing a script, from what the calls below answer.
-use Rattle.std.proofs.Common.{◌≡◌, ℕ, List, Option, Result, Ok, Err, refl, sym, ap, subst, ◌∙◌}
+use Rattle.std.proofs.Common.{◌≡◌, ℕ, List, [], Option, Result, Ok, Err, refl, sym, ap, subst, ◌∙◌}
 use Rattle.std.specs.Prelude.{IsErrAnd}
 use Rattle.std.proofs.KnownBytes.{Consumes-nil, Appends-nil}
 use Rattle.ill_values.specs.declared.fault.TextFault.{TextFault}
 use Rattle.ill_values.specs.TxnId.{Qualifiers}
 use Rattle.ill_world.specs.declared.fault.SimFault.{SimFault}
 use Rattle.ill_world.specs.declared.fault.SimFault.TheVariants as simulation
-use Rattle.ill_world.specs.Simulation.{Simulates}
-use Rattle.ill_world.proofs.Steps.{not_begun}
+use Rattle.ill_world.specs.Simulation.{Simulates, script, trace_from}
 use Rattle.ill_tool.specs.declared.fault.ToolFault.{ToolFault}
 use Rattle.ill_tool.specs.Simulate.{sim_fault, tool_answer, Performs, GivesId}
+
+-- memory ran out before anything was read
+not_begun : (txn : Qualifiers) (old before : Option (List ℕ)) → Simulates txn old old before before (Err simulation.OutOfMemory)
+unfolding trace_from
+not_begun txn old before = ([], [], Consumes-nil old, Appends-nil before, λ more e. ([], ((script more).events, refl), refl))
 
 -- there was no transaction id, or no memory for it
 pub no_id : (id : Result Qualifiers TextFault) (old before : Option (List ℕ)) (fault : ToolFault) (result : Result ℕ ToolFault) → GivesId id (Err fault)
@@ -17,7 +21,7 @@ pub no_id : (id : Result Qualifiers TextFault) (old before : Option (List ℕ)) 
 no_id id old before fault (Ok count) given failed = absurd failed
 no_id (Ok txn) old before fault (Err tool) given failed =
     subst (λ (f : ToolFault). Performs (Ok txn) old old before before (Err f)) (sym (failed ∙ given))
-    (Err simulation.OutOfMemory, not_begun txn old before (Err simulation.OutOfMemory) refl, refl)
+    (Err simulation.OutOfMemory, not_begun txn old before, refl)
 no_id (Err text) old before fault (Err tool) given failed = (ap (λ (f : ToolFault). Err f) (failed ∙ given), Consumes-nil old, Appends-nil before)
 
 -- the script was performed, to its end or up to a fault

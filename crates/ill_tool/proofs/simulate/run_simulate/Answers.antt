@@ -6,7 +6,7 @@ pub returns-in_err-txn : goal.returns-in_err-txn
 returns-in_err-txn g c = no_id _ _ _ c.in_err-txn.field-0.0 c.from_residual.result c.in_err-txn.ensures c.from_residual.ensures.1
 
 pub returns-in-Ok : goal.returns-in-Ok
-returns-in-Ok g c = performed _ _ _ _ _ _ (Ok c.in-Ok.count) c.in_ok-txn.ensures c.in-Ok.ensures
+returns-in-Ok g c = performed _ _ _ _ _ _ (Ok c.in-Ok.count) c.in_ok-txn.ensures c.in-Ok.ensures.simulates
 
 pub returns : goal.returns
-returns g c = performed_until _ _ _ _ _ _ c.in-Err.fault c.into.result c.in_ok-txn.ensures c.in-Err.ensures c.into.ensures
+returns g c = performed_until _ _ _ _ _ _ c.in-Err.fault c.into.result c.in_ok-txn.ensures c.in-Err.ensures.simulates c.into.ensures

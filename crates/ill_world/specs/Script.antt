@@ -17,7 +17,7 @@ abbrev pub deed_event : List (List ℕ) → Option Event
 deed_event [] = None
 deed_event (today ∷ words) = do
   day ← day_of today
-  deed ← deed_of words
+  deed ← deed_of None words
   Some (Deed deed day)
 
 -- what happens to a side, by the verb

@@ -8,6 +8,7 @@ use Rattle.ill_core.specs.declared.refusal.Refusal.TheVariants as refusals
 use Rattle.ill_core.specs.declared.taking.Taking.{Taking}
 use Rattle.ill_core.specs.declared.taking.Taking.TheVariants.{Taken, Repeat, Stale, Conflict}
 use Rattle.ill_core.specs.State.{state_name}
+use Rattle.ill_saved.specs.declared.side.Side.{Side}
 use Rattle.ill_saved.specs.Side.{issued_of, state_of, due_date_of}
 use Rattle.ill_world.specs.declared.event.Outcome.{Outcome}
 use Rattle.ill_world.specs.declared.event.Outcome.TheVariants.{Done, Saved, Faulted, Sent, Answered, Refused, NoSuchMessage, NotSaved, NotSent, Garbled, Forged, Restarted}
@@ -57,10 +58,13 @@ due_text None = codes "-"
 due_text (Some d) = date_text d
 
 -- how a side stands: its state, its due date, and how many of its messages are released and issued
+abbrev pub standing_text : Side → ℕ → List ℕ
+standing_text side released =
+    state_name (state_of side) ++ codes " " ++ due_text (due_date_of side) ++ codes " "
+    ++ decimal released ++ codes "/" ++ decimal (length (issued_of side))
+
 abbrev pub side_text : Party → List ℕ
-side_text p =
-    state_name (state_of p.live) ++ codes " " ++ due_text (due_date_of p.live) ++ codes " "
-    ++ decimal p.released ++ codes "/" ++ decimal (length (issued_of p.live))
+side_text p = standing_text p.live p.released
 
 -- the line of the event with this number
 unfoldable pub line : ℕ → Outcome → Parties → List ℕ

@@ -1,11 +1,11 @@
 -- The words of a script and of a command line: what one word may stand for, and what the words of a
 -- requester's wish and of a responder's deed say (this profile's own).
-use Rattle.std.specs.Prelude.{ℕ, ◌+◌, ◌-◌, ◌*◌, ◌&&◌, fold, nat_le, Bool, true, false, if◌then◌else◌, List, [], ◌∷◌, ◌++◌, length, flat_map, bytes_eq, codes, Option, Some, None, option_map}
+use Rattle.std.specs.Prelude.{ℕ, ◌+◌, ◌-◌, ◌*◌, ◌&&◌, fold, nat_le, Bool, true, false, if◌then◌else◌, ◌==◌, List, [], ◌∷◌, ◌++◌, length, flat_map, bytes_eq, codes, Option, Some, None, option_map}
 use Rattle.std.specs.List.{list_all}
 use Rattle.std.specs.Result.{result_ok}
 use Rattle.std.specs.Char.{is_ascii_digit}
 use Rattle.hex.specs.Hex.{decode_of}
-use Rattle.ill_values.specs.Day.{Date, read_date}
+use Rattle.ill_values.specs.Day.{Date, read_date, day_after}
 use Rattle.ill_values.specs.Text.{item_of}
 use Rattle.ill_values.specs.declared.apdu.AnswerResult.{AnswerResult}
 use Rattle.ill_values.specs.declared.apdu.AnswerResult.TheVariants.{Conditional, Retry, Unfilled, LocationsProvided, WillSupply, HoldPlaced, Estimate}
@@ -54,25 +54,36 @@ result_named = named (
 abbrev pub day_of : List ℕ → Option Date
 day_of word = result_ok (read_date word)
 
--- a day, or the word for none
-abbrev pub optional_day_of : List ℕ → Option (Option Date)
-optional_day_of word = if bytes_eq word (codes "none") then Some None else option_map Some (day_of word)
+-- one to so many decimal digits
+abbrev pub is_numeral : ℕ → List ℕ → Bool
+is_numeral most word = nat_le 1 (length word) && nat_le (length word) most && list_all is_ascii_digit word
 
 -- the number that decimal digits stand for
 abbrev pub decimal_value : List ℕ → ℕ
 decimal_value digits = fold (λ n digit. 10 * n + (digit - 0x30)) 0 digits
 
+-- the day so many days after one, the days as one to five decimal digits
+abbrev pub days_after : Date → List ℕ → Option Date
+days_after from digits =
+    if is_numeral 5 digits then result_ok (day_after (decimal_value digits) from) else None
+
+-- the day that something is due: a day, or a plus sign and days, where they may be counted from a day
+abbrev pub due_of : Option Date → List ℕ → Option Date
+due_of None word = day_of word
+due_of (Some from) [] = day_of []
+due_of (Some from) (byte ∷ digits) = if byte == 0x2B then days_after from digits else day_of (byte ∷ digits)
+
+-- a day, or the word for none
+abbrev pub optional_day_of : List ℕ → Option (Option Date)
+optional_day_of word = if bytes_eq word (codes "none") then Some None else option_map Some (day_of word)
+
 -- a number of a message
 abbrev pub is_number : ℕ → Bool
 is_number n = nat_le 1 n && nat_le n 255
 
--- one to three decimal digits
-abbrev pub is_numeral : List ℕ → Bool
-is_numeral word = nat_le 1 (length word) && nat_le (length word) 3 && list_all is_ascii_digit word
-
 -- the number of a message: one to three digits, with zeros before it or not
 abbrev pub number_of : List ℕ → Option ℕ
-number_of word = if is_numeral word && is_number (decimal_value word) then Some (decimal_value word) else None
+number_of word = if is_numeral 3 word && is_number (decimal_value word) then Some (decimal_value word) else None
 
 -- bytes as hexadecimal digits, two for each, or the word for none
 abbrev pub bytes_of : List ℕ → Option (List ℕ)
@@ -127,24 +138,24 @@ abbrev pub refusal_of : List ℕ → Option Deed
 refusal_of = named ((codes "no", RenewAnswer None) ∷ [])
 
 -- a deed of a word and what it is about
-unfoldable pub deed_with : List ℕ → List ℕ → Option Deed
-deed_with verb word =
+unfoldable pub deed_with : Option Date → List ℕ → List ℕ → Option Deed
+deed_with from verb word =
     if bytes_eq verb (codes "answer") then option_map Answer (result_named word)
     else if bytes_eq verb (codes "cancel-reply") then option_map CancelReply (yes_of word)
-    else if bytes_eq verb (codes "ship") then option_map Ship (day_of word)
+    else if bytes_eq verb (codes "ship") then option_map Ship (due_of from word)
     else if bytes_eq verb (codes "renew-answer") then refusal_of word
     else None
 
 -- a renewal is granted by two words and the new due date
-unfoldable pub grant_with : List ℕ → List ℕ → List ℕ → Option Deed
-grant_with verb word due =
+unfoldable pub grant_with : Option Date → List ℕ → List ℕ → List ℕ → Option Deed
+grant_with from verb word due =
     if bytes_eq verb (codes "renew-answer") && bytes_eq word (codes "yes")
-    then option_map (λ day. RenewAnswer (Some day)) (day_of due)
+    then option_map (λ day. RenewAnswer (Some day)) (due_of from due)
     else None
 
--- the deed that words say
-unfoldable pub deed_of : List (List ℕ) → Option Deed
-deed_of (verb ∷ []) = bare_deed_of verb
-deed_of (verb ∷ word ∷ []) = deed_with verb word
-deed_of (verb ∷ word ∷ due ∷ []) = grant_with verb word due
-deed_of words = None
+-- the deed that words say; due days may be counted from a day, if there is one
+unfoldable pub deed_of : Option Date → List (List ℕ) → Option Deed
+deed_of from (verb ∷ []) = bare_deed_of verb
+deed_of from (verb ∷ word ∷ []) = deed_with from verb word
+deed_of from (verb ∷ word ∷ due ∷ []) = grant_with from verb word due
+deed_of from words = None

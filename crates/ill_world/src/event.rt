@@ -2,6 +2,7 @@
 
 ghost use Rattle.std.specs.Prelude.{◌≡◌};
 ghost use Rattle.ill_world.specs.World.{who_of, other};
+ghost use Rattle.ill_world.specs.Trace.{outcome_word, taking_word, refusal_word};
 
 use crate::bytes::Bytes;
 use ill_core::{Deed, Refusal, Taking, Wish};
@@ -100,4 +101,53 @@ pub enum Outcome {
     Forged,
     /// The side has begun again from the record that has landed.
     Restarted,
+}
+
+impl Outcome {
+    /// What is seen, in a word, as `done` or `not-now`.
+    pub fn word(self) -> &'static str
+        ensures { result.now ≡ outcome_word self }
+    {
+        match self {
+            Outcome::Done => "done",
+            Outcome::Saved => "saved",
+            Outcome::Faulted => "faulted",
+            Outcome::Sent => "sent",
+            Outcome::Answered(taking) => word_of_taking(taking),
+            Outcome::Refused(refusal) => word_of_refusal(refusal),
+            Outcome::NoSuchMessage => "no-such-message",
+            Outcome::NotSaved => "not-saved",
+            Outcome::NotSent => "not-sent",
+            Outcome::Garbled => "garbled",
+            Outcome::Forged => "forged",
+            Outcome::Restarted => "restarted",
+        }
+    }
+}
+
+fn word_of_taking(taking: Taking) -> &'static str
+    ensures { result.now ≡ taking_word taking }
+{
+    match taking {
+        Taking::Taken => "taken",
+        Taking::Repeat => "repeat",
+        Taking::Stale => "stale",
+        Taking::Conflict(_) => "conflict",
+    }
+}
+
+fn word_of_refusal(refusal: Refusal) -> &'static str
+    ensures { result.now ≡ refusal_word refusal }
+{
+    match refusal {
+        Refusal::OtherTransaction => "other-transaction",
+        Refusal::WrongRole => "wrong-role",
+        Refusal::NotNow(_) => "not-now",
+        Refusal::DateEarlier => "date-earlier",
+        Refusal::DateNotLater => "date-not-later",
+        Refusal::NotDue => "not-due",
+        Refusal::NotExpired => "not-expired",
+        Refusal::NumbersUsed => "numbers-used",
+        Refusal::OutOfMemory => "memory",
+    }
 }

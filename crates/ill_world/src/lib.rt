@@ -12,10 +12,12 @@ mod party;
 mod script;
 mod simulation;
 mod trace;
+pub mod words;
 mod world;
 
 pub use bytes::Bytes;
 pub use event::{Event, Outcome, Who};
 pub use fault::SimFault;
 pub use simulation::simulate;
+pub use trace::push_standing;
 pub use world::{World, run};

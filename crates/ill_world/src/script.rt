@@ -1,8 +1,6 @@
 //! The lines of a script, which say what happens to the two sides.
 
-mod actions;
 mod events;
-mod words;
 
 ghost use Rattle.std.specs.Prelude.{◌≡◌, map, IfOk};
 ghost use Rattle.ill_world.specs.Script.{meaning, line_of, words_of};
@@ -31,18 +29,8 @@ pub(crate) enum Line {
 ///
 /// | Words | Event |
 /// |---|---|
-/// | `requester request EXPIRY ITEM` | `Wish` of a `Request` |
-/// | `requester cancel` | `Wish` of a `Cancel` |
-/// | `requester reply yes` or `no` | `Wish` of a `Reply` |
-/// | `requester receive` | `Wish` of a `Receive` |
-/// | `requester renew WISHED` | `Wish` of a `Renew` |
-/// | `requester return` | `Wish` of a `Return` |
-/// | `responder TODAY answer RESULT` | `Deed` of an `Answer` |
-/// | `responder TODAY cancel-reply yes` or `no` | `Deed` of a `CancelReply` |
-/// | `responder TODAY ship DUE` | `Deed` of a `Ship` |
-/// | `responder TODAY renew-answer yes DUE` | `Deed` of a `RenewAnswer` that grants |
-/// | `responder TODAY renew-answer no` | `Deed` of a `RenewAnswer` that refuses |
-/// | `responder TODAY overdue`, `recall`, `check-in` or `expire` | `Deed` of that name |
+/// | `requester` and the words of a `wish` | `Wish` |
+/// | `responder TODAY` and the words of a `deed` | `Deed` |
 /// | `save SIDE` | `Save` |
 /// | `save-fault SIDE old` or `new` | `SaveFault`; with `new` the record has landed |
 /// | `restart SIDE` | `Restart` |
@@ -50,11 +38,9 @@ pub(crate) enum Line {
 /// | `deliver SIDE NUMBER` | `Deliver` |
 /// | `noise SIDE HEX` | `Noise` |
 ///
-/// TODAY and DUE are days as eight digits, such as `20250315`, and EXPIRY and WISHED are such days or
-/// `none`. SIDE is `requester` or `responder`. RESULT is an `AnswerResult` in small letters, such as
-/// `hold-placed`. NUMBER is one to three decimal digits for 1 to 255. HEX is two hexadecimal digits,
-/// of either case, for each byte, or `none` for no bytes. ITEM is the text of an item: all the words
-/// that remain, with one space between each and the next.
+/// TODAY is a day as eight digits, such as `20250315`. SIDE is `requester` or `responder`. NUMBER is
+/// one to three decimal digits for 1 to 255. HEX is two hexadecimal digits, of either case, for each
+/// byte, or `none` for no bytes. No due day of a script is counted from another.
 #[tactic(auto, unfolding(crate::specs::Script::meaning))]
 pub(crate) fn read_line(alloc: Global, line: &[u8]) -> Result<Line, OutOfMemory>
     ensures { IfOk result (λ read. read ≡ meaning line.now) }

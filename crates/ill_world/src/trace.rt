@@ -1,11 +1,11 @@
 //! The lines of a trace, which show what is seen of each event and how both sides stand after it.
 
 ghost use Rattle.std.specs.Prelude.{◌≡◌, ◌++◌, OnOk};
-ghost use Rattle.ill_world.specs.Trace.{line, event_text, side_text, due_text, outcome_word, taking_word, refusal_word};
+ghost use Rattle.ill_world.specs.Trace.{line, event_text, standing_text, due_text};
 
 use crate::event::Outcome;
 use crate::party::Party;
-use ill_core::{Refusal, Taking};
+use ill_saved::Side;
 use ill_values::{Day, OutOfMemory};
 use itoa::{Buffer, Integer};
 
@@ -25,9 +25,9 @@ pub(crate) fn push_line(
 {
     push_event(lines, number, outcome)?;
     lines.extend_from_slice(b" requester ")?;
-    push_side(lines, requester)?;
+    push_standing(lines, requester.side(), requester.released())?;
     lines.extend_from_slice(b" responder ")?;
-    push_side(lines, responder)?;
+    push_standing(lines, responder.side(), responder.released())?;
     lines.push(b'\n')?;
     Ok(())
 }
@@ -38,21 +38,21 @@ fn push_event(lines: &mut Vec<u8>, number: u32, outcome: Outcome) -> Result<(), 
 {
     push_number(lines, number)?;
     lines.push(b' ')?;
-    lines.extend_from_slice(word(outcome).as_bytes())?;
+    lines.extend_from_slice(outcome.word().as_bytes())?;
     Ok(())
 }
 
-/// Adds how a side stands, as `SHIPPED 20250315 2/3`.
-fn push_side(lines: &mut Vec<u8>, party: &Party) -> Result<(), OutOfMemory>
-    ensures { OnOk result (lines.new.items ≡ lines.old.items ++ side_text party.now) }
+/// Adds how a side stands: its state, its due date or a dash, and how many of its messages are
+/// released and issued, as `SHIPPED 20250315 2/3`.
+pub fn push_standing(lines: &mut Vec<u8>, side: &Side, released: u8) -> Result<(), OutOfMemory>
+    ensures { OnOk result (lines.new.items ≡ lines.old.items ++ standing_text side.now released) }
 {
-    let side = party.side();
     let state = side.state().to_string(*lines.allocator())?;
     lines.extend_from_slice(state.as_bytes())?;
     lines.push(b' ')?;
     push_due(lines, side.due())?;
     lines.push(b' ')?;
-    push_number(lines, party.released())?;
+    push_number(lines, released)?;
     lines.push(b'/')?;
     push_number(lines, side.issued_count())
 }
@@ -74,51 +74,4 @@ fn push_number<I: Integer>(lines: &mut Vec<u8>, number: I) -> Result<(), OutOfMe
 {
     lines.extend_from_slice(Buffer::new().format(number).as_bytes())?;
     Ok(())
-}
-
-/// The word for what is seen of an event.
-fn word(outcome: Outcome) -> &'static str
-    ensures { result.now ≡ outcome_word outcome }
-{
-    match outcome {
-        Outcome::Done => "done",
-        Outcome::Saved => "saved",
-        Outcome::Faulted => "faulted",
-        Outcome::Sent => "sent",
-        Outcome::Answered(taking) => word_of_taking(taking),
-        Outcome::Refused(refusal) => word_of_refusal(refusal),
-        Outcome::NoSuchMessage => "no-such-message",
-        Outcome::NotSaved => "not-saved",
-        Outcome::NotSent => "not-sent",
-        Outcome::Garbled => "garbled",
-        Outcome::Forged => "forged",
-        Outcome::Restarted => "restarted",
-    }
-}
-
-fn word_of_taking(taking: Taking) -> &'static str
-    ensures { result.now ≡ taking_word taking }
-{
-    match taking {
-        Taking::Taken => "taken",
-        Taking::Repeat => "repeat",
-        Taking::Stale => "stale",
-        Taking::Conflict(_) => "conflict",
-    }
-}
-
-fn word_of_refusal(refusal: Refusal) -> &'static str
-    ensures { result.now ≡ refusal_word refusal }
-{
-    match refusal {
-        Refusal::OtherTransaction => "other-transaction",
-        Refusal::WrongRole => "wrong-role",
-        Refusal::NotNow(_) => "not-now",
-        Refusal::DateEarlier => "date-earlier",
-        Refusal::DateNotLater => "date-not-later",
-        Refusal::NotDue => "not-due",
-        Refusal::NotExpired => "not-expired",
-        Refusal::NumbersUsed => "numbers-used",
-        Refusal::OutOfMemory => "memory",
-    }
 }

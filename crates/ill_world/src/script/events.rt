@@ -4,8 +4,7 @@ ghost use Rattle.std.specs.Prelude.{◌≡◌, map, IfOk};
 ghost use Rattle.ill_world.specs.Script.{event_of, deed_event, side_event, bare_event, event_with};
 
 use crate::event::{Event, Who};
-use crate::script::actions::{deed, wish};
-use crate::script::words::{bytes, day, is, landed, number, who};
+use crate::words::{bytes, day, deed, is, landed, number, who, wish};
 use ill_values::OutOfMemory;
 use std::alloc::Global;
 
@@ -36,7 +35,7 @@ fn deed_on_day(words: &[&[u8]]) -> Option<Event>
         [] => None,
         [today, words @ ..] => {
             let today = day(today)?;
-            Some(Event::Deed(deed(words)?, today))
+            Some(Event::Deed(deed(words, None)?, today))
         }
     }
 }

@@ -1,27 +1,38 @@
-//! What single words stand for.
+//! What words stand for, in a script and on a command line.
+//!
+//! A day is eight digits, YYYYMMDD, of a day in the years 1900 to 9999, as `20250315`.
+
+mod actions;
 
 ghost use Rattle.std.specs.Prelude.{◌≡◌, ◌≤◌, ℕ, length, slice_index, EachIndex, IfOk, bytes_eq};
 ghost use Rattle.std.specs.Bool.{OnTrue};
 ghost use Rattle.std.specs.List.{list_all};
 ghost use Rattle.std.specs.Int.{IsInRange};
 ghost use Rattle.std.specs.Char.{is_ascii_digit};
-ghost use Rattle.ill_world.specs.Words.{yes_of, who_named, landed_named, result_named, day_of, optional_day_of, is_numeral, decimal_value, number_of, bytes_of};
+ghost use Rattle.ill_world.specs.Words.{yes_of, who_named, landed_named, result_named, day_of, optional_day_of, is_numeral, decimal_value, due_of, days_after, number_of, bytes_of};
 
 use crate::bytes::Bytes;
 use crate::event::Who;
+pub use actions::{deed, wish};
 use hex::FromHexError;
 use ill_values::{AnswerResult, Day, Number, OutOfMemory};
 use std::alloc::Global;
 
+/// The most decimal digits of the number of a message.
+const NUMBER_DIGITS: usize = 3;
+
+/// The most decimal digits of a number of days.
+const DAYS_DIGITS: usize = 5;
+
 /// Whether a word is this one.
-pub(super) fn is(word: &[u8], name: &str) -> bool
+pub(crate) fn is(word: &[u8], name: &str) -> bool
     ensures { result ≡ bytes_eq word.now name.now }
 {
     word == name.as_bytes()
 }
 
 /// Yes or no, if the word is either.
-pub(super) fn yes(word: &[u8]) -> Option<bool>
+pub(crate) fn yes(word: &[u8]) -> Option<bool>
     ensures { result ≡ yes_of word.now }
 {
     if is(word, "yes") {
@@ -33,8 +44,8 @@ pub(super) fn yes(word: &[u8]) -> Option<bool>
     }
 }
 
-/// The side that the word names, if it names one.
-pub(super) fn who(word: &[u8]) -> Option<Who>
+/// The side that the word names, if it names one: `requester` or `responder`.
+pub fn who(word: &[u8]) -> Option<Who>
     ensures { result ≡ who_named word.now }
 {
     if is(word, "requester") {
@@ -48,7 +59,7 @@ pub(super) fn who(word: &[u8]) -> Option<Who>
 
 /// Whether a save that fails has landed nevertheless, if the word says so: the store has the `new`
 /// record, or the `old` one.
-pub(super) fn landed(word: &[u8]) -> Option<bool>
+pub(crate) fn landed(word: &[u8]) -> Option<bool>
     ensures { result ≡ landed_named word.now }
 {
     if is(word, "new") {
@@ -62,7 +73,7 @@ pub(super) fn landed(word: &[u8]) -> Option<bool>
 
 /// The result that the word names, if it names one.
 #[tactic(auto, unfolding(crate::specs::Words::result_named))]
-pub(super) fn answer_result(word: &[u8]) -> Option<AnswerResult>
+pub(crate) fn answer_result(word: &[u8]) -> Option<AnswerResult>
     ensures { result ≡ result_named word.now }
 {
     if is(word, "conditional") {
@@ -85,14 +96,36 @@ pub(super) fn answer_result(word: &[u8]) -> Option<AnswerResult>
 }
 
 /// The day that the word spells as eight digits, if it spells one.
-pub(super) fn day(word: &[u8]) -> Option<Day>
+pub(crate) fn day(word: &[u8]) -> Option<Day>
     ensures { result ≡ day_of word.now }
 {
     Day::read(word).ok()
 }
 
+/// The day on which something is due, if the word says one: a day, or, where days may be counted from
+/// one, `+` and one to five decimal digits for so many days after it.
+pub(crate) fn due(word: &[u8], from: Option<Day>) -> Option<Day>
+    ensures { result ≡ due_of from word.now }
+{
+    match (from, word) {
+        (Some(from), [b'+', digits @ ..]) => days_after(from, digits),
+        _ => day(word),
+    }
+}
+
+/// The day so many days after this one, if digits say how many and the calendar goes so far.
+fn days_after(from: Day, digits: &[u8]) -> Option<Day>
+    ensures { result ≡ days_after from digits.now }
+{
+    if is_numeral(digits, DAYS_DIGITS) {
+        from.after(decimal(digits)).ok()
+    } else {
+        None
+    }
+}
+
 /// A day or none, if the word spells a day or is `none`.
-pub(super) fn optional_day(word: &[u8]) -> Option<Option<Day>>
+pub(crate) fn optional_day(word: &[u8]) -> Option<Option<Day>>
     ensures { result ≡ optional_day_of word.now }
 {
     if is(word, "none") {
@@ -104,23 +137,24 @@ pub(super) fn optional_day(word: &[u8]) -> Option<Option<Day>>
 
 /// The number that one to three decimal digits stand for, if it is one of a message, 1 to 255. Zeros
 /// may stand before it.
-pub(super) fn number(word: &[u8]) -> Option<Number>
+pub fn number(word: &[u8]) -> Option<Number>
     ensures { result ≡ number_of word.now }
 {
-    if is_numeral(word) {
+    if is_numeral(word, NUMBER_DIGITS) {
         Number::new(u8::try_from(decimal(word)).ok()?)
     } else {
         None
     }
 }
 
-fn is_numeral(word: &[u8]) -> bool
-    ensures value { result ≡ is_numeral word.now }
-    ensures few { OnTrue result (length word.now ≤ 3) }
+/// Whether a word is one to so many decimal digits.
+fn is_numeral(word: &[u8], most: usize) -> bool
+    ensures value { result ≡ is_numeral most word.now }
+    ensures few { OnTrue result (length word.now ≤ most) }
     ensures digits { OnTrue result (EachIndex word.now
         (λ k. IsInRange 48 57 (slice_index word.now k))) }
 {
-    (1..=3).contains(&word.len()) && is_digits(word)
+    (1..=most).contains(&word.len()) && is_digits(word)
 }
 
 fn is_digits(word: &[u8]) -> bool
@@ -132,21 +166,21 @@ fn is_digits(word: &[u8]) -> bool
 }
 
 /// The number that decimal digits stand for.
-fn decimal(digits: &[u8]) -> u16
-    requires few { length digits.now ≤ 3 }
+fn decimal(digits: &[u8]) -> u32
+    requires few { length digits.now ≤ 5 }
     requires digits { EachIndex digits.now (λ k. IsInRange 48 57 (slice_index digits.now k)) }
     ensures { result ≡ decimal_value digits.now }
 {
     let mut value = 0;
     for digit in digits {
-        value = 10 * value + u16::from(digit - b'0');
+        value = 10 * value + u32::from(digit - b'0');
     }
     value
 }
 
 /// The bytes that the word spells as hexadecimal digits of either case, two for each byte, if it
 /// does; `none` stands for no bytes.
-pub(super) fn bytes(alloc: Global, word: &[u8]) -> Result<Option<Bytes>, OutOfMemory>
+pub(crate) fn bytes(alloc: Global, word: &[u8]) -> Result<Option<Bytes>, OutOfMemory>
     ensures { IfOk result (λ bytes. bytes ≡ bytes_of word.now) }
 {
     if is(word, "none") {

@@ -1,6 +1,6 @@
 use Rattle.std.proofs.Common.{◌≡◌, ◌<◌, ◌^◌, take}
 use Rattle.ill_world.specs.Words.{decimal_value}
-use Rattle.ill_world.proofs.script.words.decimal.Given as goal
+use Rattle.ill_world.proofs.words.decimal.Given as goal
 
 -- the value is that of the digits so far
 abbrev pub invariant-loop-digit : goal.invariant-loop-digit

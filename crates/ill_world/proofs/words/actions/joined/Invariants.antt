@@ -1,6 +1,6 @@
 use Rattle.std.proofs.Common.{◌≡◌, map, take}
 use Rattle.ill_world.specs.Words.{spaced}
-use Rattle.ill_world.proofs.script.actions.joined.Given as goal
+use Rattle.ill_world.proofs.words.actions.joined.Given as goal
 
 -- the text has the words so far
 abbrev pub invariant-loop-word : goal.invariant-loop-word

@@ -3,14 +3,26 @@
 ghost use Rattle.std.specs.Prelude.{◌≡◌, map, IfOk};
 ghost use Rattle.ill_world.specs.Words.{bare_wish_of, wish_with, request_of, spaced, wish_of, bare_deed_of, refusal_of, deed_with, grant_with, deed_of};
 
-use crate::script::words::{answer_result, day, is, optional_day, yes};
+use crate::words::{answer_result, due, is, optional_day, yes};
 use ill_core::{Deed, Wish};
-use ill_values::{Item, OutOfMemory, TextFault};
+use ill_values::{Day, Item, OutOfMemory, TextFault};
 use std::alloc::Global;
 
-/// The wish that the words behind `requester` say, if they say one.
+/// The wish that the words say, if they say one:
+///
+/// | Words | Wish |
+/// |---|---|
+/// | `request EXPIRY ITEM` | `Request` |
+/// | `cancel` | `Cancel` |
+/// | `reply yes` or `no` | `Reply` |
+/// | `receive` | `Receive` |
+/// | `renew WISHED` | `Renew` |
+/// | `return` | `Return` |
+///
+/// EXPIRY and WISHED are days or `none`. ITEM is the text of an item: all the words that remain, with
+/// one space between each and the next.
 #[tactic(auto, unfolding(crate::specs::Words::wish_of))]
-pub(crate) fn wish(alloc: Global, words: &[&[u8]]) -> Result<Option<Wish>, OutOfMemory>
+pub fn wish(alloc: Global, words: &[&[u8]]) -> Result<Option<Wish>, OutOfMemory>
     ensures { IfOk result (λ wish. wish ≡ wish_of (map (λ word. word.now) words.now)) }
 {
     match words {
@@ -87,27 +99,39 @@ fn joined(alloc: Global, first: &[u8], more: &[&[u8]]) -> Result<Vec<u8>, OutOfM
     Ok(text)
 }
 
-/// The deed that the words behind the day say, if they say one.
+/// The deed that the words say, if they say one:
+///
+/// | Words | Deed |
+/// |---|---|
+/// | `answer RESULT` | `Answer` |
+/// | `cancel-reply yes` or `no` | `CancelReply` |
+/// | `ship DUE` | `Ship` |
+/// | `renew-answer yes DUE` | `RenewAnswer` that grants |
+/// | `renew-answer no` | `RenewAnswer` that refuses |
+/// | `overdue`, `recall`, `check-in` or `expire` | the deed of that name |
+///
+/// RESULT is an `AnswerResult` in small letters, such as `hold-placed`. DUE is a day or, where days
+/// may be counted `from` one, `+` and one to five decimal digits for so many days after it.
 #[tactic(auto, unfolding(crate::specs::Words::deed_of))]
-pub(crate) fn deed(words: &[&[u8]]) -> Option<Deed>
-    ensures { result ≡ deed_of (map (λ word. word.now) words.now) }
+pub fn deed(words: &[&[u8]], from: Option<Day>) -> Option<Deed>
+    ensures { result ≡ deed_of from (map (λ word. word.now) words.now) }
 {
     match words {
         [] => None,
         [verb] => bare_deed(verb),
-        [verb, word] => deed_with_word(verb, word),
-        [verb, word, due] => grant(verb, word, due),
+        [verb, word] => deed_with_word(verb, word, from),
+        [verb, word, day] => grant(verb, word, day, from),
         _ => None,
     }
 }
 
 /// The grant of a renewal, if the words say one.
 #[tactic(auto, unfolding(crate::specs::Words::grant_with))]
-fn grant(verb: &[u8], word: &[u8], due: &[u8]) -> Option<Deed>
-    ensures { result ≡ grant_with verb.now word.now due.now }
+fn grant(verb: &[u8], word: &[u8], day: &[u8], from: Option<Day>) -> Option<Deed>
+    ensures { result ≡ grant_with from verb.now word.now day.now }
 {
     if is(verb, "renew-answer") && is(word, "yes") {
-        day(due).map(|due| Deed::RenewAnswer { granted: Some(due) })
+        due(day, from).map(|due| Deed::RenewAnswer { granted: Some(due) })
     } else {
         None
     }
@@ -130,15 +154,15 @@ fn bare_deed(verb: &[u8]) -> Option<Deed>
 }
 
 #[tactic(auto, unfolding(crate::specs::Words::deed_with))]
-fn deed_with_word(verb: &[u8], word: &[u8]) -> Option<Deed>
-    ensures { result ≡ deed_with verb.now word.now }
+fn deed_with_word(verb: &[u8], word: &[u8], from: Option<Day>) -> Option<Deed>
+    ensures { result ≡ deed_with from verb.now word.now }
 {
     if is(verb, "answer") {
         answer_result(word).map(Deed::Answer)
     } else if is(verb, "cancel-reply") {
         yes(word).map(|yes| Deed::CancelReply { yes })
     } else if is(verb, "ship") {
-        day(word).map(|due| Deed::Ship { due })
+        due(word, from).map(|due| Deed::Ship { due })
     } else if is(verb, "renew-answer") && is(word, "no") {
         Some(Deed::RenewAnswer { granted: None })
     } else {

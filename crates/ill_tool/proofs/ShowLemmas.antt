@@ -9,7 +9,7 @@ use Rattle.ill_der.specs.declared.fault.ReadFault.{ReadFault}
 use Rattle.ill_der.specs.ShortForm.{spelling}
 use Rattle.ill_der.specs.Stream.{ReadsApdu}
 use Rattle.ill_tool.specs.declared.fault.ToolFault.{ToolFault}
-use Rattle.ill_tool.specs.declared.fault.ToolFault.TheVariants.{Arguments, Der, TooMany, Script, Read, Write, OutOfMemory}
+use Rattle.ill_tool.specs.declared.fault.ToolFault.TheVariants.{Arguments, Der, TooMany, Script, Desk, Read, Write, OutOfMemory}
 use Rattle.ill_tool.specs.Lines.{lines_of}
 use Rattle.ill_tool.specs.Input.{tool_fault, EndsReading, EndsFull}
 use Rattle.ill_tool.specs.Show.{all_lines, Ended, Shows, ShowsNext}
@@ -71,6 +71,7 @@ ended_unwritten (Err Arguments) count bytes left ended = absurd ended
 ended_unwritten (Err (Der fault)) count bytes left ended = (ended, refl)
 ended_unwritten (Err TooMany) count bytes left ended = (ended, refl)
 ended_unwritten (Err (Script line)) count bytes left ended = absurd ended
+ended_unwritten (Err (Desk fault)) count bytes left ended = absurd ended
 ended_unwritten (Err Read) count bytes left ended = (ended, refl)
 ended_unwritten (Err Write) count bytes left ended = absurd ended
 ended_unwritten (Err OutOfMemory) count bytes left ended = (ended, refl)

@@ -1,23 +1,16 @@
 -- Counting all APDUs of an input, and writing the line of their number.
-use Rattle.std.specs.Prelude.{◌≡◌, ℕ, List, [], take, Option, Result, Ok, Err}
+use Rattle.std.specs.Prelude.{◌≡◌, ℕ, List, [], Option, Result, Ok, Err}
 use Rattle.std.specs.Io.KnownBytes.{Appends}
 use Rattle.ill_tool.specs.declared.fault.ToolFault.{ToolFault}
-use Rattle.ill_tool.specs.declared.fault.ToolFault.TheVariants.{Arguments, Der, TooMany, Script, Read, Write, OutOfMemory}
 use Rattle.ill_tool.specs.Input.{Counts}
+use Rattle.ill_tool.specs.Output.{WritesText}
 use Rattle.ill_tool.specs.Lines.{count_line}
 
 -- The line of the number was written and the number answered; or a front of the line, where the
 -- writer failed; or nothing, without memory for the line.
 abbrev pub WritesCount : Option (List ℕ) → Option (List ℕ) → ℕ → Result ℕ ToolFault → Type 0
 WritesCount before after count (Ok n) = (n ≡ count) × Appends before after (count_line count)
-WritesCount before after count (Err Write) =
-    (size : ℕ) × Appends before after (take size (count_line count))
-WritesCount before after count (Err OutOfMemory) = Appends before after []
-WritesCount before after count (Err Arguments) = ⊥
-WritesCount before after count (Err (Der fault)) = ⊥
-WritesCount before after count (Err TooMany) = ⊥
-WritesCount before after count (Err (Script line)) = ⊥
-WritesCount before after count (Err Read) = ⊥
+WritesCount before after count (Err fault) = WritesText before after (count_line count) (Err fault)
 
 -- what follows the counting: the line of the number, or nothing but the fault of the reading
 abbrev pub Reports : Result ℕ ToolFault → Option (List ℕ) → Option (List ℕ) →

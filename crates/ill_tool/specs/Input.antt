@@ -9,7 +9,7 @@ use Rattle.ill_der.specs.declared.fault.ReadFault.TheVariants as reading
 use Rattle.ill_der.specs.ShortForm.{spelling, apdu_at}
 use Rattle.ill_der.specs.Stream.{IsUnfinished, AreUnfinished, SpellsOne, IfShort}
 use Rattle.ill_tool.specs.declared.fault.ToolFault.{ToolFault}
-use Rattle.ill_tool.specs.declared.fault.ToolFault.TheVariants.{Arguments, Der, TooMany, Script, Read, Write, OutOfMemory}
+use Rattle.ill_tool.specs.declared.fault.ToolFault.TheVariants.{Arguments, Der, TooMany, Script, Desk, Read, Write, OutOfMemory}
 
 -- the fault of a command whose reading failed so
 abbrev pub tool_fault : ReadFault → ToolFault
@@ -36,6 +36,7 @@ StopsReading (Der fault) count bytes left =
     (apdu_at bytes ≡ Err fault) × AreUnfinished bytes × IfShort fault (IsAtEnd left)
 StopsReading TooMany count bytes left = (count ≡ 100000) × SpellsOne bytes
 StopsReading (Script line) count bytes left = ⊥
+StopsReading (Desk fault) count bytes left = ⊥
 StopsReading Read count bytes left = IsUnfinished bytes
 StopsReading Write count bytes left = ⊥
 StopsReading OutOfMemory count bytes left = SpellsOne bytes

@@ -4,3 +4,9 @@ pub mod Output
 pub mod Show
 pub mod Check
 pub mod Simulate
+pub mod Actions
+pub mod Standing
+pub mod Act
+pub mod Take
+pub mod Send
+pub mod Status

@@ -1,8 +1,8 @@
 -- Writing to the end.
-use Rattle.std.specs.Prelude.{◌≡◌, ℕ, List, take, Option, Result, Ok, Err}
+use Rattle.std.specs.Prelude.{◌≡◌, ℕ, List, [], take, Option, Result, Ok, Err}
 use Rattle.std.specs.Io.KnownBytes.{Appends}
 use Rattle.ill_tool.specs.declared.fault.ToolFault.{ToolFault}
-use Rattle.ill_tool.specs.declared.fault.ToolFault.TheVariants.{Write}
+use Rattle.ill_tool.specs.declared.fault.ToolFault.TheVariants.{Write, OutOfMemory}
 
 -- all bytes were written, or a front of them where the writer failed
 abbrev pub WritesFront : Option (List ℕ) → Option (List ℕ) → List ℕ →
@@ -10,3 +10,11 @@ abbrev pub WritesFront : Option (List ℕ) → Option (List ℕ) → List ℕ �
 WritesFront before after bytes (Ok done) = Appends before after bytes
 WritesFront before after bytes (Err fault) =
     (fault ≡ Write) × ((size : ℕ) × Appends before after (take size bytes))
+
+-- A text was written; or a front of it, where the writer failed; or nothing, without memory for it.
+abbrev pub WritesText : Option (List ℕ) → Option (List ℕ) → List ℕ →
+    Result (Unit {0}) ToolFault → Type 0
+WritesText before after text (Ok done) = Appends before after text
+WritesText before after text (Err Write) = (size : ℕ) × Appends before after (take size text)
+WritesText before after text (Err OutOfMemory) = Appends before after []
+WritesText before after text (Err other) = ⊥

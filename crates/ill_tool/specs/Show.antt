@@ -6,7 +6,7 @@ use Rattle.ill_values.specs.declared.apdu.Apdu.{Apdu}
 use Rattle.ill_values.specs.Apdu.{IsApdu}
 use Rattle.ill_der.specs.ShortForm.{spelling}
 use Rattle.ill_tool.specs.declared.fault.ToolFault.{ToolFault}
-use Rattle.ill_tool.specs.declared.fault.ToolFault.TheVariants.{Arguments, Der, TooMany, Script, Read, Write, OutOfMemory}
+use Rattle.ill_tool.specs.declared.fault.ToolFault.TheVariants.{Arguments, Der, TooMany, Script, Desk, Read, Write, OutOfMemory}
 use Rattle.ill_tool.specs.Input.{Takes, StopsReading}
 use Rattle.ill_tool.specs.Lines.{lines_of}
 
@@ -27,6 +27,7 @@ Stopped Arguments count bytes left text = ⊥
 Stopped (Der fault) count bytes left text = StopsReading (Der fault) count bytes left × (text ≡ [])
 Stopped TooMany count bytes left text = StopsReading TooMany count bytes left × (text ≡ [])
 Stopped (Script line) count bytes left text = ⊥
+Stopped (Desk fault) count bytes left text = ⊥
 Stopped Read count bytes left text = StopsReading Read count bytes left × (text ≡ [])
 Stopped Write count bytes left text = IsPartShown bytes text
 Stopped OutOfMemory count bytes left text = StopsReading OutOfMemory count bytes left × (text ≡ [])

@@ -3,9 +3,11 @@
 ghost use Rattle.std.specs.Prelude.{◌≡◌};
 ghost use Rattle.ill_tool.specs.Input.{tool_fault};
 ghost use Rattle.ill_tool.specs.Simulate.{sim_fault};
+ghost use Rattle.ill_tool.specs.Standing.{desk_fault};
 ghost use Rattle.ill_tool.specs.declared.fault.ToolFault.TheVariants.{OutOfMemory};
 
 use ill_der::{DerFault, ReadFault};
+use ill_saved::DeskFault;
 use ill_world::SimFault;
 use std::alloc::AllocError;
 use thiserror::Error;
@@ -25,6 +27,10 @@ pub enum ToolFault {
     /// The line of the script with this number, from 1 on, is bad.
     #[error("script at line {0}")]
     Script(u32),
+    /// The side refused, its store failed, or its record is none. This is never
+    /// `DeskFault::OutOfMemory`.
+    #[error("{0}")]
+    Desk(DeskFault),
     /// The reader failed.
     #[error("read")]
     Read,
@@ -57,6 +63,17 @@ impl From<SimFault> for ToolFault {
             SimFault::Read => ToolFault::Read,
             SimFault::Write => ToolFault::Write,
             SimFault::OutOfMemory => ToolFault::OutOfMemory,
+        }
+    }
+}
+
+impl From<DeskFault> for ToolFault {
+    ghost from_gives = { λ fault tool. tool ≡ desk_fault fault };
+
+    fn from(fault: DeskFault) -> ToolFault {
+        match fault {
+            DeskFault::OutOfMemory => ToolFault::OutOfMemory,
+            other => ToolFault::Desk(other),
         }
     }
 }

@@ -1,0 +1,27 @@
+-- What the words of a command line say that a side is to do (this profile's own).
+use Rattle.std.specs.Prelude.{ℕ, Bool, ◌&&◌, not, ◌==◌, if◌then◌else◌, List, length, Option, None, Some, option_map}
+use Rattle.std.specs.List.{list_all, list_any}
+use Rattle.ill_values.specs.Day.{Date}
+use Rattle.ill_saved.specs.declared.side.Side.{Side}
+use Rattle.ill_saved.specs.declared.side.Side.TheVariants.{Requester, Responder}
+use Rattle.ill_saved.specs.declared.side.Action.{Action}
+use Rattle.ill_saved.specs.declared.side.Action.TheVariants.{Wish, Deed}
+use Rattle.ill_world.specs.Words.{wish_of, deed_of}
+
+-- a word that a script may have too: not empty, and without a space
+abbrev pub is_word : List ℕ → Bool
+is_word word = not (length word == 0) && not (list_any (λ byte. byte == 0x20) word)
+
+-- a deed is done on a day, from which due days may be counted
+abbrev pub deed_on : Option Date → List (List ℕ) → Option Action
+deed_on None words = None
+deed_on (Some today) words = option_map (λ deed. Deed deed today) (deed_of (Some today) words)
+
+-- what words say to a side, as they would behind the side in a script
+abbrev pub action_for : Side → Option Date → List (List ℕ) → Option Action
+action_for (Requester x) today words = option_map Wish (wish_of words)
+action_for (Responder y) today words = deed_on today words
+
+-- the action that words name
+unfoldable pub action_named : Side → Option Date → List (List ℕ) → Option Action
+action_named side today words = if list_all is_word words then action_for side today words else None

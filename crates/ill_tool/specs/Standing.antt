@@ -1,0 +1,78 @@
+-- How one side with its store stands, and the line that tells it (this profile's own).
+use Rattle.std.specs.Prelude.{◌≡◌, ◌⊎◌, ℕ, Bool, true, false, List, [], ◌++◌, length, take, Option, None, Some, option_map, codes, Result, Ok, Err}
+use Rattle.ill_core.specs.declared.refusal.Refusal.{Refusal}
+use Rattle.ill_core.specs.declared.taking.Taking.{Taking}
+use Rattle.ill_core.specs.declared.taking.Taking.TheVariants.{Taken, Repeat, Stale, Conflict}
+use Rattle.ill_saved.specs.declared.side.Side.{Side}
+use Rattle.ill_saved.specs.Side.{issued_of}
+use Rattle.ill_saved.specs.Records.{record_spelling}
+use Rattle.ill_saved.specs.declared.fault.DeskFault.{DeskFault}
+use Rattle.ill_saved.specs.declared.fault.DeskFault.TheVariants as desks
+use Rattle.ill_saved.specs.Desk.{DeskOf}
+use Rattle.ill_world.specs.declared.event.Outcome.{Outcome}
+use Rattle.ill_world.specs.declared.event.Outcome.TheVariants as outcomes
+use Rattle.ill_world.specs.Trace.{outcome_word, standing_text}
+use Rattle.ill_tool.specs.declared.fault.ToolFault.{ToolFault}
+use Rattle.ill_tool.specs.declared.fault.ToolFault.TheVariants.{Desk, Write, OutOfMemory}
+
+-- A side, how many of its messages may be sent, and what has landed in its store, of a store of which
+-- that is known.
+pub record Standing : Type 0 where
+  pub live : Side
+  pub released : ℕ
+  pub landed : Option (Option (List ℕ))
+
+-- what has landed is known of an honest store
+abbrev pub known : Bool → Option (List ℕ) → Option (Option (List ℕ))
+known true landed = Some landed
+known false landed = None
+
+abbrev pub standing_of : {S : Type 0} → (S → Bool) → (S → Option (List ℕ)) → DeskOf S → Standing
+standing_of is_honest landed desk = record {
+  live = desk.live;
+  released = desk.released;
+  landed = known (is_honest desk.store) (landed desk.store);
+}
+
+-- the side is another, and not saved yet
+abbrev pub becomes : Standing → Side → Standing
+becomes old side = record old { live = side }
+
+-- the side is saved, and all its messages may be sent
+abbrev pub saved : Standing → Standing
+saved old = record {
+  live = old.live;
+  released = length (issued_of old.live);
+  landed = option_map (λ _. Some (record_spelling old.live)) old.landed;
+}
+
+-- A save has failed: no more messages may be sent, and the old record has landed or the new one.
+abbrev pub IsFaulted : Standing → Standing → Type 0
+IsFaulted old new = (new ≡ old) ⊎ (new ≡ record old { landed = (saved old).landed })
+
+-- the fault of a command whose desk has failed
+abbrev pub desk_fault : DeskFault → ToolFault
+desk_fault desks.OutOfMemory = OutOfMemory
+desk_fault other = Desk other
+
+-- ---- what is told
+
+-- whether all went well: nothing was refused, and no message was in conflict
+abbrev pub is_fine : Outcome → Bool
+is_fine (outcomes.Refused refusal) = false
+is_fine (outcomes.Answered (Conflict state)) = false
+is_fine outcome = true
+
+-- the line of an outcome, with how the side stands after it
+abbrev pub side_line : Outcome → Standing → List ℕ
+side_line outcome now =
+    outcome_word outcome ++ codes " " ++ standing_text now.live now.released ++ codes "\n"
+
+-- What is written and answered of an outcome: its line, and whether all went well; a front of the line
+-- where the writer failed; nothing without memory for the line, or where a fault stands in its place.
+abbrev pub Reports : Result Outcome ToolFault → Standing → List ℕ → Result Bool ToolFault → Type 0
+Reports (Ok outcome) now text (Ok fine) = (fine ≡ is_fine outcome) × (text ≡ side_line outcome now)
+Reports (Ok outcome) now text (Err Write) = (size : ℕ) × (text ≡ take size (side_line outcome now))
+Reports (Ok outcome) now text (Err OutOfMemory) = text ≡ []
+Reports (Ok outcome) now text (Err other) = ⊥
+Reports (Err fault) now text result = (result ≡ Err fault) × (text ≡ [])

@@ -1,0 +1,45 @@
+-- The command `status`: seven lines that show a record.
+use Rattle.std.specs.Prelude.{ℕ, Bool, true, false, List, [], ◌∷◌, ◌++◌, flat_map, length, codes, Option}
+use Rattle.std.specs.Fmt.{decimal}
+use Rattle.ill_core.specs.State.{state_name}
+use Rattle.ill_core.specs.Requester.{is_received_by, is_declined}
+use Rattle.ill_saved.specs.declared.side.Side.{Side}
+use Rattle.ill_saved.specs.declared.side.Side.TheVariants.{Requester, Responder}
+use Rattle.ill_saved.specs.Side.{issued_of, txn_of, state_of, due_date_of}
+use Rattle.ill_world.specs.Words.{spaced}
+use Rattle.ill_world.specs.Trace.{due_text}
+use Rattle.ill_tool.specs.Lines.{line, id_lines}
+
+-- the word of a role
+abbrev pub role_word : Side → List ℕ
+role_word (Requester x) = codes "requester"
+role_word (Responder y) = codes "responder"
+
+-- a mark, if it holds
+abbrev pub mark : Bool → List ℕ → List (List ℕ)
+mark true word = word ∷ []
+mark false word = []
+
+-- the marks of a side that hold
+abbrev pub marks_of : Side → List (List ℕ)
+marks_of (Requester x) =
+    mark (is_received_by x) (codes "received") ++ mark x.checked_in (codes "checked-in")
+    ++ mark (is_declined x) (codes "declined")
+marks_of (Responder y) = mark y.received (codes "received")
+
+-- words with one space between each and the next, or a dash where there are none
+abbrev pub spaced_or_dash : List (List ℕ) → List ℕ
+spaced_or_dash [] = codes "-"
+spaced_or_dash (first ∷ more) = spaced first more
+
+-- how many of the messages may be sent, and how many there are
+abbrev pub counts_text : Side → ℕ → List ℕ
+counts_text side released = decimal released ++ codes "/" ++ decimal (length (issued_of side))
+
+-- the lines of a side
+unfoldable pub status_lines : Side → ℕ → List ℕ
+status_lines side released =
+    line (codes "role") (role_word side) ++ id_lines (txn_of side)
+    ++ line (codes "state") (state_name (state_of side)) ++ line (codes "due") (due_text (due_date_of side))
+    ++ line (codes "messages") (counts_text side released)
+    ++ line (codes "marks") (spaced_or_dash (marks_of side))

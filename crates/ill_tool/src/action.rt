@@ -1,0 +1,49 @@
+//! What the words of a command line say that a side is to do.
+
+ghost use Rattle.std.specs.Prelude.{◌≡◌, map, IfOk};
+ghost use Rattle.ill_tool.specs.Actions.{action_named, deed_on, is_word};
+
+use ill_saved::{Action, Side};
+use ill_values::{Day, OutOfMemory};
+use ill_world::words::{deed, wish};
+use std::alloc::Global;
+
+/// The action that the words name, if they name one. They are the words of a wish or of a deed, by the
+/// role of the side, as a script has them behind the side, and none is empty or has a space.
+///
+/// A deed is done on a day, so without `today` no words name one. The day on which something is due
+/// may be said as `+` and one to five digits, for so many days after today.
+#[tactic(auto, unfolding(crate::specs::Actions::action_named))]
+pub fn action(
+    alloc: Global,
+    side: &Side,
+    today: Option<Day>,
+    words: &[&str],
+) -> Result<Option<Action>, OutOfMemory>
+    ensures { IfOk result (λ action. action
+        ≡ action_named side.now today (map (λ word. word.now) words.now)) }
+{
+    let words: Vec<&[u8]> = words.iter().map(|word| word.as_bytes()).collect(alloc)?;
+    if !words.iter().all(|word| is_word(word)) {
+        return Ok(None);
+    }
+    match side {
+        Side::Requester(_) => Ok(wish(alloc, &words)?.map(Action::Wish)),
+        Side::Responder(_) => Ok(deed_on(today, &words)),
+    }
+}
+
+/// Whether a word could stand in a script: it is not empty, and has no space.
+fn is_word(word: &[u8]) -> bool
+    ensures { result ≡ is_word word.now }
+{
+    !word.is_empty() && !word.contains(&b' ')
+}
+
+/// The deed that the words say, if there is a day to do it on.
+fn deed_on(today: Option<Day>, words: &[&[u8]]) -> Option<Action>
+    ensures { result ≡ deed_on today (map (λ word. word.now) words.now) }
+{
+    let today = today?;
+    Some(Action::Deed(deed(words, Some(today))?, today))
+}

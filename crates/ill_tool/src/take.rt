@@ -1,0 +1,92 @@
+//! The command `take`.
+
+ghost use Rattle.ill_tool.specs.Standing.{standing_of};
+ghost use Rattle.ill_tool.specs.Take.{RunsTake, TakesNext, TakesAndSaves};
+
+use crate::fault::ToolFault;
+use crate::input::{MAX_APDUS, end};
+use crate::standing::report;
+use ill_core::Taking;
+use ill_der::read_apdu;
+use ill_saved::{Desk1, DeskFault, Store};
+use ill_values::Apdu;
+use ill_world::Outcome;
+use std::alloc::Global;
+use std::io::{Read, Write};
+
+/// Takes each APDU of the input, up to its end, and writes a line of what each did and how the side
+/// stands after it. One that was taken is saved before its line is written; no other saves. It answers
+/// whether none was refused or in conflict.
+///
+/// If an APDU is faulty, there are too many, the reader fails or memory runs out, those before were
+/// taken, saved and told. If a save fails, its APDU is taken in memory, and what that issued may not be
+/// sent. If the writer fails, what was saved stays so.
+pub fn run_take<S: Store, R: Read, W: Write>(
+    alloc: Global,
+    desk: &mut Desk1<S>,
+    reader: &mut R,
+    writer: &mut W,
+) -> Result<bool, ToolFault>
+    ensures { RunsTake (R.remaining reader.old) (R.remaining reader.new)
+        (W.contents writer.old) (W.contents writer.new)
+        (standing_of S.is_honest S.landed desk.old) result
+        (standing_of S.is_honest S.landed desk.new) }
+{
+    let mut all_fine = true;
+    for _ in 0..MAX_APDUS {
+        match take_next(alloc, desk, reader, writer) {
+            Ok(Some(fine)) => all_fine = all_fine && fine,
+            Ok(None) => return Ok(all_fine),
+            Err(fault) => return Err(fault),
+        }
+    }
+    match end(alloc, reader) {
+        Ok(_) => Ok(all_fine),
+        Err(fault) => Err(fault),
+    }
+}
+
+/// Takes the next APDU, and answers whether all went well with it, if there was one.
+fn take_next<S: Store, R: Read, W: Write>(
+    alloc: Global,
+    desk: &mut Desk1<S>,
+    reader: &mut R,
+    writer: &mut W,
+) -> Result<Option<bool>, ToolFault>
+    ensures { TakesNext (R.remaining reader.old) (R.remaining reader.new)
+        (W.contents writer.old) (W.contents writer.new)
+        (standing_of S.is_honest S.landed desk.old) result
+        (standing_of S.is_honest S.landed desk.new) }
+{
+    match read_apdu(alloc, reader) {
+        Ok(Some(apdu)) => match take_and_save(alloc, desk, &apdu) {
+            Ok(outcome) => match report(alloc, writer, outcome, desk) {
+                Ok(fine) => Ok(Some(fine)),
+                Err(fault) => Err(fault),
+            },
+            Err(fault) => Err(fault),
+        },
+        Ok(None) => Ok(None),
+        Err(fault) => Err(fault.into()),
+    }
+}
+
+/// Takes an APDU and, if it was taken, saves that.
+fn take_and_save<S: Store>(
+    alloc: Global,
+    desk: &mut Desk1<S>,
+    apdu: &Apdu,
+) -> Result<Outcome, ToolFault>
+    ensures { TakesAndSaves (standing_of S.is_honest S.landed desk.old) apdu.now result
+        (standing_of S.is_honest S.landed desk.new) }
+{
+    match desk.take(alloc, apdu) {
+        Ok(Taking::Taken) => match desk.save(alloc) {
+            Ok(()) => Ok(Outcome::Answered(Taking::Taken)),
+            Err(fault) => Err(fault.into()),
+        },
+        Ok(taking) => Ok(Outcome::Answered(taking)),
+        Err(DeskFault::Core(refusal)) => Ok(Outcome::Refused(refusal)),
+        Err(fault) => Err(fault.into()),
+    }
+}

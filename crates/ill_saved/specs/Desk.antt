@@ -5,6 +5,7 @@ use Rattle.ill_values.specs.Apdu.{IsApdu}
 use Rattle.ill_der.specs.declared.fault.DerFault.{DerFault}
 use Rattle.ill_der.specs.ShortForm.{spelling}
 use Rattle.ill_core.specs.declared.taking.Taking.{Taking}
+use Rattle.ill_core.specs.declared.taking.Taking.TheVariants.{Taken}
 use Rattle.ill_saved.specs.declared.fault.RecordFault.TheVariants as records
 use Rattle.ill_saved.specs.declared.fault.LayoutFault.{LayoutFault}
 use Rattle.ill_saved.specs.declared.side.Side.{Side}
@@ -52,6 +53,14 @@ DeskActs old action (Ok done) new = acts old action ≡ Ok new
 DeskActs old action (Err (Core refusal)) new = (acts old action ≡ Err refusal) × (new ≡ old)
 DeskActs old action (Err OutOfMemory) new = (is_ok (acts old action) ≡ true) × (new ≡ old)
 DeskActs old action (Err other) new = ⊥
+
+-- What a message does to the side. Memory is wanted only for one that would be taken, and want of it
+-- changes nothing.
+abbrev pub DeskTakesApdu : Side → Apdu → Result Taking DeskFault → Side → Type 0
+DeskTakesApdu old a (Ok taking) new = takes old a ≡ (Ok taking, new)
+DeskTakesApdu old a (Err (Core refusal)) new = takes old a ≡ (Err refusal, new)
+DeskTakesApdu old a (Err OutOfMemory) new = ((takes old a).0 ≡ Ok Taken) × (new ≡ old)
+DeskTakesApdu old a (Err other) new = ⊥
 
 -- What bytes do, by what stands at their front: exactly one APDU is handed to the side. Want of
 -- memory changes nothing.

@@ -1,5 +1,6 @@
 -- What a store of one record promises (this profile's own).
-use Rattle.std.specs.Prelude.{◌≡◌, ◌⊎◌, ℕ, ◌+◌, ◌<◌, ◌≤◌, min, true, List, Option, Some, None, is_some, option_map, Result, Ok, Err}
+use Rattle.std.specs.Prelude.{◌≡◌, ◌⊎◌, ℕ, ◌+◌, ◌<◌, ◌≤◌, min, true, List, [], length, codes, Option, Some, None, is_some, option_map, Result, Ok, Err}
+use Rattle.std.specs.Path.{slash, rsplit_once}
 use Rattle.ill_saved.specs.declared.store.StoreFault.{StoreFault}
 use Rattle.ill_saved.specs.declared.store.StoreFault.TheVariants.{Failed, TooLarge, OutOfMemory}
 use Rattle.ill_saved.specs.declared.store.NextCall.{NextCall}
@@ -84,3 +85,39 @@ MemorySaves FailsOld bytes old answer new = (answer ≡ Err Failed) × (new ≡ 
 MemorySaves FailsNew bytes old (Err Failed) new = new ≡ failed (record old { landed = Some bytes })
 MemorySaves FailsNew bytes old (Err OutOfMemory) new = new ≡ called old
 MemorySaves FailsNew bytes old answer new = ⊥
+
+-- ---- a store in a file
+
+-- the path of the file, how many bytes a record may have, and the count of failures
+pub record Filed : Type 0 where
+  pub path : List ℕ
+  pub limit : ℕ
+  pub failures : ℕ
+
+-- A call has failed: the count rises by one, up to the most.
+abbrev pub failed_file : Filed → Filed
+failed_file store = record store { failures = min (store.failures + 1) most_failures }
+
+-- What a load answers, and the store after it: no record that is too long, and a failure only where
+-- it was counted.
+abbrev pub FileLoads : {X : Type 0} → (X → List ℕ) → Filed → Result (Option X) StoreFault → Filed →
+    Type 0
+FileLoads bytes_of old (Ok (Some found)) new = (length (bytes_of found) ≤ old.limit) × (new ≡ old)
+FileLoads bytes_of old (Err Failed) new = new ≡ failed_file old
+FileLoads bytes_of old answer new = new ≡ old
+
+-- What a save answers, and the store after it: it works or fails, and counts a failure.
+abbrev pub FileSaves : Filed → Result (Unit {0}) StoreFault → Filed → Type 0
+FileSaves old (Ok done) new = new ≡ old
+FileSaves old (Err Failed) new = new ≡ failed_file old
+FileSaves old (Err other) new = ⊥
+
+-- The folder that holds the file at a path: what stands before the last slash, `/` where nothing
+-- does, and `.` where there is no slash.
+abbrev pub folder_before : Option (List ℕ × List ℕ) → List ℕ
+folder_before None = codes "."
+folder_before (Some ([], name)) = codes "/"
+folder_before (Some (folder, name)) = folder
+
+abbrev pub folder_of : List ℕ → List ℕ
+folder_of path = folder_before (rsplit_once slash path)

@@ -4,7 +4,7 @@ ghost use Rattle.std.specs.Prelude.{◌≡◌, ◌≤◌, true, length, nat_le, 
 ghost use Rattle.ill_core.specs.Issued.{message};
 ghost use Rattle.ill_saved.specs.Side.{issued_of, idle_of};
 ghost use Rattle.ill_saved.specs.Records.{record_spelling};
-ghost use Rattle.ill_saved.specs.Desk.{DeskOf, IsBacked, DeskActs, DeskTakes, IsOneApdu, Sends, released_after, SaveLands, PlanAfter, IsSaveFault, landed_side, LoadsSide, IsLoadFault, Restarts, RestartLeaves, IsFoundOrIdle, answer_of, store_of, Creates, IsCreateAnswer, Starts, IsStartAnswer, IsWhole, CountsDeskFailure, WasSpelled};
+ghost use Rattle.ill_saved.specs.Desk.{DeskOf, IsBacked, DeskActs, DeskTakes, DeskTakesApdu, IsOneApdu, Sends, released_after, SaveLands, PlanAfter, IsSaveFault, landed_side, LoadsSide, IsLoadFault, Restarts, RestartLeaves, IsFoundOrIdle, answer_of, store_of, Creates, IsCreateAnswer, Starts, IsStartAnswer, IsWhole, CountsDeskFailure, WasSpelled};
 ghost use Rattle.ill_saved.specs.Store.{spent};
 ghost use Rattle.ill_der.specs.ShortForm.{apdu_at};
 
@@ -110,8 +110,17 @@ impl<S: Store> Desk1<S> {
         ensures released { self.new.released ≡ self.old.released }
     {
         let apdu = one_apdu(alloc, bytes)?;
+        self.take(alloc, &apdu)
+    }
+
+    /// Takes a message that was read already.
+    pub fn take(&mut self, alloc: Global, apdu: &Apdu) -> Result<Taking, DeskFault>
+        ensures takes { DeskTakesApdu self.old.live apdu.now result self.new.live }
+        ensures store { self.new.store ≡ self.old.store }
+        ensures released { self.new.released ≡ self.old.released }
+    {
         rows_grow();
-        Ok(self.live.take(alloc, &apdu)?)
+        Ok(self.live.take(alloc, apdu)?)
     }
 
     /// Saves the side, so that all its messages may be sent. After a fault the side, and which

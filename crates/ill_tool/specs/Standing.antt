@@ -1,5 +1,6 @@
 -- How one side with its store stands, and the line that tells it (this profile's own).
 use Rattle.std.specs.Prelude.{◌≡◌, ◌⊎◌, ℕ, Bool, true, false, List, [], ◌++◌, length, take, Option, None, Some, option_map, codes, Result, Ok, Err}
+use Rattle.std.specs.Io.KnownBytes.{Appends}
 use Rattle.ill_core.specs.declared.refusal.Refusal.{Refusal}
 use Rattle.ill_core.specs.declared.taking.Taking.{Taking}
 use Rattle.ill_core.specs.declared.taking.Taking.TheVariants.{Taken, Repeat, Stale, Conflict}
@@ -76,3 +77,9 @@ Reports (Ok outcome) now text (Err Write) = (size : ℕ) × (text ≡ take size 
 Reports (Ok outcome) now text (Err OutOfMemory) = text ≡ []
 Reports (Ok outcome) now text (Err other) = ⊥
 Reports (Err fault) now text result = (result ≡ Err fault) × (text ≡ [])
+
+-- The line of an outcome was written, and whether all went well was answered; or a front of it, where
+-- the writer failed; or nothing, without memory for it.
+abbrev pub Tells : Option (List ℕ) → Option (List ℕ) → Outcome → Standing → Result Bool ToolFault → Type 0
+Tells before after outcome now result =
+    (text : List ℕ) × Appends before after text × Reports (Ok outcome) now text result

@@ -1,10 +1,11 @@
 //! What the words of a command line ask for.
 
-use clap::{Arg, ArgMatches, Command, Error};
+use crate::help;
+use clap::{Arg, ArgAction, ArgMatches, Command, Error};
 use std::alloc::Global;
 
 /// What a command line asks for.
-#[derive(Clone, Copy, Debug, PartialEq, Eq)]
+#[derive(Debug, Drop)]
 pub enum Request<'a> {
     /// Show each APDU of the input: `ill show`.
     Show,
@@ -17,22 +18,94 @@ pub enum Request<'a> {
         /// The transaction qualifier that is wished for.
         transaction: &'a str,
     },
+    /// Begin one side of a transaction in a file: `ill new`.
+    New {
+        /// The path of the file.
+        file: &'a str,
+        /// The role that is wished for.
+        role: &'a str,
+        /// The group qualifier that is wished for.
+        group: &'a str,
+        /// The transaction qualifier that is wished for.
+        transaction: &'a str,
+    },
+    /// Perform one action of the side in a file: `ill act`.
+    Act {
+        /// The path of the file.
+        file: &'a str,
+        /// The day on which it is done, if one is said.
+        today: Option<&'a str>,
+        /// The words of the action.
+        words: Vec<&'a str>,
+    },
+    /// Take the APDUs of the input: `ill take`.
+    Take {
+        /// The path of the file.
+        file: &'a str,
+    },
+    /// Give the bytes of a message: `ill send`.
+    Send {
+        /// The path of the file.
+        file: &'a str,
+        /// The number of the message that is wished for.
+        number: &'a str,
+    },
+    /// Show the side in a file: `ill status`.
+    Status {
+        /// The path of the file.
+        file: &'a str,
+    },
 }
 
 /// Reads the words of a command line, of which the first is the program's name.
 pub fn read_words<'a>(alloc: Global, words: &'a [&'a str]) -> Result<Request<'a>, Error> {
     let matches = command(alloc)?.try_get_matches_from(words)?;
-    Ok(requested(&matches))
+    requested(alloc, &matches)
 }
 
 /// What the matches ask for. clap lets none through that have no command.
-fn requested<'a>(matches: &ArgMatches<'a>) -> Request<'a> {
+fn requested<'a>(alloc: Global, matches: &ArgMatches<'a>) -> Result<Request<'a>, Error> {
     match matches.subcommand() {
-        Some(("simulate", matches)) => Request::Simulate {
+        Some(("simulate", matches)) => Ok(Request::Simulate {
+            group: text(matches, GROUP),
+            transaction: text(matches, TRANSACTION),
+        }),
+        Some(("check", _)) => Ok(Request::Check),
+        Some(("act", matches)) => requested_act(alloc, matches),
+        Some((name, matches)) => Ok(requested_of_file(name, matches)),
+        None => Ok(Request::Show),
+    }
+}
+
+/// The request for an action.
+fn requested_act<'a>(alloc: Global, matches: &ArgMatches<'a>) -> Result<Request<'a>, Error> {
+    let words = matches.get_strs(WORDS).unwrap_or_default();
+    Ok(Request::Act {
+        file: text(matches, FILE),
+        today: matches.get_str(TODAY),
+        words: Vec::from_slice(alloc, words)?,
+    })
+}
+
+/// The request of a command that says no action.
+fn requested_of_file<'a>(name: &str, matches: &ArgMatches<'a>) -> Request<'a> {
+    match name {
+        "new" => Request::New {
+            file: text(matches, FILE),
+            role: text(matches, ROLE),
             group: text(matches, GROUP),
             transaction: text(matches, TRANSACTION),
         },
-        Some(("check", _)) => Request::Check,
+        "take" => Request::Take {
+            file: text(matches, FILE),
+        },
+        "send" => Request::Send {
+            file: text(matches, FILE),
+            number: text(matches, NUMBER),
+        },
+        "status" => Request::Status {
+            file: text(matches, FILE),
+        },
         _ => Request::Show,
     }
 }
@@ -47,12 +120,97 @@ fn text<'a>(matches: &ArgMatches<'a>, id: &str) -> &'a str {
 fn command<'a>(alloc: Global) -> Result<Command<'a>, Error> {
     let command = Command::new(alloc, "ill")
         .about("Interlibrary loan by store-and-forward messages")
-        .version(VERSION)
+        .version(help::VERSION)
         .subcommand_required(true)
-        .after_long_help(SHOW_EXAMPLE)
+        .after_long_help(help::ILL);
+    let command = with_file_commands(alloc, command)?;
+    with_stream_commands(alloc, command)
+}
+
+/// Adds the commands that keep one side in a file.
+fn with_file_commands<'a>(alloc: Global, command: Command<'a>) -> Result<Command<'a>, Error> {
+    let command = command
+        .subcommand(new(alloc)?)?
+        .subcommand(act(alloc)?)?
+        .subcommand(take(alloc)?)?
+        .subcommand(send(alloc)?)?
+        .subcommand(status(alloc)?)?;
+    Ok(command)
+}
+
+/// Adds the commands that read standard input and keep nothing.
+fn with_stream_commands<'a>(alloc: Global, command: Command<'a>) -> Result<Command<'a>, Error> {
+    let command = command
         .subcommand(show(alloc))?
         .subcommand(check(alloc))?
         .subcommand(simulate(alloc)?)?;
+    Ok(command)
+}
+
+/// The command line of `ill new`.
+fn new<'a>(alloc: Global) -> Result<Command<'a>, Error> {
+    let command = Command::new(alloc, "new")
+        .about("Begin one side of a loan, in a file")
+        .long_about(help::NEW)
+        .after_long_help(help::NEW_EXAMPLE)
+        .arg(file(alloc, "The file of the record, which must not be there yet"))?
+        .arg(argument(alloc, ROLE, "requester or responder"))?
+        .arg(argument(alloc, GROUP, help::GROUP))?
+        .arg(argument(alloc, TRANSACTION, help::TRANSACTION))?;
+    Ok(command)
+}
+
+/// The command line of `ill act`.
+fn act<'a>(alloc: Global) -> Result<Command<'a>, Error> {
+    let today = Arg::new(alloc, TODAY)
+        .long("today")
+        .value_name("DAY")
+        .allow_hyphen_values(true)
+        .help("The day of the action, as 20250301; a responder needs it");
+    let words = argument(alloc, WORDS, "The words of the action")
+        .action(ArgAction::Append)
+        .num_args(1..)
+        .allow_hyphen_values(true)
+        .trailing_var_arg(true);
+    let command = Command::new(alloc, "act")
+        .about("Perform one action of the side in a file, and save it")
+        .long_about(help::ACT)
+        .after_long_help(help::ACT_EXAMPLE)
+        .arg(file(alloc, help::FILE))?
+        .arg(today)?
+        .arg(words)?;
+    Ok(command)
+}
+
+/// The command line of `ill take`.
+fn take<'a>(alloc: Global) -> Result<Command<'a>, Error> {
+    let command = Command::new(alloc, "take")
+        .about("Take the APDUs on standard input, and save what they change")
+        .long_about(help::TAKE)
+        .after_long_help(help::TAKE_EXAMPLE)
+        .arg(file(alloc, help::FILE))?;
+    Ok(command)
+}
+
+/// The command line of `ill send`.
+fn send<'a>(alloc: Global) -> Result<Command<'a>, Error> {
+    let number = argument(alloc, NUMBER, "The number of the message, 1 to 255");
+    let command = Command::new(alloc, "send")
+        .about("Write the bytes of one message that the side has issued")
+        .long_about(help::SEND)
+        .after_long_help(help::SEND_EXAMPLE)
+        .arg(file(alloc, help::FILE))?
+        .arg(number.allow_hyphen_values(true))?;
+    Ok(command)
+}
+
+/// The command line of `ill status`.
+fn status<'a>(alloc: Global) -> Result<Command<'a>, Error> {
+    let command = Command::new(alloc, "status")
+        .about("Show the side in a file")
+        .long_about(help::STATUS)
+        .after_long_help(help::STATUS_EXAMPLE)
+        .arg(file(alloc, help::FILE))?;
     Ok(command)
 }
 
@@ -60,98 +218,49 @@ fn command<'a>(alloc: Global) -> Result<Command<'a>, Error> {
 fn show<'a>(alloc: Global) -> Command<'a> {
     Command::new(alloc, "show")
         .about("Show each APDU on standard input")
-        .long_about(SHOW)
-        .after_long_help(SHOW_EXAMPLE)
+        .long_about(help::SHOW)
+        .after_long_help(help::SHOW_EXAMPLE)
 }
 
 /// The command line of `ill check`.
 fn check<'a>(alloc: Global) -> Command<'a> {
     Command::new(alloc, "check")
         .about("Check the APDUs on standard input and count them")
-        .long_about(CHECK)
-        .after_long_help(CHECK_EXAMPLE)
+        .long_about(help::CHECK)
+        .after_long_help(help::CHECK_EXAMPLE)
 }
 
 /// The command line of `ill simulate`.
 fn simulate<'a>(alloc: Global) -> Result<Command<'a>, Error> {
     let command = Command::new(alloc, "simulate")
         .about("Perform a script of both sides of a loan, from standard input")
-        .long_about(SIMULATE)
-        .after_long_help(SIMULATE_EXAMPLE)
-        .arg(qualifier(alloc, GROUP, "The group qualifier of the loan"))?
-        .arg(qualifier(alloc, TRANSACTION, "The transaction qualifier of the loan"))?;
+        .long_about(help::SIMULATE)
+        .after_long_help(help::SIMULATE_EXAMPLE)
+        .arg(argument(alloc, GROUP, help::GROUP))?
+        .arg(argument(alloc, TRANSACTION, help::TRANSACTION))?;
     Ok(command)
 }
 
-/// A qualifier among the arguments, which has to be there.
-fn qualifier<'a>(alloc: Global, id: &'a str, help: &'a str) -> Arg<'a> {
+/// The file of a record.
+fn file<'a>(alloc: Global, help: &'a str) -> Arg<'a> {
+    argument(alloc, FILE, help)
+}
+
+/// An argument that has to be there.
+fn argument<'a>(alloc: Global, id: &'a str, help: &'a str) -> Arg<'a> {
     Arg::new(alloc, id).required(true).help(help)
 }
+
+const FILE: &str = "FILE";
+
+const ROLE: &str = "ROLE";
 
 const GROUP: &str = "GROUP";
 
 const TRANSACTION: &str = "TRANSACTION";
 
-const VERSION: &str = "0.1.0";
+const TODAY: &str = "today";
 
-const SHOW: &str = "Show each APDU on standard input.
+const WORDS: &str = "WORDS";
 
-The APDUs stand one behind another, in the short form, up to the end of the input. For each of them \
-its type, its transaction, its number and its further fields are written to standard output, a line \
-for each.";
-
-const SHOW_EXAMPLE: &str = "Example:
-  $ printf 'f\\020\\200\\001\\001\\241\\010\\201\\002G1\\202\\002T1\\202\\001\\002' | ill show
-  apdu Cancel
-  group G1
-  transaction T1
-  number 2";
-
-const CHECK: &str = "Check the APDUs on standard input and count them.
-
-The APDUs stand one behind another, in the short form, up to the end of the input. Behind the last \
-of them their number is written to standard output. Where one of them has a fault, nothing is \
-written there.";
-
-const CHECK_EXAMPLE: &str = "Example:
-  $ printf 'f\\020\\200\\001\\001\\241\\010\\201\\002G1\\202\\002T1\\202\\001\\002' | ill check
-  1 apdus";
-
-const SIMULATE: &str = "Perform a script of both sides of a loan, from standard input.
-
-The script comes from standard input, as in `ill simulate G1 T1 < FILE`: at most 100,000 lines, of at \
-most 1,024 bytes each. A line says one event; an empty one, and one that begins with `#`, says \
-nothing. For each event a line is written to standard output: its number, what is seen of it, and how \
-both sides stand after it. GROUP and TRANSACTION have 1 to 64 characters of ASCII each, from space to \
-tilde.
-
-The lines of a script:
-  requester request EXPIRY ITEM
-  requester cancel | receive | return
-  requester reply yes | no
-  requester renew WISHED
-  responder TODAY answer RESULT
-  responder TODAY cancel-reply yes | no
-  responder TODAY ship DUE
-  responder TODAY renew-answer yes DUE | no
-  responder TODAY overdue | recall | check-in | expire
-  save SIDE
-  save-fault SIDE old | new
-  restart SIDE
-  send SIDE NUMBER
-  deliver SIDE NUMBER
-  noise SIDE HEX
-
-SIDE is requester or responder. EXPIRY, WISHED, TODAY and DUE are days, such as 20250315; EXPIRY, \
-WISHED and HEX may be `none`. RESULT is conditional, retry, unfilled, locations-provided, \
-will-supply, hold-placed or estimate.
-
-The exit status is 0 where the whole script was performed. It is 2 for arguments that are no \
-qualifiers and for a line that is no event, and 3 where the input cannot be read, the output cannot \
-be written, or memory runs out. The lines of the events before are written.";
-
-const SIMULATE_EXAMPLE: &str = "Example:
-  $ printf 'requester request none Maps\\nsave requester\\nsend requester 1\\n' | ill simulate G1 T1
-  1 done requester PENDING - 0/1 responder IDLE - 0/0
-  2 saved requester PENDING - 1/1 responder IDLE - 0/0
-  3 sent requester PENDING - 1/1 responder IDLE - 0/0";
+const NUMBER: &str = "NUMBER";

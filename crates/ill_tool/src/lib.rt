@@ -1,19 +1,33 @@
-//! The commands of `ill`, each over a reader and a writer.
+//! The commands of `ill`, each over a reader, a writer and a store.
 #![tactic(auto)]
 
+mod act;
+mod action;
 mod check;
 mod command_line;
 mod fault;
+mod file;
+mod help;
 mod input;
 mod lines;
+mod new;
 mod output;
+mod send;
 mod show;
 mod simulate;
+mod standing;
+mod status;
+mod take;
 mod words;
 
+pub use act::run_act;
 pub use check::run_check;
 pub use fault::ToolFault;
 pub use ill_der::DerFault;
+pub use ill_saved::DeskFault;
+pub use send::run_send;
 pub use show::run_show;
 pub use simulate::run_simulate;
+pub use status::run_status;
+pub use take::run_take;
 pub use words::run_words;

@@ -23,7 +23,8 @@ fn push_head(lines: &mut Vec<u8>, apdu: &Apdu) -> Result<(), OutOfMemory>
     push_number(lines, "number", apdu.number)
 }
 
-fn push_id(lines: &mut Vec<u8>, id: &TxnId) -> Result<(), OutOfMemory>
+/// Adds the lines of a transaction id.
+pub fn push_id(lines: &mut Vec<u8>, id: &TxnId) -> Result<(), OutOfMemory>
     ensures { OnOk result (lines.new.items ≡ lines.old.items ++ id_lines id.now) }
 {
     push_line(lines, "group", id.group())?;
@@ -106,7 +107,7 @@ pub fn push_count(lines: &mut Vec<u8>, count: u32) -> Result<(), OutOfMemory>
 
 /// Adds a line: a label, a space and a value.
 #[tactic(auto, unfolding(crate::specs::Lines::line))]
-fn push_line(lines: &mut Vec<u8>, label: &str, value: &[u8]) -> Result<(), OutOfMemory>
+pub fn push_line(lines: &mut Vec<u8>, label: &str, value: &[u8]) -> Result<(), OutOfMemory>
     ensures { OnOk result (lines.new.items ≡ lines.old.items ++ line label.now value.now) }
 {
     lines.extend_from_slice(label.as_bytes())?;

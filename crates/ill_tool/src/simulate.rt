@@ -34,7 +34,7 @@ pub fn run_simulate<R: Read, W: Write>(
 }
 
 /// The transaction id with these qualifiers.
-fn id(alloc: Global, group: &str, transaction: &str) -> Result<TxnId, ToolFault>
+pub fn id(alloc: Global, group: &str, transaction: &str) -> Result<TxnId, ToolFault>
     ensures { GivesId (txn_id_of group.now transaction.now) result }
 {
     match TxnId::new(alloc, group.as_bytes(), transaction.as_bytes()) {

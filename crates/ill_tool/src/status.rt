@@ -1,11 +1,12 @@
 //! The command `status`.
 
-ghost use Rattle.std.specs.Prelude.{◌≡◌, ◌++◌, map, IfOk, OnOk};
+ghost use Rattle.std.specs.Prelude.{◌≡◌, ◌++◌, map, codes, IfOk, OnOk};
 ghost use Rattle.ill_tool.specs.Output.{WritesText};
-ghost use Rattle.ill_saved.specs.Side.{due_date_of};
+ghost use Rattle.ill_core.specs.State.{state_name};
+ghost use Rattle.ill_saved.specs.Side.{state_of, due_date_of};
 ghost use Rattle.ill_world.specs.Trace.{due_text};
 ghost use Rattle.ill_tool.specs.Lines.{line};
-ghost use Rattle.ill_tool.specs.Status.{status_lines, role_word, marks_of, counts_text, spaced_or_dash};
+ghost use Rattle.ill_tool.specs.Status.{status_lines, role_word, marks_of, mark, counts_text, spaced_or_dash};
 
 use crate::fault::ToolFault;
 use crate::lines::{push_id, push_line};
@@ -28,4 +29,96 @@ pub fn run_status<S: Store, W: Write>(
     let mut lines = Vec::new(alloc);
     push_status(&mut lines, desk.side(), desk.released())?;
     write_whole(writer, &lines)
+}
+
+/// Adds the lines of a side.
+#[tactic(auto, unfolding(crate::specs::Status::status_lines))]
+fn push_status(lines: &mut Vec<u8>, side: &Side, released: u8) -> Result<(), OutOfMemory>
+    ensures { OnOk result (lines.new.items ≡ lines.old.items ++ status_lines side.now released) }
+{
+    push_line(lines, "role", role(side).as_bytes())?;
+    push_id(lines, side.txn())?;
+    push_stand(lines, side)?;
+    push_counts(lines, side, released)?;
+    push_marks(lines, side)
+}
+
+/// Adds the lines of the state and the due date, which is a dash where there is none.
+fn push_stand(lines: &mut Vec<u8>, side: &Side) -> Result<(), OutOfMemory>
+    ensures { OnOk result (lines.new.items ≡ lines.old.items
+        ++ (line (codes "state") (state_name (state_of side.now))
+        ++ line (codes "due") (due_text (due_date_of side.now)))) }
+{
+    let state = side.state().to_string(*lines.allocator())?;
+    push_line(lines, "state", state.as_bytes())?;
+    match side.due() {
+        None => push_line(lines, "due", b"-"),
+        Some(day) => push_line(lines, "due", &day.digits()),
+    }
+}
+
+/// Adds the line of how many messages are released and issued, as `1/2`.
+fn push_counts(lines: &mut Vec<u8>, side: &Side, released: u8) -> Result<(), OutOfMemory>
+    ensures { OnOk result (lines.new.items ≡ lines.old.items
+        ++ line (codes "messages") (counts_text side.now released)) }
+{
+    let issued = side.issued_count();
+    let counts = format!(in *lines.allocator(); "{released}/{issued}")?;
+    push_line(lines, "messages", counts.as_bytes())
+}
+
+/// Adds the line of the marks, which is a dash where none holds.
+fn push_marks(lines: &mut Vec<u8>, side: &Side) -> Result<(), OutOfMemory>
+    ensures { OnOk result (lines.new.items ≡ lines.old.items
+        ++ line (codes "marks") (spaced_or_dash (marks_of side.now))) }
+{
+    let alloc = *lines.allocator();
+    let marks = marks(alloc, side)?;
+    if marks.is_empty() {
+        return push_line(lines, "marks", b"-");
+    }
+    let text = marks.join(alloc, " ")?;
+    push_line(lines, "marks", text.as_bytes())
+}
+
+fn role(side: &Side) -> &'static str
+    ensures { result.now ≡ role_word side.now }
+{
+    match side {
+        Side::Requester(_) => "requester",
+        Side::Responder(_) => "responder",
+    }
+}
+
+/// The marks of a side that hold.
+fn marks(alloc: Global, side: &Side) -> Result<Vec<&'static str>, OutOfMemory>
+    ensures { IfOk result (λ marks. map (λ mark. mark.now) marks.items ≡ marks_of side.now) }
+{
+    let mut marks = Vec::new(alloc);
+    match side {
+        Side::Requester(requester) => {
+            push_mark(&mut marks, requester.is_received(), "received")?;
+            push_mark(&mut marks, requester.is_checked_in(), "checked-in")?;
+            push_mark(&mut marks, requester.is_declined(), "declined")?;
+        }
+        Side::Responder(responder) => {
+            push_mark(&mut marks, responder.is_received(), "received")?;
+        }
+    }
+    Ok(marks)
+}
+
+/// Adds a mark, if it holds.
+fn push_mark(
+    marks: &mut Vec<&'static str>,
+    holds: bool,
+    word: &'static str,
+) -> Result<(), OutOfMemory>
+    ensures { OnOk result (map (λ mark. mark.now) marks.new.items
+        ≡ map (λ mark. mark.now) marks.old.items ++ mark holds word.now) }
+{
+    if holds {
+        marks.push(word)?;
+    }
+    Ok(())
 }

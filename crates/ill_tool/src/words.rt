@@ -3,9 +3,11 @@
 use crate::check::run_check;
 use crate::command_line::{Request, read_words};
 use crate::fault::ToolFault;
+use crate::file::{act, new, send, status, take};
 use crate::show::run_show;
 use crate::simulate::run_simulate;
 use clap::error::ErrorKind;
+use ill_saved::DeskFault;
 use std::alloc::Global;
 use std::io::{BufReader, BufWriter, Read, Write};
 use std::rt::Files;
@@ -15,7 +17,7 @@ use std::rt::Files;
 /// The line of a fault is written to `errors`, whose own faults are passed over. What was written
 /// to `writer` before a fault is flushed before that line.
 pub fn run_words<T: Files, R: Read, W: Write, E: Write>(
-    _rt: &T,
+    rt: &T,
     alloc: Global,
     words: &[&str],
     reader: &mut R,
@@ -23,30 +25,51 @@ pub fn run_words<T: Files, R: Read, W: Write, E: Write>(
     errors: &mut E,
 ) -> u8 {
     match read_words(alloc, words) {
-        Ok(request) => finish(perform(alloc, request, reader, writer), errors),
+        Ok(request) => finish(perform(rt, alloc, &request, reader, writer), errors),
         Err(error) => tell(&error, writer, errors),
     }
 }
 
-/// Performs a command, with a buffer round either stream.
-fn perform<R: Read, W: Write>(
+/// Performs a command, with a buffer round either stream, and answers whether all went well.
+fn perform<T: Files, R: Read, W: Write>(
+    rt: &T,
     alloc: Global,
-    request: Request<'_>,
+    request: &Request<'_>,
     reader: &mut R,
     writer: &mut W,
-) -> Result<(), ToolFault> {
+) -> Result<bool, ToolFault> {
     let mut reader = BufReader::new(alloc, reader).map_err(|_| ToolFault::OutOfMemory)?;
     let mut writer = BufWriter::new(alloc, writer).map_err(|_| ToolFault::OutOfMemory)?;
-    let done = match request {
-        Request::Show => run_show(alloc, &mut reader, &mut writer),
-        Request::Check => run_check(alloc, &mut reader, &mut writer),
-        Request::Simulate { group, transaction } => {
-            run_simulate(alloc, group, transaction, &mut reader, &mut writer)
-        }
-    };
+    let done = run(rt, alloc, request, &mut reader, &mut writer);
     writer.flush().map_err(|_| ToolFault::Write)?;
-    done?;
-    Ok(())
+    done
+}
+
+/// Runs the engine of a command.
+fn run<T: Files, R: Read, W: Write>(
+    rt: &T,
+    alloc: Global,
+    request: &Request<'_>,
+    reader: &mut R,
+    writer: &mut W,
+) -> Result<bool, ToolFault> {
+    match request {
+        Request::Show => run_show(alloc, reader, writer).map(|_| true),
+        Request::Check => run_check(alloc, reader, writer).map(|_| true),
+        Request::Simulate { group, transaction } => {
+            run_simulate(alloc, group, transaction, reader, writer).map(|_| true)
+        }
+        Request::New {
+            file,
+            role,
+            group,
+            transaction,
+        } => new(rt, alloc, file, role, group, transaction, writer),
+        Request::Act { file, today, words } => act(rt, alloc, file, *today, words, writer),
+        Request::Take { file } => take(rt, alloc, file, reader, writer),
+        Request::Send { file, number } => send(rt, alloc, file, number, writer),
+        Request::Status { file } => status(rt, alloc, file, writer),
+    }
 }
 
 /// Writes clap's text: help that was asked for to `writer`, and a refusal to `errors`.
@@ -56,35 +79,56 @@ fn tell<W: Write, E: Write>(error: &clap::Error, writer: &mut W, errors: &mut E)
     }
     if error.use_stderr() {
         let _ = write!(errors, "{error}");
-        return ARGUMENTS;
+        return BAD;
     }
     finish(help(error, writer), errors)
 }
 
-fn help<W: Write>(error: &clap::Error, writer: &mut W) -> Result<(), ToolFault> {
+fn help<W: Write>(error: &clap::Error, writer: &mut W) -> Result<bool, ToolFault> {
     write!(writer, "{error}").map_err(|_| ToolFault::Write)?;
-    writer.flush().map_err(|_| ToolFault::Write)
+    writer.flush().map_err(|_| ToolFault::Write)?;
+    Ok(true)
 }
 
-/// The exit status of a command line that was refused.
-const ARGUMENTS: u8 = 2;
+/// The exit status of a command that was refused, or of which a message was refused or in conflict.
+const REFUSED: u8 = 1;
+
+/// The exit status after words, input or a record that are none.
+const BAD: u8 = 2;
+
+/// The exit status where the machine could not do what was asked.
+const FAILED: u8 = 3;
 
 /// Writes the line of a fault, if there is one, and answers the exit status.
-fn finish<E: Write>(outcome: Result<(), ToolFault>, errors: &mut E) -> u8 {
+fn finish<E: Write>(outcome: Result<bool, ToolFault>, errors: &mut E) -> u8 {
     match outcome {
-        Ok(()) => 0,
+        Ok(true) => 0,
+        Ok(false) => REFUSED,
         Err(fault) => {
             let _ = writeln!(errors, "ill: {fault}");
-            status(fault)
+            status_after(fault)
         }
     }
 }
 
-/// The exit status after a fault: 2 for what the words or the input say, 3 for what the machine could
-/// not do.
-fn status(fault: ToolFault) -> u8 {
+/// The exit status after a fault.
+fn status_after(fault: ToolFault) -> u8 {
     match fault {
-        ToolFault::Arguments | ToolFault::Der(_) | ToolFault::TooMany | ToolFault::Script(_) => 2,
-        ToolFault::Read | ToolFault::Write | ToolFault::OutOfMemory => 3,
+        ToolFault::Arguments | ToolFault::Der(_) | ToolFault::TooMany | ToolFault::Script(_) => BAD,
+        ToolFault::Desk(fault) => status_after_desk(fault),
+        ToolFault::Read | ToolFault::Write | ToolFault::OutOfMemory => FAILED,
+    }
+}
+
+/// The exit status after a fault of a side or its record.
+fn status_after_desk(fault: DeskFault) -> u8 {
+    match fault {
+        DeskFault::Core(_)
+        | DeskFault::NoSuchMessage
+        | DeskFault::NotSaved
+        | DeskFault::Exists
+        | DeskFault::NoRecord => REFUSED,
+        DeskFault::Bytes(_) | DeskFault::Trailing | DeskFault::Saved(_) => BAD,
+        DeskFault::Store(_) | DeskFault::OutOfMemory => FAILED,
     }
 }

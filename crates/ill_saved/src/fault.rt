@@ -78,16 +78,16 @@ pub enum DeskFault {
     #[error("trailing")]
     Trailing,
     /// The side has issued no message with this number.
-    #[error("no such message")]
+    #[error("no-such-message")]
     NoSuchMessage,
     /// The message was issued but is not saved yet, so that it may not be sent.
-    #[error("not saved")]
+    #[error("not-saved")]
     NotSaved,
     /// A new desk was asked for, but the store has a record.
     #[error("exists")]
     Exists,
     /// The desk was to start from the store's record, but the store has none.
-    #[error("no record")]
+    #[error("no-record")]
     NoRecord,
     /// The store did not load or save. This is never `StoreFault::OutOfMemory`.
     #[error("store {0}")]

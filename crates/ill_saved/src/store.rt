@@ -15,7 +15,7 @@ pub enum StoreFault {
     #[error("failed")]
     Failed,
     /// The record is longer than the store's limit. Only `load` gives this.
-    #[error("too large")]
+    #[error("too-large")]
     TooLarge,
     /// Memory ran out. What has landed is as before.
     #[error("memory")]

@@ -12,34 +12,57 @@ use std::rt::Files;
 #[derive(Drop)]
 pub struct Failing<'a, R: Files> {
     rt: &'a R,
-    left: Rc<Cell<u32>>,
+    left: Left,
 }
 
 /// One of these files, which is open.
 #[derive(Drop)]
 pub struct FailingFile<F: Drop> {
     file: F,
-    left: Rc<Cell<u32>>,
+    left: Left,
+}
+
+/// How many calls are left before the one that fails, and how that fails.
+#[derive(Drop)]
+struct Left {
+    calls: Rc<Cell<u32>>,
+    fault: ErrorKind,
 }
 
 impl<'a, R: Files> Failing<'a, R> {
-    /// These files, whose call fails before which so many are made.
-    pub fn after(rt: &'a R, alloc: Global, calls: u32) -> Result<Failing<'a, R>, AllocError> {
+    /// These files, whose call fails with this fault before which so many are made.
+    pub fn after(
+        rt: &'a R,
+        alloc: Global,
+        calls: u32,
+        fault: ErrorKind,
+    ) -> Result<Failing<'a, R>, AllocError> {
+        let calls = Rc::new(alloc, Cell::new(calls))?;
         Ok(Failing {
             rt,
-            left: Rc::new(alloc, Cell::new(calls))?,
+            left: Left { calls, fault },
         })
     }
 }
 
-/// Passes a call, or fails it.
-fn pass(left: &Cell<u32>) -> io::Result<()> {
-    let calls = left.get();
-    left.set(calls.wrapping_sub(1));
-    if calls == 0 {
-        Err(Error::from(ErrorKind::Other))
-    } else {
-        Ok(())
+impl Left {
+    /// Passes a call, or fails it.
+    fn pass(&self) -> io::Result<()> {
+        let calls = self.calls.get();
+        self.calls.set(calls.wrapping_sub(1));
+        if calls == 0 {
+            Err(Error::from(self.fault))
+        } else {
+            Ok(())
+        }
+    }
+
+    /// The same count, for another that makes calls.
+    fn share(&self) -> Result<Left, AllocError> {
+        Ok(Left {
+            calls: self.calls.clone()?,
+            fault: self.fault,
+        })
     }
 }
 
@@ -49,10 +72,10 @@ impl<'a, R: Files> Files for Failing<'a, R> {
     type Dir = R::Dir;
 
     fn open_file(&self, how: &OpenOptions, path: &str) -> io::Result<FailingFile<R::File>> {
-        pass(&self.left)?;
+        self.left.pass()?;
         Ok(FailingFile {
             file: self.rt.open_file(how, path)?,
-            left: self.left.clone()?,
+            left: self.left.share()?,
         })
     }
 
@@ -73,12 +96,12 @@ impl<'a, R: Files> Files for Failing<'a, R> {
     }
 
     fn rename(&self, from: &str, to: &str) -> io::Result<()> {
-        pass(&self.left)?;
+        self.left.pass()?;
         self.rt.rename(from, to)
     }
 
     fn remove_file(&self, path: &str) -> io::Result<()> {
-        pass(&self.left)?;
+        self.left.pass()?;
         self.rt.remove_file(path)
     }
 
@@ -105,7 +128,7 @@ impl<F: OpenFile + Drop> OpenFile for FailingFile<F> {
     }
 
     fn sync_all(&self) -> io::Result<()> {
-        pass(&self.left)?;
+        self.left.pass()?;
         self.file.sync_all()
     }
 
@@ -116,14 +139,14 @@ impl<F: OpenFile + Drop> OpenFile for FailingFile<F> {
 
 impl<F: Read + Drop> Read for FailingFile<F> {
     fn read(&mut self, buf: &mut [u8]) -> io::Result<usize> {
-        pass(&self.left)?;
+        self.left.pass()?;
         self.file.read(buf)
     }
 }
 
 impl<F: Write + Drop> Write for FailingFile<F> {
     fn write(&mut self, buf: &[u8]) -> io::Result<usize> {
-        pass(&self.left)?;
+        self.left.pass()?;
         self.file.write(buf)
     }
 

@@ -85,13 +85,15 @@ impl<'a, R: Files> Folder<'a, R> {
         Some(())
     }
 
-    /// `failing NAME COUNT load` or `failing NAME COUNT save BYTES`: with a store of its own, whose
-    /// call of the system fails before which so many are made.
+    /// `failing NAME COUNT FAULT load`, or `save BYTES` in place of `load`: with a store of its own, whose
+    /// call of the system fails with this fault before which so many are made.
     fn failing(&mut self, line: &mut Line, names: &Names, words: &str) -> Option<()> {
         let (name, words) = words.split_once(' ')?;
         let (count, words) = words.split_once(' ')?;
+        let (fault, words) = words.split_once(' ')?;
         let (call, bytes) = words.split_once(' ').unwrap_or((words, ""));
-        let files = Failing::after(self.rt, self.alloc, count.parse::<u32>().ok()?).ok()?;
+        let count = count.parse::<u32>().ok()?;
+        let files = Failing::after(self.rt, self.alloc, count, fault_of(fault)?).ok()?;
         let path = self.path(name)?;
         let mut store = FileStore::at(&files, self.alloc, path.as_str(), 100).ok()?;
         match call {
@@ -172,6 +174,15 @@ impl<'a, R: Files> Folder<'a, R> {
 
     fn bytes_of(&self, path: &str) -> io::Result<Vec<u8>> {
         fs::read(&(self.rt, self.alloc), path)
+    }
+}
+
+fn fault_of(word: &str) -> Option<ErrorKind> {
+    match word {
+        "fault" => Some(ErrorKind::Other),
+        "not-found" => Some(ErrorKind::NotFound),
+        "memory" => Some(ErrorKind::OutOfMemory),
+        _ => None,
     }
 }
 

@@ -68,7 +68,7 @@ read.
 
 The exit status is 0 where the side is saved, 1 with `exists`, 2 for wrong
 arguments, a ROLE, GROUP or TRANSACTION that is none too, and 3 with `store
-failed`, `write` or `memory`.";
+failed`, `store too-large`, `write` or `memory`.";
 
 pub const NEW_EXAMPLE: &str = "Example:
   $ ill new box requester G1 T1
@@ -106,9 +106,9 @@ locations-provided, will-supply, hold-placed or estimate. ITEM is all the words
 that remain, of 200 bytes at most. None of the words may hold a space, so a
 title has no quotes round it: `request none War and Peace`.
 
-A responder's action needs --today, before the words; a requester's has no use
-for it. One action issues one message, and the messages of a side are numbered
-1, 2, 3, up to 255.
+A responder's action needs --today; a requester's has no use for it. It stands
+before the words: behind them it would be one of them, as of a title. One action
+issues one message, and the messages of a side are numbered 1, 2, 3, up to 255.
 
 The action is saved in FILE before a line of it is written to standard output:
   OUTCOME STATE DUE RELEASED/ISSUED

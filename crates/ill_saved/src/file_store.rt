@@ -99,12 +99,21 @@ impl<'a, R: Files> FileStore<'a, R> {
     /// disk has what was written.
     fn replace(&self, bytes: &[u8]) -> io::Result<()> {
         self.remove_new()?;
-        self.write_new(bytes)?;
-        fs::rename(self.rt, self.new_path.as_str(), self.path.as_str())?;
+        if let Err(error) = self.place(bytes) {
+            let _ = self.remove_new();
+            return Err(error);
+        }
         self.flush_folder()
     }
 
-    /// Removes what an earlier save may have left. So no link that stands there is written through.
+    /// Puts the bytes in the place of the record.
+    fn place(&self, bytes: &[u8]) -> io::Result<()> {
+        self.write_new(bytes)?;
+        fs::rename(self.rt, self.new_path.as_str(), self.path.as_str())
+    }
+
+    /// Removes what this save or an earlier one has left. So no link that stands there is written
+    /// through.
     fn remove_new(&self) -> io::Result<()> {
         match fs::remove_file(self.rt, self.new_path.as_str()) {
             Err(error) if error.kind() != ErrorKind::NotFound => Err(error),
@@ -115,8 +124,18 @@ impl<'a, R: Files> FileStore<'a, R> {
     /// Writes the bytes to a file that was not there.
     fn write_new(&self, bytes: &[u8]) -> io::Result<()> {
         let mut file = File::create_new(self.rt, self.new_path.as_str())?;
+        self.keep_permissions(&file)?;
         file.write_all(bytes)?;
         file.sync_all()
+    }
+
+    /// Lets those and no others read and write a file who may do so with the record that is there.
+    fn keep_permissions(&self, file: &R::File) -> io::Result<()> {
+        match fs::metadata(self.rt, self.path.as_str()) {
+            Ok(old) => file.set_permissions(old.permissions()),
+            Err(error) if error.kind() == ErrorKind::NotFound => Ok(()),
+            Err(error) => Err(error),
+        }
     }
 
     /// Waits until the disk has the new name of the file. A folder that may not be read is passed

@@ -2,7 +2,7 @@
 
 use std::alloc::{AllocError, Allocator, Global};
 use std::cell::Cell;
-use std::fs::{Metadata, OpenFile, OpenOptions};
+use std::fs::{Metadata, OpenFile, OpenOptions, Permissions};
 use std::io;
 use std::io::{Error, ErrorKind, Read, Seek, SeekFrom, Write};
 use std::rc::Rc;
@@ -84,6 +84,7 @@ impl<'a, R: Files> Files for Failing<'a, R> {
     }
 
     fn metadata(&self, path: &str) -> io::Result<Metadata> {
+        self.left.pass()?;
         self.rt.metadata(path)
     }
 
@@ -134,6 +135,11 @@ impl<F: OpenFile + Drop> OpenFile for FailingFile<F> {
 
     fn sync_data(&self) -> io::Result<()> {
         self.file.sync_data()
+    }
+
+    fn set_permissions(&self, permissions: Permissions) -> io::Result<()> {
+        self.left.pass()?;
+        self.file.set_permissions(permissions)
     }
 }
 

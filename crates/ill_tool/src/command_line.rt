@@ -63,55 +63,40 @@ pub fn read_words<'a>(alloc: Global, words: &'a [&'a str]) -> Result<Request<'a>
     requested(alloc, &matches)
 }
 
-/// What the matches ask for. clap lets none through that have no command.
+/// What the matches ask for. clap lets none through that have no command, or another one.
 fn requested<'a>(alloc: Global, matches: &ArgMatches<'a>) -> Result<Request<'a>, Error> {
-    match matches.subcommand() {
-        Some(("simulate", matches)) => Ok(Request::Simulate {
-            group: text(matches, GROUP),
-            transaction: text(matches, TRANSACTION),
-        }),
-        Some(("check", _)) => Ok(Request::Check),
-        Some(("act", matches)) => requested_act(alloc, matches),
-        Some((name, matches)) => Ok(requested_of_file(name, matches)),
-        None => Ok(Request::Show),
-    }
-}
-
-/// The request for an action.
-fn requested_act<'a>(alloc: Global, matches: &ArgMatches<'a>) -> Result<Request<'a>, Error> {
-    let words = matches.get_strs(WORDS).unwrap_or_default();
-    Ok(Request::Act {
-        file: text(matches, FILE),
-        today: matches.get_str(TODAY),
-        words: Vec::from_slice(alloc, words)?,
+    let Some((name, matches)) = matches.subcommand() else {
+        return Ok(Request::Show);
+    };
+    let file = text(matches, FILE);
+    let group = text(matches, GROUP);
+    let transaction = text(matches, TRANSACTION);
+    Ok(match name {
+        "new" => Request::New {
+            file,
+            role: text(matches, ROLE),
+            group,
+            transaction,
+        },
+        "act" => Request::Act {
+            file,
+            today: matches.get_str(TODAY),
+            words: Vec::from_slice(alloc, matches.get_strs(WORDS).unwrap_or_default())?,
+        },
+        "take" => Request::Take { file },
+        "send" => Request::Send {
+            file,
+            number: text(matches, NUMBER),
+        },
+        "status" => Request::Status { file },
+        "check" => Request::Check,
+        "simulate" => Request::Simulate { group, transaction },
+        _ => Request::Show,
     })
 }
 
-/// The request of a command that says no action.
-fn requested_of_file<'a>(name: &str, matches: &ArgMatches<'a>) -> Request<'a> {
-    match name {
-        "new" => Request::New {
-            file: text(matches, FILE),
-            role: text(matches, ROLE),
-            group: text(matches, GROUP),
-            transaction: text(matches, TRANSACTION),
-        },
-        "take" => Request::Take {
-            file: text(matches, FILE),
-        },
-        "send" => Request::Send {
-            file: text(matches, FILE),
-            number: text(matches, NUMBER),
-        },
-        "status" => Request::Status {
-            file: text(matches, FILE),
-        },
-        _ => Request::Show,
-    }
-}
-
-/// The text of an argument. clap lets no matches through that lack one, and an empty text is no
-/// qualifier.
+/// The text of an argument, or an empty one if the command has no such argument. clap lets no matches
+/// through that lack one that it has.
 fn text<'a>(matches: &ArgMatches<'a>, id: &str) -> &'a str {
     matches.get_str(id).unwrap_or_default()
 }

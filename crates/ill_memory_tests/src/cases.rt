@@ -2,7 +2,7 @@
 
 use crate::judging::Outcome;
 use crate::words::Words;
-use crate::{codec, desks, records, sides, starts, stores, values, worlds};
+use crate::{codec, desks, records, sides, starts, stores, tool, values, worlds};
 use std::alloc::Global;
 
 /// What comes of the case of these words, or `None` where they are none.
@@ -19,6 +19,7 @@ pub fn outcome(alloc: Global, words: &mut Words<'_>) -> Option<Outcome> {
             Some(("Desk1", call)) => desk_outcome(alloc, call, words),
             Some(("record", call)) => record_outcome(alloc, call, words),
             Some(("World", call)) => world_outcome(alloc, call, words),
+            Some(("tool", call)) => tool::outcome(alloc, call, words),
             _ => value_outcome(alloc, call),
         },
     }

@@ -16,6 +16,7 @@ mod shown;
 mod sides;
 mod starts;
 mod stores;
+mod tool;
 mod values;
 mod words;
 mod worlds;

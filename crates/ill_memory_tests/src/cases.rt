@@ -1,12 +1,18 @@
 //! The cases by their words.
 
+use crate::files::Folder;
 use crate::judging::Outcome;
 use crate::words::Words;
 use crate::{codec, desks, records, sides, starts, stores, tool, values, worlds};
 use std::alloc::Global;
+use std::rt::Files;
 
 /// What comes of the case of these words, or `None` where they are none.
-pub fn outcome(alloc: Global, words: &mut Words<'_>) -> Option<Outcome> {
+pub fn outcome<R: Files>(
+    alloc: Global,
+    folder: &Folder<'_, R>,
+    words: &mut Words<'_>,
+) -> Option<Outcome> {
     let _memory = words.word()?;
     match words.word()? {
         "requester" => sides::requester(alloc, words),
@@ -16,6 +22,7 @@ pub fn outcome(alloc: Global, words: &mut Words<'_>) -> Option<Outcome> {
         call => match call.split_once("::") {
             Some(("codec", call)) => codec_outcome(alloc, call),
             Some(("MemoryStore", call)) => store_outcome(alloc, call, words),
+            Some(("FileStore", call)) => folder.outcome(alloc, call),
             Some(("Desk1", call)) => desk_outcome(alloc, call, words),
             Some(("record", call)) => record_outcome(alloc, call, words),
             Some(("World", call)) => world_outcome(alloc, call, words),

@@ -8,8 +8,9 @@ use crate::starts::create;
 use crate::stores::store;
 use crate::words::Words;
 use ill_core::{Deed, Refusal, Taking, Wish};
+use ill_der::decode;
 use ill_saved::{Action, Desk1, DeskFault, MemoryStore, NextCall, StoreFault, encode_record};
-use ill_values::{AnswerResult, Day, Item, Number};
+use ill_values::{AnswerResult, Apdu, Day, Item, Number};
 use std::alloc::Global;
 
 /// A Shipped of the responder, until 15 March 2025.
@@ -30,6 +31,8 @@ enum Call<'a> {
     Act(&'a Action),
     /// The answer is Taken.
     TakeBytes(&'a [u8]),
+    /// The answer is Taken.
+    Take(&'a Apdu),
     Save,
     Restart,
     /// The first message has these bytes.
@@ -44,6 +47,14 @@ struct Case<'a> {
     landed: &'a [u8],
 }
 
+/// What some calls are given.
+#[derive(Drop)]
+struct Given {
+    action: Action,
+    /// The message of the bytes that `take_bytes` is given.
+    apdu: Apdu,
+}
+
 /// What a desk keeps, in memory and in its store.
 #[derive(Clone, Copy)]
 struct Keeping<'a> {
@@ -56,7 +67,10 @@ struct Keeping<'a> {
 pub fn outcome(alloc: Global, call: &str, words: &mut Words<'_>) -> Option<Outcome> {
     let role = Role::read(words)?;
     let plan = words.plan().unwrap_or(NextCall::Works);
-    let action = action_in(call, role)?;
+    let given = Given {
+        action: action_in(call, role)?,
+        apdu: decode(alloc, message_to(role)).ok()?.0,
+    };
     let mut desk = desk(alloc, role)?;
     let live = encode_record(alloc, desk.side()).ok()?;
     let had = Keeping {
@@ -65,7 +79,7 @@ pub fn outcome(alloc: Global, call: &str, words: &mut Words<'_>) -> Option<Outco
         landed: role.record(),
     };
     desk.set_next(plan);
-    match case_of(call, role, plan, &action, had) {
+    match case_of(call, role, plan, &given, had) {
         Some(case) => performed(alloc, &mut desk, case, had),
         None => shows(alloc, &mut desk),
     }
@@ -98,18 +112,19 @@ fn case_of<'a>(
     call: &str,
     role: Role,
     plan: NextCall,
-    action: &'a Action,
+    given: &'a Given,
     had: Keeping<'a>,
 ) -> Option<Case<'a>> {
     let failed = Some(DeskFault::Store(StoreFault::Failed));
     let (call, fault, landed) = match call {
-        "act" => (Call::Act(action), None, had.landed),
+        "act" => (Call::Act(&given.action), None, had.landed),
         "act-of-other-role" => (
-            Call::Act(action),
+            Call::Act(&given.action),
             Some(DeskFault::Core(Refusal::WrongRole)),
             had.landed,
         ),
         "take_bytes" => (Call::TakeBytes(message_to(role)), None, had.landed),
+        "take" => (Call::Take(&given.apdu), None, had.landed),
         "save" => match plan {
             NextCall::Works => (Call::Save, None, had.live),
             NextCall::FailsOld => (Call::Save, failed, had.landed),
@@ -187,6 +202,7 @@ fn answer_of(
     match call {
         Call::Act(action) => desk.act(alloc, action)?,
         Call::TakeBytes(bytes) => return Ok(desk.take_bytes(alloc, bytes)? == Taking::Taken),
+        Call::Take(apdu) => return Ok(desk.take(alloc, apdu)? == Taking::Taken),
         Call::Save => desk.save(alloc)?,
         Call::Restart => desk.restart(alloc)?,
         Call::Message(bytes) => {

@@ -2,12 +2,14 @@
 //! that begin with `#`; each case is printed with what came of it.
 //!
 //! The first word of a case is `grows` where the call takes memory and `quiet` where it takes none; it
-//! is for `tools/want-of-memory`, which has a shim refuse what a call allocates between its marks.
+//! is for `tools/want-of-memory`, which has a shim refuse what a call allocates between its marks. Files
+//! stand in a folder that is made for them below the system's for temporary files, and removed at the end.
 #![tactic(auto)]
 
 mod cases;
 mod codec;
 mod desks;
+mod files;
 mod judging;
 mod marks;
 mod messages;
@@ -21,17 +23,47 @@ mod values;
 mod words;
 mod worlds;
 
-use std::io;
+use files::Folder;
+use std::alloc::Global;
+use std::io::{Error, ErrorKind};
+use std::rt::{Env, Files};
+use std::{env, fs, io};
 use words::Words;
 
 fn main(rt: HostRuntime) -> io::Result<()> {
     let alloc = rt.alloc();
+    let path = make_folder(&rt, alloc)?;
+    let folder = Folder::new(&rt, path.clone()?);
+    let performed = perform_lines(&rt, alloc, &folder);
+    fs::remove_dir_all(&rt, path.as_str())?;
+    performed
+}
+
+/// Makes a folder that was not there.
+fn make_folder<R: Files + Env + AllocGlobal>(rt: &R, alloc: Global) -> io::Result<String> {
+    let below = env::temp_dir(rt)?;
+    for number in 0..u16::MAX {
+        let path = format!(in alloc; "{}/ill_memory_tests.{number}", below.as_str())?;
+        match fs::create_dir(rt, path.as_str()) {
+            Ok(()) => return Ok(path),
+            Err(error) if error.kind() == ErrorKind::AlreadyExists => {}
+            Err(error) => return Err(error),
+        }
+    }
+    Err(Error::from(ErrorKind::AlreadyExists))
+}
+
+fn perform_lines<R: Files>(
+    rt: &(impl Input + Print),
+    alloc: Global,
+    folder: &Folder<'_, R>,
+) -> io::Result<()> {
     for line in rt.lines(alloc) {
         let line = line?;
         if line.as_str().starts_with('#') {
             continue;
         }
-        match cases::outcome(alloc, &mut Words::new(line.as_str(), ' ')) {
+        match cases::outcome(alloc, folder, &mut Words::new(line.as_str(), ' ')) {
             Some(outcome) => println!(rt; "{line}: {outcome:?}")?,
             None => println!(rt; "{line}: no such case")?,
         }

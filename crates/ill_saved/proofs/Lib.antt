@@ -5,3 +5,4 @@ pub mod Fields
 pub mod RecordLaws
 pub mod Sides
 pub mod Desks
+pub mod Files

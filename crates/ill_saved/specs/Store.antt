@@ -1,6 +1,6 @@
 -- What a store of one record promises (this profile's own).
 use Rattle.std.specs.Prelude.{◌≡◌, ◌⊎◌, ℕ, ◌+◌, ◌<◌, ◌≤◌, min, true, List, [], length, codes, Option, Some, None, is_some, option_map, Result, Ok, Err}
-use Rattle.std.specs.Path.{slash, rsplit_once}
+use Rattle.std.specs.Path.{path_parent}
 use Rattle.ill_saved.specs.declared.store.StoreFault.{StoreFault}
 use Rattle.ill_saved.specs.declared.store.StoreFault.TheVariants.{Failed, TooLarge, OutOfMemory}
 use Rattle.ill_saved.specs.declared.store.NextCall.{NextCall}
@@ -112,12 +112,11 @@ FileSaves old (Ok done) new = new ≡ old
 FileSaves old (Err Failed) new = new ≡ failed_file old
 FileSaves old (Err other) new = ⊥
 
--- The folder that holds the file at a path: what stands before the last slash, `/` where nothing
--- does, and `.` where there is no slash.
-abbrev pub folder_before : Option (List ℕ × List ℕ) → List ℕ
-folder_before None = codes "."
-folder_before (Some ([], name)) = codes "/"
-folder_before (Some (folder, name)) = folder
+-- the folder that holds the file at a path: its parent, or `.` where it has none
+abbrev pub folder_named : Option (List ℕ) → List ℕ
+folder_named None = codes "."
+folder_named (Some []) = codes "."
+folder_named (Some folder) = folder
 
 abbrev pub folder_of : List ℕ → List ℕ
-folder_of path = folder_before (rsplit_once slash path)
+folder_of path = folder_named (path_parent path)

@@ -7,12 +7,12 @@ ghost use Rattle.ill_saved.specs.Store.{Filed, FileLoads, FileSaves, folder_of, 
 use crate::store::{Store, StoreFault};
 use ill_values::OutOfMemory;
 use std::alloc::Global;
-use std::fs;
 use std::fs::{File, OpenFile};
-use std::io;
 use std::io::{ErrorKind, Read, Write};
 use std::marker::Model;
+use std::path::Path;
 use std::rt::Files;
+use std::{fs, io};
 
 /// A store in a file, for a record that outlives the program.
 ///
@@ -133,10 +133,9 @@ impl<'a, R: Files> FileStore<'a, R> {
 fn folder_of(path: &str) -> &str
     ensures { result.now ≡ folder_of path.now }
 {
-    match path.rsplit_once('/') {
-        Some(("", _)) => "/",
-        Some((folder, _)) => folder,
-        None => ".",
+    match Path::new(path).parent() {
+        Some(folder) if !folder.as_str().is_empty() => folder.as_str(),
+        _ => ".",
     }
 }
 

@@ -5,13 +5,16 @@ ghost use Rattle.ill_saved.specs.Side.{idle_of};
 
 use crate::calls::{BytesCall, WordsCall};
 use crate::desks;
+use crate::files::Folder;
 use crate::line::Line;
+use crate::names::Names;
 use crate::standing::Standing;
 use crate::words::{store_words, write_fault};
 use ill_core::{Requester, Responder, State};
 use ill_saved::{Desk1, DeskFault, MemoryStore, NextCall, Side, Store};
 use ill_values::TxnId;
 use std::alloc::Global;
+use std::rt::Files;
 
 /// What answers calls. Nothing is answered where the words are none, or what is called lies not there.
 pub trait Answers {
@@ -20,17 +23,21 @@ pub trait Answers {
 
     /// Performs a call that takes bytes, and writes its answer.
     fn call_with(&mut self, line: &mut Line, call: BytesCall, bytes: &[u8]) -> Option<()>;
+
+    /// Performs a call on files, and writes its answer.
+    fn call_files(&mut self, line: &mut Line, names: &Names, words: &str) -> Option<()>;
 }
 
-/// A store, or a desk.
+/// A store, or a desk; and a folder.
 #[derive(Drop)]
-pub struct Bench {
+pub struct Bench<'a, R: Files> {
     alloc: Global,
     store: Option<MemoryStore>,
     desk: Option<Desk1<MemoryStore>>,
+    folder: Folder<'a, R>,
 }
 
-impl Answers for Bench {
+impl<'a, R: Files> Answers for Bench<'a, R> {
     fn call(&mut self, line: &mut Line, call: WordsCall, words: &str) -> Option<()> {
         match call {
             WordsCall::Store => self.lay_store(line),
@@ -48,19 +55,25 @@ impl Answers for Bench {
         match call {
             BytesCall::Save => self.save(line, bytes),
             BytesCall::Take => desks::take(self.alloc, line, self.desk.as_mut()?, bytes),
+            BytesCall::Hand => desks::hand(self.alloc, line, self.desk.as_mut()?, bytes),
             BytesCall::Live => desks::live(self.alloc, line, self.desk.as_ref()?, bytes),
             BytesCall::Messages => desks::messages(self.alloc, line, self.desk.as_ref()?, bytes),
         }
     }
+
+    fn call_files(&mut self, line: &mut Line, names: &Names, words: &str) -> Option<()> {
+        self.folder.call(line, names, words)
+    }
 }
 
-impl Bench {
-    /// A bench with nothing on it.
-    pub fn new(alloc: Global) -> Bench {
+impl<'a, R: Files> Bench<'a, R> {
+    /// A bench with nothing on it but this folder.
+    pub fn new(alloc: Global, folder: Folder<'a, R>) -> Bench<'a, R> {
         Bench {
             alloc,
             store: None,
             desk: None,
+            folder,
         }
     }
 

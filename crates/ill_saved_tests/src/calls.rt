@@ -14,6 +14,7 @@ pub enum CaseCall {
     Record(RecordCall),
     Bytes(BytesCall),
     Words(WordsCall),
+    File,
 }
 
 /// What bytes are as a record.
@@ -31,6 +32,8 @@ pub enum RecordCall {
 pub enum BytesCall {
     Save,
     Take,
+    /// The bytes are read first, and the message is handed over.
+    Hand,
     Live,
     Messages,
 }
@@ -48,7 +51,7 @@ pub enum WordsCall {
     Restart,
 }
 
-const CALLS: [(&str, Call); 18] = [
+const CALLS: [(&str, Call); 20] = [
     ("", Call::Note),
     ("#", Call::Note),
     ("let", Call::Let),
@@ -57,6 +60,7 @@ const CALLS: [(&str, Call); 18] = [
     ("fronts", Call::Case(CaseCall::Record(RecordCall::Fronts))),
     ("save", Call::Case(CaseCall::Bytes(BytesCall::Save))),
     ("take", Call::Case(CaseCall::Bytes(BytesCall::Take))),
+    ("hand", Call::Case(CaseCall::Bytes(BytesCall::Hand))),
     ("live", Call::Case(CaseCall::Bytes(BytesCall::Live))),
     ("messages", Call::Case(CaseCall::Bytes(BytesCall::Messages))),
     ("store", Call::Case(CaseCall::Words(WordsCall::Store))),
@@ -67,6 +71,7 @@ const CALLS: [(&str, Call); 18] = [
     ("act", Call::Case(CaseCall::Words(WordsCall::Act))),
     ("message", Call::Case(CaseCall::Words(WordsCall::Message))),
     ("restart", Call::Case(CaseCall::Words(WordsCall::Restart))),
+    ("file", Call::Case(CaseCall::File)),
 ];
 
 /// What this word says.

@@ -6,6 +6,7 @@ use crate::records::write_side;
 use crate::standing::Standing;
 use crate::words::{taking_word, write_fault};
 use ill_core::Taking;
+use ill_der::decode;
 use ill_saved::{Desk1, DeskFault, MemoryStore};
 use ill_values::Number;
 use std::alloc::Global;
@@ -72,16 +73,39 @@ pub fn take(
 ) -> Option<()> {
     let before = Standing::of(alloc, desk)?;
     let answer = desk.take_bytes(alloc, bytes);
-    let after = Standing::of(alloc, desk)?;
+    write_taking(line, answer, &before, &Standing::of(alloc, desk)?);
+    Some(())
+}
+
+/// `hand BYTES`: a message is read from them, and the desk takes it.
+pub fn hand(
+    alloc: Global,
+    line: &mut Line,
+    desk: &mut Desk1<MemoryStore>,
+    bytes: &[u8],
+) -> Option<()> {
+    let before = Standing::of(alloc, desk)?;
+    let (apdu, _) = decode(alloc, bytes).ok()?;
+    let answer = desk.take(alloc, &apdu);
+    write_taking(line, answer, &before, &Standing::of(alloc, desk)?);
+    Some(())
+}
+
+/// Writes what a message did, or a fault.
+fn write_taking(
+    line: &mut Line,
+    answer: Result<Taking, DeskFault>,
+    before: &Standing,
+    after: &Standing,
+) {
     match answer {
-        Ok(Taking::Taken) => write_answer(line, "taken", Ok(()), &before, &after),
+        Ok(Taking::Taken) => write_answer(line, "taken", Ok(()), before, after),
         Ok(other) => {
             line.text(taking_word(other, after.side.state));
-            after.write_after(line, &before);
+            after.write_after(line, before);
         }
-        Err(fault) => write_answer(line, "", Err(fault), &before, &after),
+        Err(fault) => write_answer(line, "", Err(fault), before, after),
     }
-    Some(())
 }
 
 /// `message NUMBER`: its octets, or why there are none.

@@ -2,7 +2,8 @@
 //!
 //! Each line of standard input is a case. It is written again with the library's answer behind it;
 //! what a family of cases is answered stands below it. Notes, which begin with `# `, and empty lines are
-//! written as they are. A line `let` gives bytes a name, and is not written.
+//! written as they are. A line `let` gives bytes a name, and is not written. Files stand in a folder that
+//! is made for them below the system's for temporary files, and removed at the end.
 #![tactic(auto)]
 
 mod actions;
@@ -10,6 +11,8 @@ mod again;
 mod bench;
 mod calls;
 mod desks;
+mod failing;
+mod files;
 mod line;
 mod names;
 mod records;
@@ -19,13 +22,36 @@ mod standing;
 mod words;
 
 use bench::{Answers, Bench};
+use files::Folder;
 use session::Session;
-use std::io;
+use std::alloc::Global;
+use std::io::{Error, ErrorKind};
+use std::rt::{Env, Files};
+use std::{env, fs, io};
 
 fn main(rt: HostRuntime) -> io::Result<()> {
-    let text = io::read_to_string(rt.alloc(), rt.stdin())?;
-    let mut session = Session::new(rt.alloc(), Bench::new(rt.alloc()));
-    print_lines(&rt, &mut session, text.as_str())
+    let alloc = rt.alloc();
+    let text = io::read_to_string(alloc, rt.stdin())?;
+    let path = make_folder(&rt, alloc)?;
+    let folder = Folder::new(&rt, alloc, path.clone()?);
+    let mut session = Session::new(alloc, Bench::new(alloc, folder));
+    let printed = print_lines(&rt, &mut session, text.as_str());
+    fs::remove_dir_all(&rt, path.as_str())?;
+    printed
+}
+
+/// Makes a folder that was not there.
+fn make_folder<R: Files + Env + AllocGlobal>(rt: &R, alloc: Global) -> io::Result<String> {
+    let below = env::temp_dir(rt)?;
+    for number in 0..u16::MAX {
+        let path = format!(in alloc; "{}/ill_saved_tests.{number}", below.as_str())?;
+        match fs::create_dir(rt, path.as_str()) {
+            Ok(()) => return Ok(path),
+            Err(error) if error.kind() == ErrorKind::AlreadyExists => {}
+            Err(error) => return Err(error),
+        }
+    }
+    Err(Error::from(ErrorKind::AlreadyExists))
 }
 
 fn print_lines<B: Answers>(

@@ -96,6 +96,7 @@ impl<B: Answers> Session<B> {
     fn answer(&mut self, line: &mut Line, call: CaseCall, words: &str, case: usize) -> Option<()> {
         match call {
             CaseCall::Words(call) => self.bench.call(line, call, words),
+            CaseCall::File => self.bench.call_files(line, &self.names, words),
             CaseCall::Bytes(call) => {
                 let bytes = self.names.bytes(words, case)?;
                 self.bench.call_with(line, call, &bytes)

@@ -2,7 +2,7 @@
 
 use crate::line::Line;
 use crate::records::{Facts, side_facts, write_day};
-use ill_saved::{Desk1, MemoryStore, encode_record};
+use ill_saved::{Desk1, Store, encode_record};
 use std::alloc::Global;
 
 /// What a refusal must leave: the record of the side, and how many messages are released. The facts of
@@ -16,7 +16,7 @@ pub struct Standing {
 
 impl Standing {
     /// Where this desk stands.
-    pub fn of(alloc: Global, desk: &Desk1<MemoryStore>) -> Option<Standing> {
+    pub fn of<S: Store>(alloc: Global, desk: &Desk1<S>) -> Option<Standing> {
         let side = desk.side();
         Some(Standing {
             record: encode_record(alloc, side).ok()?,

@@ -10,3 +10,4 @@ pub mod Act
 pub mod Take
 pub mod Send
 pub mod Status
+pub mod New

@@ -11,18 +11,13 @@ use Rattle.ill_saved.specs.declared.fault.DeskFault.TheVariants.{Store}
 use Rattle.ill_saved.specs.declared.store.StoreFault.TheVariants.{Failed}
 use Rattle.ill_saved.specs.Side.{takes}
 use Rattle.ill_world.specs.declared.event.Outcome.{Outcome}
-use Rattle.ill_world.specs.declared.event.Outcome.TheVariants.{Answered, Refused}
+use Rattle.ill_world.specs.World.{answer_to}
 use Rattle.ill_tool.specs.declared.fault.ToolFault.{ToolFault}
 use Rattle.ill_tool.specs.declared.fault.ToolFault.TheVariants.{Arguments, Der, TooMany, Script, Desk, Read, Write, OutOfMemory}
 use Rattle.ill_tool.specs.Input.{Takes, StopsReading}
 use Rattle.ill_tool.specs.Standing.{Standing, becomes, saved, IsFaulted, is_fine, side_line, Reports}
 
 -- ---- one message
-
--- what is seen of a message
-abbrev pub seen : Result Taking Refusal → Outcome
-seen (Ok taking) = Answered taking
-seen (Err refusal) = Refused refusal
 
 -- a message that was taken is saved
 abbrev pub kept : Result Taking Refusal → Standing → Standing
@@ -31,7 +26,7 @@ kept answer now = now
 
 -- what is seen of a message, and how the side stands after it
 abbrev pub handed : Standing → Apdu → Outcome × Standing
-handed old a = let taken = takes old.live a in (seen taken.0, kept taken.0 (becomes old taken.1))
+handed old a = let taken = takes old.live a in (answer_to taken.0, kept taken.0 (becomes old taken.1))
 
 -- What a message did: it was handed to the side, and saved where it was taken; it was taken, and the
 -- save failed; or memory ran out before it was taken, or before it was saved.

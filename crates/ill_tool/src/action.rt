@@ -1,7 +1,8 @@
 //! What the words of a command line say that a side is to do.
 
 ghost use Rattle.std.specs.Prelude.{◌≡◌, map, IfOk};
-ghost use Rattle.ill_tool.specs.Actions.{action_named, deed_on, is_word};
+ghost use Rattle.std.specs.List.{list_all};
+ghost use Rattle.ill_tool.specs.Actions.{action_named, action_for, deed_on, is_word};
 
 use ill_saved::{Action, Side};
 use ill_values::{Day, OutOfMemory};
@@ -23,14 +24,43 @@ pub fn action(
     ensures { IfOk result (λ action. action
         ≡ action_named side.now today (map (λ word. word.now) words.now)) }
 {
-    let words: Vec<&[u8]> = words.iter().map(|word| word.as_bytes()).collect(alloc)?;
-    if !words.iter().all(|word| is_word(word)) {
-        return Ok(None);
+    if are_words(words) {
+        let words = slices(alloc, words)?;
+        action_for(alloc, side, today, &words)
+    } else {
+        Ok(None)
     }
+}
+
+/// The action that words name which a script may have too.
+fn action_for(
+    alloc: Global,
+    side: &Side,
+    today: Option<Day>,
+    words: &[&[u8]],
+) -> Result<Option<Action>, OutOfMemory>
+    ensures { IfOk result (λ action. action
+        ≡ action_for side.now today (map (λ word. word.now) words.now)) }
+{
     match side {
-        Side::Requester(_) => Ok(wish(alloc, &words)?.map(Action::Wish)),
-        Side::Responder(_) => Ok(deed_on(today, &words)),
+        Side::Requester(_) => Ok(wish(alloc, words)?.map(Action::Wish)),
+        Side::Responder(_) => Ok(deed_on(today, words)),
     }
+}
+
+/// The words as bytes.
+fn slices<'a>(alloc: Global, words: &[&'a str]) -> Result<Vec<&'a [u8]>, OutOfMemory>
+    ensures { IfOk result (λ slices. map (λ word. word.now) slices.items
+        ≡ map (λ word. word.now) words.now) }
+{
+    words.iter().map(|word| word.as_bytes()).collect(alloc)
+}
+
+/// Whether a script may have these words too.
+fn are_words(words: &[&str]) -> bool
+    ensures { result ≡ list_all (λ word. is_word word.now) words.now }
+{
+    words.iter().all(|word| is_word(word.as_bytes()))
 }
 
 /// Whether a word could stand in a script: it is not empty, and has no space.

@@ -31,7 +31,8 @@ pub fn new<T: Files, W: Write>(
     let role = who(role.as_bytes()).ok_or(ToolFault::Arguments)?;
     let txn = id(alloc, group, transaction)?;
     let store = FileStore::at(rt, alloc, file, MAX_RECORD)?;
-    run_new(alloc, store, role, txn, writer)
+    run_new(alloc, store, role, txn, writer)?;
+    Ok(true)
 }
 
 /// `ill act`: performs one action.

@@ -1,37 +1,296 @@
-//! The texts of `--help`.
+//! The texts of `--help`, whose lines have at most 80 columns: `clap` breaks none.
 
 pub const VERSION: &str = "0.1.0";
 
-pub const SHOW: &str = "Show each APDU on standard input.
+pub const FILE: &str = "The file of the record";
 
-The APDUs stand one behind another, in the short form, up to the end of the input. For each of them \
-its type, its transaction, its number and its further fields are written to standard output, a line \
-for each.";
+pub const GROUP: &str = "The group qualifier of the loan";
+
+pub const TRANSACTION: &str = "The transaction qualifier of the loan";
+
+pub const ILL: &str = "\
+One side of a loan is kept in a file: `new` begins it, `act` does what its
+library decides, `take` takes what comes from the other library, `send` gives a
+message to carry there, and `status` tells how the side stands. How messages are
+carried, by mail or by hand, is left to the libraries. `show`, `check` and
+`simulate` keep nothing. `ill COMMAND --help` tells more of a command.
+
+The start of a loan, with the requester's side in the file `here` and the
+responder's in the file `there`:
+  $ ill new here requester G1 T1
+  done IDLE - 0/0
+  $ ill act here request none Maps
+  done PENDING - 1/1
+  $ ill send here 1 > message
+  $ ill new there responder G1 T1
+  done IDLE - 0/0
+  $ ill take there < message
+  taken IN-PROCESS - 0/0
+  $ ill act there --today 20250301 ship +14
+  done SHIPPED 20250315 1/1
+
+The exit status, and the line of a fault on standard error behind `ill: `:
+  0  -                    all went well; help and the version too
+  1  -                    refused, or in conflict; standard output says why
+  1  exists               FILE is there already
+  1  no-record            FILE is not there
+  1  no-such-message      the side has issued no message with this number
+  1  not-saved            it has, but the message is not saved
+  2  -                    the words are no command; a usage message says why
+  2  arguments            an argument is not what it has to be
+  2  short at N           the input ends within a message, after N bytes of it
+  2  tag at N             a message has a wrong field, at its byte N
+  2  length at N          a message has a wrong length, at its byte N
+  2  field at N           a message has a wrong value, at its byte N
+  2  too-many             the input has more than 100,000 messages
+  2  script at line N     the first bad line of a script
+  2  record short         FILE ends within a record
+  2  record bad at N      FILE has a record with a wrong byte, at N
+  2  record inconsistent  FILE has a record that no side can have
+  3  store failed         FILE or its folder cannot be read or written
+  3  store too-large      FILE has more than 65,535 bytes
+  3  read                 the input cannot be read
+  3  write                the output cannot be written; a closed pipe too
+  3  memory               memory ran out";
+
+pub const NEW: &str = "\
+Begin one side of a loan, in a file.
+
+The side has issued and taken nothing yet. Each library begins its own side, one
+as requester and one as responder, with the same GROUP and TRANSACTION. These
+have 1 to 64 characters of ASCII each, from space to tilde; where one begins
+with a hyphen, `--` goes before the arguments.
+
+FILE must not be there yet, and its folder must. The program writes a record by
+way of FILE.new, beside it; that file belongs to the program. One line is
+written to standard output, as `ill act --help` tells. Standard input is not
+read.
+
+The exit status is 0 where the side is saved, 1 with `exists`, 2 for wrong
+arguments, a ROLE, GROUP or TRANSACTION that is none too, and 3 with `store
+failed`, `store too-large`, `write` or `memory`.";
+
+pub const NEW_EXAMPLE: &str = "Example:
+  $ ill new box requester G1 T1
+  done IDLE - 0/0
+  $ ill new box requester G1 T1
+  ill: exists";
+
+pub const ACT: &str = "\
+Perform one action of the side in a file, and save it.
+
+The words of a requester:
+  request EXPIRY ITEM    ask for the item; after the day EXPIRY the responder
+                         may let the request expire
+  cancel                 ask to drop the request
+  reply yes | no         accept the conditions, or decline them
+  receive                say that the item has come
+  renew WISHED           ask to keep the item longer, to the day WISHED
+  return                 send the item back
+
+The words of a responder, on the day that --today says:
+  answer RESULT          answer the request with RESULT
+  cancel-reply yes | no  agree to cancel, or refuse to
+  ship DUE               send the item, which is due back on DUE
+  renew-answer yes DUE   let the item be kept to DUE
+  renew-answer no        refuse to
+  overdue                say that the item is overdue
+  recall                 ask for the item back
+  check-in               say that the item is back
+  expire                 end the request, whose expiry day is past
+
+A day is eight digits, as 20250315, of the years 1900 to 9999. DUE may also be
+`+N`, N one to five digits: N days after the day of the action. EXPIRY and
+WISHED may be `none`. RESULT is conditional, retry, unfilled,
+locations-provided, will-supply, hold-placed or estimate. ITEM is all the words
+that remain, of 200 bytes at most. None of the words may hold a space, so a
+title has no quotes round it: `request none War and Peace`.
+
+A responder's action needs --today; a requester's has no use for it. It stands
+before the words: behind them it would be one of them, as of a title. One action
+issues one message, and the messages of a side are numbered 1, 2, 3, up to 255.
+
+The action is saved in FILE before a line of it is written to standard output:
+  OUTCOME STATE DUE RELEASED/ISSUED
+OUTCOME is `done`. Then come the side's state, its due date or `-`, how many of
+its messages may be sent, and how many it has issued: behind `done`, the message
+of the action is the last one. Where the action is refused, nothing changes, and
+OUTCOME says why:
+  not-now                it has no place in this state
+  date-earlier           DUE of `ship` is before today
+  date-not-later         DUE of `renew-answer` is not after the due date
+  not-due                `overdue`, and the due date is not past
+  not-expired            `expire`, and no expiry day is past
+  numbers-used           all 255 numbers are used
+
+Standard input is not read, and FILE has at most 65,535 bytes. The exit status
+is 0 where the action is done, 1 where it is refused or with `no-record`, 2 for
+wrong words, a wrong day or a bad record, and 3 with `store failed`, `store
+too-large`, `write` or `memory`. After `store failed` the action may be saved or
+not: `ill status FILE` shows which.";
+
+pub const ACT_EXAMPLE: &str = "Example:
+  $ ill new box requester G1 T1
+  done IDLE - 0/0
+  $ ill act box request none War and Peace
+  done PENDING - 1/1
+  $ ill act box return
+  not-now PENDING - 1/1
+  $ ill new there responder G1 T1
+  done IDLE - 0/0
+  $ ill send box 1 | ill take there
+  taken IN-PROCESS - 0/0
+  $ ill act there --today 20250301 ship +14
+  done SHIPPED 20250315 1/1";
+
+pub const TAKE: &str = "\
+Take the APDUs on standard input, and save what they change.
+
+The APDUs, the messages of the other side as `ill send` gives them there, stand
+one behind another up to the end of the input: `ill take FILE < message`. There
+are at most 100,000 of them. FILE has at most 65,535 bytes.
+
+For each of them a line is written to standard output:
+  OUTCOME STATE DUE RELEASED/ISSUED
+OUTCOME is one of these; behind it the line says how the side stands, as that of
+`ill act`:
+  taken                  this is news: read it, and act on it
+  repeat                 the side knows it already; there is nothing to do
+  stale                  it answers what is no longer open; nothing to do either
+  conflict               it has no place in this state: somebody should look
+  other-transaction      it is of another loan
+  wrong-role             it is of a kind that this side sends
+  numbers-used           it wants an answer, and all 255 numbers are used
+
+Only what is taken changes the side, and it is saved in FILE before its line is
+written. To take a message twice does no harm.
+
+The exit status is 0 where each was taken, a repeat or stale, and 1 where one
+was anything else or with `no-record`. It is 2 where the input has a faulty
+message or too many, and for a bad record, and 3 with `store failed`, `store
+too-large`, `read`, `write` or `memory`. The messages before a fault stay taken.";
+
+pub const TAKE_EXAMPLE: &str = "Example:
+  $ ill new here requester G1 T1
+  done IDLE - 0/0
+  $ ill act here request none Maps
+  done PENDING - 1/1
+  $ ill send here 1 > message
+  $ ill new there responder G1 T1
+  done IDLE - 0/0
+  $ ill take there < message
+  taken IN-PROCESS - 0/0
+  $ ill take there < message
+  repeat IN-PROCESS - 0/0";
+
+pub const SEND: &str = "\
+Write the bytes of one message that the side has issued.
+
+The messages of a side are numbered 1, 2, 3, in the order of its actions. NUMBER
+has one to three digits, with a value from 1 to 255. The message must be saved,
+which what `act` and `take` have told always is.
+
+Its bytes, and nothing else, are written to standard output: 16 to 359 of them,
+which are not for a terminal. Give them to a file or another program, as in
+`ill send FILE 1 > message`. FILE has at most 65,535 bytes; it is not changed,
+so nothing tells what was sent. A message may be sent again at any time, and has
+the same bytes then. Standard input is not read.
+
+The exit status is 0 where the message is written, 1 with `no-such-message`,
+`not-saved` or `no-record`, 2 for a wrong NUMBER or a bad record, and 3 with
+`store failed`, `store too-large`, `write` or `memory`.";
+
+pub const SEND_EXAMPLE: &str = "Example:
+  $ ill new box requester G1 T1
+  done IDLE - 0/0
+  $ ill act box request none Maps
+  done PENDING - 1/1
+  $ ill send box 1 > message
+  $ ill show < message
+  apdu ILL-Request
+  group G1
+  transaction T1
+  number 1
+  item Maps
+  $ ill send box 2
+  ill: no-such-message";
+
+pub const STATUS: &str = "\
+Show the side in a file.
+
+Seven lines are written to standard output:
+  role                   requester or responder
+  group                  the group qualifier of the loan
+  transaction            the transaction qualifier of the loan
+  state                  the state of the side
+  due                    the day on which the item is due, or `-`
+  messages               RELEASED/ISSUED: how many of its messages may be sent,
+                         and how many it has issued
+  marks                  those that are set of `received` (a Received was
+                         issued, or taken), `checked-in` and `declined`, or `-`
+
+FILE has at most 65,535 bytes and is not changed. Standard input is not read.
+The exit status is 0 where the side is shown, 1 with `no-record`, 2 for a bad
+record, and 3 with `store failed`, `store too-large`, `write` or `memory`.";
+
+pub const STATUS_EXAMPLE: &str = "Example:
+  $ ill new box requester G1 T1
+  done IDLE - 0/0
+  $ ill act box request none Maps
+  done PENDING - 1/1
+  $ ill status box
+  role requester
+  group G1
+  transaction T1
+  state PENDING
+  due -
+  messages 1/1
+  marks -";
+
+pub const SHOW: &str = "\
+Show each APDU on standard input.
+
+The APDUs stand one behind another, in the short form, up to the end of the
+input, as in `ill show < FILE`: at most 100,000 of them, each of 359 bytes at
+most. For each of them its type, its transaction, its number and its further
+fields are written to standard output, a line for each.
+
+The exit status is 0 where all of them are shown. It is 2 where one has a fault
+or there are too many, and 3 with `read`, `write` or `memory`. The APDUs before
+a fault are shown.";
 
 pub const SHOW_EXAMPLE: &str = "Example:
-  $ printf 'f\\020\\200\\001\\001\\241\\010\\201\\002G1\\202\\002T1\\202\\001\\002' | ill show
+  $ printf 'f\\20\\200\\1\\1\\241\\10\\201\\2G1\\202\\2T1\\202\\1\\2' | ill show
   apdu Cancel
   group G1
   transaction T1
   number 2";
 
-pub const CHECK: &str = "Check the APDUs on standard input and count them.
+pub const CHECK: &str = "\
+Check the APDUs on standard input and count them.
 
-The APDUs stand one behind another, in the short form, up to the end of the input. Behind the last \
-of them their number is written to standard output. Where one of them has a fault, nothing is \
-written there.";
+The APDUs stand one behind another, in the short form, up to the end of the
+input, as in `ill check < FILE`: at most 100,000 of them, each of 359 bytes at
+most. Behind the last of them their number is written to standard output. Where
+one of them has a fault, nothing is written there.
+
+The exit status is 0 where they are counted. It is 2 where one has a fault or
+there are too many, and 3 with `read`, `write` or `memory`.";
 
 pub const CHECK_EXAMPLE: &str = "Example:
-  $ printf 'f\\020\\200\\001\\001\\241\\010\\201\\002G1\\202\\002T1\\202\\001\\002' | ill check
+  $ printf 'f\\20\\200\\1\\1\\241\\10\\201\\2G1\\202\\2T1\\202\\1\\2' | ill check
   1 apdus";
 
-pub const SIMULATE: &str = "Perform a script of both sides of a loan, from standard input.
+pub const SIMULATE: &str = "\
+Perform a script of both sides of a loan, from standard input.
 
-The script comes from standard input, as in `ill simulate G1 T1 < FILE`: at most 100,000 lines, of at \
-most 1,024 bytes each. A line says one event; an empty one, and one that begins with `#`, says \
-nothing. For each event a line is written to standard output: its number, what is seen of it, and how \
-both sides stand after it. GROUP and TRANSACTION have 1 to 64 characters of ASCII each, from space to \
-tilde.
+The script comes from standard input, as in `ill simulate G1 T1 < FILE`: at most
+100,000 lines, of at most 1,024 bytes each. A line says one event; an empty one,
+and one that begins with `#`, says nothing. For each event a line is written to
+standard output: its number, what is seen of it, and how both sides stand after
+it. No file is read or written. GROUP and TRANSACTION have 1 to 64 characters of
+ASCII each, from space to tilde; where one begins with a hyphen, `--` goes
+before the two.
 
 The lines of a script:
   requester request EXPIRY ITEM
@@ -50,44 +309,16 @@ The lines of a script:
   deliver SIDE NUMBER
   noise SIDE HEX
 
-SIDE is requester or responder. EXPIRY, WISHED, TODAY and DUE are days, such as 20250315; EXPIRY, \
-WISHED and HEX may be `none`. RESULT is conditional, retry, unfilled, locations-provided, \
-will-supply, hold-placed or estimate.
+SIDE is requester or responder. EXPIRY, WISHED, TODAY and DUE are days, such as
+20250315; EXPIRY, WISHED and HEX may be `none`. RESULT is conditional, retry,
+unfilled, locations-provided, will-supply, hold-placed or estimate.
 
-The exit status is 0 where the whole script was performed. It is 2 for arguments that are no \
-qualifiers and for a line that is no event, and 3 where the input cannot be read, the output cannot \
-be written, or memory runs out. The lines of the events before are written.";
+The exit status is 0 where the whole script was performed. It is 2 for arguments
+that are no qualifiers and for a line that is no event, and 3 where the input
+cannot be read, the output cannot be written, or memory runs out. The lines of
+the events before are written.";
 
 pub const SIMULATE_EXAMPLE: &str = "Example:
-  $ printf 'requester request none Maps\\nsave requester\\nsend requester 1\\n' | ill simulate G1 T1
+  $ printf 'requester request none Maps\\nsave requester\\n' | ill simulate G1 T1
   1 done requester PENDING - 0/1 responder IDLE - 0/0
-  2 saved requester PENDING - 1/1 responder IDLE - 0/0
-  3 sent requester PENDING - 1/1 responder IDLE - 0/0";
-
-pub const ILL: &str = "TODO";
-
-pub const FILE: &str = "The file of the record";
-
-pub const GROUP: &str = "The group qualifier of the loan";
-
-pub const TRANSACTION: &str = "The transaction qualifier of the loan";
-
-pub const NEW: &str = "TODO";
-
-pub const NEW_EXAMPLE: &str = "TODO";
-
-pub const ACT: &str = "TODO";
-
-pub const ACT_EXAMPLE: &str = "TODO";
-
-pub const TAKE: &str = "TODO";
-
-pub const TAKE_EXAMPLE: &str = "TODO";
-
-pub const SEND: &str = "TODO";
-
-pub const SEND_EXAMPLE: &str = "TODO";
-
-pub const STATUS: &str = "TODO";
-
-pub const STATUS_EXAMPLE: &str = "TODO";
+  2 saved requester PENDING - 1/1 responder IDLE - 0/0";

@@ -2,6 +2,7 @@
 
 ghost use Rattle.std.specs.Prelude.{◌≡◌};
 ghost use Rattle.ill_saved.specs.Side.{idle_of};
+ghost use Rattle.ill_tool.specs.New.{first_side, RunsNew};
 
 use crate::fault::ToolFault;
 use crate::standing::report;
@@ -12,15 +13,18 @@ use ill_world::{Outcome, Who};
 use std::alloc::Global;
 use std::io::Write;
 
-/// Creates a side of this transaction that has issued and taken nothing, saves it in a store without a
-/// record (else `Exists`), and writes its line.
+/// Begins a side of this transaction, saves it in a store that has no record (else `Exists`), and
+/// writes its line.
 pub fn run_new<S: Store + Drop, W: Write>(
     alloc: Global,
     store: S,
     role: Who,
     txn: TxnId,
     writer: &mut W,
-) -> Result<bool, ToolFault> {
+) -> Result<(), ToolFault>
+    ensures { RunsNew (first_side role txn)
+        (W.contents writer.old) (W.contents writer.new) result }
+{
     match Desk1::create(alloc, store, first_side(alloc, role, txn)) {
         Ok(mut desk) => begin(alloc, &mut desk, writer),
         Err((fault, _)) => Err(fault.into()),
@@ -29,7 +33,8 @@ pub fn run_new<S: Store + Drop, W: Write>(
 
 /// The side of a role before its first message.
 fn first_side(alloc: Global, role: Who, txn: TxnId) -> Side
-    ensures { result ≡ idle_of result }
+    ensures value { result ≡ first_side role txn }
+    ensures idle { result ≡ idle_of result }
 {
     match role {
         Who::Requester => Side::Requester(Requester::idle(alloc, txn)),
@@ -42,9 +47,15 @@ fn begin<S: Store, W: Write>(
     alloc: Global,
     desk: &mut Desk1<S>,
     writer: &mut W,
-) -> Result<bool, ToolFault> {
+) -> Result<(), ToolFault>
+    requires idle { desk.old.live ≡ idle_of desk.old.live }
+    ensures { RunsNew desk.old.live (W.contents writer.old) (W.contents writer.new) result }
+{
     match desk.save(alloc) {
-        Ok(()) => report(alloc, writer, Outcome::Done, desk),
+        Ok(()) => match report(alloc, writer, Outcome::Done, desk) {
+            Ok(_) => Ok(()),
+            Err(fault) => Err(fault),
+        },
         Err(fault) => Err(fault.into()),
     }
 }

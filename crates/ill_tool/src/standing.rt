@@ -1,7 +1,6 @@
 //! The line of how a side stands.
 
-ghost use Rattle.std.specs.Prelude.{◌≡◌, ◌++◌, ◌×◌, List, ℕ, OnOk};
-ghost use Rattle.std.specs.Io.KnownBytes.{Appends};
+ghost use Rattle.std.specs.Prelude.{◌≡◌, ◌++◌, OnOk};
 ghost use Rattle.ill_tool.specs.Standing.{is_fine, side_line, standing_of, Tells};
 
 use crate::fault::ToolFault;

@@ -91,7 +91,7 @@ fn role(side: &Side) -> &'static str
 }
 
 /// The marks of a side that hold.
-fn marks(alloc: Global, side: &Side) -> Result<Vec<&'static str>, OutOfMemory>
+fn marks<'a>(alloc: Global, side: &Side) -> Result<Vec<&'a str>, OutOfMemory>
     ensures { IfOk result (λ marks. map (λ mark. mark.now) marks.items ≡ marks_of side.now) }
 {
     let mut marks = Vec::new(alloc);
@@ -109,11 +109,7 @@ fn marks(alloc: Global, side: &Side) -> Result<Vec<&'static str>, OutOfMemory>
 }
 
 /// Adds a mark, if it holds.
-fn push_mark(
-    marks: &mut Vec<&'static str>,
-    holds: bool,
-    word: &'static str,
-) -> Result<(), OutOfMemory>
+fn push_mark<'a>(marks: &mut Vec<&'a str>, holds: bool, word: &'a str) -> Result<(), OutOfMemory>
     ensures { OnOk result (map (λ mark. mark.now) marks.new.items
         ≡ map (λ mark. mark.now) marks.old.items ++ mark holds word.now) }
 {

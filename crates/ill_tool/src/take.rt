@@ -35,7 +35,7 @@ pub fn run_take<S: Store, R: Read, W: Write>(
     let mut all_fine = true;
     for _ in 0..MAX_APDUS {
         match take_next(alloc, desk, reader, writer) {
-            Ok(Some(fine)) => all_fine = all_fine && fine,
+            Ok(Some(fine)) => all_fine &= fine,
             Ok(None) => return Ok(all_fine),
             Err(fault) => return Err(fault),
         }

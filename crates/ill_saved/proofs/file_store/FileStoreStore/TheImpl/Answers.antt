@@ -1,0 +1,25 @@
+use Rattle.std.proofs.Common.{rules, refl}
+use Rattle.ill_saved.proofs.Files.{load_counts, save_counts}
+use Rattle.ill_saved.proofs.file_store.FileStoreStore.TheImpl.Goals as goal
+
+pub load-tells : goal.load-tells
+load-tells g c = record {
+  loaded = λ honest. search rules;
+  planned = λ honest. tt;
+  landed = λ honest. refl;
+  counted = load_counts (λ b. b.items) c.args.self.now c.new.self.now c.result c.ensures;
+  honest = refl;
+  plan = refl;
+}
+
+pub save-tells : goal.save-tells
+save-tells g c =
+    let told = save_counts c.args.self.now c.new.self.now c.result c.ensures in
+    record {
+      planned = λ honest. tt;
+      landed = λ honest. search rules;
+      large = told.0;
+      counted = told.1;
+      honest = refl;
+      plan = refl;
+    }

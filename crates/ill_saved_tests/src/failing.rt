@@ -1,0 +1,162 @@
+//! The system's files, of whose calls one fails.
+
+use std::alloc::{AllocError, Allocator, Global};
+use std::cell::Cell;
+use std::fs::{Metadata, OpenFile, OpenOptions};
+use std::io;
+use std::io::{Error, ErrorKind, Read, Seek, SeekFrom, Write};
+use std::rc::Rc;
+use std::rt::Files;
+
+/// Files whose calls are counted. The call before which so many are made fails, and does nothing.
+#[derive(Drop)]
+pub struct Failing<'a, R: Files> {
+    rt: &'a R,
+    left: Left,
+}
+
+/// One of these files, which is open.
+#[derive(Drop)]
+pub struct FailingFile<F: Drop> {
+    file: F,
+    left: Left,
+}
+
+/// How many calls are left before the one that fails, and how that fails.
+#[derive(Drop)]
+struct Left {
+    calls: Rc<Cell<u32>>,
+    fault: ErrorKind,
+}
+
+impl<'a, R: Files> Failing<'a, R> {
+    /// These files, whose call fails with this fault before which so many are made.
+    pub fn after(
+        rt: &'a R,
+        alloc: Global,
+        calls: u32,
+        fault: ErrorKind,
+    ) -> Result<Failing<'a, R>, AllocError> {
+        let calls = Rc::new(alloc, Cell::new(calls))?;
+        Ok(Failing {
+            rt,
+            left: Left { calls, fault },
+        })
+    }
+}
+
+impl Left {
+    /// Passes a call, or fails it.
+    fn pass(&self) -> io::Result<()> {
+        let calls = self.calls.get();
+        self.calls.set(calls.wrapping_sub(1));
+        if calls == 0 {
+            Err(Error::from(self.fault))
+        } else {
+            Ok(())
+        }
+    }
+
+    /// The same count, for another that makes calls.
+    fn share(&self) -> Result<Left, AllocError> {
+        Ok(Left {
+            calls: self.calls.clone()?,
+            fault: self.fault,
+        })
+    }
+}
+
+impl<'a, R: Files> Files for Failing<'a, R> {
+    type File = FailingFile<R::File>;
+
+    type Dir = R::Dir;
+
+    fn open_file(&self, how: &OpenOptions, path: &str) -> io::Result<FailingFile<R::File>> {
+        self.left.pass()?;
+        Ok(FailingFile {
+            file: self.rt.open_file(how, path)?,
+            left: self.left.share()?,
+        })
+    }
+
+    fn open_dir(&self, path: &str) -> io::Result<R::Dir> {
+        self.rt.open_dir(path)
+    }
+
+    fn metadata(&self, path: &str) -> io::Result<Metadata> {
+        self.rt.metadata(path)
+    }
+
+    fn symlink_metadata(&self, path: &str) -> io::Result<Metadata> {
+        self.rt.symlink_metadata(path)
+    }
+
+    fn copy(&self, from: &str, to: &str) -> io::Result<u64> {
+        self.rt.copy(from, to)
+    }
+
+    fn rename(&self, from: &str, to: &str) -> io::Result<()> {
+        self.left.pass()?;
+        self.rt.rename(from, to)
+    }
+
+    fn remove_file(&self, path: &str) -> io::Result<()> {
+        self.left.pass()?;
+        self.rt.remove_file(path)
+    }
+
+    fn create_dir(&self, path: &str) -> io::Result<()> {
+        self.rt.create_dir(path)
+    }
+
+    fn remove_dir(&self, path: &str) -> io::Result<()> {
+        self.rt.remove_dir(path)
+    }
+
+    fn remove_dir_all<B: Allocator>(&self, alloc: B, path: &str) -> io::Result<()> {
+        self.rt.remove_dir_all(alloc, path)
+    }
+}
+
+impl<F: OpenFile + Drop> OpenFile for FailingFile<F> {
+    fn metadata(&self) -> io::Result<Metadata> {
+        self.file.metadata()
+    }
+
+    fn set_len(&self, size: u64) -> io::Result<()> {
+        self.file.set_len(size)
+    }
+
+    fn sync_all(&self) -> io::Result<()> {
+        self.left.pass()?;
+        self.file.sync_all()
+    }
+
+    fn sync_data(&self) -> io::Result<()> {
+        self.file.sync_data()
+    }
+}
+
+impl<F: Read + Drop> Read for FailingFile<F> {
+    fn read(&mut self, buf: &mut [u8]) -> io::Result<usize> {
+        self.left.pass()?;
+        self.file.read(buf)
+    }
+}
+
+impl<F: Write + Drop> Write for FailingFile<F> {
+    fn write(&mut self, buf: &[u8]) -> io::Result<usize> {
+        self.left.pass()?;
+        self.file.write(buf)
+    }
+
+    fn flush(&mut self) -> io::Result<()> {
+        self.file.flush()
+    }
+}
+
+impl<F: Seek + Drop> Seek for FailingFile<F> {
+    fn seek(&mut self, to: SeekFrom) -> io::Result<u64> {
+        self.file.seek(to)
+    }
+}

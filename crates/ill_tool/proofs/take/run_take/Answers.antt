@@ -1,0 +1,19 @@
+use Rattle.std.proofs.Common.{Option, Bool, Ok, Err, subst, arith}
+use Rattle.ill_tool.specs.Standing.{standing_of}
+use Rattle.ill_tool.specs.Take.{TakesNext}
+use Rattle.ill_tool.proofs.TakeLemmas.{one_more_taken, taken_all}
+use Rattle.ill_tool.proofs.take.run_take.Goals as goal
+
+pub loop-preserved : goal.loop-preserved
+loop-preserved g c =
+    let remaining = g.R.Read.remaining in
+    let contents = g.W.Write.contents in
+    let stands = standing_of g.S.Store.is_honest g.S.Store.landed in
+    let next = subst
+    (λ (found : Option Bool). TakesNext (remaining c.loop.reader) (remaining c.take_next.new.reader) (contents c.loop.writer) (contents c.take_next.new.writer)
+    (stands c.loop.desk) (Ok found) (stands c.take_next.new.desk))
+    c.in-Ok-Some.field-0-is c.in-Ok-Some.ensures in
+    one_more_taken _ _ _ _ _ _ _ _ _ c.loop.counter c.loop.all_fine c.in-Ok-Some.fine c.loop.invariant next
+
+pub returns-in-Err-end : goal.returns-in-Err-end
+returns-in-Err-end g c = taken_all _ _ _ _ _ _ _ c.loop.counter c.loop.all_fine (Err c.in-Err-end.fault) (omega arith) c.loop.invariant c.in-Err-end.ensures

@@ -392,11 +392,11 @@ fn so_they_are_of_a_responder(rt: HostRuntime) -> Result<(), Fail> {
 }
 
 /// Performs a command line of these words, and expects that they are none.
-fn expect_arguments(
+fn expect_arguments<'a>(
     rt: &(impl Abort + Files),
     alloc: Global,
-    front: &[&str],
-    rest: &[&str],
+    front: &[&'a str],
+    rest: &[&'a str],
     case: usize,
 ) -> Result<(), Fail> {
     let mut words = Vec::from_array(alloc, ["ill"])?;

@@ -76,12 +76,12 @@ impl<R: Abort, S: Store> Bench<'_, R, S> {
 
     /// Sends a message, and compares the answer and the bytes: those of the APDU of this name, or none.
     fn send(&self, number: u8, answer: Result<(), ToolFault>, name: &str) -> Result<(), Fail> {
-        let number = Number::new(number).ok_or("no number")?;
+        let message = Number::new(number).ok_or("no number")?;
         let bytes = input(self.alloc, name)?;
         let mut output = Vec::new(self.alloc);
-        let given = run_send(self.alloc, &self.desk, number, &mut output);
-        assert!(self.rt; given == answer, "{name}: answer");
-        assert!(self.rt; output.as_slice() == bytes.as_slice(), "{name}: bytes");
+        let given = run_send(self.alloc, &self.desk, message, &mut output);
+        assert!(self.rt; given == answer, "{number}: answer");
+        assert!(self.rt; output.as_slice() == bytes.as_slice(), "{number}: bytes");
         Ok(())
     }
 
@@ -105,6 +105,12 @@ impl<R: Abort, S: Store> Bench<'_, R, S> {
         Ok(encode_record(self.alloc, self.desk.side())?)
     }
 
+    /// Compares the record of the side in memory.
+    fn keeps(&self, record: &[u8], case: &str) -> Result<(), Fail> {
+        assert!(self.rt; self.record()?.as_slice() == record, "{case}: record");
+        Ok(())
+    }
+
     /// Asks for maps.
     fn ask(&mut self) -> Result<(), Fail> {
         self.act("request none Maps", Ok(true), "done PENDING - 1/1\n")
@@ -115,6 +121,22 @@ impl<R: Abort, S: Store> Bench<'_, R, S> {
         self.ask()?;
         self.act("cancel", Ok(true), "done CANCEL-PENDING - 2/2\n")?;
         self.take("Shipped-1", Ok(true), "taken SHIPPED 20250315 2/2\n")
+    }
+
+    /// Cancels, and then may not.
+    fn cancel_twice(&mut self) -> Result<(), Fail> {
+        self.act("cancel", Ok(true), "done CANCEL-PENDING - 2/2\n")?;
+        let before = self.record()?;
+        self.act("cancel", Ok(false), "not-now CANCEL-PENDING - 2/2\n")?;
+        self.keeps(&before, "not-now")
+    }
+
+    /// Takes a Shipped, and the same again.
+    fn be_shipped_twice(&mut self) -> Result<(), Fail> {
+        self.take("Shipped-1", Ok(true), "taken SHIPPED 20250315 2/2\n")?;
+        let before = self.record()?;
+        self.take("Shipped-1", Ok(true), "repeat SHIPPED 20250315 2/2\n")?;
+        self.keeps(&before, "repeat")
     }
 }
 
@@ -162,18 +184,11 @@ fn a_cancel_and_a_shipped_cross_by_calls(rt: HostRuntime) -> Result<(), Fail> {
     bench.ask()?;
     bench.send(1, Ok(()), "Request-1")?;
     bench.status(PENDING_STATUS);
-    bench.act("cancel", Ok(true), "done CANCEL-PENDING - 2/2\n")?;
-    let before = bench.record()?;
-    bench.act("cancel", Ok(false), "not-now CANCEL-PENDING - 2/2\n")?;
-    assert!(rt; bench.record()? == before, "not-now");
-    bench.take("Shipped-1", Ok(true), "taken SHIPPED 20250315 2/2\n")?;
-    let before = bench.record()?;
-    bench.take("Shipped-1", Ok(true), "repeat SHIPPED 20250315 2/2\n")?;
-    assert!(rt; bench.record()? == before, "repeat");
+    bench.cancel_twice()?;
+    bench.be_shipped_twice()?;
     bench.send(3, Err(NO_SUCH_MESSAGE), "")?;
     bench.stands(State::Shipped, 2, 2);
     bench.desk.restart(rt.alloc())?;
-    assert!(rt; bench.record()? == before, "restarted");
     bench.stands(State::Shipped, 2, 2);
     Ok(())
 }
@@ -274,9 +289,39 @@ fn an_answer_that_is_not_saved_is_not_sent(rt: HostRuntime) -> Result<(), Fail> 
     Ok(())
 }
 
+/// What leaves a requester in SHIPPED as it is: an APDU, whether all went well with it, and its line.
+const LEAVING: [(&str, bool, &str); 5] = [
+    (
+        "Cancel-Of-T2",
+        false,
+        "other-transaction SHIPPED 20250315 2/2\n",
+    ),
+    ("Cancel-2", false, "wrong-role SHIPPED 20250315 2/2\n"),
+    ("Unfilled-1", false, "conflict SHIPPED 20250315 2/2\n"),
+    ("Shipped-1", true, "repeat SHIPPED 20250315 2/2\n"),
+    ("Cancel-Reply-No-1", true, "stale SHIPPED 20250315 2/2\n"),
+];
+
 /// A save that would fail is planned, and these make none.
 #[test]
-fn what_is_refused_or_changes_nothing_is_not_saved(rt: HostRuntime) -> Result<(), Fail> {
+fn what_changes_nothing_is_not_saved(rt: HostRuntime) -> Result<(), Fail> {
+    let mut bench = requester(&rt, rt.alloc(), MemoryStore::new(rt.alloc()))?;
+    bench.cross()?;
+    let before = bench.record()?;
+    bench.desk.set_next(NextCall::FailsOld);
+    for (name, is_fine, line) in &LEAVING {
+        bench.take(name, Ok(*is_fine), line)?;
+        bench.keeps(&before, name)?;
+    }
+    bench.take("Long-Length", Err(ToolFault::Der(DerFault::Length(1))), "")?;
+    bench.take("", Ok(true), "")?;
+    bench.keeps(&before, "nothing")?;
+    bench.act("receive", Err(FAILED), "")
+}
+
+/// So it is with these.
+#[test]
+fn what_is_refused_is_not_saved(rt: HostRuntime) -> Result<(), Fail> {
     let mut bench = requester(&rt, rt.alloc(), MemoryStore::new(rt.alloc()))?;
     bench.cross()?;
     let before = bench.record()?;
@@ -284,22 +329,7 @@ fn what_is_refused_or_changes_nothing_is_not_saved(rt: HostRuntime) -> Result<()
     bench.act("cancel", Ok(false), "not-now SHIPPED 20250315 2/2\n")?;
     bench.act("cancel now", Err(ToolFault::Arguments), "")?;
     bench.act("ship 20250315", Err(ToolFault::Arguments), "")?;
-    bench.take(
-        "Cancel-Of-T2",
-        Ok(false),
-        "other-transaction SHIPPED 20250315 2/2\n",
-    )?;
-    bench.take("Cancel-2", Ok(false), "wrong-role SHIPPED 20250315 2/2\n")?;
-    bench.take("Unfilled-1", Ok(false), "conflict SHIPPED 20250315 2/2\n")?;
-    bench.take("Shipped-1", Ok(true), "repeat SHIPPED 20250315 2/2\n")?;
-    bench.take(
-        "Cancel-Reply-No-1",
-        Ok(true),
-        "stale SHIPPED 20250315 2/2\n",
-    )?;
-    bench.take("Long-Length", Err(ToolFault::Der(DerFault::Length(1))), "")?;
-    bench.take("", Ok(true), "")?;
-    assert!(rt; bench.record()? == before, "unchanged");
+    bench.keeps(&before, "refused")?;
     bench.stands(State::Shipped, 2, 2);
     bench.act("receive", Err(FAILED), "")
 }

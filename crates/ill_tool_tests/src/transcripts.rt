@@ -46,9 +46,9 @@ pub fn expect_left(
     line: &str,
     wanted: &str,
 ) -> Result<(), Fail> {
-    let (line, names) = line.split_once(" < ").unwrap_or((line, ""));
+    let (words, names) = line.split_once(" < ").unwrap_or((line, ""));
     let input = input(alloc, names)?;
-    let text = told(alloc, &left_of(rt, alloc, folder, line, &input)?)?;
+    let text = told(alloc, &left_of(rt, alloc, folder, words, &input)?)?;
     assert!(rt; text.as_str() == wanted, "{line} left {text}");
     Ok(())
 }
@@ -67,10 +67,10 @@ fn left_of(
     rt: &impl Files,
     alloc: Global,
     folder: &Folder,
-    line: &str,
+    words: &str,
     input: &[u8],
 ) -> Result<Left, Fail> {
-    let mut rest = line.split(' ');
+    let mut rest = words.split(' ');
     let command = rest.next().unwrap_or_default();
     let file = folder.file(alloc, rest.next().unwrap_or_default())?;
     let mut words = Vec::from_array(alloc, ["ill", command, file.as_str()])?;

@@ -3,7 +3,7 @@
 use crate::files::Folder;
 use crate::judging::Outcome;
 use crate::words::Words;
-use crate::{codec, desks, records, sides, starts, stores, values, worlds};
+use crate::{codec, desks, records, sides, starts, stores, tool, values, worlds};
 use std::alloc::Global;
 use std::rt::Files;
 
@@ -26,6 +26,7 @@ pub fn outcome<R: Files>(
             Some(("Desk1", call)) => desk_outcome(alloc, call, words),
             Some(("record", call)) => record_outcome(alloc, call, words),
             Some(("World", call)) => world_outcome(alloc, call, words),
+            Some(("tool", call)) => tool::outcome(alloc, call, words),
             _ => value_outcome(alloc, call),
         },
     }

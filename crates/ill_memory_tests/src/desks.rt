@@ -269,7 +269,7 @@ fn will_supply() -> Option<Action> {
 }
 
 /// A message to the side of this role, which it takes.
-fn message_to(role: Role) -> &'static [u8] {
+pub fn message_to(role: Role) -> &'static [u8] {
     match role {
         Role::Requester => SHIPPED,
         Role::Responder => NO,
@@ -277,7 +277,7 @@ fn message_to(role: Role) -> &'static [u8] {
 }
 
 /// The first message of the side of this role.
-fn message_of(role: Role) -> &'static [u8] {
+pub fn message_of(role: Role) -> &'static [u8] {
     match role {
         Role::Requester => REQUEST,
         Role::Responder => CONDITIONS,

@@ -18,6 +18,7 @@ mod shown;
 mod sides;
 mod starts;
 mod stores;
+mod tool;
 mod values;
 mod words;
 mod worlds;

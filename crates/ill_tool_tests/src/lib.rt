@@ -3,11 +3,25 @@
 #![tactic(auto)]
 
 #[cfg(test)]
+mod acting;
+#[cfg(test)]
 mod commands;
+#[cfg(test)]
+mod desks;
+#[cfg(test)]
+mod exchange;
 #[cfg(test)]
 mod failing;
 #[cfg(test)]
+mod files;
+#[cfg(test)]
+mod folder;
+#[cfg(test)]
 mod inputs;
+#[cfg(test)]
+mod limited;
+#[cfg(test)]
+mod named;
 #[cfg(test)]
 mod reading;
 #[cfg(test)]
@@ -16,6 +30,10 @@ mod samples;
 mod simulating;
 #[cfg(test)]
 mod streams;
+#[cfg(test)]
+mod taking;
+#[cfg(test)]
+mod transcripts;
 #[cfg(test)]
 mod words;
 #[cfg(test)]

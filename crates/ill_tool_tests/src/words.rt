@@ -5,7 +5,8 @@ use crate::samples::{CANCEL, CANCEL_LINES, FAULTS, GOOD, SHIPPED};
 use crate::streams::{
     FAILURES, FULL, FailingReader, Failure, RefusingWriter, RepeatingReader, UnflushedWriter,
 };
-use ill_tool::{DerFault, ToolFault, run_words};
+use ill_saved::{RecordFault, StoreFault};
+use ill_tool::{DerFault, DeskFault, ToolFault, run_words};
 use std::alloc::Global;
 use std::io::{Read, Write};
 use std::process::Abort;
@@ -172,6 +173,8 @@ fn an_output_that_cannot_be_flushed_has_its_line_and_status(rt: HostRuntime) {
     let words = ["ill", "simulate", "G1", "T1"];
     expect_unflushed(&rt, rt.alloc(), &words, b"save requester\n");
     expect_unflushed(&rt, rt.alloc(), &words, b"save\n");
+    expect_unflushed(&rt, rt.alloc(), &["ill", "status", "none/box"], b"");
+    expect_unflushed(&rt, rt.alloc(), &["ill", "send", "none/box", "0"], b"");
     expect_unflushed(&rt, rt.alloc(), &["ill", "--help"], b"");
     expect_unflushed(&rt, rt.alloc(), &["ill", "--version"], b"");
 }
@@ -204,16 +207,69 @@ fn too_many_apdus_have_their_line_and_status(rt: HostRuntime) {
     }
 }
 
+/// The texts of faults, among them those that no command line brings about.
+const TEXTS: [(ToolFault, &str); 20] = [
+    (ToolFault::Arguments, "arguments"),
+    (ToolFault::Der(DerFault::Short(17)), "short at 17"),
+    (ToolFault::Der(DerFault::Tag(15)), "tag at 15"),
+    (ToolFault::Der(DerFault::Length(1)), "length at 1"),
+    (ToolFault::Der(DerFault::Field(23)), "field at 23"),
+    (ToolFault::TooMany, "too-many"),
+    (ToolFault::Script(3), "script at line 3"),
+    (
+        ToolFault::Desk(DeskFault::Bytes(DerFault::Tag(0))),
+        "tag at 0",
+    ),
+    (ToolFault::Desk(DeskFault::Trailing), "trailing"),
+    (ToolFault::Desk(DeskFault::NoSuchMessage), "no-such-message"),
+    (ToolFault::Desk(DeskFault::NotSaved), "not-saved"),
+    (ToolFault::Desk(DeskFault::Exists), "exists"),
+    (ToolFault::Desk(DeskFault::NoRecord), "no-record"),
+    (
+        ToolFault::Desk(DeskFault::Store(StoreFault::Failed)),
+        "store failed",
+    ),
+    (
+        ToolFault::Desk(DeskFault::Store(StoreFault::TooLarge)),
+        "store too-large",
+    ),
+    (
+        ToolFault::Desk(DeskFault::Saved(RecordFault::Short)),
+        "record short",
+    ),
+    (
+        ToolFault::Desk(DeskFault::Saved(RecordFault::Bad(65_535))),
+        "record bad at 65535",
+    ),
+    (
+        ToolFault::Desk(DeskFault::Saved(RecordFault::Inconsistent)),
+        "record inconsistent",
+    ),
+    (ToolFault::Read, "read"),
+    (ToolFault::Write, "write"),
+];
+
+#[test]
+fn faults_have_their_texts(rt: HostRuntime) -> Result<(), Fail> {
+    for (fault, text) in &TEXTS {
+        let said = fault.to_string(rt.alloc())?;
+        assert!(rt; said.as_str() == *text, "{text}");
+    }
+    Ok(())
+}
+
 #[test]
 fn want_of_memory_has_its_text(rt: HostRuntime) -> Result<(), Fail> {
     let tool = ToolFault::OutOfMemory.to_string(rt.alloc())?;
     assert!(rt; tool.as_str() == "memory", "of a command");
     let der = DerFault::OutOfMemory.to_string(rt.alloc())?;
     assert!(rt; der.as_str() == "memory", "of bytes");
+    let desk = DeskFault::OutOfMemory.to_string(rt.alloc())?;
+    assert!(rt; desk.as_str() == "memory", "of a desk");
     Ok(())
 }
 
-const NO_COMMANDS: [&[&str]; 9] = [
+const NO_COMMANDS: [&[&str]; 25] = [
     &["ill"],
     &["ill", "shwo"],
     &["ill", "show", "more"],
@@ -223,6 +279,22 @@ const NO_COMMANDS: [&[&str]; 9] = [
     &["ill", "simulate", "G1", "T1", "more"],
     &["ill", "simulate", "-G", "T1"],
     &["ill", "--shwo"],
+    &["ill", "new"],
+    &["ill", "new", "nobox", "requester", "G1"],
+    &["ill", "new", "nobox", "requester", "G1", "T1", "more"],
+    &["ill", "new", "--shwo", "nobox", "requester", "G1", "T1"],
+    &["ill", "act"],
+    &["ill", "act", "nobox"],
+    &["ill", "act", "nobox", "--today"],
+    &["ill", "act", "nobox", "--today", "20250301"],
+    &["ill", "act", "--shwo", "nobox", "cancel"],
+    &["ill", "take"],
+    &["ill", "take", "nobox", "more"],
+    &["ill", "take", "--shwo", "nobox"],
+    &["ill", "send", "nobox"],
+    &["ill", "send", "nobox", "1", "more"],
+    &["ill", "status"],
+    &["ill", "status", "nobox", "more"],
 ];
 
 #[test]
@@ -236,7 +308,7 @@ fn words_that_are_no_command_are_refused(rt: HostRuntime) {
     }
 }
 
-const HELP: [&[&str]; 9] = [
+const HELP: [&[&str]; 19] = [
     &["ill", "--help"],
     &["ill", "-h"],
     &["ill", "help", "show"],
@@ -245,6 +317,16 @@ const HELP: [&[&str]; 9] = [
     &["ill", "check", "--help"],
     &["ill", "help", "simulate"],
     &["ill", "simulate", "--help"],
+    &["ill", "help", "new"],
+    &["ill", "new", "--help"],
+    &["ill", "help", "act"],
+    &["ill", "act", "--help"],
+    &["ill", "help", "take"],
+    &["ill", "take", "--help"],
+    &["ill", "help", "send"],
+    &["ill", "send", "--help"],
+    &["ill", "help", "status"],
+    &["ill", "status", "--help"],
     &["ill", "--version"],
 ];
 

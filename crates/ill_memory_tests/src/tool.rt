@@ -1,0 +1,171 @@
+//! The commands of one side: what each writes, and what it leaves in memory and in its store.
+
+use crate::codec::REQUEST;
+use crate::desks::{message_of, message_to};
+use crate::judging::{Outcome, done_if, judged, leaving};
+use crate::marks::{begin, end};
+use crate::records::Role;
+use crate::stores::store;
+use crate::words::Words;
+use ill_core::State;
+use ill_saved::{Desk1, MemoryStore};
+use ill_tool::{ToolFault, run_act, run_send, run_status, run_take};
+use ill_values::{Day, Number};
+use std::alloc::Global;
+
+/// A command.
+#[derive(Clone, Copy)]
+enum Command {
+    /// It performs what these words name.
+    Act(&'static [&'static str]),
+    /// It takes these bytes.
+    Take(&'static [u8]),
+    /// It sends the first message.
+    Send,
+    Status,
+}
+
+/// How a side stands: its state, and how many messages it has issued.
+type Standing = (State, u8);
+
+/// A command, and with ample memory what it writes and how the side stands behind it.
+#[derive(Clone, Copy)]
+struct Case {
+    command: Command,
+    output: &'static [u8],
+    after: Standing,
+}
+
+/// More bytes than any of these commands writes.
+const ROOM: usize = 512;
+
+/// The case of a command on a side that has been saved.
+pub fn outcome(alloc: Global, command: &str, words: &mut Words<'_>) -> Option<Outcome> {
+    let role = Role::read(words)?;
+    let case = case_of(command, role)?;
+    let mut desk = Desk1::start(alloc, store(alloc, role.record())?).ok()?;
+    let before = standing(&desk);
+    let mut output = Vec::with_capacity(alloc, ROOM).ok()?;
+    begin(alloc)?;
+    let answer = run(alloc, &mut desk, case.command, &mut output);
+    let refused = end(alloc);
+    let live = standing(&desk);
+    desk.restart(alloc).ok()?;
+    let landed = standing(&desk);
+    let outcome = match answer {
+        Ok(true) => {
+            let is_written = output.as_slice() == case.output;
+            done_if(is_written && live == case.after && landed == case.after)
+        }
+        Err(ToolFault::OutOfMemory) => {
+            let is_standing = is_stated(before, case.after, live, landed);
+            leaving(Outcome::Memory, output.is_empty() && is_standing)
+        }
+        _ => Outcome::Wrong,
+    };
+    Some(judged(outcome, refused))
+}
+
+/// Whether a side that stood so before, and would stand so after, may stand so in memory and in its store.
+/// What has landed was done in memory.
+fn is_stated(before: Standing, after: Standing, live: Standing, landed: Standing) -> bool {
+    let is_one = live == before || live == after;
+    is_one && (landed == before || landed == live)
+}
+
+fn standing(desk: &Desk1<MemoryStore>) -> Standing {
+    (desk.side().state(), desk.side().issued_count())
+}
+
+/// Runs the engine of a command, and answers whether all went well.
+fn run(
+    alloc: Global,
+    desk: &mut Desk1<MemoryStore>,
+    command: Command,
+    output: &mut Vec<u8>,
+) -> Result<bool, ToolFault> {
+    match command {
+        Command::Act(words) => run_act(alloc, desk, Day::new(2025, 3, 1).ok(), words, output),
+        Command::Take(bytes) => {
+            let mut reader = bytes;
+            run_take(alloc, desk, &mut reader, output)
+        }
+        Command::Send => {
+            let first = Number::new(1).ok_or(ToolFault::Arguments)?;
+            run_send(alloc, desk, first, output)?;
+            Ok(true)
+        }
+        Command::Status => {
+            run_status(alloc, desk, output)?;
+            Ok(true)
+        }
+    }
+}
+
+/// The command of this name, on the side of the record of this role.
+fn case_of(command: &str, role: Role) -> Option<Case> {
+    match role {
+        Role::Requester => requester_case(command),
+        Role::Responder => responder_case(command),
+    }
+}
+
+/// A requester in CONDITIONAL, which has issued its request.
+fn requester_case(command: &str) -> Option<Case> {
+    let (command, output, after): (Command, &[u8], Standing) = match command {
+        "run_act" => (
+            Command::Act(&["reply", "yes"]),
+            b"done PENDING - 2/2\n",
+            (State::Pending, 2),
+        ),
+        "run_take" => (
+            Command::Take(message_to(Role::Requester)),
+            b"taken SHIPPED 20250315 1/1\n",
+            (State::Shipped, 1),
+        ),
+        "run_send" => (Command::Send, REQUEST, (State::Conditional, 1)),
+        "run_status" => (
+            Command::Status,
+            b"role requester\ngroup G1\ntransaction T1\nstate CONDITIONAL\ndue -\nmessages 1/1\nmarks -\n",
+            (State::Conditional, 1),
+        ),
+        _ => return None,
+    };
+    Some(Case {
+        command,
+        output,
+        after,
+    })
+}
+
+/// A responder in IN-PROCESS, which has issued two messages.
+fn responder_case(command: &str) -> Option<Case> {
+    let (command, output, after): (Command, &[u8], Standing) = match command {
+        "run_act" => (
+            Command::Act(&["ship", "+14"]),
+            b"done SHIPPED 20250315 3/3\n",
+            (State::Shipped, 3),
+        ),
+        "run_take" => (
+            Command::Take(message_to(Role::Responder)),
+            b"taken NOT-SUPPLIED - 3/3\n",
+            (State::NotSupplied, 3),
+        ),
+        "run_send" => (
+            Command::Send,
+            message_of(Role::Responder),
+            (State::InProcess, 2),
+        ),
+        "run_status" => (
+            Command::Status,
+            b"role responder\ngroup G1\ntransaction T1\nstate IN-PROCESS\ndue -\nmessages 2/2\nmarks -\n",
+            (State::InProcess, 2),
+        ),
+        _ => return None,
+    };
+    Some(Case {
+        command,
+        output,
+        after,
+    })
+}

@@ -39,7 +39,8 @@ struct Case {
 /// More bytes than any of these commands writes.
 const ROOM: usize = 512;
 
-/// The case of a command on a side that has been saved.
+/// The case of a command on a side that has been saved. It may do without room that it asked for only to
+/// be quick, and is then done as ever.
 pub fn outcome(alloc: Global, command: &str, words: &mut Words<'_>) -> Option<Outcome> {
     let role = Role::read(words)?;
     let case = case_of(command, role)?;
@@ -52,18 +53,18 @@ pub fn outcome(alloc: Global, command: &str, words: &mut Words<'_>) -> Option<Ou
     let live = standing(&desk);
     desk.restart(alloc).ok()?;
     let landed = standing(&desk);
-    let outcome = match answer {
+    Some(match answer {
         Ok(true) => {
             let is_written = output.as_slice() == case.output;
             done_if(is_written && live == case.after && landed == case.after)
         }
         Err(ToolFault::OutOfMemory) => {
             let is_standing = is_stated(before, case.after, live, landed);
-            leaving(Outcome::Memory, output.is_empty() && is_standing)
+            let is_right = output.is_empty() && is_standing;
+            leaving(judged(Outcome::Memory, refused), is_right)
         }
         _ => Outcome::Wrong,
-    };
-    Some(judged(outcome, refused))
+    })
 }
 
 /// Whether a side that stood so before, and would stand so after, may stand so in memory and in its store.

@@ -4,8 +4,8 @@
      before  it is killed before the call
      after   it is killed after the call
      half    a write writes half of its bytes, and then the process is killed
-     lost    it is killed before the call, and what was written to a file and not flushed is gone from there
-     undone  it is killed before the call, and a rename is undone whose folder was not flushed
+     lost    it is killed after the call, and what was written to a file and not flushed is gone from there
+     undone  it is killed after the call, and a rename is undone whose folder was not flushed
      short   a read or a write moves half of the bytes
      EIO     or ENOSPC, EDQUOT, ENOMEM, EINTR: the call fails so, and does nothing, but that a close closes
    What is lost or undone is what a machine may forget that stops. STOP_LOG names a file that gets a line for
@@ -85,8 +85,7 @@ static int is_reached(const char *call, const char *name) {
   tell(call, name);
   if (!text || ++count != atol(text))
     return 0;
-  forget();
-  if (is_how("before") || is_how("lost") || is_how("undone"))
+  if (is_how("before"))
     die();
   return 1;
 }
@@ -102,7 +101,9 @@ static int fails(int reached) {
 /* What a call answers behind which the process may be killed. */
 static long answered(int reached, long answer) {
   int error = errno;
-  if (reached && is_how("after"))
+  if (reached)
+    forget();
+  if (reached && (is_how("after") || is_how("lost") || is_how("undone")))
     die();
   errno = error;
   return answer;

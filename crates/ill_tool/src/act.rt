@@ -2,7 +2,7 @@
 
 ghost use Rattle.std.specs.Prelude.{map};
 ghost use Rattle.ill_tool.specs.Actions.{action_named};
-ghost use Rattle.ill_tool.specs.Standing.{standing_of};
+ghost use Rattle.ill_tool.specs.Standing.{standing_of, CountsToolFailure};
 ghost use Rattle.ill_tool.specs.Act.{ActsAndSaves, RunsAct};
 
 use crate::action::action;
@@ -27,10 +27,12 @@ pub fn run_act<S: Store, W: Write>(
     words: &[&str],
     writer: &mut W,
 ) -> Result<bool, ToolFault>
-    ensures { RunsAct (action_named desk.old.live today (map (λ word. word.now) words.now))
+    ensures runs { RunsAct (action_named desk.old.live today (map (λ word. word.now) words.now))
         (standing_of S.is_honest S.landed desk.old)
         (W.contents writer.old) (W.contents writer.new) result
         (standing_of S.is_honest S.landed desk.new) }
+    ensures counted { CountsToolFailure result (S.failures desk.old.store)
+        (S.failures desk.new.store) }
 {
     let Some(action) = action(alloc, desk.side(), today, words)? else {
         return Err(ToolFault::Arguments);
@@ -47,8 +49,10 @@ fn act_and_save<S: Store>(
     desk: &mut Desk1<S>,
     action: &Action,
 ) -> Result<Outcome, ToolFault>
-    ensures { ActsAndSaves (standing_of S.is_honest S.landed desk.old) action.now result
+    ensures acts { ActsAndSaves (standing_of S.is_honest S.landed desk.old) action.now result
         (standing_of S.is_honest S.landed desk.new) }
+    ensures counted { CountsToolFailure result (S.failures desk.old.store)
+        (S.failures desk.new.store) }
 {
     match desk.act(alloc, action) {
         Ok(()) => match desk.save(alloc) {

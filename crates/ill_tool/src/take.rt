@@ -1,6 +1,6 @@
 //! The command `take`.
 
-ghost use Rattle.ill_tool.specs.Standing.{standing_of};
+ghost use Rattle.ill_tool.specs.Standing.{standing_of, HasCounted};
 ghost use Rattle.ill_tool.specs.Take.{RunsTake, TakesNext, TakesAndSaves};
 
 use crate::fault::ToolFault;
@@ -27,10 +27,11 @@ pub fn run_take<S: Store, R: Read, W: Write>(
     reader: &mut R,
     writer: &mut W,
 ) -> Result<bool, ToolFault>
-    ensures { RunsTake (R.remaining reader.old) (R.remaining reader.new)
+    ensures runs { RunsTake (R.remaining reader.old) (R.remaining reader.new)
         (W.contents writer.old) (W.contents writer.new)
         (standing_of S.is_honest S.landed desk.old) result
         (standing_of S.is_honest S.landed desk.new) }
+    ensures counted { HasCounted result (S.failures desk.new.store) }
 {
     let mut all_fine = true;
     for _ in 0..MAX_APDUS {
@@ -53,10 +54,11 @@ fn take_next<S: Store, R: Read, W: Write>(
     reader: &mut R,
     writer: &mut W,
 ) -> Result<Option<bool>, ToolFault>
-    ensures { TakesNext (R.remaining reader.old) (R.remaining reader.new)
+    ensures takes { TakesNext (R.remaining reader.old) (R.remaining reader.new)
         (W.contents writer.old) (W.contents writer.new)
         (standing_of S.is_honest S.landed desk.old) result
         (standing_of S.is_honest S.landed desk.new) }
+    ensures counted { HasCounted result (S.failures desk.new.store) }
 {
     match read_apdu(alloc, reader) {
         Ok(Some(apdu)) => match take_and_save(alloc, desk, &apdu) {
@@ -77,8 +79,9 @@ fn take_and_save<S: Store>(
     desk: &mut Desk1<S>,
     apdu: &Apdu,
 ) -> Result<Outcome, ToolFault>
-    ensures { TakesAndSaves (standing_of S.is_honest S.landed desk.old) apdu.now result
+    ensures takes { TakesAndSaves (standing_of S.is_honest S.landed desk.old) apdu.now result
         (standing_of S.is_honest S.landed desk.new) }
+    ensures counted { HasCounted result (S.failures desk.new.store) }
 {
     match desk.take(alloc, apdu) {
         Ok(Taking::Taken) => match desk.save(alloc) {

@@ -1,7 +1,7 @@
 use Rattle.std.proofs.Common.{Option, Bool, Ok, Err, subst, arith}
 use Rattle.ill_tool.specs.Standing.{standing_of}
 use Rattle.ill_tool.specs.Take.{TakesNext}
-use Rattle.ill_tool.proofs.TakeLemmas.{one_more_taken, taken_all}
+use Rattle.ill_tool.proofs.TakeLemmas.{one_more_taken, taken_until, taken_all}
 use Rattle.ill_tool.proofs.take.run_take.Goals as goal
 
 pub loop-preserved : goal.loop-preserved
@@ -12,8 +12,11 @@ loop-preserved g c =
     let next = subst
     (λ (found : Option Bool). TakesNext (remaining c.loop.reader) (remaining c.take_next.new.reader) (contents c.loop.writer) (contents c.take_next.new.writer)
     (stands c.loop.desk) (Ok found) (stands c.take_next.new.desk))
-    c.in-Ok-Some.field-0-is c.in-Ok-Some.ensures in
+    c.in-Ok-Some.field-0-is c.in-Ok-Some.ensures.takes in
     one_more_taken _ _ _ _ _ _ _ _ _ c.loop.counter c.loop.all_fine c.in-Ok-Some.fine c.loop.invariant next
 
-pub returns-in-Err-end : goal.returns-in-Err-end
-returns-in-Err-end g c = taken_all _ _ _ _ _ _ _ c.loop.counter c.loop.all_fine (Err c.in-Err-end.fault) (omega arith) c.loop.invariant c.in-Err-end.ensures
+pub returns-in-Err-end-clause-runs : goal.returns-in-Err-end-clause-runs
+returns-in-Err-end-clause-runs g c = taken_all _ _ _ _ _ _ _ c.loop.counter c.loop.all_fine (Err c.in-Err-end.fault) (omega arith) c.loop.invariant c.in-Err-end.ensures
+
+pub returns-in-Err-clause-runs : goal.returns-in-Err-clause-runs
+returns-in-Err-clause-runs g c = taken_until _ _ _ _ _ _ _ _ _ c.loop.counter c.loop.all_fine c.in-Err.fault (omega arith) c.loop.invariant c.in-Err.ensures.takes

@@ -8,6 +8,7 @@
      undone  it is killed after the call, and a rename is undone whose folder was not flushed
      short   a read or a write moves half of the bytes
      EIO     or ENOSPC, EDQUOT, ENOMEM, EINTR: the call fails so, and does nothing, but that a close closes
+     broken  this call and all behind it fail with EIO, but those of standard input, output and errors
    What is lost or undone is what a machine may forget that stops. STOP_LOG names a file that gets a line for
    each call before it is made: its name, and that of the file. */
 #define _GNU_SOURCE
@@ -52,7 +53,7 @@ static int is_how(const char *text) {
 /* The errno that the call is to fail with, or 0. */
 static int fault(void) {
   return is_how("EIO") ? EIO : is_how("ENOSPC") ? ENOSPC : is_how("EDQUOT") ? EDQUOT
-    : is_how("ENOMEM") ? ENOMEM : is_how("EINTR") ? EINTR : 0;
+    : is_how("ENOMEM") ? ENOMEM : is_how("EINTR") ? EINTR : is_how("broken") ? EIO : 0;
 }
 
 static void die(void) {
@@ -79,11 +80,17 @@ static void tell(const char *call, const char *name) {
     abort();
 }
 
-/* Counts a call, and tells whether it is the one to stop at. */
+static int is_stream(const char *name) {
+  return !strcmp(name, "input") || !strcmp(name, "output") || !strcmp(name, "errors");
+}
+
+/* Counts a call, and tells whether it is one to stop at. */
 static int is_reached(const char *call, const char *name) {
   const char *text = getenv("STOP");
   tell(call, name);
-  if (!text || ++count != atol(text))
+  if (text && ++count > atol(text) && is_how("broken"))
+    return !is_stream(name);
+  if (!text || count != atol(text) || (is_how("broken") && is_stream(name)))
     return 0;
   if (is_how("before"))
     die();

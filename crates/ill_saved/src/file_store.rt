@@ -96,8 +96,11 @@ impl<'a, R: Files> FileStore<'a, R> {
     }
 
     /// Writes the bytes beside the record, and then puts them in its place. Each step waits until the
-    /// disk has what was written.
+    /// disk has what was written. An empty path is that of no file, and nothing is touched for it.
     fn replace(&self, bytes: &[u8]) -> io::Result<()> {
+        if self.path.is_empty() {
+            return Err(ErrorKind::NotFound.into());
+        }
         self.remove_new()?;
         if let Err(error) = self.place(bytes) {
             let _ = self.remove_new();

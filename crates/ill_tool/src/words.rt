@@ -41,7 +41,21 @@ fn perform<T: Files, R: Read, W: Write>(
     let mut reader = BufReader::new(alloc, reader).map_err(|_| ToolFault::OutOfMemory)?;
     let mut writer = BufWriter::new(alloc, writer).map_err(|_| ToolFault::OutOfMemory)?;
     let done = run(rt, alloc, request, &mut reader, &mut writer);
-    writer.flush().map_err(|_| ToolFault::Write)?;
+    finish_writing(writer, done)
+}
+
+/// Writes what is left in the buffer, and answers what was done. A writer that has failed is not tried
+/// again, so what is left then is dropped.
+fn finish_writing<W: Write>(
+    mut writer: BufWriter<&mut W>,
+    done: Result<bool, ToolFault>,
+) -> Result<bool, ToolFault> {
+    let written = match done {
+        Err(ToolFault::Write) => Err(ToolFault::Write),
+        _ => writer.flush().map_err(|_| ToolFault::Write),
+    };
+    let _ = writer.into_parts();
+    written?;
     done
 }
 

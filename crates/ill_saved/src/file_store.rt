@@ -7,9 +7,10 @@ ghost use Rattle.ill_saved.specs.Store.{Filed, FileLoads, FileSaves, folder_of, 
 use crate::store::{Store, StoreFault};
 use ill_values::OutOfMemory;
 use std::alloc::Global;
-use std::fs::{File, OpenFile};
+use std::fs::{File, Metadata, OpenFile, OpenOptions};
 use std::io::{ErrorKind, Read, Write};
 use std::marker::Model;
+use std::os::unix::fs::{MetadataExt, OpenOptionsExt, PermissionsExt, lchown};
 use std::path::Path;
 use std::rt::Files;
 use std::{fs, io};
@@ -43,6 +44,10 @@ impl<'a, R: Files> Model for FileStore<'a, R> {
 impl<'a, R: Files> FileStore<'a, R> {
     /// The store in the file at this path, whether it is there or not, for records of `limit` bytes
     /// at most. No file is touched.
+    ///
+    /// The limit is that of a load alone: a save is not held to it, and a longer record that it saves
+    /// is `TooLarge` for the next load. With 65,535 or more every record of a side is loaded again
+    /// (`laws::record_is_short`).
     pub fn at(
         rt: &'a R,
         alloc: Global,
@@ -82,7 +87,7 @@ impl<'a, R: Files> FileStore<'a, R> {
         }
     }
 
-    /// The bytes of the file, which are read no further than one byte past the limit.
+    /// The bytes of the record, which are read no further than one byte past the limit.
     fn read(&mut self, alloc: Global, file: R::File) -> Result<Option<Vec<u8>>, StoreFault>
         ensures { FileLoads (λ b. b.items) self.old result self.new }
     {
@@ -90,8 +95,31 @@ impl<'a, R: Files> FileStore<'a, R> {
         let most = u64::from(self.limit) + 1;
         match file.take(most).read_to_end(&mut bytes) {
             Ok(size) if size > self.limit as usize => Err(StoreFault::TooLarge),
-            Ok(_) => Ok(Some(bytes)),
+            Ok(_) => match self.flush_name() {
+                Ok(()) => Ok(Some(bytes)),
+                Err(_) => Err(self.fail()),
+            },
             Err(error) => Err(self.read_fault(&error)),
+        }
+    }
+
+    /// Opens the record, if there is one.
+    fn open_record(&self) -> io::Result<Option<R::File>> {
+        match self.find_record()? {
+            Some(_) => fs::open(self.rt, self.path.as_str()).map(Some),
+            None => Ok(None),
+        }
+    }
+
+    /// What the system says of the record, if there is one. Anything but a regular file in its place
+    /// is a fault: to open a pipe would be to wait on it, and to follow a link, to have two names for
+    /// one record.
+    fn find_record(&self) -> io::Result<Option<Metadata>> {
+        match fs::symlink_metadata(self.rt, self.path.as_str()) {
+            Ok(found) if found.is_file() => Ok(Some(found)),
+            Ok(_) => Err(ErrorKind::InvalidInput.into()),
+            Err(error) if error.kind() == ErrorKind::NotFound => Ok(None),
+            Err(error) => Err(error),
         }
     }
 
@@ -101,17 +129,19 @@ impl<'a, R: Files> FileStore<'a, R> {
         if self.path.is_empty() {
             return Err(ErrorKind::NotFound.into());
         }
+        let record = self.find_record()?;
+        let folder = self.open_folder()?;
         self.remove_new()?;
-        if let Err(error) = self.place(bytes) {
+        if let Err(error) = self.place(bytes, record) {
             let _ = self.remove_new();
             return Err(error);
         }
-        self.flush_folder()
+        flush_names(folder)
     }
 
     /// Puts the bytes in the place of the record.
-    fn place(&self, bytes: &[u8]) -> io::Result<()> {
-        self.write_new(bytes)?;
+    fn place(&self, bytes: &[u8], record: Option<Metadata>) -> io::Result<()> {
+        self.write_new(bytes, record)?;
         fs::rename(self.rt, self.new_path.as_str(), self.path.as_str())
     }
 
@@ -124,31 +154,84 @@ impl<'a, R: Files> FileStore<'a, R> {
         }
     }
 
-    /// Writes the bytes to a file that was not there.
-    fn write_new(&self, bytes: &[u8]) -> io::Result<()> {
-        let mut file = File::create_new(self.rt, self.new_path.as_str())?;
-        self.keep_permissions(&file)?;
+    /// Writes the bytes to a file that was not there, which those may read and write who may do so
+    /// with the record. The first record has the permissions that the system gives a new file.
+    fn write_new(&self, bytes: &[u8], record: Option<Metadata>) -> io::Result<()> {
+        let mut file = match record {
+            Some(record) => self.create_like(&record)?,
+            None => File::create_new(self.rt, self.new_path.as_str())?,
+        };
         file.write_all(bytes)?;
         file.sync_all()
     }
 
-    /// Lets those and no others read and write a file who may do so with the record that is there.
-    fn keep_permissions(&self, file: &R::File) -> io::Result<()> {
-        match fs::metadata(self.rt, self.path.as_str()) {
-            Ok(old) => file.set_permissions(old.permissions()),
-            Err(error) if error.kind() == ErrorKind::NotFound => Ok(()),
+    /// Creates the new file with the group and the permissions of the record. Until it has both, it
+    /// is its owner's alone.
+    fn create_like(&self, record: &Metadata) -> io::Result<R::File> {
+        let mut options = OpenOptions::new();
+        options.write(true);
+        options.create_new(true);
+        options.mode(0o600);
+        let file = options.open(self.rt, self.new_path.as_str())?;
+        let mut permissions = record.permissions();
+        if !self.keep_group(record.gid())? {
+            permissions.set_mode(without_group(permissions.mode()));
+        }
+        file.set_permissions(permissions)?;
+        Ok(file)
+    }
+
+    /// Gives the new file the group of the record, and tells whether the system lets it have that.
+    fn keep_group(&self, group: u32) -> io::Result<bool> {
+        match lchown(self.rt, self.new_path.as_str(), None, Some(group)) {
+            Ok(()) => Ok(true),
+            Err(error) if is_refused(error.kind()) => Ok(false),
             Err(error) => Err(error),
         }
     }
 
-    /// Waits until the disk has the new name of the file. A folder that may not be read is passed
-    /// over.
-    fn flush_folder(&self) -> io::Result<()> {
+    /// Opens the folder that holds the record. One that may not be read is passed over.
+    fn open_folder(&self) -> io::Result<Option<R::File>> {
         match fs::open(self.rt, folder_of(self.path.as_str())) {
-            Ok(folder) => folder.sync_all(),
-            Err(_) => Ok(()),
+            Ok(folder) => Ok(Some(folder)),
+            Err(error) if error.kind() == ErrorKind::PermissionDenied => Ok(None),
+            Err(error) => Err(error),
         }
     }
+
+    /// Waits until the disk has the file under the name by which it was opened.
+    fn flush_name(&self) -> io::Result<()> {
+        flush_names(self.open_folder()?)
+    }
+}
+
+/// Waits until the disk has the names in a folder. A file system that has no such flush is passed
+/// over.
+fn flush_names<F: OpenFile + Drop>(folder: Option<F>) -> io::Result<()> {
+    let Some(folder) = folder else {
+        return Ok(());
+    };
+    match folder.sync_all() {
+        Err(error) if is_unsupported(error.kind()) => Ok(()),
+        flushed => flushed,
+    }
+}
+
+/// Whether a call failed since the file system does not have it.
+fn is_unsupported(fault: ErrorKind) -> bool {
+    matches!(fault, ErrorKind::Unsupported | ErrorKind::InvalidInput)
+}
+
+/// Whether a call failed since whoever runs this may not make it, or since the file system does not have it.
+fn is_refused(fault: ErrorKind) -> bool {
+    fault == ErrorKind::PermissionDenied || is_unsupported(fault)
+}
+
+/// The permissions for a file that has another group than the record. Its group gets none. Whoever
+/// was of the record's group is one of the others now, so these keep what the group had too.
+fn without_group(mode: u32) -> u32 {
+    let of_the_group = (mode >> 3) & 0o7;
+    (mode & !0o77) | (mode & of_the_group)
 }
 
 /// The folder that holds the file at a path.
@@ -174,9 +257,9 @@ impl<'a, R: Files> Store for FileStore<'a, R> {
     fn load(&mut self, alloc: Global) -> Result<Option<Vec<u8>>, StoreFault>
         ensures { FileLoads (λ b. b.items) self.old result self.new }
     {
-        match fs::open(self.rt, self.path.as_str()) {
-            Ok(file) => self.read(alloc, file),
-            Err(error) if error.kind() == ErrorKind::NotFound => Ok(None),
+        match self.open_record() {
+            Ok(Some(file)) => self.read(alloc, file),
+            Ok(None) => Ok(None),
             Err(_) => Err(self.fail()),
         }
     }

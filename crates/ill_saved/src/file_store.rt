@@ -129,10 +129,10 @@ impl<'a, R: Files> FileStore<'a, R> {
         if self.path.is_empty() {
             return Err(ErrorKind::NotFound.into());
         }
-        let record = self.find_record()?;
+        let old = self.find_record()?;
         let folder = self.open_folder()?;
         self.remove_new()?;
-        if let Err(error) = self.place(bytes, record) {
+        if let Err(error) = self.place(bytes, old) {
             let _ = self.remove_new();
             return Err(error);
         }
@@ -140,8 +140,8 @@ impl<'a, R: Files> FileStore<'a, R> {
     }
 
     /// Puts the bytes in the place of the record.
-    fn place(&self, bytes: &[u8], record: Option<Metadata>) -> io::Result<()> {
-        self.write_new(bytes, record)?;
+    fn place(&self, bytes: &[u8], old: Option<Metadata>) -> io::Result<()> {
+        self.write_new(bytes, old)?;
         fs::rename(self.rt, self.new_path.as_str(), self.path.as_str())
     }
 
@@ -156,9 +156,9 @@ impl<'a, R: Files> FileStore<'a, R> {
 
     /// Writes the bytes to a file that was not there, which those may read and write who may do so
     /// with the record. The first record has the permissions that the system gives a new file.
-    fn write_new(&self, bytes: &[u8], record: Option<Metadata>) -> io::Result<()> {
-        let mut file = match record {
-            Some(record) => self.create_like(&record)?,
+    fn write_new(&self, bytes: &[u8], old: Option<Metadata>) -> io::Result<()> {
+        let mut file = match old {
+            Some(old) => self.create_like(&old)?,
             None => File::create_new(self.rt, self.new_path.as_str())?,
         };
         file.write_all(bytes)?;
@@ -167,14 +167,14 @@ impl<'a, R: Files> FileStore<'a, R> {
 
     /// Creates the new file with the group and the permissions of the record. Until it has both, it
     /// is its owner's alone.
-    fn create_like(&self, record: &Metadata) -> io::Result<R::File> {
+    fn create_like(&self, old: &Metadata) -> io::Result<R::File> {
         let mut options = OpenOptions::new();
         options.write(true);
         options.create_new(true);
         options.mode(0o600);
         let file = options.open(self.rt, self.new_path.as_str())?;
-        let mut permissions = record.permissions();
-        if !self.keep_group(record.gid())? {
+        let mut permissions = old.permissions();
+        if !self.keep_group(old.gid())? {
             permissions.set_mode(without_group(permissions.mode()));
         }
         file.set_permissions(permissions)?;

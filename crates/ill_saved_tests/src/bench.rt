@@ -1,18 +1,15 @@
 //! What lies on the bench: nothing at first, then a store, or a desk with its store.
 
-ghost use Rattle.std.specs.Prelude.{◌≡◌, IfSome};
-ghost use Rattle.ill_saved.specs.Side.{idle_of};
-
 use crate::calls::{BytesCall, WordsCall};
 use crate::desks;
 use crate::files::Folder;
+use crate::idle::idle;
 use crate::line::Line;
 use crate::names::Names;
 use crate::standing::Standing;
 use crate::words::{store_words, write_fault};
-use ill_core::{Requester, Responder, State};
-use ill_saved::{Desk1, DeskFault, MemoryStore, NextCall, Side, Store};
-use ill_values::TxnId;
+use ill_core::State;
+use ill_saved::{Desk1, DeskFault, MemoryStore, NextCall, Store};
 use std::alloc::Global;
 use std::rt::Files;
 
@@ -152,30 +149,6 @@ impl<'a, R: Files> Bench<'a, R> {
         }
         Some(())
     }
-}
-
-/// The side before its first message that `ROLE GROUP TRANSACTION` says.
-fn idle(alloc: Global, words: &str) -> Option<Side>
-    ensures { IfSome result (λ side. side ≡ idle_of side) }
-{
-    let (role, names) = words.split_once(' ')?;
-    let txn = txn_of(alloc, names)?;
-    Some(idle_side(alloc, role, txn))
-}
-
-fn idle_side(alloc: Global, role: &str, txn: TxnId) -> Side
-    ensures { result ≡ idle_of result }
-{
-    if role == "requester" {
-        Side::Requester(Requester::idle(alloc, txn))
-    } else {
-        Side::Responder(Responder::idle(alloc, txn))
-    }
-}
-
-fn txn_of(alloc: Global, names: &str) -> Option<TxnId> {
-    let (group, transaction) = names.split_once(' ')?;
-    TxnId::new(alloc, group.as_bytes(), transaction.as_bytes()).ok()
 }
 
 fn next_call(word: &str) -> Option<NextCall> {

@@ -84,11 +84,11 @@ impl<'a, R: Files> Files for Failing<'a, R> {
     }
 
     fn metadata(&self, path: &str) -> io::Result<Metadata> {
-        self.left.pass()?;
         self.rt.metadata(path)
     }
 
     fn symlink_metadata(&self, path: &str) -> io::Result<Metadata> {
+        self.left.pass()?;
         self.rt.symlink_metadata(path)
     }
 
@@ -104,6 +104,11 @@ impl<'a, R: Files> Files for Failing<'a, R> {
     fn remove_file(&self, path: &str) -> io::Result<()> {
         self.left.pass()?;
         self.rt.remove_file(path)
+    }
+
+    fn lchown(&self, path: &str, owner: Option<u32>, group: Option<u32>) -> io::Result<()> {
+        self.left.pass()?;
+        self.rt.lchown(path, owner, group)
     }
 
     fn create_dir(&self, path: &str) -> io::Result<()> {

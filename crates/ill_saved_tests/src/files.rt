@@ -7,14 +7,18 @@ ghost use Rattle.ill_saved.specs.Store.{most_failures};
 use crate::actions::action;
 use crate::failing::Failing;
 use crate::line::Line;
+use crate::longest;
 use crate::names::Names;
+use crate::restarts::{Damage, Restarts};
 use crate::standing::Standing;
 use crate::words::store_words;
 use ill_core::Requester;
 use ill_saved::{Desk1, FileStore, Side, Store, StoreFault};
 use ill_values::{Number, TxnId};
 use std::alloc::Global;
+use std::fs::Permissions;
 use std::io::ErrorKind;
+use std::os::unix::fs::{MetadataExt, PermissionsExt};
 use std::rt::Files;
 use std::{fs, io};
 
@@ -51,6 +55,10 @@ impl<'a, R: Files> Folder<'a, R> {
             "folder" => self.folder(line, words),
             "link" => self.link(line, words),
             "shows" => self.shows(line, words),
+            "mode" => self.mode(line, words),
+            "change" => self.change_mode(line, words),
+            "damaged" => self.damaged(line, names, words),
+            "longest" => self.longest(line, words),
             _ => None,
         }
     }
@@ -175,6 +183,42 @@ impl<'a, R: Files> Folder<'a, R> {
     fn bytes_of(&self, path: &str) -> io::Result<Vec<u8>> {
         fs::read(&(self.rt, self.alloc), path)
     }
+
+    /// `mode NAME`: who may read and write the file, in octal.
+    fn mode(&mut self, line: &mut Line, name: &str) -> Option<()> {
+        let found = fs::metadata(self.rt, self.path(name)?.as_str()).ok()?;
+        line.octal(found.mode() & 0o777);
+        Some(())
+    }
+
+    /// `change NAME MODE`: says in octal who may read and write the file.
+    fn change_mode(&mut self, line: &mut Line, words: &str) -> Option<()> {
+        let (name, mode) = words.split_once(' ')?;
+        let mode = u32::from_str_radix(mode, 8).ok()?;
+        let permissions = Permissions::from_mode(mode);
+        fs::set_permissions(self.rt, self.path(name)?.as_str(), permissions).ok()?;
+        line.text("changed");
+        Some(())
+    }
+
+    /// `damaged NAME LIMIT DAMAGE`: what a desk answers behind whose back its record was damaged.
+    fn damaged(&mut self, line: &mut Line, names: &Names, words: &str) -> Option<()> {
+        let (name, words) = words.split_once(' ')?;
+        let (limit, words) = words.split_once(' ').unwrap_or((words, ""));
+        let damage = match words {
+            "folder" => Damage::Folder,
+            "nothing" => Damage::Nothing,
+            bytes => Damage::Bytes(names.bytes(bytes, 0)?),
+        };
+        let path = self.path(name)?;
+        let limit = limit.parse::<u32>().ok()?;
+        Restarts::new(self.rt, self.alloc, path.as_str(), limit).write(line, &damage)
+    }
+
+    /// `longest NAME`: the longest record of a side, in this file.
+    fn longest(&mut self, line: &mut Line, name: &str) -> Option<()> {
+        longest::write(self.rt, self.alloc, line, self.path(name)?.as_str())
+    }
 }
 
 fn fault_of(word: &str) -> Option<ErrorKind> {
@@ -182,6 +226,9 @@ fn fault_of(word: &str) -> Option<ErrorKind> {
         "fault" => Some(ErrorKind::Other),
         "not-found" => Some(ErrorKind::NotFound),
         "memory" => Some(ErrorKind::OutOfMemory),
+        "denied" => Some(ErrorKind::PermissionDenied),
+        "unsupported" => Some(ErrorKind::Unsupported),
+        "invalid" => Some(ErrorKind::InvalidInput),
         _ => None,
     }
 }

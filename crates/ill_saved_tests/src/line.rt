@@ -56,6 +56,13 @@ impl Line {
         }
     }
 
+    /// Writes a number in octal.
+    pub fn octal(&mut self, number: u32) {
+        if write!(self.text, "{number:o}").is_err() {
+            self.is_whole = false;
+        }
+    }
+
     /// Writes a count, or `#` where it is the octet.
     pub fn count(&mut self, count: u8) {
         if Some(count) == self.octet {

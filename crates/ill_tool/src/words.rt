@@ -9,7 +9,7 @@ use crate::simulate::run_simulate;
 use clap::error::ErrorKind;
 use ill_saved::DeskFault;
 use std::alloc::Global;
-use std::io::{BufReader, BufWriter, Read, Write};
+use std::io::{BufReader, BufWriter, Cursor, Read, Write};
 use std::rt::Files;
 
 /// Performs one command line, whose first word is the program's name, and answers the exit status.
@@ -119,10 +119,22 @@ fn finish<E: Write>(outcome: Result<bool, ToolFault>, errors: &mut E) -> u8 {
         Ok(true) => 0,
         Ok(false) => REFUSED,
         Err(fault) => {
-            let _ = writeln!(errors, "ill: {fault}");
+            write_fault(fault, errors);
             status_after(fault)
         }
     }
+}
+
+/// The most bytes of the line of a fault.
+const FAULT_LINE: usize = 64;
+
+/// Writes the line of a fault in one piece, so that no other program's line comes to stand within it.
+/// It takes no memory, since there may be none.
+fn write_fault<E: Write>(fault: ToolFault, errors: &mut E) {
+    let mut line = Cursor::new([0; FAULT_LINE]);
+    let _ = writeln!(line, "ill: {fault}");
+    let size = usize::try_from(line.position()).unwrap_or(FAULT_LINE);
+    let _ = errors.write_all(line.get_ref().get(..size).unwrap_or_default());
 }
 
 /// The exit status after a fault.

@@ -1,0 +1,33 @@
+//! Sides before their first message.
+
+ghost use Rattle.std.specs.Prelude.{◌≡◌, IfSome};
+ghost use Rattle.ill_saved.specs.Side.{idle_of};
+
+use ill_core::{Requester, Responder};
+use ill_saved::Side;
+use ill_values::TxnId;
+use std::alloc::Global;
+
+/// The side before its first message that `ROLE GROUP TRANSACTION` says.
+pub fn idle(alloc: Global, words: &str) -> Option<Side>
+    ensures { IfSome result (λ side. side ≡ idle_of side) }
+{
+    let (role, names) = words.split_once(' ')?;
+    let txn = txn_of(alloc, names)?;
+    Some(idle_side(alloc, role, txn))
+}
+
+fn idle_side(alloc: Global, role: &str, txn: TxnId) -> Side
+    ensures { result ≡ idle_of result }
+{
+    if role == "requester" {
+        Side::Requester(Requester::idle(alloc, txn))
+    } else {
+        Side::Responder(Responder::idle(alloc, txn))
+    }
+}
+
+fn txn_of(alloc: Global, names: &str) -> Option<TxnId> {
+    let (group, transaction) = names.split_once(' ')?;
+    TxnId::new(alloc, group.as_bytes(), transaction.as_bytes()).ok()
+}

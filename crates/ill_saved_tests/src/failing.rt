@@ -5,6 +5,7 @@ use std::cell::Cell;
 use std::fs::{Metadata, OpenFile, OpenOptions, Permissions};
 use std::io;
 use std::io::{Error, ErrorKind, Read, Seek, SeekFrom, Write};
+use std::os::unix::fs::MetadataExt;
 use std::rc::Rc;
 use std::rt::Files;
 
@@ -13,6 +14,7 @@ use std::rt::Files;
 pub struct Failing<'a, R: Files> {
     rt: &'a R,
     left: Left,
+    made: Cell<u32>,
 }
 
 /// One of these files, which is open.
@@ -41,7 +43,13 @@ impl<'a, R: Files> Failing<'a, R> {
         Ok(Failing {
             rt,
             left: Left { calls, fault },
+            made: Cell::new(0),
         })
+    }
+
+    /// Who might read and write the last file that was made, when it was made.
+    pub fn made(&self) -> u32 {
+        self.made.get()
     }
 }
 
@@ -73,8 +81,12 @@ impl<'a, R: Files> Files for Failing<'a, R> {
 
     fn open_file(&self, how: &OpenOptions, path: &str) -> io::Result<FailingFile<R::File>> {
         self.left.pass()?;
+        let file = self.rt.open_file(how, path)?;
+        if how.asks_create_new() {
+            self.made.set(file.metadata()?.mode() & 0o777);
+        }
         Ok(FailingFile {
-            file: self.rt.open_file(how, path)?,
+            file,
             left: self.left.share()?,
         })
     }

@@ -57,6 +57,7 @@ impl<'a, R: Files> Folder<'a, R> {
             "shows" => self.shows(line, words),
             "mode" => self.mode(line, words),
             "change" => self.change_mode(line, words),
+            "making" => self.making(line, names, words),
             "damaged" => self.damaged(line, names, words),
             "longest" => self.longest(line, words),
             _ => None,
@@ -198,6 +199,19 @@ impl<'a, R: Files> Folder<'a, R> {
         let permissions = Permissions::from_mode(mode);
         fs::set_permissions(self.rt, self.path(name)?.as_str(), permissions).ok()?;
         line.text("changed");
+        Some(())
+    }
+
+    /// `making NAME BYTES`: a save, and who may read and write the new file from its making on.
+    fn making(&mut self, line: &mut Line, names: &Names, words: &str) -> Option<()> {
+        let (name, bytes) = words.split_once(' ')?;
+        let bytes = names.bytes(bytes, 0)?;
+        let files = Failing::after(self.rt, self.alloc, u32::MAX, ErrorKind::Other).ok()?;
+        let path = self.path(name)?;
+        let mut store = FileStore::at(&files, self.alloc, path.as_str(), 100).ok()?;
+        write_saved(line, save(&mut store, self.alloc, &bytes));
+        line.text(", made ");
+        line.octal(files.made());
         Some(())
     }
 

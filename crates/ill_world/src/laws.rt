@@ -1,6 +1,6 @@
 //! What holds of every world, as contracts of functions that do nothing.
 
-ghost use Rattle.std.specs.Prelude.{◌≡◌, ℕ, List, Option, Some, Ok};
+ghost use Rattle.std.specs.Prelude.{◌≡◌, ◌++◌, ℕ, List, Option, Some, Ok};
 ghost use Rattle.ill_values.specs.Day.{Date};
 ghost use Rattle.ill_values.specs.TxnId.{Qualifiers};
 ghost use Rattle.ill_values.specs.declared.apdu.Apdu.{Apdu};
@@ -13,9 +13,10 @@ ghost use Rattle.ill_core.specs.Responder.{ResponderRecord};
 ghost use Rattle.ill_core.specs.ResponderActions as responder_actions;
 ghost use Rattle.ill_core.specs.ResponderDeliveries as responder_deliveries;
 ghost use Rattle.ill_world.specs.declared.event.Event.{Event};
-ghost use Rattle.ill_world.specs.World.{Parties, first_world, happens};
-ghost use Rattle.ill_world.specs.Safety.{OfBoth, EndsAlike, WasShipped, WasGranted, IsSafeRun};
+ghost use Rattle.ill_world.specs.World.{Parties, first_world, happens, run_of};
+ghost use Rattle.ill_world.specs.Safety.{OfBoth, EndsAlike, WasShipped, WasGranted, Safe, IsSafeRun};
 ghost use Rattle.ill_world.specs.Agreement.{Agrees, IsAgreeingRun, KeepsDates, Arrives};
+ghost use Rattle.ill_world.specs.BadWorlds.{IsUnsafe, Disagrees};
 ghost use Rattle.ill_world.specs.Invariant.{WasSent, RequesterStands, ResponderStands, Stands};
 
 use ill_core::laws::{
@@ -91,7 +92,7 @@ pub fn sides_agree()
 
 /// Every world of every run is safe.
 pub fn every_run_is_safe()
-    ensures { (txn : Qualifiers) (events : List Event) → IsSafeRun txn events }
+    ensures { (txn : Qualifiers) (events : List Event) → IsSafeRun (first_world txn) events }
 {
     world_stands();
     ends_alike();
@@ -101,7 +102,7 @@ pub fn every_run_is_safe()
 
 /// Both sides agree in every world of every run.
 pub fn every_run_agrees()
-    ensures { (txn : Qualifiers) (events : List Event) → IsAgreeingRun txn events }
+    ensures { (txn : Qualifiers) (events : List Event) → IsAgreeingRun (first_world txn) events }
 {
     world_stands();
     sides_agree();
@@ -122,3 +123,23 @@ pub fn due_dates_stay()
 {
     requester_keeps_due();
 }
+
+/// No world is safe in which a record of the requester is contradicted by one of the responder.
+pub fn no_unsafe_world_is_safe()
+    ensures { (w : Parties) → IsUnsafe w → Safe w → ⊥ }
+{}
+
+/// The sides agree in no world in which a question was answered twice, the request has ended twice, no
+/// yes was given to what is held as accepted, or a record says what is not so.
+pub fn no_disagreeing_world_agrees()
+    ensures { (w : Parties) → Disagrees w → Agrees w → ⊥ }
+{}
+
+/// A run is safe, and both sides agree in it, only where that is so of each world on the way: of the
+/// world after any of the first events.
+pub fn runs_have_each_world()
+    ensures safe { (w : Parties) (before after : List Event) →
+        IsSafeRun w (before ++ after) → Safe (run_of w before) }
+    ensures agrees { (w : Parties) (before after : List Event) →
+        IsAgreeingRun w (before ++ after) → Agrees (run_of w before) }
+{}

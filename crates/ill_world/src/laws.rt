@@ -90,9 +90,9 @@ pub fn sides_agree()
     ensures { (txn : Qualifiers) (w : Parties) → Stands txn w → Agrees w }
 {}
 
-/// Every world of every run is safe.
-pub fn every_run_is_safe()
-    ensures { (txn : Qualifiers) (events : List Event) → IsSafeRun (first_world txn) events }
+/// The world after any events is safe.
+pub fn every_world_is_safe()
+    ensures { (txn : Qualifiers) (events : List Event) → Safe (run_of (first_world txn) events) }
 {
     world_stands();
     ends_alike();
@@ -100,12 +100,26 @@ pub fn every_run_is_safe()
     was_granted();
 }
 
+/// After any events both sides agree.
+pub fn every_world_agrees()
+    ensures { (txn : Qualifiers) (events : List Event) → Agrees (run_of (first_world txn) events) }
+{
+    world_stands();
+    sides_agree();
+}
+
+/// Every world of every run is safe.
+pub fn every_run_is_safe()
+    ensures { (txn : Qualifiers) (events : List Event) → IsSafeRun (first_world txn) events }
+{
+    every_world_is_safe();
+}
+
 /// Both sides agree in every world of every run.
 pub fn every_run_agrees()
     ensures { (txn : Qualifiers) (events : List Event) → IsAgreeingRun (first_world txn) events }
 {
-    world_stands();
-    sides_agree();
+    every_world_agrees();
 }
 
 /// Where the world stands, one arrival of the end of a request, or of a Returned, is enough.

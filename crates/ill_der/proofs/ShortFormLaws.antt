@@ -165,6 +165,18 @@ body_bound values (Renew wished) is = omega (arith, (wish_is values).bound wishe
 body_bound values (RenewAnswer answers granted) is = omega (arith, (grant_is values).bound (answers, granted) is)
 body_bound values _ is = omega arith
 
+-- but for a request's, the further fields are few
+short_body : Values → (body : Body) → IsBody body → (type_of body ≡ types.IllRequest → ⊥) → length (spell_body body) ≤ 17
+short_body values (IllRequest expiry text) is other = absurd (other refl)
+short_body values (Shipped due) is other = omega (arith, (due_date_is values).bound due is)
+short_body values (IllAnswer result) is other = omega (arith, answer_is.bound result tt)
+short_body values (ConditionalReply answers accepts) is other = omega (arith, reply_is.bound (answers, accepts) (is, tt))
+short_body values (CancelReply answers accepts) is other = omega (arith, reply_is.bound (answers, accepts) (is, tt))
+short_body values (Overdue due) is other = omega (arith, (due_date_is values).bound due is)
+short_body values (Renew wished) is other = omega (arith, (wish_is values).bound wished is)
+short_body values (RenewAnswer answers granted) is other = (grant_is values).bound (answers, granted) is
+short_body values _ is other = omega arith
+
 made_faults : {V : Type 0} (P : V → Type 0) (F : List ℕ → Type 0) (n : ℕ) (f : Format V) (make : V → Body) → IsFormat P F n f
     → (left : Left) (d : DerFault) → made_of f make left ≡ Err d → IsInside d
 made_faults P F n f make fs left d e =
@@ -248,10 +260,16 @@ inside_again values apdu at is =
     let first = (head_is values).again front at (spell_body apdu.body) (tt, ((is.txn.group, is.txn.transaction), is.number)) tt in
     rw (first.1, whole_body_again values apdu.body first.0 is.body) refl
 
-pub contents_bound : Values → (apdu : Apdu) → IsApdu apdu → length (contents_of apdu) ≤ 355
-contents_bound values apdu is =
+contents_by_body : Values → (apdu : Apdu) → IsApdu apdu → length (contents_of apdu) ≤ 142 + length (spell_body apdu.body)
+contents_by_body values apdu is =
     let front : Unit {0} × ((List ℕ × List ℕ) × ℕ) = (tt, ((apdu.txn.group, apdu.txn.transaction), apdu.number)) in
-    omega (arith, length-append (head.spell front) (spell_body apdu.body), (head_is values).bound front (tt, ((is.txn.group, is.txn.transaction), is.number)), body_bound values apdu.body is.body)
+    omega (arith, length-append (head.spell front) (spell_body apdu.body), (head_is values).bound front (tt, ((is.txn.group, is.txn.transaction), is.number)))
+
+pub contents_bound : Values → (apdu : Apdu) → IsApdu apdu → length (contents_of apdu) ≤ 355
+contents_bound values apdu is = omega (arith, contents_by_body values apdu is, body_bound values apdu.body is.body)
+
+pub short_contents : Values → (apdu : Apdu) → IsApdu apdu → (type_of apdu.body ≡ types.IllRequest → ⊥) → length (contents_of apdu) ≤ 159
+short_contents values apdu is other = omega (arith, contents_by_body values apdu is, short_body values apdu.body is.body other)
 
 pub inside_faults : Values → (apdu_type : ApduType) (left : Left) (d : DerFault) → inside_of apdu_type left ≡ Err d → IsInside d
 unfolding inside_of

@@ -1,22 +1,26 @@
 -- The laws of spellings, from reading.
-use Rattle.std.proofs.Common.{◌≡◌, ℕ, zero, suc, ◌<◌, ◌≤◌, get_or, ◌/◌, ◌%◌, Bool, true, false, cond, ltb, List, [], ◌∷◌, ◌++◌, length, Some, Result, Ok, Err, refl, sym, ap, ◌∙◌, arith}
+use Rattle.std.proofs.Common.{◌≡◌, ℕ, zero, suc, ◌<◌, ◌≤◌, get_or, true, List, [], ◌++◌, length, Some, Result, Ok, Err, refl, sym, ap, ◌∙◌, arith}
 use Rattle.std.proofs.Math.ListN.{replicate}
 use Rattle.std.proofs.lemmas.List.{append-nil}
 use Rattle.std.proofs.lemmas.Str.{IsUtf8-from_ascii, is_utf8-from_IsUtf8}
 use Rattle.std.specs.Str.{is_utf8}
 use Rattle.ill_values.specs.Text.{IsItem}
 use Rattle.ill_values.specs.declared.apdu.Apdu.{Apdu}
-use Rattle.ill_values.specs.declared.apdu.Body.TheVariants.{IllRequest}
+use Rattle.ill_values.specs.declared.apdu.Body.TheVariants as bodies
+use Rattle.ill_values.specs.Day.{Date, IsDate}
+use Rattle.ill_values.specs.TxnId.{Qualifiers}
 use Rattle.ill_values.specs.Apdu.{IsApdu}
 use Rattle.ill_der.specs.declared.fault.DerFault.{DerFault}
+use Rattle.ill_der.specs.declared.apdu_type.ApduType.TheVariants.{IllRequest}
 use Rattle.ill_der.specs.Format.{element, length_octets}
 use Rattle.ill_der.specs.Types.{octet_of, type_of}
 use Rattle.ill_der.specs.ShortForm.{contents_of, spelling, apdu_at}
 use Rattle.ill_der.specs.Laws.{IsBytes, BeginsWithOne}
 use Rattle.ill_der.proofs.Chains.{ok_is, no_value}
+use Rattle.ill_der.proofs.Lengths.{few_octets}
 use Rattle.ill_der.proofs.Sizes.{element_length}
 use Rattle.ill_der.proofs.ContentsLaws.{Values}
-use Rattle.ill_der.proofs.ShortFormLaws.{apdu_takes, apdu_again, apdu_memory, contents_bound}
+use Rattle.ill_der.proofs.ShortFormLaws.{apdu_takes, apdu_again, apdu_memory, contents_bound, short_contents}
 
 -- an APDU is read from its spelling, as the law says
 abbrev pub ReadsAgain : Type 0
@@ -35,20 +39,19 @@ no_prefix again a b rest first second e =
     let both : (a, rest) ≡ (b, []) = ok_is (a, rest) (b, []) (sym (again a rest first) ∙ ap apdu_at (sym e) ∙ read_alone again b second) in
     ap (λ (x : Apdu × List ℕ). x.1) both
 
-few_octets : (short middle : Bool) (a b c d e f : ℕ) → length (cond short (a ∷ []) (cond middle (b ∷ c ∷ []) (d ∷ e ∷ f ∷ []))) ≤ 3
-few_octets true middle a b c d e f = omega arith
-few_octets false true a b c d e f = omega arith
-few_octets false false a b c d e f = omega arith
-
-few_length_octets : (n : ℕ) → length (length_octets n) ≤ 3
-unfolding length_octets
-few_length_octets n = few_octets (ltb n 128) (ltb n 256) n 0x81 n 0x82 (n / 256) (n % 256)
-
 pub spelled_most : Values → (apdu : Apdu) → IsApdu apdu → length (spelling apdu) ≤ 359
 unfolding spelling
 spelled_most values apdu is =
     let contents = contents_of apdu in
-    omega (arith, element_length (octet_of (type_of apdu.body)) contents, few_length_octets (length contents), contents_bound values apdu is)
+    let bound = contents_bound values apdu is in
+    omega (arith, element_length (octet_of (type_of apdu.body)) contents, few_octets (length contents) 355 bound, bound)
+
+pub spelled_shorter : Values → (apdu : Apdu) → IsApdu apdu → (type_of apdu.body ≡ IllRequest → ⊥) → length (spelling apdu) ≤ 162
+unfolding spelling
+spelled_shorter values apdu is other =
+    let contents = contents_of apdu in
+    let bound = short_contents values apdu is other in
+    omega (arith, element_length (octet_of (type_of apdu.body)) contents, few_octets (length contents) 159 bound, bound)
 
 -- ---- bytes of any kind
 
@@ -78,21 +81,41 @@ longest_item_is : IsItem longest_item
 unfolding longest_item
 longest_item_is = let text : is_utf8 (replicate 200 0x4D) ≡ true = is_utf8-from_IsUtf8 (replicate 200 0x4D) (IsUtf8-from_ascii (replicate 200 0x4D) (same_ascii 200)) in rw text refl
 
+abbrev longest_txn : Qualifiers
+longest_txn = record { group = replicate 64 0x47; transaction = replicate 64 0x54 }
+
+abbrev last_day : Date
+last_day = record { year = 9999; month = 12; day = 31 }
+
+last_day_is : IsDate last_day
+last_day_is = record { from_1900 = omega arith; to_9999 = omega arith; from_january = omega arith; to_december = omega arith; from_first = omega arith; to_last = omega arith }
+
 longest_apdu : Apdu
-longest_apdu = record {
-  txn = record { group = replicate 64 0x47; transaction = replicate 64 0x54 };
-  number = 255;
-  body = IllRequest (Some (record { year = 9999; month = 12; day = 31 })) longest_item;
-}
+longest_apdu = record { txn = longest_txn; number = 255; body = bodies.IllRequest (Some last_day) longest_item }
 
 longest_is : IsApdu longest_apdu
 unfolding longest_apdu
 longest_is = record {
   txn = record { group = refl; transaction = refl };
   number = (omega arith, omega arith);
-  body = (record { from_1900 = omega arith; to_9999 = omega arith; from_january = omega arith; to_december = omega arith; from_first = omega arith; to_last = omega arith }, longest_item_is);
+  body = (last_day_is, longest_item_is);
 }
 
 pub longest_reached : (apdu : Apdu) × IsApdu apdu × (length (spelling apdu) ≡ 359)
 unfolding longest_apdu longest_item spelling element length_octets
 longest_reached = (longest_apdu, longest_is, refl)
+
+longest_other : Apdu
+longest_other = record { txn = longest_txn; number = 255; body = bodies.RenewAnswer 255 (Some last_day) }
+
+longest_other_is : IsApdu longest_other
+unfolding longest_other
+longest_other_is = record {
+  txn = record { group = refl; transaction = refl };
+  number = (omega arith, omega arith);
+  body = ((omega arith, omega arith), last_day_is);
+}
+
+pub shorter_reached : (apdu : Apdu) × IsApdu apdu × (type_of apdu.body ≡ IllRequest → ⊥) × (length (spelling apdu) ≡ 162)
+unfolding longest_other spelling element length_octets
+shorter_reached = (longest_other, longest_other_is, λ e. cc, refl)

@@ -5,6 +5,8 @@ ghost use Rattle.ill_values.specs.declared.apdu.Apdu.{Apdu};
 ghost use Rattle.ill_values.specs.Apdu.{IsApdu};
 ghost use Rattle.ill_der.specs.declared.fault.DerFault.{DerFault};
 ghost use Rattle.ill_der.specs.declared.fault.DerFault.TheVariants.{Short};
+ghost use Rattle.ill_der.specs.declared.apdu_type.ApduType.TheVariants.{IllRequest};
+ghost use Rattle.ill_der.specs.Types.{type_of};
 ghost use Rattle.ill_der.specs.ShortForm.{spelling, apdu_at};
 ghost use Rattle.ill_der.specs.Stream.{IfShort};
 ghost use Rattle.ill_der.specs.Laws.{IsBytes, BeginsWithOne};
@@ -40,6 +42,17 @@ pub fn no_prefix()
 pub fn longest()
     ensures most { (apdu : Apdu) → IsApdu apdu → length (spelling apdu) ≤ 359 }
     ensures reached { (apdu : Apdu) × IsApdu apdu × (length (spelling apdu) ≡ 359) }
+{
+    date_texts();
+    text_sizes();
+}
+
+/// The longest spelling of an APDU that is no ILL-Request has 162 bytes.
+pub fn shorter()
+    ensures most { (apdu : Apdu) → IsApdu apdu → (type_of apdu.body ≡ IllRequest → ⊥) →
+        length (spelling apdu) ≤ 162 }
+    ensures reached { (apdu : Apdu) × IsApdu apdu × (type_of apdu.body ≡ IllRequest → ⊥)
+        × (length (spelling apdu) ≡ 162) }
 {
     date_texts();
     text_sizes();

@@ -6,3 +6,4 @@ pub mod RecordLaws
 pub mod Sides
 pub mod Desks
 pub mod Files
+pub mod Sizes

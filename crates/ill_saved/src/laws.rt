@@ -1,6 +1,6 @@
 //! What holds of saved records, as contracts of functions that do nothing.
 
-ghost use Rattle.std.specs.Prelude.{◌≡◌, ℕ, List, Ok};
+ghost use Rattle.std.specs.Prelude.{◌≡◌, ℕ, ◌≤◌, List, length, Ok};
 ghost use Rattle.ill_der.specs.Laws.{IsBytes};
 ghost use Rattle.ill_saved.specs.declared.side.Side.{Side};
 ghost use Rattle.ill_saved.specs.Side.{issued_of, IsRow, Grows, Follows, IsFrontOf};
@@ -34,6 +34,16 @@ pub fn one_side()
     ensures { (s t : Side) → IsSide s → IsSide t → record_spelling s ≡ record_spelling t → s ≡ t }
 {
     read_again();
+}
+
+/// A record has at most 41,811 bytes, so a store that takes 65,535 takes every record: a responder's
+/// has 501 beside the messages that it has issued, of which there are 255, of 162 each.
+pub fn record_is_short()
+    ensures { (side : Side) → IsSide side → length (record_spelling side) ≤ 41811 }
+{
+    ill_values::laws::text_sizes();
+    ill_der::laws::longest();
+    ill_der::laws::shorter();
 }
 
 /// An action or a message keeps the role and the transaction, and takes no message away.

@@ -15,3 +15,4 @@ pub mod DueDates
 pub mod Uniqueness
 pub mod Agreements
 pub mod Arrivals
+pub mod BadWorlds

@@ -1,7 +1,6 @@
 -- What both sides may rely on in every world of every run (this profile's own).
 use Rattle.std.specs.Prelude.{◌≡◌, ◌⊎◌, ℕ, true, false, List, [], ◌∷◌, Option, Some, take}
 use Rattle.ill_values.specs.Day.{Date}
-use Rattle.ill_values.specs.TxnId.{Qualifiers}
 use Rattle.ill_values.specs.declared.apdu.Apdu.{Apdu}
 use Rattle.ill_values.specs.declared.apdu.Body.{Body}
 use Rattle.ill_values.specs.declared.apdu.Body.TheVariants as types
@@ -25,7 +24,7 @@ use Rattle.ill_world.specs.declared.event.Event.{Event}
 use Rattle.ill_world.specs.declared.event.Event.TheVariants.{Deliver, Restart}
 use Rattle.ill_world.specs.declared.event.Outcome.{Outcome}
 use Rattle.ill_world.specs.declared.event.Outcome.TheVariants.{Answered}
-use Rattle.ill_world.specs.World.{Party, Parties, first_world, run_of, happens, sent_message}
+use Rattle.ill_world.specs.World.{Party, Parties, run_of, happens, sent_message}
 use Rattle.ill_world.specs.Safety.{OfBoth}
 
 -- ---- one answer, and one end
@@ -88,9 +87,9 @@ pub record Agrees (w : Parties) : Type 0 where
   pub dates : OfBoth (Facing IsNotLater) w
   pub says : OfBoth (Facing SaysTrue) w
 
--- Both sides agree in every world that these events lead through.
-abbrev pub IsAgreeingRun : Qualifiers → List Event → Type 0
-IsAgreeingRun txn events = (n : ℕ) → Agrees (run_of (first_world txn) (take n events))
+-- Both sides agree in every world that these events lead through, from this world on.
+abbrev pub IsAgreeingRun : Parties → List Event → Type 0
+IsAgreeingRun w events = (n : ℕ) → Agrees (run_of w (take n events))
 
 -- ---- events
 

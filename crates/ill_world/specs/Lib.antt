@@ -8,3 +8,4 @@ pub mod Simulating
 pub mod Safety
 pub mod Invariant
 pub mod Agreement
+pub mod BadWorlds

@@ -1,7 +1,6 @@
 -- What holds in every world of every run (this profile's own): no side acts on what the other's
 -- record contradicts.
 use Rattle.std.specs.Prelude.{◌≡◌, ℕ, true, List, Some, take}
-use Rattle.ill_values.specs.TxnId.{Qualifiers}
 use Rattle.ill_values.specs.Day.{Date}
 use Rattle.ill_values.specs.declared.apdu.Apdu.{Apdu}
 use Rattle.ill_core.specs.declared.state.State.TheVariants.{Cancelled, NotSupplied}
@@ -12,7 +11,7 @@ use Rattle.ill_core.specs.Requester.{later}
 use Rattle.ill_saved.specs.declared.side.Side.{Side}
 use Rattle.ill_saved.specs.Side.{state_of, due_date_of, issued_of}
 use Rattle.ill_world.specs.declared.event.Event.{Event}
-use Rattle.ill_world.specs.World.{Parties, first_world, run_of}
+use Rattle.ill_world.specs.World.{Parties, run_of}
 
 -- ---- a requester's side, and the responder's that it faces
 
@@ -51,6 +50,6 @@ pub record Safe (w : Parties) : Type 0 where
   pub shipped : OfBoth WasShipped w
   pub granted : OfBoth WasGranted w
 
--- Every world is safe that these events lead through, from two idle sides of the transaction on.
-abbrev pub IsSafeRun : Qualifiers → List Event → Type 0
-IsSafeRun txn events = (n : ℕ) → Safe (run_of (first_world txn) (take n events))
+-- Every world is safe that these events lead through, from this world on.
+abbrev pub IsSafeRun : Parties → List Event → Type 0
+IsSafeRun w events = (n : ℕ) → Safe (run_of w (take n events))

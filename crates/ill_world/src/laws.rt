@@ -1,6 +1,6 @@
 //! What holds of every world, as contracts of functions that do nothing.
 
-ghost use Rattle.std.specs.Prelude.{◌≡◌, ℕ, List, Option, Some, Ok};
+ghost use Rattle.std.specs.Prelude.{◌≡◌, ◌++◌, ℕ, List, Option, Some, Ok};
 ghost use Rattle.ill_values.specs.Day.{Date};
 ghost use Rattle.ill_values.specs.TxnId.{Qualifiers};
 ghost use Rattle.ill_values.specs.declared.apdu.Apdu.{Apdu};
@@ -13,9 +13,10 @@ ghost use Rattle.ill_core.specs.Responder.{ResponderRecord};
 ghost use Rattle.ill_core.specs.ResponderActions as responder_actions;
 ghost use Rattle.ill_core.specs.ResponderDeliveries as responder_deliveries;
 ghost use Rattle.ill_world.specs.declared.event.Event.{Event};
-ghost use Rattle.ill_world.specs.World.{Parties, first_world, happens};
-ghost use Rattle.ill_world.specs.Safety.{OfBoth, EndsAlike, WasShipped, WasGranted, IsSafeRun};
+ghost use Rattle.ill_world.specs.World.{Parties, first_world, happens, run_of};
+ghost use Rattle.ill_world.specs.Safety.{OfBoth, EndsAlike, WasShipped, WasGranted, Safe, IsSafeRun};
 ghost use Rattle.ill_world.specs.Agreement.{Agrees, IsAgreeingRun, KeepsDates, Arrives};
+ghost use Rattle.ill_world.specs.BadWorlds.{IsUnsafe, Disagrees};
 ghost use Rattle.ill_world.specs.Invariant.{WasSent, RequesterStands, ResponderStands, Stands};
 
 use ill_core::laws::{
@@ -89,9 +90,9 @@ pub fn sides_agree()
     ensures { (txn : Qualifiers) (w : Parties) → Stands txn w → Agrees w }
 {}
 
-/// Every world of every run is safe.
-pub fn every_run_is_safe()
-    ensures { (txn : Qualifiers) (events : List Event) → IsSafeRun txn events }
+/// The world after any events is safe.
+pub fn every_world_is_safe()
+    ensures { (txn : Qualifiers) (events : List Event) → Safe (run_of (first_world txn) events) }
 {
     world_stands();
     ends_alike();
@@ -99,12 +100,26 @@ pub fn every_run_is_safe()
     was_granted();
 }
 
-/// Both sides agree in every world of every run.
-pub fn every_run_agrees()
-    ensures { (txn : Qualifiers) (events : List Event) → IsAgreeingRun txn events }
+/// After any events both sides agree.
+pub fn every_world_agrees()
+    ensures { (txn : Qualifiers) (events : List Event) → Agrees (run_of (first_world txn) events) }
 {
     world_stands();
     sides_agree();
+}
+
+/// Every world of every run is safe.
+pub fn every_run_is_safe()
+    ensures { (txn : Qualifiers) (events : List Event) → IsSafeRun (first_world txn) events }
+{
+    every_world_is_safe();
+}
+
+/// Both sides agree in every world of every run.
+pub fn every_run_agrees()
+    ensures { (txn : Qualifiers) (events : List Event) → IsAgreeingRun (first_world txn) events }
+{
+    every_world_agrees();
 }
 
 /// Where the world stands, one arrival of the end of a request, or of a Returned, is enough.
@@ -122,3 +137,23 @@ pub fn due_dates_stay()
 {
     requester_keeps_due();
 }
+
+/// No world is safe in which a record of the requester is contradicted by one of the responder.
+pub fn no_unsafe_world_is_safe()
+    ensures { (w : Parties) → IsUnsafe w → Safe w → ⊥ }
+{}
+
+/// The sides agree in no world in which a question was answered twice, the request has ended twice, no
+/// yes was given to what is held as accepted, or a record says what is not so.
+pub fn no_disagreeing_world_agrees()
+    ensures { (w : Parties) → Disagrees w → Agrees w → ⊥ }
+{}
+
+/// A run is safe, and both sides agree in it, only where that is so of each world on the way: of the
+/// world after any of the first events.
+pub fn runs_have_each_world()
+    ensures safe { (w : Parties) (before after : List Event) →
+        IsSafeRun w (before ++ after) → Safe (run_of w before) }
+    ensures agrees { (w : Parties) (before after : List Event) →
+        IsAgreeingRun w (before ++ after) → Agrees (run_of w before) }
+{}

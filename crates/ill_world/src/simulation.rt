@@ -42,8 +42,8 @@ pub fn simulate<R: Read, W: Write>(
 ) -> Result<u32, SimFault>
     ensures simulates { Simulates txn.now (R.remaining reader.old) (R.remaining reader.new)
         (W.contents writer.old) (W.contents writer.new) result }
-    ensures safe { (events : List Event) → IsSafeRun txn.now events }
-    ensures agrees { (events : List Event) → IsAgreeingRun txn.now events }
+    ensures safe { (events : List Event) → IsSafeRun (first_world txn.now) events }
+    ensures agrees { (events : List Event) → IsAgreeingRun (first_world txn.now) events }
 {
     every_run_is_safe();
     every_run_agrees();

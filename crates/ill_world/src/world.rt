@@ -128,8 +128,8 @@ impl World {
 pub fn run(alloc: Global, txn: &TxnId, events: &[Event]) -> Result<World, OutOfMemory>
     ensures runs { IfOk result (λ world. world ≡
         model.run_of (model.first_world txn.now) events.now) }
-    ensures safe { IsSafeRun txn.now events.now }
-    ensures agrees { IsAgreeingRun txn.now events.now }
+    ensures safe { IsSafeRun (model.first_world txn.now) events.now }
+    ensures agrees { IsAgreeingRun (model.first_world txn.now) events.now }
 {
     every_run_is_safe();
     every_run_agrees();

@@ -1,10 +1,5 @@
 use Rattle.std.proofs.Common.{take}
-use Rattle.ill_world.specs.World.{first_world, run_of}
-use Rattle.ill_world.proofs.Runs.{run_stands}
 use Rattle.ill_world.proofs.laws.every_run_agrees.Goals as goal
 
 pub returns : goal.returns
-returns c =
-    λ txn events n.
-    c.sides_agree.ensures txn (run_of (first_world txn) (take n events))
-    (run_stands txn (c.world_stands.ensures.after txn) (first_world txn) (take n events) (c.world_stands.ensures.first txn))
+returns c = λ txn events n. c.every_world_agrees.ensures txn (take n events)

@@ -1,0 +1,110 @@
+-- How many bytes a record has at most.
+use Rattle.std.proofs.Common.{◌≡◌, ℕ, ◌+◌, ◌*◌, ◌≤◌, Bool, true, false, ◌||◌, not, List, [], ◌∷◌, length, length-append, Option, Some, None, refl, arith}
+use Rattle.std.specs.Prelude.{IfSome}
+use Rattle.std.specs.List.{list_all}
+use Rattle.std.proofs.lemmas.Bool.{and_parts}
+use Rattle.ill_values.specs.declared.apdu.Apdu.{Apdu}
+use Rattle.ill_values.specs.declared.apdu.Body.{Body}
+use Rattle.ill_values.specs.declared.apdu.Body.TheVariants as bodies
+use Rattle.ill_values.specs.Apdu.{IsApdu}
+use Rattle.ill_values.specs.Day.{Date}
+use Rattle.ill_values.specs.Text.{IsQualifier}
+use Rattle.ill_der.specs.declared.apdu_type.ApduType.TheVariants.{IllRequest}
+use Rattle.ill_der.specs.Types.{type_of}
+use Rattle.ill_der.specs.ShortForm.{spelling}
+use Rattle.ill_core.specs.declared.state.State.{State}
+use Rattle.ill_core.specs.Bodies.{is_ill_request, is_requesters}
+use Rattle.ill_core.specs.Issued.{has}
+use Rattle.ill_core.specs.Requester.{begins_with_request}
+use Rattle.ill_saved.specs.declared.side.Side.{Side}
+use Rattle.ill_saved.specs.declared.side.Side.TheVariants as sides
+use Rattle.ill_saved.specs.Layout.{apdu, ill_request, marked, counted, spell_all}
+use Rattle.ill_saved.specs.Records.{due_text, front, requester_states, responder_states, requester_rest, responder_rest, record_spelling}
+use Rattle.ill_saved.specs.Ranges.{Each, IsSide}
+
+-- What the laws of the crates below say: how long a qualifier is, an APDU, and one that is no request.
+pub record Bounds : Type 0 where
+  pub qualifier : (text : List ℕ) → IsQualifier text → (1 ≤ length text) × (length text ≤ 64)
+  pub longest : (a : Apdu) → IsApdu a → length (spelling a) ≤ 359
+  pub shorter : (a : Apdu) → IsApdu a → (type_of a.body ≡ IllRequest → ⊥) → length (spelling a) ≤ 162
+
+-- ---- the APDUs that were issued
+
+other_type : (body : Body) → is_ill_request body ≡ false → type_of body ≡ IllRequest → ⊥
+other_type (bodies.IllRequest expiry text) e is = cc
+other_type _ e is = cc
+
+either : (a b : Bool) → (a || b) ≡ false → (a ≡ false) × (b ≡ false)
+either true b e = absurd cc
+either false b e = (refl, e)
+
+opposite : (a : Bool) → not a ≡ true → a ≡ false
+opposite true e = absurd cc
+opposite false e = refl
+
+others_bound : Bounds → (apdus : List Apdu) → Each IsApdu apdus → has is_ill_request apdus ≡ false → length (spell_all spelling apdus) ≤ 162 * length apdus
+unfolding spell_all Each
+others_bound bounds [] are none = omega arith
+others_bound bounds (a ∷ apdus) are none =
+    let parts = either (is_ill_request a.body) (has is_ill_request apdus) none in
+    omega (arith, bounds.shorter a are.0 (other_type a.body parts.0), others_bound bounds apdus are.1 parts.1, length-append (spelling a) (spell_all spelling apdus))
+
+-- the first is a request
+requester_issued_bound : Bounds → (apdus : List Apdu) → Each IsApdu apdus → begins_with_request apdus ≡ true → length (spell_all spelling apdus) ≤ 162 * length apdus + 197
+unfolding spell_all Each
+requester_issued_bound bounds [] are begins = omega arith
+requester_issued_bound bounds (a ∷ apdus) are begins =
+    let parts = and_parts (is_ill_request a.body) (not (has is_ill_request apdus)) begins in
+    omega (arith, bounds.longest a are.0, others_bound bounds apdus are.1 (opposite (has is_ill_request apdus) parts.1), length-append (spelling a) (spell_all spelling apdus))
+
+not_own : (body : Body) → not (is_requesters body) ≡ true → is_ill_request body ≡ false
+not_own (bodies.IllRequest expiry text) e = absurd cc
+not_own _ e = refl
+
+none_requested : (apdus : List Apdu) → list_all (λ a. not (is_requesters a.body)) apdus ≡ true → has is_ill_request apdus ≡ false
+none_requested [] role = refl
+none_requested (a ∷ apdus) role =
+    let parts = and_parts (not (is_requesters a.body)) (list_all (λ a. not (is_requesters a.body)) apdus) role in
+    rw (not_own a.body parts.0) (none_requested apdus parts.1)
+
+-- ---- records
+
+front_bound : (states : List State) (state : State) (group transaction : List ℕ) → length group ≤ 64 → length transaction ≤ 64 → length ((front states).spell (state, (group, transaction))) ≤ 131
+front_bound states state group transaction eg et = omega (arith, eg, et, length-append group (length transaction ∷ transaction))
+
+due_length : (o : Option Date) → length (due_text o) ≡ 8
+due_length None = refl
+due_length (Some d) = refl
+
+request_bound : Bounds → (o : Option Apdu) → IfSome o IsApdu → length ((marked ill_request).spell o) ≤ 360
+request_bound bounds None is = omega arith
+request_bound bounds (Some a) is = omega (arith, bounds.longest a is)
+
+pub record_bound : Bounds → (side : Side) → IsSide side → length (record_spelling side) ≤ 41811
+unfolding record_spelling
+record_bound bounds (sides.Requester x) is =
+    let txn = is.1.parts.txn in
+    let head = (front requester_states).spell (x.state, (x.txn.group, x.txn.transaction)) in
+    let issued = spell_all spelling x.issued in
+    omega (
+      arith,
+      front_bound requester_states x.state x.txn.group x.txn.transaction (bounds.qualifier x.txn.group txn.group).1 (bounds.qualifier x.txn.transaction txn.transaction).1,
+      length-append head (requester_rest.spell (x.held, (x.checked_in, (x.due, x.issued)))),
+      length-append (due_text x.due) ((counted apdu).spell x.issued),
+      due_length x.due,
+      requester_issued_bound bounds x.issued is.1.issued is.0.request,
+      is.1.few,
+    )
+record_bound bounds (sides.Responder y) is =
+    let txn = is.1.parts.txn in
+    let head = (front responder_states).spell (y.state, (y.txn.group, y.txn.transaction)) in
+    let request = (marked ill_request).spell y.request in
+    omega (
+      arith,
+      front_bound responder_states y.state y.txn.group y.txn.transaction (bounds.qualifier y.txn.group txn.group).1 (bounds.qualifier y.txn.transaction txn.transaction).1,
+      length-append head (responder_rest.spell (y.accepted, (y.last_cancel, (y.last_renew, (y.received, (y.request, y.issued)))))),
+      length-append request ((counted apdu).spell y.issued),
+      request_bound bounds y.request is.1.parts.request,
+      others_bound bounds y.issued is.1.issued (none_requested y.issued is.0.role),
+      is.1.few,
+    )

@@ -1,0 +1,5 @@
+use Rattle.ill_saved.proofs.Sizes.{record_bound}
+use Rattle.ill_saved.proofs.laws.record_is_short.Goals as goal
+
+pub returns : goal.returns
+returns c = record_bound (record { qualifier = c.text_sizes.ensures.qualifier; longest = c.longest.ensures.most; shorter = c.shorter.ensures.most })

@@ -1,0 +1,101 @@
+-- Why no bad world is safe, and why the sides agree in none.
+use Rattle.std.proofs.Common.{rules, ◌≡◌, inl, inr, ℕ, true, false, List, [], ◌∷◌, ◌++◌, length, take, Option, Some, sym, ap, subst, refl, ◌∙◌}
+use Rattle.std.proofs.lemmas.List.{take_at}
+use Rattle.std.proofs.lemmas.Option.{same_Some}
+use Rattle.ill_values.specs.declared.apdu.Apdu.{Apdu}
+use Rattle.ill_values.specs.declared.apdu.Body.{Body}
+use Rattle.ill_values.specs.declared.apdu.Body.TheVariants.{ConditionalReply, CancelReply, RenewAnswer}
+use Rattle.ill_core.specs.declared.state.State.{State}
+use Rattle.ill_core.specs.declared.state.State.TheVariants as states
+use Rattle.ill_core.specs.State.{is_among}
+use Rattle.ill_core.specs.Bodies.{is_end}
+use Rattle.ill_core.specs.Issued.{message}
+use Rattle.ill_core.specs.Requester.{RequesterRecord}
+use Rattle.ill_core.specs.RequesterFacts.{replied_number}
+use Rattle.ill_core.specs.Responder.{ResponderRecord}
+use Rattle.ill_core.specs.ResponderFacts.{MayCancel, MayRenew, answered_number}
+use Rattle.ill_saved.specs.declared.side.Side.{Side}
+use Rattle.ill_saved.specs.declared.side.Side.TheVariants as sides
+use Rattle.ill_saved.specs.Side.{issued_of}
+use Rattle.ill_world.specs.declared.event.Event.{Event}
+use Rattle.ill_world.specs.World.{Party, Parties, run_of}
+use Rattle.ill_world.specs.Safety.{EndsAlike, WasShipped, WasGranted, OfBoth, Safe}
+use Rattle.ill_world.specs.Agreement.{AnswersOnce, AnswersOnceBoth, EndsOnce, Facing, AcceptedBy, IsNotLater, SaysTrue, Agrees}
+use Rattle.ill_world.specs.BadWorlds.{Has, HasMessages, TwoSay, Contradicts, IsUnsafe, Misleads, Disagrees, not_supplied, cancelled, never_shipped, never_granted, contradicted, due_later, not_returned, checked_in_unreturned, cancelled_unasked, not_received, not_checked_in, conditions_twice, cancel_twice, renew_twice, ended_twice, never_accepted, acceptance_forgotten, misled}
+
+-- ---- either record of a party
+
+of_record : (P : Side → Type 0) (p : Party) (side : Side) → P p.live → P p.landed → Has p side → P side
+of_record P p side live landed (inl is) = subst P is live
+of_record P p side live landed (inr is) = subst P is landed
+
+of_pair : (P : Side → Side → Type 0) (w : Parties) (x y : Side) → OfBoth P w → Has w.requester x → Has w.responder y → P x y
+of_pair P w x y both asking asked =
+    of_record (P x) w.responder y (of_record (λ s. P s w.responder.live) w.requester x both.live both.landed_live asking)
+    (of_record (λ s. P s w.responder.landed) w.requester x both.live_landed both.landed asking) asked
+
+-- ---- safety
+
+no_contradiction : (x y : Side) → Contradicts x y → EndsAlike x y → WasShipped x y → WasGranted x y → ⊥
+no_contradiction x y (not_supplied is other) ends shipped granted = other (ends.1 is)
+no_contradiction x y (cancelled is other) ends shipped granted = other (ends.0 is)
+no_contradiction x y (never_shipped is none) ends shipped granted = let both : true ≡ false = sym (shipped is) ∙ none in cc
+no_contradiction x y (never_granted due is none) ends shipped granted = let grant = granted due is in none grant.0 grant.1 grant.2 grant.3
+
+pub not_safe : (w : Parties) → IsUnsafe w → Safe w → ⊥
+not_safe w (contradicted x y asking asked bad) safe =
+    no_contradiction x y bad (of_pair EndsAlike w x y safe.ends asking asked) (of_pair WasShipped w x y safe.shipped asking asked)
+    (of_pair WasGranted w x y safe.granted asking asked)
+
+-- ---- agreement
+
+has_asked : (state : State) → is_among (states.CancelPending ∷ states.Cancelled ∷ []) state ≡ true → (state ≡ states.CancelPending → ⊥) → (state ≡ states.Cancelled → ⊥) → ⊥
+has_asked states.CancelPending is waits done = waits refl
+has_asked states.Cancelled is waits done = done refl
+has_asked state is waits done = search rules
+
+not_misled : (x : RequesterRecord) (y : ResponderRecord) → Misleads x y → IsNotLater x y → SaysTrue x y → ⊥
+not_misled x y (due_later due is after) dates says = let granted = dates due is in let both : true ≡ false = sym (after granted.0 granted.1) ∙ granted.2 in cc
+not_misled x y (not_returned is other) dates says = other (says.returned (rw is refl))
+not_misled x y (checked_in_unreturned is other) dates says = other (says.returned (rw is refl))
+not_misled x y (cancelled_unasked is waits done) dates says = has_asked x.state (says.cancelled is) waits done
+not_misled x y (not_received is none) dates says = let both : true ≡ false = sym (says.received is) ∙ none in cc
+not_misled x y (not_checked_in is other) dates says = other (says.checked_in is)
+
+-- the messages answer one question twice
+not_twice : (answered : Body → Option ℕ) (at : ℕ → Option Apdu) (k : ℕ) (this that : Body) → answered this ≡ Some k → answered that ≡ Some k → AnswersOnce answered at
+    → TwoSay at (λ body. body ≡ this) (λ body. body ≡ that) → ⊥
+not_twice answered at k this that first second once two =
+    two.6 (once two.0 two.1 k two.2 two.3 two.4 two.5 (ap answered two.7 ∙ first) (ap answered two.8 ∙ second))
+
+of_messages : (answered : Body → Option ℕ) (p : Party) (at : ℕ → Option Apdu) → AnswersOnceBoth answered p → HasMessages p at → AnswersOnce answered at
+of_messages answered p at both (inl is) = subst (AnswersOnce answered) (sym is) both.0
+of_messages answered p at both (inr is) = subst (AnswersOnce answered) (sym is) both.1
+
+not_ended_twice : (side : Side) → EndsOnce side → TwoSay (message (issued_of side)) (λ body. is_end body ≡ true) (λ body. is_end body ≡ true) → ⊥
+not_ended_twice side once two =
+    two.6 (same_Some two.0 two.1 (sym (once two.0 two.2 two.4 two.7) ∙ once two.1 two.3 two.5 two.8))
+
+pub not_agreed : (w : Parties) → Disagrees w → Agrees w → ⊥
+not_agreed w (conditions_twice at k said again of two) agrees =
+    not_twice replied_number at k (ConditionalReply k said) (ConditionalReply k again) refl refl (of_messages replied_number w.requester at agrees.answered.conditions of) two
+not_agreed w (cancel_twice at k said again of two) agrees =
+    not_twice (answered_number MayCancel) at k (CancelReply k said) (CancelReply k again) refl refl (of_messages (answered_number MayCancel) w.responder at agrees.answered.cancels of) two
+not_agreed w (renew_twice at k due again of two) agrees =
+    not_twice (answered_number MayRenew) at k (RenewAnswer k due) (RenewAnswer k again) refl refl (of_messages (answered_number MayRenew) w.responder at agrees.answered.renewals of) two
+not_agreed w (ended_twice side of two) agrees = not_ended_twice side (of_record EndsOnce w.responder side agrees.ended.0 agrees.ended.1 of) two
+not_agreed w (never_accepted y c of is none) agrees =
+    let reply = of_record (AcceptedBy w) w.responder (sides.Responder y) agrees.accepted.0 agrees.accepted.1 of c is in
+    none reply.0 reply.1 reply.2 reply.4
+not_agreed w (acceptance_forgotten y c of is none) agrees =
+    let reply = of_record (AcceptedBy w) w.responder (sides.Responder y) agrees.accepted.0 agrees.accepted.1 of c is in
+    none reply.0 reply.1 reply.3 reply.4
+not_agreed w (misled x y asking asked bad) agrees =
+    not_misled x y bad (of_pair (Facing IsNotLater) w (sides.Requester x) (sides.Responder y) agrees.dates asking asked)
+    (of_pair (Facing SaysTrue) w (sides.Requester x) (sides.Responder y) agrees.says asking asked)
+
+-- ---- runs
+
+-- what is said of the world after the first events of any number, of the world after these
+pub after_front : (P : Parties → Type 0) (w : Parties) (before after : List Event) → ((n : ℕ) → P (run_of w (take n (before ++ after)))) → P (run_of w before)
+after_front P w before after each = subst (λ events. P (run_of w events)) (take_at before after (length before) refl) (each (length before))

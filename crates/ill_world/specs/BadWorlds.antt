@@ -1,0 +1,88 @@
+-- Worlds that no run may lead to, each by what is wrong in it. The laws have that none of them is safe, or
+-- that the sides do not agree in it.
+use Rattle.std.specs.Prelude.{◌≡◌, ◌⊎◌, ℕ, Bool, true, false, Option, Some}
+use Rattle.ill_values.specs.Day.{Date}
+use Rattle.ill_values.specs.declared.apdu.Apdu.{Apdu}
+use Rattle.ill_values.specs.declared.apdu.Body.{Body}
+use Rattle.ill_values.specs.declared.apdu.Body.TheVariants.{ConditionalReply, CancelReply, RenewAnswer}
+use Rattle.ill_core.specs.declared.state.State.TheVariants as states
+use Rattle.ill_core.specs.State.{is_among}
+use Rattle.ill_core.specs.Dates.{is_before}
+use Rattle.ill_core.specs.Bodies.{is_end, is_received, is_shipped, accepts, grant_in}
+use Rattle.ill_core.specs.Issued.{message, has}
+use Rattle.ill_core.specs.Requester.{RequesterRecord, later}
+use Rattle.ill_core.specs.Responder.{ResponderRecord, due_of}
+use Rattle.ill_saved.specs.declared.side.Side.{Side}
+use Rattle.ill_saved.specs.declared.side.Side.TheVariants as sides
+use Rattle.ill_saved.specs.Side.{state_of, due_date_of, issued_of}
+use Rattle.ill_world.specs.World.{Party, Parties, sent_message}
+
+-- a record of a party: the one in memory, or the one that has landed
+abbrev pub Has : Party → Side → Type 0
+Has p side = (p.live ≡ side) ⊎ (p.landed ≡ side)
+
+-- none of the messages says this
+abbrev pub NoneSays : (ℕ → Option Apdu) → (Body → Type 0) → Type 0
+NoneSays at says = (n : ℕ) (a : Apdu) → at n ≡ Some a → says a.body → ⊥
+
+-- two of the messages, at different numbers, say this and that
+abbrev pub TwoSay : (ℕ → Option Apdu) → (Body → Type 0) → (Body → Type 0) → Type 0
+TwoSay at this that =
+    (m n : ℕ) × (a b : Apdu) × (at m ≡ Some a) × (at n ≡ Some b) × (m ≡ n → ⊥) × this a.body × that b.body
+
+-- ---- safety
+
+-- A requester's record, and a responder's that contradicts it.
+pub data Contradicts (requester responder : Side) : Type 0 where
+  -- one has given the request up, and the other has not
+  not_supplied : state_of requester ≡ states.NotSupplied →
+      (state_of responder ≡ states.NotSupplied → ⊥) → Contradicts requester responder
+  cancelled : state_of requester ≡ states.Cancelled →
+      (state_of responder ≡ states.Cancelled → ⊥) → Contradicts requester responder
+  -- one is in SHIPPED or later, and the other has not shipped
+  never_shipped : is_among later (state_of requester) ≡ true →
+      has is_shipped (issued_of responder) ≡ false → Contradicts requester responder
+  -- one has a due date that the other has not granted
+  never_granted : (due : Date) → due_date_of requester ≡ Some due →
+      NoneSays (message (issued_of responder)) (λ body. grant_in body ≡ Some due) → Contradicts requester responder
+
+-- A record of the requester is contradicted by one of the responder.
+pub data IsUnsafe (w : Parties) : Type 0 where
+  contradicted : (requester responder : Side) → Has w.requester requester → Has w.responder responder →
+      Contradicts requester responder → IsUnsafe w
+
+-- ---- agreement
+
+-- A requester's record and a responder's of which one says what is not so.
+pub data Misleads (x : RequesterRecord) (y : ResponderRecord) : Type 0 where
+  -- the due date is after each that the responder has
+  due_later : (due : Date) → x.due ≡ Some due →
+      ((granted : Date) → due_of y ≡ Some granted → is_before granted due ≡ true) → Misleads x y
+  not_returned : y.state ≡ states.Returned → (x.state ≡ states.Returned → ⊥) → Misleads x y
+  checked_in_unreturned : y.state ≡ states.CheckedIn → (x.state ≡ states.Returned → ⊥) → Misleads x y
+  cancelled_unasked : y.state ≡ states.Cancelled → (x.state ≡ states.CancelPending → ⊥) →
+      (x.state ≡ states.Cancelled → ⊥) → Misleads x y
+  not_received : y.received ≡ true → has is_received x.issued ≡ false → Misleads x y
+  not_checked_in : x.checked_in ≡ true → (y.state ≡ states.CheckedIn → ⊥) → Misleads x y
+
+-- the messages of a party: those that it has in memory, or those that it has sent
+abbrev pub HasMessages : Party → (ℕ → Option Apdu) → Type 0
+HasMessages p at = (at ≡ message (issued_of p.live)) ⊎ (at ≡ sent_message p.sent)
+
+-- The sides do not agree.
+pub data Disagrees (w : Parties) : Type 0 where
+  conditions_twice : (at : ℕ → Option Apdu) (k : ℕ) (said again : Bool) → HasMessages w.requester at →
+      TwoSay at (λ body. body ≡ ConditionalReply k said) (λ body. body ≡ ConditionalReply k again) → Disagrees w
+  cancel_twice : (at : ℕ → Option Apdu) (k : ℕ) (said again : Bool) → HasMessages w.responder at →
+      TwoSay at (λ body. body ≡ CancelReply k said) (λ body. body ≡ CancelReply k again) → Disagrees w
+  renew_twice : (at : ℕ → Option Apdu) (k : ℕ) (due again : Option Date) → HasMessages w.responder at →
+      TwoSay at (λ body. body ≡ RenewAnswer k due) (λ body. body ≡ RenewAnswer k again) → Disagrees w
+  ended_twice : (responder : Side) → Has w.responder responder →
+      TwoSay (message (issued_of responder)) (λ body. is_end body ≡ true) (λ body. is_end body ≡ true) → Disagrees w
+  -- conditions are held as accepted, and no yes to them was sent, or none is in memory
+  never_accepted : (y : ResponderRecord) (c : ℕ) → Has w.responder (sides.Responder y) → y.accepted ≡ Some c →
+      NoneSays (sent_message w.requester.sent) (λ body. accepts body ≡ Some c) → Disagrees w
+  acceptance_forgotten : (y : ResponderRecord) (c : ℕ) → Has w.responder (sides.Responder y) → y.accepted ≡ Some c →
+      NoneSays (message (issued_of w.requester.live)) (λ body. accepts body ≡ Some c) → Disagrees w
+  misled : (x : RequesterRecord) (y : ResponderRecord) → Has w.requester (sides.Requester x) →
+      Has w.responder (sides.Responder y) → Misleads x y → Disagrees w

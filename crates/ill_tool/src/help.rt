@@ -115,7 +115,8 @@ title has no quotes round it: `request none War and Peace`.
 
 A responder's action needs --today; a requester's has no use for it. It stands
 before the words: behind them it would be one of them, as of a title. One action
-issues one message, and the messages of a side are numbered 1, 2, 3, up to 255.
+issues one message; `take` may issue one too, as `ill take --help` tells. The
+messages of a side are numbered 1, 2, 3, up to 255.
 
 The action is saved in FILE before a line of it is written to standard output:
   OUTCOME STATE DUE RELEASED/ISSUED
@@ -177,6 +178,11 @@ OUTCOME is one of these; behind it the line says how the side stands, as that of
 Only what is taken changes the side, and it is saved in FILE before its line is
 written. To take a message twice does no harm.
 
+A message that is taken may issue one: a responder that takes a
+Conditional-Reply no, by which the requester declines its conditions, issues an
+ILL-Answer unfilled. ISSUED has risen by one then, as from 1/1 to 2/2, and that
+message has to be sent, like one of an action: `ill send FILE 2`.
+
 The exit status is 0 where each was taken, a repeat or stale, and 1 where one
 was anything else or with `no-record`. It is 2 where the input has a faulty
 message or too many, and for a bad record, and 3 with `store failed`, `store
@@ -198,9 +204,9 @@ pub const TAKE_EXAMPLE: &str = "Example:
 pub const SEND: &str = "\
 Write the bytes of one message that the side has issued.
 
-The messages of a side are numbered 1, 2, 3, in the order of its actions. NUMBER
-has one to three digits, with a value from 1 to 255. The message must be saved,
-which what `act` and `take` have told always is.
+The messages of a side are numbered 1, 2, 3, in the order in which `act` and
+`take` issued them. NUMBER has one to three digits, with a value from 1 to 255.
+The message must be saved, which what `act` and `take` have told always is.
 
 Its bytes, and nothing else, are written to standard output: 16 to 359 of them,
 which are not for a terminal. Give them to a file or another program, as in

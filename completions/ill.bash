@@ -1,36 +1,70 @@
 # Completion of ill(1) in bash: commands, options, roles, files, and the first words of actions.
 
+# A word of the line as a command sees it: without quotes and backslashes, and with the home folder for `~/`.
+_ill_text() {
+  local word=$1 text= quote= at char
+  case $word in '~/'*) text=$HOME word=${word#'~'} ;; esac
+  for ((at = 0; at < ${#word}; at++)); do
+    char=${word:at:1}
+    case $quote$char in
+      '\' | '"\') ((at++)); text+=${word:at:1} ;;
+      \' | \") quote=$char ;;
+      \'\' | \"\") quote= ;;
+      *) text+=$char ;;
+    esac
+  done
+  printf '%s\n' "$text"
+}
+
 # The first words of the side in a file; of both roles where the file has no side.
 _ill_words() {
   local requester='request cancel reply receive renew return'
   local responder='answer cancel-reply ship renew-answer overdue recall check-in expire'
-  case $(ill status "$1" 2> /dev/null) in
+  case $(ill status -- "$1" 2> /dev/null) in
     'role requester'*) echo "$requester" ;;
     'role responder'*) echo "$responder" ;;
     *) echo "$requester $responder" ;;
   esac
 }
 
+# Sets `arguments` to those that stand between the command and the cursor, options left out, and `wanted` to
+# what may come next: `any` (an option too), `argument` (no option any more) or `day` (that of --today).
+_ill_read() {
+  local at word
+  arguments=() wanted=any
+  for ((at = 2; at < COMP_CWORD; at++)); do
+    word=${COMP_WORDS[at]}
+    case $wanted-$word in
+      day-=) ;;     # bash takes --today=DAY for three words
+      day-*) wanted=any ;;
+      any---) wanted=argument ;;
+      any---today) wanted=day ;;
+      any--*) ;;
+      *)
+        arguments+=("$word")
+        if [ "${COMP_WORDS[1]}-${#arguments[@]}" = act-2 ]; then wanted=argument; fi ;;
+    esac
+  done
+}
+
 _ill() {
   local commands='new act take send status show check simulate help'
-  local word=${COMP_WORDS[COMP_CWORD]} command=${COMP_WORDS[1]} offered= arguments=() at
+  local word=${COMP_WORDS[COMP_CWORD]} command=${COMP_WORDS[1]} offered= arguments wanted
   COMPREPLY=()
-  for ((at = 2; at < COMP_CWORD; at++)); do
-    if [ "${COMP_WORDS[at]}" = --today ]; then ((at++)); else arguments+=("${COMP_WORDS[at]}"); fi
-  done
-  if [ "$at" -gt "$COMP_CWORD" ] && [ "$COMP_CWORD" -gt 1 ]; then return; fi    # the day of --today
-  case $COMP_CWORD-$command-${#arguments[@]}-$word in
-    1-*) offered="$commands --help --version" ;;
-    *-act-[01]--*) offered='--today --help' ;;
-    *-act-*--* | *-help-*--*) ;;
-    *--*) offered=--help ;;
-    *-help-0-*) offered=$commands ;;
+  _ill_read
+  if [ "$COMP_CWORD" = 1 ]; then command=; fi
+  case $wanted-$command-${#arguments[@]}-$word in
+    any--0--*) offered='--help --version' ;;
+    any--0-* | *-help-0-[!-]* | *-help-0-) offered=$commands ;;
+    day-* | any-help-*) ;;
+    any-act-[0-9]--*) offered='--today --help' ;;
+    any-*-[0-9]--*) offered=--help ;;
     *-new-0-* | *-act-0-* | *-take-0-* | *-send-0-* | *-status-0-*)
       compopt -o filenames 2> /dev/null
       mapfile -t COMPREPLY < <(compgen -f -- "$word")
       return ;;
     *-new-1-*) offered='requester responder' ;;
-    *-act-1-*) offered="--today $(_ill_words "${arguments[0]}")" ;;
+    *-act-1-*) offered=$(_ill_words "$(_ill_text "${arguments[0]}")") ;;
   esac
   COMPREPLY=($(compgen -W "$offered" -- "$word"))
 }

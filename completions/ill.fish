@@ -2,26 +2,52 @@
 
 set -l commands new act take send status show check simulate help
 
-# The words behind the command, without an option and its value.
-function __ill_arguments
-    set -l words (commandline -opc)[3..-1]
-    if set -l at (contains -i -- --today $words)
-        set -e words[$at]
-        set -q words[$at]; and set -e words[$at]
+# What may come next, a line, the command, a line, and the arguments that stand between the command and the
+# cursor, options left out, a line each. What may come next is `any` (an option too), `argument` (no option
+# any more) or `day` (that of --today).
+function __ill_read
+    set -l words (commandline -opc)
+    set -l wanted any
+    set -l arguments
+    for word in $words[3..-1]
+        switch $wanted-$word
+            case 'day-*'
+                set wanted any
+            case any---
+                set wanted argument
+            case any---today
+                set wanted day
+            case 'any--*'
+            case '*'
+                set -a arguments $word
+                if test "$words[2]-"(count $arguments) = act-2
+                    set wanted argument
+                end
+        end
     end
-    string join \n -- $words
+    string join \n -- $wanted "$words[2]" $arguments
 end
 
-# Whether the command has so many arguments already.
-function __ill_has
-    test (count (__ill_arguments)) = $argv[1]
+# __ill_at COUNT COMMAND..: whether an argument of one of these commands comes next, behind so many.
+function __ill_at
+    set -l read (__ill_read)
+    test $read[1] != day -a (count $read[3..-1]) = $argv[1]
+    and contains -- "$read[2]" $argv[2..-1]
+end
+
+# __ill_option COMMAND..: whether an option of one of these commands may come next.
+function __ill_option
+    set -l read (__ill_read)
+    test $read[1] = any
+    and contains -- "$read[2]" $argv
 end
 
 # The words of the role of the side in the file; of both roles where the file has no side.
 function __ill_words
     set -l requester request cancel reply receive renew return
     set -l responder answer cancel-reply ship renew-answer overdue recall check-in expire
-    switch (ill status (__ill_arguments)[1] 2>/dev/null)[1]
+    set -l file (string replace -r '^~/' "$HOME/" -- (__ill_read)[3])
+    switch (ill status -- "$file" 2>/dev/null)[1]
         case 'role requester'
             string join \n $requester
         case 'role responder'
@@ -32,19 +58,19 @@ function __ill_words
 end
 
 complete -c ill -f
-complete -c ill -s h -l help -d 'Print help'
-complete -c ill -n "not __fish_seen_subcommand_from $commands" -s V -l version -d 'Print the version'
-complete -c ill -n "not __fish_seen_subcommand_from $commands" -a new -d 'Begin one side of a loan, in a file'
-complete -c ill -n "not __fish_seen_subcommand_from $commands" -a act -d 'Perform one action, and save it'
-complete -c ill -n "not __fish_seen_subcommand_from $commands" -a take -d 'Take the APDUs on standard input'
-complete -c ill -n "not __fish_seen_subcommand_from $commands" -a send -d 'Write the bytes of one message'
-complete -c ill -n "not __fish_seen_subcommand_from $commands" -a status -d 'Show the side in a file'
-complete -c ill -n "not __fish_seen_subcommand_from $commands" -a show -d 'Show each APDU on standard input'
-complete -c ill -n "not __fish_seen_subcommand_from $commands" -a check -d 'Check and count the APDUs on standard input'
-complete -c ill -n "not __fish_seen_subcommand_from $commands" -a simulate -d 'Perform a script of both sides'
-complete -c ill -n "not __fish_seen_subcommand_from $commands" -a help -d 'Print the help of a command'
-complete -c ill -n '__fish_seen_subcommand_from new act take send status; and __ill_has 0' -F
-complete -c ill -n '__fish_seen_subcommand_from new; and __ill_has 1' -a 'requester responder'
-complete -c ill -n '__fish_seen_subcommand_from act' -l today -x -d 'The day of the action'
-complete -c ill -n '__fish_seen_subcommand_from act; and __ill_has 1' -a '(__ill_words)'
-complete -c ill -n '__fish_seen_subcommand_from help' -a "$commands"
+complete -c ill -n "__ill_option '' (string match -v help -- $commands)" -s h -l help -d 'Print help'
+complete -c ill -n "__ill_option ''" -s V -l version -d 'Print the version'
+complete -c ill -n "__ill_at 0 ''" -a new -d 'Begin one side of a loan, in a file'
+complete -c ill -n "__ill_at 0 ''" -a act -d 'Perform one action, and save it'
+complete -c ill -n "__ill_at 0 ''" -a take -d 'Take the APDUs on standard input'
+complete -c ill -n "__ill_at 0 ''" -a send -d 'Write the bytes of one message'
+complete -c ill -n "__ill_at 0 ''" -a status -d 'Show the side in a file'
+complete -c ill -n "__ill_at 0 ''" -a show -d 'Show each APDU on standard input'
+complete -c ill -n "__ill_at 0 ''" -a check -d 'Check and count the APDUs on standard input'
+complete -c ill -n "__ill_at 0 ''" -a simulate -d 'Perform a script of both sides'
+complete -c ill -n "__ill_at 0 ''" -a help -d 'Print the help of a command'
+complete -c ill -n '__ill_at 0 new act take send status' -F
+complete -c ill -n '__ill_at 1 new' -a 'requester responder'
+complete -c ill -n '__ill_option act' -l today -x -d 'The day of the action'
+complete -c ill -n '__ill_at 1 act' -a '(__ill_words)'
+complete -c ill -n '__ill_at 0 help' -a "$commands"

@@ -1,8 +1,9 @@
 //! What the words of a command line ask for.
 
 use crate::help;
+use clap::error::ErrorKind;
 use clap::{Arg, ArgAction, ArgMatches, Command, Error};
-use std::alloc::Global;
+use std::alloc::{AllocError, Global};
 
 /// What a command line asks for.
 #[derive(Debug, Drop)]
@@ -57,84 +58,170 @@ pub enum Request<'a> {
     },
 }
 
+/// A command of `ill`.
+#[derive(Clone, Copy)]
+enum Name {
+    New,
+    Act,
+    Take,
+    Send,
+    Status,
+    Show,
+    Check,
+    Simulate,
+}
+
+/// All commands, in the order in which the help lists them: those that keep one side in a file, and those
+/// that read standard input and keep nothing. clap is told of these and of no others.
+const NAMES: [Name; 8] = [
+    Name::New,
+    Name::Act,
+    Name::Take,
+    Name::Send,
+    Name::Status,
+    Name::Show,
+    Name::Check,
+    Name::Simulate,
+];
+
+impl Name {
+    /// The word that stands for the command.
+    fn word<'a>(self) -> &'a str {
+        match self {
+            Name::New => "new",
+            Name::Act => "act",
+            Name::Take => "take",
+            Name::Send => "send",
+            Name::Status => "status",
+            Name::Show => "show",
+            Name::Check => "check",
+            Name::Simulate => "simulate",
+        }
+    }
+
+    /// The command that a word stands for.
+    fn read(word: &str) -> Option<Name> {
+        NAMES.iter().copied().find(|name| name.word() == word)
+    }
+}
+
 /// Reads the words of a command line, of which the first is the program's name.
 pub fn read_words<'a>(alloc: Global, words: &'a [&'a str]) -> Result<Request<'a>, Error> {
     let matches = command(alloc)?.try_get_matches_from(words)?;
-    requested(alloc, &matches)
+    match matches.subcommand() {
+        Some((word, matches)) => requested(alloc, word, matches),
+        None => Err(unknown(alloc)?),
+    }
 }
 
-/// What the matches ask for. clap lets none through that have no command, or another one.
-fn requested<'a>(alloc: Global, matches: &ArgMatches<'a>) -> Result<Request<'a>, Error> {
-    let Some((name, matches)) = matches.subcommand() else {
-        return Ok(Request::Show);
-    };
-    let file = text(matches, FILE);
-    let group = text(matches, GROUP);
-    let transaction = text(matches, TRANSACTION);
-    Ok(match name {
-        "new" => Request::New {
-            file,
-            role: text(matches, ROLE),
-            group,
-            transaction,
-        },
-        "act" => Request::Act {
-            file,
-            today: matches.get_str(TODAY),
-            words: Vec::from_slice(alloc, matches.get_strs(WORDS).unwrap_or_default())?,
-        },
-        "take" => Request::Take { file },
-        "send" => Request::Send {
-            file,
-            number: text(matches, NUMBER),
-        },
-        "status" => Request::Status { file },
-        "check" => Request::Check,
-        "simulate" => Request::Simulate { group, transaction },
-        _ => Request::Show,
+/// What the matches of the command with this word ask for.
+fn requested<'a>(
+    alloc: Global,
+    word: &str,
+    matches: &ArgMatches<'a>,
+) -> Result<Request<'a>, Error> {
+    match Name::read(word) {
+        Some(Name::New) => new_request(alloc, matches),
+        Some(Name::Act) => act_request(alloc, matches),
+        Some(Name::Take) => Ok(Request::Take {
+            file: text(alloc, matches, FILE)?,
+        }),
+        Some(Name::Send) => send_request(alloc, matches),
+        Some(Name::Status) => Ok(Request::Status {
+            file: text(alloc, matches, FILE)?,
+        }),
+        Some(Name::Show) => Ok(Request::Show),
+        Some(Name::Check) => Ok(Request::Check),
+        Some(Name::Simulate) => simulate_request(alloc, matches),
+        None => Err(unknown(alloc)?),
+    }
+}
+
+/// What the matches of `ill new` ask for.
+fn new_request<'a>(alloc: Global, matches: &ArgMatches<'a>) -> Result<Request<'a>, Error> {
+    Ok(Request::New {
+        file: text(alloc, matches, FILE)?,
+        role: text(alloc, matches, ROLE)?,
+        group: text(alloc, matches, GROUP)?,
+        transaction: text(alloc, matches, TRANSACTION)?,
     })
 }
 
-/// The text of an argument, or an empty one if the command has no such argument. clap lets no matches
-/// through that lack one that it has.
-fn text<'a>(matches: &ArgMatches<'a>, id: &str) -> &'a str {
-    matches.get_str(id).unwrap_or_default()
+/// What the matches of `ill act` ask for.
+fn act_request<'a>(alloc: Global, matches: &ArgMatches<'a>) -> Result<Request<'a>, Error> {
+    let Some(words) = matches.get_strs(WORDS) else {
+        return Err(unknown(alloc)?);
+    };
+    Ok(Request::Act {
+        file: text(alloc, matches, FILE)?,
+        today: matches.get_str(TODAY),
+        words: Vec::from_slice(alloc, words)?,
+    })
+}
+
+/// What the matches of `ill send` ask for.
+fn send_request<'a>(alloc: Global, matches: &ArgMatches<'a>) -> Result<Request<'a>, Error> {
+    Ok(Request::Send {
+        file: text(alloc, matches, FILE)?,
+        number: text(alloc, matches, NUMBER)?,
+    })
+}
+
+/// What the matches of `ill simulate` ask for.
+fn simulate_request<'a>(alloc: Global, matches: &ArgMatches<'a>) -> Result<Request<'a>, Error> {
+    Ok(Request::Simulate {
+        group: text(alloc, matches, GROUP)?,
+        transaction: text(alloc, matches, TRANSACTION)?,
+    })
+}
+
+/// The text of an argument that the command has to have.
+fn text<'a>(alloc: Global, matches: &ArgMatches<'a>, id: &str) -> Result<&'a str, Error> {
+    match matches.get_str(id) {
+        Some(text) => Ok(text),
+        None => Err(unknown(alloc)?),
+    }
+}
+
+/// The fault of matches that lack what `command` asks for. clap lets none through that do.
+fn unknown(alloc: Global) -> Result<Error, AllocError> {
+    Command::new(alloc, "ill").error(
+        ErrorKind::MissingRequiredArgument,
+        "the words are no command",
+    )
 }
 
 /// The command line of `ill`.
 fn command<'a>(alloc: Global) -> Result<Command<'a>, Error> {
-    let command = Command::new(alloc, "ill")
+    let mut command = Command::new(alloc, "ill")
         .about("Interlibrary loan by store-and-forward messages")
         .version(help::VERSION)
         .subcommand_required(true)
         .after_long_help(help::ILL);
-    let command = with_file_commands(alloc, command)?;
-    with_stream_commands(alloc, command)
-}
-
-/// Adds the commands that keep one side in a file.
-fn with_file_commands<'a>(alloc: Global, command: Command<'a>) -> Result<Command<'a>, Error> {
-    let command = command
-        .subcommand(new(alloc)?)?
-        .subcommand(act(alloc)?)?
-        .subcommand(take(alloc)?)?
-        .subcommand(send(alloc)?)?
-        .subcommand(status(alloc)?)?;
+    for name in &NAMES {
+        command = command.subcommand(subcommand(alloc, *name)?)?;
+    }
     Ok(command)
 }
 
-/// Adds the commands that read standard input and keep nothing.
-fn with_stream_commands<'a>(alloc: Global, command: Command<'a>) -> Result<Command<'a>, Error> {
-    let command = command
-        .subcommand(show(alloc))?
-        .subcommand(check(alloc))?
-        .subcommand(simulate(alloc)?)?;
-    Ok(command)
+/// The command line of a command.
+fn subcommand<'a>(alloc: Global, name: Name) -> Result<Command<'a>, Error> {
+    let command = Command::new(alloc, name.word());
+    match name {
+        Name::New => new(alloc, command),
+        Name::Act => act(alloc, command),
+        Name::Take => take(alloc, command),
+        Name::Send => send(alloc, command),
+        Name::Status => status(alloc, command),
+        Name::Show => Ok(show(command)),
+        Name::Check => Ok(check(command)),
+        Name::Simulate => simulate(alloc, command),
+    }
 }
 
-/// The command line of `ill new`.
-fn new<'a>(alloc: Global) -> Result<Command<'a>, Error> {
-    let command = Command::new(alloc, "new")
+/// Adds what `ill new` has.
+fn new<'a>(alloc: Global, command: Command<'a>) -> Result<Command<'a>, Error> {
+    let command = command
         .about("Begin one side of a loan, in a file")
         .long_about(help::NEW)
         .after_long_help(help::NEW_EXAMPLE)
@@ -145,8 +232,8 @@ fn new<'a>(alloc: Global) -> Result<Command<'a>, Error> {
     Ok(command)
 }
 
-/// The command line of `ill act`.
-fn act<'a>(alloc: Global) -> Result<Command<'a>, Error> {
+/// Adds what `ill act` has.
+fn act<'a>(alloc: Global, command: Command<'a>) -> Result<Command<'a>, Error> {
     let today = Arg::new(alloc, TODAY)
         .long("today")
         .value_name("DAY")
@@ -157,7 +244,7 @@ fn act<'a>(alloc: Global) -> Result<Command<'a>, Error> {
         .num_args(1..)
         .allow_hyphen_values(true)
         .trailing_var_arg(true);
-    let command = Command::new(alloc, "act")
+    let command = command
         .about("Perform one action of the side in a file, and save it")
         .long_about(help::ACT)
         .after_long_help(help::ACT_EXAMPLE)
@@ -167,9 +254,9 @@ fn act<'a>(alloc: Global) -> Result<Command<'a>, Error> {
     Ok(command)
 }
 
-/// The command line of `ill take`.
-fn take<'a>(alloc: Global) -> Result<Command<'a>, Error> {
-    let command = Command::new(alloc, "take")
+/// Adds what `ill take` has.
+fn take<'a>(alloc: Global, command: Command<'a>) -> Result<Command<'a>, Error> {
+    let command = command
         .about("Take the APDUs on standard input, and save what they change")
         .long_about(help::TAKE)
         .after_long_help(help::TAKE_EXAMPLE)
@@ -177,10 +264,10 @@ fn take<'a>(alloc: Global) -> Result<Command<'a>, Error> {
     Ok(command)
 }
 
-/// The command line of `ill send`.
-fn send<'a>(alloc: Global) -> Result<Command<'a>, Error> {
+/// Adds what `ill send` has.
+fn send<'a>(alloc: Global, command: Command<'a>) -> Result<Command<'a>, Error> {
     let number = argument(alloc, NUMBER, "The number of the message, 1 to 255");
-    let command = Command::new(alloc, "send")
+    let command = command
         .about("Write the bytes of one message that the side has issued")
         .long_about(help::SEND)
         .after_long_help(help::SEND_EXAMPLE)
@@ -189,9 +276,9 @@ fn send<'a>(alloc: Global) -> Result<Command<'a>, Error> {
     Ok(command)
 }
 
-/// The command line of `ill status`.
-fn status<'a>(alloc: Global) -> Result<Command<'a>, Error> {
-    let command = Command::new(alloc, "status")
+/// Adds what `ill status` has.
+fn status<'a>(alloc: Global, command: Command<'a>) -> Result<Command<'a>, Error> {
+    let command = command
         .about("Show the side in a file")
         .long_about(help::STATUS)
         .after_long_help(help::STATUS_EXAMPLE)
@@ -199,25 +286,25 @@ fn status<'a>(alloc: Global) -> Result<Command<'a>, Error> {
     Ok(command)
 }
 
-/// The command line of `ill show`.
-fn show<'a>(alloc: Global) -> Command<'a> {
-    Command::new(alloc, "show")
+/// Adds what `ill show` has.
+fn show<'a>(command: Command<'a>) -> Command<'a> {
+    command
         .about("Show each APDU on standard input")
         .long_about(help::SHOW)
         .after_long_help(help::SHOW_EXAMPLE)
 }
 
-/// The command line of `ill check`.
-fn check<'a>(alloc: Global) -> Command<'a> {
-    Command::new(alloc, "check")
+/// Adds what `ill check` has.
+fn check<'a>(command: Command<'a>) -> Command<'a> {
+    command
         .about("Check the APDUs on standard input and count them")
         .long_about(help::CHECK)
         .after_long_help(help::CHECK_EXAMPLE)
 }
 
-/// The command line of `ill simulate`.
-fn simulate<'a>(alloc: Global) -> Result<Command<'a>, Error> {
-    let command = Command::new(alloc, "simulate")
+/// Adds what `ill simulate` has.
+fn simulate<'a>(alloc: Global, command: Command<'a>) -> Result<Command<'a>, Error> {
+    let command = command
         .about("Perform a script of both sides of a loan, from standard input")
         .long_about(help::SIMULATE)
         .after_long_help(help::SIMULATE_EXAMPLE)

@@ -15,7 +15,9 @@ use thiserror::Error;
 /// Why a command stopped. What was written before stays written.
 #[derive(Clone, Copy, Debug, PartialEq, Eq, Hash, Error)]
 pub enum ToolFault {
-    /// A group or a transaction is no qualifier.
+    /// A word is not what it has to be: a role, a number or a day is none, or no id can have the group or
+    /// the transaction. The words of an action name none of this side, one of them is empty or holds a
+    /// space, or their `+N` is beyond the calendar; or a responder's action has no day.
     #[error("arguments")]
     Arguments,
     /// The input has bytes that are no APDU. This is never `DerFault::OutOfMemory`.

@@ -15,6 +15,12 @@ message to carry there, and `status` tells how the side stands. How messages are
 carried, by mail or by hand, is left to the libraries. `show`, `check` and
 `simulate` keep nothing. `ill COMMAND --help` tells more of a command.
 
+From the start of a command on a file to its end no other may run on that file,
+while a `take` waits for its input too. No lock is taken, and one on the file
+itself is none, since each save puts a new file in its place. So lock another:
+  flock loan.lock ill act loan receive
+  flock there.lock ill send there 1 > letter
+
 The start of a loan, with the requester's side in the file `here` and the
 responder's in the file `there`:
   $ ill new here requester G1 T1
@@ -62,7 +68,8 @@ have 1 to 64 characters of ASCII each, from space to tilde; where one begins
 with a hyphen, `--` goes before the arguments.
 
 FILE must not be there yet, and its folder must. The program writes a record by
-way of FILE.new, beside it; that file belongs to the program. One line is
+way of FILE.new, beside it; that file belongs to the program. From its start to
+its end no other command may run on FILE, as `ill --help` tells. One line is
 written to standard output, as `ill act --help` tells. Standard input is not
 read.
 
@@ -108,7 +115,8 @@ title has no quotes round it: `request none War and Peace`.
 
 A responder's action needs --today; a requester's has no use for it. It stands
 before the words: behind them it would be one of them, as of a title. One action
-issues one message, and the messages of a side are numbered 1, 2, 3, up to 255.
+issues one message; `take` may issue one too, as `ill take --help` tells. The
+messages of a side are numbered 1, 2, 3, up to 255.
 
 The action is saved in FILE before a line of it is written to standard output:
   OUTCOME STATE DUE RELEASED/ISSUED
@@ -123,11 +131,14 @@ OUTCOME says why:
   not-expired            `expire`, and no expiry day is past
   numbers-used           all 255 numbers are used
 
-Standard input is not read, and FILE has at most 65,535 bytes. The exit status
-is 0 where the action is done, 1 where it is refused or with `no-record`, 2 for
-wrong words, a wrong day or a bad record, and 3 with `store failed`, `store
-too-large`, `write` or `memory`. After `store failed` the action may be saved or
-not: `ill status FILE` shows which.";
+Standard input is not read, and FILE has at most 65,535 bytes. From its start to
+its end no other command may run on FILE: `flock FILE.lock ill act FILE ..` sees
+to it, as `ill --help` tells.
+
+The exit status is 0 where the action is done, 1 where it is refused or with
+`no-record`, 2 for wrong words, a wrong day or a bad record, and 3 with `store
+failed`, `store too-large`, `write` or `memory`. After `store failed` the action
+may be saved or not: `ill status FILE` shows which.";
 
 pub const ACT_EXAMPLE: &str = "Example:
   $ ill new box requester G1 T1
@@ -148,7 +159,9 @@ Take the APDUs on standard input, and save what they change.
 
 The APDUs, the messages of the other side as `ill send` gives them there, stand
 one behind another up to the end of the input: `ill take FILE < message`. There
-are at most 100,000 of them. FILE has at most 65,535 bytes.
+are at most 100,000 of them. FILE has at most 65,535 bytes. From its start to
+its end, while it waits for its input too, no other command may run on FILE:
+`flock FILE.lock ill take FILE < message` sees to it, as `ill --help` tells.
 
 For each of them a line is written to standard output:
   OUTCOME STATE DUE RELEASED/ISSUED
@@ -164,6 +177,11 @@ OUTCOME is one of these; behind it the line says how the side stands, as that of
 
 Only what is taken changes the side, and it is saved in FILE before its line is
 written. To take a message twice does no harm.
+
+A message that is taken may issue one: a responder that takes a
+Conditional-Reply no, by which the requester declines its conditions, issues an
+ILL-Answer unfilled. ISSUED has risen by one then, as from 1/1 to 2/2, and that
+message has to be sent, like one of an action: `ill send FILE 2`.
 
 The exit status is 0 where each was taken, a repeat or stale, and 1 where one
 was anything else or with `no-record`. It is 2 where the input has a faulty
@@ -186,15 +204,17 @@ pub const TAKE_EXAMPLE: &str = "Example:
 pub const SEND: &str = "\
 Write the bytes of one message that the side has issued.
 
-The messages of a side are numbered 1, 2, 3, in the order of its actions. NUMBER
-has one to three digits, with a value from 1 to 255. The message must be saved,
-which what `act` and `take` have told always is.
+The messages of a side are numbered 1, 2, 3, in the order in which `act` and
+`take` issued them. NUMBER has one to three digits, with a value from 1 to 255.
+The message must be saved, which what `act` and `take` have told always is.
 
 Its bytes, and nothing else, are written to standard output: 16 to 359 of them,
 which are not for a terminal. Give them to a file or another program, as in
 `ill send FILE 1 > message`. FILE has at most 65,535 bytes; it is not changed,
 so nothing tells what was sent. A message may be sent again at any time, and has
-the same bytes then. Standard input is not read.
+the same bytes then. From its start to its end no other command may run on FILE:
+`flock FILE.lock ill send FILE 1 > message` sees to it, as `ill --help` tells.
+Standard input is not read.
 
 The exit status is 0 where the message is written, 1 with `no-such-message`,
 `not-saved` or `no-record`, 2 for a wrong NUMBER or a bad record, and 3 with
@@ -229,9 +249,10 @@ Seven lines are written to standard output:
   marks                  those that are set of `received` (a Received was
                          issued, or taken), `checked-in` and `declined`, or `-`
 
-FILE has at most 65,535 bytes and is not changed. Standard input is not read.
-The exit status is 0 where the side is shown, 1 with `no-record`, 2 for a bad
-record, and 3 with `store failed`, `store too-large`, `write` or `memory`.";
+FILE has at most 65,535 bytes and is not changed. From its start to its end no
+other command may run on FILE, as `ill --help` tells. Standard input is not
+read. The exit status is 0 where the side is shown, 1 with `no-record`, 2 for a
+bad record, and 3 with `store failed`, `store too-large`, `write` or `memory`.";
 
 pub const STATUS_EXAMPLE: &str = "Example:
   $ ill new box requester G1 T1

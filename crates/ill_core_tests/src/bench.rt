@@ -55,11 +55,14 @@ impl Bench {
         self.text.as_str()
     }
 
-    /// Adds a line, and behind it what it is answered.
+    /// Adds a line, and behind it what it is answered, in place of the answer that stands there.
     pub fn answer(&mut self, line: &str) -> Result<(), AllocError> {
-        self.text.push_str(line)?;
-        if !line.starts_with('#') {
-            self.push_answer(line)?;
+        if line.starts_with('#') {
+            self.text.push_str(line)?;
+        } else {
+            let case = without_answer(line);
+            self.text.push_str(case)?;
+            self.push_answer(case)?;
         }
         self.text.push('\n')
     }
@@ -124,6 +127,21 @@ impl Bench {
             None if self.record.is_readable => (event.absent(), ""),
             None => (event.absent(), "!"),
         }
+    }
+}
+
+/// A case without its answer, which stands behind the bar of a name, or behind the fourth bar of a row
+/// and before its fifth. A ruler, which has no fifth, has no answer.
+fn without_answer(line: &str) -> &str {
+    let bars = line.matches('|').count();
+    let fields = match bars {
+        1 => 1,
+        5 => 4,
+        _ => return line,
+    };
+    match line.match_indices('|').nth(fields - 1) {
+        Some((at, _)) => line.get(..=at).unwrap_or(line),
+        None => line,
     }
 }
 

@@ -9,13 +9,19 @@ use crate::words::push_apdu;
 use ill_der::{DerFault, decode, read_apdu};
 use std::alloc::Global;
 
-/// Adds what is printed for a line.
-pub fn push_answers(alloc: Global, output: &mut Buffer, line: &str) {
-    if line.is_empty() || line.starts_with("#") {
-        output.push(line.as_bytes());
-        output.push_octet(b'\n');
-        return;
+/// Adds a line and, where it is a case, its answers below it.
+pub fn push_case(alloc: Global, output: &mut Buffer, line: &str) {
+    output.push(line.as_bytes());
+    output.push_octet(b'\n');
+    if !line.is_empty() && !line.starts_with("#") {
+        let mut answers = Buffer::new(alloc);
+        push_answers(alloc, &mut answers, line);
+        output.push_indented(&answers);
     }
+}
+
+/// Adds the answers to a case.
+fn push_answers(alloc: Global, output: &mut Buffer, line: &str) {
     let (form, words) = line.split_once(": ").unwrap_or(("", line));
     let mut bytes = Buffer::new(alloc);
     push_bytes(&mut bytes, words);

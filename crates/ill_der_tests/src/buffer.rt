@@ -3,6 +3,9 @@
 use std::alloc::Global;
 use std::fmt::Display;
 
+/// What stands before an answer.
+pub const INDENT: &str = "  ";
+
 /// Bytes to which more are added. Where that once fails they are no longer whole, and stay so.
 #[derive(Drop)]
 pub struct Buffer {
@@ -55,6 +58,17 @@ impl Buffer {
         self.push(line.bytes());
         self.push_octet(b'\n');
         if !line.is_whole {
+            self.lose();
+        }
+    }
+
+    /// Adds lines, each behind the indent.
+    pub fn push_indented(&mut self, lines: &Buffer) {
+        for line in lines.bytes().split_inclusive(|byte| *byte == b'\n') {
+            self.push(INDENT.as_bytes());
+            self.push(line);
+        }
+        if !lines.is_whole {
             self.lose();
         }
     }

@@ -29,7 +29,9 @@ fn main(rt: HostRuntime) -> io::Result<()> {
     let input = io::read_to_string(rt.alloc(), rt.stdin())?;
     let mut output = Buffer::new(rt.alloc());
     for line in input.lines() {
-        answers::push_answers(rt.alloc(), &mut output, line);
+        if !line.starts_with(buffer::INDENT) {
+            answers::push_case(rt.alloc(), &mut output, line);
+        }
     }
     if output.is_whole() {
         rt.stdout().write_all(output.bytes())

@@ -61,11 +61,16 @@ fn perform_lines<R: Files>(
     for line in rt.lines(alloc) {
         let line = line?;
         if line.as_str().starts_with('#') {
+            println!(rt; "{line}")?;
             continue;
         }
-        match cases::outcome(alloc, folder, &mut Words::new(line.as_str(), ' ')) {
-            Some(outcome) => println!(rt; "{line}: {outcome:?}")?,
-            None => println!(rt; "{line}: no such case")?,
+        let case = line
+            .as_str()
+            .split_once(": ")
+            .map_or(line.as_str(), |(case, _)| case);
+        match cases::outcome(alloc, folder, &mut Words::new(case, ' ')) {
+            Some(outcome) => println!(rt; "{case}: {outcome:?}")?,
+            None => println!(rt; "{case}: no such case")?,
         }
     }
     Ok(())

@@ -10,6 +10,11 @@ use std::alloc::Global;
 
 const NOT_UNDERSTOOD: &str = "NOT UNDERSTOOD";
 
+/// What stands before the answer to a case of a family.
+const BELOW: &str = "  ";
+
+const BELOW_LINE: &str = "\n  ";
+
 /// What earlier lines left: names, and a store or a desk.
 #[derive(Drop)]
 pub struct Session<B: Answers> {
@@ -28,16 +33,25 @@ impl<B: Answers> Session<B> {
         }
     }
 
-    /// Performs a line, and gives what is written of it.
+    /// Performs a line, and gives what is written of it. An answer that stands there, behind a case or
+    /// below a family, is left out.
     pub fn perform(&mut self, text: &str) -> Line {
         let mut line = Line::new(self.alloc, None);
+        if text.starts_with(BELOW) {
+            return line;
+        }
+        let text = without_answer(text);
         let (word, words) = text.split_once(' ').unwrap_or((text, ""));
         match call_of(word) {
             Some(Call::Note) => {
                 line.text(text);
                 line.text("\n");
             }
-            Some(Call::Let) => self.give_name(&mut line, words),
+            Some(Call::Let) => {
+                line.text(text);
+                line.text("\n");
+                self.give_name(&mut line, words);
+            }
             Some(Call::Case(call)) => {
                 line.text(text);
                 line.text(":");
@@ -67,7 +81,7 @@ impl<B: Answers> Session<B> {
     }
 
     fn family(&mut self, line: &mut Line, call: CaseCall, words: &str, count: usize) {
-        let mut run = Run::new(self.alloc, "\n  ", 0);
+        let mut run = Run::new(self.alloc, BELOW_LINE, 0);
         for case in 0..count {
             let answer = self.case(call, words, case);
             run.push(line, answer);
@@ -107,6 +121,17 @@ impl<B: Answers> Session<B> {
                 Some(())
             }
         }
+    }
+}
+
+/// A case without the answer behind it. Notes stay as they are.
+fn without_answer(text: &str) -> &str {
+    if text.starts_with('#') {
+        return text;
+    }
+    match text.split_once(": ") {
+        Some((case, _)) => case,
+        None => text.strip_suffix(":").unwrap_or(text),
     }
 }
 

@@ -1,6 +1,6 @@
 //! What holds of every world, as contracts of functions that do nothing.
 
-ghost use Rattle.std.specs.Prelude.{◌≡◌, ◌++◌, ℕ, List, Option, Some, Ok};
+ghost use Rattle.std.specs.Prelude.{◌≡◌, ◌++◌, ◌∷◌, ℕ, List, [], Option, Some, Ok};
 ghost use Rattle.ill_values.specs.Day.{Date};
 ghost use Rattle.ill_values.specs.TxnId.{Qualifiers};
 ghost use Rattle.ill_values.specs.declared.apdu.Apdu.{Apdu};
@@ -14,6 +14,7 @@ ghost use Rattle.ill_core.specs.ResponderActions as responder_actions;
 ghost use Rattle.ill_core.specs.ResponderDeliveries as responder_deliveries;
 ghost use Rattle.ill_world.specs.declared.event.Event.{Event};
 ghost use Rattle.ill_world.specs.World.{Parties, first_world, happens, run_of};
+ghost use Rattle.ill_world.specs.Simulation.{trace_of, line_behind, IsFront};
 ghost use Rattle.ill_world.specs.Safety.{OfBoth, EndsAlike, WasShipped, WasGranted, Safe, IsSafeRun};
 ghost use Rattle.ill_world.specs.Agreement.{Agrees, IsAgreeingRun, KeepsDates, Arrives};
 ghost use Rattle.ill_world.specs.BadWorlds.{IsUnsafe, Disagrees};
@@ -156,4 +157,15 @@ pub fn runs_have_each_world()
         IsSafeRun w (before ++ after) → Safe (run_of w before) }
     ensures agrees { (w : Parties) (before after : List Event) →
         IsAgreeingRun w (before ++ after) → Agrees (run_of w before) }
+{}
+
+/// A trace is empty at first; each event adds a line, with its number, what is seen of it in the world
+/// after those before it, and the world after it; and no later event changes what the trace begins with.
+/// So line n shows the world after the first n events.
+pub fn traces_show_runs()
+    ensures first { (txn : Qualifiers) → trace_of txn [] ≡ [] }
+    ensures next { (txn : Qualifiers) (events : List Event) (event : Event) →
+        trace_of txn (events ++ event ∷ []) ≡ trace_of txn events ++ line_behind txn events event }
+    ensures front { (txn : Qualifiers) (events more : List Event) →
+        IsFront (trace_of txn events) (trace_of txn (events ++ more)) }
 {}

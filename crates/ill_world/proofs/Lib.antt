@@ -16,3 +16,4 @@ pub mod Uniqueness
 pub mod Agreements
 pub mod Arrivals
 pub mod BadWorlds
+pub mod Changes

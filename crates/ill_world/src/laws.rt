@@ -18,12 +18,14 @@ ghost use Rattle.ill_world.specs.Simulation.{trace_of, line_behind, IsFront};
 ghost use Rattle.ill_world.specs.Safety.{OfBoth, EndsAlike, WasShipped, WasGranted, Safe, IsSafeRun};
 ghost use Rattle.ill_world.specs.Agreement.{Agrees, IsAgreeingRun, KeepsDates, Arrives};
 ghost use Rattle.ill_world.specs.BadWorlds.{IsUnsafe, Disagrees};
+ghost use Rattle.ill_world.specs.Changes.{MayChange, OnlyLandedChanges, KeepsSent};
 ghost use Rattle.ill_world.specs.Invariant.{WasSent, RequesterStands, ResponderStands, Stands};
 
 use ill_core::laws::{
-    requester_answers_once, requester_follows, requester_keeps_due, requester_keeps_rules,
-    requester_keeps_txn, requester_shows, responder_answers_once, responder_ends_once,
-    responder_follows, responder_keeps_rules, responder_keeps_txn, responder_shows,
+    requester_answers_once, requester_follows, requester_is_quiet, requester_keeps_due,
+    requester_keeps_rules, requester_keeps_txn, requester_shows, responder_answers_once,
+    responder_ends_once, responder_follows, responder_is_quiet, responder_keeps_rules,
+    responder_keeps_txn, responder_shows,
 };
 use ill_saved::laws::rows_grow;
 
@@ -169,3 +171,24 @@ pub fn traces_show_runs()
     ensures front { (txn : Qualifiers) (events more : List Event) →
         IsFront (trace_of txn events) (trace_of txn (events ++ more)) }
 {}
+
+/// Only `Done`, `Saved`, `Sent`, `Restarted`, `Answered(Taken)` and `Faulted` change the world, and
+/// `Faulted` only what has landed.
+pub fn few_outcomes_change()
+    ensures { (w : Parties) (event : Event) →
+        MayChange OnlyLandedChanges (happens w event).0 w (happens w event).1 }
+{
+    requester_is_quiet();
+    responder_is_quiet();
+}
+
+/// What was sent stays sent, with its number: where the world stands, at every event, and so for as long
+/// as a run goes on.
+pub fn sent_stays_sent()
+    ensures event { (txn : Qualifiers) (w : Parties) (event : Event) → Stands txn w →
+        KeepsSent w (happens w event).1 }
+    ensures run { (txn : Qualifiers) (events more : List Event) →
+        KeepsSent (run_of (first_world txn) events) (run_of (first_world txn) (events ++ more)) }
+{
+    world_stands();
+}

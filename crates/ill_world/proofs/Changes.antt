@@ -1,14 +1,10 @@
 -- What an event changes of a party, and so of the world.
-use Rattle.std.proofs.Common.{rules, ◌≡◌, ◌⊎◌, inl, inr, ℕ, Bool, true, false, List, [], ◌∷◌, ◌++◌, Option, Some, None, Result, Ok, Err, refl, sym, ap, ◌∙◌, subst}
+use Rattle.std.proofs.Common.{◌≡◌, ◌⊎◌, inl, inr, ℕ, Bool, true, false, List, [], ◌∷◌, ◌++◌, Option, Some, None, Result, Ok, Err, refl, sym, ap, subst}
 use Rattle.ill_values.specs.TxnId.{Qualifiers}
 use Rattle.ill_values.specs.declared.apdu.Apdu.{Apdu}
-use Rattle.ill_der.specs.declared.fault.DerFault.{DerFault}
 use Rattle.ill_der.specs.ShortForm.{apdu_at}
 use Rattle.ill_core.specs.declared.refusal.Refusal.{Refusal}
-use Rattle.ill_core.specs.declared.refusal.Refusal.TheVariants.{OtherTransaction}
-use Rattle.ill_core.specs.declared.taking.Taking.{Taking}
 use Rattle.ill_core.specs.declared.taking.Taking.TheVariants.{Taken, Repeat, Stale, Conflict}
-use Rattle.ill_core.specs.Issued.{message, is_same_txn}
 use Rattle.ill_core.specs.Requester.{RequesterRecord}
 use Rattle.ill_core.specs.RequesterDeliveries as requester_deliveries
 use Rattle.ill_core.specs.Responder.{ResponderRecord}
@@ -16,14 +12,14 @@ use Rattle.ill_core.specs.ResponderDeliveries as responder_deliveries
 use Rattle.ill_saved.specs.declared.side.Side.{Side}
 use Rattle.ill_saved.specs.declared.side.Side.TheVariants as sides
 use Rattle.ill_saved.specs.declared.side.Action.TheVariants as actions
-use Rattle.ill_saved.specs.Side.{issued_of, acts, takes, txn_of}
+use Rattle.ill_saved.specs.Side.{acts, takes}
 use Rattle.ill_world.specs.declared.event.Who.{Who}
 use Rattle.ill_world.specs.declared.event.Who.TheVariants as who
 use Rattle.ill_world.specs.declared.event.Event.{Event}
 use Rattle.ill_world.specs.declared.event.Event.TheVariants as events
 use Rattle.ill_world.specs.declared.event.Outcome.{Outcome}
-use Rattle.ill_world.specs.declared.event.Outcome.TheVariants.{Done, Saved, Faulted, Sent, Answered, Refused, NoSuchMessage, NotSaved, NotSent, Garbled, Forged, Restarted}
-use Rattle.ill_world.specs.World.{Party, Parties, party, other, with_party, who_of, sent_message, decides, sends, answer_to, takes_message, receives, hears, happens_to, happens, first_world, run_of}
+use Rattle.ill_world.specs.declared.event.Outcome.TheVariants.{Done, Saved, Faulted, Sent, Answered, Restarted}
+use Rattle.ill_world.specs.World.{Party, Parties, party, other, with_party, who_of, sent_message, decides, sends, answer_to, receives, hears, happens_to, happens, run_of}
 use Rattle.ill_world.specs.Changes.{OnlyLands, OnlyLandedChanges, MayChange, KeepsSent}
 use Rattle.ill_world.specs.Invariant.{SendsSaved, Stands}
 use Rattle.ill_world.proofs.Kept.{stays_sent}

@@ -17,3 +17,4 @@ pub mod Agreements
 pub mod Arrivals
 pub mod BadWorlds
 pub mod Changes
+pub mod Outcomes

@@ -10,7 +10,7 @@ use Rattle.ill_core.specs.Issued.{message, has}
 use Rattle.ill_saved.specs.declared.side.Side.{Side}
 use Rattle.ill_saved.specs.Side.{issued_of, IsFrontOf}
 use Rattle.ill_world.specs.World.{Party, sent_message, with_sent, saves, fails_to_save, restarts, sends}
-use Rattle.ill_world.specs.Invariant.{WasSent, SendsSaved}
+use Rattle.ill_world.specs.Invariant.{SendsSaved}
 
 -- ---- lists
 

@@ -1,10 +1,12 @@
--- What an event may change (this profile's own).
-use Rattle.std.specs.Prelude.{◌≡◌, ℕ, Some}
+-- What an event may change, and what may be seen of it (this profile's own).
+use Rattle.std.specs.Prelude.{◌≡◌, ℕ, Bool, true, false, Some}
 use Rattle.ill_values.specs.declared.apdu.Apdu.{Apdu}
+use Rattle.ill_core.specs.declared.refusal.Refusal.{Refusal}
+use Rattle.ill_core.specs.declared.refusal.Refusal.TheVariants.{WrongRole, OutOfMemory}
 use Rattle.ill_core.specs.declared.taking.Taking.TheVariants.{Taken}
 use Rattle.ill_world.specs.declared.event.Who.{Who}
 use Rattle.ill_world.specs.declared.event.Outcome.{Outcome}
-use Rattle.ill_world.specs.declared.event.Outcome.TheVariants.{Done, Saved, Faulted, Sent, Answered, Restarted}
+use Rattle.ill_world.specs.declared.event.Outcome.TheVariants.{Done, Saved, Faulted, Sent, Answered, Refused, Restarted}
 use Rattle.ill_world.specs.World.{Party, Parties, party, sent_message}
 
 -- nothing of a party has changed but what has landed
@@ -32,3 +34,13 @@ abbrev pub KeepsSent : Parties → Parties → Type 0
 KeepsSent old new =
     (who : Who) (n : ℕ) (a : Apdu) → sent_message (party old who).sent n ≡ Some a →
     sent_message (party new who).sent n ≡ Some a
+
+-- Every refusal but those of a wrong role and of want of memory may be seen, and every other outcome.
+abbrev pub can_refuse : Refusal → Bool
+can_refuse WrongRole = false
+can_refuse OutOfMemory = false
+can_refuse other = true
+
+abbrev pub can_be_seen : Outcome → Bool
+can_be_seen (Refused refusal) = can_refuse refusal
+can_be_seen other = true

@@ -1,6 +1,6 @@
 //! What holds of every world, as contracts of functions that do nothing.
 
-ghost use Rattle.std.specs.Prelude.{◌≡◌, ◌++◌, ◌∷◌, ℕ, List, [], Option, Some, Ok};
+ghost use Rattle.std.specs.Prelude.{◌≡◌, ◌++◌, ◌∷◌, ℕ, List, [], Option, Some, Ok, true};
 ghost use Rattle.ill_values.specs.Day.{Date};
 ghost use Rattle.ill_values.specs.TxnId.{Qualifiers};
 ghost use Rattle.ill_values.specs.declared.apdu.Apdu.{Apdu};
@@ -18,7 +18,7 @@ ghost use Rattle.ill_world.specs.Simulation.{trace_of, line_behind, IsFront};
 ghost use Rattle.ill_world.specs.Safety.{OfBoth, EndsAlike, WasShipped, WasGranted, Safe, IsSafeRun};
 ghost use Rattle.ill_world.specs.Agreement.{Agrees, IsAgreeingRun, KeepsDates, Arrives};
 ghost use Rattle.ill_world.specs.BadWorlds.{IsUnsafe, Disagrees};
-ghost use Rattle.ill_world.specs.Changes.{MayChange, OnlyLandedChanges, KeepsSent};
+ghost use Rattle.ill_world.specs.Changes.{MayChange, OnlyLandedChanges, KeepsSent, can_be_seen};
 ghost use Rattle.ill_world.specs.Invariant.{WasSent, RequesterStands, ResponderStands, Stands};
 
 use ill_core::laws::{
@@ -189,6 +189,14 @@ pub fn sent_stays_sent()
         KeepsSent w (happens w event).1 }
     ensures run { (txn : Qualifiers) (events more : List Event) →
         KeepsSent (run_of (first_world txn) events) (run_of (first_world txn) (events ++ more)) }
+{
+    world_stands();
+}
+
+/// In no run anything is refused as of a wrong role, or for want of memory.
+pub fn few_outcomes_are_seen()
+    ensures { (txn : Qualifiers) (events : List Event) (event : Event) →
+        can_be_seen (happens (run_of (first_world txn) events) event).0 ≡ true }
 {
     world_stands();
 }

@@ -17,7 +17,7 @@ ghost use Rattle.ill_world.specs.World.{Parties, first_world, happens, run_of};
 ghost use Rattle.ill_world.specs.Simulation.{trace_of, line_behind, IsFront};
 ghost use Rattle.ill_world.specs.Safety.{OfBoth, EndsAlike, WasShipped, WasGranted, Safe, IsSafeRun};
 ghost use Rattle.ill_world.specs.Agreement.{Agrees, IsAgreeingRun, KeepsDates, Arrives};
-ghost use Rattle.ill_world.specs.BadWorlds.{IsUnsafe, Disagrees};
+ghost use Rattle.ill_world.specs.BadWorlds.{IsUnsafe, Disagrees, TakesBack, ArrivesInVain};
 ghost use Rattle.ill_world.specs.Changes.{MayChange, OnlyLandedChanges, KeepsSent, can_be_seen};
 ghost use Rattle.ill_world.specs.Invariant.{WasSent, RequesterStands, ResponderStands, Stands};
 
@@ -150,6 +150,14 @@ pub fn no_unsafe_world_is_safe()
 /// yes was given to what is held as accepted, or a record says what is not so.
 pub fn no_disagreeing_world_agrees()
     ensures { (w : Parties) → Disagrees w → Agrees w → ⊥ }
+{}
+
+/// No event keeps the requester's due date that takes it back, and where one arrival is enough no message
+/// arrives in vain that ends the request, and no Returned.
+pub fn no_bad_event_passes()
+    ensures dates { (old new : Parties) (event : Event) →
+        TakesBack old event new → KeepsDates old event new → ⊥ }
+    ensures arrives { (w : Parties) (event : Event) → ArrivesInVain w event → Arrives w event → ⊥ }
 {}
 
 /// A run is safe, and both sides agree in it, only where that is so of each world on the way: of the

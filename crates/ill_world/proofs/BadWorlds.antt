@@ -1,27 +1,34 @@
 -- Why no bad world is safe, and why the sides agree in none.
-use Rattle.std.proofs.Common.{rules, ◌≡◌, inl, inr, ℕ, true, false, List, [], ◌∷◌, ◌++◌, length, take, Option, Some, sym, ap, subst, refl, ◌∙◌}
+use Rattle.std.proofs.Common.{rules, ◌≡◌, inl, inr, ℕ, true, false, List, [], ◌∷◌, ◌++◌, length, take, Option, Some, None, sym, ap, subst, refl, ◌∙◌}
 use Rattle.std.proofs.lemmas.List.{take_at}
 use Rattle.std.proofs.lemmas.Option.{same_Some}
+use Rattle.ill_values.specs.Day.{Date}
+use Rattle.ill_values.specs.declared.apdu.AnswerResult.{AnswerResult}
 use Rattle.ill_values.specs.declared.apdu.Apdu.{Apdu}
+use Rattle.ill_core.specs.Dates.{is_after_due}
 use Rattle.ill_values.specs.declared.apdu.Body.{Body}
-use Rattle.ill_values.specs.declared.apdu.Body.TheVariants.{ConditionalReply, CancelReply, RenewAnswer}
+use Rattle.ill_values.specs.declared.apdu.Body.TheVariants.{IllAnswer, ConditionalReply, CancelReply, Shipped, RenewAnswer, Expired}
 use Rattle.ill_core.specs.declared.state.State.{State}
 use Rattle.ill_core.specs.declared.state.State.TheVariants as states
 use Rattle.ill_core.specs.State.{is_among}
-use Rattle.ill_core.specs.Bodies.{is_end}
+use Rattle.ill_core.specs.Bodies.{is_end, is_final, is_returned}
 use Rattle.ill_core.specs.Issued.{message}
 use Rattle.ill_core.specs.Requester.{RequesterRecord}
-use Rattle.ill_core.specs.RequesterFacts.{replied_number}
+use Rattle.ill_core.specs.RequesterFacts.{replied_number, KeepsDue}
 use Rattle.ill_core.specs.Responder.{ResponderRecord}
 use Rattle.ill_core.specs.ResponderFacts.{MayCancel, MayRenew, answered_number}
 use Rattle.ill_saved.specs.declared.side.Side.{Side}
 use Rattle.ill_saved.specs.declared.side.Side.TheVariants as sides
-use Rattle.ill_saved.specs.Side.{issued_of}
+use Rattle.ill_saved.specs.Side.{issued_of, due_date_of}
 use Rattle.ill_world.specs.declared.event.Event.{Event}
-use Rattle.ill_world.specs.World.{Party, Parties, run_of}
+use Rattle.ill_world.specs.declared.event.Who.TheVariants as who
+use Rattle.ill_world.specs.declared.event.Event.TheVariants.{Deliver, Restart}
+use Rattle.ill_world.specs.declared.event.Outcome.{Outcome}
+use Rattle.ill_world.specs.World.{Party, Parties, happens, run_of, sent_message}
+use Rattle.ill_world.proofs.Calendar.{before_on, not_before_itself}
 use Rattle.ill_world.specs.Safety.{EndsAlike, WasShipped, WasGranted, OfBoth, Safe}
-use Rattle.ill_world.specs.Agreement.{AnswersOnce, AnswersOnceBoth, EndsOnce, Facing, AcceptedBy, IsNotLater, SaysTrue, Agrees}
-use Rattle.ill_world.specs.BadWorlds.{Has, HasMessages, TwoSay, Contradicts, IsUnsafe, Misleads, Disagrees, not_supplied, cancelled, never_shipped, never_granted, contradicted, due_later, not_returned, checked_in_unreturned, cancelled_unasked, not_received, not_checked_in, conditions_twice, cancel_twice, renew_twice, ended_twice, never_accepted, acceptance_forgotten, misled}
+use Rattle.ill_world.specs.Agreement.{AnswersOnce, AnswersOnceBoth, EndsOnce, Facing, AcceptedBy, IsNotLater, SaysTrue, Agrees, KeepsLiveDate, KeepsDates, Settles, settled_by, Arrives}
+use Rattle.ill_world.specs.BadWorlds.{Has, HasMessages, TwoSay, Contradicts, IsUnsafe, Misleads, Disagrees, not_supplied, cancelled, never_shipped, never_granted, contradicted, due_later, not_returned, checked_in_unreturned, cancelled_unasked, not_received, not_checked_in, TakesBack, IsTakenBack, IsUnheeded, ArrivesInVain, in_memory, in_store, shipped_in_vain, cancelled_in_vain, expired_in_vain, refused_in_vain, returned_in_vain, conditions_twice, cancel_twice, renew_twice, ended_twice, never_accepted, acceptance_forgotten, misled}
 
 -- ---- either record of a party
 
@@ -93,6 +100,47 @@ not_agreed w (acceptance_forgotten y c of is none) agrees =
 not_agreed w (misled x y asking asked bad) agrees =
     not_misled x y bad (of_pair (Facing IsNotLater) w (sides.Requester x) (sides.Responder y) agrees.dates asking asked)
     (of_pair (Facing SaysTrue) w (sides.Requester x) (sides.Responder y) agrees.says asking asked)
+
+-- ---- events
+
+not_taken_back : (old new : Option Date) → IsTakenBack old new → KeepsDue old new → ⊥
+not_taken_back old new (due, was, now) (inl none) = let both : ◌≡◌ {A = Option Date} (Some due) None = sym was ∙ none in cc
+not_taken_back old new (due, was, now) (inr (inl same)) = not_before_itself due (now due (same ∙ was))
+not_taken_back old None (due, was, now) (inr (inr raised)) = cc
+not_taken_back old (Some later) (due, was, now) (inr (inr raised)) =
+    not_before_itself due (before_on due later due (sym (ap (is_after_due later) was) ∙ raised) (now later refl))
+
+live_kept : (event : Event) (old new : Party) → (event ≡ Restart who.Requester → ⊥) → KeepsLiveDate event old new → KeepsDue (due_date_of old.live) (due_date_of new.live)
+live_kept (Restart who.Requester) old new other keeps = absurd (other refl)
+live_kept event old new other keeps = keeps
+
+pub no_date_taken_back : (old new : Parties) (event : Event) → TakesBack old event new → KeepsDates old event new → ⊥
+no_date_taken_back old new event (in_memory other back) keeps = not_taken_back _ _ back (live_kept event old.requester new.requester other keeps.0)
+no_date_taken_back old new event (in_store back) keeps = not_taken_back _ _ back keeps.1
+
+heeded : (among : List State) (outcome : Outcome) (side : Side) → IsUnheeded among outcome side → Settles among outcome side → ⊥
+heeded among outcome side (inl (taken, repeat)) (inl is, there) = taken is
+heeded among outcome side (inl (taken, repeat)) (inr is, there) = repeat is
+heeded among outcome side (inr elsewhere) (seen, there) = let both : true ≡ false = sym there ∙ elsewhere in cc
+
+-- the end of the request does not arrive in vain
+end_heeded : (w : Parties) (n : ℕ) (a : Apdu) (body : Body) → Arrives w (Deliver who.Requester n) → sent_message w.responder.sent n ≡ Some a → a.body ≡ body → is_end body ≡ true
+    → IsUnheeded (settled_by body) (happens w (Deliver who.Requester n)).0 (happens w (Deliver who.Requester n)).1.requester.live → ⊥
+end_heeded w n a body arrives sent is ends unheeded =
+    let after = happens w (Deliver who.Requester n) in
+    heeded (settled_by body) after.0 after.1.requester.live unheeded (subst (λ b. Settles (settled_by b) after.0 after.1.requester.live) is (arrives a sent (ap is_end is ∙ ends)))
+
+final_ends : (answer : AnswerResult) → is_final answer ≡ true → is_end (IllAnswer answer) ≡ true
+final_ends answer is = rw is refl
+
+pub none_in_vain : (w : Parties) (event : Event) → ArrivesInVain w event → Arrives w event → ⊥
+none_in_vain w _ (shipped_in_vain n a due sent is unheeded) arrives = end_heeded w n a (Shipped due) arrives sent is refl unheeded
+none_in_vain w _ (cancelled_in_vain n a c sent is unheeded) arrives = end_heeded w n a (CancelReply c true) arrives sent is refl unheeded
+none_in_vain w _ (expired_in_vain n a sent is unheeded) arrives = end_heeded w n a Expired arrives sent is refl unheeded
+none_in_vain w _ (refused_in_vain n a answer sent is final unheeded) arrives = end_heeded w n a (IllAnswer answer) arrives sent is (final_ends answer final) unheeded
+none_in_vain w _ (returned_in_vain n a sent is unheeded) arrives =
+    let after = happens w (Deliver who.Responder n) in
+    heeded (states.Returned ∷ states.CheckedIn ∷ []) after.0 after.1.responder.live unheeded (arrives a sent (ap is_returned is))
 
 -- ---- runs
 

@@ -60,7 +60,7 @@ never_less : (p : ℕ) (A : Type 0) → (A → ⊥) → Less p p A → ⊥
 never_less p A never (inl lt) = omega (arith, lt)
 never_less p A never (inr both) = never both.1
 
-not_before_itself : (a : Date) → is_before a a ≡ true → ⊥
+pub not_before_itself : (a : Date) → is_before a a ≡ true → ⊥
 not_before_itself a h = never_less a.year _ (never_less a.month _ (λ lt. omega (arith, lt))) (before_is a a h)
 
 is_false : (b : Bool) → (b ≡ true → ⊥) → b ≡ false

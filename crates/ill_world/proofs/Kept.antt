@@ -85,13 +85,16 @@ fails_sends : (p : Party) (told : List (Option Apdu)) (who : _) (landed : Bool) 
 fails_sends p told who true = refl
 fails_sends p told who false = refl
 
--- what a party has sent stays sent
-pub stays_sent : (p : Party) (told : List (Option Apdu)) (event : Event) → SendsSaved p → (a : Apdu) → WasSent p.sent a → WasSent (happens_to p told event).1.sent a
-stays_sent p told (events.Wish wish) saved a was = subst (λ s. WasSent s a) (sym (decides_sends p (acts p.live (actions.Wish wish)))) was
-stays_sent p told (events.Deed deed today) saved a was = subst (λ s. WasSent s a) (sym (decides_sends p (acts p.live (actions.Deed deed today)))) was
-stays_sent p told (events.Save who) saved a was = was
-stays_sent p told (events.SaveFault who landed) saved a was = subst (λ s. WasSent s a) (sym (fails_sends p told who landed)) was
-stays_sent p told (events.Send who n) saved a was = sent_stays p n (message (issued_of p.live) n) (nat_le n p.released) refl refl saved a was
-stays_sent p told (events.Deliver who n) saved a was = subst (λ s. WasSent s a) (sym (receives_sends p (sent_message told n))) was
-stays_sent p told (events.Noise who bytes) saved a was = was
-stays_sent p told (events.Restart who) saved a was = was
+-- what a party has sent stays sent, at its number
+pub stays_sent : (p : Party) (told : List (Option Apdu)) (event : Event) → SendsSaved p → (m : ℕ) (a : Apdu) → sent_message p.sent m ≡ Some a → sent_message (happens_to p told event).1.sent m ≡ Some a
+stays_sent p told (events.Wish wish) saved m a was = subst (λ s. sent_message s m ≡ Some a) (sym (decides_sends p (acts p.live (actions.Wish wish)))) was
+stays_sent p told (events.Deed deed today) saved m a was = subst (λ s. sent_message s m ≡ Some a) (sym (decides_sends p (acts p.live (actions.Deed deed today)))) was
+stays_sent p told (events.Save who) saved m a was = was
+stays_sent p told (events.SaveFault who landed) saved m a was = subst (λ s. sent_message s m ≡ Some a) (sym (fails_sends p told who landed)) was
+stays_sent p told (events.Send who n) saved m a was = sent_stays p n (message (issued_of p.live) n) (nat_le n p.released) refl refl saved m a was
+stays_sent p told (events.Deliver who n) saved m a was = subst (λ s. sent_message s m ≡ Some a) (sym (receives_sends p (sent_message told n))) was
+stays_sent p told (events.Noise who bytes) saved m a was = was
+stays_sent p told (events.Restart who) saved m a was = was
+
+pub was_sent_still : (p : Party) (told : List (Option Apdu)) (event : Event) → SendsSaved p → (a : Apdu) → WasSent p.sent a → WasSent (happens_to p told event).1.sent a
+was_sent_still p told event saved a was = (was.0, stays_sent p told event saved was.0 a was.1)

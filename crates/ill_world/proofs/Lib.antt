@@ -16,3 +16,5 @@ pub mod Uniqueness
 pub mod Agreements
 pub mod Arrivals
 pub mod BadWorlds
+pub mod Changes
+pub mod Outcomes

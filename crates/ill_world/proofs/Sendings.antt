@@ -10,7 +10,7 @@ use Rattle.ill_core.specs.Issued.{message, has}
 use Rattle.ill_saved.specs.declared.side.Side.{Side}
 use Rattle.ill_saved.specs.Side.{issued_of, IsFrontOf}
 use Rattle.ill_world.specs.World.{Party, sent_message, with_sent, saves, fails_to_save, restarts, sends}
-use Rattle.ill_world.specs.Invariant.{WasSent, SendsSaved}
+use Rattle.ill_world.specs.Invariant.{SendsSaved}
 
 -- ---- lists
 
@@ -127,13 +127,10 @@ saved_by_send p n (Some a) true is e saved = record {
   released = saved.released;
 }
 
--- what was sent stays sent
-pub sent_stays : (p : Party) (n : ℕ) (found : Option Apdu) (released : Bool) → message (issued_of p.live) n ≡ found → nat_le n p.released ≡ released → SendsSaved p → (b : Apdu) → WasSent p.sent b
-    → WasSent (sends p n found released).1.sent b
-sent_stays p n None released is e saved b was = was
-sent_stays p n (Some a) false is e saved b was = was
-sent_stays p n (Some a) true is e saved b was = (
-  was.0,
-  sent_still p.sent n was.0 a b was.1
-      (λ at. some_is a b (sym (sent_landed p n a saved is e) ∙ ap (message (issued_of p.landed)) (sym at) ∙ saved.landed was.0 b was.1)),
-)
+-- what was sent stays sent, at its number
+pub sent_stays : (p : Party) (n : ℕ) (found : Option Apdu) (released : Bool) → message (issued_of p.live) n ≡ found → nat_le n p.released ≡ released → SendsSaved p → (m : ℕ) (b : Apdu) → sent_message p.sent m ≡ Some b
+    → sent_message (sends p n found released).1.sent m ≡ Some b
+sent_stays p n None released is e saved m b was = was
+sent_stays p n (Some a) false is e saved m b was = was
+sent_stays p n (Some a) true is e saved m b was =
+    sent_still p.sent n m a b was (λ at. some_is a b (sym (sent_landed p n a saved is e) ∙ ap (message (issued_of p.landed)) (sym at) ∙ saved.landed m b was))

@@ -10,7 +10,7 @@ use Rattle.ill_world.specs.declared.fault.SimFault.{SimFault}
 use Rattle.ill_world.specs.declared.fault.SimFault.TheVariants.{Script, Read, Write, OutOfMemory}
 use Rattle.ill_world.specs.World.{Parties, first_world, happens, run_of}
 use Rattle.ill_world.specs.Trace.{line}
-use Rattle.ill_world.specs.Simulation.{Said, line_at, then_says, ends, breaks_off, trace_from, trace_of, IsFront, Answers, Simulates}
+use Rattle.ill_world.specs.Simulation.{Said, line_at, then_says, ends, breaks_off, trace_from, trace_of, line_behind, IsFront, Answers, Simulates}
 use Rattle.ill_world.specs.Simulating.{IsLine, shown_line, PerformsLine, says_on, AnswersFrom, SimulatesFrom, StepsLine}
 use Rattle.ill_world.proofs.Scripts.{says_line}
 
@@ -91,6 +91,18 @@ trace_on txn w count events more counted world =
     trace_more 1 (first_world txn) events more
     ∙ ap (λ m. trace_of txn events ++ trace_from m (run_of (first_world txn) events) more) number
     ∙ ap (λ v. trace_of txn events ++ trace_from (count + 1) v more) (sym world)
+
+pub trace_line : (txn : Qualifiers) (events : List Event) (event : Event) → trace_of txn (events ++ event ∷ []) ≡ trace_of txn events ++ line_behind txn events event
+trace_line txn events event =
+    let w = run_of (first_world txn) events in
+    let number = length events + 1 in
+    trace_on txn w (length events) events (event ∷ []) refl refl
+    ∙ ap (λ t. trace_of txn events ++ t) (trace_of_one number w event ∙ ap (line number (happens w event).0) (sym (run_more (first_world txn) events event)))
+
+pub trace_front : (txn : Qualifiers) (events more : List Event) → IsFront (trace_of txn events) (trace_of txn (events ++ more))
+trace_front txn events more =
+    let w = run_of (first_world txn) events in
+    (trace_from (length events + 1) w more, trace_on txn w (length events) events more refl refl)
 
 -- ---- one more line
 

@@ -30,7 +30,7 @@ use Rattle.ill_world.specs.declared.event.Event.{Event}
 use Rattle.ill_world.specs.Invariant.{WasSent, RequesterStands, ResponderStands, StandsAsRequester, StandsAsResponder, PartyStands, Stands}
 use Rattle.ill_world.proofs.DueDates.{RowsKeepDue, due_after}
 use Rattle.ill_world.proofs.Sendings.{front_of_itself}
-use Rattle.ill_world.proofs.Kept.{RowsGrow, Keeps, party_kept, told_more, stays_sent}
+use Rattle.ill_world.proofs.Kept.{RowsGrow, Keeps, party_kept, told_more, was_sent_still}
 use Rattle.ill_core.specs.declared.state.State.{State}
 use Rattle.ill_core.specs.declared.state.State.TheVariants.{Idle, CancelPending, Cancelled}
 use Rattle.ill_core.specs.State.{is_among, place_of}
@@ -192,12 +192,12 @@ world_kept : RowsKeepDue → (txn : Qualifiers) (w : Parties) (of : Who) (event 
 world_kept rows txn w who.Requester event grows asking asked stands = record {
   asking = party_kept (StandsAsRequester txn) w.requester w.responder.sent event grows asking stands.asking;
   asked =
-      told_more (StandsAsResponder txn) w.responder w.requester.sent _ asked (stays_sent w.requester w.responder.sent event stands.asking.saved) stands.asked;
+      told_more (StandsAsResponder txn) w.responder w.requester.sent _ asked (was_sent_still w.requester w.responder.sent event stands.asking.saved) stands.asked;
   due = due_after rows txn w.requester w.responder.sent event stands.asking.live stands.due;
 }
 world_kept rows txn w who.Responder event grows asking asked stands = record {
   asking =
-      told_more (StandsAsRequester txn) w.requester w.responder.sent _ asking (stays_sent w.responder w.requester.sent event stands.asked.saved) stands.asking;
+      told_more (StandsAsRequester txn) w.requester w.responder.sent _ asking (was_sent_still w.responder w.requester.sent event stands.asked.saved) stands.asking;
   asked = party_kept (StandsAsResponder txn) w.responder w.requester.sent event grows asked stands.asked;
   due = stands.due;
 }

@@ -1,21 +1,30 @@
--- Worlds that no run may lead to, each by what is wrong in it. The laws have that none of them is safe, or
--- that the sides do not agree in it.
-use Rattle.std.specs.Prelude.{◌≡◌, ◌⊎◌, ℕ, Bool, true, false, Option, Some}
+-- Worlds that no run may lead to, and events that no world may have, each by what is wrong in it. The laws have
+-- that no such world is safe, or that the sides do not agree in it, and that no such event keeps what is promised of
+-- events.
+use Rattle.std.specs.Prelude.{◌≡◌, ◌⊎◌, ℕ, Bool, true, false, List, [], ◌∷◌, Option, Some}
 use Rattle.ill_values.specs.Day.{Date}
 use Rattle.ill_values.specs.declared.apdu.Apdu.{Apdu}
 use Rattle.ill_values.specs.declared.apdu.Body.{Body}
-use Rattle.ill_values.specs.declared.apdu.Body.TheVariants.{ConditionalReply, CancelReply, RenewAnswer}
+use Rattle.ill_values.specs.declared.apdu.Body.TheVariants.{IllAnswer, ConditionalReply, CancelReply, Shipped, Returned, RenewAnswer, Expired}
+use Rattle.ill_values.specs.declared.apdu.AnswerResult.{AnswerResult}
+use Rattle.ill_core.specs.declared.state.State.{State}
 use Rattle.ill_core.specs.declared.state.State.TheVariants as states
+use Rattle.ill_core.specs.declared.taking.Taking.TheVariants.{Taken, Repeat}
 use Rattle.ill_core.specs.State.{is_among}
 use Rattle.ill_core.specs.Dates.{is_before}
-use Rattle.ill_core.specs.Bodies.{is_end, is_received, is_shipped, accepts, grant_in}
+use Rattle.ill_core.specs.Bodies.{is_end, is_final, is_received, is_shipped, accepts, grant_in}
 use Rattle.ill_core.specs.Issued.{message, has}
 use Rattle.ill_core.specs.Requester.{RequesterRecord, later}
 use Rattle.ill_core.specs.Responder.{ResponderRecord, due_of}
 use Rattle.ill_saved.specs.declared.side.Side.{Side}
 use Rattle.ill_saved.specs.declared.side.Side.TheVariants as sides
 use Rattle.ill_saved.specs.Side.{state_of, due_date_of, issued_of}
-use Rattle.ill_world.specs.World.{Party, Parties, sent_message}
+use Rattle.ill_world.specs.declared.event.Who.TheVariants.{Requester, Responder}
+use Rattle.ill_world.specs.declared.event.Event.{Event}
+use Rattle.ill_world.specs.declared.event.Event.TheVariants.{Deliver, Restart}
+use Rattle.ill_world.specs.declared.event.Outcome.{Outcome}
+use Rattle.ill_world.specs.declared.event.Outcome.TheVariants.{Answered}
+use Rattle.ill_world.specs.World.{Party, Parties, happens, sent_message}
 
 -- a record of a party: the one in memory, or the one that has landed
 abbrev pub Has : Party → Side → Type 0
@@ -86,3 +95,44 @@ pub data Disagrees (w : Parties) : Type 0 where
       NoneSays (message (issued_of w.requester.live)) (λ body. accepts body ≡ Some c) → Disagrees w
   misled : (x : RequesterRecord) (y : ResponderRecord) → Has w.requester (sides.Requester x) →
       Has w.responder (sides.Responder y) → Misleads x y → Disagrees w
+
+-- ---- events
+
+-- a due date was there, and now there is none or an earlier one
+abbrev pub IsTakenBack : Option Date → Option Date → Type 0
+IsTakenBack old new =
+    (due : Date) × (old ≡ Some due) × ((now : Date) → new ≡ Some now → is_before now due ≡ true)
+
+-- The requester's due date is taken back: in memory by another event than its restart, or in what has landed.
+pub data TakesBack (old : Parties) (event : Event) (new : Parties) : Type 0 where
+  in_memory : (event ≡ Restart Requester → ⊥) →
+      IsTakenBack (due_date_of old.requester.live) (due_date_of new.requester.live) → TakesBack old event new
+  in_store : IsTakenBack (due_date_of old.requester.landed) (due_date_of new.requester.landed) →
+      TakesBack old event new
+
+-- the delivery of a message is seen as neither taken nor a repeat, or it leads to none of these states
+abbrev pub IsUnheeded : List State → Outcome → Side → Type 0
+IsUnheeded among outcome side =
+    ((outcome ≡ Answered Taken → ⊥) × (outcome ≡ Answered Repeat → ⊥)) ⊎ (is_among among (state_of side) ≡ false)
+
+-- A message that was sent arrives in vain: one that ends the request at the requester, or a Returned at the
+-- responder.
+pub data ArrivesInVain (w : Parties) : Event → Type 0 where
+  shipped_in_vain : (n : ℕ) (a : Apdu) (due : Date) → sent_message w.responder.sent n ≡ Some a →
+      a.body ≡ Shipped due →
+      IsUnheeded later (happens w (Deliver Requester n)).0 (happens w (Deliver Requester n)).1.requester.live →
+      ArrivesInVain w (Deliver Requester n)
+  cancelled_in_vain : (n : ℕ) (a : Apdu) (c : ℕ) → sent_message w.responder.sent n ≡ Some a →
+      a.body ≡ CancelReply c true →
+      IsUnheeded (states.Cancelled ∷ []) (happens w (Deliver Requester n)).0
+      (happens w (Deliver Requester n)).1.requester.live → ArrivesInVain w (Deliver Requester n)
+  expired_in_vain : (n : ℕ) (a : Apdu) → sent_message w.responder.sent n ≡ Some a → a.body ≡ Expired →
+      IsUnheeded (states.NotSupplied ∷ []) (happens w (Deliver Requester n)).0
+      (happens w (Deliver Requester n)).1.requester.live → ArrivesInVain w (Deliver Requester n)
+  refused_in_vain : (n : ℕ) (a : Apdu) (answer : AnswerResult) → sent_message w.responder.sent n ≡ Some a →
+      a.body ≡ IllAnswer answer → is_final answer ≡ true →
+      IsUnheeded (states.NotSupplied ∷ []) (happens w (Deliver Requester n)).0
+      (happens w (Deliver Requester n)).1.requester.live → ArrivesInVain w (Deliver Requester n)
+  returned_in_vain : (n : ℕ) (a : Apdu) → sent_message w.requester.sent n ≡ Some a → a.body ≡ Returned →
+      IsUnheeded (states.Returned ∷ states.CheckedIn ∷ []) (happens w (Deliver Responder n)).0
+      (happens w (Deliver Responder n)).1.responder.live → ArrivesInVain w (Deliver Responder n)

@@ -9,3 +9,4 @@ pub mod Safety
 pub mod Invariant
 pub mod Agreement
 pub mod BadWorlds
+pub mod Changes

@@ -8,7 +8,7 @@ use Rattle.ill_world.specs.declared.script.Line.{Line}
 use Rattle.ill_world.specs.declared.script.Line.TheVariants as lines
 use Rattle.ill_world.specs.declared.fault.SimFault.{SimFault}
 use Rattle.ill_world.specs.declared.fault.SimFault.TheVariants.{Script, Read, Write, OutOfMemory}
-use Rattle.ill_world.specs.World.{Parties, first_world, happens}
+use Rattle.ill_world.specs.World.{Parties, first_world, happens, run_of}
 use Rattle.ill_world.specs.Script.{meaning}
 use Rattle.ill_world.specs.Trace.{line}
 
@@ -76,6 +76,13 @@ trace_from n w (event ∷ events) =
 -- the trace of events from two idle sides on
 abbrev pub trace_of : Qualifiers → List Event → List ℕ
 trace_of txn events = trace_from 1 (first_world txn) events
+
+-- The line that a trace shows of an event behind others: its number, what is seen of it in the world after
+-- those, and the world after it.
+abbrev pub line_behind : Qualifiers → List Event → Event → List ℕ
+line_behind txn events event =
+    line (length events + 1) (happens (run_of (first_world txn) events) event).0
+    (run_of (first_world txn) (events ++ event ∷ []))
 
 -- ---- simulating
 

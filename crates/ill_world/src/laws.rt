@@ -1,6 +1,6 @@
 //! What holds of every world, as contracts of functions that do nothing.
 
-ghost use Rattle.std.specs.Prelude.{◌≡◌, ◌++◌, ℕ, List, Option, Some, Ok};
+ghost use Rattle.std.specs.Prelude.{◌≡◌, ◌++◌, ◌∷◌, ℕ, List, [], Option, Some, Ok, true};
 ghost use Rattle.ill_values.specs.Day.{Date};
 ghost use Rattle.ill_values.specs.TxnId.{Qualifiers};
 ghost use Rattle.ill_values.specs.declared.apdu.Apdu.{Apdu};
@@ -14,15 +14,18 @@ ghost use Rattle.ill_core.specs.ResponderActions as responder_actions;
 ghost use Rattle.ill_core.specs.ResponderDeliveries as responder_deliveries;
 ghost use Rattle.ill_world.specs.declared.event.Event.{Event};
 ghost use Rattle.ill_world.specs.World.{Parties, first_world, happens, run_of};
+ghost use Rattle.ill_world.specs.Simulation.{trace_of, line_behind, IsFront};
 ghost use Rattle.ill_world.specs.Safety.{OfBoth, EndsAlike, WasShipped, WasGranted, Safe, IsSafeRun};
 ghost use Rattle.ill_world.specs.Agreement.{Agrees, IsAgreeingRun, KeepsDates, Arrives};
-ghost use Rattle.ill_world.specs.BadWorlds.{IsUnsafe, Disagrees};
+ghost use Rattle.ill_world.specs.BadWorlds.{IsUnsafe, Disagrees, TakesBack, ArrivesInVain};
+ghost use Rattle.ill_world.specs.Changes.{MayChange, OnlyLandedChanges, KeepsSent, can_be_seen};
 ghost use Rattle.ill_world.specs.Invariant.{WasSent, RequesterStands, ResponderStands, Stands};
 
 use ill_core::laws::{
-    requester_answers_once, requester_follows, requester_keeps_due, requester_keeps_rules,
-    requester_keeps_txn, requester_shows, responder_answers_once, responder_ends_once,
-    responder_follows, responder_keeps_rules, responder_keeps_txn, responder_shows,
+    requester_answers_once, requester_follows, requester_is_quiet, requester_keeps_due,
+    requester_keeps_rules, requester_keeps_txn, requester_shows, responder_answers_once,
+    responder_ends_once, responder_follows, responder_is_quiet, responder_keeps_rules,
+    responder_keeps_txn, responder_shows,
 };
 use ill_saved::laws::rows_grow;
 
@@ -149,6 +152,14 @@ pub fn no_disagreeing_world_agrees()
     ensures { (w : Parties) → Disagrees w → Agrees w → ⊥ }
 {}
 
+/// No event keeps the requester's due date that takes it back, and where one arrival is enough no message
+/// arrives in vain that ends the request, and no Returned.
+pub fn no_bad_event_passes()
+    ensures dates { (old new : Parties) (event : Event) →
+        TakesBack old event new → KeepsDates old event new → ⊥ }
+    ensures arrives { (w : Parties) (event : Event) → ArrivesInVain w event → Arrives w event → ⊥ }
+{}
+
 /// A run is safe, and both sides agree in it, only where that is so of each world on the way: of the
 /// world after any of the first events.
 pub fn runs_have_each_world()
@@ -157,3 +168,43 @@ pub fn runs_have_each_world()
     ensures agrees { (w : Parties) (before after : List Event) →
         IsAgreeingRun w (before ++ after) → Agrees (run_of w before) }
 {}
+
+/// A trace is empty at first; each event adds a line, with its number, what is seen of it in the world
+/// after those before it, and the world after it; and no later event changes what the trace begins with.
+/// So line n shows the world after the first n events.
+pub fn traces_show_runs()
+    ensures first { (txn : Qualifiers) → trace_of txn [] ≡ [] }
+    ensures next { (txn : Qualifiers) (events : List Event) (event : Event) →
+        trace_of txn (events ++ event ∷ []) ≡ trace_of txn events ++ line_behind txn events event }
+    ensures front { (txn : Qualifiers) (events more : List Event) →
+        IsFront (trace_of txn events) (trace_of txn (events ++ more)) }
+{}
+
+/// Only `Done`, `Saved`, `Sent`, `Restarted`, `Answered(Taken)` and `Faulted` change the world, and
+/// `Faulted` only what has landed.
+pub fn few_outcomes_change()
+    ensures { (w : Parties) (event : Event) →
+        MayChange OnlyLandedChanges (happens w event).0 w (happens w event).1 }
+{
+    requester_is_quiet();
+    responder_is_quiet();
+}
+
+/// What was sent stays sent, with its number: where the world stands, at every event, and so for as long
+/// as a run goes on.
+pub fn sent_stays_sent()
+    ensures event { (txn : Qualifiers) (w : Parties) (event : Event) → Stands txn w →
+        KeepsSent w (happens w event).1 }
+    ensures run { (txn : Qualifiers) (events more : List Event) →
+        KeepsSent (run_of (first_world txn) events) (run_of (first_world txn) (events ++ more)) }
+{
+    world_stands();
+}
+
+/// In no run anything is refused as of a wrong role, or for want of memory.
+pub fn few_outcomes_are_seen()
+    ensures { (txn : Qualifiers) (events : List Event) (event : Event) →
+        can_be_seen (happens (run_of (first_world txn) events) event).0 ≡ true }
+{
+    world_stands();
+}

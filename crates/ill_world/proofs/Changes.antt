@@ -1,0 +1,141 @@
+-- What an event changes of a party, and so of the world.
+use Rattle.std.proofs.Common.{◌≡◌, ◌⊎◌, inl, inr, ℕ, Bool, true, false, List, [], ◌∷◌, ◌++◌, Option, Some, None, Result, Ok, Err, refl, sym, ap, subst}
+use Rattle.ill_values.specs.TxnId.{Qualifiers}
+use Rattle.ill_values.specs.declared.apdu.Apdu.{Apdu}
+use Rattle.ill_der.specs.ShortForm.{apdu_at}
+use Rattle.ill_core.specs.declared.refusal.Refusal.{Refusal}
+use Rattle.ill_core.specs.declared.taking.Taking.TheVariants.{Taken, Repeat, Stale, Conflict}
+use Rattle.ill_core.specs.Requester.{RequesterRecord}
+use Rattle.ill_core.specs.RequesterDeliveries as requester_deliveries
+use Rattle.ill_core.specs.Responder.{ResponderRecord}
+use Rattle.ill_core.specs.ResponderDeliveries as responder_deliveries
+use Rattle.ill_saved.specs.declared.side.Side.{Side}
+use Rattle.ill_saved.specs.declared.side.Side.TheVariants as sides
+use Rattle.ill_saved.specs.declared.side.Action.TheVariants as actions
+use Rattle.ill_saved.specs.Side.{acts, takes}
+use Rattle.ill_world.specs.declared.event.Who.{Who}
+use Rattle.ill_world.specs.declared.event.Who.TheVariants as who
+use Rattle.ill_world.specs.declared.event.Event.{Event}
+use Rattle.ill_world.specs.declared.event.Event.TheVariants as events
+use Rattle.ill_world.specs.declared.event.Outcome.{Outcome}
+use Rattle.ill_world.specs.declared.event.Outcome.TheVariants.{Done, Saved, Faulted, Sent, Answered, Restarted}
+use Rattle.ill_world.specs.World.{Party, Parties, party, other, with_party, who_of, sent_message, decides, sends, answer_to, receives, hears, happens_to, happens, run_of}
+use Rattle.ill_world.specs.Changes.{OnlyLands, OnlyLandedChanges, MayChange, KeepsSent}
+use Rattle.ill_world.specs.Invariant.{SendsSaved, Stands}
+use Rattle.ill_world.proofs.Kept.{stays_sent}
+
+-- What the laws of the rows say: a message that is not taken changes nothing.
+pub record Quiet : Type 0 where
+  pub requester : (x : RequesterRecord) (a : Apdu) → ((requester_deliveries.takes x a).0 ≡ Ok Taken) ⊎ ((requester_deliveries.takes x a).1 ≡ x)
+  pub responder : (y : ResponderRecord) (a : Apdu) → ((responder_deliveries.takes y a).0 ≡ Ok Taken) ⊎ ((responder_deliveries.takes y a).1 ≡ y)
+
+-- ---- one party
+
+same_lands : (p : Party) → OnlyLands p p
+same_lands p = record { live = refl; released = refl; sent = refl }
+
+-- a party that stays as it is
+nothing_changes : (outcome : Outcome) (p : Party) → MayChange OnlyLands outcome p p
+nothing_changes Done p = tt
+nothing_changes Saved p = tt
+nothing_changes Sent p = tt
+nothing_changes Restarted p = tt
+nothing_changes (Answered Taken) p = tt
+nothing_changes (Answered Repeat) p = refl
+nothing_changes (Answered Stale) p = refl
+nothing_changes (Answered (Conflict state)) p = refl
+nothing_changes Faulted p = same_lands p
+nothing_changes other p = refl
+
+decides_changes : (p : Party) (result : Result Side Refusal) → MayChange OnlyLands (decides p result).0 p (decides p result).1
+decides_changes p (Ok new) = tt
+decides_changes p (Err refusal) = refl
+
+fails_changes : (p : Party) (told : List (Option Apdu)) (of : Who) (landed : Bool) → OnlyLands p (happens_to p told (events.SaveFault of landed)).1
+fails_changes p told of true = record { live = refl; released = refl; sent = refl }
+fails_changes p told of false = same_lands p
+
+sends_changes : (p : Party) (n : ℕ) (found : Option Apdu) (released : Bool) → MayChange OnlyLands (sends p n found released).0 p (sends p n found released).1
+sends_changes p n None released = refl
+sends_changes p n (Some a) true = tt
+sends_changes p n (Some a) false = refl
+
+quiet : Quiet → (side : Side) (a : Apdu) → ((takes side a).0 ≡ Ok Taken) ⊎ ((takes side a).1 ≡ side)
+quiet rows (sides.Requester x) a = elim (rows.requester x a) [ inl taken ↦ inl taken | inr same ↦ inr (ap sides.Requester same) ]
+quiet rows (sides.Responder y) a = elim (rows.responder y a) [ inl taken ↦ inl taken | inr same ↦ inr (ap sides.Responder same) ]
+
+receives_changes : Quiet → (p : Party) (found : Option Apdu) → MayChange OnlyLands (receives p found).0 p (receives p found).1
+receives_changes rows p None = refl
+receives_changes rows p (Some a) =
+    elim (quiet rows p.live a) [
+      | inl taken ↦ subst (λ answer. MayChange OnlyLands (answer_to answer) p (receives p (Some a)).1) (sym taken) tt
+      | inr same ↦ subst (λ side. MayChange OnlyLands (receives p (Some a)).0 p (record p { live = side })) (sym same) (nothing_changes (receives p (Some a)).0 p)
+    ]
+
+party_changes : Quiet → (p : Party) (told : List (Option Apdu)) (event : Event) → MayChange OnlyLands (happens_to p told event).0 p (happens_to p told event).1
+party_changes rows p told (events.Wish wish) = decides_changes p (acts p.live (actions.Wish wish))
+party_changes rows p told (events.Deed deed today) = decides_changes p (acts p.live (actions.Deed deed today))
+party_changes rows p told (events.Save of) = tt
+party_changes rows p told (events.SaveFault of landed) = fails_changes p told of landed
+party_changes rows p told (events.Send of n) = sends_changes p n _ _
+party_changes rows p told (events.Deliver of n) = receives_changes rows p (sent_message told n)
+party_changes rows p told (events.Noise of bytes) = nothing_changes (hears p (apdu_at bytes)) p
+party_changes rows p told (events.Restart of) = tt
+
+-- ---- the world
+
+landed_of_one : (w : Parties) (of : Who) (new : Party) → OnlyLands (party w of) new → OnlyLandedChanges w (with_party w of new)
+landed_of_one w who.Requester new lands = (lands, same_lands w.responder)
+landed_of_one w who.Responder new lands = (same_lands w.requester, lands)
+
+same_world : (w : Parties) (of : Who) (new : Party) → new ≡ party w of → with_party w of new ≡ w
+same_world w who.Requester new same = ap (with_party w who.Requester) same
+same_world w who.Responder new same = ap (with_party w who.Responder) same
+
+changes_of_one : (outcome : Outcome) (w : Parties) (of : Who) (new : Party) → MayChange OnlyLands outcome (party w of) new → MayChange OnlyLandedChanges outcome w (with_party w of new)
+changes_of_one Done w of new changes = tt
+changes_of_one Saved w of new changes = tt
+changes_of_one Sent w of new changes = tt
+changes_of_one Restarted w of new changes = tt
+changes_of_one (Answered Taken) w of new changes = tt
+changes_of_one (Answered Repeat) w of new changes = same_world w of new changes
+changes_of_one (Answered Stale) w of new changes = same_world w of new changes
+changes_of_one (Answered (Conflict state)) w of new changes = same_world w of new changes
+changes_of_one Faulted w of new changes = landed_of_one w of new changes
+changes_of_one other w of new changes = same_world w of new changes
+
+pub world_changes : Quiet → (w : Parties) (event : Event) → MayChange OnlyLandedChanges (happens w event).0 w (happens w event).1
+world_changes rows w event =
+    let of = who_of event in
+    changes_of_one (happens w event).0 w of _ (party_changes rows (party w of) (party w (other of)).sent event)
+
+-- ---- what was sent
+
+sent_by_one : (w : Parties) (of : Who) (new : Party) → ((n : ℕ) (a : Apdu) → sent_message (party w of).sent n ≡ Some a → sent_message new.sent n ≡ Some a) → KeepsSent w (with_party w of new)
+sent_by_one w who.Requester new keeps who.Requester n a was = keeps n a was
+sent_by_one w who.Requester new keeps who.Responder n a was = was
+sent_by_one w who.Responder new keeps who.Responder n a was = keeps n a was
+sent_by_one w who.Responder new keeps who.Requester n a was = was
+
+saved_by : (txn : Qualifiers) (w : Parties) (of : Who) → Stands txn w → SendsSaved (party w of)
+saved_by txn w who.Requester stands = stands.asking.saved
+saved_by txn w who.Responder stands = stands.asked.saved
+
+pub event_keeps_sent : (txn : Qualifiers) (w : Parties) (event : Event) → Stands txn w → KeepsSent w (happens w event).1
+event_keeps_sent txn w event stands =
+    let of = who_of event in
+    sent_by_one w of _ (stays_sent (party w of) (party w (other of)).sent event (saved_by txn w of stands))
+
+abbrev pub After : Qualifiers → Type 0
+After txn = (w : Parties) (event : Event) → Stands txn w → Stands txn (happens w event).1
+
+further_keeps_sent : (txn : Qualifiers) → After txn → (w : Parties) (more : List Event) → Stands txn w → KeepsSent w (run_of w more)
+unfolding run_of
+further_keeps_sent txn after w [] stands = λ of n a was. was
+further_keeps_sent txn after w (event ∷ more) stands =
+    λ of n a was. further_keeps_sent txn after (happens w event).1 more (after w event stands) of n a (event_keeps_sent txn w event stands of n a was)
+
+pub run_keeps_sent : (txn : Qualifiers) → After txn → (w : Parties) (events more : List Event) → Stands txn w → KeepsSent (run_of w events) (run_of w (events ++ more))
+unfolding run_of
+run_keeps_sent txn after w [] more stands = further_keeps_sent txn after w more stands
+run_keeps_sent txn after w (event ∷ events) more stands = run_keeps_sent txn after (happens w event).1 events more (after w event stands)

@@ -1,0 +1,200 @@
+-- What may be seen of an event.
+use Rattle.std.proofs.Common.{rules, ◌≡◌, ℕ, zero, suc, Bool, true, false, cond, not, List, [], ◌∷◌, Option, Some, None, Result, Ok, Err, refl, subst}
+use Rattle.std.specs.List.{list_all}
+use Rattle.std.proofs.lemmas.Bool.{and_parts}
+use Rattle.ill_values.specs.Day.{Date}
+use Rattle.ill_values.specs.TxnId.{Qualifiers}
+use Rattle.ill_values.specs.declared.apdu.Apdu.{Apdu}
+use Rattle.ill_values.specs.declared.apdu.Body.{Body}
+use Rattle.ill_values.specs.declared.apdu.Body.TheVariants as types
+use Rattle.ill_values.specs.declared.apdu.AnswerResult.TheVariants as results
+use Rattle.ill_der.specs.declared.fault.DerFault.{DerFault}
+use Rattle.ill_der.specs.ShortForm.{apdu_at}
+use Rattle.ill_core.specs.declared.state.State.TheVariants.{InProcess}
+use Rattle.ill_core.specs.Numbers.{is_the}
+use Rattle.ill_core.specs.declared.refusal.Refusal.{Refusal}
+use Rattle.ill_core.specs.declared.refusal.Refusal.TheVariants.{OtherTransaction, WrongRole}
+use Rattle.ill_core.specs.declared.taking.Taking.{Taking}
+use Rattle.ill_core.specs.declared.requester.Wish.{Wish}
+use Rattle.ill_core.specs.declared.requester.Wish.TheVariants as wishes
+use Rattle.ill_core.specs.declared.responder.Deed.{Deed}
+use Rattle.ill_core.specs.declared.responder.Deed.TheVariants as deeds
+use Rattle.ill_core.specs.Answers.{unless_refused, taken, repeat, stale, conflict}
+use Rattle.ill_core.specs.Bodies.{is_requesters, names_conditions}
+use Rattle.ill_core.specs.Issued.{message, was, next_number, is_same_txn}
+use Rattle.ill_core.specs.Requester.{RequesterRecord}
+use Rattle.ill_core.specs.RequesterActions as requester_actions
+use Rattle.ill_core.specs.declared.requester.actions.Row.{Row as RequesterRow}
+use Rattle.ill_core.specs.declared.responder.actions.Row.{Row as ResponderRow}
+use Rattle.ill_core.specs.RequesterDeliveries as requester_deliveries
+use Rattle.ill_core.specs.Responder.{ResponderRecord, outstanding_number}
+use Rattle.ill_core.specs.ResponderActions as responder_actions
+use Rattle.ill_core.specs.ResponderDeliveries as responder_deliveries
+use Rattle.ill_saved.specs.declared.side.Side.{Side}
+use Rattle.ill_saved.specs.declared.side.Side.TheVariants as sides
+use Rattle.ill_saved.specs.declared.side.Action.TheVariants as actions
+use Rattle.ill_saved.specs.Side.{issued_of, acts, takes, txn_of, done_by}
+use Rattle.ill_world.specs.declared.event.Who.TheVariants as who
+use Rattle.ill_world.specs.declared.event.Event.{Event}
+use Rattle.ill_world.specs.declared.event.Event.TheVariants as events
+use Rattle.ill_world.specs.declared.event.Outcome.{Outcome}
+use Rattle.ill_world.specs.declared.event.Outcome.TheVariants.{Forged, Refused}
+use Rattle.ill_world.specs.World.{Party, Parties, party, sent_message, decides, sends, answer_to, receives, hears, happens}
+use Rattle.ill_world.specs.Changes.{can_refuse, can_be_seen}
+use Rattle.ill_world.specs.Invariant.{StandsAsRequester, StandsAsResponder, Stands}
+
+-- ---- rows
+
+-- it is no refusal, or one that may be seen
+abbrev is_seen : {V : Type 0} → Result V Refusal → Bool
+is_seen (Ok v) = true
+is_seen (Err refusal) = can_refuse refusal
+
+wish_row : (x : RequesterRecord) (wish : Wish) → is_seen (requester_actions.row_of x wish) ≡ true
+wish_row x (wishes.Request expiry item) = search rules
+wish_row x wish = search rules
+
+deed_row : (y : ResponderRecord) (deed : Deed) (today : Date) → is_seen (responder_actions.row_of y deed today) ≡ true
+deed_row y (deeds.RenewAnswer None) today = search rules
+deed_row y (deeds.RenewAnswer (Some d)) today = search rules
+deed_row y deed today = search rules
+
+number_seen : (apdus : List Apdu) → is_seen (next_number apdus) ≡ true
+number_seen apdus = search rules
+
+wish_done : (x : RequesterRecord) (row : Result RequesterRow Refusal) (number : Result ℕ Refusal) → is_seen row ≡ true → is_seen number ≡ true → is_seen (requester_actions.acts_by x row number) ≡ true
+wish_done x (Err refusal) number first second = first
+wish_done x (Ok row) (Err refusal) first second = second
+wish_done x (Ok row) (Ok number) first second = refl
+
+deed_done : (y : ResponderRecord) (row : Result ResponderRow Refusal) (number : Result ℕ Refusal) → is_seen row ≡ true → is_seen number ≡ true → is_seen (responder_actions.acts_by y row number) ≡ true
+deed_done y (Err refusal) number first second = first
+deed_done y (Ok row) (Err refusal) first second = second
+deed_done y (Ok row) (Ok number) first second = refl
+
+-- ---- messages
+
+requester_answer : (x : RequesterRecord) (a : Apdu) (body : Body) → is_seen (requester_deliveries.take_message x a body).0 ≡ true
+requester_answer x a (types.IllAnswer results.Conditional) = search rules
+requester_answer x a (types.IllAnswer answer) = search rules
+requester_answer x a (types.RenewAnswer c None) = search rules
+requester_answer x a (types.RenewAnswer c (Some d)) = search rules
+requester_answer x a body = search rules
+
+no_answer : (y : ResponderRecord) (number : Result ℕ Refusal) → is_seen number ≡ true → is_seen (responder_deliveries.answers_no y number).0 ≡ true
+no_answer y (Ok number) seen = refl
+no_answer y (Err refusal) seen = seen
+
+yes_answer : (waits held named : Bool) (y new : ResponderRecord) → is_seen (cond waits (taken new) (cond held (repeat y) (cond named (stale y) (conflict y.state y)))).0 ≡ true
+yes_answer true held named y new = refl
+yes_answer false true named y new = refl
+yes_answer false false true y new = refl
+yes_answer false false false y new = refl
+
+responder_answer : (y : ResponderRecord) (a : Apdu) (body : Body) → is_seen (responder_deliveries.take_message y a body).0 ≡ true
+responder_answer y a (types.ConditionalReply c true) =
+    yes_answer (is_the c (outstanding_number y)) (is_the c y.accepted) (was names_conditions y.issued c) y (record y { state = InProcess; accepted = Some c })
+responder_answer y a (types.ConditionalReply c false) = search (rules, no_answer y (next_number y.issued) (number_seen y.issued))
+responder_answer y a body = search rules
+
+-- a message of the other role is refused only if it is of another transaction
+not_own : {R : Type 0} (same own : Bool) (old : R) (answer : Result Taking Refusal × R) → own ≡ false → is_seen answer.0 ≡ true
+    → is_seen (unless_refused (cond same (cond own (Some WrongRole) None) (Some OtherTransaction)) old answer).0 ≡ true
+not_own true true old answer others seen = search rules
+not_own true false old answer others seen = seen
+not_own false own old answer others seen = refl
+
+-- ---- sides
+
+done_seen : {R : Type 0} (make : R → Side) (result : Result R Refusal) → is_seen result ≡ true → is_seen (done_by make result) ≡ true
+done_seen make (Ok new) seen = refl
+done_seen make (Err refusal) seen = seen
+
+wish_seen : (txn : Qualifiers) (side : Side) (told : List (Option Apdu)) (wish : Wish) → StandsAsRequester txn side told → is_seen (acts side (actions.Wish wish)) ≡ true
+wish_seen txn (sides.Requester x) told wish stands = done_seen sides.Requester (requester_actions.acts x wish) (wish_done x _ _ (wish_row x wish) (number_seen x.issued))
+wish_seen txn (sides.Responder y) told wish stands = absurd stands
+
+deed_seen : (txn : Qualifiers) (side : Side) (told : List (Option Apdu)) (deed : Deed) (today : Date) → StandsAsResponder txn side told → is_seen (acts side (actions.Deed deed today)) ≡ true
+deed_seen txn (sides.Responder y) told deed today stands = done_seen sides.Responder (responder_actions.acts y deed today) (deed_done y _ _ (deed_row y deed today) (number_seen y.issued))
+deed_seen txn (sides.Requester x) told deed today stands = absurd stands
+
+-- each message passes a test that all pass
+message_passes : (test : Apdu → Bool) (apdus : List Apdu) (n : ℕ) (a : Apdu) → message apdus n ≡ Some a → list_all test apdus ≡ true → test a ≡ true
+message_passes test apdus zero a at all = search rules
+message_passes test [] (suc n) a at all = search rules
+message_passes test (b ∷ apdus) (suc zero) a at all = let same : b ≡ a = search rules in subst (λ x. test x ≡ true) same (and_parts (test b) (list_all test apdus) all).0
+message_passes test (b ∷ apdus) (suc (suc n)) a at all = message_passes test apdus (suc n) a at (and_parts (test b) (list_all test apdus) all).1
+
+opposite : (b : Bool) → not b ≡ true → b ≡ false
+opposite false is = refl
+opposite true is = search rules
+
+negated : (b : Bool) → b ≡ true → not b ≡ false
+negated true is = refl
+negated false is = search rules
+
+-- what a responder has issued is none of a requester's types, and the other way round
+responders_own : (txn : Qualifiers) (side : Side) (told : List (Option Apdu)) (n : ℕ) (a : Apdu) → StandsAsResponder txn side told → message (issued_of side) n ≡ Some a → is_requesters a.body ≡ false
+responders_own txn (sides.Responder y) told n a stands at = opposite (is_requesters a.body) (message_passes (λ a. not (is_requesters a.body)) y.issued n a at stands.rules.role)
+responders_own txn (sides.Requester x) told n a stands at = absurd stands
+
+requesters_own : (txn : Qualifiers) (side : Side) (told : List (Option Apdu)) (n : ℕ) (a : Apdu) → StandsAsRequester txn side told → message (issued_of side) n ≡ Some a → is_requesters a.body ≡ true
+requesters_own txn (sides.Requester x) told n a stands at = message_passes (λ a. is_requesters a.body) x.issued n a at stands.rules.role
+requesters_own txn (sides.Responder y) told n a stands at = absurd stands
+
+asking_seen : (txn : Qualifiers) (side : Side) (told : List (Option Apdu)) (a : Apdu) → StandsAsRequester txn side told → is_requesters a.body ≡ false → is_seen (takes side a).0 ≡ true
+asking_seen txn (sides.Requester x) told a stands others = not_own (is_same_txn a.txn x.txn) (is_requesters a.body) x _ others (requester_answer x a a.body)
+asking_seen txn (sides.Responder y) told a stands others = absurd stands
+
+asked_seen : (txn : Qualifiers) (side : Side) (told : List (Option Apdu)) (a : Apdu) → StandsAsResponder txn side told → is_requesters a.body ≡ true → is_seen (takes side a).0 ≡ true
+asked_seen txn (sides.Responder y) told a stands others =
+    not_own (is_same_txn a.txn y.txn) (not (is_requesters a.body)) y _ (negated (is_requesters a.body) others) (responder_answer y a a.body)
+asked_seen txn (sides.Requester x) told a stands others = absurd stands
+
+-- ---- events
+
+decision_seen : (p : Party) (result : Result Side Refusal) → is_seen result ≡ true → can_be_seen (decides p result).0 ≡ true
+decision_seen p (Ok new) seen = refl
+decision_seen p (Err refusal) seen = seen
+
+answer_seen : (answer : Result Taking Refusal) → is_seen answer ≡ true → can_be_seen (answer_to answer) ≡ true
+answer_seen (Ok did) seen = refl
+answer_seen (Err refusal) seen = seen
+
+send_seen : (p : Party) (n : ℕ) (found : Option Apdu) (released : Bool) → can_be_seen (sends p n found released).0 ≡ true
+send_seen p n None released = refl
+send_seen p n (Some a) true = refl
+send_seen p n (Some a) false = refl
+
+one_of_two : (b : Bool) (first second : Outcome) → can_be_seen first ≡ true → can_be_seen second ≡ true → can_be_seen (cond b first second) ≡ true
+one_of_two true first second this that = this
+one_of_two false first second this that = that
+
+noise_seen : (p : Party) (found : Result (Apdu × List ℕ) DerFault) → can_be_seen (hears p found) ≡ true
+noise_seen p (Ok (a, [])) = one_of_two (is_same_txn a.txn (txn_of p.live)) Forged (Refused OtherTransaction) refl refl
+noise_seen p (Ok (a, byte ∷ rest)) = refl
+noise_seen p (Err fault) = refl
+
+asking_receives : (txn : Qualifiers) (w : Parties) (n : ℕ) (found : Option Apdu) → Stands txn w → sent_message w.responder.sent n ≡ found → can_be_seen (receives w.requester found).0 ≡ true
+asking_receives txn w n None stands e = refl
+asking_receives txn w n (Some a) stands e =
+    answer_seen (takes w.requester.live a).0
+    (asking_seen txn w.requester.live w.responder.sent a stands.asking.live (responders_own txn w.responder.landed w.requester.sent n a stands.asked.landed (stands.asked.saved.landed n a e)))
+
+asked_receives : (txn : Qualifiers) (w : Parties) (n : ℕ) (found : Option Apdu) → Stands txn w → sent_message w.requester.sent n ≡ found → can_be_seen (receives w.responder found).0 ≡ true
+asked_receives txn w n None stands e = refl
+asked_receives txn w n (Some a) stands e =
+    answer_seen (takes w.responder.live a).0
+    (asked_seen txn w.responder.live w.requester.sent a stands.asked.live (requesters_own txn w.requester.landed w.responder.sent n a stands.asking.landed (stands.asking.saved.landed n a e)))
+
+pub outcome_seen : (txn : Qualifiers) (w : Parties) (event : Event) → Stands txn w → can_be_seen (happens w event).0 ≡ true
+outcome_seen txn w (events.Wish wish) stands = decision_seen w.requester (acts w.requester.live (actions.Wish wish)) (wish_seen txn w.requester.live w.responder.sent wish stands.asking.live)
+outcome_seen txn w (events.Deed deed today) stands =
+    decision_seen w.responder (acts w.responder.live (actions.Deed deed today)) (deed_seen txn w.responder.live w.requester.sent deed today stands.asked.live)
+outcome_seen txn w (events.Save of) stands = refl
+outcome_seen txn w (events.SaveFault of landed) stands = refl
+outcome_seen txn w (events.Send of n) stands = send_seen (party w of) n _ _
+outcome_seen txn w (events.Deliver who.Requester n) stands = asking_receives txn w n (sent_message w.responder.sent n) stands refl
+outcome_seen txn w (events.Deliver who.Responder n) stands = asked_receives txn w n (sent_message w.requester.sent n) stands refl
+outcome_seen txn w (events.Noise of bytes) stands = noise_seen (party w of) (apdu_at bytes)
+outcome_seen txn w (events.Restart of) stands = refl

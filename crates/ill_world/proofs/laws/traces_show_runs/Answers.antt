@@ -1,0 +1,12 @@
+use Rattle.ill_world.specs.World.{first_world}
+use Rattle.ill_world.proofs.Simulations.{trace_of_none, trace_line, trace_front}
+use Rattle.ill_world.proofs.laws.traces_show_runs.Goals as goal
+
+pub returns-clause-first : goal.returns-clause-first
+returns-clause-first c = λ txn. trace_of_none 1 (first_world txn)
+
+pub returns-clause-next : goal.returns-clause-next
+returns-clause-next c = trace_line
+
+pub returns-clause-front : goal.returns-clause-front
+returns-clause-front c = trace_front

@@ -1,0 +1,46 @@
+-- What an event may change, and what may be seen of it (this profile's own).
+use Rattle.std.specs.Prelude.{◌≡◌, ℕ, Bool, true, false, Some}
+use Rattle.ill_values.specs.declared.apdu.Apdu.{Apdu}
+use Rattle.ill_core.specs.declared.refusal.Refusal.{Refusal}
+use Rattle.ill_core.specs.declared.refusal.Refusal.TheVariants.{WrongRole, OutOfMemory}
+use Rattle.ill_core.specs.declared.taking.Taking.TheVariants.{Taken}
+use Rattle.ill_world.specs.declared.event.Who.{Who}
+use Rattle.ill_world.specs.declared.event.Outcome.{Outcome}
+use Rattle.ill_world.specs.declared.event.Outcome.TheVariants.{Done, Saved, Faulted, Sent, Answered, Refused, Restarted}
+use Rattle.ill_world.specs.World.{Party, Parties, party, sent_message}
+
+-- nothing of a party has changed but what has landed
+pub record OnlyLands (old new : Party) : Type 0 where
+  pub live : new.live ≡ old.live
+  pub released : new.released ≡ old.released
+  pub sent : new.sent ≡ old.sent
+
+abbrev pub OnlyLandedChanges : Parties → Parties → Type 0
+OnlyLandedChanges old new = OnlyLands old.requester new.requester × OnlyLands old.responder new.responder
+
+-- What may have changed, by what is seen of an event: anything, or with a save that failed what has
+-- landed, or nothing.
+abbrev pub MayChange : {P : Type 0} → (P → P → Type 0) → Outcome → P → P → Type 0
+MayChange Landed Done old new = Unit {0}
+MayChange Landed Saved old new = Unit {0}
+MayChange Landed Sent old new = Unit {0}
+MayChange Landed Restarted old new = Unit {0}
+MayChange Landed (Answered Taken) old new = Unit {0}
+MayChange Landed Faulted old new = Landed old new
+MayChange Landed other old new = new ≡ old
+
+-- what either party had sent it has sent still, with the same number
+abbrev pub KeepsSent : Parties → Parties → Type 0
+KeepsSent old new =
+    (who : Who) (n : ℕ) (a : Apdu) → sent_message (party old who).sent n ≡ Some a →
+    sent_message (party new who).sent n ≡ Some a
+
+-- Every refusal but those of a wrong role and of want of memory may be seen, and every other outcome.
+abbrev pub can_refuse : Refusal → Bool
+can_refuse WrongRole = false
+can_refuse OutOfMemory = false
+can_refuse other = true
+
+abbrev pub can_be_seen : Outcome → Bool
+can_be_seen (Refused refusal) = can_refuse refusal
+can_be_seen other = true

@@ -1,17 +1,24 @@
-/* Stops the process that it is preloaded into at a call of the system. What counts are its calls of open,
-   openat, statx, fchmod, ftruncate, read, write, fsync, fdatasync, rename, renameat, unlink and close, from
-   1 on. STOP is the number of the one to stop at, and STOP_HOW says how:
+/* Stops the process that it is preloaded into at a call of the system, and keeps what the disk lacks. What
+   counts are its calls of open, openat, statx, lchown, fchmod, ftruncate, read, write, fsync, fdatasync, rename,
+   renameat, unlink and close, from 1 on. STOP is the number of the one to stop at, or its line of the log, which
+   stands for each such call. STOP_HOW says how:
      before  it is killed before the call
      after   it is killed after the call
      half    a write writes half of its bytes, and then the process is killed
-     lost    it is killed after the call, and what was written to a file and not flushed is gone from there
-     undone  it is killed after the call, and a rename is undone whose folder was not flushed
+     waits   it waits before the call, as SIGSTOP has it
      short   a read or a write moves half of the bytes
-     EIO     or ENOSPC, EDQUOT, ENOMEM, EINTR: the call fails so, and does nothing, but that a close closes
+     EIO     or another name of the table below: the call fails so, and does nothing, but that a close closes
      broken  this call and all behind it fail with EIO, but those of standard input, output and errors
-   What is lost or undone is what a machine may forget that stops. STOP_LOG names a file that gets a line for
-   each call before it is made: its name, and that of the file. */
+   STOP_LOG names a file that gets a line for each call before it is made: its name, and that of the file. A
+   statx that follows no link is an lstat there.
+   STOP_DISK names a folder that says, from process to process, what a machine forgets whose power goes. In it
+     name-N  is the file that the name N stood for when the folder of N was flushed last
+     none-N  says that N was the name of nothing then
+     bytes-I is a file, with the inode I, that has bytes which were not flushed
+   The first two are made where a name is changed, and the last where a file is; the flush that is answered well,
+   whoever makes it, removes them. All names are those of one folder. */
 #define _GNU_SOURCE
+#include <dirent.h>
 #include <dlfcn.h>
 #include <errno.h>
 #include <fcntl.h>
@@ -28,44 +35,33 @@
 enum { FILES = 64, NAME = 256 };
 
 static char names[FILES][NAME] = {"input", "output", "errors"};
-static char unflushed[NAME]; /* the file that has bytes which were not flushed, or none */
-static char renamed[NAME];   /* the name whose rename was not flushed, or none */
-static char before[NAME];    /* the file that this name stood for, or none */
 static long count;
+
+static const struct { const char *name; int error; } faults[] = {
+  {"EIO", EIO}, {"ENOSPC", ENOSPC}, {"EDQUOT", EDQUOT}, {"ENOMEM", ENOMEM}, {"EINTR", EINTR}, {"EPERM", EPERM},
+  {"EACCES", EACCES}, {"EINVAL", EINVAL}, {"ENOTSUP", ENOTSUP}, {"ENOSYS", ENOSYS}, {"ENFILE", ENFILE},
+  {"EMFILE", EMFILE}, {"broken", EIO},
+};
 
 static const char *name_of(int file) {
   return file < 0 || file >= FILES ? "" : names[file];
 }
 
-static void set_name(char *name, const char *path) {
-  snprintf(name, NAME, "%s", path);
-}
-
-static const char *how(void) {
-  const char *text = getenv("STOP_HOW");
-  return text ? text : "";
-}
-
 static int is_how(const char *text) {
-  return !strcmp(how(), text);
+  const char *how = getenv("STOP_HOW");
+  return how && !strcmp(how, text);
 }
 
 /* The errno that the call is to fail with, or 0. */
 static int fault(void) {
-  return is_how("EIO") ? EIO : is_how("ENOSPC") ? ENOSPC : is_how("EDQUOT") ? EDQUOT
-    : is_how("ENOMEM") ? ENOMEM : is_how("EINTR") ? EINTR : is_how("broken") ? EIO : 0;
+  size_t at = 0;
+  while (at < sizeof faults / sizeof *faults && !is_how(faults[at].name))
+    at++;
+  return at < sizeof faults / sizeof *faults ? faults[at].error : 0;
 }
 
 static void die(void) {
   kill(getpid(), SIGKILL);
-}
-
-/* What the disk forgets where the machine stops. */
-static void forget(void) {
-  if (is_how("lost") && *unflushed && truncate(unflushed, 0))
-    abort();
-  if (is_how("undone") && *renamed && (*before ? REAL(rename)(before, renamed) : REAL(unlink)(renamed)))
-    abort();
 }
 
 /* Writes a line of the log. */
@@ -84,16 +80,32 @@ static int is_stream(const char *name) {
   return !strcmp(name, "input") || !strcmp(name, "output") || !strcmp(name, "errors");
 }
 
+/* Whether a text is the line of a call. */
+static int is_line(const char *text, const char *call, const char *name) {
+  size_t size = strlen(call);
+  return !strncmp(text, call, size) && text[size] == ' ' && !strcmp(text + size + 1, name);
+}
+
 /* Counts a call, and tells whether it is one to stop at. */
-static int is_reached(const char *call, const char *name) {
+static int is_here(const char *call, const char *name) {
   const char *text = getenv("STOP");
+  count++;
+  if (!text)
+    return 0;
+  if (is_how("broken"))
+    return count >= atol(text) && !is_stream(name);
+  return count == atol(text) || is_line(text, call, name);
+}
+
+/* What comes before a call: whether it is one to stop at, where the process was not stopped already. */
+static int is_reached(const char *call, const char *name) {
   tell(call, name);
-  if (text && ++count > atol(text) && is_how("broken"))
-    return !is_stream(name);
-  if (!text || count != atol(text) || (is_how("broken") && is_stream(name)))
+  if (!is_here(call, name))
     return 0;
   if (is_how("before"))
     die();
+  if (is_how("waits"))
+    kill(getpid(), SIGSTOP);
   return 1;
 }
 
@@ -107,12 +119,8 @@ static int fails(int reached) {
 
 /* What a call answers behind which the process may be killed. */
 static long answered(int reached, long answer) {
-  int error = errno;
-  if (reached)
-    forget();
-  if (reached && (is_how("after") || is_how("lost") || is_how("undone")))
+  if (reached && is_how("after"))
     die();
-  errno = error;
   return answer;
 }
 
@@ -121,9 +129,82 @@ static size_t moved(int reached, size_t size) {
   return reached && (is_how("half") || is_how("short")) ? (size + 1) / 2 : size;
 }
 
+/* Sets a path to that of a thing in the folder of the disk, and tells whether there is such a folder. */
+static int is_kept(char *path, const char *kind, const char *name) {
+  const char *folder = getenv("STOP_DISK"), *last = strrchr(name, '/');
+  if (folder)
+    snprintf(path, 2 * NAME, "%s/%s-%s", folder, kind, last ? last + 1 : name);
+  return folder != NULL;
+}
+
+/* Keeps what a name stands for that is to change, if it has not changed since its folder was flushed. */
+static void keep_name(const char *name) {
+  char kept[2 * NAME], none[2 * NAME];
+  int error = errno;
+  if (!is_kept(kept, "name", name) || !is_kept(none, "none", name))
+    return;
+  if (access(kept, F_OK) && access(none, F_OK) && link(name, kept)
+      && (errno != ENOENT || mknod(none, S_IFREG | 0600, 0)))
+    abort();
+  errno = error;
+}
+
+/* The path of what says that a file has bytes which were not flushed. */
+static int is_kept_file(char *path, int file) {
+  char inode[32];
+  struct stat is;
+  if (fstat(file, &is))
+    return 0;
+  snprintf(inode, sizeof inode, "%lu", (unsigned long)is.st_ino);
+  return is_kept(path, "bytes", inode);
+}
+
+/* Keeps that a file has bytes which were not flushed. */
+static void keep_bytes(int file) {
+  char kept[2 * NAME], open_file[64];
+  int error = errno;
+  if (file <= STDERR_FILENO || !is_kept_file(kept, file))
+    return;
+  snprintf(open_file, sizeof open_file, "/proc/self/fd/%d", file);
+  if (linkat(AT_FDCWD, open_file, AT_FDCWD, kept, AT_SYMLINK_FOLLOW) && errno != EEXIST)
+    abort();
+  errno = error;
+}
+
+/* Forgets all names that were kept: the disk has those of now. */
+static void forget_names(void) {
+  const char *folder = getenv("STOP_DISK");
+  DIR *disk = folder ? opendir(folder) : NULL;
+  struct dirent *entry;
+  while (disk && (entry = readdir(disk)))
+    if (!strncmp(entry->d_name, "name-", 5) || !strncmp(entry->d_name, "none-", 5))
+      unlinkat(dirfd(disk), entry->d_name, 0);
+  if (disk)
+    closedir(disk);
+}
+
+/* What a flush of this file has on the disk: its bytes or, where it is a folder, its names. */
+static int flushed(int file, int answer) {
+  char kept[2 * NAME];
+  struct stat is;
+  if (answer)
+    return answer;
+  if (!fstat(file, &is) && S_ISDIR(is.st_mode))
+    forget_names();
+  else if (is_kept_file(kept, file))
+    REAL(unlink)(kept);
+  return answer;
+}
+
+/* Keeps what an opening is to change. */
+static void keep_opened(const char *path, int flags) {
+  if (flags & O_CREAT)
+    keep_name(path);
+}
+
 static int opened(int reached, int file, const char *path) {
   if (file >= 0 && file < FILES)
-    set_name(names[file], path);
+    snprintf(names[file], NAME, "%s", path);
   return answered(reached, file);
 }
 
@@ -134,7 +215,10 @@ int open(const char *path, int flags, ...) {
   va_start(rest, flags);
   mode = flags & O_CREAT ? va_arg(rest, mode_t) : 0;
   va_end(rest);
-  return fails(reached) ? -1 : opened(reached, REAL(open)(path, flags, mode), path);
+  if (fails(reached))
+    return -1;
+  keep_opened(path, flags);
+  return opened(reached, REAL(open)(path, flags, mode), path);
 }
 
 int openat(int folder, const char *path, int flags, ...) {
@@ -144,12 +228,20 @@ int openat(int folder, const char *path, int flags, ...) {
   va_start(rest, flags);
   mode = flags & O_CREAT ? va_arg(rest, mode_t) : 0;
   va_end(rest);
-  return fails(reached) ? -1 : opened(reached, REAL(openat)(folder, path, flags, mode), path);
+  if (fails(reached))
+    return -1;
+  keep_opened(path, flags);
+  return opened(reached, REAL(openat)(folder, path, flags, mode), path);
 }
 
 int statx(int folder, const char *path, int flags, unsigned mask, struct statx *out) {
-  int reached = is_reached("statx", path);
+  int reached = is_reached(flags & AT_SYMLINK_NOFOLLOW ? "lstat" : "statx", path);
   return fails(reached) ? -1 : answered(reached, REAL(statx)(folder, path, flags, mask, out));
+}
+
+int lchown(const char *path, uid_t owner, gid_t group) {
+  int reached = is_reached("lchown", path);
+  return fails(reached) ? -1 : answered(reached, REAL(lchown)(path, owner, group));
 }
 
 int fchmod(int file, mode_t mode) {
@@ -159,7 +251,10 @@ int fchmod(int file, mode_t mode) {
 
 int ftruncate(int file, off_t size) {
   int reached = is_reached("ftruncate", name_of(file));
-  return fails(reached) ? -1 : answered(reached, REAL(ftruncate)(file, size));
+  if (fails(reached))
+    return -1;
+  keep_bytes(file);
+  return answered(reached, REAL(ftruncate)(file, size));
 }
 
 ssize_t read(int file, void *out, size_t size) {
@@ -172,54 +267,29 @@ ssize_t write(int file, const void *bytes, size_t size) {
   ssize_t answer;
   if (fails(reached))
     return -1;
+  keep_bytes(file);
   answer = REAL(write)(file, bytes, moved(reached, size));
-  if (file > 2)
-    set_name(unflushed, name_of(file));
   if (reached && is_how("half"))
     die();
   return answered(reached, answer);
 }
 
-/* What a flush of this file has on the disk: its bytes or, where it is a folder, its names. */
-static int flushed(int reached, int file, int answer) {
-  struct stat is;
-  if (!answer && !strcmp(unflushed, name_of(file)))
-    *unflushed = 0;
-  if (!answer && !fstat(file, &is) && S_ISDIR(is.st_mode)) {
-    if (*before)
-      REAL(unlink)(before);
-    *renamed = *before = 0;
-  }
-  return answered(reached, answer);
-}
-
 int fsync(int file) {
   int reached = is_reached("fsync", name_of(file));
-  return fails(reached) ? -1 : flushed(reached, file, REAL(fsync)(file));
+  return fails(reached) ? -1 : answered(reached, flushed(file, REAL(fsync)(file)));
 }
 
 int fdatasync(int file) {
   int reached = is_reached("fdatasync", name_of(file));
-  return fails(reached) ? -1 : flushed(reached, file, REAL(fdatasync)(file));
-}
-
-/* Keeps what a name stands for that a rename is to change. */
-static void keep(const char *from, const char *to) {
-  char path[NAME + 16];
-  if (!strcmp(unflushed, from))
-    set_name(unflushed, to);
-  if (!is_how("undone") || *renamed)
-    return;
-  snprintf(path, sizeof path, "%s.before", to);
-  set_name(before, link(to, path) ? "" : path);
-  set_name(renamed, to);
+  return fails(reached) ? -1 : answered(reached, flushed(file, REAL(fdatasync)(file)));
 }
 
 int rename(const char *from, const char *to) {
   int reached = is_reached("rename", from);
   if (fails(reached))
     return -1;
-  keep(from, to);
+  keep_name(from);
+  keep_name(to);
   return answered(reached, REAL(rename)(from, to));
 }
 
@@ -227,7 +297,8 @@ int renameat(int old, const char *from, int new, const char *to) {
   int reached = is_reached("renameat", from);
   if (fails(reached))
     return -1;
-  keep(from, to);
+  keep_name(from);
+  keep_name(to);
   return answered(reached, REAL(renameat)(old, from, new, to));
 }
 
@@ -235,8 +306,7 @@ int unlink(const char *path) {
   int reached = is_reached("unlink", path);
   if (fails(reached))
     return -1;
-  if (!strcmp(unflushed, path))
-    *unflushed = 0;
+  keep_name(path);
   return answered(reached, REAL(unlink)(path));
 }
 

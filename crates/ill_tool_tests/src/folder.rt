@@ -1,46 +1,147 @@
-//! A folder for the files of a test.
+//! A folder for the files of a case, and the command lines that are performed on them.
 
+use crate::call::Call;
+use crate::names::Names;
+use crate::page::Page;
+use crate::telling::{begin, tell_bytes, tell_line, tell_whether};
+use crate::words::Word;
+use ill_tool::run_words;
 use std::alloc::Global;
 use std::env::Env;
 use std::io::ErrorKind;
 use std::rt::Files;
-use std::test::Fail;
-use std::{env, fs};
+use std::{env, fs, io};
 
-/// A folder that no other test has.
+/// A folder below the system's for temporary files.
 #[derive(Drop)]
-pub struct Folder {
+pub struct Folder<'a, R: Files> {
+    rt: &'a R,
+    alloc: Global,
     path: String,
 }
 
-impl Folder {
-    /// A new one, with nothing in it.
-    pub fn new<R: Files + Env + Alloc<A = Global>>(rt: &R) -> Result<Folder, Fail> {
-        let parent = env::temp_dir(rt)?;
-        for turn in 0..MOST_FOLDERS {
-            let name = format!(in rt.alloc(); "ill-test-{turn}")?;
-            let path = parent.join(rt.alloc(), name.as_str())?.into_string();
+/// What is done with a file of the folder.
+#[derive(Clone, Copy)]
+pub enum FileCall {
+    Put,
+    Show,
+    Folder,
+    Remove,
+}
+
+impl<'a, R: Files> Folder<'a, R> {
+    /// A folder that was not there, with nothing in it.
+    pub fn new(rt: &'a R, alloc: Global) -> io::Result<Folder<'a, R>>
+    where
+        R: Env + AllocGlobal,
+    {
+        let below = env::temp_dir(rt)?;
+        for number in 0..u16::MAX {
+            let path = format!(in alloc; "{}/ill_tool_tests.{number}", below.as_str())?;
             match fs::create_dir(rt, path.as_str()) {
-                Ok(()) => return Ok(Folder { path }),
+                Ok(()) => return Ok(Folder { rt, alloc, path }),
                 Err(error) if error.kind() == ErrorKind::AlreadyExists => {}
-                Err(error) => return Err(Fail::from(error)),
+                Err(error) => return Err(error),
             }
         }
-        Err(Fail::new("the folder of each test is there already"))
+        Err(io::Error::from(ErrorKind::AlreadyExists))
     }
 
-    /// The path of a file in it.
-    pub fn file(&self, alloc: Global, name: &str) -> Result<String, Fail> {
-        let path = self.path.as_str();
-        Ok(format!(in alloc; "{path}/{name}")?)
+    /// Removes all that is in it.
+    pub fn clear(&self) -> Option<()> {
+        self.remove()?;
+        fs::create_dir(self.rt, self.path.as_str()).ok()
     }
 
     /// Removes it, with all that is in it.
-    pub fn remove<R: Files + Alloc>(self, rt: &R) -> Result<(), Fail> {
-        fs::remove_dir_all(rt, self.path.as_str())?;
-        Ok(())
+    pub fn remove(&self) -> Option<()> {
+        fs::remove_dir_all(&(self.rt, self.alloc), self.path.as_str()).ok()
+    }
+
+    /// The path of the file with this name.
+    fn path_of(&self, name: &str) -> Option<String> {
+        format!(in self.alloc; "{}/{name}", self.path).ok()
+    }
+
+    /// Performs a call on a file, and tells its answer.
+    pub fn perform(
+        &self,
+        page: &mut Page,
+        names: &Names,
+        kind: FileCall,
+        words: &[Word],
+    ) -> Option<()> {
+        let (name, others) = words.split_first()?;
+        let path = self.path_of(name.text.as_str())?;
+        let path = path.as_str();
+        match kind {
+            FileCall::Put => fs::write(self.rt, path, names.bytes(others)?.as_slice()).ok(),
+            FileCall::Show => self.show(page, names, path, others),
+            FileCall::Folder => fs::create_dir(self.rt, path).ok(),
+            FileCall::Remove => fs::remove_file(self.rt, path).ok(),
+        }
+    }
+
+    /// Tells the bytes of a file, or that there is none; behind `is BYTES` whether it has just these.
+    fn show(&self, page: &mut Page, names: &Names, path: &str, words: &[Word]) -> Option<()> {
+        let bytes = match fs::read(&(self.rt, self.alloc), path) {
+            Ok(bytes) => bytes,
+            Err(error) if error.kind() == ErrorKind::NotFound => {
+                tell_line(page, "=", "no file");
+                return Some(());
+            }
+            Err(_) => return None,
+        };
+        match words {
+            [word, wanted @ ..] if word.is("is") => {
+                tell_whether(page, names, "=", &bytes, &names.bytes(wanted)?);
+            }
+            _ => tell_bytes(page, names, "=", &bytes),
+        }
+        Some(())
+    }
+
+    /// Performs a command line, and tells what it leaves.
+    pub fn command(&self, page: &mut Page, names: &Names, call: &mut Call<'_>) -> Option<()> {
+        let words = self.command_line(call.words)?;
+        let words: Vec<&str> = words
+            .iter()
+            .map(|word| word.as_str())
+            .collect(self.alloc)
+            .ok()?;
+        let status = run_words(
+            self.rt,
+            self.alloc,
+            &words,
+            &mut call.source,
+            &mut call.output,
+            &mut call.errors,
+        );
+        call.tell(page, names);
+        if status != 0 || call.has_written_nothing() {
+            begin(page, "=");
+            page.show(&status);
+            page.text("\n");
+        }
+        Some(())
+    }
+
+    /// The words of a command line: the program's name, and the paths of files in place of their names.
+    fn command_line(&self, words: &[Word]) -> Option<Vec<String>> {
+        let mut line = Vec::new(self.alloc);
+        line.push(String::from_str(self.alloc, "ill").ok()?).ok()?;
+        for word in words {
+            line.push(self.word(word)?).ok()?;
+        }
+        Some(line)
+    }
+
+    /// A word, or the path of the file that is named behind `@`.
+    fn word(&self, word: &Word) -> Option<String> {
+        let text = word.text.as_str();
+        match text.strip_prefix('@') {
+            Some(name) if !word.is_quoted => self.path_of(name),
+            _ => String::from_str(self.alloc, text).ok(),
+        }
     }
 }
-
-/// How many folders there may be at once, with those that failed tests left.
-const MOST_FOLDERS: u32 = 10_000;

@@ -1,0 +1,184 @@
+//! One side of transaction G1, T1 in memory, and the engines that are called on it.
+
+ghost use Rattle.std.specs.Prelude.{◌≡◌, IfSome};
+ghost use Rattle.ill_saved.specs.Side.{idle_of};
+
+use crate::call::Call;
+use crate::limited::LimitedStore;
+use crate::names::Names;
+use crate::page::Page;
+use crate::standing::{Standing, tell_standing};
+use crate::words::{Word, texts};
+use ill_core::{Requester, Responder};
+use ill_saved::{Desk1, MemoryStore, NextCall, Side, Store};
+use ill_tool::{run_act, run_send, run_status, run_take};
+use ill_values::{Day, Number, TxnId};
+use std::alloc::Global;
+
+/// A side, in a store that fails as is planned, or in one that lasts for so many saves.
+#[derive(Drop)]
+pub enum Desk {
+    Planned(Desk1<MemoryStore>),
+    Limited(Desk1<LimitedStore>),
+}
+
+/// What is called on a side.
+#[derive(Clone, Copy)]
+pub enum DeskCall {
+    Save,
+    Restart,
+    Act,
+    Take,
+    Send,
+    Status,
+}
+
+impl Desk {
+    /// The side that `ROLE [lasting SAVES]` says, before its first message. It is not saved.
+    pub fn begin(alloc: Global, words: &[Word]) -> Option<Desk> {
+        let (role, others) = words.split_first()?;
+        let first = first_side(alloc, role.text.as_str())?;
+        match others {
+            [] => planned(alloc, first),
+            [word, saves] if word.is("lasting") => limited(alloc, first, saves),
+            _ => None,
+        }
+    }
+
+    /// Plans the next call of the store: `works`, `fails-old` or `fails-new`.
+    pub fn plan(&mut self, words: &[Word]) -> Option<()> {
+        let next = match words.first()?.text.as_str() {
+            "works" => NextCall::Works,
+            "fails-old" => NextCall::FailsOld,
+            "fails-new" => NextCall::FailsNew,
+            _ => return None,
+        };
+        match self {
+            Desk::Planned(desk) => {
+                desk.set_next(next);
+                Some(())
+            }
+            Desk::Limited(_) => None,
+        }
+    }
+
+    /// Performs a call, and tells its answer and how the side stands.
+    pub fn perform(
+        &mut self,
+        alloc: Global,
+        page: &mut Page,
+        names: &Names,
+        kind: DeskCall,
+        call: &mut Call<'_>,
+    ) -> Option<()> {
+        match self {
+            Desk::Planned(desk) => perform_on(alloc, page, names, desk, kind, call),
+            Desk::Limited(desk) => perform_on(alloc, page, names, desk, kind, call),
+        }
+    }
+}
+
+/// The side of a role before its first message.
+fn first_side(alloc: Global, role: &str) -> Option<Side>
+    ensures { IfSome result (λ side. side ≡ idle_of side) }
+{
+    let txn = TxnId::new(alloc, b"G1", b"T1").ok()?;
+    match role {
+        "requester" => Some(Side::Requester(Requester::idle(alloc, txn))),
+        "responder" => Some(Side::Responder(Responder::idle(alloc, txn))),
+        _ => None,
+    }
+}
+
+fn planned(alloc: Global, first: Side) -> Option<Desk>
+    requires { first ≡ idle_of first }
+{
+    match Desk1::create(alloc, MemoryStore::new(alloc), first) {
+        Ok(desk) => Some(Desk::Planned(desk)),
+        Err(_) => None,
+    }
+}
+
+fn limited(alloc: Global, first: Side, saves: &Word) -> Option<Desk>
+    requires { first ≡ idle_of first }
+{
+    let saves = saves.text.parse::<u32>().ok()?;
+    match Desk1::create(alloc, LimitedStore::new(alloc, saves), first) {
+        Ok(desk) => Some(Desk::Limited(desk)),
+        Err(_) => None,
+    }
+}
+
+fn perform_on<S: Store>(
+    alloc: Global,
+    page: &mut Page,
+    names: &Names,
+    desk: &mut Desk1<S>,
+    kind: DeskCall,
+    call: &mut Call<'_>,
+) -> Option<()> {
+    let before = Standing::of(alloc, desk)?;
+    match kind {
+        DeskCall::Save => call.tell_answer(page, names, &desk.save(alloc)),
+        DeskCall::Restart => call.tell_answer(page, names, &desk.restart(alloc)),
+        DeskCall::Act => act(alloc, page, names, desk, call)?,
+        DeskCall::Take => {
+            let answer = run_take(alloc, desk, &mut call.source, &mut call.output);
+            call.tell_answer(page, names, &answer);
+        }
+        DeskCall::Send => send(alloc, page, names, desk, call)?,
+        DeskCall::Status => {
+            let answer = run_status(alloc, desk, &mut call.output);
+            call.tell_answer(page, names, &answer);
+        }
+    }
+    tell_standing(alloc, page, desk, &before)
+}
+
+/// `act [--today DAY] WORDS`
+fn act<S: Store>(
+    alloc: Global,
+    page: &mut Page,
+    names: &Names,
+    desk: &mut Desk1<S>,
+    call: &mut Call<'_>,
+) -> Option<()> {
+    let today = match day_before(call.words) {
+        Some(word) => Some(Day::read(word.text.as_bytes()).ok()?),
+        None => None,
+    };
+    let words: Vec<&str> = texts(alloc, words_behind(call.words))?;
+    let answer = run_act(alloc, desk, today, &words, &mut call.output);
+    call.tell_answer(page, names, &answer);
+    Some(())
+}
+
+/// The word of the day that stands before the words of an action, if one does.
+fn day_before(words: &[Word]) -> Option<&Word> {
+    match words {
+        [option, day, ..] if option.is("--today") => Some(day),
+        _ => None,
+    }
+}
+
+/// The words of an action.
+fn words_behind(words: &[Word]) -> &[Word] {
+    match words {
+        [option, _, words @ ..] if option.is("--today") => words,
+        _ => words,
+    }
+}
+
+/// `send NUMBER`
+fn send<S: Store>(
+    alloc: Global,
+    page: &mut Page,
+    names: &Names,
+    desk: &Desk1<S>,
+    call: &mut Call<'_>,
+) -> Option<()> {
+    let number = call.words.first()?.text.parse::<u8>().ok()?;
+    let answer = run_send(alloc, desk, Number::new(number)?, &mut call.output);
+    call.tell_answer(page, names, &answer);
+    Some(())
+}

@@ -1,0 +1,52 @@
+//! Tests of the commands, on files and by calls, and of reading and writing APDUs, on streams that fail
+//! or are long: a program over transcripts.
+//!
+//! The files `stdin` and `stdout` have the same bytes: transcripts, whose head says how they are written.
+//! A line that begins with two spaces is an answer. The program drops the answers that it reads, performs
+//! each call, and writes what it is answered below it. So a case is added by its lines and the answers that
+//! they must have, in both files.
+//!
+//! With a name as its argument the program performs that case alone, and writes the others as they stand.
+//! So nothing is printed by this where the case is right:
+//!
+//!     rt try -- "a cancel and a shipped cross" < stdin | diff stdin -
+#![tactic(auto)]
+
+mod bench;
+mod block;
+mod call;
+mod desk;
+mod engines;
+mod folder;
+mod limited;
+mod names;
+mod page;
+mod session;
+mod sink;
+mod source;
+mod standing;
+mod telling;
+mod texts;
+mod words;
+
+use bench::Bench;
+use folder::Folder;
+use session::Session;
+use std::io::{ErrorKind, Write};
+use std::{env, io};
+
+fn main(rt: HostRuntime) -> io::Result<()> {
+    let alloc = rt.alloc();
+    let arguments: Vec<String> = env::args(&rt)?.collect(alloc)?;
+    let text = io::read_to_string(alloc, rt.stdin())?;
+    let folder = Folder::new(&rt, alloc)?;
+    let wanted = arguments.get(1).map(|name| name.as_str());
+    let mut session = Session::new(alloc, Bench::new(alloc, folder), wanted);
+    for line in text.lines() {
+        session.read(line);
+    }
+    match session.finish() {
+        Some(bytes) => rt.stdout().write_all(bytes),
+        None => Err(io::Error::from(ErrorKind::OutOfMemory)),
+    }
+}

@@ -1,0 +1,158 @@
+//! The lines of the input, one after another.
+
+use crate::bench::Performs;
+use crate::block::Block;
+use crate::names::Names;
+use crate::page::Page;
+use crate::words::words_of;
+use std::alloc::Global;
+
+/// What a line of an answer begins with.
+const ANSWER: &str = "  ";
+
+const NOT_UNDERSTOOD: &str = "  NOT UNDERSTOOD";
+
+/// What the lines so far have printed and left.
+#[derive(Drop)]
+pub struct Session<'a, B: Performs> {
+    alloc: Global,
+    page: Page,
+    lines: Lines<B>,
+    /// The case that is performed alone.
+    wanted: Option<&'a str>,
+    is_performing: bool,
+    block: Option<Block>,
+}
+
+/// What performs lines, and the names that were given.
+#[derive(Drop)]
+struct Lines<B: Performs> {
+    alloc: Global,
+    names: Names,
+    bench: B,
+}
+
+impl<'a, B: Performs> Session<'a, B> {
+    /// Before the first line. Where a case is wanted, it is performed alone.
+    pub fn new(alloc: Global, bench: B, wanted: Option<&'a str>) -> Session<'a, B> {
+        Session {
+            alloc,
+            page: Page::new(alloc),
+            lines: Lines {
+                alloc,
+                names: Names::new(alloc),
+                bench,
+            },
+            wanted,
+            is_performing: true,
+            block: None,
+        }
+    }
+
+    /// All that was printed, if nothing is missing and the folder could be removed.
+    pub fn finish(&mut self) -> Option<&[u8]> {
+        self.lines.bench.end()?;
+        self.page.bytes()
+    }
+
+    /// Takes the next line.
+    pub fn read(&mut self, line: &str) {
+        if let Some(name) = line.strip_prefix("case ") {
+            self.is_performing = self.is_wanted(name);
+        }
+        if !self.is_performing {
+            return self.page.line(line);
+        }
+        if !line.starts_with(ANSWER) && self.take(line).is_none() {
+            self.page.line(NOT_UNDERSTOOD);
+        }
+    }
+
+    fn is_wanted(&self, name: &str) -> bool {
+        match self.wanted {
+            Some(wanted) => wanted == name,
+            None => true,
+        }
+    }
+
+    fn take(&mut self, line: &str) -> Option<()> {
+        if let Some(words) = line.strip_prefix("each ") {
+            self.page.line(line);
+            return self.each(words);
+        }
+        if line == "end" {
+            return self.end();
+        }
+        match &mut self.block {
+            Some(block) => block.push(line),
+            None => {
+                self.lines.perform(&mut self.page, line, line);
+                Some(())
+            }
+        }
+    }
+
+    /// Begins a block, or adds values to the one that has begun.
+    fn each(&mut self, words: &str) -> Option<()> {
+        let mut block = self.block.take().unwrap_or(Block::new(self.alloc));
+        block.add_values(words)?;
+        self.block = Some(block);
+        Some(())
+    }
+
+    /// Ends a block: writes it with the answers in its first case, and behind it each case in which they
+    /// are others.
+    fn end(&mut self) -> Option<()> {
+        let block = self.block.take()?;
+        let first = self.lines.perform_block(&block, 0)?;
+        self.page.page(&first);
+        self.page.line("end");
+        for case in 1..block.cases() {
+            let page = self.lines.perform_block(&block, case)?;
+            if page.bytes() != first.bytes() {
+                self.page.text("  BUT IN CASE ");
+                self.page.show(&case);
+                self.page.line(":");
+                self.page.page(&page);
+            }
+        }
+        Some(())
+    }
+}
+
+impl<B: Performs> Lines<B> {
+    /// Performs the lines of a block in this case, and prints them as they are written.
+    fn perform_block(&mut self, block: &Block, case: usize) -> Option<Page> {
+        let mut page = Page::new(self.alloc);
+        for written in &block.lines {
+            let line = block.line(written.as_str(), case)?;
+            self.perform(&mut page, written.as_str(), line.as_str());
+        }
+        Some(page)
+    }
+
+    /// Prints a line as it is written, performs it, and prints its answer.
+    fn perform(&mut self, page: &mut Page, written: &str, line: &str) {
+        page.line(written);
+        if self.answer(page, line).is_none() {
+            page.line(NOT_UNDERSTOOD);
+        }
+    }
+
+    fn answer(&mut self, page: &mut Page, line: &str) -> Option<()> {
+        if line.is_empty() || line.starts_with('#') {
+            return Some(());
+        }
+        let words = words_of(self.alloc, line)?;
+        let (first, others) = words.split_first()?;
+        match first.text.as_str() {
+            "case" => {
+                self.names.begin_case();
+                self.bench.begin()
+            }
+            "fresh" => self.bench.begin(),
+            "let" => self.names.add(others),
+            _ => self.bench.perform(page, &self.names, &words),
+        }
+    }
+}

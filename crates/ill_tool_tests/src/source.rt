@@ -1,0 +1,150 @@
+//! Readers that fail, or give one byte at a time.
+
+ghost use Rattle.std.specs.Prelude.{◌≡◌, ◌≤◌, length, IfOk};
+
+use crate::names::Names;
+use crate::words::{Word, cut};
+use std::io;
+use std::io::{ErrorKind, Read};
+
+/// More often than any call tries.
+const ALWAYS: u32 = u32::MAX;
+
+/// With which error a stream fails, or that it takes no byte; and how often, before it works again.
+#[derive(Clone, Copy)]
+pub struct Failure {
+    kind: Option<ErrorKind>,
+    times: u32,
+}
+
+impl Failure {
+    /// It never fails.
+    pub const NEVER: Failure = Failure {
+        kind: None,
+        times: 0,
+    };
+
+    /// The failure of these words: `broken`, `interrupted`, `full` or `nothing`, and `once` where it is.
+    pub fn of(words: &[Word]) -> Option<Failure> {
+        let (first, others) = words.split_first()?;
+        let kind = match first.text.as_str() {
+            "broken" => Some(ErrorKind::BrokenPipe),
+            "interrupted" => Some(ErrorKind::Interrupted),
+            "full" => Some(ErrorKind::StorageFull),
+            "nothing" => None,
+            _ => return None,
+        };
+        let times = match others {
+            [] => ALWAYS,
+            [word] if word.is("once") => 1,
+            _ => return None,
+        };
+        Some(Failure { kind, times })
+    }
+
+    /// Whether it will fail.
+    pub fn is_due(&self) -> bool {
+        self.times > 0
+    }
+
+    /// Fails: with an error, or by taking no byte.
+    pub fn fail(&mut self) -> Option<io::Error> {
+        self.times = self.times.saturating_sub(1);
+        Some(io::Error::from(self.kind?))
+    }
+}
+
+/// Bytes of which some were read.
+#[derive(Drop)]
+struct Bytes {
+    bytes: Vec<u8>,
+    read: usize,
+}
+
+impl Bytes {
+    fn rest(&self) -> &[u8] {
+        self.bytes.get(self.read..).unwrap_or(&[])
+    }
+
+    fn read(&mut self, buffer: &mut [u8]) -> io::Result<usize>
+        ensures bound { IfOk result (λ count. count ≤ length buffer.new) }
+        ensures size { length buffer.new ≡ length buffer.old }
+    {
+        let count = self.rest().read(buffer)?;
+        self.read = self.read.saturating_add(count);
+        Ok(count)
+    }
+}
+
+/// A reader that gives bytes, may fail behind them, and then gives others.
+#[derive(Drop)]
+pub struct Source {
+    before: Bytes,
+    failure: Failure,
+    behind: Bytes,
+    is_slow: bool,
+    has_failed: bool,
+    /// It was called after it had failed.
+    pub was_called_again: bool,
+}
+
+impl Source {
+    /// The reader of these words: `[slow] BYTES [then FAILURE [then BYTES]]`.
+    pub fn of(names: &Names, words: &[Word]) -> Option<Source> {
+        let is_slow = words.first().is_some_and(|word| word.is("slow"));
+        let words = words.get(usize::from(is_slow)..)?;
+        let (before, failing) = cut(words, "then");
+        let (failure, behind) = cut(failing.unwrap_or(&[]), "then");
+        Some(Source {
+            before: bytes_of(names, before)?,
+            failure: match failing {
+                Some(_) => Failure::of(failure)?,
+                None => Failure::NEVER,
+            },
+            behind: bytes_of(names, behind.unwrap_or(&[]))?,
+            is_slow,
+            has_failed: false,
+            was_called_again: false,
+        })
+    }
+
+    /// What it was not asked for, where it gives one byte at a time.
+    pub fn unread(&self) -> &[u8] {
+        if self.is_slow {
+            self.before.rest()
+        } else {
+            &[]
+        }
+    }
+
+    /// That it has failed is of no account from now on.
+    pub fn forgive(&mut self) {
+        self.has_failed = false;
+    }
+}
+
+fn bytes_of(names: &Names, words: &[Word]) -> Option<Bytes> {
+    Some(Bytes {
+        bytes: names.bytes(words)?,
+        read: 0,
+    })
+}
+
+impl Read for Source {
+    fn read(&mut self, buffer: &mut [u8]) -> io::Result<usize> {
+        self.was_called_again |= self.has_failed;
+        let most = if self.is_slow { 1 } else { usize::MAX };
+        let count = buffer.len().min(most);
+        if !self.before.rest().is_empty() {
+            return self.before.read(&mut buffer[..count]);
+        }
+        if self.failure.is_due() {
+            self.has_failed = true;
+            return match self.failure.fail() {
+                Some(error) => Err(error),
+                None => Ok(0),
+            };
+        }
+        self.behind.read(&mut buffer[..count])
+    }
+}

@@ -1,0 +1,55 @@
+//! Where a side in memory stands.
+
+use crate::page::Page;
+use crate::telling::begin;
+use ill_saved::{Desk1, Side, Store, encode_record};
+use std::alloc::Global;
+
+/// The record of a side, and how many of its messages are released.
+#[derive(Drop)]
+pub struct Standing {
+    record: Vec<u8>,
+    released: u8,
+}
+
+impl Standing {
+    /// Where this side stands.
+    pub fn of<S: Store>(alloc: Global, desk: &Desk1<S>) -> Option<Standing> {
+        Some(Standing {
+            record: encode_record(alloc, desk.side()).ok()?,
+            released: desk.released(),
+        })
+    }
+
+    fn is(&self, other: &Standing) -> bool {
+        self.record.as_slice() == other.record.as_slice() && self.released == other.released
+    }
+}
+
+/// Tells how the side in memory stands, and whether that has changed: its state, its due date, and how many of
+/// its messages are released and issued.
+pub fn tell_standing<S: Store>(
+    alloc: Global,
+    page: &mut Page,
+    desk: &Desk1<S>,
+    before: &Standing,
+) -> Option<()> {
+    let after = Standing::of(alloc, desk)?;
+    begin(page, if after.is(before) { "stays" } else { "stands" });
+    tell_side(page, desk.side());
+    page.show(&after.released);
+    page.text("/");
+    page.show(&desk.side().issued_count());
+    page.text("\n");
+    Some(())
+}
+
+fn tell_side(page: &mut Page, side: &Side) {
+    page.show(&side.state());
+    page.text(" ");
+    match side.due() {
+        Some(day) => page.push(&day.digits()),
+        None => page.text("-"),
+    }
+    page.text(" ");
+}

@@ -1,0 +1,48 @@
+//! The texts of faults, among them those that no command line brings about.
+
+use crate::page::Page;
+use crate::telling::begin;
+use ill_saved::{RecordFault, StoreFault};
+use ill_tool::{DerFault, DeskFault, ToolFault};
+use std::fmt::{Debug, Display};
+
+const FAULTS: [ToolFault; 21] = [
+    ToolFault::Arguments,
+    ToolFault::Der(DerFault::Short(17)),
+    ToolFault::Der(DerFault::Tag(15)),
+    ToolFault::Der(DerFault::Length(1)),
+    ToolFault::Der(DerFault::Field(23)),
+    ToolFault::TooMany,
+    ToolFault::Script(3),
+    ToolFault::Desk(DeskFault::Bytes(DerFault::Tag(0))),
+    ToolFault::Desk(DeskFault::Trailing),
+    ToolFault::Desk(DeskFault::NoSuchMessage),
+    ToolFault::Desk(DeskFault::NotSaved),
+    ToolFault::Desk(DeskFault::Exists),
+    ToolFault::Desk(DeskFault::NoRecord),
+    ToolFault::Desk(DeskFault::Store(StoreFault::Failed)),
+    ToolFault::Desk(DeskFault::Store(StoreFault::TooLarge)),
+    ToolFault::Desk(DeskFault::Saved(RecordFault::Short)),
+    ToolFault::Desk(DeskFault::Saved(RecordFault::Bad(65_535))),
+    ToolFault::Desk(DeskFault::Saved(RecordFault::Inconsistent)),
+    ToolFault::Read,
+    ToolFault::Write,
+    ToolFault::OutOfMemory,
+];
+
+/// Tells each fault and its text; and behind those of a command, want of memory of bytes and of a side.
+pub fn tell_texts(page: &mut Page) {
+    for fault in &FAULTS {
+        tell_text(page, fault);
+    }
+    tell_text(page, &DerFault::OutOfMemory);
+    tell_text(page, &DeskFault::OutOfMemory);
+}
+
+fn tell_text<T: Debug + Display>(page: &mut Page, fault: &T) {
+    begin(page, "=");
+    page.show_parts(fault);
+    page.text(": ");
+    page.show(fault);
+    page.text("\n");
+}

@@ -17,7 +17,7 @@ use Rattle.ill_saved.specs.declared.fault.DeskFault.TheVariants.{Core, Bytes, Tr
 use Rattle.ill_saved.specs.Side.{issued_of, idle_of, IsConsistent, acts, takes, Follows}
 use Rattle.ill_saved.specs.Records.{record_at, begins_as_record, Decodes}
 use Rattle.ill_saved.specs.Ranges.{IsSide}
-use Rattle.ill_saved.specs.Store.{Allows, LandsAtFailure, CountsFailure, spent}
+use Rattle.ill_saved.specs.Store.{Allows, LandsAtFailure, HasRisen, spent}
 
 -- the side in memory, its store, and how many of its messages may be sent
 pub record DeskOf (S : Type 0) : Type 0 where
@@ -164,11 +164,14 @@ RestartLeaves (Ok done) old new = IsWhole new
 RestartLeaves (Err fault) old new =
     (new.live ≡ old.live) × (new.released ≡ old.released) × IsLoadFault fault
 
--- a desk fails only where its store has counted a failure
+abbrev pub DeskFailsCounted : {X : Type 0} → Result X DeskFault → ℕ → ℕ → Type 0
+DeskFailsCounted (Err (Store stores.Failed)) old new = HasRisen old new
+DeskFailsCounted answer old new = Unit {0}
+
+-- The count of the store's failures never falls, and a desk answers one only where it has risen, or can
+-- rise no more.
 abbrev pub CountsDeskFailure : {X : Type 0} → Result X DeskFault → ℕ → ℕ → Type 0
-CountsDeskFailure (Err (Store stores.Failed)) old new =
-    CountsFailure {X = Unit {0}} (Err stores.Failed) old new
-CountsDeskFailure answer old new = Unit {0}
+CountsDeskFailure answer old new = (old ≤ new) × DeskFailsCounted answer old new
 
 -- ---- beginning
 

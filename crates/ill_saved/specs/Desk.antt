@@ -175,12 +175,12 @@ CountsDeskFailure answer old new = (old ≤ new) × DeskFailsCounted answer old 
 -- ---- beginning
 
 -- what a call answers that hands the store back with a fault
-abbrev pub answer_of : {S : Type 0} → Result (DeskOf S) (DeskFault × S) → Result (Unit {0}) DeskFault
+abbrev pub answer_of : {S F : Type 0} → Result (DeskOf S) (F × S) → Result (Unit {0}) F
 answer_of (Ok desk) = Ok tt
 answer_of (Err fault) = Err fault.0
 
 -- the store after it
-abbrev pub store_of : {S : Type 0} → Result (DeskOf S) (DeskFault × S) → S
+abbrev pub store_of : {S F : Type 0} → Result (DeskOf S) (F × S) → S
 store_of (Ok desk) = desk.store
 store_of (Err fault) = fault.1
 

@@ -145,7 +145,7 @@ acts_kept grows honest landed old new released action (Err refusal) acts kept = 
 
 pub takes_kept : RowsGrow → (honest : Bool) (landed : Option (List ℕ)) (old new : Side) (released : ℕ) (a : Apdu) (answer : Result Taking Refusal)
     → Takes old a answer new → Kept honest landed old released → Kept honest landed new released
-takes_kept grows honest landed old new released a (Err refusals.OutOfMemory) takes kept = same_kept honest landed old new released takes.1 kept
+takes_kept grows honest landed old new released a (Err refusals.OutOfMemory) takes kept = same_kept honest landed old new released takes.2 kept
 takes_kept grows honest landed old new released a answer takes kept =
     row_kept grows honest landed old new released (took a (ap (λ (r : Result Taking Refusal × Side). r.1) takes)) kept
 

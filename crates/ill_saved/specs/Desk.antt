@@ -5,7 +5,6 @@ use Rattle.ill_values.specs.Apdu.{IsApdu}
 use Rattle.ill_der.specs.declared.fault.DerFault.{DerFault}
 use Rattle.ill_der.specs.ShortForm.{spelling}
 use Rattle.ill_core.specs.declared.taking.Taking.{Taking}
-use Rattle.ill_core.specs.declared.taking.Taking.TheVariants.{Taken}
 use Rattle.ill_saved.specs.declared.fault.RecordFault.TheVariants as records
 use Rattle.ill_saved.specs.declared.fault.LayoutFault.{LayoutFault}
 use Rattle.ill_saved.specs.declared.side.Side.{Side}
@@ -14,10 +13,10 @@ use Rattle.ill_saved.specs.declared.store.StoreFault.TheVariants as stores
 use Rattle.ill_saved.specs.declared.store.NextCall.{NextCall}
 use Rattle.ill_saved.specs.declared.fault.DeskFault.{DeskFault}
 use Rattle.ill_saved.specs.declared.fault.DeskFault.TheVariants.{Core, Bytes, Trailing, NoSuchMessage, NotSaved, Exists, NoRecord, Store, Saved, OutOfMemory}
-use Rattle.ill_saved.specs.Side.{issued_of, idle_of, IsConsistent, acts, takes, Follows}
+use Rattle.ill_saved.specs.Side.{issued_of, idle_of, IsConsistent, acts, takes, WantsMemoryFor, Follows}
 use Rattle.ill_saved.specs.Records.{record_at, begins_as_record, Decodes}
 use Rattle.ill_saved.specs.Ranges.{IsSide}
-use Rattle.ill_saved.specs.Store.{Allows, LandsAtFailure, CountsFailure, spent}
+use Rattle.ill_saved.specs.Store.{Allows, LandsAtFailure, HasRisen, spent}
 
 -- the side in memory, its store, and how many of its messages may be sent
 pub record DeskOf (S : Type 0) : Type 0 where
@@ -54,16 +53,16 @@ DeskActs old action (Err (Core refusal)) new = (acts old action ≡ Err refusal)
 DeskActs old action (Err OutOfMemory) new = (is_ok (acts old action) ≡ true) × (new ≡ old)
 DeskActs old action (Err other) new = ⊥
 
--- What a message does to the side. Memory is wanted only for one that would be taken, and want of it
--- changes nothing.
+-- What a message does to the side. Memory is wanted only where the side takes memory for it.
 abbrev pub DeskTakesApdu : Side → Apdu → Result Taking DeskFault → Side → Type 0
 DeskTakesApdu old a (Ok taking) new = takes old a ≡ (Ok taking, new)
 DeskTakesApdu old a (Err (Core refusal)) new = takes old a ≡ (Err refusal, new)
-DeskTakesApdu old a (Err OutOfMemory) new = ((takes old a).0 ≡ Ok Taken) × (new ≡ old)
+DeskTakesApdu old a (Err OutOfMemory) new = WantsMemoryFor old a new
 DeskTakesApdu old a (Err other) new = ⊥
 
--- What bytes do, by what stands at their front: exactly one APDU is handed to the side. Want of
--- memory changes nothing.
+-- What bytes do, by what stands at their front: exactly one APDU is handed to the side. To read an APDU
+-- takes memory, whichever it is, so memory may be wanted for each, and also for one with bytes behind
+-- it. Want of it changes nothing.
 abbrev pub DeskTakes : Side → Result (Apdu × List ℕ) DerFault → Result Taking DeskFault → Side → Type 0
 DeskTakes old (Err fault) answer new = (answer ≡ Err (Bytes fault)) × (new ≡ old)
 DeskTakes old (Ok found) (Err OutOfMemory) new = new ≡ old
@@ -164,21 +163,24 @@ RestartLeaves (Ok done) old new = IsWhole new
 RestartLeaves (Err fault) old new =
     (new.live ≡ old.live) × (new.released ≡ old.released) × IsLoadFault fault
 
--- a desk fails only where its store has counted a failure
+abbrev pub DeskFailsCounted : {X : Type 0} → Result X DeskFault → ℕ → ℕ → Type 0
+DeskFailsCounted (Err (Store stores.Failed)) old new = HasRisen old new
+DeskFailsCounted answer old new = Unit {0}
+
+-- The count of the store's failures never falls, and a desk answers one only where it has risen, or can
+-- rise no more.
 abbrev pub CountsDeskFailure : {X : Type 0} → Result X DeskFault → ℕ → ℕ → Type 0
-CountsDeskFailure (Err (Store stores.Failed)) old new =
-    CountsFailure {X = Unit {0}} (Err stores.Failed) old new
-CountsDeskFailure answer old new = Unit {0}
+CountsDeskFailure answer old new = (old ≤ new) × DeskFailsCounted answer old new
 
 -- ---- beginning
 
 -- what a call answers that hands the store back with a fault
-abbrev pub answer_of : {S : Type 0} → Result (DeskOf S) (DeskFault × S) → Result (Unit {0}) DeskFault
+abbrev pub answer_of : {S F : Type 0} → Result (DeskOf S) (F × S) → Result (Unit {0}) F
 answer_of (Ok desk) = Ok tt
 answer_of (Err fault) = Err fault.0
 
 -- the store after it
-abbrev pub store_of : {S : Type 0} → Result (DeskOf S) (DeskFault × S) → S
+abbrev pub store_of : {S F : Type 0} → Result (DeskOf S) (F × S) → S
 store_of (Ok desk) = desk.store
 store_of (Err fault) = fault.1
 

@@ -1,6 +1,6 @@
 -- One side of a transaction, whichever its role: what a library decides and what a message do to it
 -- (this profile's own). Here, and nowhere above, the roles are told apart.
-use Rattle.std.specs.Prelude.{◌≡◌, List, [], ◌++◌, Option, None, true, false, is_ok, Result, Ok, Err}
+use Rattle.std.specs.Prelude.{◌≡◌, Bool, List, [], ◌++◌, Option, None, true, false, is_ok, Result, Ok, Err}
 use Rattle.ill_values.specs.declared.apdu.Apdu.{Apdu}
 use Rattle.ill_values.specs.Day.{Date}
 use Rattle.ill_values.specs.TxnId.{Qualifiers}
@@ -73,10 +73,20 @@ Acts old action (Ok done) new = acts old action ≡ Ok new
 Acts old action (Err refusals.OutOfMemory) new = (is_ok (acts old action) ≡ true) × (new ≡ old)
 Acts old action (Err refusal) new = (acts old action ≡ Err refusal) × (new ≡ old)
 
--- What a side answers to an APDU, and the side after it. Memory is wanted only for an APDU that would
--- be taken, and want of it changes nothing.
+-- Whether memory is taken for an APDU that would be taken: a responder's, which keeps it or issues the
+-- answer to it. A requester takes none.
+abbrev pub takes_memory : Side → Apdu → Bool
+takes_memory (sides.Requester x) a = false
+takes_memory (sides.Responder y) a = responder_deliveries.takes_memory y a.body
+
+-- Memory ran out for an APDU that would be taken and takes memory, and nothing has changed.
+abbrev pub WantsMemoryFor : Side → Apdu → Side → Type 0
+WantsMemoryFor old a new =
+    ((takes old a).0 ≡ Ok Taken) × (takes_memory old a ≡ true) × (new ≡ old)
+
+-- What a side answers to an APDU, and the side after it.
 abbrev pub Takes : Side → Apdu → Result Taking Refusal → Side → Type 0
-Takes old a (Err refusals.OutOfMemory) new = ((takes old a).0 ≡ Ok Taken) × (new ≡ old)
+Takes old a (Err refusals.OutOfMemory) new = WantsMemoryFor old a new
 Takes old a answer new = takes old a ≡ (answer, new)
 
 -- one row of its tables leads a side to another

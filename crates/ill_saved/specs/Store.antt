@@ -1,5 +1,5 @@
 -- What a store of one record promises (this profile's own).
-use Rattle.std.specs.Prelude.{◌≡◌, ◌⊎◌, ℕ, ◌+◌, ◌<◌, ◌≤◌, min, true, List, [], length, codes, Option, Some, None, is_some, option_map, Result, Ok, Err}
+use Rattle.std.specs.Prelude.{◌≡◌, ◌⊎◌, ℕ, ◌+◌, ◌<◌, ◌≤◌, nat_lt, if◌then◌else◌, true, List, [], length, codes, Option, Some, None, is_some, option_map, Result, Ok, Err}
 use Rattle.std.specs.Path.{path_parent}
 use Rattle.ill_saved.specs.declared.store.StoreFault.{StoreFault}
 use Rattle.ill_saved.specs.declared.store.StoreFault.TheVariants.{Failed, TooLarge, OutOfMemory}
@@ -35,13 +35,24 @@ abbrev pub spent : Option NextCall → Option NextCall
 spent None = None
 spent (Some plan) = Some Works
 
--- A call fails only where the count of failures rises, or can rise no more.
 abbrev pub most_failures : ℕ
 most_failures = 18446744073709551615
 
+-- A count of failures rises by one, up to the most.
+abbrev pub one_more : ℕ → ℕ
+one_more count = if nat_lt count most_failures then count + 1 else count
+
+-- the count of failures has risen, or can rise no more
+abbrev pub HasRisen : ℕ → ℕ → Type 0
+HasRisen old new = (old < new) ⊎ (most_failures ≤ new)
+
+abbrev pub FailsCounted : {X : Type 0} → Result X StoreFault → ℕ → ℕ → Type 0
+FailsCounted (Err Failed) old new = HasRisen old new
+FailsCounted answer old new = Unit {0}
+
+-- The count of failures never falls, and a call fails only where it has risen, or can rise no more.
 abbrev pub CountsFailure : {X : Type 0} → Result X StoreFault → ℕ → ℕ → Type 0
-CountsFailure (Err Failed) old new = (old < new) ⊎ (most_failures ≤ new)
-CountsFailure answer old new = Unit {0}
+CountsFailure answer old new = (old ≤ new) × FailsCounted answer old new
 
 abbrev pub IsNotTooLarge : Result (Unit {0}) StoreFault → Type 0
 IsNotTooLarge (Err TooLarge) = ⊥
@@ -59,9 +70,9 @@ pub record Memory : Type 0 where
 abbrev pub called : Memory → Memory
 called store = record store { next = Works }
 
--- A call has failed as planned: the count rises by one, up to the most.
+-- A call has failed as planned, and is counted.
 abbrev pub failed : Memory → Memory
-failed store = record store { failures = min (store.failures + 1) most_failures; next = Works }
+failed store = record store { failures = one_more store.failures; next = Works }
 
 -- What a load answers by its plan, and the store after it. Only a load that works takes memory,
 -- where something has landed.
@@ -94,9 +105,9 @@ pub record Filed : Type 0 where
   pub limit : ℕ
   pub failures : ℕ
 
--- A call has failed: the count rises by one, up to the most.
+-- A call has failed, and is counted.
 abbrev pub failed_file : Filed → Filed
-failed_file store = record store { failures = min (store.failures + 1) most_failures }
+failed_file store = record store { failures = one_more store.failures }
 
 -- What a load answers, and the store after it: no record that is too long, and a failure only where
 -- it was counted.

@@ -193,6 +193,13 @@ impl<S: Store> Desk1<S> {
         &self.live
     }
 
+    /// The store, with what has landed there. The side in memory is let go.
+    pub fn into_store(self) -> S
+        ensures { result ≡ self.store }
+    {
+        self.store
+    }
+
     /// How many messages may be sent: those with numbers up to this one.
     pub fn released(&self) -> u8
         ensures { result ≡ self.now.released }

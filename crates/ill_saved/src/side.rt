@@ -41,7 +41,9 @@ impl Side {
         }
     }
 
-    /// Takes a message of the other side, and answers what it did. A refusal changes nothing.
+    /// Takes a message of the other side, and answers what it did. A refusal changes nothing. A
+    /// requester takes no memory, and a responder takes some only for an ILL-Request that it keeps and
+    /// for a Conditional-Reply no that it answers.
     pub fn take(&mut self, alloc: Global, apdu: &Apdu) -> Result<Taking, Refusal>
         ensures { Takes self.old apdu.now result self.new }
     {

@@ -5,3 +5,4 @@ pub mod ActionLemmas
 pub mod TakeLemmas
 pub mod ActLemmas
 pub mod StatusLemmas
+pub mod NewLemmas

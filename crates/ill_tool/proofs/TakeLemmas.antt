@@ -1,5 +1,5 @@
 -- Taking one APDU after another.
-use Rattle.std.proofs.Common.{◌≡◌, inl, ℕ, ◌+◌, ◌≤◌, Bool, true, ◌&&◌, List, [], ◌∷◌, ◌++◌, length, Option, Some, None, Result, Ok, Err, refl, sym, ap, subst, ◌∙◌, arith}
+use Rattle.std.proofs.Common.{◌≡◌, inl, inr, ℕ, ◌+◌, ◌≤◌, Bool, true, ◌&&◌, List, [], ◌∷◌, ◌++◌, length, Option, Some, None, Result, Ok, Err, refl, sym, ap, subst, ◌∙◌, arith}
 use Rattle.std.specs.Io.KnownBytes.{Consumes, Appends}
 use Rattle.std.proofs.KnownBytes.{Appends-nil, Appends-trans}
 use Rattle.std.proofs.lemmas.List.Sums.{fold-append}
@@ -27,7 +27,7 @@ stopped_idle (Script line) count now bytes left stops = absurd stops
 stopped_idle (Desk fault) count now bytes left stops = absurd stops
 stopped_idle Read count now bytes left stops = (stops, (refl, refl))
 stopped_idle Write count now bytes left stops = absurd stops
-stopped_idle OutOfMemory count now bytes left stops = (stops.0, stops.1, stops.2, (Err OutOfMemory, inl refl, (refl, refl)))
+stopped_idle OutOfMemory count now bytes left stops = inl (stops, (refl, refl))
 
 -- a message was in hand, and not told
 stopped_in_hand : (fault : ToolFault) (count : ℕ) (from to : Standing) (apdu : Apdu) (left : Option (List ℕ)) → IsApdu apdu → TakesAndSaves from apdu (Err fault) to
@@ -39,7 +39,7 @@ stopped_in_hand (Script line) count from to apdu left is taken = absurd taken
 stopped_in_hand (Desk fault) count from to apdu left is taken = (apdu, is, refl, (Err (Desk fault), taken, (refl, refl)))
 stopped_in_hand Read count from to apdu left is taken = absurd taken
 stopped_in_hand Write count from to apdu left is taken = absurd taken
-stopped_in_hand OutOfMemory count from to apdu left is taken = (apdu, is, refl, (Err OutOfMemory, taken, (refl, refl)))
+stopped_in_hand OutOfMemory count from to apdu left is taken = inr (apdu, is, refl, (Err OutOfMemory, taken, (refl, refl)))
 
 pub not_kept : (old new before : Option (List ℕ)) (from to : Standing) (apdu : Apdu) (fault : ToolFault) → ReadsApdu old new (Ok (Some apdu)) → TakesAndSaves from apdu (Err fault) to
     → TakesNext old new before before from (Err fault) to

@@ -11,3 +11,4 @@ pub mod Take
 pub mod Send
 pub mod Status
 pub mod New
+pub mod ExitStatus

@@ -1,5 +1,5 @@
 -- How one side with its store stands, and the line that tells it (this profile's own).
-use Rattle.std.specs.Prelude.{◌≡◌, ◌⊎◌, ℕ, ◌<◌, Bool, true, false, List, [], ◌++◌, length, take, Option, None, Some, option_map, codes, Result, Ok, Err}
+use Rattle.std.specs.Prelude.{◌≡◌, ◌⊎◌, ℕ, ◌≤◌, Bool, true, false, List, [], ◌++◌, length, take, Option, None, Some, option_map, codes, Result, Ok, Err}
 use Rattle.std.specs.Io.KnownBytes.{Appends}
 use Rattle.ill_core.specs.declared.taking.Taking.TheVariants.{Conflict}
 use Rattle.ill_saved.specs.declared.side.Side.{Side}
@@ -8,7 +8,7 @@ use Rattle.ill_saved.specs.Records.{record_spelling}
 use Rattle.ill_saved.specs.declared.fault.DeskFault.{DeskFault}
 use Rattle.ill_saved.specs.declared.fault.DeskFault.TheVariants as desks
 use Rattle.ill_saved.specs.declared.store.StoreFault.TheVariants.{Failed}
-use Rattle.ill_saved.specs.Store.{CountsFailure}
+use Rattle.ill_saved.specs.Store.{HasRisen}
 use Rattle.ill_saved.specs.Desk.{DeskOf}
 use Rattle.ill_world.specs.declared.event.Outcome.{Outcome}
 use Rattle.ill_world.specs.declared.event.Outcome.TheVariants as outcomes
@@ -56,15 +56,14 @@ abbrev pub desk_fault : DeskFault → ToolFault
 desk_fault desks.OutOfMemory = OutOfMemory
 desk_fault other = Desk other
 
--- A failure of the store is answered only where it was counted, from one count to another.
-abbrev pub CountsToolFailure : {X : Type 0} → Result X ToolFault → ℕ → ℕ → Type 0
-CountsToolFailure (Err (Desk (desks.Store Failed))) old new = CountsFailure {X = Unit {0}} (Err Failed) old new
-CountsToolFailure answer old new = Unit {0}
+abbrev pub ToolFailsCounted : {X : Type 0} → Result X ToolFault → ℕ → ℕ → Type 0
+ToolFailsCounted (Err (Desk (desks.Store Failed))) old new = HasRisen old new
+ToolFailsCounted answer old new = Unit {0}
 
--- A failure of the store is answered only where it has counted one.
-abbrev pub HasCounted : {X : Type 0} → Result X ToolFault → ℕ → Type 0
-HasCounted (Err (Desk (desks.Store Failed))) failures = 0 < failures
-HasCounted answer failures = Unit {0}
+-- The count of the store's failures never falls, and a command answers one only where it has risen, or
+-- can rise no more.
+abbrev pub CountsToolFailure : {X : Type 0} → Result X ToolFault → ℕ → ℕ → Type 0
+CountsToolFailure answer old new = (old ≤ new) × ToolFailsCounted answer old new
 
 -- ---- what is told
 

@@ -9,7 +9,7 @@ use Rattle.ill_core.specs.declared.taking.Taking.{Taking}
 use Rattle.ill_core.specs.declared.taking.Taking.TheVariants.{Taken}
 use Rattle.ill_saved.specs.declared.fault.DeskFault.TheVariants.{Store}
 use Rattle.ill_saved.specs.declared.store.StoreFault.TheVariants.{Failed}
-use Rattle.ill_saved.specs.Side.{takes}
+use Rattle.ill_saved.specs.Side.{takes, takes_memory}
 use Rattle.ill_world.specs.declared.event.Outcome.{Outcome}
 use Rattle.ill_world.specs.World.{answer_to}
 use Rattle.ill_tool.specs.declared.fault.ToolFault.{ToolFault}
@@ -29,13 +29,14 @@ abbrev pub handed : Standing → Apdu → Outcome × Standing
 handed old a = let taken = takes old.live a in (answer_to taken.0, kept taken.0 (becomes old taken.1))
 
 -- What a message did: it was handed to the side, and saved where it was taken; it was taken, and the
--- save failed; or memory ran out before it was taken, or before it was saved.
+-- save failed; or memory ran out for it, where it takes memory, or for the save.
 abbrev pub TakesAndSaves : Standing → Apdu → Result Outcome ToolFault → Standing → Type 0
 TakesAndSaves old a (Ok outcome) new = handed old a ≡ (outcome, new)
 TakesAndSaves old a (Err (Desk (Store Failed))) new =
     ((takes old.live a).0 ≡ Ok Taken) × IsFaulted (becomes old (takes old.live a).1) new
 TakesAndSaves old a (Err OutOfMemory) new =
-    (new ≡ old) ⊎ (((takes old.live a).0 ≡ Ok Taken) × (new ≡ becomes old (takes old.live a).1))
+    ((takes old.live a).0 ≡ Ok Taken)
+    × (((takes_memory old.live a ≡ true) × (new ≡ old)) ⊎ (new ≡ becomes old (takes old.live a).1))
 TakesAndSaves old a (Err other) new = ⊥
 
 -- ---- one message after another
@@ -83,7 +84,9 @@ Stopped (Script line) count old bytes left text new = ⊥
 Stopped (Desk fault) count old bytes left text new = InHand old bytes text (Desk fault) new
 Stopped Read count old bytes left text new = StopsReading Read count bytes left × IsIdle old text new
 Stopped Write count old bytes left text new = InHand old bytes text Write new
-Stopped OutOfMemory count old bytes left text new = InHand old bytes text OutOfMemory new
+Stopped OutOfMemory count old bytes left text new =
+    (StopsReading OutOfMemory count bytes left × IsIdle old text new)
+    ⊎ InHand old bytes text OutOfMemory new
 
 -- How the command ended: at the end of the input, with whether all went well, or it was stopped.
 abbrev pub Ended : Result Bool ToolFault → ℕ → Answers → List ℕ → Option (List ℕ) → List ℕ → Standing → Type 0

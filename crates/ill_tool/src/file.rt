@@ -31,8 +31,10 @@ pub fn new<T: Files, W: Write>(
     let role = who(role.as_bytes()).ok_or(ToolFault::Arguments)?;
     let txn = id(alloc, group, transaction)?;
     let store = FileStore::at(rt, alloc, file, MAX_RECORD)?;
-    run_new(alloc, store, role, txn, writer)?;
-    Ok(true)
+    match run_new(alloc, store, role, txn, writer) {
+        Ok(_) => Ok(true),
+        Err((fault, _)) => Err(fault),
+    }
 }
 
 /// `ill act`: performs one action.

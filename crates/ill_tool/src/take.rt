@@ -1,6 +1,6 @@
 //! The command `take`.
 
-ghost use Rattle.ill_tool.specs.Standing.{standing_of, HasCounted};
+ghost use Rattle.ill_tool.specs.Standing.{standing_of, CountsToolFailure};
 ghost use Rattle.ill_tool.specs.Take.{RunsTake, TakesNext, TakesAndSaves};
 
 use crate::fault::ToolFault;
@@ -31,7 +31,8 @@ pub fn run_take<S: Store, R: Read, W: Write>(
         (W.contents writer.old) (W.contents writer.new)
         (standing_of S.is_honest S.landed desk.old) result
         (standing_of S.is_honest S.landed desk.new) }
-    ensures counted { HasCounted result (S.failures desk.new.store) }
+    ensures counted { CountsToolFailure result (S.failures desk.old.store)
+        (S.failures desk.new.store) }
 {
     let mut all_fine = true;
     for _ in 0..MAX_APDUS {
@@ -58,7 +59,8 @@ fn take_next<S: Store, R: Read, W: Write>(
         (W.contents writer.old) (W.contents writer.new)
         (standing_of S.is_honest S.landed desk.old) result
         (standing_of S.is_honest S.landed desk.new) }
-    ensures counted { HasCounted result (S.failures desk.new.store) }
+    ensures counted { CountsToolFailure result (S.failures desk.old.store)
+        (S.failures desk.new.store) }
 {
     match read_apdu(alloc, reader) {
         Ok(Some(apdu)) => match take_and_save(alloc, desk, &apdu) {
@@ -81,7 +83,8 @@ fn take_and_save<S: Store>(
 ) -> Result<Outcome, ToolFault>
     ensures takes { TakesAndSaves (standing_of S.is_honest S.landed desk.old) apdu.now result
         (standing_of S.is_honest S.landed desk.new) }
-    ensures counted { HasCounted result (S.failures desk.new.store) }
+    ensures counted { CountsToolFailure result (S.failures desk.old.store)
+        (S.failures desk.new.store) }
 {
     match desk.take(alloc, apdu) {
         Ok(Taking::Taken) => match desk.save(alloc) {

@@ -1,5 +1,8 @@
 //! One command line, from its words to its exit status.
 
+ghost use Rattle.std.specs.Prelude.{◌≡◌};
+ghost use Rattle.ill_tool.specs.ExitStatus.{desk_status, exit_status, status_of};
+
 use crate::check::run_check;
 use crate::command_line::{Request, read_words};
 use crate::fault::ToolFault;
@@ -114,7 +117,9 @@ const BAD: u8 = 2;
 const FAILED: u8 = 3;
 
 /// Writes the line of a fault, if there is one, and answers the exit status.
-fn finish<E: Write>(outcome: Result<bool, ToolFault>, errors: &mut E) -> u8 {
+fn finish<E: Write>(outcome: Result<bool, ToolFault>, errors: &mut E) -> u8
+    ensures { result ≡ exit_status outcome }
+{
     match outcome {
         Ok(true) => 0,
         Ok(false) => REFUSED,
@@ -138,7 +143,9 @@ fn write_fault<E: Write>(fault: ToolFault, errors: &mut E) {
 }
 
 /// The exit status after a fault.
-fn status_after(fault: ToolFault) -> u8 {
+fn status_after(fault: ToolFault) -> u8
+    ensures { result ≡ status_of fault }
+{
     match fault {
         ToolFault::Arguments | ToolFault::Der(_) | ToolFault::TooMany | ToolFault::Script(_) => BAD,
         ToolFault::Desk(fault) => status_after_desk(fault),
@@ -147,7 +154,9 @@ fn status_after(fault: ToolFault) -> u8 {
 }
 
 /// The exit status after a fault of a side or its record.
-fn status_after_desk(fault: DeskFault) -> u8 {
+fn status_after_desk(fault: DeskFault) -> u8
+    ensures { result ≡ desk_status fault }
+{
     match fault {
         DeskFault::Core(_)
         | DeskFault::NoSuchMessage

@@ -1,0 +1,38 @@
+-- The exit status of a command: 0 where all went well; 1 where it was refused, or a message was refused or
+-- in conflict; 2 after words, input or a record that are none; 3 where the machine could not do it. Want
+-- of memory is a fault of its own, and stands in no other.
+use Rattle.std.specs.Prelude.{ℕ, Bool, true, false, Result, Ok, Err}
+use Rattle.ill_saved.specs.declared.fault.DeskFault.{DeskFault}
+use Rattle.ill_saved.specs.declared.fault.DeskFault.TheVariants as desks
+use Rattle.ill_tool.specs.declared.fault.ToolFault.{ToolFault}
+use Rattle.ill_tool.specs.declared.fault.ToolFault.TheVariants.{Arguments, Der, TooMany, Script, Desk, Read, Write, OutOfMemory}
+
+-- after a fault of a side or its record
+abbrev pub desk_status : DeskFault → ℕ
+desk_status (desks.Core refusal) = 1
+desk_status desks.NoSuchMessage = 1
+desk_status desks.NotSaved = 1
+desk_status desks.Exists = 1
+desk_status desks.NoRecord = 1
+desk_status (desks.Bytes fault) = 2
+desk_status desks.Trailing = 2
+desk_status (desks.Saved fault) = 2
+desk_status (desks.Store fault) = 3
+desk_status desks.OutOfMemory = 3
+
+-- after a fault
+abbrev pub status_of : ToolFault → ℕ
+status_of Arguments = 2
+status_of (Der fault) = 2
+status_of TooMany = 2
+status_of (Script line) = 2
+status_of (Desk fault) = desk_status fault
+status_of Read = 3
+status_of Write = 3
+status_of OutOfMemory = 3
+
+-- after a command, which has answered whether all went well
+abbrev pub exit_status : Result Bool ToolFault → ℕ
+exit_status (Ok true) = 0
+exit_status (Ok false) = 1
+exit_status (Err fault) = status_of fault

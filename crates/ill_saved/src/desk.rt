@@ -194,7 +194,7 @@ impl<S: Store> Desk1<S> {
     }
 
     /// The store, with what has landed there. The side in memory is let go.
-    pub fn into_store(self) -> S
+    pub fn close(self) -> S
         ensures { result ≡ self.store }
     {
         self.store

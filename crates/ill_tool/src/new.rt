@@ -44,7 +44,7 @@ pub fn run_new<S: Store, W: Write>(
     match Desk1::create(alloc, store, first_side(alloc, role, txn)) {
         Ok(mut desk) => match begin(alloc, &mut desk, writer) {
             Ok(()) => Ok(desk),
-            Err(fault) => Err((fault, desk.into_store())),
+            Err(fault) => Err((fault, desk.close())),
         },
         Err((fault, store)) => Err((fault.into(), store)),
     }

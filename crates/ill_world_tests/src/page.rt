@@ -3,6 +3,9 @@
 use std::alloc::Global;
 use std::fmt::{Debug, Display};
 
+/// What stands before an answer.
+pub const INDENT: &str = "  ";
+
 /// Bytes to which more are added. Where that once fails they are no longer whole, and stay so.
 #[derive(Drop)]
 pub struct Page {
@@ -44,6 +47,15 @@ impl Page {
     pub fn line(&mut self, text: &str) {
         self.text(text);
         self.text("\n");
+    }
+
+    /// Adds the lines of another page, each behind the indent.
+    pub fn push_indented(&mut self, other: &Page) {
+        for line in other.bytes.split_inclusive(|byte| *byte == b'\n') {
+            self.text(INDENT);
+            self.push(line);
+        }
+        self.is_whole = self.is_whole && other.is_whole;
     }
 
     /// Adds what `{}` prints.

@@ -1,6 +1,6 @@
 //! The lines of the input, one after another.
 
-use crate::page::Page;
+use crate::page::{INDENT, Page};
 use crate::performing::{print_script, print_trace};
 use crate::places::{print_readers, print_writers};
 use crate::scripts::push_line;
@@ -60,28 +60,37 @@ impl Session {
         }
     }
 
+    /// Prints the line and its answers, unless it is an answer itself.
     fn understood(&mut self, line: &str) -> Option<()> {
+        if line.starts_with(INDENT) {
+            return Some(());
+        }
+        self.page.line(line);
+        let mut answers = Page::new(self.alloc);
+        let understood = self.perform(&mut answers, line);
+        self.page.push_indented(&answers);
+        understood
+    }
+
+    fn perform(&mut self, answers: &mut Page, line: &str) -> Option<()> {
         if line == "end" {
-            return self.end();
+            return self.end(answers);
         }
         match &mut self.block {
-            Block::Outside => {
-                self.page.line(line);
-                self.begin(line)
-            }
-            Block::Each => print_alone(self.alloc, &mut self.page, line),
+            Block::Outside => self.begin(answers, line),
+            Block::Each => print_alone(self.alloc, answers, line),
             Block::Script(_, script) => push_line(script, line),
         }
     }
 
     /// Begins a block, or does what the line says.
-    fn begin(&mut self, line: &str) -> Option<()> {
+    fn begin(&mut self, answers: &mut Page, line: &str) -> Option<()> {
         let (word, name) = line.split_once(' ').unwrap_or((line, ""));
         match word {
             "" | "#" => return Some(()),
-            "steps" => return print_steps(self.alloc, &mut self.page, name),
-            "run" => return print_run(self.alloc, &mut self.page, name),
-            "ending" => return print_ending(self.alloc, &mut self.page, name),
+            "steps" => return print_steps(self.alloc, answers, name),
+            "run" => return print_run(self.alloc, answers, name),
+            "ending" => return print_ending(self.alloc, answers, name),
             "each" => self.block = Block::Each,
             _ => self.block = Block::Script(call_of(word)?, Vec::new(self.alloc)),
         }
@@ -89,12 +98,12 @@ impl Session {
     }
 
     /// Ends a block, and performs its script.
-    fn end(&mut self) -> Option<()> {
+    fn end(&mut self, answers: &mut Page) -> Option<()> {
         let block = std::mem::replace(&mut self.block, Block::Outside);
         match block {
             Block::Outside => None,
             Block::Each => Some(()),
-            Block::Script(call, script) => print_called(self.alloc, &mut self.page, call, &script),
+            Block::Script(call, script) => print_called(self.alloc, answers, call, &script),
         }
     }
 }
@@ -123,7 +132,6 @@ fn print_alone(alloc: Global, page: &mut Page, line: &str) -> Option<()> {
     let mut script = Vec::new(alloc);
     push_line(&mut script, line)?;
     print_trace(alloc, page, &script, End::Stops)?;
-    page.text(": ");
-    page.line(line);
+    page.text("\n");
     Some(())
 }

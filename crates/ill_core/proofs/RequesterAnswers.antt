@@ -90,9 +90,9 @@ no_once x n is here undeclined once =
     }
 
 -- an answer to the conditions that are held
-pub reply_once : (x : RequesterRecord) (answer : Bool) (n : ℕ) → x.held ≡ Some n → is_among (Conditional ∷ []) x.state ≡ true → has declines x.issued ≡ false → AnswersOnce x
-    → AnswersOnce (requester_of x.txn (if answer then Pending else Conditional) (if answer then None else x.held) x.checked_in x.due
-    (with_next x.txn x.issued (types.ConditionalReply n answer)))
+pub reply_once : (x : RequesterRecord) (is_yes : Bool) (n : ℕ) → x.held ≡ Some n → is_among (Conditional ∷ []) x.state ≡ true → has declines x.issued ≡ false → AnswersOnce x
+    → AnswersOnce (requester_of x.txn (if is_yes then Pending else Conditional) (if is_yes then None else x.held) x.checked_in x.due
+    (with_next x.txn x.issued (types.ConditionalReply n is_yes)))
 reply_once x true = yes_once x
 reply_once x false = no_once x
 

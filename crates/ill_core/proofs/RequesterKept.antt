@@ -52,9 +52,9 @@ kept x body state held h fits =
       };
     }
 
-reply_fits : (txn : Qualifiers) (held : Option ℕ) (checked_in : Bool) (due : Option Date) (issued : List Apdu) (answer : Bool)
+reply_fits : (txn : Qualifiers) (held : Option ℕ) (checked_in : Bool) (due : Option Date) (issued : List Apdu) (is_yes : Bool)
     → IsRequester (requester_of txn Conditional held checked_in due issued) → has declines issued ≡ false
-    → (let x : RequesterRecord = requester_of txn Conditional held checked_in due issued in FitsWith (answer_held x answer).next (answer_held x answer).held x (answer_held x answer).body)
+    → (let x : RequesterRecord = requester_of txn Conditional held checked_in due issued in FitsWith (answer_held x is_yes).next (answer_held x is_yes).held x (answer_held x is_yes).body)
 reply_fits txn held checked_in due issued true h undeclined = search rules
 reply_fits txn held checked_in due issued false h undeclined = search rules
 
@@ -73,10 +73,10 @@ pub fits : (txn : Qualifiers) (state : State) (held : Option ℕ) (checked_in : 
     → IsRequester (requester_of txn state held checked_in due issued) → row_of (requester_of txn state held checked_in due issued) wish ≡ Ok row
     → FitsWith row.next row.held (requester_of txn state held checked_in due issued) row.body
 fits txn Idle held checked_in due issued (wishes.Request expiry item) row h leads = search rules
-fits txn Conditional held checked_in due issued (wishes.Reply answer) row h leads =
+fits txn Conditional held checked_in due issued (wishes.Reply is_yes) row h leads =
     let x : RequesterRecord = requester_of txn Conditional held checked_in due issued in
     at_line (λ r. FitsWith r.next r.held x r.body) (not (has declines issued)) _ _ row
-    (λ undeclined. is_this (λ r. FitsWith r.next r.held x r.body) _ row (reply_fits txn held checked_in due issued answer h (not_true _ undeclined)))
+    (λ undeclined. is_this (λ r. FitsWith r.next r.held x r.body) _ row (reply_fits txn held checked_in due issued is_yes h (not_true _ undeclined)))
     (no_more (λ r. FitsWith r.next r.held x r.body) _ row) leads
 fits txn Recall held checked_in due issued wishes.Receive row h leads =
     let x : RequesterRecord = requester_of txn Recall held checked_in due issued in

@@ -42,7 +42,7 @@ acts_shows x new wish fact = of_acts (λ r. Shows r fact → Shows x fact) x new
 
 pub acts_reply : (x new : RequesterRecord) (wish : Wish) → acts x wish ≡ Ok new → Replies x new
 acts_reply x new wish =
-    of_acts (Replies x) x new wish (λ row there how a n answer same is. how.replies n answer (issued_body x.txn x.issued row.body a same ∙ is))
+    of_acts (Replies x) x new wish (λ row there how a n is_yes same is. how.replies n is_yes (issued_body x.txn x.issued row.body a same ∙ is))
 
 pub acts_once : (x new : RequesterRecord) (wish : Wish) → acts x wish ≡ Ok new → is_some x.held ≡ is_among (Conditional ∷ []) x.state → AnswersOnce x → AnswersOnce new
 acts_once x new wish = of_acts (λ r. is_some x.held ≡ is_among (Conditional ∷ []) x.state → AnswersOnce x → AnswersOnce r) x new wish (λ row there how. how.once)

@@ -100,12 +100,12 @@ end_row x k body told =
     line x k _ (is_among (NotSupplied ∷ []) x.state) _ _ (λ _. left x k _ _) (λ _.
     line x k _ (is_among (Pending ∷ Conditional ∷ CancelPending ∷ []) x.state) _ _ (ended x k body told) (λ _. left x k _ _))
 
-cancel_reply_row : (x : RequesterRecord) (k c : ℕ) (answer : Bool)
-    → (is_among (CancelPending ∷ []) x.state && is_the c (last_cancel x) ≡ true → Moves x k (types.CancelReply c answer) (taken (record x { state = (if answer then Cancelled else Pending) })))
-    → Moves x k (types.CancelReply c answer) (take_cancel_reply x c answer)
-cancel_reply_row x k c answer decided =
+cancel_reply_row : (x : RequesterRecord) (k c : ℕ) (is_yes : Bool)
+    → (is_among (CancelPending ∷ []) x.state && is_the c (last_cancel x) ≡ true → Moves x k (types.CancelReply c is_yes) (taken (record x { state = (if is_yes then Cancelled else Pending) })))
+    → Moves x k (types.CancelReply c is_yes) (take_cancel_reply x c is_yes)
+cancel_reply_row x k c is_yes decided =
     line x k _ (is_among (CancelPending ∷ []) x.state && is_the c (last_cancel x)) _ _ decided (λ _.
-    line x k _ (is_among (Cancelled ∷ []) x.state && (answer && is_the c (last_cancel x))) _ _ (λ _. left x k _ _) (λ _.
+    line x k _ (is_among (Cancelled ∷ []) x.state && (is_yes && is_the c (last_cancel x))) _ _ (λ _. left x k _ _) (λ _.
     line x k _ (was is_cancel x.issued c) _ _ (λ _. left x k _ _) (λ _. left x k _ _)))
 
 renew_answer_row : (x : RequesterRecord) (k c : ℕ) (granted : Option Date)
@@ -162,7 +162,7 @@ pub record Issues (x : RequesterRecord) (row : Row) : Type 0 where
   pub final : is_among (Cancelled ∷ NotSupplied ∷ Returned ∷ []) x.state ≡ true → row.next ≡ x.state
   pub stays : is_among later x.state ≡ true → is_among later row.next ≡ true
   pub shows : (fact : Fact) → Shows (record_after x row) fact → Shows x fact
-  pub replies : (n : ℕ) (answer : Bool) → row.body ≡ types.ConditionalReply n answer
+  pub replies : (n : ℕ) (is_yes : Bool) → row.body ≡ types.ConditionalReply n is_yes
       → (is_among (Conditional ∷ []) x.state ≡ true) × (has declines x.issued ≡ false) × (n ≡ unwrap_or x.held 0)
   pub once : is_some x.held ≡ is_among (Conditional ∷ []) x.state → AnswersOnce x → AnswersOnce (record_after x row)
 
@@ -175,8 +175,8 @@ goes_on x row away refused (facts.Granted due) shown = shown
 goes_on x row away refused (facts.Refused cancel) shown = refused cancel shown
 goes_on x row away refused facts.GivenBack shown = shown
 
-no_reply : {P : Type 0} (body : Body) (n : ℕ) (answer : Bool) → replied_number body ≡ None → body ≡ types.ConditionalReply n answer → P
-no_reply body n answer silent is = search rules
+no_reply : {P : Type 0} (body : Body) (n : ℕ) (is_yes : Bool) → replied_number body ≡ None → body ≡ types.ConditionalReply n is_yes → P
+no_reply body n is_yes silent is = search rules
 
 -- a row that answers no conditions
 silent_row : (x : RequesterRecord) (next : State) (body : Body) → replied_number body ≡ None → accepts body ≡ None → declines body ≡ false
@@ -189,7 +189,7 @@ silent_row x next body silent accepts_none declines_not held_no_more on settled_
       final = λ is. not_both _ settled_not is;
       stays = stays;
       shows = goes_on x (record { next = next; body = body; held = x.held }) on refused;
-      replies = λ n answer is. no_reply body n answer silent is;
+      replies = λ n is_yes is. no_reply body n is_yes silent is;
       once = λ held once. silent_once x body next x.held silent accepts_none declines_not held_no_more once;
     }
 
@@ -210,18 +210,18 @@ cancel_refused_before x c is shown =
       search (rules, is),
     )
 
-answer_goes_on : (answer : Bool) → is_among (Cancelled ∷ NotSupplied ∷ []) (if answer then Pending else Conditional) ≡ false
+answer_goes_on : (is_yes : Bool) → is_among (Cancelled ∷ NotSupplied ∷ []) (if is_yes then Pending else Conditional) ≡ false
 answer_goes_on true = refl
 answer_goes_on false = refl
 
-answers_held : (x : RequesterRecord) (answer : Bool) → is_among (Conditional ∷ []) x.state ≡ true → has declines x.issued ≡ false → Issues x (answer_held x answer)
-answers_held x answer here undeclined =
+answers_held : (x : RequesterRecord) (is_yes : Bool) → is_among (Conditional ∷ []) x.state ≡ true → has declines x.issued ≡ false → Issues x (answer_held x is_yes)
+answers_held x is_yes here undeclined =
     record {
       final = λ is. search rules;
       stays = λ is. search rules;
-      shows = goes_on x (answer_held x answer) (answer_goes_on answer) (λ c shown. (still_cancel x.issued _ c refl shown.0, search (rules, here), search (rules, here)));
-      replies = λ n answer is. (here, undeclined, search rules);
-      once = λ held once. reply_once x answer (unwrap_or x.held 0) (held_number x.held (held ∙ here)) here undeclined once;
+      shows = goes_on x (answer_held x is_yes) (answer_goes_on is_yes) (λ c shown. (still_cancel x.issued _ c refl shown.0, search (rules, here), search (rules, here)));
+      replies = λ n is_yes is. (here, undeclined, search rules);
+      once = λ held once. reply_once x is_yes (unwrap_or x.held 0) (held_number x.held (held ∙ here)) here undeclined once;
     }
 
 undeclined_there : (conditional declined : Bool) → conditional && not (conditional && declined) ≡ true → (conditional ≡ true) × (declined ≡ false)
@@ -236,10 +236,10 @@ wish_row x (wishes.Request expiry item) row =
 wish_row x wishes.Cancel row =
     at_line (Issues x) (is_among (Pending ∷ []) x.state) _ _ row (λ is. is_this (Issues x) _ row
     (silent_row x CancelPending types.Cancel refl refl refl refl refl (search (rules, is)) (search (rules, is)) (λ c. cancel_refused_before x c is))) (no_more (Issues x) _ row)
-wish_row x (wishes.Reply answer) row =
+wish_row x (wishes.Reply is_yes) row =
     at_line (Issues x) (is_among (Conditional ∷ []) x.state && not (is_declined x)) _ _ row (λ is.
     let there = undeclined_there (is_among (Conditional ∷ []) x.state) (has declines x.issued) is in
-    is_this (Issues x) _ row (answers_held x answer there.0 there.1)) (no_more (Issues x) _ row)
+    is_this (Issues x) _ row (answers_held x is_yes there.0 there.1)) (no_more (Issues x) _ row)
 wish_row x wishes.Receive row =
     at_line (Issues x) (is_among (Shipped ∷ []) x.state) _ _ row (λ is. is_this (Issues x) _ row (loan_row x Received types.Received refl refl refl (search (rules, is)) refl)) (
     at_line (Issues x) (is_among (NotReceivedOverdue ∷ []) x.state) _ _ row (λ is. is_this (Issues x) _ row (loan_row x Overdue types.Received refl refl refl (search (rules, is)) refl)) (

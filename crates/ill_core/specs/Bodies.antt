@@ -83,7 +83,7 @@ accepts other = None
 -- the types that a requester issues; a responder issues the others
 abbrev pub is_requesters : Body → Bool
 is_requesters (IllRequest expiry item) = true
-is_requesters (ConditionalReply answers accepts) = true
+is_requesters (ConditionalReply answers is_yes) = true
 is_requesters Cancel = true
 is_requesters Received = true
 is_requesters (Renew wished) = true

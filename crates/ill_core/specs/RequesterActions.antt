@@ -36,16 +36,16 @@ cancel_row x =
 
 -- the answer to the conditions held; none are held once they are accepted
 abbrev pub answer_held : RequesterRecord → Bool → Row
-answer_held x answer =
+answer_held x is_yes =
     record {
-      next = if answer then Pending else Conditional;
-      body = types.ConditionalReply (unwrap_or x.held 0) answer;
-      held = if answer then None else x.held;
+      next = if is_yes then Pending else Conditional;
+      body = types.ConditionalReply (unwrap_or x.held 0) is_yes;
+      held = if is_yes then None else x.held;
     }
 
 abbrev pub reply_row : RequesterRecord → Bool → Result Row Refusal
-reply_row x answer =
-    if is_among (Conditional ∷ []) x.state && not (is_declined x) then Ok (answer_held x answer)
+reply_row x is_yes =
+    if is_among (Conditional ∷ []) x.state && not (is_declined x) then Ok (answer_held x is_yes)
     else not_now x
 
 abbrev pub receive_row : RequesterRecord → Result Row Refusal
@@ -74,7 +74,7 @@ return_row x =
 abbrev pub row_of : RequesterRecord → Wish → Result Row Refusal
 row_of x (wishes.Request expiry item) = request_row x expiry item
 row_of x wishes.Cancel = cancel_row x
-row_of x (wishes.Reply answer) = reply_row x answer
+row_of x (wishes.Reply is_yes) = reply_row x is_yes
 row_of x wishes.Receive = receive_row x
 row_of x (wishes.Renew wished) = renew_row x wished
 row_of x wishes.Return = return_row x

@@ -37,10 +37,10 @@ take_end x =
     else conflict x.state x
 
 abbrev pub take_cancel_reply : RequesterRecord → ℕ → Bool → Result Taking Refusal × RequesterRecord
-take_cancel_reply x c answer =
+take_cancel_reply x c is_yes =
     if is_among (CancelPending ∷ []) x.state && is_the c (last_cancel x)
-    then taken (record x { state = (if answer then Cancelled else Pending) })
-    else if is_among (Cancelled ∷ []) x.state && (answer && is_the c (last_cancel x))
+    then taken (record x { state = (if is_yes then Cancelled else Pending) })
+    else if is_among (Cancelled ∷ []) x.state && (is_yes && is_the c (last_cancel x))
     then repeat x
     else if was is_cancel x.issued c then stale x
     else conflict x.state x
@@ -103,7 +103,7 @@ take_answer x k other = take_end x
 abbrev pub take_message : RequesterRecord → Apdu → Body → Result Taking Refusal × RequesterRecord
 take_message x a (types.IllAnswer answer) = take_answer x a.number answer
 take_message x a types.Expired = take_end x
-take_message x a (types.CancelReply c answer) = take_cancel_reply x c answer
+take_message x a (types.CancelReply c is_yes) = take_cancel_reply x c is_yes
 take_message x a (types.Shipped d) = take_shipped x d
 take_message x a (types.Overdue d) = take_overdue x d
 take_message x a (types.RenewAnswer c granted) = take_renew_answer x c granted

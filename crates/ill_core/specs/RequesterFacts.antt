@@ -86,8 +86,8 @@ Holds x k new =
 -- were not declined.
 abbrev pub Replies : RequesterRecord → RequesterRecord → Type 0
 Replies x new =
-    (a : Apdu) (n : ℕ) (answer : Bool) → new.issued ≡ x.issued ++ a ∷ [] →
-    a.body ≡ types.ConditionalReply n answer
+    (a : Apdu) (n : ℕ) (is_yes : Bool) → new.issued ≡ x.issued ++ a ∷ [] →
+    a.body ≡ types.ConditionalReply n is_yes
     → (is_among (states.Conditional ∷ []) x.state ≡ true) × (has declines x.issued ≡ false)
     × (n ≡ unwrap_or x.held 0)
 
@@ -98,7 +98,7 @@ LeadsTo states answer =
 
 -- the number of the conditions that a Conditional-Reply answers
 abbrev pub replied_number : Body → Option ℕ
-replied_number (types.ConditionalReply answers accepts) = Some answers
+replied_number (types.ConditionalReply answers is_yes) = Some answers
 replied_number other = None
 
 -- the numbers of the conditions that were answered, in the order of the answers

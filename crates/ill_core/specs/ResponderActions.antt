@@ -47,10 +47,10 @@ answer_row y answer =
 
 -- the number of the last Cancel taken, which is there while that waits; and so with the last Renew
 abbrev pub cancel_reply_row : ResponderRecord → Bool → Result Row Refusal
-cancel_reply_row y answer =
+cancel_reply_row y is_yes =
     if is_among (CancelPending ∷ []) y.state
-    then leads_to (if answer then Cancelled else InProcess)
-    (types.CancelReply (unwrap_or y.last_cancel 0) answer)
+    then leads_to (if is_yes then Cancelled else InProcess)
+    (types.CancelReply (unwrap_or y.last_cancel 0) is_yes)
     else not_now y
 
 abbrev pub ship_row : ResponderRecord → Date → Date → Result Row Refusal
@@ -117,7 +117,7 @@ expire_row y today =
 -- the row of a deed, or why it has no place now, or which date forbids it
 abbrev pub row_of : ResponderRecord → Deed → Date → Result Row Refusal
 row_of y (deeds.Answer answer) today = answer_row y answer
-row_of y (deeds.CancelReply answer) today = cancel_reply_row y answer
+row_of y (deeds.CancelReply is_yes) today = cancel_reply_row y is_yes
 row_of y (deeds.Ship due) today = ship_row y due today
 row_of y (deeds.RenewAnswer granted) today = renew_answer_row y granted
 row_of y deeds.Overdue today = overdue_row y today

@@ -104,7 +104,7 @@ asks MayRenew body = is_renew body
 
 -- the number of the question that an APDU answers
 abbrev pub answered_number : Question → Body → Option ℕ
-answered_number MayCancel (types.CancelReply c accepts) = Some c
+answered_number MayCancel (types.CancelReply c is_yes) = Some c
 answered_number MayRenew (types.RenewAnswer c granted) = Some c
 answered_number question other = None
 

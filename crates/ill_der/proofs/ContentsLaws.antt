@@ -28,8 +28,8 @@ pub record Values : Type 0 where
 abbrev pub IsAnyResult : AnswerResult → Type 0
 IsAnyResult v = Unit {0}
 
-abbrev pub IsAnyAnswer : Bool → Type 0
-IsAnyAnswer v = Unit {0}
+abbrev pub IsYesOrNo : Bool → Type 0
+IsYesOrNo v = Unit {0}
 
 -- the first of a list is found, or one behind it
 found_first : {A : Type 0} (b : Bool) (a : A) (o : Option A) (x : A) → cond b (Some a) o ≡ Some x → ((b ≡ true) × (a ≡ x)) ⊎ (o ≡ Some x)
@@ -165,20 +165,20 @@ result_is = record { takes = result_takes; again = result_again; bound = λ v p.
 
 -- ---- yes and no
 
-yes_no_takes : (bytes : List ℕ) (v : Bool) → IsBytes bytes → yes_no_from bytes ≡ Some v → (bytes ≡ yes_no.spell v) × IsAnyAnswer v
+yes_no_takes : (bytes : List ℕ) (v : Bool) → IsBytes bytes → yes_no_from bytes ≡ Some v → (bytes ≡ yes_no.spell v) × IsYesOrNo v
 yes_no_takes [] v fits e = absurd cc
 yes_no_takes (octet ∷ []) v fits e =
     elim (chosen (eqb octet 0) (Some false) (cond (eqb octet 0xFF) (Some true) None) (Some v) e) [
-      | inl h ↦ subst (λ (x : Bool). (octet ∷ [] ≡ yes_no.spell x) × IsAnyAnswer x) (same_Some false v h.1) (ap (λ (x : ℕ). x ∷ []) (eqb-true octet 0 h.0), tt)
+      | inl h ↦ subst (λ (x : Bool). (octet ∷ [] ≡ yes_no.spell x) × IsYesOrNo x) (same_Some false v h.1) (ap (λ (x : ℕ). x ∷ []) (eqb-true octet 0 h.0), tt)
       | inr h ↦
           let is = cond_some (eqb octet 0xFF) true v h.1 in
-          subst (λ (x : Bool). (octet ∷ [] ≡ yes_no.spell x) × IsAnyAnswer x) is.1 (ap (λ (x : ℕ). x ∷ []) (eqb-true octet 0xFF is.0), tt)
+          subst (λ (x : Bool). (octet ∷ [] ≡ yes_no.spell x) × IsYesOrNo x) is.1 (ap (λ (x : ℕ). x ∷ []) (eqb-true octet 0xFF is.0), tt)
     ]
 yes_no_takes (octet ∷ more ∷ rest) v fits e = absurd cc
 
-yes_no_again : (v : Bool) → IsAnyAnswer v → yes_no_from (yes_no.spell v) ≡ Some v
+yes_no_again : (v : Bool) → IsYesOrNo v → yes_no_from (yes_no.spell v) ≡ Some v
 yes_no_again true p = refl
 yes_no_again false p = refl
 
-pub yes_no_is : IsContents IsAnyAnswer 1 yes_no
+pub yes_no_is : IsContents IsYesOrNo 1 yes_no
 yes_no_is = record { takes = yes_no_takes; again = yes_no_again; bound = λ v p. omega arith }

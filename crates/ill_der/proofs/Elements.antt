@@ -6,7 +6,7 @@ use Rattle.ill_der.specs.declared.fault.DerFault.{DerFault}
 use Rattle.ill_der.specs.declared.fault.DerFault.TheVariants.{Tag, Length}
 use Rattle.ill_der.specs.declared.length.LengthForm.{LengthForm}
 use Rattle.ill_der.specs.declared.length.LengthForm.TheVariants.{Truncated, Invalid, Definite}
-use Rattle.ill_der.specs.Format.{length_octets, length_of, element, Left, left_at, contents_by, stands_at, element_at, ended}
+use Rattle.ill_der.specs.Format.{length_octets, length_of, element, Cursor, cursor_at, contents_by, begins_with, element_at, ended}
 use Rattle.ill_der.proofs.Chains.{passed, went_on, chosen, ok_is, no_value, IsInside, tag_inside, length_inside}
 use Rattle.ill_der.specs.Laws.{IsBytes}
 use Rattle.ill_der.proofs.Bytes.{IsBytes-drop, IsBytes-take}
@@ -14,9 +14,9 @@ use Rattle.ill_der.proofs.Lengths.{length_again, length_takes, overhead, few_oct
 
 -- ---- what is read is spelled so
 
-stands_true : (identifier : ℕ) (bytes : List ℕ) → stands_at identifier bytes ≡ true → bytes ≡ identifier ∷ drop 1 bytes
-stands_true identifier [] e = absurd cc
-stands_true identifier (first ∷ rest) e = ap (λ (x : ℕ). x ∷ rest) (eqb-true first identifier e)
+begins_true : (identifier : ℕ) (bytes : List ℕ) → begins_with identifier bytes ≡ true → bytes ≡ identifier ∷ drop 1 bytes
+begins_true identifier [] e = absurd cc
+begins_true identifier (first ∷ rest) e = ap (λ (x : ℕ). x ∷ rest) (eqb-true first identifier e)
 
 -- what was taken of the bytes behind an identifier
 record TakesContents (bytes inside rest : List ℕ) : Type 0 where
@@ -27,12 +27,12 @@ record TakesContents (bytes inside rest : List ℕ) : Type 0 where
   inside-is : take n (drop octets bytes) ≡ inside
   rest-is : drop (octets + n) bytes ≡ rest
 
-contents_found : (form : LengthForm) (left inside rest : Left) → length_of left.bytes ≡ form → contents_by form left ≡ Ok (inside, rest) → TakesContents left.bytes inside.bytes rest.bytes
+contents_found : (form : LengthForm) (left inside rest : Cursor) → length_of left.bytes ≡ form → contents_by form left ≡ Ok (inside, rest) → TakesContents left.bytes inside.bytes rest.bytes
 contents_found Truncated left inside rest f e = absurd cc
 contents_found Invalid left inside rest f e = absurd cc
 contents_found (Definite n octets) left inside rest f e =
-    let part : Left = left_at (left.at + octets) (take n (drop octets left.bytes)) in
-    let behind : Left = left_at (left.at + (octets + n)) (drop (octets + n) left.bytes) in
+    let part : Cursor = cursor_at (left.at + octets) (take n (drop octets left.bytes)) in
+    let behind : Cursor = cursor_at (left.at + (octets + n)) (drop (octets + n) left.bytes) in
     let there = went_on (ltb (length left.bytes) (octets + n)) (Ok (part, behind)) (Length left.at) (inside, rest) e in
     let both : (part, behind) ≡ (inside, rest) = ok_is (part, behind) (inside, rest) there.1 in
     record {
@@ -40,8 +40,8 @@ contents_found (Definite n octets) left inside rest f e =
       octets = octets;
       form = f;
       enough = ltb-false (length left.bytes) (octets + n) there.0;
-      inside-is = ap (λ (p : Left × Left). p.0.bytes) both;
-      rest-is = ap (λ (p : Left × Left). p.1.bytes) both;
+      inside-is = ap (λ (p : Cursor × Cursor). p.0.bytes) both;
+      rest-is = ap (λ (p : Cursor × Cursor). p.1.bytes) both;
     }
 
 -- what an element takes from the front
@@ -57,13 +57,13 @@ assembled identifier n octets bytes behind inside rest first second third size =
     first ∙ ap (λ (x : List ℕ). identifier ∷ x) (second ∙ ap (λ (x : List ℕ). length_octets n ++ x) third
     ∙ sym (append_assoc (length_octets n) inside rest) ∙ ap (λ (k : ℕ). (length_octets k ++ inside) ++ rest) (sym size))
 
-pub element_takes : (identifier : ℕ) (left inside rest : Left) → IsBytes left.bytes → element_at identifier left ≡ Ok (inside, rest) → TakesElement identifier left.bytes inside.bytes rest.bytes
+pub element_takes : (identifier : ℕ) (left inside rest : Cursor) → IsBytes left.bytes → element_at identifier left ≡ Ok (inside, rest) → TakesElement identifier left.bytes inside.bytes rest.bytes
 unfolding element_at
 element_takes identifier left inside rest fits e =
     let behind = drop 1 left.bytes in
-    let stands = passed (stands_at identifier left.bytes) (contents_by (length_of behind) (left_at (left.at + 1) behind)) (Tag left.at) (inside, rest) e in
+    let begins = passed (begins_with identifier left.bytes) (contents_by (length_of behind) (cursor_at (left.at + 1) behind)) (Tag left.at) (inside, rest) e in
     let fits1 = IsBytes-drop 1 left.bytes fits in
-    let found = contents_found (length_of behind) (left_at (left.at + 1) behind) inside rest refl stands.1 in
+    let found = contents_found (length_of behind) (cursor_at (left.at + 1) behind) inside rest refl begins.1 in
     let spelled = length_takes behind found.n found.octets fits1 found.form in
     let taken = drop found.octets behind in
     let size : length inside.bytes ≡ found.n = ap length (sym found.inside-is) ∙ omega (arith, length-take found.n taken, length-drop found.octets behind, found.enough) in
@@ -71,7 +71,7 @@ element_takes identifier left inside rest fits e =
     sym (take-append-drop found.n taken) ∙ ap (λ (x : List ℕ). x ++ drop found.n taken) found.inside-is
     ∙ ap (λ (x : List ℕ). inside.bytes ++ x) (drop-drop found.n found.octets behind ∙ found.rest-is) in
     record {
-      parts = assembled identifier found.n found.octets left.bytes behind inside.bytes rest.bytes (stands_true identifier left.bytes stands.0) spelled.0 split size;
+      parts = assembled identifier found.n found.octets left.bytes behind inside.bytes rest.bytes (begins_true identifier left.bytes begins.0) spelled.0 split size;
       inside_fits = subst IsBytes found.inside-is (IsBytes-take found.n taken (IsBytes-drop found.octets behind fits1));
       rest_fits = subst IsBytes found.rest-is (IsBytes-drop (found.octets + found.n) behind fits1);
     }
@@ -79,8 +79,8 @@ element_takes identifier left inside rest fits e =
 -- ---- what is spelled is read again
 
 contents_again : (at : ℕ) (octets contents more : List ℕ)
-    → contents_by (Definite (length contents) (length octets)) (left_at at (octets ++ (contents ++ more)))
-    ≡ Ok (left_at (at + length octets) contents, left_at (at + (length octets + length contents)) more)
+    → contents_by (Definite (length contents) (length octets)) (cursor_at at (octets ++ (contents ++ more)))
+    ≡ Ok (cursor_at (at + length octets) contents, cursor_at (at + (length octets + length contents)) more)
 contents_again at octets contents more =
     let all = octets ++ (contents ++ more) in
     let enough : ltb (length all) (length octets + length contents) ≡ false =
@@ -93,11 +93,11 @@ contents_again at octets contents more =
     rw (enough, inside, behind) refl
 
 -- an element was read, with these contents and this behind it
-abbrev pub ReadsElement : ℕ → Left → List ℕ → List ℕ → Type 0
+abbrev pub ReadsElement : ℕ → Cursor → List ℕ → List ℕ → Type 0
 ReadsElement identifier left contents more =
-    (inside_at : ℕ) × (after : ℕ) × (element_at identifier left ≡ Ok (left_at inside_at contents, left_at after more))
+    (inside_at : ℕ) × (after : ℕ) × (element_at identifier left ≡ Ok (cursor_at inside_at contents, cursor_at after more))
 
-pub element_again : (identifier at : ℕ) (contents more : List ℕ) → length contents < 65536 → ReadsElement identifier (left_at at (element identifier contents ++ more)) contents more
+pub element_again : (identifier at : ℕ) (contents more : List ℕ) → length contents < 65536 → ReadsElement identifier (cursor_at at (element identifier contents ++ more)) contents more
 unfolding element element_at
 element_again identifier at contents more small =
     let octets = length_octets (length contents) in (
@@ -107,9 +107,9 @@ element_again identifier at contents more small =
           (contents_again (at + 1) octets contents more),
     )
 
-pub element_stands : (identifier : ℕ) (contents more : List ℕ) → stands_at identifier (element identifier contents ++ more) ≡ true
+pub element_begins : (identifier : ℕ) (contents more : List ℕ) → begins_with identifier (element identifier contents ++ more) ≡ true
 unfolding element
-element_stands identifier contents more = eq-eqb identifier identifier refl
+element_begins identifier contents more = eq-eqb identifier identifier refl
 
 -- ---- how long an element is
 
@@ -120,32 +120,32 @@ element_bound identifier most contents le =
 
 -- ---- no element is short
 
-contents_faults : (form : LengthForm) (left : Left) (d : DerFault) → contents_by form left ≡ Err d → IsInside d
+contents_faults : (form : LengthForm) (left : Cursor) (d : DerFault) → contents_by form left ≡ Err d → IsInside d
 contents_faults Truncated left d e = length_inside left.at d e
 contents_faults Invalid left d e = length_inside left.at d e
 contents_faults (Definite m octets) left d e =
-    let part : Left = left_at (left.at + octets) (take m (drop octets left.bytes)) in
-    let behind : Left = left_at (left.at + (octets + m)) (drop (octets + m) left.bytes) in
+    let part : Cursor = cursor_at (left.at + octets) (take m (drop octets left.bytes)) in
+    let behind : Cursor = cursor_at (left.at + (octets + m)) (drop (octets + m) left.bytes) in
     elim (chosen (ltb (length left.bytes) (octets + m)) (Err (Length left.at)) (Ok (part, behind)) (Err d) e) [
       | inl h ↦ length_inside left.at d h.1
       | inr h ↦ absurd (no_value d (part, behind) h.1)
     ]
 
-pub element_faults : (identifier : ℕ) (left : Left) (d : DerFault) → element_at identifier left ≡ Err d → IsInside d
+pub element_faults : (identifier : ℕ) (left : Cursor) (d : DerFault) → element_at identifier left ≡ Err d → IsInside d
 unfolding element_at
 element_faults identifier left d e =
     let behind = drop 1 left.bytes in
-    elim (chosen (stands_at identifier left.bytes) (contents_by (length_of behind) (left_at (left.at + 1) behind)) (Err (Tag left.at)) (Err d) e) [
-      | inl h ↦ contents_faults (length_of behind) (left_at (left.at + 1) behind) d h.1
+    elim (chosen (begins_with identifier left.bytes) (contents_by (length_of behind) (cursor_at (left.at + 1) behind)) (Err (Tag left.at)) (Err d) e) [
+      | inl h ↦ contents_faults (length_of behind) (cursor_at (left.at + 1) behind) d h.1
       | inr h ↦ tag_inside left.at d h.1
     ]
 
-pub ended_faults : (left : Left) (d : DerFault) → ended left ≡ Err d → IsInside d
+pub ended_faults : (left : Cursor) (d : DerFault) → ended left ≡ Err d → IsInside d
 ended_faults left d e =
     elim (chosen (eqb (length left.bytes) 0) (Ok tt) (Err (Tag left.at)) (Err d) e) [
       | inl h ↦ absurd (no_value d tt h.1)
       | inr h ↦ tag_inside left.at d h.1
     ]
 
-pub ended_is : (left : Left) (x : Unit {0}) → ended left ≡ Ok x → left.bytes ≡ []
+pub ended_is : (left : Cursor) (x : Unit {0}) → ended left ≡ Ok x → left.bytes ≡ []
 ended_is left x e = nil_from_length left.bytes (eqb-true (length left.bytes) 0 (passed (eqb (length left.bytes) 0) (Ok tt) (Tag left.at) x e).0)

@@ -6,11 +6,11 @@ use Rattle.std.specs.Prelude.{IfSome}
 use Rattle.std.proofs.lemmas.List.{append-nil, length-append}
 use Rattle.ill_der.specs.declared.fault.DerFault.{DerFault}
 use Rattle.ill_der.specs.Contents.{Contents}
-use Rattle.ill_der.specs.Format.{◌>>=◌, element, Left, left_at, element_at, stands_at, ended, Format, value_of, required, optional, followed_by, where_yes, constructed}
+use Rattle.ill_der.specs.Format.{◌>>=◌, element, Cursor, cursor_at, element_at, begins_with, ended, Format, value_of, required, optional, followed_by, where_yes, constructed}
 use Rattle.ill_der.proofs.Chains.{bind_ok, bind_err, chosen, ok_is, no_value, IsInside, field_inside}
 use Rattle.ill_der.specs.Laws.{IsBytes}
 use Rattle.ill_der.proofs.Lengths.{overhead}
-use Rattle.ill_der.proofs.Elements.{element_takes, element_again, element_bound, element_stands, element_faults, ended_faults, ended_is}
+use Rattle.ill_der.proofs.Elements.{element_takes, element_again, element_bound, element_begins, element_faults, ended_faults, ended_is}
 
 -- ---- contents
 
@@ -27,13 +27,13 @@ Takes f P bytes v rest = (bytes ≡ f.spell v ++ rest) × P v × IsBytes rest
 
 -- a spelled value was read again, from whatever place
 abbrev pub ReadsAgain : {V : Type 0} → Format V → V → ℕ → List ℕ → Type 0
-ReadsAgain f v at more = (after : ℕ) × (f.read (left_at at (f.spell v ++ more)) ≡ Ok (v, left_at after more))
+ReadsAgain f v at more = (after : ℕ) × (f.read (cursor_at at (f.spell v ++ more)) ≡ Ok (v, cursor_at after more))
 
 pub record IsFormat {V : Type 0} (P : V → Type 0) (Follows : List ℕ → Type 0) (most : ℕ) (f : Format V) : Type 0 where
-  pub takes : (left : Left) (v : V) (rest : Left) → IsBytes left.bytes → f.read left ≡ Ok (v, rest) → Takes f P left.bytes v rest.bytes
+  pub takes : (left : Cursor) (v : V) (rest : Cursor) → IsBytes left.bytes → f.read left ≡ Ok (v, rest) → Takes f P left.bytes v rest.bytes
   pub again : (v : V) (at : ℕ) (more : List ℕ) → P v → Follows more → ReadsAgain f v at more
   pub bound : (v : V) → P v → length (f.spell v) ≤ most
-  pub faults : (left : Left) (d : DerFault) → f.read left ≡ Err d → IsInside d
+  pub faults : (left : Cursor) (d : DerFault) → f.read left ≡ Err d → IsInside d
 
 abbrev pub Any : List ℕ → Type 0
 Any more = Unit {0}
@@ -49,7 +49,7 @@ value_faults (Some x) at d e = absurd (no_value d x e)
 value_faults None at d e = field_inside at d e
 
 required_takes : {V : Type 0} (P : V → Type 0) (most : ℕ) (kind : Contents V) (identifier : ℕ) → IsContents P most kind
-    → (left : Left) (v : V) (rest : Left) → IsBytes left.bytes → (required identifier kind).read left ≡ Ok (v, rest) → Takes (required identifier kind) P left.bytes v rest.bytes
+    → (left : Cursor) (v : V) (rest : Cursor) → IsBytes left.bytes → (required identifier kind).read left ≡ Ok (v, rest) → Takes (required identifier kind) P left.bytes v rest.bytes
 required_takes {V} P most kind identifier is left v rest fits e =
     let part = bind_ok (element_at identifier left) (λ part. value_of (kind.read part.0.bytes) part.0.at >>= λ value. Ok (value, part.1)) (v, rest) e in
     let found = bind_ok (value_of (kind.read part.0.0.bytes) part.0.0.at) (λ value. Ok (value, part.0.1)) (v, rest) part.2 in
@@ -58,7 +58,7 @@ required_takes {V} P most kind identifier is left v rest fits e =
     let value = is.takes part.0.0.bytes found.0 taken.inside_fits (value_found (kind.read part.0.0.bytes) part.0.0.at found.0 found.1) in
     let parts : left.bytes ≡ element identifier (kind.spell found.0) ++ part.0.1.bytes =
     taken.parts ∙ ap (λ (x : List ℕ). element identifier x ++ part.0.1.bytes) value.0 in
-    subst (λ (x : V × Left). Takes (required identifier kind) P left.bytes x.0 x.1.bytes) both (parts, value.1, taken.rest_fits)
+    subst (λ (x : V × Cursor). Takes (required identifier kind) P left.bytes x.0 x.1.bytes) both (parts, value.1, taken.rest_fits)
 
 required_again : {V : Type 0} (P : V → Type 0) (most : ℕ) (kind : Contents V) (identifier : ℕ) → most < 65536 → IsContents P most kind
     → (v : V) (at : ℕ) (more : List ℕ) → P v → ReadsAgain (required identifier kind) v at more
@@ -66,7 +66,7 @@ required_again P most kind identifier small is v at more p =
     let read = element_again identifier at (kind.spell v) more (omega (arith, is.bound v p)) in
     (read.1, rw (read.2, is.again v p) refl)
 
-required_faults : {V : Type 0} (kind : Contents V) (identifier : ℕ) (left : Left) (d : DerFault) → (required identifier kind).read left ≡ Err d → IsInside d
+required_faults : {V : Type 0} (kind : Contents V) (identifier : ℕ) (left : Cursor) (d : DerFault) → (required identifier kind).read left ≡ Err d → IsInside d
 required_faults {V} kind identifier left d e =
     elim (bind_err (element_at identifier left) (λ part. value_of (kind.read part.0.bytes) part.0.at >>= λ value. Ok (value, part.1)) d e) [
       | inl h ↦ element_faults identifier left d h
@@ -88,39 +88,39 @@ required_is P most kind identifier small is = record {
 -- ---- a primitive field that may stand
 
 -- another element stands here, or none
-abbrev pub Stands : Bool → ℕ → List ℕ → Type 0
-Stands b identifier more = stands_at identifier more ≡ b
+abbrev pub Begins : Bool → ℕ → List ℕ → Type 0
+Begins b identifier more = begins_with identifier more ≡ b
 
 optional_takes : {V : Type 0} (P : V → Type 0) (most : ℕ) (kind : Contents V) (identifier : ℕ) → IsContents P most kind
-    → (left : Left) (o : Option V) (rest : Left) → IsBytes left.bytes → (optional identifier kind).read left ≡ Ok (o, rest)
+    → (left : Cursor) (o : Option V) (rest : Cursor) → IsBytes left.bytes → (optional identifier kind).read left ≡ Ok (o, rest)
     → Takes (optional identifier kind) (λ o. IfSome o P) left.bytes o rest.bytes
 optional_takes {V} P most kind identifier is left o rest fits e =
-    elim (chosen (stands_at identifier left.bytes) ((required identifier kind).read left >>= λ field. Ok (Some field.0, field.1)) (Ok (None, left)) (Ok (o, rest)) e) [
+    elim (chosen (begins_with identifier left.bytes) ((required identifier kind).read left >>= λ field. Ok (Some field.0, field.1)) (Ok (None, left)) (Ok (o, rest)) e) [
       | inl h ↦
           let field = bind_ok ((required identifier kind).read left) (λ field. Ok (Some field.0, field.1)) (o, rest) h.1 in
           let both : (Some field.0.0, field.0.1) ≡ (o, rest) = ok_is (Some field.0.0, field.0.1) (o, rest) field.2 in
           let taken = required_takes P most kind identifier is left field.0.0 field.0.1 fits field.1 in
-          subst (λ (x : Option V × Left). Takes (optional identifier kind) (λ o. IfSome o P) left.bytes x.0 x.1.bytes) both taken
+          subst (λ (x : Option V × Cursor). Takes (optional identifier kind) (λ o. IfSome o P) left.bytes x.0 x.1.bytes) both taken
       | inr h ↦
           let both : (None, left) ≡ (o, rest) = ok_is (None, left) (o, rest) h.1 in
-          subst (λ (x : Option V × Left). Takes (optional identifier kind) (λ o. IfSome o P) left.bytes x.0 x.1.bytes) both (refl, tt, fits)
+          subst (λ (x : Option V × Cursor). Takes (optional identifier kind) (λ o. IfSome o P) left.bytes x.0 x.1.bytes) both (refl, tt, fits)
     ]
 
 optional_again : {V : Type 0} (P : V → Type 0) (most : ℕ) (kind : Contents V) (identifier : ℕ) → most < 65536 → IsContents P most kind
-    → (o : Option V) (at : ℕ) (more : List ℕ) → IfSome o P → Stands false identifier more → ReadsAgain (optional identifier kind) o at more
+    → (o : Option V) (at : ℕ) (more : List ℕ) → IfSome o P → Begins false identifier more → ReadsAgain (optional identifier kind) o at more
 optional_again P most kind identifier small is None at more p follows = (at, rw follows refl)
 optional_again P most kind identifier small is (Some v) at more p follows =
     let read = required_again P most kind identifier small is v at more p in
-    (read.0, rw (element_stands identifier (kind.spell v) more, read.1) refl)
+    (read.0, rw (element_begins identifier (kind.spell v) more, read.1) refl)
 
 optional_bound : {V : Type 0} (P : V → Type 0) (most : ℕ) (kind : Contents V) (identifier : ℕ) → IsContents P most kind
     → (o : Option V) → IfSome o P → length ((optional identifier kind).spell o) ≤ overhead most + most
 optional_bound P most kind identifier is None p = omega arith
 optional_bound P most kind identifier is (Some v) p = element_bound identifier most (kind.spell v) (is.bound v p)
 
-optional_faults : {V : Type 0} (kind : Contents V) (identifier : ℕ) (left : Left) (d : DerFault) → (optional identifier kind).read left ≡ Err d → IsInside d
+optional_faults : {V : Type 0} (kind : Contents V) (identifier : ℕ) (left : Cursor) (d : DerFault) → (optional identifier kind).read left ≡ Err d → IsInside d
 optional_faults {V} kind identifier left d e =
-    elim (chosen (stands_at identifier left.bytes) ((required identifier kind).read left >>= λ field. Ok (Some field.0, field.1)) (Ok (None, left)) (Err d) e) [
+    elim (chosen (begins_with identifier left.bytes) ((required identifier kind).read left >>= λ field. Ok (Some field.0, field.1)) (Ok (None, left)) (Err d) e) [
       | inl h ↦ elim (bind_err ((required identifier kind).read left) (λ field. Ok (Some field.0, field.1)) d h.1) [
         | inl g ↦ required_faults kind identifier left d g
         | inr g ↦ absurd (no_value d (Some g.0.0, g.0.1) g.2)
@@ -129,7 +129,7 @@ optional_faults {V} kind identifier left d e =
     ]
 
 pub optional_is : {V : Type 0} (P : V → Type 0) (most : ℕ) (kind : Contents V) (identifier : ℕ) → most < 65536 → IsContents P most kind
-    → IsFormat (λ o. IfSome o P) (Stands false identifier) (overhead most + most) (optional identifier kind)
+    → IsFormat (λ o. IfSome o P) (Begins false identifier) (overhead most + most) (optional identifier kind)
 optional_is P most kind identifier small is = record {
   takes = optional_takes P most kind identifier is;
   again = optional_again P most kind identifier small is;
@@ -143,7 +143,7 @@ abbrev pub Both : {V W : Type 0} → (V → Type 0) → (W → Type 0) → V × 
 Both P Q v = P v.0 × Q v.1
 
 followed_takes : {V W : Type 0} (P : V → Type 0) (Q : W → Type 0) (F G : List ℕ → Type 0) (m n : ℕ) (f : Format V) (g : Format W) → IsFormat P F m f → IsFormat Q G n g
-    → (left : Left) (v : V × W) (rest : Left) → IsBytes left.bytes → (followed_by f g).read left ≡ Ok (v, rest) → Takes (followed_by f g) (Both P Q) left.bytes v rest.bytes
+    → (left : Cursor) (v : V × W) (rest : Cursor) → IsBytes left.bytes → (followed_by f g).read left ≡ Ok (v, rest) → Takes (followed_by f g) (Both P Q) left.bytes v rest.bytes
 followed_takes {V} {W} P Q F G m n f g fs gs left v rest fits e =
     let a = bind_ok (f.read left) (λ a. g.read a.1 >>= λ b. Ok ((a.0, b.0), b.1)) (v, rest) e in
     let b = bind_ok (g.read a.0.1) (λ b. Ok ((a.0.0, b.0), b.1)) (v, rest) a.2 in
@@ -152,7 +152,7 @@ followed_takes {V} {W} P Q F G m n f g fs gs left v rest fits e =
     let second = gs.takes a.0.1 b.0.0 b.0.1 first.2 b.1 in
     let parts : left.bytes ≡ (f.spell a.0.0 ++ g.spell b.0.0) ++ b.0.1.bytes =
     first.0 ∙ ap (λ (x : List ℕ). f.spell a.0.0 ++ x) second.0 ∙ sym (append_assoc (f.spell a.0.0) (g.spell b.0.0) b.0.1.bytes) in
-    subst (λ (x : (V × W) × Left). Takes (followed_by f g) (Both P Q) left.bytes x.0 x.1.bytes) both (parts, (first.1, second.1), second.2)
+    subst (λ (x : (V × W) × Cursor). Takes (followed_by f g) (Both P Q) left.bytes x.0 x.1.bytes) both (parts, (first.1, second.1), second.2)
 
 followed_again : {V W : Type 0} (P : V → Type 0) (Q : W → Type 0) (F G : List ℕ → Type 0) (m n : ℕ) (f : Format V) (g : Format W) → IsFormat P F m f → IsFormat Q G n g
     → ((w : W) (more : List ℕ) → Q w → F (g.spell w ++ more))
@@ -163,7 +163,7 @@ followed_again P Q F G m n f g fs gs joins v at more p follows =
     (second.0, rw (append_assoc (f.spell v.0) (g.spell v.1) more, first.1, second.1) refl)
 
 followed_faults : {V W : Type 0} (P : V → Type 0) (Q : W → Type 0) (F G : List ℕ → Type 0) (m n : ℕ) (f : Format V) (g : Format W) → IsFormat P F m f → IsFormat Q G n g
-    → (left : Left) (d : DerFault) → (followed_by f g).read left ≡ Err d → IsInside d
+    → (left : Cursor) (d : DerFault) → (followed_by f g).read left ≡ Err d → IsInside d
 followed_faults P Q F G m n f g fs gs left d e =
     elim (bind_err (f.read left) (λ a. g.read a.1 >>= λ b. Ok ((a.0, b.0), b.1)) d e) [
       | inl h ↦ fs.faults left d h
@@ -184,48 +184,48 @@ followed_is P Q F G m n f g fs gs joins = record {
 
 -- ---- a yes or no, and behind a yes a further field
 
-where_takes : {V : Type 0} (Q : Bool → Type 0) (P : V → Type 0) (F G : List ℕ → Type 0) (m n : ℕ) (answer : Format Bool) (field : Format V) → IsFormat Q F m answer → IsFormat P G n field
-    → (left : Left) (o : Option V) (rest : Left) → IsBytes left.bytes → (where_yes answer field).read left ≡ Ok (o, rest) → Takes (where_yes answer field) (λ o. IfSome o P) left.bytes o rest.bytes
-where_takes {V} Q P F G m n answer field qs fs left o rest fits e =
-    let accepts = bind_ok (answer.read left) (λ accepts. cond accepts.0 (field.read accepts.1 >>= λ found. Ok (Some found.0, found.1)) (Ok (None, accepts.1))) (o, rest) e in
-    let first = qs.takes left accepts.0.0 accepts.0.1 fits accepts.1 in
-    elim (chosen {A = Result (Option V × Left) DerFault} accepts.0.0 (field.read accepts.0.1 >>= λ found. Ok (Some found.0, found.1)) (Ok (None, accepts.0.1)) (Ok (o, rest)) accepts.2) [
+where_takes : {V : Type 0} (Q : Bool → Type 0) (P : V → Type 0) (F G : List ℕ → Type 0) (m n : ℕ) (yes_no : Format Bool) (field : Format V) → IsFormat Q F m yes_no → IsFormat P G n field
+    → (left : Cursor) (o : Option V) (rest : Cursor) → IsBytes left.bytes → (where_yes yes_no field).read left ≡ Ok (o, rest) → Takes (where_yes yes_no field) (λ o. IfSome o P) left.bytes o rest.bytes
+where_takes {V} Q P F G m n yes_no field qs fs left o rest fits e =
+    let is_yes = bind_ok (yes_no.read left) (λ is_yes. cond is_yes.0 (field.read is_yes.1 >>= λ found. Ok (Some found.0, found.1)) (Ok (None, is_yes.1))) (o, rest) e in
+    let first = qs.takes left is_yes.0.0 is_yes.0.1 fits is_yes.1 in
+    elim (chosen {A = Result (Option V × Cursor) DerFault} is_yes.0.0 (field.read is_yes.0.1 >>= λ found. Ok (Some found.0, found.1)) (Ok (None, is_yes.0.1)) (Ok (o, rest)) is_yes.2) [
       | inl h ↦
-          let found = bind_ok (field.read accepts.0.1) (λ found. Ok (Some found.0, found.1)) (o, rest) h.1 in
+          let found = bind_ok (field.read is_yes.0.1) (λ found. Ok (Some found.0, found.1)) (o, rest) h.1 in
           let both : (Some found.0.0, found.0.1) ≡ (o, rest) = ok_is (Some found.0.0, found.0.1) (o, rest) found.2 in
-          let second = fs.takes accepts.0.1 found.0.0 found.0.1 first.2 found.1 in
-          let parts : left.bytes ≡ (answer.spell true ++ field.spell found.0.0) ++ found.0.1.bytes =
-          first.0 ∙ ap (λ (b : Bool). answer.spell b ++ accepts.0.1.bytes) h.0
-          ∙ ap (λ (x : List ℕ). answer.spell true ++ x) second.0 ∙ sym (append_assoc (answer.spell true) (field.spell found.0.0) found.0.1.bytes) in
-          subst (λ (x : Option V × Left). Takes (where_yes answer field) (λ o. IfSome o P) left.bytes x.0 x.1.bytes) both (parts, second.1, second.2)
+          let second = fs.takes is_yes.0.1 found.0.0 found.0.1 first.2 found.1 in
+          let parts : left.bytes ≡ (yes_no.spell true ++ field.spell found.0.0) ++ found.0.1.bytes =
+          first.0 ∙ ap (λ (b : Bool). yes_no.spell b ++ is_yes.0.1.bytes) h.0
+          ∙ ap (λ (x : List ℕ). yes_no.spell true ++ x) second.0 ∙ sym (append_assoc (yes_no.spell true) (field.spell found.0.0) found.0.1.bytes) in
+          subst (λ (x : Option V × Cursor). Takes (where_yes yes_no field) (λ o. IfSome o P) left.bytes x.0 x.1.bytes) both (parts, second.1, second.2)
       | inr h ↦
-          let both : (None, accepts.0.1) ≡ (o, rest) = ok_is (None, accepts.0.1) (o, rest) h.1 in
-          let parts : left.bytes ≡ (answer.spell false ++ []) ++ accepts.0.1.bytes =
-          first.0 ∙ ap (λ (b : Bool). answer.spell b ++ accepts.0.1.bytes) h.0 ∙ ap (λ (x : List ℕ). x ++ accepts.0.1.bytes) (sym (append-nil (answer.spell false))) in
-          subst (λ (x : Option V × Left). Takes (where_yes answer field) (λ o. IfSome o P) left.bytes x.0 x.1.bytes) both (parts, tt, first.2)
+          let both : (None, is_yes.0.1) ≡ (o, rest) = ok_is (None, is_yes.0.1) (o, rest) h.1 in
+          let parts : left.bytes ≡ (yes_no.spell false ++ []) ++ is_yes.0.1.bytes =
+          first.0 ∙ ap (λ (b : Bool). yes_no.spell b ++ is_yes.0.1.bytes) h.0 ∙ ap (λ (x : List ℕ). x ++ is_yes.0.1.bytes) (sym (append-nil (yes_no.spell false))) in
+          subst (λ (x : Option V × Cursor). Takes (where_yes yes_no field) (λ o. IfSome o P) left.bytes x.0 x.1.bytes) both (parts, tt, first.2)
     ]
 
-where_again : {V : Type 0} (Q : Bool → Type 0) (P : V → Type 0) (G : List ℕ → Type 0) (m n : ℕ) (answer : Format Bool) (field : Format V) → IsFormat Q Any m answer → IsFormat P G n field
-    → ((b : Bool) → Q b) → (o : Option V) (at : ℕ) (more : List ℕ) → IfSome o P → G more → ReadsAgain (where_yes answer field) o at more
-where_again Q P G m n answer field qs fs each None at more p follows =
+where_again : {V : Type 0} (Q : Bool → Type 0) (P : V → Type 0) (G : List ℕ → Type 0) (m n : ℕ) (yes_no : Format Bool) (field : Format V) → IsFormat Q Any m yes_no → IsFormat P G n field
+    → ((b : Bool) → Q b) → (o : Option V) (at : ℕ) (more : List ℕ) → IfSome o P → G more → ReadsAgain (where_yes yes_no field) o at more
+where_again Q P G m n yes_no field qs fs each None at more p follows =
     let first = qs.again false at more (each false) tt in
-    (first.0, rw (append-nil (answer.spell false), first.1) refl)
-where_again Q P G m n answer field qs fs each (Some v) at more p follows =
+    (first.0, rw (append-nil (yes_no.spell false), first.1) refl)
+where_again Q P G m n yes_no field qs fs each (Some v) at more p follows =
     let first = qs.again true at (field.spell v ++ more) (each true) tt in
     let second = fs.again v first.0 more p follows in
-    (second.0, rw (append_assoc (answer.spell true) (field.spell v) more, first.1, second.1) refl)
+    (second.0, rw (append_assoc (yes_no.spell true) (field.spell v) more, first.1, second.1) refl)
 
-where_bound : {V : Type 0} (Q : Bool → Type 0) (P : V → Type 0) (F G : List ℕ → Type 0) (m n : ℕ) (answer : Format Bool) (field : Format V) → IsFormat Q F m answer → IsFormat P G n field
-    → ((b : Bool) → Q b) → (o : Option V) → IfSome o P → length ((where_yes answer field).spell o) ≤ m + n
-where_bound Q P F G m n answer field qs fs each None p = omega (arith, length-append (answer.spell false) [], qs.bound false (each false))
-where_bound Q P F G m n answer field qs fs each (Some v) p = omega (arith, length-append (answer.spell true) (field.spell v), qs.bound true (each true), fs.bound v p)
+where_bound : {V : Type 0} (Q : Bool → Type 0) (P : V → Type 0) (F G : List ℕ → Type 0) (m n : ℕ) (yes_no : Format Bool) (field : Format V) → IsFormat Q F m yes_no → IsFormat P G n field
+    → ((b : Bool) → Q b) → (o : Option V) → IfSome o P → length ((where_yes yes_no field).spell o) ≤ m + n
+where_bound Q P F G m n yes_no field qs fs each None p = omega (arith, length-append (yes_no.spell false) [], qs.bound false (each false))
+where_bound Q P F G m n yes_no field qs fs each (Some v) p = omega (arith, length-append (yes_no.spell true) (field.spell v), qs.bound true (each true), fs.bound v p)
 
-where_faults : {V : Type 0} (Q : Bool → Type 0) (P : V → Type 0) (F G : List ℕ → Type 0) (m n : ℕ) (answer : Format Bool) (field : Format V) → IsFormat Q F m answer → IsFormat P G n field
-    → (left : Left) (d : DerFault) → (where_yes answer field).read left ≡ Err d → IsInside d
-where_faults {V} Q P F G m n answer field qs fs left d e =
-    elim (bind_err (answer.read left) (λ accepts. cond accepts.0 (field.read accepts.1 >>= λ found. Ok (Some found.0, found.1)) (Ok (None, accepts.1))) d e) [
+where_faults : {V : Type 0} (Q : Bool → Type 0) (P : V → Type 0) (F G : List ℕ → Type 0) (m n : ℕ) (yes_no : Format Bool) (field : Format V) → IsFormat Q F m yes_no → IsFormat P G n field
+    → (left : Cursor) (d : DerFault) → (where_yes yes_no field).read left ≡ Err d → IsInside d
+where_faults {V} Q P F G m n yes_no field qs fs left d e =
+    elim (bind_err (yes_no.read left) (λ is_yes. cond is_yes.0 (field.read is_yes.1 >>= λ found. Ok (Some found.0, found.1)) (Ok (None, is_yes.1))) d e) [
       | inl h ↦ qs.faults left d h
-      | inr h ↦ elim (chosen {A = Result (Option V × Left) DerFault} h.0.0 (field.read h.0.1 >>= λ found. Ok (Some found.0, found.1)) (Ok (None, h.0.1)) (Err d) h.2) [
+      | inr h ↦ elim (chosen {A = Result (Option V × Cursor) DerFault} h.0.0 (field.read h.0.1 >>= λ found. Ok (Some found.0, found.1)) (Ok (None, h.0.1)) (Err d) h.2) [
         | inl g ↦ elim (bind_err (field.read h.0.1) (λ found. Ok (Some found.0, found.1)) d g.1) [
           | inl i ↦ fs.faults h.0.1 d i
           | inr i ↦ absurd (no_value d (Some i.0.0, i.0.1) i.2)
@@ -234,19 +234,19 @@ where_faults {V} Q P F G m n answer field qs fs left d e =
       ]
     ]
 
-pub where_is : {V : Type 0} (Q : Bool → Type 0) (P : V → Type 0) (G : List ℕ → Type 0) (m n : ℕ) (answer : Format Bool) (field : Format V) → IsFormat Q Any m answer → IsFormat P G n field
-    → ((b : Bool) → Q b) → IsFormat (λ o. IfSome o P) G (m + n) (where_yes answer field)
-where_is Q P G m n answer field qs fs each = record {
-  takes = where_takes Q P Any G m n answer field qs fs;
-  again = where_again Q P G m n answer field qs fs each;
-  bound = where_bound Q P Any G m n answer field qs fs each;
-  faults = where_faults Q P Any G m n answer field qs fs;
+pub where_is : {V : Type 0} (Q : Bool → Type 0) (P : V → Type 0) (G : List ℕ → Type 0) (m n : ℕ) (yes_no : Format Bool) (field : Format V) → IsFormat Q Any m yes_no → IsFormat P G n field
+    → ((b : Bool) → Q b) → IsFormat (λ o. IfSome o P) G (m + n) (where_yes yes_no field)
+where_is Q P G m n yes_no field qs fs each = record {
+  takes = where_takes Q P Any G m n yes_no field qs fs;
+  again = where_again Q P G m n yes_no field qs fs each;
+  bound = where_bound Q P Any G m n yes_no field qs fs each;
+  faults = where_faults Q P Any G m n yes_no field qs fs;
 }
 
 -- ---- a constructed field
 
 constructed_takes : {V : Type 0} (P : V → Type 0) (F : List ℕ → Type 0) (m : ℕ) (f : Format V) (identifier : ℕ) → IsFormat P F m f
-    → (left : Left) (v : V) (rest : Left) → IsBytes left.bytes → (constructed identifier f).read left ≡ Ok (v, rest) → Takes (constructed identifier f) P left.bytes v rest.bytes
+    → (left : Cursor) (v : V) (rest : Cursor) → IsBytes left.bytes → (constructed identifier f).read left ≡ Ok (v, rest) → Takes (constructed identifier f) P left.bytes v rest.bytes
 constructed_takes {V} P F m f identifier fs left v rest fits e =
     let part = bind_ok (element_at identifier left) (λ part. f.read part.0 >>= λ found. ended found.1 >>= λ _. Ok (found.0, part.1)) (v, rest) e in
     let found = bind_ok (f.read part.0.0) (λ found. ended found.1 >>= λ _. Ok (found.0, part.0.1)) (v, rest) part.2 in
@@ -257,18 +257,18 @@ constructed_takes {V} P F m f identifier fs left v rest fits e =
     let whole : part.0.0.bytes ≡ f.spell found.0.0 = inside.0 ∙ ap (λ (x : List ℕ). f.spell found.0.0 ++ x) (ended_is found.0.1 over.0 over.1) ∙ append-nil (f.spell found.0.0) in
     let parts : left.bytes ≡ element identifier (f.spell found.0.0) ++ part.0.1.bytes =
     taken.parts ∙ ap (λ (x : List ℕ). element identifier x ++ part.0.1.bytes) whole in
-    subst (λ (x : V × Left). Takes (constructed identifier f) P left.bytes x.0 x.1.bytes) both (parts, inside.1, taken.rest_fits)
+    subst (λ (x : V × Cursor). Takes (constructed identifier f) P left.bytes x.0 x.1.bytes) both (parts, inside.1, taken.rest_fits)
 
 constructed_again : {V : Type 0} (P : V → Type 0) (F : List ℕ → Type 0) (m : ℕ) (f : Format V) (identifier : ℕ) → m < 65536 → IsFormat P F m f → F []
     → (v : V) (at : ℕ) (more : List ℕ) → P v → ReadsAgain (constructed identifier f) v at more
 constructed_again P F m f identifier small fs closes v at more p =
     let read = element_again identifier at (f.spell v) more (omega (arith, fs.bound v p)) in
     let inside = fs.again v read.0 [] p closes in
-    let whole : f.read (left_at read.0 (f.spell v)) ≡ Ok (v, left_at inside.0 []) = ap (λ (x : List ℕ). f.read (left_at read.0 x)) (sym (append-nil (f.spell v))) ∙ inside.1 in
+    let whole : f.read (cursor_at read.0 (f.spell v)) ≡ Ok (v, cursor_at inside.0 []) = ap (λ (x : List ℕ). f.read (cursor_at read.0 x)) (sym (append-nil (f.spell v))) ∙ inside.1 in
     (read.1, rw (read.2, whole) refl)
 
 constructed_faults : {V : Type 0} (P : V → Type 0) (F : List ℕ → Type 0) (m : ℕ) (f : Format V) (identifier : ℕ) → IsFormat P F m f
-    → (left : Left) (d : DerFault) → (constructed identifier f).read left ≡ Err d → IsInside d
+    → (left : Cursor) (d : DerFault) → (constructed identifier f).read left ≡ Err d → IsInside d
 constructed_faults P F m f identifier fs left d e =
     elim (bind_err (element_at identifier left) (λ part. f.read part.0 >>= λ found. ended found.1 >>= λ _. Ok (found.0, part.1)) d e) [
       | inl h ↦ element_faults identifier left d h

@@ -17,16 +17,16 @@ use Rattle.ill_der.specs.declared.apdu_type.ApduType.TheVariants as types
 use Rattle.ill_der.specs.declared.length.LengthForm.{LengthForm}
 use Rattle.ill_der.specs.declared.length.LengthForm.TheVariants.{Truncated, Invalid, Definite}
 use Rattle.ill_der.specs.Contents.{version, number, qualifier, date, item, answer_result, yes_no}
-use Rattle.ill_der.specs.Format.{◌>>=◌, length_octets, length_of, IsFew, element, Left, left_at, stands_at, ended, required, optional, followed_by, where_yes, Format, one_octet_length, two_octet_length}
-use Rattle.ill_der.specs.Types.{octet_of, all_types, type_with, type_of}
+use Rattle.ill_der.specs.Format.{◌>>=◌, length_octets, length_of, IsFew, element, Cursor, cursor_at, begins_with, ended, required, optional, followed_by, where_yes, Format, one_octet_length, two_octet_length}
+use Rattle.ill_der.specs.Types.{identifier_of, all_types, type_with, type_of}
 use Rattle.ill_der.specs.ShortForm.{txn_id, head, request, due_date, answer, reply, wish, grant, spell_body, made_of, read_body, contents_of, spelling, Outer, outer_by, outer_of, outer_at, body_of, inside_of, apdu_at}
 use Rattle.ill_der.proofs.Chains.{bind_ok, bind_err, went_on, chosen, done, ok_is, no_value, short_is, short_or_memory, IsInside, tag_inside, length_inside, fault_is}
 use Rattle.ill_der.specs.Laws.{IsBytes}
 use Rattle.ill_der.proofs.Bytes.{IsBytes-drop, IsBytes-take}
 use Rattle.ill_der.proofs.Lengths.{length_again, length_takes, length_few}
 use Rattle.ill_der.proofs.Elements.{assembled, ended_faults, ended_is}
-use Rattle.ill_der.proofs.Formats.{IsFormat, Any, Stands, Both, required_is, optional_is, followed_is, where_is, constructed_is}
-use Rattle.ill_der.proofs.ContentsLaws.{Values, Always, IsAnyResult, IsAnyAnswer, found_with, version_is, number_is, qualifier_is, date_is, item_is, result_is, yes_no_is}
+use Rattle.ill_der.proofs.Formats.{IsFormat, Any, Begins, Both, required_is, optional_is, followed_is, where_is, constructed_is}
+use Rattle.ill_der.proofs.ContentsLaws.{Values, Always, IsAnyResult, IsYesOrNo, found_with, version_is, number_is, qualifier_is, date_is, item_is, result_is, yes_no_is}
 
 -- ---- the fields that each type has
 
@@ -57,21 +57,21 @@ head_is values =
 abbrev IsRequest : Option Date × List ℕ → Type 0
 IsRequest = Both (λ o. IfSome o IsDate) IsItem
 
-item_no_date : (text more : List ℕ) → stands_at 0x85 (element 0x86 text ++ more) ≡ false
+item_no_date : (text more : List ℕ) → begins_with 0x85 (element 0x86 text ++ more) ≡ false
 unfolding element
 item_no_date text more = refl
 
 request_is : Values → IsFormat IsRequest Any 213 request
 request_is values =
-    followed_is (λ o. IfSome o IsDate) IsItem (Stands false 0x85) Any 10 203 (optional 0x85 date) (required 0x86 item)
+    followed_is (λ o. IfSome o IsDate) IsItem (Begins false 0x85) Any 10 203 (optional 0x85 date) (required 0x86 item)
     (optional_is IsDate 8 date 0x85 (omega arith) (date_is values))
     (required_is IsItem 200 item 0x86 (omega arith) (item_is values))
     (λ text more q. item_no_date text more)
 
-reply_is : IsFormat (Both IsNumber IsAnyAnswer) Any 7 reply
+reply_is : IsFormat (Both IsNumber IsYesOrNo) Any 7 reply
 reply_is =
-    followed_is IsNumber IsAnyAnswer Any Any 4 3 (required 0x83 number) (required 0x84 yes_no)
-    (required_is IsNumber 2 number 0x83 (omega arith) number_is) (required_is IsAnyAnswer 1 yes_no 0x84 (omega arith) yes_no_is) (λ w more q. tt)
+    followed_is IsNumber IsYesOrNo Any Any 4 3 (required 0x83 number) (required 0x84 yes_no)
+    (required_is IsNumber 2 number 0x83 (omega arith) number_is) (required_is IsYesOrNo 1 yes_no 0x84 (omega arith) yes_no_is) (λ w more q. tt)
 
 due_date_is : Values → IsFormat IsDate Any 10 due_date
 due_date_is values = required_is IsDate 8 date 0x85 (omega arith) (date_is values)
@@ -79,14 +79,14 @@ due_date_is values = required_is IsDate 8 date 0x85 (omega arith) (date_is value
 answer_is : IsFormat IsAnyResult Any 3 answer
 answer_is = required_is IsAnyResult 1 answer_result 0x84 (omega arith) result_is
 
-wish_is : Values → IsFormat (λ o. IfSome o IsDate) (Stands false 0x85) 10 wish
+wish_is : Values → IsFormat (λ o. IfSome o IsDate) (Begins false 0x85) 10 wish
 wish_is values = optional_is IsDate 8 date 0x85 (omega arith) (date_is values)
 
 grant_is : Values → IsFormat (Both IsNumber (λ o. IfSome o IsDate)) Any 17 grant
 grant_is values =
     followed_is IsNumber (λ o. IfSome o IsDate) Any Any 4 13 (required 0x83 number) (where_yes (required 0x84 yes_no) (required 0x85 date))
     (required_is IsNumber 2 number 0x83 (omega arith) number_is)
-    (where_is IsAnyAnswer IsDate Any 3 10 (required 0x84 yes_no) (required 0x85 date) (required_is IsAnyAnswer 1 yes_no 0x84 (omega arith) yes_no_is) (due_date_is values) (λ b. tt))
+    (where_is IsYesOrNo IsDate Any 3 10 (required 0x84 yes_no) (required 0x85 date) (required_is IsYesOrNo 1 yes_no 0x84 (omega arith) yes_no_is) (due_date_is values) (λ b. tt))
     (λ w more q. tt)
 
 -- the further fields of a type were read
@@ -96,29 +96,29 @@ TakesBody apdu_type bytes body rest = (bytes ≡ spell_body body ++ rest) × IsB
 -- a body that is made of its fields
 made_takes : {V : Type 0} (P : V → Type 0) (F : List ℕ → Type 0) (n : ℕ) (f : Format V) (make : V → Body) (apdu_type : ApduType) → IsFormat P F n f
     → ((v : V) → spell_body (make v) ≡ f.spell v) → ((v : V) → P v → IsBody (make v)) → ((v : V) → type_of (make v) ≡ apdu_type)
-    → (left : Left) (body : Body) (rest : Left) → IsBytes left.bytes → made_of f make left ≡ Ok (body, rest) → TakesBody apdu_type left.bytes body rest.bytes
+    → (left : Cursor) (body : Body) (rest : Cursor) → IsBytes left.bytes → made_of f make left ≡ Ok (body, rest) → TakesBody apdu_type left.bytes body rest.bytes
 made_takes P F n f make apdu_type fs spells ranges types left body rest fits e =
     let fields = bind_ok (f.read left) (λ found. Ok (make found.0, found.1)) (body, rest) e in
     let both : (make fields.0.0, fields.0.1) ≡ (body, rest) = ok_is (make fields.0.0, fields.0.1) (body, rest) fields.2 in
     let taken = fs.takes left fields.0.0 fields.0.1 fits fields.1 in
     let parts : left.bytes ≡ spell_body (make fields.0.0) ++ fields.0.1.bytes = taken.0 ∙ ap (λ (x : List ℕ). x ++ fields.0.1.bytes) (sym (spells fields.0.0)) in
-    subst (λ (x : Body × Left). TakesBody apdu_type left.bytes x.0 x.1.bytes) both (parts, ranges fields.0.0 taken.1, types fields.0.0, taken.2)
+    subst (λ (x : Body × Cursor). TakesBody apdu_type left.bytes x.0 x.1.bytes) both (parts, ranges fields.0.0 taken.1, types fields.0.0, taken.2)
 
 -- a body with no fields
-plain_takes : (make body : Body) (apdu_type : ApduType) (left rest : Left) → spell_body make ≡ [] → IsBody make → type_of make ≡ apdu_type → IsBytes left.bytes → done {E = DerFault} {A = Body × Left} (make, left) ≡ done (body, rest)
+plain_takes : (make body : Body) (apdu_type : ApduType) (left rest : Cursor) → spell_body make ≡ [] → IsBody make → type_of make ≡ apdu_type → IsBytes left.bytes → done {E = DerFault} {A = Body × Cursor} (make, left) ≡ done (body, rest)
     → TakesBody apdu_type left.bytes body rest.bytes
 plain_takes make body apdu_type left rest spells is k fits e =
     let both : (make, left) ≡ (body, rest) = ok_is (make, left) (body, rest) e in
-    subst (λ (x : Body × Left). TakesBody apdu_type left.bytes x.0 x.1.bytes) both (ap (λ (x : List ℕ). x ++ left.bytes) (sym spells), is, k, fits)
+    subst (λ (x : Body × Cursor). TakesBody apdu_type left.bytes x.0 x.1.bytes) both (ap (λ (x : List ℕ). x ++ left.bytes) (sym spells), is, k, fits)
 
-body_takes : Values → (apdu_type : ApduType) (left : Left) (body : Body) (rest : Left) → IsBytes left.bytes → read_body apdu_type left ≡ Ok (body, rest) → TakesBody apdu_type left.bytes body rest.bytes
+body_takes : Values → (apdu_type : ApduType) (left : Cursor) (body : Body) (rest : Cursor) → IsBytes left.bytes → read_body apdu_type left ≡ Ok (body, rest) → TakesBody apdu_type left.bytes body rest.bytes
 body_takes values types.IllRequest = made_takes IsRequest Any 213 request (λ found. IllRequest found.0 found.1) types.IllRequest (request_is values) (λ v. refl) (λ v p. p) (λ v. refl)
 body_takes values types.Shipped = made_takes IsDate Any 10 due_date Shipped types.Shipped (due_date_is values) (λ v. refl) (λ v p. p) (λ v. refl)
 body_takes values types.IllAnswer = made_takes IsAnyResult Any 3 answer IllAnswer types.IllAnswer answer_is (λ v. refl) (λ v p. p) (λ v. refl)
-body_takes values types.ConditionalReply = made_takes (Both IsNumber IsAnyAnswer) Any 7 reply (λ found. ConditionalReply found.0 found.1) types.ConditionalReply reply_is (λ v. refl) (λ v p. p.0) (λ v. refl)
-body_takes values types.CancelReply = made_takes (Both IsNumber IsAnyAnswer) Any 7 reply (λ found. CancelReply found.0 found.1) types.CancelReply reply_is (λ v. refl) (λ v p. p.0) (λ v. refl)
+body_takes values types.ConditionalReply = made_takes (Both IsNumber IsYesOrNo) Any 7 reply (λ found. ConditionalReply found.0 found.1) types.ConditionalReply reply_is (λ v. refl) (λ v p. p.0) (λ v. refl)
+body_takes values types.CancelReply = made_takes (Both IsNumber IsYesOrNo) Any 7 reply (λ found. CancelReply found.0 found.1) types.CancelReply reply_is (λ v. refl) (λ v p. p.0) (λ v. refl)
 body_takes values types.Overdue = made_takes IsDate Any 10 due_date Overdue types.Overdue (due_date_is values) (λ v. refl) (λ v p. p) (λ v. refl)
-body_takes values types.Renew = made_takes (λ o. IfSome o IsDate) (Stands false 0x85) 10 wish Renew types.Renew (wish_is values) (λ v. refl) (λ v p. p) (λ v. refl)
+body_takes values types.Renew = made_takes (λ o. IfSome o IsDate) (Begins false 0x85) 10 wish Renew types.Renew (wish_is values) (λ v. refl) (λ v p. p) (λ v. refl)
 body_takes values types.RenewAnswer = made_takes (Both IsNumber (λ o. IfSome o IsDate)) Any 17 grant (λ found. RenewAnswer found.0 found.1) types.RenewAnswer (grant_is values) (λ v. refl) (λ v p. p) (λ v. refl)
 body_takes values types.Cancel = λ left body rest. plain_takes Cancel body types.Cancel left rest refl tt refl
 body_takes values types.Received = λ left body rest. plain_takes Received body types.Received left rest refl tt refl
@@ -129,23 +129,23 @@ body_takes values types.Expired = λ left body rest. plain_takes Expired body ty
 
 -- a spelled body is read again, at the end of an APDU
 abbrev BodyAgain : Body → ℕ → Type 0
-BodyAgain body at = (after : ℕ) × (read_body (type_of body) (left_at at (spell_body body)) ≡ Ok (body, left_at after []))
+BodyAgain body at = (after : ℕ) × (read_body (type_of body) (cursor_at at (spell_body body)) ≡ Ok (body, cursor_at after []))
 
 made_again : {V : Type 0} (P : V → Type 0) (F : List ℕ → Type 0) (n : ℕ) (f : Format V) (make : V → Body) → IsFormat P F n f → F []
-    → (v : V) (at : ℕ) → P v → (after : ℕ) × (made_of f make (left_at at (f.spell v)) ≡ Ok (make v, left_at after []))
+    → (v : V) (at : ℕ) → P v → (after : ℕ) × (made_of f make (cursor_at at (f.spell v)) ≡ Ok (make v, cursor_at after []))
 made_again P F n f make fs closes v at p =
     let read = fs.again v at [] p closes in
-    let whole : f.read (left_at at (f.spell v)) ≡ Ok (v, left_at read.0 []) = ap (λ (x : List ℕ). f.read (left_at at x)) (sym (append-nil (f.spell v))) ∙ read.1 in
+    let whole : f.read (cursor_at at (f.spell v)) ≡ Ok (v, cursor_at read.0 []) = ap (λ (x : List ℕ). f.read (cursor_at at x)) (sym (append-nil (f.spell v))) ∙ read.1 in
     (read.0, rw whole refl)
 
 body_again : Values → (body : Body) (at : ℕ) → IsBody body → BodyAgain body at
 body_again values (IllRequest expiry text) at is = made_again IsRequest Any 213 request (λ found. IllRequest found.0 found.1) (request_is values) tt (expiry, text) at is
 body_again values (Shipped due) at is = made_again IsDate Any 10 due_date Shipped (due_date_is values) tt due at is
 body_again values (IllAnswer result) at is = made_again IsAnyResult Any 3 answer IllAnswer answer_is tt result at tt
-body_again values (ConditionalReply answers accepts) at is = made_again (Both IsNumber IsAnyAnswer) Any 7 reply (λ found. ConditionalReply found.0 found.1) reply_is tt (answers, accepts) at (is, tt)
-body_again values (CancelReply answers accepts) at is = made_again (Both IsNumber IsAnyAnswer) Any 7 reply (λ found. CancelReply found.0 found.1) reply_is tt (answers, accepts) at (is, tt)
+body_again values (ConditionalReply answers is_yes) at is = made_again (Both IsNumber IsYesOrNo) Any 7 reply (λ found. ConditionalReply found.0 found.1) reply_is tt (answers, is_yes) at (is, tt)
+body_again values (CancelReply answers is_yes) at is = made_again (Both IsNumber IsYesOrNo) Any 7 reply (λ found. CancelReply found.0 found.1) reply_is tt (answers, is_yes) at (is, tt)
 body_again values (Overdue due) at is = made_again IsDate Any 10 due_date Overdue (due_date_is values) tt due at is
-body_again values (Renew wished) at is = made_again (λ o. IfSome o IsDate) (Stands false 0x85) 10 wish Renew (wish_is values) refl wished at is
+body_again values (Renew wished) at is = made_again (λ o. IfSome o IsDate) (Begins false 0x85) 10 wish Renew (wish_is values) refl wished at is
 body_again values (RenewAnswer answers granted) at is = made_again (Both IsNumber (λ o. IfSome o IsDate)) Any 17 grant (λ found. RenewAnswer found.0 found.1) (grant_is values) tt (answers, granted) at is
 body_again values Cancel at is = (at, refl)
 body_again values Received at is = (at, refl)
@@ -158,8 +158,8 @@ body_bound : Values → (body : Body) → IsBody body → length (spell_body bod
 body_bound values (IllRequest expiry text) is = (request_is values).bound (expiry, text) is
 body_bound values (Shipped due) is = omega (arith, (due_date_is values).bound due is)
 body_bound values (IllAnswer result) is = omega (arith, answer_is.bound result tt)
-body_bound values (ConditionalReply answers accepts) is = omega (arith, reply_is.bound (answers, accepts) (is, tt))
-body_bound values (CancelReply answers accepts) is = omega (arith, reply_is.bound (answers, accepts) (is, tt))
+body_bound values (ConditionalReply answers is_yes) is = omega (arith, reply_is.bound (answers, is_yes) (is, tt))
+body_bound values (CancelReply answers is_yes) is = omega (arith, reply_is.bound (answers, is_yes) (is, tt))
 body_bound values (Overdue due) is = omega (arith, (due_date_is values).bound due is)
 body_bound values (Renew wished) is = omega (arith, (wish_is values).bound wished is)
 body_bound values (RenewAnswer answers granted) is = omega (arith, (grant_is values).bound (answers, granted) is)
@@ -170,29 +170,29 @@ short_body : Values → (body : Body) → IsBody body → (type_of body ≡ type
 short_body values (IllRequest expiry text) is other = absurd (other refl)
 short_body values (Shipped due) is other = omega (arith, (due_date_is values).bound due is)
 short_body values (IllAnswer result) is other = omega (arith, answer_is.bound result tt)
-short_body values (ConditionalReply answers accepts) is other = omega (arith, reply_is.bound (answers, accepts) (is, tt))
-short_body values (CancelReply answers accepts) is other = omega (arith, reply_is.bound (answers, accepts) (is, tt))
+short_body values (ConditionalReply answers is_yes) is other = omega (arith, reply_is.bound (answers, is_yes) (is, tt))
+short_body values (CancelReply answers is_yes) is other = omega (arith, reply_is.bound (answers, is_yes) (is, tt))
 short_body values (Overdue due) is other = omega (arith, (due_date_is values).bound due is)
 short_body values (Renew wished) is other = omega (arith, (wish_is values).bound wished is)
 short_body values (RenewAnswer answers granted) is other = (grant_is values).bound (answers, granted) is
 short_body values _ is other = omega arith
 
 made_faults : {V : Type 0} (P : V → Type 0) (F : List ℕ → Type 0) (n : ℕ) (f : Format V) (make : V → Body) → IsFormat P F n f
-    → (left : Left) (d : DerFault) → made_of f make left ≡ Err d → IsInside d
+    → (left : Cursor) (d : DerFault) → made_of f make left ≡ Err d → IsInside d
 made_faults P F n f make fs left d e =
     elim (bind_err (f.read left) (λ found. Ok (make found.0, found.1)) d e) [
       | inl h ↦ fs.faults left d h
       | inr h ↦ absurd (no_value d (make h.0.0, h.0.1) h.2)
     ]
 
-body_faults : Values → (apdu_type : ApduType) (left : Left) (d : DerFault) → read_body apdu_type left ≡ Err d → IsInside d
+body_faults : Values → (apdu_type : ApduType) (left : Cursor) (d : DerFault) → read_body apdu_type left ≡ Err d → IsInside d
 body_faults values types.IllRequest = made_faults IsRequest Any 213 request (λ found. IllRequest found.0 found.1) (request_is values)
 body_faults values types.Shipped = made_faults IsDate Any 10 due_date Shipped (due_date_is values)
 body_faults values types.IllAnswer = made_faults IsAnyResult Any 3 answer IllAnswer answer_is
-body_faults values types.ConditionalReply = made_faults (Both IsNumber IsAnyAnswer) Any 7 reply (λ found. ConditionalReply found.0 found.1) reply_is
-body_faults values types.CancelReply = made_faults (Both IsNumber IsAnyAnswer) Any 7 reply (λ found. CancelReply found.0 found.1) reply_is
+body_faults values types.ConditionalReply = made_faults (Both IsNumber IsYesOrNo) Any 7 reply (λ found. ConditionalReply found.0 found.1) reply_is
+body_faults values types.CancelReply = made_faults (Both IsNumber IsYesOrNo) Any 7 reply (λ found. CancelReply found.0 found.1) reply_is
 body_faults values types.Overdue = made_faults IsDate Any 10 due_date Overdue (due_date_is values)
-body_faults values types.Renew = made_faults (λ o. IfSome o IsDate) (Stands false 0x85) 10 wish Renew (wish_is values)
+body_faults values types.Renew = made_faults (λ o. IfSome o IsDate) (Begins false 0x85) 10 wish Renew (wish_is values)
 body_faults values types.RenewAnswer = made_faults (Both IsNumber (λ o. IfSome o IsDate)) Any 17 grant (λ found. RenewAnswer found.0 found.1) (grant_is values)
 body_faults values types.Cancel = λ left d e. absurd (no_value d (Cancel, left) e)
 body_faults values types.Received = λ left d e. absurd (no_value d (Received, left) e)
@@ -207,7 +207,7 @@ body_faults values types.Expired = λ left d e. absurd (no_value d (Expired, lef
 abbrev IsBodyOf : ApduType → List ℕ → Body → Type 0
 IsBodyOf apdu_type bytes body = (bytes ≡ spell_body body) × IsBody body × (type_of body ≡ apdu_type)
 
-whole_body_takes : Values → (apdu_type : ApduType) (left : Left) (body : Body) → IsBytes left.bytes → body_of apdu_type left ≡ Ok body → IsBodyOf apdu_type left.bytes body
+whole_body_takes : Values → (apdu_type : ApduType) (left : Cursor) (body : Body) → IsBytes left.bytes → body_of apdu_type left ≡ Ok body → IsBodyOf apdu_type left.bytes body
 unfolding body_of
 whole_body_takes values apdu_type left body fits e =
     let found = bind_ok (read_body apdu_type left) (λ body. ended body.1 >>= λ _. Ok body.0) body e in
@@ -216,11 +216,11 @@ whole_body_takes values apdu_type left body fits e =
     let whole : left.bytes ≡ spell_body found.0.0 = taken.0 ∙ ap (λ (x : List ℕ). spell_body found.0.0 ++ x) (ended_is found.0.1 over.0 over.1) ∙ append-nil (spell_body found.0.0) in
     subst (IsBodyOf apdu_type left.bytes) (ok_is found.0.0 body over.2) (whole, taken.1, taken.2)
 
-whole_body_again : Values → (body : Body) (at : ℕ) → IsBody body → body_of (type_of body) (left_at at (spell_body body)) ≡ Ok body
+whole_body_again : Values → (body : Body) (at : ℕ) → IsBody body → body_of (type_of body) (cursor_at at (spell_body body)) ≡ Ok body
 unfolding body_of
 whole_body_again values body at is = rw (body_again values body at is).1 refl
 
-whole_body_faults : Values → (apdu_type : ApduType) (left : Left) (d : DerFault) → body_of apdu_type left ≡ Err d → IsInside d
+whole_body_faults : Values → (apdu_type : ApduType) (left : Cursor) (d : DerFault) → body_of apdu_type left ≡ Err d → IsInside d
 unfolding body_of
 whole_body_faults values apdu_type left d e =
     elim (bind_err (read_body apdu_type left) (λ body. ended body.1 >>= λ _. Ok body.0) d e) [
@@ -237,7 +237,7 @@ made front body = record { txn = record { group = front.1.0.0; transaction = fro
 abbrev IsWhole : ApduType → List ℕ → Apdu → Type 0
 IsWhole apdu_type bytes apdu = (bytes ≡ contents_of apdu) × IsApdu apdu × (type_of apdu.body ≡ apdu_type)
 
-inside_takes : Values → (apdu_type : ApduType) (left : Left) (apdu : Apdu) → IsBytes left.bytes → inside_of apdu_type left ≡ Ok apdu → IsWhole apdu_type left.bytes apdu
+inside_takes : Values → (apdu_type : ApduType) (left : Cursor) (apdu : Apdu) → IsBytes left.bytes → inside_of apdu_type left ≡ Ok apdu → IsWhole apdu_type left.bytes apdu
 unfolding inside_of
 inside_takes values apdu_type left apdu fits e =
     let front = bind_ok (head.read left) (λ front. body_of apdu_type front.1 >>= λ body. Ok (made front.0 body)) apdu e in
@@ -253,7 +253,7 @@ inside_takes values apdu_type left apdu fits e =
     } in
     subst (λ (x : Apdu). IsWhole apdu_type left.bytes x) is (whole, parts, second.2)
 
-inside_again : Values → (apdu : Apdu) (at : ℕ) → IsApdu apdu → inside_of (type_of apdu.body) (left_at at (contents_of apdu)) ≡ Ok apdu
+inside_again : Values → (apdu : Apdu) (at : ℕ) → IsApdu apdu → inside_of (type_of apdu.body) (cursor_at at (contents_of apdu)) ≡ Ok apdu
 unfolding inside_of
 inside_again values apdu at is =
     let front : Unit {0} × ((List ℕ × List ℕ) × ℕ) = (tt, ((apdu.txn.group, apdu.txn.transaction), apdu.number)) in
@@ -271,7 +271,7 @@ contents_bound values apdu is = omega (arith, contents_by_body values apdu is, b
 pub short_contents : Values → (apdu : Apdu) → IsApdu apdu → (type_of apdu.body ≡ types.IllRequest → ⊥) → length (contents_of apdu) ≤ 159
 short_contents values apdu is other = omega (arith, contents_by_body values apdu is, short_body values apdu.body is.body other)
 
-pub inside_faults : Values → (apdu_type : ApduType) (left : Left) (d : DerFault) → inside_of apdu_type left ≡ Err d → IsInside d
+pub inside_faults : Values → (apdu_type : ApduType) (left : Cursor) (d : DerFault) → inside_of apdu_type left ≡ Err d → IsInside d
 unfolding inside_of
 inside_faults values apdu_type left d e =
     elim (bind_err (head.read left) (λ front. body_of apdu_type front.1 >>= λ body. Ok (made front.0 body)) d e) [
@@ -284,10 +284,10 @@ inside_faults values apdu_type left d e =
 
 -- ---- the identifier and the length of an APDU
 
-octet_with : (octet : ℕ) (apdu_type : ApduType) → type_with octet ≡ Some apdu_type → octet ≡ octet_of apdu_type
-octet_with octet apdu_type e = found_with octet_of octet all_types apdu_type e
+identifier_with : (identifier : ℕ) (apdu_type : ApduType) → type_with identifier ≡ Some apdu_type → identifier ≡ identifier_of apdu_type
+identifier_with identifier apdu_type e = found_with identifier_of identifier all_types apdu_type e
 
-type_again : (apdu_type : ApduType) → type_with (octet_of apdu_type) ≡ Some apdu_type
+type_again : (apdu_type : ApduType) → type_with (identifier_of apdu_type) ≡ Some apdu_type
 type_again types.IllRequest = refl
 type_again types.Shipped = refl
 type_again types.IllAnswer = refl
@@ -305,13 +305,13 @@ type_again types.Expired = refl
 
 -- an APDU is all there at the front
 record IsOuter (bytes : List ℕ) (outer : Outer) : Type 0 where
-  parts : bytes ≡ element (octet_of outer.apdu_type) outer.inside.bytes ++ drop outer.size bytes
+  parts : bytes ≡ element (identifier_of outer.apdu_type) outer.inside.bytes ++ drop outer.size bytes
   inside_fits : IsBytes outer.inside.bytes
 
 abbrev pub outer_with : ApduType → ℕ → ℕ → List ℕ → Outer
-outer_with apdu_type n octets bytes = record { apdu_type = apdu_type; inside = left_at (1 + octets) (take n (drop octets bytes)); size = 1 + (octets + n) }
+outer_with apdu_type n octets bytes = record { apdu_type = apdu_type; inside = cursor_at (1 + octets) (take n (drop octets bytes)); size = 1 + (octets + n) }
 
-outer_by_takes : (first : ℕ) (apdu_type : ApduType) (form : LengthForm) (bytes : List ℕ) (outer : Outer) → IsBytes bytes → first ≡ octet_of apdu_type → length_of bytes ≡ form → outer_by apdu_type form bytes ≡ Ok outer → IsOuter (first ∷ bytes) outer
+outer_by_takes : (first : ℕ) (apdu_type : ApduType) (form : LengthForm) (bytes : List ℕ) (outer : Outer) → IsBytes bytes → first ≡ identifier_of apdu_type → length_of bytes ≡ form → outer_by apdu_type form bytes ≡ Ok outer → IsOuter (first ∷ bytes) outer
 outer_by_takes first apdu_type Truncated bytes outer fits k f e = absurd cc
 outer_by_takes first apdu_type Invalid bytes outer fits k f e = absurd cc
 outer_by_takes first apdu_type (Definite n octets) bytes outer fits k f e =
@@ -324,14 +324,14 @@ outer_by_takes first apdu_type (Definite n octets) bytes outer fits k f e =
     let size : length (take n taken) ≡ n = omega (arith, length-take n taken, length-drop octets bytes) in
     let split : taken ≡ take n taken ++ drop (octets + n) bytes = sym (take-append-drop n taken) ∙ ap (λ (x : List ℕ). take n taken ++ x) (drop-drop n octets bytes) in
     let behind : drop (1 + (octets + n)) (first ∷ bytes) ≡ drop (octets + n) bytes = sym (drop-drop (octets + n) 1 (first ∷ bytes)) in
-    let parts : first ∷ bytes ≡ element (octet_of apdu_type) (take n taken) ++ drop (1 + (octets + n)) (first ∷ bytes) =
-    assembled (octet_of apdu_type) n octets (first ∷ bytes) bytes (take n taken) (drop (octets + n) bytes) (ap (λ (x : ℕ). x ∷ bytes) k) spelled.0 split size
-    ∙ ap (λ (x : List ℕ). element (octet_of apdu_type) (take n taken) ++ x) (sym behind) in
+    let parts : first ∷ bytes ≡ element (identifier_of apdu_type) (take n taken) ++ drop (1 + (octets + n)) (first ∷ bytes) =
+    assembled (identifier_of apdu_type) n octets (first ∷ bytes) bytes (take n taken) (drop (octets + n) bytes) (ap (λ (x : ℕ). x ∷ bytes) k) spelled.0 split size
+    ∙ ap (λ (x : List ℕ). element (identifier_of apdu_type) (take n taken) ++ x) (sym behind) in
     subst (λ (x : Outer). IsOuter (first ∷ bytes) x) is (record { parts = parts; inside_fits = IsBytes-take n taken (IsBytes-drop octets bytes fits) })
 
 outer_of_takes : (first : ℕ) (o : Option ApduType) (bytes : List ℕ) (outer : Outer) → IsBytes bytes → type_with first ≡ o → outer_of o bytes ≡ Ok outer → IsOuter (first ∷ bytes) outer
 outer_of_takes first None bytes outer fits k e = absurd cc
-outer_of_takes first (Some apdu_type) bytes outer fits k e = outer_by_takes first apdu_type (length_of bytes) bytes outer fits (octet_with first apdu_type k) refl e
+outer_of_takes first (Some apdu_type) bytes outer fits k e = outer_by_takes first apdu_type (length_of bytes) bytes outer fits (identifier_with first apdu_type k) refl e
 
 outer_takes : (bytes : List ℕ) (outer : Outer) → IsBytes bytes → outer_at bytes ≡ Ok outer → IsOuter bytes outer
 unfolding outer_at
@@ -340,11 +340,11 @@ outer_takes (first ∷ bytes) outer fits e = outer_of_takes first (type_with fir
 
 abbrev OuterAgain : ApduType → List ℕ → List ℕ → Type 0
 OuterAgain apdu_type contents more =
-    (at : ℕ) × (outer_at (element (octet_of apdu_type) contents ++ more) ≡ Ok (record { apdu_type = apdu_type; inside = left_at at contents; size = length (element (octet_of apdu_type) contents) }))
+    (at : ℕ) × (outer_at (element (identifier_of apdu_type) contents ++ more) ≡ Ok (record { apdu_type = apdu_type; inside = cursor_at at contents; size = length (element (identifier_of apdu_type) contents) }))
 
 outer_by_again : (apdu_type : ApduType) (octets contents more : List ℕ) → length contents ≤ 355
     → outer_by apdu_type (Definite (length contents) (length octets)) (octets ++ (contents ++ more))
-    ≡ Ok (record { apdu_type = apdu_type; inside = left_at (1 + length octets) contents; size = 1 + (length octets + length contents) })
+    ≡ Ok (record { apdu_type = apdu_type; inside = cursor_at (1 + length octets) contents; size = 1 + (length octets + length contents) })
 outer_by_again apdu_type octets contents more small =
     let all = octets ++ (contents ++ more) in
     let short : ltb 355 (length contents) ≡ false = le-ltb 355 (length contents) small in
@@ -358,7 +358,7 @@ outer_again : (apdu_type : ApduType) (contents more : List ℕ) → length conte
 unfolding outer_at element
 outer_again apdu_type contents more small =
     let octets = length_octets (length contents) in
-    let size : 1 + (length octets + length contents) ≡ length (octet_of apdu_type ∷ (octets ++ contents)) = omega (arith, length-append octets contents) in (
+    let size : 1 + (length octets + length contents) ≡ length (identifier_of apdu_type ∷ (octets ++ contents)) = omega (arith, length-append octets contents) in (
       1 + length octets,
       rw (type_again apdu_type, append_assoc octets contents more, length_again (length contents) (contents ++ more) (omega arith)) (rw (← size) (outer_by_again apdu_type octets contents more small)),
     )
@@ -402,16 +402,16 @@ apdu_takes values bytes apdu rest fits e =
     let both : (inner.0, drop size bytes) ≡ (apdu, rest) = ok_is (inner.0, drop size bytes) (apdu, rest) inner.2 in
     let whole = outer_takes bytes outer.0 fits outer.1 in
     let inside = inside_takes values apdu_type outer.0.inside inner.0 whole.inside_fits inner.1 in
-    let parts : bytes ≡ element (octet_of (type_of inner.0.body)) (contents_of inner.0) ++ drop size bytes =
-    whole.parts ∙ ap (λ (x : List ℕ). element (octet_of apdu_type) x ++ drop size bytes) inside.0
-    ∙ ap (λ (k : ApduType). element (octet_of k) (contents_of inner.0) ++ drop size bytes) (sym inside.2) in
+    let parts : bytes ≡ element (identifier_of (type_of inner.0.body)) (contents_of inner.0) ++ drop size bytes =
+    whole.parts ∙ ap (λ (x : List ℕ). element (identifier_of apdu_type) x ++ drop size bytes) inside.0
+    ∙ ap (λ (k : ApduType). element (identifier_of k) (contents_of inner.0) ++ drop size bytes) (sym inside.2) in
     subst (λ (x : Apdu × List ℕ). IsAtFront bytes x.0 x.1) both (inside.1, parts)
 
 -- a spelling is read again, whatever follows it
 pub apdu_again : Values → (apdu : Apdu) (rest : List ℕ) → IsApdu apdu → apdu_at (spelling apdu ++ rest) ≡ Ok (apdu, rest)
 unfolding apdu_at spelling
 apdu_again values apdu rest is =
-    let text = element (octet_of (type_of apdu.body)) (contents_of apdu) in
+    let text = element (identifier_of (type_of apdu.body)) (contents_of apdu) in
     let outer = outer_again (type_of apdu.body) (contents_of apdu) rest (contents_bound values apdu is) in
     let inner = inside_again values apdu outer.0 is in
     let behind : drop (length text) (text ++ rest) ≡ rest = drop_at text rest (length text) refl in

@@ -19,7 +19,7 @@ unfolding element length_octets
 code_length code = refl
 
 abbrev yes_no_element : Bool → List ℕ
-yes_no_element accepts = element 0x84 (cond accepts 0xFF 0 ∷ [])
+yes_no_element is_yes = element 0x84 (cond is_yes 0xFF 0 ∷ [])
 
 -- how many bytes an element has with so many contents octets
 abbrev pub sized : ℕ → ℕ
@@ -56,9 +56,9 @@ pub request_length : (expiry : Option Date) (text : List ℕ) (a b : ℕ) → a 
 request_length expiry text a b ea eb =
     omega (arith, ea, eb, element_length 0x86 text, length-append ((optional 0x85 date).spell expiry) (element 0x86 text))
 
-pub reply_length : (answers : ℕ) (accepts : Bool) (n : ℕ) → n ≡ length (element 0 (number_octets answers)) → n + 3 ≡ length (reply.spell (answers, accepts))
-reply_length answers accepts n e =
-    omega (arith, same_size 0x83 (number_octets answers) n e, code_length (cond accepts 0xFF 0), length-append (element 0x83 (number_octets answers)) (yes_no_element accepts))
+pub reply_length : (answers : ℕ) (is_yes : Bool) (n : ℕ) → n ≡ length (element 0 (number_octets answers)) → n + 3 ≡ length (reply.spell (answers, is_yes))
+reply_length answers is_yes n e =
+    omega (arith, same_size 0x83 (number_octets answers) n e, code_length (cond is_yes 0xFF 0), length-append (element 0x83 (number_octets answers)) (yes_no_element is_yes))
 
 pub grant_length : (answers : ℕ) (granted : Option Date) (n m : ℕ) → n ≡ length (element 0 (number_octets answers)) → m ≡ length ((optional 0x85 date).spell granted)
     → n + 3 + m ≡ length (grant.spell (answers, granted))

@@ -13,7 +13,7 @@ use Rattle.ill_values.specs.Apdu.{IsApdu}
 use Rattle.ill_der.specs.declared.fault.DerFault.{DerFault}
 use Rattle.ill_der.specs.declared.apdu_type.ApduType.TheVariants.{IllRequest}
 use Rattle.ill_der.specs.Format.{element, length_octets}
-use Rattle.ill_der.specs.Types.{octet_of, type_of}
+use Rattle.ill_der.specs.Types.{identifier_of, type_of}
 use Rattle.ill_der.specs.ShortForm.{contents_of, spelling, apdu_at}
 use Rattle.ill_der.specs.Laws.{IsBytes, BeginsWithOne}
 use Rattle.ill_der.proofs.Chains.{ok_is, no_value}
@@ -44,14 +44,14 @@ unfolding spelling
 spelled_most values apdu is =
     let contents = contents_of apdu in
     let bound = contents_bound values apdu is in
-    omega (arith, element_length (octet_of (type_of apdu.body)) contents, few_octets (length contents) 355 bound, bound)
+    omega (arith, element_length (identifier_of (type_of apdu.body)) contents, few_octets (length contents) 355 bound, bound)
 
 pub spelled_shorter : Values → (apdu : Apdu) → IsApdu apdu → (type_of apdu.body ≡ IllRequest → ⊥) → length (spelling apdu) ≤ 162
 unfolding spelling
 spelled_shorter values apdu is other =
     let contents = contents_of apdu in
     let bound = short_contents values apdu is other in
-    omega (arith, element_length (octet_of (type_of apdu.body)) contents, few_octets (length contents) 159 bound, bound)
+    omega (arith, element_length (identifier_of (type_of apdu.body)) contents, few_octets (length contents) 159 bound, bound)
 
 -- ---- bytes of any kind
 

@@ -80,4 +80,4 @@ yes_no_from (octet ∷ []) =
 yes_no_from (octet ∷ more ∷ rest) = None
 
 abbrev pub yes_no : Contents Bool
-yes_no = record { spell = λ accepts. (if accepts then 0xFF else 0) ∷ []; read = yes_no_from }
+yes_no = record { spell = λ is_yes. (if is_yes then 0xFF else 0) ∷ []; read = yes_no_from }

@@ -55,38 +55,38 @@ element identifier contents = identifier ∷ (length_octets (length contents) ++
 
 -- What is left to read of an element: its bytes, and the place of the first of them, which is
 -- counted from the first byte of the APDU.
-pub record Left : Type 0 where
+pub record Cursor : Type 0 where
   pub at : ℕ
   pub bytes : List ℕ
 
-abbrev pub left_at : ℕ → List ℕ → Left
-left_at at bytes = record { at = at; bytes = bytes }
+abbrev pub cursor_at : ℕ → List ℕ → Cursor
+cursor_at at bytes = record { at = at; bytes = bytes }
 
 -- the contents of the element whose identifier stands just before the bytes, and what follows it
-abbrev pub contents_by : LengthForm → Left → Result (Left × Left) DerFault
+abbrev pub contents_by : LengthForm → Cursor → Result (Cursor × Cursor) DerFault
 contents_by (Definite n octets) left =
     if nat_lt (length left.bytes) (octets + n) then Err (Length left.at)
     else Ok (
-      left_at (left.at + octets) (take n (drop octets left.bytes)),
-      left_at (left.at + (octets + n)) (drop (octets + n) left.bytes),
+      cursor_at (left.at + octets) (take n (drop octets left.bytes)),
+      cursor_at (left.at + (octets + n)) (drop (octets + n) left.bytes),
     )
 contents_by Truncated left = Err (Length left.at)
 contents_by Invalid left = Err (Length left.at)
 
 -- whether the element with this identifier stands here
-abbrev pub stands_at : ℕ → List ℕ → Bool
-stands_at identifier [] = false
-stands_at identifier (first ∷ rest) = first == identifier
+abbrev pub begins_with : ℕ → List ℕ → Bool
+begins_with identifier [] = false
+begins_with identifier (first ∷ rest) = first == identifier
 
 -- the contents of the element with this identifier that must stand here, and what follows it
-unfoldable pub element_at : ℕ → Left → Result (Left × Left) DerFault
+unfoldable pub element_at : ℕ → Cursor → Result (Cursor × Cursor) DerFault
 element_at identifier left =
-    if stands_at identifier left.bytes
-    then contents_by (length_of (drop 1 left.bytes)) (left_at (left.at + 1) (drop 1 left.bytes))
+    if begins_with identifier left.bytes
+    then contents_by (length_of (drop 1 left.bytes)) (cursor_at (left.at + 1) (drop 1 left.bytes))
     else Err (Tag left.at)
 
 -- nothing is left
-abbrev pub ended : Left → Result (Unit {0}) DerFault
+abbrev pub ended : Cursor → Result (Unit {0}) DerFault
 ended left = if length left.bytes == 0 then Ok tt else Err (Tag left.at)
 
 -- ---- descriptions of fields
@@ -94,7 +94,7 @@ ended left = if length left.bytes == 0 then Ok tt else Err (Tag left.at)
 -- how a value is spelled, and how it is read from what is left
 pub record Format (V : Type 0) : Type 0 where
   pub spell : V → List ℕ
-  pub read : Left → Result (V × Left) DerFault
+  pub read : Cursor → Result (V × Cursor) DerFault
 
 -- the value of contents, or the fault at the place of the first contents octet
 abbrev pub value_of : {V : Type 0} → Option V → ℕ → Result V DerFault
@@ -117,7 +117,7 @@ spell_some spell (Some value) = spell value
 abbrev pub optional : {V : Type 0} → ℕ → Contents V → Format (Option V)
 optional identifier kind = record {
   spell = spell_some (required identifier kind).spell;
-  read = λ left. if stands_at identifier left.bytes
+  read = λ left. if begins_with identifier left.bytes
       then ((required identifier kind).read left >>= λ field. Ok (Some field.0, field.1))
       else Ok (None, left);
 }
@@ -131,11 +131,11 @@ followed_by first second = record {
 
 -- a yes or no, and behind a yes a further field
 abbrev pub where_yes : {V : Type 0} → Format Bool → Format V → Format (Option V)
-where_yes answer field = record {
-  spell = λ o. answer.spell (is_some o) ++ spell_some field.spell o;
-  read = λ left. answer.read left >>= λ accepts. if accepts.0
-      then (field.read accepts.1 >>= λ found. Ok (Some found.0, found.1))
-      else Ok (None, accepts.1);
+where_yes yes_no field = record {
+  spell = λ o. yes_no.spell (is_some o) ++ spell_some field.spell o;
+  read = λ left. yes_no.read left >>= λ is_yes. if is_yes.0
+      then (field.read is_yes.1 >>= λ found. Ok (Some found.0, found.1))
+      else Ok (None, is_yes.1);
 }
 
 -- no field
@@ -153,7 +153,7 @@ constructed identifier inside = record {
 -- ---- what the code gives
 
 -- A reader gave what reading gives, its value seen by view, and left the cursor where reading does.
-abbrev pub Reads : {X V : Type 0} → (X → V) → Result X DerFault → Left → Result (V × Left) DerFault →
+abbrev pub Reads : {X V : Type 0} → (X → V) → Result X DerFault → Cursor → Result (V × Cursor) DerFault →
     Type 0
 Reads view (Ok value) left read = read ≡ Ok (view value, left)
 Reads view (Err fault) left read = read ≡ Err fault

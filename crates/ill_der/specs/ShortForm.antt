@@ -12,9 +12,9 @@ use Rattle.ill_der.specs.declared.apdu_type.ApduType.TheVariants as types
 use Rattle.ill_der.specs.declared.length.LengthForm.{LengthForm}
 use Rattle.ill_der.specs.declared.length.LengthForm.TheVariants.{Truncated, Invalid, Definite}
 use Rattle.ill_der.specs.declared.decoding.Outer as decoding
-use Rattle.ill_der.specs.Types.{octet_of, type_with, type_of}
+use Rattle.ill_der.specs.Types.{identifier_of, type_with, type_of}
 use Rattle.ill_der.specs.Contents.{version, number, qualifier, date, item, answer_result, yes_no}
-use Rattle.ill_der.specs.Format.{◌>>=◌, element, length_of, Left, left_at, ended, Format, required, optional, followed_by, where_yes, constructed}
+use Rattle.ill_der.specs.Format.{◌>>=◌, element, length_of, Cursor, cursor_at, ended, Format, required, optional, followed_by, where_yes, constructed}
 
 -- ---- fields
 
@@ -58,8 +58,8 @@ abbrev pub spell_body : Body → List ℕ
 spell_body (IllRequest expiry text) = request.spell (expiry, text)
 spell_body (Shipped due) = due_date.spell due
 spell_body (IllAnswer result) = answer.spell result
-spell_body (ConditionalReply answers accepts) = reply.spell (answers, accepts)
-spell_body (CancelReply answers accepts) = reply.spell (answers, accepts)
+spell_body (ConditionalReply answers is_yes) = reply.spell (answers, is_yes)
+spell_body (CancelReply answers is_yes) = reply.spell (answers, is_yes)
 spell_body (Overdue due) = due_date.spell due
 spell_body (Renew wished) = wish.spell wished
 spell_body (RenewAnswer answers granted) = grant.spell (answers, granted)
@@ -71,11 +71,11 @@ spell_body CheckedIn = []
 spell_body Expired = []
 
 -- a body was read, made of its fields
-abbrev pub made_of : {V : Type 0} → Format V → (V → Body) → Left → Result (Body × Left) DerFault
+abbrev pub made_of : {V : Type 0} → Format V → (V → Body) → Cursor → Result (Body × Cursor) DerFault
 made_of fields make left = fields.read left >>= λ found. Ok (make found.0, found.1)
 
 -- the further fields of a type, read
-abbrev pub read_body : ApduType → Left → Result (Body × Left) DerFault
+abbrev pub read_body : ApduType → Cursor → Result (Body × Cursor) DerFault
 read_body types.IllRequest left = made_of request (λ found. IllRequest found.0 found.1) left
 read_body types.Shipped left = made_of due_date Shipped left
 read_body types.IllAnswer left = made_of answer IllAnswer left
@@ -103,12 +103,12 @@ contents_of apdu = head_of apdu ++ spell_body apdu.body
 
 -- the one spelling of an APDU
 unfoldable pub spelling : Apdu → List ℕ
-spelling apdu = element (octet_of (type_of apdu.body)) (contents_of apdu)
+spelling apdu = element (identifier_of (type_of apdu.body)) (contents_of apdu)
 
 -- an APDU that is all there: its type, its contents, and the number of its bytes
 pub record Outer : Type 0 where
   pub apdu_type : ApduType
-  pub inside : Left
+  pub inside : Cursor
   pub size : ℕ
 
 -- The contents that a length calls for, of bytes behind an identifier. There are at most 355. Where
@@ -119,7 +119,7 @@ outer_by apdu_type (Definite n octets) bytes =
     else (if nat_lt (length bytes) (octets + n) then Err (Short (length bytes + 1))
     else Ok (record {
       apdu_type = apdu_type;
-      inside = left_at (1 + octets) (take n (drop octets bytes));
+      inside = cursor_at (1 + octets) (take n (drop octets bytes));
       size = 1 + (octets + n);
     }))
 outer_by apdu_type Truncated bytes = Err (Short (length bytes + 1))
@@ -135,11 +135,11 @@ outer_at [] = Err (Short 0)
 outer_at (first ∷ bytes) = outer_of (type_with first) bytes
 
 -- the body that all of what is left spells
-unfoldable pub body_of : ApduType → Left → Result Body DerFault
+unfoldable pub body_of : ApduType → Cursor → Result Body DerFault
 body_of apdu_type left = read_body apdu_type left >>= λ body. ended body.1 >>= λ _. Ok body.0
 
 -- the APDU that all of the contents spell
-unfoldable pub inside_of : ApduType → Left → Result Apdu DerFault
+unfoldable pub inside_of : ApduType → Cursor → Result Apdu DerFault
 inside_of apdu_type left =
     head.read left >>= λ front. body_of apdu_type front.1 >>= λ body.
     Ok (record {

@@ -7,21 +7,21 @@ use Rattle.ill_der.specs.declared.apdu_type.ApduType.{ApduType}
 use Rattle.ill_der.specs.declared.apdu_type.ApduType.TheVariants.{IllRequest, Shipped, IllAnswer, ConditionalReply, Cancel, CancelReply, Received, Recall, Returned, CheckedIn, Overdue, Renew, RenewAnswer, Expired}
 
 -- the identifier octet of a type
-abbrev pub octet_of : ApduType → ℕ
-octet_of IllRequest = 0x61
-octet_of Shipped = 0x63
-octet_of IllAnswer = 0x64
-octet_of ConditionalReply = 0x65
-octet_of Cancel = 0x66
-octet_of CancelReply = 0x67
-octet_of Received = 0x68
-octet_of Recall = 0x69
-octet_of Returned = 0x6A
-octet_of CheckedIn = 0x6B
-octet_of Overdue = 0x6C
-octet_of Renew = 0x6D
-octet_of RenewAnswer = 0x6E
-octet_of Expired = 0x74
+abbrev pub identifier_of : ApduType → ℕ
+identifier_of IllRequest = 0x61
+identifier_of Shipped = 0x63
+identifier_of IllAnswer = 0x64
+identifier_of ConditionalReply = 0x65
+identifier_of Cancel = 0x66
+identifier_of CancelReply = 0x67
+identifier_of Received = 0x68
+identifier_of Recall = 0x69
+identifier_of Returned = 0x6A
+identifier_of CheckedIn = 0x6B
+identifier_of Overdue = 0x6C
+identifier_of Renew = 0x6D
+identifier_of RenewAnswer = 0x6E
+identifier_of Expired = 0x74
 
 abbrev pub all_types : List ApduType
 all_types =
@@ -30,16 +30,16 @@ all_types =
 
 -- the type with an identifier octet
 abbrev pub type_with : ℕ → Option ApduType
-type_with octet = find (λ apdu_type. octet == octet_of apdu_type) all_types
+type_with identifier = find (λ apdu_type. identifier == identifier_of apdu_type) all_types
 
 -- the type of a body
 abbrev pub type_of : Body → ApduType
 type_of (bodies.IllRequest expiry item) = IllRequest
 type_of (bodies.Shipped due) = Shipped
 type_of (bodies.IllAnswer result) = IllAnswer
-type_of (bodies.ConditionalReply answers accepts) = ConditionalReply
+type_of (bodies.ConditionalReply answers is_yes) = ConditionalReply
 type_of bodies.Cancel = Cancel
-type_of (bodies.CancelReply answers accepts) = CancelReply
+type_of (bodies.CancelReply answers is_yes) = CancelReply
 type_of bodies.Received = Received
 type_of bodies.Recall = Recall
 type_of bodies.Returned = Returned

@@ -2,7 +2,7 @@
 
 ghost use Rattle.std.specs.Prelude.{◌≡◌};
 ghost use Rattle.ill_values.specs.declared.apdu.Body.{Body};
-ghost use Rattle.ill_der.specs.Types.{octet_of, type_with, type_of};
+ghost use Rattle.ill_der.specs.Types.{identifier_of, type_with, type_of};
 
 use ill_values::Body;
 
@@ -41,10 +41,10 @@ pub enum ApduType {
 
 impl ApduType {
     /// The type with this identifier octet: an application tag, constructed (X.690 8.1.2).
-    pub fn with_octet(octet: u8) -> Option<ApduType>
-        ensures { result ≡ type_with octet }
+    pub fn with_identifier(identifier: u8) -> Option<ApduType>
+        ensures { result ≡ type_with identifier }
     {
-        match octet {
+        match identifier {
             0x61 => Some(ApduType::IllRequest),
             0x63 => Some(ApduType::Shipped),
             0x64 => Some(ApduType::IllAnswer),
@@ -64,8 +64,8 @@ impl ApduType {
     }
 
     /// The identifier octet of the type.
-    pub fn octet(self) -> u8
-        ensures { result ≡ octet_of self }
+    pub fn identifier(self) -> u8
+        ensures { result ≡ identifier_of self }
     {
         match self {
             ApduType::IllRequest => 0x61,

@@ -3,10 +3,11 @@
 ghost use Rattle.std.specs.Prelude.{◌≡◌, ◌+◌, ◌≤◌, length, IfOk, OnOk, Option};
 ghost use Rattle.ill_values.specs.Text.{IsQualifier, IsItem};
 ghost use Rattle.ill_der.specs.Contents.{number, number_from, version, qualifier, date, item, answer_result, result_from, yes_no};
-ghost use Rattle.ill_der.specs.Format.{Left, left_at, element_at, stands_at, ended, required, optional, Reads};
+ghost use Rattle.ill_der.specs.Format as model;
+ghost use Rattle.ill_der.specs.Format.{cursor_at, element_at, begins_with, ended, required, optional, Reads};
 
 use crate::fault::DerFault;
-use crate::length::{LengthForm, length_at_front};
+use crate::length::{LengthForm, length_of};
 use ill_values::{AnswerResult, Day, Item, Number, TxnId};
 use std::marker::Model;
 
@@ -19,7 +20,7 @@ pub struct Cursor<'a> {
 }
 
 impl<'a> Model for Cursor<'a> {
-    ghost Value = { Left };
+    ghost Value = { model.Cursor };
 
     ghost view = { λ c. record { at = c.at; bytes = c.bytes.now } };
 
@@ -30,7 +31,7 @@ impl<'a> Cursor<'a> {
     /// A cursor over these bytes, the first of which is at this offset in the APDU.
     pub fn new(at: u16, bytes: &'a [u8]) -> Cursor<'a>
         requires { at + length bytes.now ≤ 359 }
-        ensures { result ≡ left_at at bytes.entry.now }
+        ensures { result ≡ cursor_at at bytes.entry.now }
     {
         Cursor { at, bytes }
     }
@@ -47,8 +48,8 @@ impl<'a> Cursor<'a> {
     }
 
     /// Whether the next element has this identifier.
-    fn has(&self, identifier: u8) -> bool
-        ensures { result ≡ stands_at identifier self.now.bytes }
+    fn begins_with(&self, identifier: u8) -> bool
+        ensures { result ≡ begins_with identifier self.now.bytes }
     {
         match self.bytes {
             [first, ..] => *first == identifier,
@@ -58,15 +59,15 @@ impl<'a> Cursor<'a> {
 
     /// Takes the next element, which must have this identifier, and gives its contents.
     #[tactic(auto, unfolding(crate::specs::Format::element_at))]
-    pub fn element(&mut self, identifier: u8) -> Result<Cursor<'a>, DerFault>
+    pub fn element_at(&mut self, identifier: u8) -> Result<Cursor<'a>, DerFault>
         ensures { Reads (λ inside. inside) result self.new (element_at identifier self.old) }
     {
-        if !self.has(identifier) {
+        if !self.begins_with(identifier) {
             return Err(DerFault::Tag(self.at));
         }
         let at = self.at + 1;
         let bytes = &self.bytes[1..];
-        match length_at_front(bytes) {
+        match length_of(bytes) {
             LengthForm::Definite(length, octets) => {
                 let (start, end) = (octets as usize, octets as usize + length as usize);
                 if bytes.len() < end {
@@ -84,7 +85,7 @@ impl<'a> Cursor<'a> {
     pub fn version(&mut self, identifier: u8) -> Result<(), DerFault>
         ensures { Reads (λ v. v) result self.new ((required identifier version).read self.old) }
     {
-        let inside = self.element(identifier)?;
+        let inside = self.element_at(identifier)?;
         match inside.bytes {
             [1] => Ok(()),
             _ => Err(DerFault::Field(inside.at)),
@@ -95,8 +96,8 @@ impl<'a> Cursor<'a> {
     pub fn number(&mut self, identifier: u8) -> Result<Number, DerFault>
         ensures { Reads (λ n. n) result self.new ((required identifier number).read self.old) }
     {
-        let inside = self.element(identifier)?;
-        number_of(inside.bytes).ok_or(DerFault::Field(inside.at))
+        let inside = self.element_at(identifier)?;
+        number_from(inside.bytes).ok_or(DerFault::Field(inside.at))
     }
 
     /// Reads a qualifier of a transaction id.
@@ -105,7 +106,7 @@ impl<'a> Cursor<'a> {
             ((required identifier qualifier).read self.old) }
         ensures qualifier { IfOk result (λ text. IsQualifier text.now) }
     {
-        let inside = self.element(identifier)?;
+        let inside = self.element_at(identifier)?;
         if TxnId::is_qualifier(inside.bytes) {
             Ok(inside.bytes)
         } else {
@@ -119,7 +120,7 @@ impl<'a> Cursor<'a> {
             ((required identifier item).read self.old) }
         ensures item { IfOk result (λ text. IsItem text.now) }
     {
-        let inside = self.element(identifier)?;
+        let inside = self.element_at(identifier)?;
         if Item::is_item(inside.bytes) {
             Ok(inside.bytes)
         } else {
@@ -131,7 +132,7 @@ impl<'a> Cursor<'a> {
     pub fn date(&mut self, identifier: u8) -> Result<Day, DerFault>
         ensures { Reads (λ d. d) result self.new ((required identifier date).read self.old) }
     {
-        let inside = self.element(identifier)?;
+        let inside = self.element_at(identifier)?;
         Day::read(inside.bytes).map_err(|_| DerFault::Field(inside.at))
     }
 
@@ -139,15 +140,15 @@ impl<'a> Cursor<'a> {
     pub fn answer_result(&mut self, identifier: u8) -> Result<AnswerResult, DerFault>
         ensures { Reads (λ r. r) result self.new ((required identifier answer_result).read self.old) }
     {
-        let inside = self.element(identifier)?;
-        result_of(inside.bytes).ok_or(DerFault::Field(inside.at))
+        let inside = self.element_at(identifier)?;
+        result_from(inside.bytes).ok_or(DerFault::Field(inside.at))
     }
 
     /// Reads a yes or no.
     pub fn yes_no(&mut self, identifier: u8) -> Result<bool, DerFault>
         ensures { Reads (λ b. b) result self.new ((required identifier yes_no).read self.old) }
     {
-        let inside = self.element(identifier)?;
+        let inside = self.element_at(identifier)?;
         match inside.bytes {
             [0x00] => Ok(false),
             [0xFF] => Ok(true),
@@ -159,7 +160,7 @@ impl<'a> Cursor<'a> {
     pub fn optional_date(&mut self, identifier: u8) -> Result<Option<Day>, DerFault>
         ensures { Reads (λ d. d) result self.new ((optional identifier date).read self.old) }
     {
-        if self.has(identifier) {
+        if self.begins_with(identifier) {
             Ok(Some(self.date(identifier)?))
         } else {
             Ok(None)
@@ -168,7 +169,7 @@ impl<'a> Cursor<'a> {
 }
 
 /// The message number that the contents of an INTEGER spell, if they spell one (X.690 8.3).
-fn number_of(contents: &[u8]) -> Option<Number>
+fn number_from(contents: &[u8]) -> Option<Number>
     ensures { result ≡ number_from contents.now }
 {
     match contents {
@@ -179,7 +180,7 @@ fn number_of(contents: &[u8]) -> Option<Number>
 }
 
 /// The result that the contents spell in one octet.
-fn result_of(contents: &[u8]) -> Option<AnswerResult>
+fn result_from(contents: &[u8]) -> Option<AnswerResult>
     ensures { result ≡ result_from contents.now }
 {
     match contents {

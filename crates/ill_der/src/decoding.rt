@@ -8,7 +8,7 @@ ghost use Rattle.ill_der.specs.ShortForm.{outer_view, outer_at, outer_by, read_b
 use crate::apdu_type::ApduType;
 use crate::cursor::Cursor;
 use crate::fault::DerFault;
-use crate::length::{LengthForm, length_at_front};
+use crate::length::{LengthForm, length_of};
 use crate::tags;
 use ill_values::{Apdu, Body, Day, Item, Number, TxnId};
 use std::alloc::Global;
@@ -33,34 +33,34 @@ pub fn decode(alloc: Global, bytes: &[u8]) -> Result<(Apdu, usize), DerFault>
     ensures read { Decodes bytes.now (apdu_at bytes.now) result }
     ensures most { IfOk result (λ found. found.1 ≤ 359) }
 {
-    let mut outer = whole(bytes)?;
-    let apdu = apdu_inside(alloc, outer.apdu_type, &mut outer.inside)?;
+    let mut outer = outer_at(bytes)?;
+    let apdu = inside_of(alloc, outer.apdu_type, &mut outer.inside)?;
     Ok((apdu, outer.size))
 }
 
 /// Splits off the identifier and the length, and checks that all of the contents are there.
 #[tactic(auto, unfolding(crate::specs::ShortForm::outer_at))]
-fn whole(bytes: &[u8]) -> Result<Outer<'_>, DerFault>
+fn outer_at(bytes: &[u8]) -> Result<Outer<'_>, DerFault>
     ensures read { Finds outer_view result (outer_at bytes.now) }
     ensures size { IfOk result (λ outer. outer.size ≤ length bytes.now) }
     ensures most { IfOk result (λ outer. outer.size ≤ 359) }
 {
     match bytes {
         [] => Err(DerFault::Short(0)),
-        [octet, behind @ ..] => match ApduType::with_octet(*octet) {
-            Some(apdu_type) => contents(apdu_type, behind),
+        [identifier, behind @ ..] => match ApduType::with_identifier(*identifier) {
+            Some(apdu_type) => outer_by(apdu_type, behind),
             None => Err(DerFault::Tag(0)),
         },
     }
 }
 
 /// The same, of the bytes behind the identifier of an APDU of this type.
-fn contents(apdu_type: ApduType, bytes: &[u8]) -> Result<Outer<'_>, DerFault>
+fn outer_by(apdu_type: ApduType, bytes: &[u8]) -> Result<Outer<'_>, DerFault>
     ensures read { Finds outer_view result (outer_by apdu_type (length_of bytes.now) bytes.now) }
     ensures size { IfOk result (λ outer. outer.size ≤ length bytes.now + 1) }
     ensures most { IfOk result (λ outer. outer.size ≤ 359) }
 {
-    match length_at_front(bytes) {
+    match length_of(bytes) {
         LengthForm::Truncated => Err(DerFault::Short(bytes.len() as u16 + 1)),
         LengthForm::Invalid => Err(DerFault::Length(1)),
         LengthForm::Definite(length, octets) => {
@@ -83,44 +83,36 @@ fn contents(apdu_type: ApduType, bytes: &[u8]) -> Result<Outer<'_>, DerFault>
 
 /// Decodes the contents of an APDU of this type, to their end.
 #[tactic(auto, unfolding(crate::specs::ShortForm::inside_of))]
-fn apdu_inside(
-    alloc: Global,
-    apdu_type: ApduType,
-    inside: &mut Cursor<'_>,
-) -> Result<Apdu, DerFault>
+fn inside_of(alloc: Global, apdu_type: ApduType, inside: &mut Cursor<'_>) -> Result<Apdu, DerFault>
     ensures { Gives (inside_of apdu_type inside.old) result }
 {
     inside.version(tags::VERSION)?;
-    let mut id = inside.element(tags::TRANSACTION_ID)?;
+    let mut id = inside.element_at(tags::TRANSACTION_ID)?;
     let group = id.qualifier(tags::GROUP_QUALIFIER)?;
     let transaction = id.qualifier(tags::TRANSACTION_QUALIFIER)?;
     id.ended()?;
     let number = inside.number(tags::NUMBER)?;
-    let body = body_inside(alloc, apdu_type, inside)?;
+    let body = body_of(alloc, apdu_type, inside)?;
     let txn = TxnId::new(alloc, group, transaction).map_err(|_| DerFault::OutOfMemory)?;
     Ok(Apdu { txn, number, body })
 }
 
 /// Decodes the further fields of an APDU of this type, to the end of the contents.
 #[tactic(auto, unfolding(crate::specs::ShortForm::body_of))]
-fn body_inside(
-    alloc: Global,
-    apdu_type: ApduType,
-    inside: &mut Cursor<'_>,
-) -> Result<Body, DerFault>
+fn body_of(alloc: Global, apdu_type: ApduType, inside: &mut Cursor<'_>) -> Result<Body, DerFault>
     ensures { Gives (body_of apdu_type inside.old) result }
 {
     if apdu_type == ApduType::IllRequest {
-        return request_inside(alloc, inside);
+        return body_of_request(alloc, inside);
     }
-    let body = body_without_text(apdu_type, inside)?;
+    let body = read_body(apdu_type, inside)?;
     inside.ended()?;
     Ok(body)
 }
 
 /// Decodes the further fields of an ILL-Request, to the end of the contents.
 #[tactic(auto, unfolding(crate::specs::ShortForm::body_of))]
-fn request_inside(alloc: Global, inside: &mut Cursor<'_>) -> Result<Body, DerFault>
+fn body_of_request(alloc: Global, inside: &mut Cursor<'_>) -> Result<Body, DerFault>
     ensures { Gives (body_of ApduType.IllRequest inside.old) result }
 {
     let expiry = inside.optional_date(tags::DATE)?;
@@ -131,7 +123,7 @@ fn request_inside(alloc: Global, inside: &mut Cursor<'_>) -> Result<Body, DerFau
 }
 
 /// Decodes the further fields of a type that has no text.
-fn body_without_text(apdu_type: ApduType, inside: &mut Cursor<'_>) -> Result<Body, DerFault>
+fn read_body(apdu_type: ApduType, inside: &mut Cursor<'_>) -> Result<Body, DerFault>
     requires { apdu_type ≢ ApduType.IllRequest }
     ensures { Reads (λ body. body) result inside.new (read_body apdu_type inside.old) }
 {
@@ -144,12 +136,12 @@ fn body_without_text(apdu_type: ApduType, inside: &mut Cursor<'_>) -> Result<Bod
             result: inside.answer_result(tags::RESULT)?,
         }),
         ApduType::ConditionalReply => {
-            let (answers, yes) = reply_inside(inside)?;
+            let (answers, yes) = read_reply(inside)?;
             Ok(Body::ConditionalReply { answers, yes })
         }
         ApduType::Cancel => Ok(Body::Cancel),
         ApduType::CancelReply => {
-            let (answers, yes) = reply_inside(inside)?;
+            let (answers, yes) = read_reply(inside)?;
             Ok(Body::CancelReply { answers, yes })
         }
         ApduType::Received => Ok(Body::Received),
@@ -164,7 +156,7 @@ fn body_without_text(apdu_type: ApduType, inside: &mut Cursor<'_>) -> Result<Bod
         }),
         ApduType::RenewAnswer => {
             let answers = inside.number(tags::ANSWERS)?;
-            let granted = granted_inside(inside)?;
+            let granted = read_granted(inside)?;
             Ok(Body::RenewAnswer { answers, granted })
         }
         ApduType::Expired => Ok(Body::Expired),
@@ -172,7 +164,7 @@ fn body_without_text(apdu_type: ApduType, inside: &mut Cursor<'_>) -> Result<Bod
 }
 
 /// Reads the number of the message answered, and yes or no.
-fn reply_inside(inside: &mut Cursor<'_>) -> Result<(Number, bool), DerFault>
+fn read_reply(inside: &mut Cursor<'_>) -> Result<(Number, bool), DerFault>
     ensures { Reads (λ found. found) result inside.new (reply.read inside.old) }
 {
     let answers = inside.number(tags::ANSWERS)?;
@@ -181,7 +173,7 @@ fn reply_inside(inside: &mut Cursor<'_>) -> Result<(Number, bool), DerFault>
 }
 
 /// Reads yes or no, and after a yes the new due date.
-fn granted_inside(inside: &mut Cursor<'_>) -> Result<Option<Day>, DerFault>
+fn read_granted(inside: &mut Cursor<'_>) -> Result<Option<Day>, DerFault>
     ensures { Reads (λ found. found) result inside.new
         ((where_yes (required 0x84 yes_no) (required 0x85 date)).read inside.old) }
 {

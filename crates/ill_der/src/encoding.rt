@@ -31,7 +31,11 @@ pub fn encode_onto(bytes: &mut Vec<u8>, apdu: &Apdu) -> Result<(), OutOfMemory>
     ensures spelled { OnOk result (bytes.new.items ≡ bytes.old.items ++ spelling apdu.now) }
     ensures range { OnOk result (IsApdu apdu.now) }
 {
-    push_start(bytes, ApduType::of(&apdu.body).octet(), contents_size(apdu))?;
+    push_start(
+        bytes,
+        ApduType::of(&apdu.body).identifier(),
+        contents_size(apdu),
+    )?;
     push_head(bytes, apdu)?;
     push_body(bytes, &apdu.body)
 }
@@ -67,7 +71,7 @@ fn push_body(bytes: &mut Vec<u8>, body: &Body) -> Result<(), OutOfMemory>
             push_optional_date(bytes, *expiry)?;
             push_element(bytes, tags::ITEM, item.text())
         }
-        Body::IllAnswer { result } => push_element(bytes, tags::RESULT, &[code(*result)]),
+        Body::IllAnswer { result } => push_element(bytes, tags::RESULT, &[code_of(*result)]),
         Body::ConditionalReply { answers, yes } => push_reply(bytes, *answers, *yes),
         Body::CancelReply { answers, yes } => push_reply(bytes, *answers, *yes),
         Body::Shipped { due } => push_date(bytes, *due),
@@ -160,7 +164,7 @@ fn push_start(bytes: &mut Vec<u8>, identifier: u8, contents: usize) -> Result<()
 }
 
 /// The octet of a result.
-fn code(answer: AnswerResult) -> u8
+fn code_of(answer: AnswerResult) -> u8
     ensures { result ≡ code_of answer }
 {
     match answer {

@@ -16,14 +16,14 @@ pub enum LengthForm {
 
 /// The length at the front of these bytes.
 #[tactic(auto, unfolding(crate::specs::Format::length_of))]
-pub fn length_at_front(bytes: &[u8]) -> LengthForm
+pub fn length_of(bytes: &[u8]) -> LengthForm
     ensures value { result ≡ length_of bytes.now }
     ensures few { IsFew result (length bytes.now) }
 {
     match bytes {
         [] => LengthForm::Truncated,
-        [0x81, rest @ ..] => behind_81(rest),
-        [0x82, rest @ ..] => behind_82(rest),
+        [0x81, rest @ ..] => one_octet_length(rest),
+        [0x82, rest @ ..] => two_octet_length(rest),
         [first, ..] => {
             if *first < 0x80 {
                 LengthForm::Definite(u16::from(*first), 1)
@@ -34,7 +34,7 @@ pub fn length_at_front(bytes: &[u8]) -> LengthForm
     }
 }
 
-fn behind_81(bytes: &[u8]) -> LengthForm
+fn one_octet_length(bytes: &[u8]) -> LengthForm
     ensures value { result ≡ one_octet_length bytes.now }
     ensures few { IsFew result (length bytes.now) }
 {
@@ -50,7 +50,7 @@ fn behind_81(bytes: &[u8]) -> LengthForm
     }
 }
 
-fn behind_82(bytes: &[u8]) -> LengthForm
+fn two_octet_length(bytes: &[u8]) -> LengthForm
     ensures value { result ≡ two_octet_length bytes.now }
     ensures few { IsFew result (length bytes.now) }
 {

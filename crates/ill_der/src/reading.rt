@@ -8,7 +8,7 @@ use crate::apdu_type::ApduType;
 use crate::counted::CountedRead;
 use crate::decoding::{MAX_CONTENTS, decode};
 use crate::fault::{DerFault, ReadFault};
-use crate::length::{LengthForm, length_at_front};
+use crate::length::{LengthForm, length_of};
 use crate::steps::Steps;
 use ill_values::Apdu;
 use ill_values::laws::{date_texts, text_sizes};
@@ -91,7 +91,7 @@ fn missing(bytes: &[u8]) -> usize
 {
     match bytes {
         [] => 1,
-        [octet, behind @ ..] => match ApduType::with_octet(*octet) {
+        [identifier, behind @ ..] => match ApduType::with_identifier(*identifier) {
             Some(_) => missing_behind(behind),
             None => 0,
         },
@@ -102,7 +102,7 @@ fn missing(bytes: &[u8]) -> usize
 fn missing_behind(bytes: &[u8]) -> usize
     ensures { result ≡ missing_by (length_of bytes.now) (length bytes.now) }
 {
-    match length_at_front(bytes) {
+    match length_of(bytes) {
         LengthForm::Truncated => 1,
         LengthForm::Invalid => 0,
         LengthForm::Definite(length, _) if length > MAX_CONTENTS => 0,

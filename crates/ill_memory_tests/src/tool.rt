@@ -26,14 +26,14 @@ enum Command {
 }
 
 /// How a side stands: its state, and how many messages it has issued.
-type Standing = (State, u8);
+type SideView = (State, u8);
 
 /// A command, and with ample memory what it writes and how the side stands behind it.
 #[derive(Clone, Copy)]
 struct Case {
     command: Command,
     output: &'static [u8],
-    after: Standing,
+    after: SideView,
 }
 
 /// More bytes than any of these commands writes.
@@ -45,22 +45,22 @@ pub fn outcome(alloc: Global, command: &str, words: &mut Words<'_>) -> Option<Ou
     let role = Role::read(words)?;
     let case = case_of(command, role)?;
     let mut desk = Desk1::start(alloc, store(alloc, role.record())?).ok()?;
-    let before = standing(&desk);
+    let before = side_view(&desk);
     let mut output = Vec::with_capacity(alloc, ROOM).ok()?;
     begin(alloc)?;
     let answer = run(alloc, &mut desk, case.command, &mut output);
     let refused = end(alloc);
-    let live = standing(&desk);
+    let live = side_view(&desk);
     desk.restart(alloc).ok()?;
-    let landed = standing(&desk);
+    let landed = side_view(&desk);
     Some(match answer {
         Ok(true) => {
             let is_written = output.as_slice() == case.output;
             done_if(is_written && live == case.after && landed == case.after)
         }
         Err(ToolFault::OutOfMemory) => {
-            let is_standing = is_stated(before, case.after, live, landed);
-            let is_right = output.is_empty() && is_standing;
+            let is_side_right = is_stated(before, case.after, live, landed);
+            let is_right = output.is_empty() && is_side_right;
             leaving(judged(Outcome::Memory, refused), is_right)
         }
         _ => Outcome::Wrong,
@@ -69,12 +69,12 @@ pub fn outcome(alloc: Global, command: &str, words: &mut Words<'_>) -> Option<Ou
 
 /// Whether a side that stood so before, and would stand so after, may stand so in memory and in its store.
 /// What has landed was done in memory.
-fn is_stated(before: Standing, after: Standing, live: Standing, landed: Standing) -> bool {
+fn is_stated(before: SideView, after: SideView, live: SideView, landed: SideView) -> bool {
     let is_one = live == before || live == after;
     is_one && (landed == before || landed == live)
 }
 
-fn standing(desk: &Desk1<MemoryStore>) -> Standing {
+fn side_view(desk: &Desk1<MemoryStore>) -> SideView {
     (desk.side().state(), desk.side().issued_count())
 }
 
@@ -113,7 +113,7 @@ fn case_of(command: &str, role: Role) -> Option<Case> {
 
 /// A requester in CONDITIONAL, which has issued its request.
 fn requester_case(command: &str) -> Option<Case> {
-    let (command, output, after): (Command, &[u8], Standing) = match command {
+    let (command, output, after): (Command, &[u8], SideView) = match command {
         "run_act" => (
             Command::Act(&["reply", "yes"]),
             b"done PENDING - 2/2\n",
@@ -141,7 +141,7 @@ fn requester_case(command: &str) -> Option<Case> {
 
 /// A responder in IN-PROCESS, which has issued two messages.
 fn responder_case(command: &str) -> Option<Case> {
-    let (command, output, after): (Command, &[u8], Standing) = match command {
+    let (command, output, after): (Command, &[u8], SideView) = match command {
         "run_act" => (
             Command::Act(&["ship", "+14"]),
             b"done SHIPPED 20250315 3/3\n",

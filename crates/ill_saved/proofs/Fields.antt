@@ -13,7 +13,7 @@ use Rattle.ill_values.specs.Text.{IsQualifier, qualifier_check}
 use Rattle.ill_der.specs.declared.fault.DerFault.{DerFault}
 use Rattle.ill_der.specs.declared.fault.DerFault.TheVariants as der
 use Rattle.ill_der.specs.Contents.{Contents, qualifier}
-use Rattle.ill_der.specs.Format.{◌>>=◌, Left, left_at}
+use Rattle.ill_der.specs.Format.{◌>>=◌, Cursor, cursor_at}
 use Rattle.ill_der.specs.ShortForm.{spelling, apdu_at}
 use Rattle.ill_der.specs.Laws.{IsBytes, BeginsWithOne}
 use Rattle.ill_core.specs.declared.state.State.{State}
@@ -36,16 +36,16 @@ pub record Below : Type 0 where
 
 -- a spelled value is read again, from whatever place
 abbrev pub ReadsAgain : {V : Type 0} → Field V → V → ℕ → List ℕ → Type 0
-ReadsAgain f v at more = (after : ℕ) × (f.read (left_at at (f.spell v ++ more)) ≡ Ok (v, left_at after more))
+ReadsAgain f v at more = (after : ℕ) × (f.read (cursor_at at (f.spell v ++ more)) ≡ Ok (v, cursor_at after more))
 
 abbrev pub Takes : {V : Type 0} → Field V → (V → Type 0) → List ℕ → V → List ℕ → Type 0
 Takes f P bytes v rest = (bytes ≡ f.spell v ++ rest) × P v
 
 pub record IsField {V : Type 0} (P : V → Type 0) (f : Field V) : Type 0 where
-  pub takes : (left : Left) (v : V) (rest : Left) → IsBytes left.bytes → f.read left ≡ Ok (v, rest) → Takes f P left.bytes v rest.bytes
+  pub takes : (left : Cursor) (v : V) (rest : Cursor) → IsBytes left.bytes → f.read left ≡ Ok (v, rest) → Takes f P left.bytes v rest.bytes
   pub again : (v : V) (at : ℕ) (more : List ℕ) → P v → ReadsAgain f v at more
 
-pub rest_fits : {V : Type 0} (P : V → Type 0) (f : Field V) → IsField P f → (left : Left) (v : V) (rest : Left) → IsBytes left.bytes → f.read left ≡ Ok (v, rest) → IsBytes rest.bytes
+pub rest_fits : {V : Type 0} (P : V → Type 0) (f : Field V) → IsField P f → (left : Cursor) (v : V) (rest : Cursor) → IsBytes left.bytes → f.read left ≡ Ok (v, rest) → IsBytes rest.bytes
 rest_fits P f is left v rest fits e = IsBytes-rest left.bytes (f.spell v) rest.bytes (is.takes left v rest fits e).0 fits
 
 -- ---- so many bytes
@@ -60,20 +60,20 @@ pub record IsSized {V : Type 0} (P : V → Type 0) (n : ℕ) (contents : Content
   pub again : (v : V) → P v → (contents.read (contents.spell v) ≡ Some v) × (length (contents.spell v) ≡ n)
 
 sized_takes : {V : Type 0} (P : V → Type 0) (n : ℕ) (contents : Contents V) → IsSized P n contents
-    → (left : Left) (v : V) (rest : Left) → IsBytes left.bytes → (sized n contents).read left ≡ Ok (v, rest) → Takes (sized n contents) P left.bytes v rest.bytes
+    → (left : Cursor) (v : V) (rest : Cursor) → IsBytes left.bytes → (sized n contents).read left ≡ Ok (v, rest) → Takes (sized n contents) P left.bytes v rest.bytes
 sized_takes {V} P n contents is left v rest fits e =
-    let whole : List ℕ × Left = (take n left.bytes, left_at (left.at + n) (drop n left.bytes)) in
+    let whole : List ℕ × Cursor = (take n left.bytes, cursor_at (left.at + n) (drop n left.bytes)) in
     let part = bind_ok (bytes_at n left) (λ part. value_at left.at (contents.read part.0) >>= λ value. Ok (value, part.1)) (v, rest) e in
     let found = bind_ok (value_at left.at (contents.read part.0.0)) (λ value. Ok (value, part.0.1)) (v, rest) part.2 in
     let both : (found.0, part.0.1) ≡ (v, rest) = ok_is (found.0, part.0.1) (v, rest) found.2 in
     let there = went_on (ltb (length left.bytes) n) (Ok whole) Short part.0 part.1 in
     let taken : whole ≡ part.0 = ok_is whole part.0 there.1 in
-    let read = ap (λ (p : List ℕ × Left). contents.read p.0) taken ∙ value_found left.at (contents.read part.0.0) found.0 found.1 in
+    let read = ap (λ (p : List ℕ × Cursor). contents.read p.0) taken ∙ value_found left.at (contents.read part.0.0) found.0 found.1 in
     let value = is.takes (take n left.bytes) found.0 (IsBytes-take n left.bytes fits) (length-take-le n left.bytes (ltb-false (length left.bytes) n there.0)) read in
     let parts : left.bytes ≡ contents.spell found.0 ++ part.0.1.bytes =
     sym (take-append-drop n left.bytes) ∙ ap (λ (x : List ℕ). x ++ drop n left.bytes) value.0
-    ∙ ap (λ (p : List ℕ × Left). contents.spell found.0 ++ p.1.bytes) taken in
-    subst (λ (x : V × Left). Takes (sized n contents) P left.bytes x.0 x.1.bytes) both (parts, value.1)
+    ∙ ap (λ (p : List ℕ × Cursor). contents.spell found.0 ++ p.1.bytes) taken in
+    subst (λ (x : V × Cursor). Takes (sized n contents) P left.bytes x.0 x.1.bytes) both (parts, value.1)
 
 sized_again : {V : Type 0} (P : V → Type 0) (n : ℕ) (contents : Contents V) → IsSized P n contents → (v : V) (at : ℕ) (more : List ℕ) → P v → ReadsAgain (sized n contents) v at more
 sized_again P n contents is v at more p =
@@ -168,7 +168,7 @@ abbrev pub Both : {V W : Type 0} → (V → Type 0) → (W → Type 0) → V × 
 Both P Q v = P v.0 × Q v.1
 
 followed_takes : {V W : Type 0} (P : V → Type 0) (Q : W → Type 0) (f : Field V) (g : Field W) → IsField P f → IsField Q g
-    → (left : Left) (v : V × W) (rest : Left) → IsBytes left.bytes → (followed_by f g).read left ≡ Ok (v, rest) → Takes (followed_by f g) (Both P Q) left.bytes v rest.bytes
+    → (left : Cursor) (v : V × W) (rest : Cursor) → IsBytes left.bytes → (followed_by f g).read left ≡ Ok (v, rest) → Takes (followed_by f g) (Both P Q) left.bytes v rest.bytes
 followed_takes {V} {W} P Q f g fs gs left v rest fits e =
     let a = bind_ok (f.read left) (λ a. g.read a.1 >>= λ b. Ok ((a.0, b.0), b.1)) (v, rest) e in
     let b = bind_ok (g.read a.0.1) (λ b. Ok ((a.0.0, b.0), b.1)) (v, rest) a.2 in
@@ -177,7 +177,7 @@ followed_takes {V} {W} P Q f g fs gs left v rest fits e =
     let second = gs.takes a.0.1 b.0.0 b.0.1 (rest_fits P f fs left a.0.0 a.0.1 fits a.1) b.1 in
     let parts : left.bytes ≡ (f.spell a.0.0 ++ g.spell b.0.0) ++ b.0.1.bytes =
     first.0 ∙ ap (λ (x : List ℕ). f.spell a.0.0 ++ x) second.0 ∙ sym (append_assoc (f.spell a.0.0) (g.spell b.0.0) b.0.1.bytes) in
-    subst (λ (x : (V × W) × Left). Takes (followed_by f g) (Both P Q) left.bytes x.0 x.1.bytes) both (parts, (first.1, second.1))
+    subst (λ (x : (V × W) × Cursor). Takes (followed_by f g) (Both P Q) left.bytes x.0 x.1.bytes) both (parts, (first.1, second.1))
 
 followed_again : {V W : Type 0} (P : V → Type 0) (Q : W → Type 0) (f : Field V) (g : Field W) → IsField P f → IsField Q g
     → (v : V × W) (at : ℕ) (more : List ℕ) → Both P Q v → ReadsAgain (followed_by f g) v at more
@@ -203,7 +203,7 @@ qualifier_sized n = record {
   again = λ v p. (rw p.0 refl, p.1);
 }
 
-text_takes : (left : Left) (v : List ℕ) (rest : Left) → IsBytes left.bytes → counted_text.read left ≡ Ok (v, rest) → Takes counted_text IsQualifier left.bytes v rest.bytes
+text_takes : (left : Cursor) (v : List ℕ) (rest : Cursor) → IsBytes left.bytes → counted_text.read left ≡ Ok (v, rest) → Takes counted_text IsQualifier left.bytes v rest.bytes
 text_takes left v rest fits e =
     let size = bind_ok (text_size.read left) (λ size. (sized size.0 qualifier).read size.1) (v, rest) e in
     let first = text_size_is.takes left size.0.0 size.0.1 fits size.1 in
@@ -221,34 +221,34 @@ counted_text_is below = record { takes = text_takes; again = text_again below }
 
 -- ---- APDUs
 
-apdu_found : (left : Left) (r : Result (Apdu × List ℕ) DerFault) (v : Apdu) (rest : Left) → apdu_by left r ≡ Ok (v, rest) → r ≡ Ok (v, rest.bytes)
+apdu_found : (left : Cursor) (r : Result (Apdu × List ℕ) DerFault) (v : Apdu) (rest : Cursor) → apdu_by left r ≡ Ok (v, rest) → r ≡ Ok (v, rest.bytes)
 apdu_found left (Ok found) v rest e =
-    let both = ok_is (found.0, left_at _ found.1) (v, rest) e in
-    ap (λ (x : Apdu × Left). Ok (x.0, x.1.bytes)) both
+    let both = ok_is (found.0, cursor_at _ found.1) (v, rest) e in
+    ap (λ (x : Apdu × Cursor). Ok (x.0, x.1.bytes)) both
 apdu_found left (Err (der.Short n)) v rest e = absurd cc
 apdu_found left (Err (der.Tag at)) v rest e = absurd cc
 apdu_found left (Err (der.Length at)) v rest e = absurd cc
 apdu_found left (Err (der.Field at)) v rest e = absurd cc
 apdu_found left (Err der.OutOfMemory) v rest e = absurd cc
 
-one_taken : Below → (left : Left) (v : Apdu) (rest : Left) → IsBytes left.bytes → apdu.read left ≡ Ok (v, rest) → Takes apdu IsApdu left.bytes v rest.bytes
+one_taken : Below → (left : Cursor) (v : Apdu) (rest : Cursor) → IsBytes left.bytes → apdu.read left ≡ Ok (v, rest) → Takes apdu IsApdu left.bytes v rest.bytes
 one_taken below left v rest fits e =
     let is = subst (BeginsWithOne left.bytes) (apdu_found left (apdu_at left.bytes) v rest e) (below.apdu_or_fault left.bytes fits) in
     (is.0.1, is.0.0)
 
 pub apdu_is : Below → IsField IsApdu apdu
-apdu_is below = record { takes = one_taken below; again = λ v at more p. (_, ap (apdu_by (left_at at (spelling v ++ more))) (below.apdu_again v more p)) }
+apdu_is below = record { takes = one_taken below; again = λ v at more p. (_, ap (apdu_by (cursor_at at (spelling v ++ more))) (below.apdu_again v more p)) }
 
 abbrev pub IsRequest : Apdu → Type 0
 IsRequest a = IsApdu a × (is_ill_request a.body ≡ true)
 
-request_takes : Below → (left : Left) (v : Apdu) (rest : Left) → IsBytes left.bytes → ill_request.read left ≡ Ok (v, rest) → Takes ill_request IsRequest left.bytes v rest.bytes
+request_takes : Below → (left : Cursor) (v : Apdu) (rest : Cursor) → IsBytes left.bytes → ill_request.read left ≡ Ok (v, rest) → Takes ill_request IsRequest left.bytes v rest.bytes
 request_takes below left v rest fits e =
     let found = bind_ok (apdu.read left) (λ found. cond (is_ill_request found.0.body) (Ok found) (Err (Bad left.at))) (v, rest) e in
     let is = passed (is_ill_request found.0.0.body) (Ok found.0) (Bad left.at) (v, rest) found.2 in
     let both : found.0 ≡ (v, rest) = ok_is found.0 (v, rest) is.1 in
     let taken = (apdu_is below).takes left v rest fits (found.1 ∙ ap Ok both) in
-    (taken.0, (taken.1, ap (λ (x : Apdu × Left). is_ill_request x.0.body) (sym both) ∙ is.0))
+    (taken.0, (taken.1, ap (λ (x : Apdu × Cursor). is_ill_request x.0.body) (sym both) ∙ is.0))
 
 request_again : Below → (v : Apdu) (at : ℕ) (more : List ℕ) → IsRequest v → ReadsAgain ill_request v at more
 request_again below v at more p =
@@ -260,24 +260,24 @@ ill_request_is below = record { takes = request_takes below; again = request_aga
 
 -- ---- a field behind a mark
 
-marked_takes : {V : Type 0} (P : V → Type 0) (f : Field V) → IsField P f → (left : Left) (o : Option V) (rest : Left) → IsBytes left.bytes → (marked f).read left ≡ Ok (o, rest)
+marked_takes : {V : Type 0} (P : V → Type 0) (f : Field V) → IsField P f → (left : Cursor) (o : Option V) (rest : Cursor) → IsBytes left.bytes → (marked f).read left ≡ Ok (o, rest)
     → Takes (marked f) (λ o. IfSome o P) left.bytes o rest.bytes
 marked_takes {V} P f fs left o rest fits e =
     let is = bind_ok (mark.read left) (λ is. cond is.0 (f.read is.1 >>= λ found. Ok (Some found.0, found.1)) (Ok (None, is.1))) (o, rest) e in
     let first = mark_is.takes left is.0.0 is.0.1 fits is.1 in
     let behind_fits = rest_fits Any mark mark_is left is.0.0 is.0.1 fits is.1 in
-    elim (chosen {A = Result (Option V × Left) LayoutFault} is.0.0 (f.read is.0.1 >>= λ found. Ok (Some found.0, found.1)) (Ok (None, is.0.1)) (Ok (o, rest)) is.2) [
+    elim (chosen {A = Result (Option V × Cursor) LayoutFault} is.0.0 (f.read is.0.1 >>= λ found. Ok (Some found.0, found.1)) (Ok (None, is.0.1)) (Ok (o, rest)) is.2) [
       | inl h ↦
           let found = bind_ok (f.read is.0.1) (λ found. Ok (Some found.0, found.1)) (o, rest) h.1 in
           let both : (Some found.0.0, found.0.1) ≡ (o, rest) = ok_is (Some found.0.0, found.0.1) (o, rest) found.2 in
           let second = fs.takes is.0.1 found.0.0 found.0.1 behind_fits found.1 in
           let parts : left.bytes ≡ (mark.spell true ++ f.spell found.0.0) ++ found.0.1.bytes =
           first.0 ∙ ap (λ (b : Bool). mark.spell b ++ is.0.1.bytes) h.0 ∙ ap (λ (x : List ℕ). mark.spell true ++ x) second.0 in
-          subst (λ (x : Option V × Left). Takes (marked f) (λ o. IfSome o P) left.bytes x.0 x.1.bytes) both (parts, second.1)
+          subst (λ (x : Option V × Cursor). Takes (marked f) (λ o. IfSome o P) left.bytes x.0 x.1.bytes) both (parts, second.1)
       | inr h ↦
           let both : (None, is.0.1) ≡ (o, rest) = ok_is (None, is.0.1) (o, rest) h.1 in
           let parts : left.bytes ≡ mark.spell false ++ is.0.1.bytes = first.0 ∙ ap (λ (b : Bool). mark.spell b ++ is.0.1.bytes) h.0 in
-          subst (λ (x : Option V × Left). Takes (marked f) (λ o. IfSome o P) left.bytes x.0 x.1.bytes) both (parts, tt)
+          subst (λ (x : Option V × Cursor). Takes (marked f) (λ o. IfSome o P) left.bytes x.0 x.1.bytes) both (parts, tt)
     ]
 
 marked_again : {V : Type 0} (P : V → Type 0) (f : Field V) → IsField P f → (o : Option V) (at : ℕ) (more : List ℕ) → IfSome o P → ReadsAgain (marked f) o at more
@@ -294,12 +294,12 @@ marked_is P f fs = record { takes = marked_takes P f fs; again = marked_again P 
 
 -- ---- so many of a field
 
-all_takes : {V : Type 0} (P : V → Type 0) (f : Field V) → IsField P f → (n : ℕ) (left : Left) (vs : List V) (rest : Left) → IsBytes left.bytes → read_all f n left ≡ Ok (vs, rest)
+all_takes : {V : Type 0} (P : V → Type 0) (f : Field V) → IsField P f → (n : ℕ) (left : Cursor) (vs : List V) (rest : Cursor) → IsBytes left.bytes → read_all f n left ≡ Ok (vs, rest)
     → (left.bytes ≡ spell_all f.spell vs ++ rest.bytes) × Each P vs × (length vs ≡ n)
 unfolding read_all spell_all Each
 all_takes {V} P f fs zero left vs rest fits e =
     let both : ([], left) ≡ (vs, rest) = ok_is ([], left) (vs, rest) e in
-    subst (λ (x : List V × Left). (left.bytes ≡ spell_all f.spell x.0 ++ x.1.bytes) × Each P x.0 × (length x.0 ≡ zero)) both (refl, tt, refl)
+    subst (λ (x : List V × Cursor). (left.bytes ≡ spell_all f.spell x.0 ++ x.1.bytes) × Each P x.0 × (length x.0 ≡ zero)) both (refl, tt, refl)
 all_takes {V} P f fs (suc n) left vs rest fits e =
     let first = bind_ok (f.read left) (λ first. read_all f n first.1 >>= λ others. Ok (first.0 ∷ others.0, others.1)) (vs, rest) e in
     let others = bind_ok (read_all f n first.0.1) (λ others. Ok (first.0.0 ∷ others.0, others.1)) (vs, rest) first.2 in
@@ -308,10 +308,10 @@ all_takes {V} P f fs (suc n) left vs rest fits e =
     let more = all_takes P f fs n first.0.1 others.0.0 others.0.1 (rest_fits P f fs left first.0.0 first.0.1 fits first.1) others.1 in
     let parts : left.bytes ≡ (f.spell first.0.0 ++ spell_all f.spell others.0.0) ++ others.0.1.bytes =
     one.0 ∙ ap (λ (x : List ℕ). f.spell first.0.0 ++ x) more.0 ∙ sym (append_assoc (f.spell first.0.0) (spell_all f.spell others.0.0) others.0.1.bytes) in
-    subst (λ (x : List V × Left). (left.bytes ≡ spell_all f.spell x.0 ++ x.1.bytes) × Each P x.0 × (length x.0 ≡ suc n)) both (parts, (one.1, more.1), ap suc more.2)
+    subst (λ (x : List V × Cursor). (left.bytes ≡ spell_all f.spell x.0 ++ x.1.bytes) × Each P x.0 × (length x.0 ≡ suc n)) both (parts, (one.1, more.1), ap suc more.2)
 
 all_again : {V : Type 0} (P : V → Type 0) (f : Field V) → IsField P f → (vs : List V) (at : ℕ) (more : List ℕ) → Each P vs
-    → (after : ℕ) × (read_all f (length vs) (left_at at (spell_all f.spell vs ++ more)) ≡ Ok (vs, left_at after more))
+    → (after : ℕ) × (read_all f (length vs) (cursor_at at (spell_all f.spell vs ++ more)) ≡ Ok (vs, cursor_at after more))
 unfolding read_all spell_all Each
 all_again P f fs [] at more p = (at, refl)
 all_again P f fs (v ∷ vs) at more p =
@@ -322,7 +322,7 @@ all_again P f fs (v ∷ vs) at more p =
 abbrev pub Counted : {V : Type 0} → (V → Type 0) → List V → Type 0
 Counted P vs = Each P vs × (length vs < 256)
 
-counted_takes : {V : Type 0} (P : V → Type 0) (f : Field V) → IsField P f → (left : Left) (vs : List V) (rest : Left) → IsBytes left.bytes → (counted f).read left ≡ Ok (vs, rest)
+counted_takes : {V : Type 0} (P : V → Type 0) (f : Field V) → IsField P f → (left : Cursor) (vs : List V) (rest : Cursor) → IsBytes left.bytes → (counted f).read left ≡ Ok (vs, rest)
     → Takes (counted f) (Counted P) left.bytes vs rest.bytes
 counted_takes P f fs left vs rest fits e =
     let n = bind_ok (count.read left) (λ n. read_all f n.0 n.1) (vs, rest) e in

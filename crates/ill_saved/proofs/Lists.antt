@@ -1,6 +1,6 @@
 -- Fields that stand one after another.
 use Rattle.std.proofs.Common.{◌≡◌, ℕ, suc, ◌+◌, ◌<◌, ◌≤◌, length, drop, List, [], ◌∷◌, ◌++◌, Result, Ok, Err, refl, ap, sym, subst, ◌∙◌, append_assoc, append-nil}
-use Rattle.ill_der.specs.Format.{◌>>=◌, Left}
+use Rattle.ill_der.specs.Format.{◌>>=◌, Cursor}
 use Rattle.ill_saved.specs.declared.fault.LayoutFault.{LayoutFault}
 use Rattle.ill_saved.specs.declared.fault.LayoutFault.TheVariants.{Short, Bad}
 use Rattle.ill_saved.specs.declared.fault.RecordFault.{RecordFault}
@@ -11,45 +11,45 @@ use Rattle.std.proofs.lemmas.List.{at_drop_all, drop_more}
 use Rattle.ill_saved.specs.Ranges.{Each}
 
 -- further values behind those that were read
-abbrev pub behind : {V : Type 0} → List V → Result (List V × Left) LayoutFault → Result (List V × Left) LayoutFault
+abbrev pub behind : {V : Type 0} → List V → Result (List V × Cursor) LayoutFault → Result (List V × Cursor) LayoutFault
 behind values read = read >>= λ found. Ok (values ++ found.0, found.1)
 
-pub behind_none : {V : Type 0} (read : Result (List V × Left) LayoutFault) → behind [] read ≡ read
+pub behind_none : {V : Type 0} (read : Result (List V × Cursor) LayoutFault) → behind [] read ≡ read
 behind_none (Ok found) = refl
 behind_none (Err fault) = refl
 
-behind_more : {V : Type 0} (values : List V) (v : V) (read : Result (List V × Left) LayoutFault)
+behind_more : {V : Type 0} (values : List V) (v : V) (read : Result (List V × Cursor) LayoutFault)
     → behind values (read >>= λ others. Ok (v ∷ others.0, others.1)) ≡ behind (values ++ v ∷ []) read
 behind_more values v (Ok others) = ap (λ vs. Ok (vs, others.1)) (sym (append_assoc values (v ∷ []) others.0))
 behind_more values v (Err fault) = refl
 
-read_more : {V : Type 0} (field : Field V) (n : ℕ) (left : Left) → read_all field (suc n) left ≡ (field.read left >>= λ first. read_all field n first.1 >>= λ others. Ok (first.0 ∷ others.0, others.1))
+read_more : {V : Type 0} (field : Field V) (n : ℕ) (left : Cursor) → read_all field (suc n) left ≡ (field.read left >>= λ first. read_all field n first.1 >>= λ others. Ok (first.0 ∷ others.0, others.1))
 unfolding read_all
 read_more field n left = refl
 
-read_none : {V : Type 0} (field : Field V) (left : Left) → read_all field 0 left ≡ Ok ([], left)
+read_none : {V : Type 0} (field : Field V) (left : Cursor) → read_all field 0 left ≡ Ok ([], left)
 unfolding read_all
 read_none field left = refl
 
 -- one more was read
-pub one_read : {V : Type 0} (field : Field V) (values : List V) (n : ℕ) (left next : Left) (v : V) → field.read left ≡ Ok (v, next)
+pub one_read : {V : Type 0} (field : Field V) (values : List V) (n : ℕ) (left next : Cursor) (v : V) → field.read left ≡ Ok (v, next)
     → behind values (read_all field (suc n) left) ≡ behind (values ++ v ∷ []) (read_all field n next)
 one_read field values n left next v read =
     ap (behind values) (read_more field n left ∙ ap (λ r. r >>= λ first. read_all field n first.1 >>= λ others. Ok (first.0 ∷ others.0, others.1)) read)
     ∙ behind_more values v (read_all field n next)
 
 -- one could not be read
-pub none_read : {V : Type 0} (field : Field V) (values : List V) (n : ℕ) (left : Left) (fault : LayoutFault) → field.read left ≡ Err fault
+pub none_read : {V : Type 0} (field : Field V) (values : List V) (n : ℕ) (left : Cursor) (fault : LayoutFault) → field.read left ≡ Err fault
     → behind values (read_all field (suc n) left) ≡ Err fault
 none_read field values n left fault read =
     ap (behind values) (read_more field n left ∙ ap (λ r. r >>= λ first. read_all field n first.1 >>= λ others. Ok (first.0 ∷ others.0, others.1)) read)
 
 -- all were read
-pub all_read : {V : Type 0} (field : Field V) (values : List V) (left : Left) → behind values (read_all field 0 left) ≡ Ok (values, left)
+pub all_read : {V : Type 0} (field : Field V) (values : List V) (left : Cursor) → behind values (read_all field 0 left) ≡ Ok (values, left)
 all_read field values left = ap (behind values) (read_none field left) ∙ ap (λ vs. Ok (vs, left)) (append-nil values)
 
 -- a fault stays the fault
-pub fault_kept : {X Y V W : Type 0} (f : X → V) (g : Y → W) (fault : RecordFault) (left next : Left) (first : Result (V × Left) LayoutFault) (then_read : Result (W × Left) LayoutFault)
+pub fault_kept : {X Y V W : Type 0} (f : X → V) (g : Y → W) (fault : RecordFault) (left next : Cursor) (first : Result (V × Cursor) LayoutFault) (then_read : Result (W × Cursor) LayoutFault)
     → ((d : LayoutFault) → first ≡ Err d → then_read ≡ Err d) → ReadsInMemory f (Err fault) left first → ReadsInMemory g (Err fault) next then_read
 fault_kept f g faults.Short left next first then_read stays read = stays Short read
 fault_kept f g (faults.Bad at) left next first then_read stays read = stays (Bad at) read

@@ -13,7 +13,7 @@ use Rattle.ill_values.specs.Apdu.{IsApdu, IsNumber}
 use Rattle.ill_values.specs.Text.{IsQualifier}
 use Rattle.ill_values.specs.TxnId.{Qualifiers}
 use Rattle.ill_values.specs.declared.fault.DayFault.{DayFault}
-use Rattle.ill_der.specs.Format.{◌>>=◌, Left, left_at}
+use Rattle.ill_der.specs.Format.{◌>>=◌, Cursor, cursor_at}
 use Rattle.ill_der.specs.Laws.{IsBytes}
 use Rattle.ill_core.specs.declared.state.State.{State}
 use Rattle.ill_core.specs.declared.state.State.TheVariants.{Idle, Pending, InProcess, Received, NotReceivedOverdue, CheckedIn}
@@ -25,7 +25,7 @@ use Rattle.ill_saved.specs.declared.fault.LayoutFault.TheVariants.{Bad}
 use Rattle.ill_saved.specs.declared.side.Side.{Side}
 use Rattle.ill_saved.specs.declared.side.Side.TheVariants as sides
 use Rattle.ill_saved.specs.Layout.{ended, apdu, ill_request, marked, counted, counted_text, optional_number, mark, constant, followed_by}
-use Rattle.ill_saved.specs.Records.{no_date, due_text, due_from, found_date, due, front, requester_states, responder_states, requester_rest, responder_rest, requester_fields, responder_fields, version, start, spell_start, is_responder, spell_fields, record_spelling, read_requester, read_responder, read_fields, side_at, record_at, state_in}
+use Rattle.ill_saved.specs.Records.{no_date, due_octets, due_from, found_date, due, front, requester_states, responder_states, requester_rest, responder_rest, requester_fields, responder_fields, version, start, spell_start, is_responder, spell_fields, record_spelling, read_requester, read_responder, read_fields, side_at, record_at, state_in}
 use Rattle.ill_saved.specs.Ranges.{IsInRange, IsSide}
 use Rattle.ill_saved.proofs.Steps.{bind_ok, chosen, passed, ok_is}
 use Rattle.ill_saved.proofs.Fields.{Below, IsField, Any, Both, Counted, IsAmong, IsRequest, rest_fits, sized_is, constant_is, optional_number_is, mark_is, state_is, followed_is, counted_text_is, apdu_is, ill_request_is, marked_is, counted_is}
@@ -40,14 +40,14 @@ day_found : (r : Result Date DayFault) (d : Date) → result_ok r ≡ Some d →
 day_found (Ok x) d e = ap Ok (same_Some x d e)
 day_found (Err f) d e = absurd cc
 
-due_takes : Below → (bytes : List ℕ) (o : Option Date) → IsBytes bytes → length bytes ≡ 8 → due_from bytes ≡ Some o → (bytes ≡ due_text o) × IfSome o IsDate
+due_takes : Below → (bytes : List ℕ) (o : Option Date) → IsBytes bytes → length bytes ≡ 8 → due_from bytes ≡ Some o → (bytes ≡ due_octets o) × IfSome o IsDate
 due_takes below bytes o fits size e =
     elim (chosen (bytes_eq bytes no_date) (Some None) (found_date (result_ok (read_date bytes))) (Some o) e) [
-      | inl h ↦ subst (λ (x : Option Date). (bytes ≡ due_text x) × IfSome x IsDate) (same_Some None o h.1) ((bytes_eq-Decides bytes no_date).0 h.0, tt)
+      | inl h ↦ subst (λ (x : Option Date). (bytes ≡ due_octets x) × IfSome x IsDate) (same_Some None o h.1) ((bytes_eq-Decides bytes no_date).0 h.0, tt)
       | inr h ↦
           let found = found_is (result_ok (read_date bytes)) o h.1 in
           let is = below.day_read bytes found.0 (day_found (read_date bytes) found.0 found.1) in
-          subst (λ (x : Option Date). (bytes ≡ due_text x) × IfSome x IsDate) found.2 (is.1, is.0)
+          subst (λ (x : Option Date). (bytes ≡ due_octets x) × IfSome x IsDate) found.2 (is.1, is.0)
     ]
 
 no_zero_date : (d : Date) → read_date (date_text d) ≡ Ok d → date_text d ≡ no_date → ⊥
@@ -57,7 +57,7 @@ another_text : (d : Date) (b : Bool) → read_date (date_text d) ≡ Ok d → by
 another_text d true again is = absurd (no_zero_date d again ((bytes_eq-Decides (date_text d) no_date).0 is))
 another_text d false again is = refl
 
-due_again : Below → (o : Option Date) → IfSome o IsDate → (due_from (due_text o) ≡ Some o) × (length (due_text o) ≡ 8)
+due_again : Below → (o : Option Date) → IfSome o IsDate → (due_from (due_octets o) ≡ Some o) × (length (due_octets o) ≡ 8)
 due_again below None p = (refl, refl)
 due_again below (Some d) p =
     let again = below.day_spelled d p in
@@ -121,15 +121,15 @@ request_is txn None of p = tt
 request_is txn (Some a) of p = (p, (and_parts (is_same_txn a.txn txn) (is_ill_request a.body) of).1)
 
 -- what was read of a side
-abbrev ReadsSide : Bool → Left → Side → Left → Type 0
+abbrev ReadsSide : Bool → Cursor → Side → Cursor → Type 0
 ReadsSide b left side rest = (is_responder side ≡ b) × (left.bytes ≡ spell_fields side ++ rest.bytes) × IsInRange side
 
-requester_takes : Below → (left : Left) (side : Side) (rest : Left) → IsBytes left.bytes → read_requester left ≡ Ok (side, rest) → ReadsSide false left side rest
+requester_takes : Below → (left : Cursor) (side : Side) (rest : Cursor) → IsBytes left.bytes → read_requester left ≡ Ok (side, rest) → ReadsSide false left side rest
 requester_takes below left side rest fits e =
     let fields = bind_ok (requester_fields.read left) _ (side, rest) e in
     let both = ok_is _ (side, rest) fields.2 in
     let is = (requester_fields_is below).takes left fields.0.0 fields.0.1 fits fields.1 in
-    subst (λ (x : Side × Left). ReadsSide false left x.0 x.1) both (
+    subst (λ (x : Side × Cursor). ReadsSide false left x.0 x.1) both (
       refl,
       is.0,
       record {
@@ -143,12 +143,12 @@ requester_takes below left side rest fits e =
       },
     )
 
-responder_takes : Below → (left : Left) (side : Side) (rest : Left) → IsBytes left.bytes → read_responder left ≡ Ok (side, rest) → ReadsSide true left side rest
+responder_takes : Below → (left : Cursor) (side : Side) (rest : Cursor) → IsBytes left.bytes → read_responder left ≡ Ok (side, rest) → ReadsSide true left side rest
 responder_takes below left side rest fits e =
     let fields = bind_ok (responder_fields.read left) _ (side, rest) e in
     let both = ok_is _ (side, rest) fields.2 in
     let is = (responder_fields_is below).takes left fields.0.0 fields.0.1 fits fields.1 in
-    subst (λ (x : Side × Left). ReadsSide true left x.0 x.1) both (
+    subst (λ (x : Side × Cursor). ReadsSide true left x.0 x.1) both (
       refl,
       is.0,
       record {
@@ -164,19 +164,19 @@ responder_takes below left side rest fits e =
       },
     )
 
-fields_take : Below → (b : Bool) (left : Left) (side : Side) (rest : Left) → IsBytes left.bytes → read_fields b left ≡ Ok (side, rest) → ReadsSide b left side rest
+fields_take : Below → (b : Bool) (left : Cursor) (side : Side) (rest : Cursor) → IsBytes left.bytes → read_fields b left ≡ Ok (side, rest) → ReadsSide b left side rest
 fields_take below true left side rest fits e = responder_takes below left side rest fits e
 fields_take below false left side rest fits e = requester_takes below left side rest fits e
 
-ends : (left : Left) (x : Unit {0}) → ended left ≡ Ok x → left.bytes ≡ []
+ends : (left : Cursor) (x : Unit {0}) → ended left ≡ Ok x → left.bytes ≡ []
 ends left x e = nil_from_length left.bytes (eqb-true (length left.bytes) 0 (passed (eqb (length left.bytes) 0) (Ok tt) (Bad left.at) x e).0)
 
 pub side_takes : Below → (bytes : List ℕ) (side : Side) → IsBytes bytes → record_at bytes ≡ Ok side → (bytes ≡ record_spelling side) × IsInRange side
 unfolding record_at record_spelling
 side_takes below bytes side fits e =
-    let begun = bind_ok (start.read (left_at 0 bytes)) (λ start. side_at start.0.1 start.1) side e in
-    let first = start_is.takes (left_at 0 bytes) begun.0.0 begun.0.1 fits begun.1 in
-    let behind_fits = rest_fits _ start start_is (left_at 0 bytes) begun.0.0 begun.0.1 fits begun.1 in
+    let begun = bind_ok (start.read (cursor_at 0 bytes)) (λ start. side_at start.0.1 start.1) side e in
+    let first = start_is.takes (cursor_at 0 bytes) begun.0.0 begun.0.1 fits begun.1 in
+    let behind_fits = rest_fits _ start start_is (cursor_at 0 bytes) begun.0.0 begun.0.1 fits begun.1 in
     let found = bind_ok (read_fields begun.0.0.1 begun.0.1) (λ found. ended found.1 >>= λ _. Ok found.0) side begun.2 in
     let last = bind_ok (ended found.0.1) (λ _. Ok found.0.0) side found.2 in
     let same : found.0.0 ≡ side = ok_is found.0.0 side last.2 in
@@ -195,7 +195,7 @@ responder_state_is Idle role = refl
 responder_state_is state role = search rules
 
 -- the fields of a side are read again
-fields_again : Below → (side : Side) (at : ℕ) (more : List ℕ) → IsSide side → (after : ℕ) × (read_fields (is_responder side) (left_at at (spell_fields side ++ more)) ≡ Ok (side, left_at after more))
+fields_again : Below → (side : Side) (at : ℕ) (more : List ℕ) → IsSide side → (after : ℕ) × (read_fields (is_responder side) (cursor_at at (spell_fields side ++ more)) ≡ Ok (side, cursor_at after more))
 fields_again below (sides.Requester x) at more is =
     let range = is.1 in
     let read = (requester_fields_is below).again ((x.state, (x.txn.group, x.txn.transaction)), (x.held, (x.checked_in, (x.due, x.issued)))) at more
@@ -215,8 +215,8 @@ unfolding record_at record_spelling
 side_again below side is =
     let begun = start_is.again ((tt, (tt, (tt, tt))), is_responder side) 0 (spell_fields side) ((tt, (tt, (tt, tt))), tt) in
     let fields = fields_again below side begun.0 [] is in
-    let whole : read_fields (is_responder side) (left_at begun.0 (spell_fields side)) ≡ Ok (side, left_at fields.0 []) =
-    ap (λ (x : List ℕ). read_fields (is_responder side) (left_at begun.0 x)) (sym (append-nil (spell_fields side))) ∙ fields.1 in
+    let whole : read_fields (is_responder side) (cursor_at begun.0 (spell_fields side)) ≡ Ok (side, cursor_at fields.0 []) =
+    ap (λ (x : List ℕ). read_fields (is_responder side) (cursor_at begun.0 x)) (sym (append-nil (spell_fields side))) ∙ fields.1 in
     rw (begun.1, whole) refl
 
 pub one_side : ((side : Side) → IsSide side → record_at (record_spelling side) ≡ Ok side)

@@ -1,14 +1,14 @@
 -- A record is read behind its version and its role.
 use Rattle.std.proofs.Common.{◌≡◌, ℕ, Bool, List, Result, Ok, ap, sym, subst}
-use Rattle.ill_der.specs.Format.{◌>>=◌, Left, left_at}
+use Rattle.ill_der.specs.Format.{◌>>=◌, Cursor, cursor_at}
 use Rattle.ill_saved.specs.declared.fault.RecordFault.{RecordFault}
 use Rattle.ill_saved.specs.declared.side.Side.{Side}
-use Rattle.ill_saved.specs.Records.{start, side_at, record_at, front_stands, stands_behind, begins_as_record, Decodes}
+use Rattle.ill_saved.specs.Records.{start, side_at, record_at, has_front, has_front_behind, begins_as_record, Decodes}
 
-pub decodes_behind : (bytes : List ℕ) (is_responder : Bool) (left : Left) (result : Result Side RecordFault) → start.read (left_at 0 bytes) ≡ Ok (((tt, (tt, (tt, tt))), is_responder), left)
-    → Decodes (side_at is_responder left) (front_stands is_responder left) result → Decodes (record_at bytes) (begins_as_record bytes) result
+pub decodes_behind : (bytes : List ℕ) (is_responder : Bool) (left : Cursor) (result : Result Side RecordFault) → start.read (cursor_at 0 bytes) ≡ Ok (((tt, (tt, (tt, tt))), is_responder), left)
+    → Decodes (side_at is_responder left) (has_front is_responder left) result → Decodes (record_at bytes) (begins_as_record bytes) result
 unfolding record_at begins_as_record
 decodes_behind bytes is_responder left result read decodes =
     let same : record_at bytes ≡ side_at is_responder left = ap (λ r. r >>= λ start. side_at start.0.1 start.1) read in
-    let begins : begins_as_record bytes ≡ front_stands is_responder left = ap stands_behind read in
+    let begins : begins_as_record bytes ≡ has_front is_responder left = ap has_front_behind read in
     subst (λ r. Decodes r (begins_as_record bytes) result) (sym same) (subst (λ b. Decodes (side_at is_responder left) b result) (sym begins) decodes)

@@ -19,7 +19,7 @@ use Rattle.ill_core.specs.Requester.{begins_with_request}
 use Rattle.ill_saved.specs.declared.side.Side.{Side}
 use Rattle.ill_saved.specs.declared.side.Side.TheVariants as sides
 use Rattle.ill_saved.specs.Layout.{apdu, ill_request, marked, counted, spell_all}
-use Rattle.ill_saved.specs.Records.{due_text, front, requester_states, responder_states, requester_rest, responder_rest, record_spelling}
+use Rattle.ill_saved.specs.Records.{due_octets, front, requester_states, responder_states, requester_rest, responder_rest, record_spelling}
 use Rattle.ill_saved.specs.Ranges.{Each, IsSide}
 
 -- What the laws of the crates below say: how long a qualifier is, an APDU, and one that is no request.
@@ -72,7 +72,7 @@ none_requested (a ∷ apdus) role =
 front_bound : (states : List State) (state : State) (group transaction : List ℕ) → length group ≤ 64 → length transaction ≤ 64 → length ((front states).spell (state, (group, transaction))) ≤ 131
 front_bound states state group transaction eg et = omega (arith, eg, et, length-append group (length transaction ∷ transaction))
 
-due_length : (o : Option Date) → length (due_text o) ≡ 8
+due_length : (o : Option Date) → length (due_octets o) ≡ 8
 due_length None = refl
 due_length (Some d) = refl
 
@@ -90,7 +90,7 @@ record_bound bounds (sides.Requester x) is =
       arith,
       front_bound requester_states x.state x.txn.group x.txn.transaction (bounds.qualifier x.txn.group txn.group).1 (bounds.qualifier x.txn.transaction txn.transaction).1,
       length-append head (requester_rest.spell (x.held, (x.checked_in, (x.due, x.issued)))),
-      length-append (due_text x.due) ((counted apdu).spell x.issued),
+      length-append (due_octets x.due) ((counted apdu).spell x.issued),
       due_length x.due,
       requester_issued_bound bounds x.issued is.1.issued is.0.request,
       is.1.few,

@@ -5,7 +5,7 @@ use Rattle.ill_values.specs.declared.apdu.Apdu.{Apdu}
 use Rattle.ill_der.specs.declared.fault.DerFault.{DerFault}
 use Rattle.ill_der.specs.declared.fault.DerFault.TheVariants as der
 use Rattle.ill_der.specs.Contents.{Contents, qualifier}
-use Rattle.ill_der.specs.Format.{◌>>=◌, Left, left_at}
+use Rattle.ill_der.specs.Format.{◌>>=◌, Cursor, cursor_at}
 use Rattle.ill_der.specs.ShortForm.{spelling, apdu_at}
 use Rattle.ill_core.specs.Bodies.{is_ill_request}
 use Rattle.ill_saved.specs.declared.fault.LayoutFault.{LayoutFault}
@@ -16,13 +16,13 @@ use Rattle.ill_saved.specs.declared.fault.RecordFault.TheVariants as faults
 -- how a value is spelled, and how it is read from what is left of a record
 pub record Field (V : Type 0) : Type 0 where
   pub spell : V → List ℕ
-  pub read : Left → Result (V × Left) LayoutFault
+  pub read : Cursor → Result (V × Cursor) LayoutFault
 
 -- so many bytes, which must stand
-abbrev pub bytes_at : ℕ → Left → Result (List ℕ × Left) LayoutFault
+abbrev pub bytes_at : ℕ → Cursor → Result (List ℕ × Cursor) LayoutFault
 bytes_at n left =
     if nat_lt (length left.bytes) n then Err Short
-    else Ok (take n left.bytes, left_at (left.at + n) (drop n left.bytes))
+    else Ok (take n left.bytes, cursor_at (left.at + n) (drop n left.bytes))
 
 -- the value, or that it is wrong at its first byte
 abbrev pub value_at : {V : Type 0} → ℕ → Option V → Result V LayoutFault
@@ -86,9 +86,9 @@ counted_text = record {
 }
 
 -- an APDU in its short form, where the bytes begin with one
-abbrev pub apdu_by : Left → Result (Apdu × List ℕ) DerFault → Result (Apdu × Left) LayoutFault
+abbrev pub apdu_by : Cursor → Result (Apdu × List ℕ) DerFault → Result (Apdu × Cursor) LayoutFault
 apdu_by left (Ok found) =
-    Ok (found.0, left_at (left.at + (length left.bytes - length found.1)) found.1)
+    Ok (found.0, cursor_at (left.at + (length left.bytes - length found.1)) found.1)
 apdu_by left (Err (der.Short n)) = Err Short
 apdu_by left (Err other) = Err (Bad left.at)
 
@@ -121,7 +121,7 @@ unfoldable pub spell_all : {V : Type 0} → (V → List ℕ) → List V → List
 spell_all spell [] = []
 spell_all spell (v ∷ values) = spell v ++ spell_all spell values
 
-unfoldable pub read_all : {V : Type 0} → Field V → ℕ → Left → Result (List V × Left) LayoutFault
+unfoldable pub read_all : {V : Type 0} → Field V → ℕ → Cursor → Result (List V × Cursor) LayoutFault
 read_all field zero left = Ok ([], left)
 read_all field (suc n) left =
     field.read left >>= λ first. read_all field n first.1 >>= λ others.
@@ -135,12 +135,12 @@ counted field = record {
 }
 
 -- nothing is left
-abbrev pub ended : Left → Result (Unit {0}) LayoutFault
+abbrev pub ended : Cursor → Result (Unit {0}) LayoutFault
 ended left = if length left.bytes == 0 then Ok tt else Err (Bad left.at)
 
 -- A reader gave what reading gives, its value seen by view, and left the cursor where reading does.
-abbrev pub Reads : {X V : Type 0} → (X → V) → Result X LayoutFault → Left →
-    Result (V × Left) LayoutFault → Type 0
+abbrev pub Reads : {X V : Type 0} → (X → V) → Result X LayoutFault → Cursor →
+    Result (V × Cursor) LayoutFault → Type 0
 Reads view (Ok value) left read = read ≡ Ok (view value, left)
 Reads view (Err fault) left read = read ≡ Err fault
 
@@ -149,8 +149,8 @@ record_fault Short = faults.Short
 record_fault (Bad at) = faults.Bad at
 
 -- The same of a reader that takes memory, which it may want.
-abbrev pub ReadsInMemory : {X V : Type 0} → (X → V) → Result X RecordFault → Left →
-    Result (V × Left) LayoutFault → Type 0
+abbrev pub ReadsInMemory : {X V : Type 0} → (X → V) → Result X RecordFault → Cursor →
+    Result (V × Cursor) LayoutFault → Type 0
 ReadsInMemory view (Ok value) left read = read ≡ Ok (view value, left)
 ReadsInMemory view (Err faults.Short) left read = read ≡ Err Short
 ReadsInMemory view (Err (faults.Bad at)) left read = read ≡ Err (Bad at)

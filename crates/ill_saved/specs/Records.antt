@@ -4,7 +4,7 @@ use Rattle.std.specs.Str.{bytes_eq}
 use Rattle.std.specs.Result.{result_ok}
 use Rattle.ill_values.specs.Day.{Date, date_text, read_date}
 use Rattle.ill_values.specs.declared.apdu.Apdu.{Apdu}
-use Rattle.ill_der.specs.Format.{◌>>=◌, Left, left_at}
+use Rattle.ill_der.specs.Format.{◌>>=◌, Cursor, cursor_at}
 use Rattle.ill_core.specs.declared.state.State.{State}
 use Rattle.ill_core.specs.declared.state.State.TheVariants.{Idle, Pending, InProcess, Conditional, CancelPending, Cancelled, NotSupplied, Shipped, Received, RenewPending, Overdue, RenewOverdue, NotReceivedOverdue, Recall, Returned, CheckedIn}
 use Rattle.ill_core.specs.Requester.{RequesterRecord, requester_of}
@@ -58,9 +58,9 @@ state_in states = octet state_code (state_with states)
 abbrev pub no_date : List ℕ
 no_date = 48 ∷ 48 ∷ 48 ∷ 48 ∷ 48 ∷ 48 ∷ 48 ∷ 48 ∷ []
 
-abbrev pub due_text : Option Date → List ℕ
-due_text None = no_date
-due_text (Some due) = date_text due
+abbrev pub due_octets : Option Date → List ℕ
+due_octets None = no_date
+due_octets (Some due) = date_text due
 
 abbrev pub found_date : Option Date → Option (Option Date)
 found_date None = None
@@ -70,7 +70,7 @@ abbrev pub due_from : List ℕ → Option (Option Date)
 due_from text = if bytes_eq text no_date then Some None else found_date (result_ok (read_date text))
 
 abbrev pub due : Field (Option Date)
-due = sized 8 (record { spell = due_text; read = due_from })
+due = sized 8 (record { spell = due_octets; read = due_from })
 
 -- what a record of both roles begins with: the state and the two qualifiers
 abbrev pub front : List State → Field (State × (List ℕ × List ℕ))
@@ -136,7 +136,7 @@ unfoldable pub record_spelling : Side → List ℕ
 record_spelling side = spell_start (is_responder side) ++ spell_fields side
 
 -- the record of the fields that were read
-abbrev pub read_requester : Left → Result (Side × Left) LayoutFault
+abbrev pub read_requester : Cursor → Result (Side × Cursor) LayoutFault
 read_requester left =
     requester_fields.read left >>= λ found.
     let front = found.0.0 in
@@ -147,7 +147,7 @@ read_requester left =
       found.1,
     )
 
-abbrev pub read_responder : Left → Result (Side × Left) LayoutFault
+abbrev pub read_responder : Cursor → Result (Side × Cursor) LayoutFault
 read_responder left =
     responder_fields.read left >>= λ found.
     let front = found.0.0 in
@@ -158,33 +158,33 @@ read_responder left =
       found.1,
     )
 
-abbrev pub read_fields : Bool → Left → Result (Side × Left) LayoutFault
+abbrev pub read_fields : Bool → Cursor → Result (Side × Cursor) LayoutFault
 read_fields is_responder left = if is_responder then read_responder left else read_requester left
 
 -- all of what is left
-abbrev pub all_of : Result (Side × Left) LayoutFault → Result Side LayoutFault
+abbrev pub all_of : Result (Side × Cursor) LayoutFault → Result Side LayoutFault
 all_of read = read >>= λ found. ended found.1 >>= λ _. Ok found.0
 
 -- The side that all of the bytes spell, or the first fault. Whether it keeps the rules of its role
 -- is another question.
-abbrev pub side_at : Bool → Left → Result Side LayoutFault
+abbrev pub side_at : Bool → Cursor → Result Side LayoutFault
 side_at is_responder left = all_of (read_fields is_responder left)
 
 unfoldable pub record_at : List ℕ → Result Side LayoutFault
-record_at bytes = start.read (left_at 0 bytes) >>= λ start. side_at start.0.1 start.1
+record_at bytes = start.read (cursor_at 0 bytes) >>= λ start. side_at start.0.1 start.1
 
 -- whether the bytes begin as a record, up to its qualifiers, for which the first memory is taken
-abbrev pub front_stands : Bool → Left → Bool
-front_stands is_responder left =
+abbrev pub has_front : Bool → Cursor → Bool
+has_front is_responder left =
     is_ok ((front (if is_responder then responder_states else requester_states)).read left)
 
-abbrev pub stands_behind : Result (((Unit {0} × (Unit {0} × (Unit {0} × Unit {0}))) × Bool) × Left)
+abbrev pub has_front_behind : Result (((Unit {0} × (Unit {0} × (Unit {0} × Unit {0}))) × Bool) × Cursor)
     LayoutFault → Bool
-stands_behind (Ok start) = front_stands start.0.1 start.1
-stands_behind (Err fault) = false
+has_front_behind (Ok start) = has_front start.0.1 start.1
+has_front_behind (Err fault) = false
 
 unfoldable pub begins_as_record : List ℕ → Bool
-begins_as_record bytes = stands_behind (start.read (left_at 0 bytes))
+begins_as_record bytes = has_front_behind (start.read (cursor_at 0 bytes))
 
 -- a side was read, and it breaks a rule
 abbrev pub IsInconsistent : Result Side LayoutFault → Type 0

@@ -61,24 +61,24 @@ IsNotTooLarge answer = Unit {0}
 -- ---- a store in memory
 
 -- what has landed, the count of failures, and the plan of the next call
-pub record Memory : Type 0 where
+pub record MemoryStoreState : Type 0 where
   pub landed : Option (List ℕ)
   pub failures : ℕ
   pub next : NextCall
 
 -- A call has spent the plan.
-abbrev pub called : Memory → Memory
+abbrev pub called : MemoryStoreState → MemoryStoreState
 called store = record store { next = Works }
 
 -- A call has failed as planned, and is counted.
-abbrev pub failed : Memory → Memory
+abbrev pub failed : MemoryStoreState → MemoryStoreState
 failed store = record store { failures = one_more store.failures; next = Works }
 
 -- What a load answers by its plan, and the store after it. Only a load that works takes memory,
 -- where something has landed.
-abbrev pub MemoryLoads : {X : Type 0} → (X → List ℕ) → NextCall → Memory →
+abbrev pub MemoryLoads : {X : Type 0} → (X → List ℕ) → NextCall → MemoryStoreState →
     Result (Option X) StoreFault →
-    Memory → Type 0
+    MemoryStoreState → Type 0
 MemoryLoads bytes_of Works old (Ok found) new =
     (option_map bytes_of found ≡ old.landed) × (new ≡ called old)
 MemoryLoads bytes_of Works old (Err OutOfMemory) new = (is_some old.landed ≡ true) × (new ≡ called old)
@@ -88,7 +88,7 @@ MemoryLoads bytes_of FailsNew old answer new = (answer ≡ Err Failed) × (new �
 
 -- What a save answers by its plan, and the store after it. One that is to fail and leave the old
 -- bytes takes no memory.
-abbrev pub MemorySaves : NextCall → List ℕ → Memory → Result (Unit {0}) StoreFault → Memory → Type 0
+abbrev pub MemorySaves : NextCall → List ℕ → MemoryStoreState → Result (Unit {0}) StoreFault → MemoryStoreState → Type 0
 MemorySaves Works bytes old (Ok done) new = new ≡ called (record old { landed = Some bytes })
 MemorySaves Works bytes old (Err OutOfMemory) new = new ≡ called old
 MemorySaves Works bytes old (Err other) new = ⊥
@@ -100,25 +100,25 @@ MemorySaves FailsNew bytes old answer new = ⊥
 -- ---- a store in a file
 
 -- the path of the file, how many bytes a record may have, and the count of failures
-pub record Filed : Type 0 where
+pub record FileStoreState : Type 0 where
   pub path : List ℕ
   pub limit : ℕ
   pub failures : ℕ
 
 -- A call has failed, and is counted.
-abbrev pub failed_file : Filed → Filed
+abbrev pub failed_file : FileStoreState → FileStoreState
 failed_file store = record store { failures = one_more store.failures }
 
 -- What a load answers, and the store after it: no record that is too long, and a failure only where
 -- it was counted.
-abbrev pub FileLoads : {X : Type 0} → (X → List ℕ) → Filed → Result (Option X) StoreFault → Filed →
+abbrev pub FileLoads : {X : Type 0} → (X → List ℕ) → FileStoreState → Result (Option X) StoreFault → FileStoreState →
     Type 0
 FileLoads bytes_of old (Ok (Some found)) new = (length (bytes_of found) ≤ old.limit) × (new ≡ old)
 FileLoads bytes_of old (Err Failed) new = new ≡ failed_file old
 FileLoads bytes_of old answer new = new ≡ old
 
 -- What a save answers, and the store after it: it works or fails, and counts a failure.
-abbrev pub FileSaves : Filed → Result (Unit {0}) StoreFault → Filed → Type 0
+abbrev pub FileSaves : FileStoreState → Result (Unit {0}) StoreFault → FileStoreState → Type 0
 FileSaves old (Ok done) new = new ≡ old
 FileSaves old (Err Failed) new = new ≡ failed_file old
 FileSaves old (Err other) new = ⊥

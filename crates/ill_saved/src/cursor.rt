@@ -3,7 +3,8 @@
 ghost use Rattle.std.specs.Prelude.{◌≡◌, ◌+◌, ◌*◌, ◌≤◌, length, IfOk, OnOk};
 ghost use Rattle.ill_values.specs.Text.{IsQualifier};
 ghost use Rattle.ill_der.specs.Contents.{qualifier};
-ghost use Rattle.ill_der.specs.Format.{Left, left_at};
+ghost use Rattle.ill_der.specs.Format as model;
+ghost use Rattle.ill_der.specs.Format.{cursor_at};
 ghost use Rattle.ill_saved.specs.Layout.{Reads, ReadsInMemory, bytes_at, sized, constant, count, optional_number, mark, text_size, counted_text, apdu, ill_request, marked, counted, ended};
 ghost use Rattle.ill_saved.specs.Records.{state_in, requester_states, responder_states, due};
 
@@ -22,7 +23,7 @@ pub struct Cursor<'a> {
 }
 
 impl<'a> Model for Cursor<'a> {
-    ghost Value = { Left };
+    ghost Value = { model.Cursor };
 
     ghost view = { λ c. record { at = c.at; bytes = c.bytes.now } };
 }
@@ -30,7 +31,7 @@ impl<'a> Model for Cursor<'a> {
 impl<'a> Cursor<'a> {
     /// A cursor at the first byte of a record.
     pub fn new(bytes: &'a [u8]) -> Cursor<'a>
-        ensures { result ≡ left_at 0 bytes.entry.now }
+        ensures { result ≡ cursor_at 0 bytes.entry.now }
     {
         Cursor { at: 0, bytes }
     }

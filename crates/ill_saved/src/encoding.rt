@@ -8,7 +8,7 @@ ghost use Rattle.ill_der.specs.ShortForm.{spelling};
 ghost use Rattle.ill_core.specs.Requester.{IsRequester};
 ghost use Rattle.ill_core.specs.Responder.{IsResponder};
 ghost use Rattle.ill_saved.specs.Layout.{spell_all, number_octet, mark, marked, counted, counted_text, apdu, ill_request};
-ghost use Rattle.ill_saved.specs.Records.{state_code, due, due_text, front, requester_states, spell_start, spell_requester, spell_responder, record_spelling};
+ghost use Rattle.ill_saved.specs.Records.{state_code, due, due_octets, front, requester_states, spell_start, spell_requester, spell_responder, record_spelling};
 ghost use Rattle.ill_saved.specs.Side.{issued_of};
 ghost use Rattle.ill_saved.specs.Ranges.{Each, RequesterInRange, ResponderInRange, IsSide};
 
@@ -44,8 +44,8 @@ fn push_requester(bytes: &mut Vec<u8>, requester: &Requester) -> Result<(), OutO
     bytes.extend_from_slice(b"ILL1\x00")?;
     push_front(bytes, state, requester.txn())?;
     let mark = u8::from(requester.is_checked_in());
-    bytes.extend_from_slice(&[octet_of_number(requester.held()), mark])?;
-    push_due(bytes, requester.due())
+    bytes.extend_from_slice(&[number_octet(requester.held()), mark])?;
+    push_due_octets(bytes, requester.due())
 }
 
 /// Adds all that stands before the messages issued.
@@ -59,9 +59,9 @@ fn push_responder(bytes: &mut Vec<u8>, responder: &Responder) -> Result<(), OutO
     bytes.extend_from_slice(b"ILL1\x01")?;
     push_front(bytes, state, responder.txn())?;
     let numbers = [
-        octet_of_number(responder.accepted()),
-        octet_of_number(responder.last_cancel()),
-        octet_of_number(responder.last_renew()),
+        number_octet(responder.accepted()),
+        number_octet(responder.last_cancel()),
+        number_octet(responder.last_renew()),
     ];
     bytes.extend_from_slice(&numbers)?;
     bytes.push(u8::from(responder.is_received()))?;
@@ -74,7 +74,7 @@ fn push_front(bytes: &mut Vec<u8>, state: State, txn: &TxnId) -> Result<(), OutO
         ++ (front requester_states).spell (state, (txn.now.group, txn.now.transaction))) }
     ensures range { OnOk result (AreQualifiers txn.now) }
 {
-    bytes.push(code(state))?;
+    bytes.push(state_code(state))?;
     push_text(bytes, txn.group())?;
     push_text(bytes, txn.transaction())
 }
@@ -89,8 +89,8 @@ fn push_text(bytes: &mut Vec<u8>, text: &[u8]) -> Result<(), OutOfMemory>
     Ok(())
 }
 
-fn push_due(bytes: &mut Vec<u8>, due: Option<Day>) -> Result<(), OutOfMemory>
-    ensures bytes { OnOk result (bytes.new.items ≡ bytes.old.items ++ due_text due) }
+fn push_due_octets(bytes: &mut Vec<u8>, due: Option<Day>) -> Result<(), OutOfMemory>
+    ensures bytes { OnOk result (bytes.new.items ≡ bytes.old.items ++ due_octets due) }
     ensures range { OnOk result (IfSome due IsDate) }
 {
     match due {
@@ -133,7 +133,7 @@ fn push_issued(bytes: &mut Vec<u8>, apdus: &[Apdu]) -> Result<(), OutOfMemory>
 }
 
 /// The octet of a number, or 0 where there is none.
-fn octet_of_number(number: Option<Number>) -> u8
+fn number_octet(number: Option<Number>) -> u8
     ensures bytes { result ≡ number_octet number }
     ensures range { IfSome number IsNumber }
 {
@@ -144,7 +144,7 @@ fn octet_of_number(number: Option<Number>) -> u8
 }
 
 /// The octet of a state.
-fn code(state: State) -> u8
+fn state_code(state: State) -> u8
     ensures { result ≡ state_code state }
 {
     match state {

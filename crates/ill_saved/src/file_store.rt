@@ -2,7 +2,7 @@
 
 ghost use Rattle.std.specs.Prelude.{◌≡◌, ◌++◌, ℕ, List, false, None, Err, IfOk, codes, string_bytes};
 ghost use Rattle.ill_saved.specs.declared.store.StoreFault.TheVariants.{Failed};
-ghost use Rattle.ill_saved.specs.Store.{Filed, FileLoads, FileSaves, folder_of, failed_file};
+ghost use Rattle.ill_saved.specs.Store.{FileStoreState, FileLoads, FileSaves, folder_of, failed_file};
 
 use crate::store::{Store, StoreFault};
 use ill_values::OutOfMemory;
@@ -30,7 +30,7 @@ pub struct FileStore<'a, R: Files> {
 }
 
 impl<'a, R: Files> Model for FileStore<'a, R> {
-    ghost Value = { Filed };
+    ghost Value = { FileStoreState };
 
     ghost view = { λ f. record {
       path = string_bytes f.path;

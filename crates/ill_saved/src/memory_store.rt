@@ -3,7 +3,7 @@
 ghost use Rattle.std.specs.Prelude.{◌≡◌, true, None, Some, option_map};
 ghost use Rattle.ill_saved.specs.declared.store.StoreFault.TheVariants.{Failed};
 ghost use Rattle.ill_saved.specs.declared.store.NextCall.TheVariants as plans;
-ghost use Rattle.ill_saved.specs.Store.{Memory, MemoryLoads, MemorySaves, failed};
+ghost use Rattle.ill_saved.specs.Store.{MemoryStoreState, MemoryLoads, MemorySaves, failed};
 
 use crate::store::{NextCall, Store, StoreFault};
 use std::alloc::Global;
@@ -19,7 +19,7 @@ pub struct MemoryStore {
 }
 
 impl Model for MemoryStore {
-    ghost Value = { Memory };
+    ghost Value = { MemoryStoreState };
 
     ghost view = { λ m. record {
       landed = option_map (λ b. b.items) m.landed;

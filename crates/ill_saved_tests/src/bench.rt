@@ -1,12 +1,12 @@
 //! What lies on the bench: nothing at first, then a store, or a desk with its store.
 
 use crate::calls::{BytesCall, WordsCall};
+use crate::desk_view::DeskView;
 use crate::desks;
 use crate::files::Folder;
 use crate::idle::idle;
 use crate::line::Line;
 use crate::names::Names;
-use crate::standing::Standing;
 use crate::words::{store_words, write_fault};
 use ill_core::State;
 use ill_saved::{Desk1, DeskFault, MemoryStore, NextCall, Store};
@@ -139,7 +139,7 @@ impl<'a, R: Files> Bench<'a, R> {
         match answer {
             Ok(desk) => {
                 line.text("done");
-                Standing::of(self.alloc, &desk)?.write(line);
+                DeskView::of(self.alloc, &desk)?.write(line);
                 self.desk = Some(desk);
             }
             Err((fault, store)) => {

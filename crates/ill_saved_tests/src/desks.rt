@@ -1,9 +1,9 @@
 //! Calls of a desk. An answer is a word, and where the desk stands after it.
 
 use crate::actions::action;
+use crate::desk_view::DeskView;
 use crate::line::Line;
 use crate::records::write_side;
-use crate::standing::Standing;
 use crate::words::{taking_word, write_fault};
 use ill_core::Taking;
 use ill_der::decode;
@@ -16,8 +16,8 @@ fn write_answer(
     line: &mut Line,
     word: &str,
     answer: Result<(), DeskFault>,
-    before: &Standing,
-    after: &Standing,
+    before: &DeskView,
+    after: &DeskView,
 ) {
     match answer {
         Ok(()) => {
@@ -39,27 +39,27 @@ pub fn act(
     words: &str,
 ) -> Option<()> {
     let action = action(alloc, words)?;
-    let before = Standing::of(alloc, desk)?;
+    let before = DeskView::of(alloc, desk)?;
     let answer = desk.act(alloc, &action);
-    let after = Standing::of(alloc, desk)?;
+    let after = DeskView::of(alloc, desk)?;
     write_answer(line, "done", answer, &before, &after);
     Some(())
 }
 
 /// `save`
 pub fn save(alloc: Global, line: &mut Line, desk: &mut Desk1<MemoryStore>) -> Option<()> {
-    let before = Standing::of(alloc, desk)?;
+    let before = DeskView::of(alloc, desk)?;
     let answer = desk.save(alloc);
-    let after = Standing::of(alloc, desk)?;
+    let after = DeskView::of(alloc, desk)?;
     write_answer(line, "saved", answer, &before, &after);
     Some(())
 }
 
 /// `restart`
 pub fn restart(alloc: Global, line: &mut Line, desk: &mut Desk1<MemoryStore>) -> Option<()> {
-    let before = Standing::of(alloc, desk)?;
+    let before = DeskView::of(alloc, desk)?;
     let answer = desk.restart(alloc);
-    let after = Standing::of(alloc, desk)?;
+    let after = DeskView::of(alloc, desk)?;
     write_answer(line, "restarted", answer, &before, &after);
     Some(())
 }
@@ -71,9 +71,9 @@ pub fn take(
     desk: &mut Desk1<MemoryStore>,
     bytes: &[u8],
 ) -> Option<()> {
-    let before = Standing::of(alloc, desk)?;
+    let before = DeskView::of(alloc, desk)?;
     let answer = desk.take_bytes(alloc, bytes);
-    write_taking(line, answer, &before, &Standing::of(alloc, desk)?);
+    write_taking(line, answer, &before, &DeskView::of(alloc, desk)?);
     Some(())
 }
 
@@ -84,10 +84,10 @@ pub fn hand(
     desk: &mut Desk1<MemoryStore>,
     bytes: &[u8],
 ) -> Option<()> {
-    let before = Standing::of(alloc, desk)?;
+    let before = DeskView::of(alloc, desk)?;
     let (apdu, _) = decode(alloc, bytes).ok()?;
     let answer = desk.take(alloc, &apdu);
-    write_taking(line, answer, &before, &Standing::of(alloc, desk)?);
+    write_taking(line, answer, &before, &DeskView::of(alloc, desk)?);
     Some(())
 }
 
@@ -95,8 +95,8 @@ pub fn hand(
 fn write_taking(
     line: &mut Line,
     answer: Result<Taking, DeskFault>,
-    before: &Standing,
-    after: &Standing,
+    before: &DeskView,
+    after: &DeskView,
 ) {
     match answer {
         Ok(Taking::Taken) => write_answer(line, "taken", Ok(()), before, after),
@@ -116,10 +116,10 @@ pub fn message(
     words: &str,
 ) -> Option<()> {
     let number = Number::new(words.parse::<u8>().ok()?)?;
-    let standing = Standing::of(alloc, desk)?;
+    let view = DeskView::of(alloc, desk)?;
     match desk.message(alloc, number) {
         Ok(bytes) => line.octets(&bytes),
-        Err(fault) => write_answer(line, "", Err(fault), &standing, &standing),
+        Err(fault) => write_answer(line, "", Err(fault), &view, &view),
     }
     Some(())
 }
@@ -131,13 +131,13 @@ pub fn messages(
     desk: &Desk1<MemoryStore>,
     bytes: &[u8],
 ) -> Option<()> {
-    let standing = Standing::of(alloc, desk)?;
+    let view = DeskView::of(alloc, desk)?;
     line.text(if released(alloc, desk)?.as_slice() == bytes {
         "the same"
     } else {
         "OTHER BYTES"
     });
-    standing.write(line);
+    view.write(line);
     Some(())
 }
 

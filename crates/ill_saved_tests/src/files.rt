@@ -5,12 +5,12 @@ ghost use Rattle.ill_saved.specs.declared.store.StoreFault.TheVariants.{Failed};
 ghost use Rattle.ill_saved.specs.Store.{most_failures};
 
 use crate::actions::action;
+use crate::desk_view::DeskView;
 use crate::failing::Failing;
 use crate::line::Line;
 use crate::longest;
 use crate::names::Names;
 use crate::restarts::{Damage, Restarts};
-use crate::standing::Standing;
 use crate::words::store_words;
 use ill_core::Requester;
 use ill_saved::{Desk1, FileStore, Side, Store, StoreFault};
@@ -129,7 +129,7 @@ impl<'a, R: Files> Folder<'a, R> {
         let again = FileStore::at(self.rt, self.alloc, path.as_str(), 1000).ok()?;
         let started = Desk1::start(self.alloc, again).ok()?;
         line.text("started");
-        Standing::of(self.alloc, &started)?.write(line);
+        DeskView::of(self.alloc, &started)?.write(line);
         line.text(", ");
         line.octets(&started.message(self.alloc, Number::new(1)?).ok()?);
         Some(())

@@ -1,8 +1,8 @@
 //! The longest record that a side has.
 
 use crate::again::written_and_read;
+use crate::desk_view::DeskView;
 use crate::line::Line;
-use crate::standing::Standing;
 use crate::words::write_fault;
 use ill_core::{Responder, State};
 use ill_saved::{Desk1, FileStore, Side, Store, encode_record};
@@ -38,7 +38,7 @@ fn write_desk<R: Files>(rt: &R, alloc: Global, line: &mut Line, path: &str) -> O
     let store = FileStore::at(rt, alloc, path, LIMIT).ok()?;
     let desk = Desk1::start(alloc, store).ok()?;
     line.text("; started");
-    Standing::of(alloc, &desk)?.write(line);
+    DeskView::of(alloc, &desk)?.write(line);
     written_and_read(alloc, desk.side()).ok()?;
     let message = desk.message(alloc, Number::new(255)?).ok()?;
     line.text(", the last message ");

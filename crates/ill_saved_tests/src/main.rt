@@ -10,6 +10,7 @@ mod actions;
 mod again;
 mod bench;
 mod calls;
+mod desk_view;
 mod desks;
 mod failing;
 mod files;
@@ -21,7 +22,6 @@ mod records;
 mod restarts;
 mod runs;
 mod session;
-mod standing;
 mod words;
 
 use bench::{Answers, Bench};

@@ -1,9 +1,9 @@
 //! Desks whose record was damaged in its file.
 
 use crate::actions::action;
+use crate::desk_view::DeskView;
 use crate::idle::idle;
 use crate::line::Line;
-use crate::standing::Standing;
 use crate::words::write_fault;
 use ill_core::State;
 use ill_saved::{Desk1, DeskFault, FileStore};
@@ -93,10 +93,10 @@ impl<'a, R: Files> Restarts<'a, R> {
     /// and its first message has the bytes that it had.
     fn restart(&self, line: &mut Line, desk: &mut Desk1<FileStore<'a, R>>) -> Option<()> {
         let first = Number::new(1)?;
-        let before = Standing::of(self.alloc, desk)?;
+        let before = DeskView::of(self.alloc, desk)?;
         let message = desk.message(self.alloc, first).ok()?;
         let answer = desk.restart(self.alloc);
-        let after = Standing::of(self.alloc, desk)?;
+        let after = DeskView::of(self.alloc, desk)?;
         let Err(fault) = answer else {
             line.text("done");
             after.write(line);

@@ -10,11 +10,11 @@ use Rattle.ill_world.specs.declared.event.Outcome.{Outcome}
 use Rattle.ill_world.specs.declared.event.Outcome.TheVariants.{Done, Refused}
 use Rattle.ill_tool.specs.declared.fault.ToolFault.{ToolFault}
 use Rattle.ill_tool.specs.declared.fault.ToolFault.TheVariants.{Arguments, Desk, OutOfMemory}
-use Rattle.ill_tool.specs.Standing.{Standing, becomes, saved, IsFaulted, Reports}
+use Rattle.ill_tool.specs.DeskView.{DeskView, becomes, saved, IsFaulted, Reports}
 
 -- What an action did: it was done and saved; it was refused, and nothing changed; it was done, and the
 -- save failed; or memory ran out before it was done, or before it was saved.
-abbrev pub ActsAndSaves : Standing → Action → Result Outcome ToolFault → Standing → Type 0
+abbrev pub ActsAndSaves : DeskView → Action → Result Outcome ToolFault → DeskView → Type 0
 ActsAndSaves old action (Ok Done) new =
     (side : Side) × (acts old.live action ≡ Ok side) × (new ≡ saved (becomes old side))
 ActsAndSaves old action (Ok (Refused refusal)) new = (acts old.live action ≡ Err refusal) × (new ≡ old)
@@ -26,8 +26,8 @@ ActsAndSaves old action other new = ⊥
 
 -- The command: its words name an action, which is performed and told; or they name none, and nothing
 -- changes. Whether they do may not be known for want of memory.
-abbrev pub RunsAct : Option Action → Standing → Option (List ℕ) → Option (List ℕ) →
-    Result Bool ToolFault → Standing → Type 0
+abbrev pub RunsAct : Option Action → DeskView → Option (List ℕ) → Option (List ℕ) →
+    Result Bool ToolFault → DeskView → Type 0
 RunsAct (Some action) old before after result new =
     (performed : Result Outcome ToolFault) × (text : List ℕ) × ActsAndSaves old action performed new
     × Appends before after text × Reports performed new text result

@@ -5,7 +5,7 @@ pub mod Show
 pub mod Check
 pub mod Simulate
 pub mod Actions
-pub mod Standing
+pub mod DeskView
 pub mod Act
 pub mod Take
 pub mod Send

@@ -17,9 +17,9 @@ line label value = label ++ 32 ∷ value ++ 10 ∷ []
 abbrev pub name_of : Body → List ℕ
 name_of (IllRequest expiry item) = codes "ILL-Request"
 name_of (IllAnswer result) = codes "ILL-Answer"
-name_of (ConditionalReply answers accepts) = codes "Conditional-Reply"
+name_of (ConditionalReply answers is_yes) = codes "Conditional-Reply"
 name_of Cancel = codes "Cancel"
-name_of (CancelReply answers accepts) = codes "Cancel-Reply"
+name_of (CancelReply answers is_yes) = codes "Cancel-Reply"
 name_of (Shipped due) = codes "Shipped"
 name_of Received = codes "Received"
 name_of Recall = codes "Recall"
@@ -55,8 +55,8 @@ optional_date_line None = []
 optional_date_line (Some d) = date_line d
 
 abbrev pub reply_lines : ℕ → Bool → List ℕ
-reply_lines answers accepts =
-    number_line (codes "answers") answers ++ line (codes "reply") (reply_word accepts)
+reply_lines answers is_yes =
+    number_line (codes "answers") answers ++ line (codes "reply") (reply_word is_yes)
 
 -- a renewal is granted by a date, and refused without one
 abbrev pub grant_lines : ℕ → Option Date → List ℕ
@@ -67,9 +67,9 @@ grant_lines answers (Some d) = reply_lines answers true ++ date_line d
 abbrev pub field_lines : Body → List ℕ
 field_lines (IllRequest expiry item) = optional_date_line expiry ++ line (codes "item") item
 field_lines (IllAnswer result) = line (codes "result") (word_of result)
-field_lines (ConditionalReply answers accepts) = reply_lines answers accepts
+field_lines (ConditionalReply answers is_yes) = reply_lines answers is_yes
 field_lines Cancel = []
-field_lines (CancelReply answers accepts) = reply_lines answers accepts
+field_lines (CancelReply answers is_yes) = reply_lines answers is_yes
 field_lines (Shipped due) = date_line due
 field_lines Received = []
 field_lines Recall = []

@@ -17,7 +17,7 @@ use Rattle.ill_world.specs.declared.event.Who.TheVariants.{Requester, Responder}
 use Rattle.ill_world.specs.declared.event.Outcome.TheVariants.{Done}
 use Rattle.ill_tool.specs.declared.fault.ToolFault.{ToolFault}
 use Rattle.ill_tool.specs.declared.fault.ToolFault.TheVariants.{Desk, Write, OutOfMemory}
-use Rattle.ill_tool.specs.Standing.{side_line}
+use Rattle.ill_tool.specs.DeskView.{side_line}
 
 -- the side of a role before its first message
 abbrev pub first_side : Who → Qualifiers → Side

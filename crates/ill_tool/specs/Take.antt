@@ -15,22 +15,22 @@ use Rattle.ill_world.specs.World.{answer_to}
 use Rattle.ill_tool.specs.declared.fault.ToolFault.{ToolFault}
 use Rattle.ill_tool.specs.declared.fault.ToolFault.TheVariants.{Arguments, Der, TooMany, Script, Desk, Read, Write, OutOfMemory}
 use Rattle.ill_tool.specs.Input.{Takes, StopsReading}
-use Rattle.ill_tool.specs.Standing.{Standing, becomes, saved, IsFaulted, is_fine, side_line, Reports}
+use Rattle.ill_tool.specs.DeskView.{DeskView, becomes, saved, IsFaulted, is_fine, side_line, Reports}
 
 -- ---- one message
 
 -- a message that was taken is saved
-abbrev pub kept : Result Taking Refusal → Standing → Standing
+abbrev pub kept : Result Taking Refusal → DeskView → DeskView
 kept (Ok Taken) now = saved now
 kept answer now = now
 
 -- what is seen of a message, and how the side stands after it
-abbrev pub handed : Standing → Apdu → Outcome × Standing
+abbrev pub handed : DeskView → Apdu → Outcome × DeskView
 handed old a = let taken = takes old.live a in (answer_to taken.0, kept taken.0 (becomes old taken.1))
 
 -- What a message did: it was handed to the side, and saved where it was taken; it was taken, and the
 -- save failed; or memory ran out for it, where it takes memory, or for the save.
-abbrev pub TakesAndSaves : Standing → Apdu → Result Outcome ToolFault → Standing → Type 0
+abbrev pub TakesAndSaves : DeskView → Apdu → Result Outcome ToolFault → DeskView → Type 0
 TakesAndSaves old a (Ok outcome) new = handed old a ≡ (outcome, new)
 TakesAndSaves old a (Err (Desk (Store Failed))) new =
     ((takes old.live a).0 ≡ Ok Taken) × IsFaulted (becomes old (takes old.live a).1) new
@@ -43,39 +43,39 @@ TakesAndSaves old a (Err other) new = ⊥
 
 -- how the side stands after some messages, the lines that tell of them, and whether all went well
 pub record Answers : Type 0 where
-  pub standing : Standing
+  pub view : DeskView
   pub text : List ℕ
   pub fine : Bool
 
 abbrev pub with_message : Answers → Apdu → Answers
 with_message so_far a =
-    let next = handed so_far.standing a in
+    let next = handed so_far.view a in
     record {
-      standing = next.1;
+      view = next.1;
       text = so_far.text ++ side_line next.0 next.1;
       fine = so_far.fine && is_fine next.0;
     }
 
 -- the answers to messages, one after another
-abbrev pub answers : Standing → List Apdu → Answers
-answers old apdus = fold with_message (record { standing = old; text = []; fine = true }) apdus
+abbrev pub answers : DeskView → List Apdu → Answers
+answers old apdus = fold with_message (record { view = old; text = []; fine = true }) apdus
 
 -- ---- the command
 
 -- The last message that was read was performed, as far as the fault let it, and told.
-abbrev pub InHand : Standing → List ℕ → List ℕ → ToolFault → Standing → Type 0
+abbrev pub InHand : DeskView → List ℕ → List ℕ → ToolFault → DeskView → Type 0
 InHand old bytes text fault new =
     (a : Apdu) × IsApdu a × (bytes ≡ spelling a)
     × ((performed : Result Outcome ToolFault) × TakesAndSaves old a performed new
     × Reports performed new text (Err fault))
 
 -- No message was in hand.
-abbrev pub IsIdle : Standing → List ℕ → Standing → Type 0
+abbrev pub IsIdle : DeskView → List ℕ → DeskView → Type 0
 IsIdle old text new = (new ≡ old) × (text ≡ [])
 
 -- What stopped the command: of the number of APDUs before, of how the side stood after them, of the
 -- bytes that were read behind them, of what the reader has left, and of the text behind their lines.
-abbrev pub Stopped : ToolFault → ℕ → Standing → List ℕ → Option (List ℕ) → List ℕ → Standing → Type 0
+abbrev pub Stopped : ToolFault → ℕ → DeskView → List ℕ → Option (List ℕ) → List ℕ → DeskView → Type 0
 Stopped Arguments count old bytes left text new = ⊥
 Stopped (Der fault) count old bytes left text new =
     StopsReading (Der fault) count bytes left × IsIdle old text new
@@ -89,16 +89,16 @@ Stopped OutOfMemory count old bytes left text new =
     ⊎ InHand old bytes text OutOfMemory new
 
 -- How the command ended: at the end of the input, with whether all went well, or it was stopped.
-abbrev pub Ended : Result Bool ToolFault → ℕ → Answers → List ℕ → Option (List ℕ) → List ℕ → Standing → Type 0
+abbrev pub Ended : Result Bool ToolFault → ℕ → Answers → List ℕ → Option (List ℕ) → List ℕ → DeskView → Type 0
 Ended (Ok fine) count so_far bytes left text new =
-    (fine ≡ so_far.fine) × (bytes ≡ []) × IsAtEnd left × IsIdle so_far.standing text new
+    (fine ≡ so_far.fine) × (bytes ≡ []) × IsAtEnd left × IsIdle so_far.view text new
 Ended (Err fault) count so_far bytes left text new =
-    Stopped fault count so_far.standing bytes left text new
+    Stopped fault count so_far.view bytes left text new
 
 -- The command read the spellings of these APDUs and then these bytes, and wrote the lines of the
 -- answers and then this text.
-pub record TakesApdus (old new before after : Option (List ℕ)) (from : Standing)
-    (result : Result Bool ToolFault) (to : Standing) (apdus : List Apdu) (bytes text : List ℕ)
+pub record TakesApdus (old new before after : Option (List ℕ)) (from : DeskView)
+    (result : Result Bool ToolFault) (to : DeskView) (apdus : List Apdu) (bytes text : List ℕ)
     : Type 0 where
   pub taken : Takes old new apdus bytes
   pub written : Appends before after ((answers from apdus).text ++ text)
@@ -107,14 +107,14 @@ pub record TakesApdus (old new before after : Option (List ℕ)) (from : Standin
 -- Taking, from what the reader had left to what it has left, from what the writer held to what it
 -- holds, and from how the side stood to how it stands.
 abbrev pub RunsTake : Option (List ℕ) → Option (List ℕ) → Option (List ℕ) → Option (List ℕ) →
-    Standing → Result Bool ToolFault → Standing → Type 0
+    DeskView → Result Bool ToolFault → DeskView → Type 0
 RunsTake old new before after from result to =
     (apdus : List Apdu) × (bytes : List ℕ) × (text : List ℕ)
     × TakesApdus old new before after from result to apdus bytes text
 
 -- the next APDU was handed to the side and told, or there was none, or the command was stopped
 abbrev pub TakesNext : Option (List ℕ) → Option (List ℕ) → Option (List ℕ) → Option (List ℕ) →
-    Standing → Result (Option Bool) ToolFault → Standing → Type 0
+    DeskView → Result (Option Bool) ToolFault → DeskView → Type 0
 TakesNext old new before after from (Ok (Some fine)) to =
     (a : Apdu) × IsApdu a × Consumes old new (spelling a)
     × ((outcome : Outcome) × (handed from a ≡ (outcome, to)) × (fine ≡ is_fine outcome)

@@ -2,12 +2,12 @@
 
 ghost use Rattle.std.specs.Prelude.{map};
 ghost use Rattle.ill_tool.specs.Actions.{action_named};
-ghost use Rattle.ill_tool.specs.Standing.{standing_of, CountsToolFailure};
+ghost use Rattle.ill_tool.specs.DeskView.{view_of, CountsToolFailure};
 ghost use Rattle.ill_tool.specs.Act.{ActsAndSaves, RunsAct};
 
 use crate::action::action;
 use crate::fault::ToolFault;
-use crate::standing::report;
+use crate::side_line::report;
 use ill_saved::{Action, Desk1, DeskFault, Store};
 use ill_values::Day;
 use ill_world::Outcome;
@@ -28,9 +28,9 @@ pub fn run_act<S: Store, W: Write>(
     writer: &mut W,
 ) -> Result<bool, ToolFault>
     ensures runs { RunsAct (action_named desk.old.live today (map (λ word. word.now) words.now))
-        (standing_of S.is_honest S.landed desk.old)
+        (view_of S.is_honest S.landed desk.old)
         (W.contents writer.old) (W.contents writer.new) result
-        (standing_of S.is_honest S.landed desk.new) }
+        (view_of S.is_honest S.landed desk.new) }
     ensures counted { CountsToolFailure result (S.failures desk.old.store)
         (S.failures desk.new.store) }
 {
@@ -49,8 +49,8 @@ fn act_and_save<S: Store>(
     desk: &mut Desk1<S>,
     action: &Action,
 ) -> Result<Outcome, ToolFault>
-    ensures acts { ActsAndSaves (standing_of S.is_honest S.landed desk.old) action.now result
-        (standing_of S.is_honest S.landed desk.new) }
+    ensures acts { ActsAndSaves (view_of S.is_honest S.landed desk.old) action.now result
+        (view_of S.is_honest S.landed desk.new) }
     ensures counted { CountsToolFailure result (S.failures desk.old.store)
         (S.failures desk.new.store) }
 {

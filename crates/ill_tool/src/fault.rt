@@ -3,7 +3,7 @@
 ghost use Rattle.std.specs.Prelude.{◌≡◌};
 ghost use Rattle.ill_tool.specs.Input.{tool_fault};
 ghost use Rattle.ill_tool.specs.Simulate.{sim_fault};
-ghost use Rattle.ill_tool.specs.Standing.{desk_fault};
+ghost use Rattle.ill_tool.specs.DeskView.{desk_fault};
 ghost use Rattle.ill_tool.specs.declared.fault.ToolFault.TheVariants.{OutOfMemory};
 
 use ill_der::{DerFault, ReadFault};

@@ -5,11 +5,11 @@ ghost use Rattle.ill_saved.specs.Side.{idle_of};
 ghost use Rattle.ill_saved.specs.Records.{record_spelling};
 ghost use Rattle.ill_saved.specs.Store.{spent};
 ghost use Rattle.ill_saved.specs.Desk.{answer_of, store_of};
-ghost use Rattle.ill_tool.specs.Standing.{CountsToolFailure};
+ghost use Rattle.ill_tool.specs.DeskView.{CountsToolFailure};
 ghost use Rattle.ill_tool.specs.New.{first_side, RunsNew, LandsFirst, BeginsOver};
 
 use crate::fault::ToolFault;
-use crate::standing::report;
+use crate::side_line::report;
 use ill_core::{Requester, Responder};
 use ill_saved::{Desk1, Side, Store};
 use ill_values::TxnId;

@@ -38,13 +38,13 @@ fn push_status(lines: &mut Vec<u8>, side: &Side, released: u8) -> Result<(), Out
 {
     push_line(lines, "role", role(side).as_bytes())?;
     push_id(lines, side.txn())?;
-    push_stand(lines, side)?;
+    push_state_and_due(lines, side)?;
     push_counts(lines, side, released)?;
     push_marks(lines, side)
 }
 
 /// Adds the lines of the state and the due date, which is a dash where there is none.
-fn push_stand(lines: &mut Vec<u8>, side: &Side) -> Result<(), OutOfMemory>
+fn push_state_and_due(lines: &mut Vec<u8>, side: &Side) -> Result<(), OutOfMemory>
     ensures { OnOk result (lines.new.items ≡ lines.old.items
         ++ (line (codes "state") (state_name (state_of side.now))
         ++ line (codes "due") (due_text (due_date_of side.now)))) }

@@ -1,11 +1,11 @@
 //! The command `take`.
 
-ghost use Rattle.ill_tool.specs.Standing.{standing_of, CountsToolFailure};
+ghost use Rattle.ill_tool.specs.DeskView.{view_of, CountsToolFailure};
 ghost use Rattle.ill_tool.specs.Take.{RunsTake, TakesNext, TakesAndSaves};
 
 use crate::fault::ToolFault;
 use crate::input::{MAX_APDUS, end};
-use crate::standing::report;
+use crate::side_line::report;
 use ill_core::Taking;
 use ill_der::read_apdu;
 use ill_saved::{Desk1, DeskFault, Store};
@@ -29,8 +29,8 @@ pub fn run_take<S: Store, R: Read, W: Write>(
 ) -> Result<bool, ToolFault>
     ensures runs { RunsTake (R.remaining reader.old) (R.remaining reader.new)
         (W.contents writer.old) (W.contents writer.new)
-        (standing_of S.is_honest S.landed desk.old) result
-        (standing_of S.is_honest S.landed desk.new) }
+        (view_of S.is_honest S.landed desk.old) result
+        (view_of S.is_honest S.landed desk.new) }
     ensures counted { CountsToolFailure result (S.failures desk.old.store)
         (S.failures desk.new.store) }
 {
@@ -57,8 +57,8 @@ fn take_next<S: Store, R: Read, W: Write>(
 ) -> Result<Option<bool>, ToolFault>
     ensures takes { TakesNext (R.remaining reader.old) (R.remaining reader.new)
         (W.contents writer.old) (W.contents writer.new)
-        (standing_of S.is_honest S.landed desk.old) result
-        (standing_of S.is_honest S.landed desk.new) }
+        (view_of S.is_honest S.landed desk.old) result
+        (view_of S.is_honest S.landed desk.new) }
     ensures counted { CountsToolFailure result (S.failures desk.old.store)
         (S.failures desk.new.store) }
 {
@@ -81,8 +81,8 @@ fn take_and_save<S: Store>(
     desk: &mut Desk1<S>,
     apdu: &Apdu,
 ) -> Result<Outcome, ToolFault>
-    ensures takes { TakesAndSaves (standing_of S.is_honest S.landed desk.old) apdu.now result
-        (standing_of S.is_honest S.landed desk.new) }
+    ensures takes { TakesAndSaves (view_of S.is_honest S.landed desk.old) apdu.now result
+        (view_of S.is_honest S.landed desk.new) }
     ensures counted { CountsToolFailure result (S.failures desk.old.store)
         (S.failures desk.new.store) }
 {

@@ -4,10 +4,10 @@ ghost use Rattle.std.specs.Prelude.{◌≡◌, IfSome};
 ghost use Rattle.ill_saved.specs.Side.{idle_of};
 
 use crate::call::Call;
+use crate::desk_view::{DeskView, tell_view};
 use crate::limited::LimitedStore;
 use crate::names::Names;
 use crate::page::Page;
-use crate::standing::{Standing, tell_standing};
 use crate::words::{Word, texts};
 use ill_core::{Requester, Responder};
 use ill_saved::{Desk1, MemoryStore, NextCall, Side, Store};
@@ -117,7 +117,7 @@ fn perform_on<S: Store>(
     kind: DeskCall,
     call: &mut Call<'_>,
 ) -> Option<()> {
-    let before = Standing::of(alloc, desk)?;
+    let before = DeskView::of(alloc, desk)?;
     match kind {
         DeskCall::Save => call.tell_answer(page, names, &desk.save(alloc)),
         DeskCall::Restart => call.tell_answer(page, names, &desk.restart(alloc)),
@@ -132,7 +132,7 @@ fn perform_on<S: Store>(
             call.tell_answer(page, names, &answer);
         }
     }
-    tell_standing(alloc, page, desk, &before)
+    tell_view(alloc, page, desk, &before)
 }
 
 /// `act [--today DAY] WORDS`

@@ -15,9 +15,9 @@ IsNumber n = (1 ≤ n) × (n ≤ 255)
 abbrev pub IsBody : Body → Type 0
 IsBody (IllRequest expiry item) = IfSome expiry IsDate × IsItem item
 IsBody (IllAnswer result) = Unit {0}
-IsBody (ConditionalReply answers answer) = IsNumber answers
+IsBody (ConditionalReply answers is_yes) = IsNumber answers
 IsBody Cancel = Unit {0}
-IsBody (CancelReply answers answer) = IsNumber answers
+IsBody (CancelReply answers is_yes) = IsNumber answers
 IsBody (Shipped due) = IsDate due
 IsBody Received = Unit {0}
 IsBody Recall = Unit {0}

@@ -20,7 +20,7 @@ use Rattle.ill_saved.specs.Side.{issued_of}
 use Rattle.ill_world.specs.World.{Party, Parties, sent_message}
 use Rattle.ill_world.specs.Safety.{OfBoth}
 use Rattle.ill_world.specs.Agreement.{AnswersOnce, EndsOnce, Facing, AcceptedBy, IsNotLater, SaysTrue, Agrees}
-use Rattle.ill_world.specs.Invariant.{RequesterStands, ResponderStands, StandsAsRequester, StandsAsResponder, SendsSaved, Stands}
+use Rattle.ill_world.specs.Invariant.{RequesterStands, ResponderStands, RequesterSideStands, ResponderSideStands, SendsSaved, Stands}
 use Rattle.ill_world.proofs.Sendings.{front_message, message_has}
 use Rattle.ill_world.proofs.Uniqueness.{message_number, answers_once, one_end, granted_not_later, has_message}
 use Rattle.ill_world.proofs.Claims.{AreIssued, tells_grant, is_in_cancelled, has_issued, not_supplied_faces, shipped_by, landed_issues, live_issues}
@@ -82,22 +82,22 @@ split_final states.NotSupplied is = inl refl
 split_final state is = inr is
 
 shipped_is_later : (y : ResponderRecord) (txn : Qualifiers) (heard : List (Option Apdu)) → ResponderStands txn y heard → has is_shipped y.issued ≡ true → y.state ≡ states.Cancelled → ⊥
-shipped_is_later y txn heard asked shipped e =
-    let no : has is_shipped y.issued ≡ false = asked.ends.shipped ∙ ap (is_among shipped_states) e in
+shipped_is_later y txn heard responder_stands shipped e =
+    let no : has is_shipped y.issued ≡ false = responder_stands.ends.shipped ∙ ap (is_among shipped_states) e in
     let both : true ≡ false = sym shipped ∙ no in
     search rules
 
 -- the request has come to no other end
 no_other_end : (txn : Qualifiers) (x : RequesterRecord) (y : ResponderRecord) (told heard : List (Option Apdu)) → RequesterStands txn x told → ResponderStands txn y heard → AreIssued told y.issued
     → y.state ≡ states.Cancelled → is_among (states.NotSupplied ∷ later) x.state ≡ false
-no_other_end txn x y told heard asking asked issued e = go (is_among (states.NotSupplied ∷ later) x.state) refl
+no_other_end txn x y told heard requester_stands responder_stands issued e = go (is_among (states.NotSupplied ∷ later) x.state) refl
   where
     go : (b : Bool) → is_among (states.NotSupplied ∷ later) x.state ≡ b → b ≡ false
     go false is = refl
     go true is =
         elim (split_final x.state is) [
-          | inl ended ↦ let no : states.Cancelled ≡ states.NotSupplied = sym e ∙ not_supplied_faces txn x y told heard asking asked issued ended in search rules
-          | inr shipped ↦ absurd (shipped_is_later y txn heard asked (shipped_by txn x y told heard x.due asking asked issued refl (asking.rules.parts.due ∙ shipped)) e)
+          | inl ended ↦ let no : states.Cancelled ≡ states.NotSupplied = sym e ∙ not_supplied_faces txn x y told heard requester_stands responder_stands issued ended in search rules
+          | inr shipped ↦ absurd (shipped_is_later y txn heard responder_stands (shipped_by txn x y told heard x.due requester_stands responder_stands issued refl (requester_stands.rules.parts.due ∙ shipped)) e)
         ]
 
 body_of : (a b : Apdu) → ◌≡◌ {A = Option Apdu} (Some a) (Some b) → a.body ≡ b.body
@@ -106,81 +106,81 @@ body_of a b e = let same : a ≡ b = search rules in ap (λ (x : Apdu). x.body) 
 -- A Cancel that was accepted is the last one, and it is open.
 pub cancel_is_open : (txn : Qualifiers) (x : RequesterRecord) (y : ResponderRecord) (told heard : List (Option Apdu)) → RequesterStands txn x told → ResponderStands txn y heard → AreIssued told y.issued
     → AreIssued heard x.issued → (m c : ℕ) (a : Apdu) → message y.issued m ≡ Some a → a.body ≡ types.CancelReply c true → requester.is_open x c ≡ true
-cancel_is_open txn x y told heard asking asked issued heeded m c a at is =
+cancel_is_open txn x y told heard requester_stands responder_stands issued heeded m c a at is =
     let ends : is_cancelled a.body ≡ true = ap is_cancelled is in
-    let cancelled : y.state ≡ states.Cancelled = is_in_cancelled y.state (sym asked.ends.cancelled ∙ message_has is_cancelled y.issued m a at ends) in
+    let cancelled : y.state ≡ states.Cancelled = is_in_cancelled y.state (sym responder_stands.ends.cancelled ∙ message_has is_cancelled y.issued m a at ends) in
     let cancels_it : responder.cancels c a.body ≡ true = ap (responder.cancels c) is ∙ eq-eqb c c refl in
-    let asked_for = asked.knows (responder.CancelAsked c) (inr (message_has (responder.cancels c) y.issued m a at cancels_it)) in
+    let asked_for = responder_stands.knows (responder.CancelAsked c) (inr (message_has (responder.cancels c) y.issued m a at cancels_it)) in
     let there = heeded asked_for.0 asked_for.1 in
     let says = tells_cancel asked_for.0.number c asked_for.0.body asked_for.2 in
-    let number : there.0 ≡ c = sym (message_number x.txn x.issued there.0 asked_for.0 asking.rules.numbered there.1).1 ∙ says.1 in
+    let number : there.0 ≡ c = sym (message_number x.txn x.issued there.0 asked_for.0 requester_stands.rules.numbered there.1).1 ∙ says.1 in
     let issued_it : was is_cancel x.issued c ≡ true = ap (is_there is_cancel) (ap (message x.issued) (sym number) ∙ there.1) ∙ says.0 in
-    let final = no_other_end txn x y told heard asking asked issued cancelled in
+    let final = no_other_end txn x y told heard requester_stands responder_stands issued cancelled in
     go issued_it final (requester.is_open x c) refl
   where
     go : was is_cancel x.issued c ≡ true → is_among (states.NotSupplied ∷ later) x.state ≡ false → (b : Bool) → requester.is_open x c ≡ b → b ≡ true
     go issued_it final true e = refl
     go issued_it final false e =
-        let refused = asking.knows (requester.Refused c) (issued_it, final, e) in
+        let refused = requester_stands.knows (requester.Refused c) (issued_it, final, e) in
         let other = issued refused.0 refused.1 in
         let no = tells_refused refused.0.body c refused.2 in
         let yes_answers : responder.answered_number responder.MayCancel a.body ≡ Some c = ap (responder.answered_number responder.MayCancel) is in
         let no_answers : responder.answered_number responder.MayCancel refused.0.body ≡ Some c = ap (responder.answered_number responder.MayCancel) no in
-        let place : m ≡ other.0 = answers_once (responder.answered_number responder.MayCancel) y.issued asked.cancels.distinct m other.0 c a refused.0 at other.1 yes_answers no_answers in
+        let place : m ≡ other.0 = answers_once (responder.answered_number responder.MayCancel) y.issued responder_stands.cancels.distinct m other.0 c a refused.0 at other.1 yes_answers no_answers in
         let same : ◌≡◌ {A = Option Apdu} (Some a) (Some refused.0) = sym at ∙ ap (message y.issued) place ∙ other.1 in
         let bodies : types.CancelReply c true ≡ types.CancelReply c false = sym is ∙ body_of a refused.0 same ∙ no in
         search rules
 
 says_true : PairOf SaysTrue
-says_true txn x y told heard asking asked issued heeded = record {
+says_true txn x y told heard requester_stands responder_stands issued heeded = record {
   returned =
       λ is.
-      let known = asked.knows responder.SentBack is in
-      is_in_returned x.state (sym asking.rules.issued.returned ∙ has_issued x.issued heard is_returned known.0 heeded known.1 (tells_sent_back known.0.number known.0.body known.2));
+      let known = responder_stands.knows responder.SentBack is in
+      is_in_returned x.state (sym requester_stands.rules.issued.returned ∙ has_issued x.issued heard is_returned known.0 heeded known.1 (tells_sent_back known.0.number known.0.body known.2));
   cancelled =
       λ e.
-      let ended : has is_cancelled y.issued ≡ true = asked.ends.cancelled ∙ ap (is_among (states.Cancelled ∷ [])) e in
+      let ended : has is_cancelled y.issued ≡ true = responder_stands.ends.cancelled ∙ ap (is_among (states.Cancelled ∷ [])) e in
       let at = has_message is_cancelled y.issued ended in
       let by = cancels_with at.1.body at.3 in
-      (and_parts _ _ (cancel_is_open txn x y told heard asking asked issued heeded at.0 by.0 at.1 at.2 by.1)).0;
+      (and_parts _ _ (cancel_is_open txn x y told heard requester_stands responder_stands issued heeded at.0 by.0 at.1 at.2 by.1)).0;
   received =
       λ is.
-      let known = asked.knows responder.Arrived is in
+      let known = responder_stands.knows responder.Arrived is in
       has_issued x.issued heard is_received known.0 heeded known.1 (tells_arrived known.0.number known.0.body known.2);
   checked_in =
       λ is.
-      let known = asking.knows requester.GivenBack is in
-      is_in_checked_in y.state (sym asked.rules.issued.checked_in ∙ has_issued y.issued told is_checked_in known.0 issued known.1 (tells_given_back known.0.body known.2));
+      let known = requester_stands.knows requester.GivenBack is in
+      is_in_checked_in y.state (sym responder_stands.rules.issued.checked_in ∙ has_issued y.issued told is_checked_in known.0 issued known.1 (tells_given_back known.0.body known.2));
 }
 
 not_later : PairOf IsNotLater
-not_later txn x y told heard asking asked issued heeded =
+not_later txn x y told heard requester_stands responder_stands issued heeded =
     λ d e.
-    let known = asking.knows (requester.Granted d) e in
+    let known = requester_stands.knows (requester.Granted d) e in
     let at = issued known.0 known.1 in
-    granted_not_later y.issued at.0 known.0 d asked.rules.rising at.1 (tells_grant known.0.body d known.2)
+    granted_not_later y.issued at.0 known.0 d responder_stands.rules.rising at.1 (tells_grant known.0.body d known.2)
 
 -- ---- both records of either
 
-facing : (P : RequesterRecord → ResponderRecord → Type 0) → PairOf P → (txn : Qualifiers) (x y : Side) (told heard : List (Option Apdu)) → StandsAsRequester txn x told → StandsAsResponder txn y heard
+facing : (P : RequesterRecord → ResponderRecord → Type 0) → PairOf P → (txn : Qualifiers) (x y : Side) (told heard : List (Option Apdu)) → RequesterSideStands txn x told → ResponderSideStands txn y heard
     → AreIssued told (issued_of y) → AreIssued heard (issued_of x) → Facing P x y
-facing P pair txn (sides.Requester x) (sides.Responder y) told heard asking asked issued heeded = pair txn x y told heard asking asked issued heeded
-facing P pair txn (sides.Responder x) y told heard asking asked issued heeded = absurd asking
-facing P pair txn (sides.Requester x) (sides.Requester y) told heard asking asked issued heeded = absurd asked
+facing P pair txn (sides.Requester x) (sides.Responder y) told heard requester_stands responder_stands issued heeded = pair txn x y told heard requester_stands responder_stands issued heeded
+facing P pair txn (sides.Responder x) y told heard requester_stands responder_stands issued heeded = absurd requester_stands
+facing P pair txn (sides.Requester x) (sides.Requester y) told heard requester_stands responder_stands issued heeded = absurd responder_stands
 
 of_both_facing : (P : RequesterRecord → ResponderRecord → Type 0) → PairOf P → (txn : Qualifiers) (w : Parties) → Stands txn w → OfBoth (Facing P) w
 of_both_facing P pair txn w stands =
     let sent = w.responder.sent in
     let heard = w.requester.sent in
-    let live = live_issues w.responder stands.asked.saved in
-    let landed = landed_issues w.responder stands.asked.saved in
-    let heeded = live_issues w.requester stands.asking.saved in
-    let heeded_landed = landed_issues w.requester stands.asking.saved in
+    let live = live_issues w.responder stands.responder.saved in
+    let landed = landed_issues w.responder stands.responder.saved in
+    let heeded = live_issues w.requester stands.requester.saved in
+    let heeded_landed = landed_issues w.requester stands.requester.saved in
     record {
-      live = facing P pair txn w.requester.live w.responder.live sent heard stands.asking.live stands.asked.live live heeded;
-      live_landed = facing P pair txn w.requester.live w.responder.landed sent heard stands.asking.live stands.asked.landed landed heeded;
-      landed_live = facing P pair txn w.requester.landed w.responder.live sent heard stands.asking.landed stands.asked.live live heeded_landed;
-      landed = facing P pair txn w.requester.landed w.responder.landed sent heard stands.asking.landed stands.asked.landed landed heeded_landed;
+      live = facing P pair txn w.requester.live w.responder.live sent heard stands.requester.live stands.responder.live live heeded;
+      live_landed = facing P pair txn w.requester.live w.responder.landed sent heard stands.requester.live stands.responder.landed landed heeded;
+      landed_live = facing P pair txn w.requester.landed w.responder.live sent heard stands.requester.landed stands.responder.live live heeded_landed;
+      landed = facing P pair txn w.requester.landed w.responder.landed sent heard stands.requester.landed stands.responder.landed landed heeded_landed;
     }
 
 -- ---- one answer, and one end
@@ -188,15 +188,15 @@ of_both_facing P pair txn w stands =
 once_sent : (answered : Body → Option ℕ) (p : Party) → SendsSaved p → AnswersOnce answered (message (issued_of p.landed)) → AnswersOnce answered (sent_message p.sent)
 once_sent answered p saved once = λ m n k a b at_m at_n is_a is_b. once m n k a b (saved.landed m a at_m) (saved.landed n b at_n) is_a is_b
 
-replies_once : (txn : Qualifiers) (side : Side) (told : List (Option Apdu)) → StandsAsRequester txn side told → AnswersOnce requester.replied_number (message (issued_of side))
+replies_once : (txn : Qualifiers) (side : Side) (told : List (Option Apdu)) → RequesterSideStands txn side told → AnswersOnce requester.replied_number (message (issued_of side))
 replies_once txn (sides.Requester x) told stands = answers_once requester.replied_number x.issued stands.replies.distinct
 replies_once txn (sides.Responder y) told stands = absurd stands
 
-cancels_once : (txn : Qualifiers) (side : Side) (told : List (Option Apdu)) → StandsAsResponder txn side told → AnswersOnce (responder.answered_number responder.MayCancel) (message (issued_of side))
+cancels_once : (txn : Qualifiers) (side : Side) (told : List (Option Apdu)) → ResponderSideStands txn side told → AnswersOnce (responder.answered_number responder.MayCancel) (message (issued_of side))
 cancels_once txn (sides.Responder y) told stands = answers_once (responder.answered_number responder.MayCancel) y.issued stands.cancels.distinct
 cancels_once txn (sides.Requester x) told stands = absurd stands
 
-renewals_once : (txn : Qualifiers) (side : Side) (told : List (Option Apdu)) → StandsAsResponder txn side told → AnswersOnce (responder.answered_number responder.MayRenew) (message (issued_of side))
+renewals_once : (txn : Qualifiers) (side : Side) (told : List (Option Apdu)) → ResponderSideStands txn side told → AnswersOnce (responder.answered_number responder.MayRenew) (message (issued_of side))
 renewals_once txn (sides.Responder y) told stands = answers_once (responder.answered_number responder.MayRenew) y.issued stands.renewals.distinct
 renewals_once txn (sides.Requester x) told stands = absurd stands
 
@@ -204,12 +204,12 @@ at_most_one : (b : Bool) → (if b then 1 else 0) ≤ 1
 at_most_one true = omega arith
 at_most_one false = omega arith
 
-ends_once : (txn : Qualifiers) (side : Side) (told : List (Option Apdu)) → StandsAsResponder txn side told → EndsOnce side
+ends_once : (txn : Qualifiers) (side : Side) (told : List (Option Apdu)) → ResponderSideStands txn side told → EndsOnce side
 ends_once txn (sides.Responder y) told stands =
     λ n a at is. one_end y.txn y.issued n a stands.rules.numbered (omega (arith, stands.ends.once, at_most_one (is_among responder.ended y.state))) at is
 ends_once txn (sides.Requester x) told stands = absurd stands
 
-accepted_by : (txn : Qualifiers) (w : Parties) (side : Side) → SendsSaved w.requester → StandsAsResponder txn side w.requester.sent → AcceptedBy w side
+accepted_by : (txn : Qualifiers) (w : Parties) (side : Side) → SendsSaved w.requester → ResponderSideStands txn side w.requester.sent → AcceptedBy w side
 accepted_by txn w (sides.Responder y) saved stands =
     λ c e.
     let known = stands.knows (responder.Accepted c) e in
@@ -220,24 +220,24 @@ accepted_by txn w (sides.Requester x) saved stands = absurd stands
 
 pub agrees : (txn : Qualifiers) (w : Parties) → Stands txn w → Agrees w
 agrees txn w stands =
-    let asking = stands.asking in
-    let asked = stands.asked in
+    let requester_stands = stands.requester in
+    let responder_stands = stands.responder in
     let sent = w.responder.sent in
     let heard = w.requester.sent in
     record {
       answered = record {
-        conditions = (replies_once txn w.requester.live sent asking.live, once_sent requester.replied_number w.requester asking.saved (replies_once txn w.requester.landed sent asking.landed));
+        conditions = (replies_once txn w.requester.live sent requester_stands.live, once_sent requester.replied_number w.requester requester_stands.saved (replies_once txn w.requester.landed sent requester_stands.landed));
         cancels = (
-          cancels_once txn w.responder.live heard asked.live,
-          once_sent (responder.answered_number responder.MayCancel) w.responder asked.saved (cancels_once txn w.responder.landed heard asked.landed),
+          cancels_once txn w.responder.live heard responder_stands.live,
+          once_sent (responder.answered_number responder.MayCancel) w.responder responder_stands.saved (cancels_once txn w.responder.landed heard responder_stands.landed),
         );
         renewals = (
-          renewals_once txn w.responder.live heard asked.live,
-          once_sent (responder.answered_number responder.MayRenew) w.responder asked.saved (renewals_once txn w.responder.landed heard asked.landed),
+          renewals_once txn w.responder.live heard responder_stands.live,
+          once_sent (responder.answered_number responder.MayRenew) w.responder responder_stands.saved (renewals_once txn w.responder.landed heard responder_stands.landed),
         );
       };
-      ended = (ends_once txn w.responder.live heard asked.live, ends_once txn w.responder.landed heard asked.landed);
-      accepted = (accepted_by txn w w.responder.live asking.saved asked.live, accepted_by txn w w.responder.landed asking.saved asked.landed);
+      ended = (ends_once txn w.responder.live heard responder_stands.live, ends_once txn w.responder.landed heard responder_stands.landed);
+      accepted = (accepted_by txn w w.responder.live requester_stands.saved responder_stands.live, accepted_by txn w w.responder.landed requester_stands.saved responder_stands.landed);
       dates = of_both_facing IsNotLater not_later txn w stands;
       says = of_both_facing SaysTrue says_true txn w stands;
     }

@@ -29,7 +29,7 @@ use Rattle.ill_world.specs.declared.event.Event.TheVariants as events
 use Rattle.ill_world.specs.declared.event.Outcome.TheVariants.{Answered}
 use Rattle.ill_world.specs.World.{Party, Parties, sent_message, answer_to, receives}
 use Rattle.ill_world.specs.Agreement.{settled_by, Settles, Arrives}
-use Rattle.ill_world.specs.Invariant.{RequesterStands, ResponderStands, StandsAsRequester, StandsAsResponder, Stands}
+use Rattle.ill_world.specs.Invariant.{RequesterStands, ResponderStands, RequesterSideStands, ResponderSideStands, Stands}
 use Rattle.ill_world.proofs.Sendings.{message_has}
 use Rattle.ill_world.proofs.Uniqueness.{message_number}
 use Rattle.ill_world.proofs.Claims.{AreIssued, has_issued, cancelled_faces, not_supplied_faces, shipped_by, landed_issues, live_issues}
@@ -106,15 +106,15 @@ not_none says (a ∷ apdus) is = refl
 -- the requester has asked for the item
 was_asked : (txn : Qualifiers) (x : RequesterRecord) (y : ResponderRecord) (told heard : List (Option Apdu)) → RequesterStands txn x told → ResponderStands txn y heard → AreIssued heard x.issued
     → is_among responder.ended y.state ≡ true → is_among (states.Idle ∷ []) x.state ≡ false
-was_asked txn x y told heard asking asked heeded ended =
-    let known = asked.knows responder.Requested (ended_not_idle y.state ended) in
+was_asked txn x y told heard requester_stands responder_stands heeded ended =
+    let known = responder_stands.knows responder.Requested (ended_not_idle y.state ended) in
     let request = has_issued x.issued heard is_ill_request known.0 heeded known.1 (tells_requested known.0.number known.0.body known.2) in
-    sym asking.rules.issued.idle ∙ not_none is_ill_request x.issued request
+    sym requester_stands.rules.issued.idle ∙ not_none is_ill_request x.issued request
 
 same_txn_as : (txn : Qualifiers) (x : RequesterRecord) (y : ResponderRecord) (told heard : List (Option Apdu)) (n : ℕ) (a : Apdu) → RequesterStands txn x told → ResponderStands txn y heard
     → message y.issued n ≡ Some a → is_same_txn a.txn x.txn ≡ true
-same_txn_as txn x y told heard n a asking asked at =
-    subst (λ t. is_same_txn a.txn t ≡ true) (asked.same_txn ∙ sym asking.same_txn) (message_number y.txn y.issued n a asked.rules.numbered at).0
+same_txn_as txn x y told heard n a requester_stands responder_stands at =
+    subst (λ t. is_same_txn a.txn t ≡ true) (responder_stands.same_txn ∙ sym requester_stands.same_txn) (message_number y.txn y.issued n a responder_stands.rules.numbered at).0
 
 tells_end : (body : Body) → is_unsupplied body ≡ true → requester.Tells body requester.Ended
 tells_end (types.IllAnswer answer) is = is
@@ -124,22 +124,22 @@ tells_end body is = search rules
 shipped_arrives : RowsFollow → (txn : Qualifiers) (x : RequesterRecord) (y : ResponderRecord) (told heard : List (Option Apdu)) (n : ℕ) (a : Apdu) (due : Date) → RequesterStands txn x told
     → ResponderStands txn y heard → AreIssued told y.issued → AreIssued heard x.issued → message y.issued n ≡ Some a → a.body ≡ types.Shipped due
     → requester.LeadsTo later (requester_deliveries.takes x a)
-shipped_arrives rows txn x y told heard n a due asking asked issued heeded at is =
-    let shipped : is_among shipped_states y.state ≡ true = sym asked.ends.shipped ∙ message_has is_shipped y.issued n a at (ap is_shipped is) in
-    rows.shipped x a due (same_txn_as txn x y told heard n a asking asked at) is
-    (may_ship x.state asking.rules.parts.role (was_asked txn x y told heard asking asked heeded (shipped_is_ended y.state shipped))
-    (λ e. not_cancelled y.state (cancelled_faces txn x y told heard asking asked issued e) shipped)
-    (λ e. not_unsupplied y.state (not_supplied_faces txn x y told heard asking asked issued e) shipped))
+shipped_arrives rows txn x y told heard n a due requester_stands responder_stands issued heeded at is =
+    let shipped : is_among shipped_states y.state ≡ true = sym responder_stands.ends.shipped ∙ message_has is_shipped y.issued n a at (ap is_shipped is) in
+    rows.shipped x a due (same_txn_as txn x y told heard n a requester_stands responder_stands at) is
+    (may_ship x.state requester_stands.rules.parts.role (was_asked txn x y told heard requester_stands responder_stands heeded (shipped_is_ended y.state shipped))
+    (λ e. not_cancelled y.state (cancelled_faces txn x y told heard requester_stands responder_stands issued e) shipped)
+    (λ e. not_unsupplied y.state (not_supplied_faces txn x y told heard requester_stands responder_stands issued e) shipped))
 
 end_arrives : RowsFollow → (txn : Qualifiers) (x : RequesterRecord) (y : ResponderRecord) (told heard : List (Option Apdu)) (n : ℕ) (a : Apdu) → RequesterStands txn x told
     → ResponderStands txn y heard → AreIssued told y.issued → AreIssued heard x.issued → message y.issued n ≡ Some a → is_unsupplied a.body ≡ true
     → requester.LeadsTo (states.NotSupplied ∷ []) (requester_deliveries.takes x a)
-end_arrives rows txn x y told heard n a asking asked issued heeded at is =
-    let ended : is_among (states.NotSupplied ∷ []) y.state ≡ true = sym asked.ends.unsupplied ∙ message_has is_unsupplied y.issued n a at is in
-    rows.ended x a (same_txn_as txn x y told heard n a asking asked at) (tells_end a.body is)
-    (may_end x.state asking.rules.parts.role (was_asked txn x y told heard asking asked heeded (unsupplied_is_ended y.state ended))
-    (λ e. not_cancelled_too y.state (cancelled_faces txn x y told heard asking asked issued e) ended)
-    (λ shipped. not_shipped y.state ended (sym asked.ends.shipped ∙ shipped_by txn x y told heard x.due asking asked issued refl (asking.rules.parts.due ∙ shipped))))
+end_arrives rows txn x y told heard n a requester_stands responder_stands issued heeded at is =
+    let ended : is_among (states.NotSupplied ∷ []) y.state ≡ true = sym responder_stands.ends.unsupplied ∙ message_has is_unsupplied y.issued n a at is in
+    rows.ended x a (same_txn_as txn x y told heard n a requester_stands responder_stands at) (tells_end a.body is)
+    (may_end x.state requester_stands.rules.parts.role (was_asked txn x y told heard requester_stands responder_stands heeded (unsupplied_is_ended y.state ended))
+    (λ e. not_cancelled_too y.state (cancelled_faces txn x y told heard requester_stands responder_stands issued e) ended)
+    (λ shipped. not_shipped y.state ended (sym responder_stands.ends.shipped ∙ shipped_by txn x y told heard x.due requester_stands responder_stands issued refl (requester_stands.rules.parts.due ∙ shipped))))
 
 both_of : (a b : Bool) → (a && b) ≡ true → (a ≡ true) × (b ≡ true)
 both_of true b is = (refl, is)
@@ -148,9 +148,9 @@ both_of false b is = search rules
 yes_arrives : RowsFollow → (txn : Qualifiers) (x : RequesterRecord) (y : ResponderRecord) (told heard : List (Option Apdu)) (n c : ℕ) (a : Apdu) → RequesterStands txn x told
     → ResponderStands txn y heard → AreIssued told y.issued → AreIssued heard x.issued → message y.issued n ≡ Some a → a.body ≡ types.CancelReply c true
     → requester.LeadsTo (states.Cancelled ∷ []) (requester_deliveries.takes x a)
-yes_arrives rows txn x y told heard n c a asking asked issued heeded at is =
-    let parts = both_of _ _ (cancel_is_open txn x y told heard asking asked issued heeded n c a at is) in
-    rows.cancelled x a c (same_txn_as txn x y told heard n a asking asked at) is parts.1 parts.0
+yes_arrives rows txn x y told heard n c a requester_stands responder_stands issued heeded at is =
+    let parts = both_of _ _ (cancel_is_open txn x y told heard requester_stands responder_stands issued heeded n c a at is) in
+    rows.cancelled x a c (same_txn_as txn x y told heard n a requester_stands responder_stands at) is parts.1 parts.0
 
 abbrev Leads : RequesterRecord → Apdu → Body → Type 0
 Leads x a body = requester.LeadsTo (settled_by body) (requester_deliveries.takes x a)
@@ -158,17 +158,17 @@ Leads x a body = requester.LeadsTo (settled_by body) (requester_deliveries.takes
 -- whichever end it is
 arrives_as : RowsFollow → (txn : Qualifiers) (x : RequesterRecord) (y : ResponderRecord) (told heard : List (Option Apdu)) (n : ℕ) (a : Apdu) (body : Body) → RequesterStands txn x told
     → ResponderStands txn y heard → AreIssued told y.issued → AreIssued heard x.issued → message y.issued n ≡ Some a → a.body ≡ body → is_end body ≡ true → Leads x a body
-arrives_as rows txn x y told heard n a (types.Shipped due) asking asked issued heeded at is ends = shipped_arrives rows txn x y told heard n a due asking asked issued heeded at is
-arrives_as rows txn x y told heard n a (types.CancelReply c true) asking asked issued heeded at is ends = yes_arrives rows txn x y told heard n c a asking asked issued heeded at is
-arrives_as rows txn x y told heard n a (types.CancelReply c false) asking asked issued heeded at is ends = search rules
-arrives_as rows txn x y told heard n a types.Expired asking asked issued heeded at is ends = end_arrives rows txn x y told heard n a asking asked issued heeded at (ap is_unsupplied is)
-arrives_as rows txn x y told heard n a (types.IllAnswer answer) asking asked issued heeded at is ends =
-    end_arrives rows txn x y told heard n a asking asked issued heeded at (ap is_unsupplied is ∙ plain_end _ ends)
+arrives_as rows txn x y told heard n a (types.Shipped due) requester_stands responder_stands issued heeded at is ends = shipped_arrives rows txn x y told heard n a due requester_stands responder_stands issued heeded at is
+arrives_as rows txn x y told heard n a (types.CancelReply c true) requester_stands responder_stands issued heeded at is ends = yes_arrives rows txn x y told heard n c a requester_stands responder_stands issued heeded at is
+arrives_as rows txn x y told heard n a (types.CancelReply c false) requester_stands responder_stands issued heeded at is ends = search rules
+arrives_as rows txn x y told heard n a types.Expired requester_stands responder_stands issued heeded at is ends = end_arrives rows txn x y told heard n a requester_stands responder_stands issued heeded at (ap is_unsupplied is)
+arrives_as rows txn x y told heard n a (types.IllAnswer answer) requester_stands responder_stands issued heeded at is ends =
+    end_arrives rows txn x y told heard n a requester_stands responder_stands issued heeded at (ap is_unsupplied is ∙ plain_end _ ends)
   where
     plain_end : (b : Bool) → (b || (false || false)) ≡ true → b ≡ true
     plain_end true is = refl
     plain_end false is = search rules
-arrives_as rows txn x y told heard n a body asking asked issued heeded at is ends = search rules
+arrives_as rows txn x y told heard n a body requester_stands responder_stands issued heeded at is ends = search rules
 
 -- ---- what is seen of it
 
@@ -176,19 +176,19 @@ answers : (answer : Result Taking Refusal) → (answer ≡ Ok Taken) ⊎ (answer
 answers answer (inl taken) = inl (ap answer_to taken)
 answers answer (inr repeat) = inr (ap answer_to repeat)
 
-settles_requester : RowsFollow → (txn : Qualifiers) (p : Party) (side : Side) (told heard : List (Option Apdu)) (n : ℕ) (a : Apdu) (found : Option Apdu) → StandsAsRequester txn p.live told
-    → StandsAsResponder txn side heard → AreIssued told (issued_of side) → AreIssued heard (issued_of p.live) → message (issued_of side) n ≡ Some a → found ≡ Some a → is_end a.body ≡ true
+settles_requester : RowsFollow → (txn : Qualifiers) (p : Party) (side : Side) (told heard : List (Option Apdu)) (n : ℕ) (a : Apdu) (found : Option Apdu) → RequesterSideStands txn p.live told
+    → ResponderSideStands txn side heard → AreIssued told (issued_of side) → AreIssued heard (issued_of p.live) → message (issued_of side) n ≡ Some a → found ≡ Some a → is_end a.body ≡ true
     → Settles (settled_by a.body) (receives p found).0 (receives p found).1.live
-settles_requester rows txn p side told heard n a found asking asked issued heeded at is ends =
-    subst (λ o. Settles (settled_by a.body) (receives p o).0 (receives p o).1.live) (sym is) (go p.live side asking asked issued heeded at)
+settles_requester rows txn p side told heard n a found requester_stands responder_stands issued heeded at is ends =
+    subst (λ o. Settles (settled_by a.body) (receives p o).0 (receives p o).1.live) (sym is) (go p.live side requester_stands responder_stands issued heeded at)
   where
-    go : (live side : Side) → StandsAsRequester txn live told → StandsAsResponder txn side heard → AreIssued told (issued_of side) → AreIssued heard (issued_of live) → message (issued_of side) n ≡ Some a
+    go : (live side : Side) → RequesterSideStands txn live told → ResponderSideStands txn side heard → AreIssued told (issued_of side) → AreIssued heard (issued_of live) → message (issued_of side) n ≡ Some a
         → Settles (settled_by a.body) (receives (record p { live = live }) (Some a)).0 (receives (record p { live = live }) (Some a)).1.live
-    go (sides.Requester x) (sides.Responder y) asking asked issued heeded at =
-        let leads = arrives_as rows txn x y told heard n a a.body asking asked issued heeded at refl ends in
+    go (sides.Requester x) (sides.Responder y) requester_stands responder_stands issued heeded at =
+        let leads = arrives_as rows txn x y told heard n a a.body requester_stands responder_stands issued heeded at refl ends in
         (answers (requester_deliveries.takes x a).0 leads.0, leads.1)
-    go (sides.Responder y) side asking asked issued heeded at = absurd asking
-    go (sides.Requester x) (sides.Requester y) asking asked issued heeded at = absurd asked
+    go (sides.Responder y) side requester_stands responder_stands issued heeded at = absurd requester_stands
+    go (sides.Requester x) (sides.Requester y) requester_stands responder_stands issued heeded at = absurd responder_stands
 
 -- ---- a Returned
 
@@ -203,35 +203,35 @@ returned_is_later state is = search rules
 returned_arrives : RowsFollow → (txn : Qualifiers) (x : RequesterRecord) (y : ResponderRecord) (told heard : List (Option Apdu)) (n : ℕ) (a : Apdu) → RequesterStands txn x told
     → ResponderStands txn y heard → AreIssued told y.issued → message x.issued n ≡ Some a → is_returned a.body ≡ true
     → responder.LeadsTo (states.Returned ∷ states.CheckedIn ∷ []) (responder_deliveries.takes y a)
-returned_arrives rows txn x y told heard n a asking asked issued at is =
-    let returned = sym asking.rules.issued.returned ∙ message_has is_returned x.issued n a at is in
-    let shipped = shipped_by txn x y told heard x.due asking asked issued refl (asking.rules.parts.due ∙ returned_is_later x.state returned) in
-    let same = subst (λ t. is_same_txn a.txn t ≡ true) (asking.same_txn ∙ sym asked.same_txn) (message_number x.txn x.issued n a asking.rules.numbered at).0 in
-    rows.returned y a same (returned_is a.body is) (sym asked.ends.shipped ∙ shipped)
+returned_arrives rows txn x y told heard n a requester_stands responder_stands issued at is =
+    let returned = sym requester_stands.rules.issued.returned ∙ message_has is_returned x.issued n a at is in
+    let shipped = shipped_by txn x y told heard x.due requester_stands responder_stands issued refl (requester_stands.rules.parts.due ∙ returned_is_later x.state returned) in
+    let same = subst (λ t. is_same_txn a.txn t ≡ true) (requester_stands.same_txn ∙ sym responder_stands.same_txn) (message_number x.txn x.issued n a requester_stands.rules.numbered at).0 in
+    rows.returned y a same (returned_is a.body is) (sym responder_stands.ends.shipped ∙ shipped)
 
-settles_responder : RowsFollow → (txn : Qualifiers) (p : Party) (side : Side) (told heard : List (Option Apdu)) (n : ℕ) (a : Apdu) (found : Option Apdu) → StandsAsRequester txn side told
-    → StandsAsResponder txn p.live heard → AreIssued told (issued_of p.live) → message (issued_of side) n ≡ Some a → found ≡ Some a → is_returned a.body ≡ true
+settles_responder : RowsFollow → (txn : Qualifiers) (p : Party) (side : Side) (told heard : List (Option Apdu)) (n : ℕ) (a : Apdu) (found : Option Apdu) → RequesterSideStands txn side told
+    → ResponderSideStands txn p.live heard → AreIssued told (issued_of p.live) → message (issued_of side) n ≡ Some a → found ≡ Some a → is_returned a.body ≡ true
     → Settles (states.Returned ∷ states.CheckedIn ∷ []) (receives p found).0 (receives p found).1.live
-settles_responder rows txn p side told heard n a found asking asked issued at is returned =
-    subst (λ o. Settles (states.Returned ∷ states.CheckedIn ∷ []) (receives p o).0 (receives p o).1.live) (sym is) (go side p.live asking asked issued at)
+settles_responder rows txn p side told heard n a found requester_stands responder_stands issued at is returned =
+    subst (λ o. Settles (states.Returned ∷ states.CheckedIn ∷ []) (receives p o).0 (receives p o).1.live) (sym is) (go side p.live requester_stands responder_stands issued at)
   where
-    go : (side live : Side) → StandsAsRequester txn side told → StandsAsResponder txn live heard → AreIssued told (issued_of live) → message (issued_of side) n ≡ Some a
+    go : (side live : Side) → RequesterSideStands txn side told → ResponderSideStands txn live heard → AreIssued told (issued_of live) → message (issued_of side) n ≡ Some a
         → Settles (states.Returned ∷ states.CheckedIn ∷ []) (receives (record p { live = live }) (Some a)).0 (receives (record p { live = live }) (Some a)).1.live
-    go (sides.Requester x) (sides.Responder y) asking asked issued at =
-        let leads = returned_arrives rows txn x y told heard n a asking asked issued at returned in
+    go (sides.Requester x) (sides.Responder y) requester_stands responder_stands issued at =
+        let leads = returned_arrives rows txn x y told heard n a requester_stands responder_stands issued at returned in
         (answers (responder_deliveries.takes y a).0 leads.0, leads.1)
-    go (sides.Responder y) live asking asked issued at = absurd asking
-    go (sides.Requester x) (sides.Requester y) asking asked issued at = absurd asked
+    go (sides.Responder y) live requester_stands responder_stands issued at = absurd requester_stands
+    go (sides.Requester x) (sides.Requester y) requester_stands responder_stands issued at = absurd responder_stands
 
 pub arrives : RowsFollow → (txn : Qualifiers) (w : Parties) (event : Event) → Stands txn w → Arrives w event
 arrives rows txn w (events.Deliver who.Requester n) stands =
     λ a sent ends.
-    settles_requester rows txn w.requester w.responder.landed w.responder.sent w.requester.sent n a (sent_message w.responder.sent n) stands.asking.live stands.asked.landed
-    (landed_issues w.responder stands.asked.saved) (live_issues w.requester stands.asking.saved) (stands.asked.saved.landed n a sent) sent ends
+    settles_requester rows txn w.requester w.responder.landed w.responder.sent w.requester.sent n a (sent_message w.responder.sent n) stands.requester.live stands.responder.landed
+    (landed_issues w.responder stands.responder.saved) (live_issues w.requester stands.requester.saved) (stands.responder.saved.landed n a sent) sent ends
 arrives rows txn w (events.Deliver who.Responder n) stands =
     λ a sent returned.
-    settles_responder rows txn w.responder w.requester.landed w.responder.sent w.requester.sent n a (sent_message w.requester.sent n) stands.asking.landed stands.asked.live
-    (live_issues w.responder stands.asked.saved) (stands.asking.saved.landed n a sent) sent returned
+    settles_responder rows txn w.responder w.requester.landed w.responder.sent w.requester.sent n a (sent_message w.requester.sent n) stands.requester.landed stands.responder.live
+    (live_issues w.responder stands.responder.saved) (stands.requester.saved.landed n a sent) sent returned
 arrives rows txn w (events.Wish wish) stands = tt
 arrives rows txn w (events.Deed deed today) stands = tt
 arrives rows txn w (events.Save of) stands = tt

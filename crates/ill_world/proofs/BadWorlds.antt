@@ -37,9 +37,9 @@ of_record P p side live landed (inl is) = subst P is live
 of_record P p side live landed (inr is) = subst P is landed
 
 of_pair : (P : Side → Side → Type 0) (w : Parties) (x y : Side) → OfBoth P w → Has w.requester x → Has w.responder y → P x y
-of_pair P w x y both asking asked =
-    of_record (P x) w.responder y (of_record (λ s. P s w.responder.live) w.requester x both.live both.landed_live asking)
-    (of_record (λ s. P s w.responder.landed) w.requester x both.live_landed both.landed asking) asked
+of_pair P w x y both requester_has responder_has =
+    of_record (P x) w.responder y (of_record (λ s. P s w.responder.live) w.requester x both.live both.landed_live requester_has)
+    (of_record (λ s. P s w.responder.landed) w.requester x both.live_landed both.landed requester_has) responder_has
 
 -- ---- safety
 
@@ -50,9 +50,9 @@ no_contradiction x y (never_shipped is none) ends shipped granted = let both : t
 no_contradiction x y (never_granted due is none) ends shipped granted = let grant = granted due is in none grant.0 grant.1 grant.2 grant.3
 
 pub not_safe : (w : Parties) → IsUnsafe w → Safe w → ⊥
-not_safe w (contradicted x y asking asked bad) safe =
-    no_contradiction x y bad (of_pair EndsAlike w x y safe.ends asking asked) (of_pair WasShipped w x y safe.shipped asking asked)
-    (of_pair WasGranted w x y safe.granted asking asked)
+not_safe w (contradicted x y requester_has responder_has bad) safe =
+    no_contradiction x y bad (of_pair EndsAlike w x y safe.ends requester_has responder_has) (of_pair WasShipped w x y safe.shipped requester_has responder_has)
+    (of_pair WasGranted w x y safe.granted requester_has responder_has)
 
 -- ---- agreement
 
@@ -97,9 +97,9 @@ not_agreed w (never_accepted y c of is none) agrees =
 not_agreed w (acceptance_forgotten y c of is none) agrees =
     let reply = of_record (AcceptedBy w) w.responder (sides.Responder y) agrees.accepted.0 agrees.accepted.1 of c is in
     none reply.0 reply.1 reply.3 reply.4
-not_agreed w (misled x y asking asked bad) agrees =
-    not_misled x y bad (of_pair (Facing IsNotLater) w (sides.Requester x) (sides.Responder y) agrees.dates asking asked)
-    (of_pair (Facing SaysTrue) w (sides.Requester x) (sides.Responder y) agrees.says asking asked)
+not_agreed w (misled x y requester_has responder_has bad) agrees =
+    not_misled x y bad (of_pair (Facing IsNotLater) w (sides.Requester x) (sides.Responder y) agrees.dates requester_has responder_has)
+    (of_pair (Facing SaysTrue) w (sides.Requester x) (sides.Responder y) agrees.says requester_has responder_has)
 
 -- ---- events
 

@@ -118,8 +118,8 @@ sent_by_one w who.Responder new keeps who.Responder n a was = keeps n a was
 sent_by_one w who.Responder new keeps who.Requester n a was = was
 
 saved_by : (txn : Qualifiers) (w : Parties) (of : Who) → Stands txn w → SendsSaved (party w of)
-saved_by txn w who.Requester stands = stands.asking.saved
-saved_by txn w who.Responder stands = stands.asked.saved
+saved_by txn w who.Requester stands = stands.requester.saved
+saved_by txn w who.Responder stands = stands.responder.saved
 
 pub event_keeps_sent : (txn : Qualifiers) (w : Parties) (event : Event) → Stands txn w → KeepsSent w (happens w event).1
 event_keeps_sent txn w event stands =

@@ -19,7 +19,7 @@ use Rattle.ill_saved.specs.declared.side.Side.TheVariants as sides
 use Rattle.ill_saved.specs.Side.{issued_of}
 use Rattle.ill_world.specs.World.{Party, Parties}
 use Rattle.ill_world.specs.Safety.{OfBoth, EndsAlike, WasShipped, WasGranted}
-use Rattle.ill_world.specs.Invariant.{WasSent, RequesterStands, ResponderStands, StandsAsRequester, StandsAsResponder, SendsSaved, Stands}
+use Rattle.ill_world.specs.Invariant.{WasSent, RequesterStands, ResponderStands, RequesterSideStands, ResponderSideStands, SendsSaved, Stands}
 use Rattle.ill_world.proofs.Sendings.{front_message, message_has}
 
 -- ---- what a message tells
@@ -75,7 +75,7 @@ abbrev pub AreIssued : List (Option Apdu) → List Apdu → Type 0
 AreIssued sent apdus = (a : Apdu) → WasSent sent a → (n : ℕ) × (message apdus n ≡ Some a)
 
 abbrev Pair : (Side → Side → Type 0) → Type 0
-Pair P = (txn : Qualifiers) (x y : Side) (told heard : List (Option Apdu)) → StandsAsRequester txn x told → StandsAsResponder txn y heard → AreIssued told (issued_of y) → P x y
+Pair P = (txn : Qualifiers) (x y : Side) (told heard : List (Option Apdu)) → RequesterSideStands txn x told → ResponderSideStands txn y heard → AreIssued told (issued_of y) → P x y
 
 -- a message that was sent tells what the responder has issued
 pub has_issued : (apdus : List Apdu) (told : List (Option Apdu)) (says : Body → Bool) (a : Apdu) → AreIssued told apdus → WasSent told a → says a.body ≡ true → has says apdus ≡ true
@@ -83,45 +83,45 @@ has_issued apdus told says a issued was is = let at = issued a was in message_ha
 
 pub cancelled_faces : (txn : Qualifiers) (x : RequesterRecord) (y : ResponderRecord) (told heard : List (Option Apdu)) → RequesterStands txn x told → ResponderStands txn y heard → AreIssued told y.issued
     → x.state ≡ states.Cancelled → y.state ≡ states.Cancelled
-cancelled_faces txn x y told heard asking asked issued e =
-    let known = asking.knows requester.Cancelled e in
-    is_in_cancelled y.state (sym asked.ends.cancelled ∙ has_issued y.issued told responder.is_cancelled known.0 issued known.1 (tells_cancelled known.0.body known.2))
+cancelled_faces txn x y told heard requester_stands responder_stands issued e =
+    let known = requester_stands.knows requester.Cancelled e in
+    is_in_cancelled y.state (sym responder_stands.ends.cancelled ∙ has_issued y.issued told responder.is_cancelled known.0 issued known.1 (tells_cancelled known.0.body known.2))
 
 pub not_supplied_faces : (txn : Qualifiers) (x : RequesterRecord) (y : ResponderRecord) (told heard : List (Option Apdu)) → RequesterStands txn x told → ResponderStands txn y heard
     → AreIssued told y.issued → x.state ≡ states.NotSupplied → y.state ≡ states.NotSupplied
-not_supplied_faces txn x y told heard asking asked issued e =
-    let known = asking.knows requester.Ended e in
-    is_in_not_supplied y.state (sym asked.ends.unsupplied ∙ has_issued y.issued told responder.is_unsupplied known.0 issued known.1 (tells_ended known.0.body known.2))
+not_supplied_faces txn x y told heard requester_stands responder_stands issued e =
+    let known = requester_stands.knows requester.Ended e in
+    is_in_not_supplied y.state (sym responder_stands.ends.unsupplied ∙ has_issued y.issued told responder.is_unsupplied known.0 issued known.1 (tells_ended known.0.body known.2))
 
 ends_pair : Pair EndsAlike
-ends_pair txn (sides.Requester x) (sides.Responder y) told heard asking asked issued =
-    (cancelled_faces txn x y told heard asking asked issued, not_supplied_faces txn x y told heard asking asked issued)
-ends_pair txn (sides.Responder x) y told heard asking asked issued = absurd asking
-ends_pair txn (sides.Requester x) (sides.Requester y) told heard asking asked issued = absurd asked
+ends_pair txn (sides.Requester x) (sides.Responder y) told heard requester_stands responder_stands issued =
+    (cancelled_faces txn x y told heard requester_stands responder_stands issued, not_supplied_faces txn x y told heard requester_stands responder_stands issued)
+ends_pair txn (sides.Responder x) y told heard requester_stands responder_stands issued = absurd requester_stands
+ends_pair txn (sides.Requester x) (sides.Requester y) told heard requester_stands responder_stands issued = absurd responder_stands
 
 grant_pair : Pair WasGranted
-grant_pair txn (sides.Requester x) (sides.Responder y) told heard asking asked issued =
+grant_pair txn (sides.Requester x) (sides.Responder y) told heard requester_stands responder_stands issued =
     λ due e.
-    let known = asking.knows (requester.Granted due) e in
+    let known = requester_stands.knows (requester.Granted due) e in
     let at = issued known.0 known.1 in
     (at.0, known.0, at.1, tells_grant known.0.body due known.2)
-grant_pair txn (sides.Responder x) y told heard asking asked issued = absurd asking
-grant_pair txn (sides.Requester x) (sides.Requester y) told heard asking asked issued = absurd asked
+grant_pair txn (sides.Responder x) y told heard requester_stands responder_stands issued = absurd requester_stands
+grant_pair txn (sides.Requester x) (sides.Requester y) told heard requester_stands responder_stands issued = absurd responder_stands
 
 pub shipped_by : (txn : Qualifiers) (x : RequesterRecord) (y : ResponderRecord) (told heard : List (Option Apdu)) (due : Option Date) → RequesterStands txn x told → ResponderStands txn y heard
     → AreIssued told y.issued → x.due ≡ due → is_some due ≡ true → has is_shipped y.issued ≡ true
-shipped_by txn x y told heard None asking asked issued e some = search rules
-shipped_by txn x y told heard (Some d) asking asked issued e some =
-    let known = asking.knows (requester.Granted d) e in
+shipped_by txn x y told heard None requester_stands responder_stands issued e some = search rules
+shipped_by txn x y told heard (Some d) requester_stands responder_stands issued e some =
+    let known = requester_stands.knows (requester.Granted d) e in
     elim (tells_shipped known.0.body d known.2) [
       | inl shipped ↦ has_issued y.issued told is_shipped known.0 issued known.1 shipped
-      | inr renewal ↦ ships_before y.issued asked.rules.ships_first (has_issued y.issued told is_renewal known.0 issued known.1 renewal)
+      | inr renewal ↦ ships_before y.issued responder_stands.rules.ships_first (has_issued y.issued told is_renewal known.0 issued known.1 renewal)
     ]
 
 shipped_pair : Pair WasShipped
-shipped_pair txn (sides.Requester x) (sides.Responder y) told heard asking asked issued = λ is. shipped_by txn x y told heard x.due asking asked issued refl (asking.rules.parts.due ∙ is)
-shipped_pair txn (sides.Responder x) y told heard asking asked issued = absurd asking
-shipped_pair txn (sides.Requester x) (sides.Requester y) told heard asking asked issued = absurd asked
+shipped_pair txn (sides.Requester x) (sides.Responder y) told heard requester_stands responder_stands issued = λ is. shipped_by txn x y told heard x.due requester_stands responder_stands issued refl (requester_stands.rules.parts.due ∙ is)
+shipped_pair txn (sides.Responder x) y told heard requester_stands responder_stands issued = absurd requester_stands
+shipped_pair txn (sides.Requester x) (sides.Requester y) told heard requester_stands responder_stands issued = absurd responder_stands
 
 -- ---- both records of either
 
@@ -135,13 +135,13 @@ of_both : (P : Side → Side → Type 0) → Pair P → (txn : Qualifiers) (w : 
 of_both P pair txn w stands =
     let sent = w.responder.sent in
     let heard = w.requester.sent in
-    let live = live_issues w.responder stands.asked.saved in
-    let landed = landed_issues w.responder stands.asked.saved in
+    let live = live_issues w.responder stands.responder.saved in
+    let landed = landed_issues w.responder stands.responder.saved in
     record {
-      live = pair txn w.requester.live w.responder.live sent heard stands.asking.live stands.asked.live live;
-      live_landed = pair txn w.requester.live w.responder.landed sent heard stands.asking.live stands.asked.landed landed;
-      landed_live = pair txn w.requester.landed w.responder.live sent heard stands.asking.landed stands.asked.live live;
-      landed = pair txn w.requester.landed w.responder.landed sent heard stands.asking.landed stands.asked.landed landed;
+      live = pair txn w.requester.live w.responder.live sent heard stands.requester.live stands.responder.live live;
+      live_landed = pair txn w.requester.live w.responder.landed sent heard stands.requester.live stands.responder.landed landed;
+      landed_live = pair txn w.requester.landed w.responder.live sent heard stands.requester.landed stands.responder.live live;
+      landed = pair txn w.requester.landed w.responder.landed sent heard stands.requester.landed stands.responder.landed landed;
     }
 
 pub ends_alike : (txn : Qualifiers) (w : Parties) → Stands txn w → OfBoth EndsAlike w

@@ -20,7 +20,7 @@ use Rattle.ill_world.specs.declared.event.Who.TheVariants as who
 use Rattle.ill_world.specs.declared.event.Event.{Event}
 use Rattle.ill_world.specs.declared.event.Event.TheVariants as events
 use Rattle.ill_world.specs.World.{Party, Parties, sent_message, decides, sends, receives, happens_to, happens}
-use Rattle.ill_world.specs.Invariant.{StandsAsRequester, Stands}
+use Rattle.ill_world.specs.Invariant.{RequesterSideStands, Stands}
 use Rattle.ill_world.specs.Agreement.{KeepsDates}
 use Rattle.ill_world.proofs.Calendar.{keeps_on}
 
@@ -37,21 +37,21 @@ made_due : (x : RequesterRecord) (result : Result RequesterRecord Refusal) (new 
 made_due x (Ok made) new keeps e = let is : sides.Requester made ≡ new = search rules in subst (λ side. due_date_of side ≡ x.due) is (keeps made refl)
 made_due x (Err refusal) new keeps e = search rules
 
-acts_due : RowsKeepDue → (txn : Qualifiers) (old new : Side) (action : Action) (told : List (Option Apdu)) → acts old action ≡ Ok new → StandsAsRequester txn old told → due_date_of new ≡ due_date_of old
+acts_due : RowsKeepDue → (txn : Qualifiers) (old new : Side) (action : Action) (told : List (Option Apdu)) → acts old action ≡ Ok new → RequesterSideStands txn old told → due_date_of new ≡ due_date_of old
 acts_due rows txn (sides.Requester x) new (actions.Wish wish) told e stands = made_due x (requester_actions.acts x wish) new (λ made is. rows.acts x made wish is) e
 acts_due rows txn (sides.Requester x) new (actions.Deed deed today) told e stands = search rules
 acts_due rows txn (sides.Responder y) new action told e stands = absurd stands
 
-takes_due : RowsKeepDue → (txn : Qualifiers) (old : Side) (a : Apdu) (told : List (Option Apdu)) → StandsAsRequester txn old told → KeepsDue (due_date_of old) (due_date_of (takes old a).1)
+takes_due : RowsKeepDue → (txn : Qualifiers) (old : Side) (a : Apdu) (told : List (Option Apdu)) → RequesterSideStands txn old told → KeepsDue (due_date_of old) (due_date_of (takes old a).1)
 takes_due rows txn (sides.Requester x) a told stands = rows.takes x a stands.rules.parts.due
 takes_due rows txn (sides.Responder y) a told stands = absurd stands
 
-decides_due : RowsKeepDue → (txn : Qualifiers) (p : Party) (told : List (Option Apdu)) (action : Action) (result : Result Side Refusal) → acts p.live action ≡ result → StandsAsRequester txn p.live told
+decides_due : RowsKeepDue → (txn : Qualifiers) (p : Party) (told : List (Option Apdu)) (action : Action) (result : Result Side Refusal) → acts p.live action ≡ result → RequesterSideStands txn p.live told
     → KeepsDue (due_date_of p.live) (due_date_of (decides p result).1.live) × ((decides p result).1.landed ≡ p.landed)
 decides_due rows txn p told action (Ok new) e stands = (inr (inl (acts_due rows txn p.live new action told e stands)), refl)
 decides_due rows txn p told action (Err refusal) e stands = (stays (due_date_of p.live), refl)
 
-receives_due : RowsKeepDue → (txn : Qualifiers) (p : Party) (told : List (Option Apdu)) (found : Option Apdu) → StandsAsRequester txn p.live told
+receives_due : RowsKeepDue → (txn : Qualifiers) (p : Party) (told : List (Option Apdu)) (found : Option Apdu) → RequesterSideStands txn p.live told
     → KeepsDue (due_date_of p.live) (due_date_of (receives p found).1.live) × ((receives p found).1.landed ≡ p.landed)
 receives_due rows txn p told None stands = (stays (due_date_of p.live), refl)
 receives_due rows txn p told (Some a) stands = (takes_due rows txn p.live a told stands, refl)
@@ -70,7 +70,7 @@ live_kept : (p q : Party) → KeepsDue (due_date_of p.live) (due_date_of q.live)
 live_kept p q both kept = subst (λ side. KeepsDue (due_date_of side) (due_date_of q.live)) (sym both.1) (keeps_on (due_date_of p.landed) (due_date_of p.live) (due_date_of q.live) kept both.0)
 
 -- what has landed has no later date than what is in memory
-pub due_after : RowsKeepDue → (txn : Qualifiers) (p : Party) (told : List (Option Apdu)) (event : Event) → StandsAsRequester txn p.live told → KeepsDue (due_date_of p.landed) (due_date_of p.live)
+pub due_after : RowsKeepDue → (txn : Qualifiers) (p : Party) (told : List (Option Apdu)) (event : Event) → RequesterSideStands txn p.live told → KeepsDue (due_date_of p.landed) (due_date_of p.live)
     → KeepsDue (due_date_of (happens_to p told event).1.landed) (due_date_of (happens_to p told event).1.live)
 due_after rows txn p told (events.Wish wish) stands kept =
     live_kept p (happens_to p told (events.Wish wish)).1 (decides_due rows txn p told (actions.Wish wish) (acts p.live (actions.Wish wish)) refl stands) kept
@@ -91,7 +91,7 @@ same_date a b e = inr (inl (ap due_date_of e))
 pub dates_kept : RowsKeepDue → (txn : Qualifiers) (w : Parties) (event : Event) → Stands txn w → KeepsDates w event (happens w event).1
 dates_kept rows txn w (events.Wish wish) stands =
     let p = w.requester in
-    let kept = decides_due rows txn p w.responder.sent (actions.Wish wish) (acts p.live (actions.Wish wish)) refl stands.asking.live in
+    let kept = decides_due rows txn p w.responder.sent (actions.Wish wish) (acts p.live (actions.Wish wish)) refl stands.requester.live in
     (kept.0, same_date p.landed _ kept.1)
 dates_kept rows txn w (events.Deed deed today) stands = (stays _, stays _)
 dates_kept rows txn w (events.Save who.Requester) stands = (stays _, stands.due)
@@ -106,7 +106,7 @@ dates_kept rows txn w (events.Send who.Requester n) stands =
 dates_kept rows txn w (events.Send who.Responder n) stands = (stays _, stays _)
 dates_kept rows txn w (events.Deliver who.Requester n) stands =
     let p = w.requester in
-    let kept = receives_due rows txn p w.responder.sent (sent_message w.responder.sent n) stands.asking.live in
+    let kept = receives_due rows txn p w.responder.sent (sent_message w.responder.sent n) stands.requester.live in
     (kept.0, same_date p.landed _ kept.1)
 dates_kept rows txn w (events.Deliver who.Responder n) stands = (stays _, stays _)
 dates_kept rows txn w (events.Noise who.Requester bytes) stands = (stays _, stays _)

@@ -41,7 +41,7 @@ use Rattle.ill_world.specs.declared.event.Outcome.{Outcome}
 use Rattle.ill_world.specs.declared.event.Outcome.TheVariants.{Forged, Refused}
 use Rattle.ill_world.specs.World.{Party, Parties, party, sent_message, decides, sends, answer_to, receives, hears, happens}
 use Rattle.ill_world.specs.Changes.{can_refuse, can_be_seen}
-use Rattle.ill_world.specs.Invariant.{StandsAsRequester, StandsAsResponder, Stands}
+use Rattle.ill_world.specs.Invariant.{RequesterSideStands, ResponderSideStands, Stands}
 
 -- ---- rows
 
@@ -110,11 +110,11 @@ done_seen : {R : Type 0} (make : R → Side) (result : Result R Refusal) → is_
 done_seen make (Ok new) seen = refl
 done_seen make (Err refusal) seen = seen
 
-wish_seen : (txn : Qualifiers) (side : Side) (told : List (Option Apdu)) (wish : Wish) → StandsAsRequester txn side told → is_seen (acts side (actions.Wish wish)) ≡ true
+wish_seen : (txn : Qualifiers) (side : Side) (told : List (Option Apdu)) (wish : Wish) → RequesterSideStands txn side told → is_seen (acts side (actions.Wish wish)) ≡ true
 wish_seen txn (sides.Requester x) told wish stands = done_seen sides.Requester (requester_actions.acts x wish) (wish_done x _ _ (wish_row x wish) (number_seen x.issued))
 wish_seen txn (sides.Responder y) told wish stands = absurd stands
 
-deed_seen : (txn : Qualifiers) (side : Side) (told : List (Option Apdu)) (deed : Deed) (today : Date) → StandsAsResponder txn side told → is_seen (acts side (actions.Deed deed today)) ≡ true
+deed_seen : (txn : Qualifiers) (side : Side) (told : List (Option Apdu)) (deed : Deed) (today : Date) → ResponderSideStands txn side told → is_seen (acts side (actions.Deed deed today)) ≡ true
 deed_seen txn (sides.Responder y) told deed today stands = done_seen sides.Responder (responder_actions.acts y deed today) (deed_done y _ _ (deed_row y deed today) (number_seen y.issued))
 deed_seen txn (sides.Requester x) told deed today stands = absurd stands
 
@@ -134,19 +134,19 @@ negated true is = refl
 negated false is = search rules
 
 -- what a responder has issued is none of a requester's types, and the other way round
-responders_own : (txn : Qualifiers) (side : Side) (told : List (Option Apdu)) (n : ℕ) (a : Apdu) → StandsAsResponder txn side told → message (issued_of side) n ≡ Some a → is_requesters a.body ≡ false
+responders_own : (txn : Qualifiers) (side : Side) (told : List (Option Apdu)) (n : ℕ) (a : Apdu) → ResponderSideStands txn side told → message (issued_of side) n ≡ Some a → is_requesters a.body ≡ false
 responders_own txn (sides.Responder y) told n a stands at = opposite (is_requesters a.body) (message_passes (λ a. not (is_requesters a.body)) y.issued n a at stands.rules.role)
 responders_own txn (sides.Requester x) told n a stands at = absurd stands
 
-requesters_own : (txn : Qualifiers) (side : Side) (told : List (Option Apdu)) (n : ℕ) (a : Apdu) → StandsAsRequester txn side told → message (issued_of side) n ≡ Some a → is_requesters a.body ≡ true
+requesters_own : (txn : Qualifiers) (side : Side) (told : List (Option Apdu)) (n : ℕ) (a : Apdu) → RequesterSideStands txn side told → message (issued_of side) n ≡ Some a → is_requesters a.body ≡ true
 requesters_own txn (sides.Requester x) told n a stands at = message_passes (λ a. is_requesters a.body) x.issued n a at stands.rules.role
 requesters_own txn (sides.Responder y) told n a stands at = absurd stands
 
-asking_seen : (txn : Qualifiers) (side : Side) (told : List (Option Apdu)) (a : Apdu) → StandsAsRequester txn side told → is_requesters a.body ≡ false → is_seen (takes side a).0 ≡ true
+asking_seen : (txn : Qualifiers) (side : Side) (told : List (Option Apdu)) (a : Apdu) → RequesterSideStands txn side told → is_requesters a.body ≡ false → is_seen (takes side a).0 ≡ true
 asking_seen txn (sides.Requester x) told a stands others = not_own (is_same_txn a.txn x.txn) (is_requesters a.body) x _ others (requester_answer x a a.body)
 asking_seen txn (sides.Responder y) told a stands others = absurd stands
 
-asked_seen : (txn : Qualifiers) (side : Side) (told : List (Option Apdu)) (a : Apdu) → StandsAsResponder txn side told → is_requesters a.body ≡ true → is_seen (takes side a).0 ≡ true
+asked_seen : (txn : Qualifiers) (side : Side) (told : List (Option Apdu)) (a : Apdu) → ResponderSideStands txn side told → is_requesters a.body ≡ true → is_seen (takes side a).0 ≡ true
 asked_seen txn (sides.Responder y) told a stands others =
     not_own (is_same_txn a.txn y.txn) (not (is_requesters a.body)) y _ (negated (is_requesters a.body) others) (responder_answer y a a.body)
 asked_seen txn (sides.Requester x) told a stands others = absurd stands
@@ -179,18 +179,18 @@ asking_receives : (txn : Qualifiers) (w : Parties) (n : ℕ) (found : Option Apd
 asking_receives txn w n None stands e = refl
 asking_receives txn w n (Some a) stands e =
     answer_seen (takes w.requester.live a).0
-    (asking_seen txn w.requester.live w.responder.sent a stands.asking.live (responders_own txn w.responder.landed w.requester.sent n a stands.asked.landed (stands.asked.saved.landed n a e)))
+    (asking_seen txn w.requester.live w.responder.sent a stands.requester.live (responders_own txn w.responder.landed w.requester.sent n a stands.responder.landed (stands.responder.saved.landed n a e)))
 
 asked_receives : (txn : Qualifiers) (w : Parties) (n : ℕ) (found : Option Apdu) → Stands txn w → sent_message w.requester.sent n ≡ found → can_be_seen (receives w.responder found).0 ≡ true
 asked_receives txn w n None stands e = refl
 asked_receives txn w n (Some a) stands e =
     answer_seen (takes w.responder.live a).0
-    (asked_seen txn w.responder.live w.requester.sent a stands.asked.live (requesters_own txn w.requester.landed w.responder.sent n a stands.asking.landed (stands.asking.saved.landed n a e)))
+    (asked_seen txn w.responder.live w.requester.sent a stands.responder.live (requesters_own txn w.requester.landed w.responder.sent n a stands.requester.landed (stands.requester.saved.landed n a e)))
 
 pub outcome_seen : (txn : Qualifiers) (w : Parties) (event : Event) → Stands txn w → can_be_seen (happens w event).0 ≡ true
-outcome_seen txn w (events.Wish wish) stands = decision_seen w.requester (acts w.requester.live (actions.Wish wish)) (wish_seen txn w.requester.live w.responder.sent wish stands.asking.live)
+outcome_seen txn w (events.Wish wish) stands = decision_seen w.requester (acts w.requester.live (actions.Wish wish)) (wish_seen txn w.requester.live w.responder.sent wish stands.requester.live)
 outcome_seen txn w (events.Deed deed today) stands =
-    decision_seen w.responder (acts w.responder.live (actions.Deed deed today)) (deed_seen txn w.responder.live w.requester.sent deed today stands.asked.live)
+    decision_seen w.responder (acts w.responder.live (actions.Deed deed today)) (deed_seen txn w.responder.live w.requester.sent deed today stands.responder.live)
 outcome_seen txn w (events.Save of) stands = refl
 outcome_seen txn w (events.SaveFault of landed) stands = refl
 outcome_seen txn w (events.Send of n) stands = send_seen (party w of) n _ _

@@ -27,7 +27,7 @@ use Rattle.ill_world.specs.World.{Parties, first_party, first_world, with_party,
 use Rattle.ill_world.specs.declared.event.Who.{Who}
 use Rattle.ill_world.specs.declared.event.Who.TheVariants as who
 use Rattle.ill_world.specs.declared.event.Event.{Event}
-use Rattle.ill_world.specs.Invariant.{WasSent, RequesterStands, ResponderStands, StandsAsRequester, StandsAsResponder, PartyStands, Stands}
+use Rattle.ill_world.specs.Invariant.{WasSent, RequesterStands, ResponderStands, RequesterSideStands, ResponderSideStands, PartyStands, Stands}
 use Rattle.ill_world.proofs.DueDates.{RowsKeepDue, due_after}
 use Rattle.ill_world.proofs.Sendings.{front_of_itself}
 use Rattle.ill_world.proofs.Kept.{RowsGrow, Keeps, party_kept, told_more, was_sent_still}
@@ -110,18 +110,18 @@ done_is : {R : Type 0} (make : R → Side) (result : Result R Refusal) (new : Si
 done_is make (Ok made) new e = (made, refl, search rules)
 done_is make (Err refusal) new e = search rules
 
-requester_acts : RequesterActs → (txn : Qualifiers) (old new : Side) (action : Action) (told : List (Option Apdu)) → acts old action ≡ Ok new → StandsAsRequester txn old told → StandsAsRequester txn new told
+requester_acts : RequesterActs → (txn : Qualifiers) (old new : Side) (action : Action) (told : List (Option Apdu)) → acts old action ≡ Ok new → RequesterSideStands txn old told → RequesterSideStands txn new told
 requester_acts law txn (sides.Requester x) new (actions.Wish wish) told e stands =
     let is = done_is sides.Requester (requester_actions.acts x wish) new e in
-    subst (λ side. StandsAsRequester txn side told) is.2 (law txn x is.0 wish told is.1 stands)
+    subst (λ side. RequesterSideStands txn side told) is.2 (law txn x is.0 wish told is.1 stands)
 requester_acts law txn (sides.Requester x) new (actions.Deed deed today) told e stands = search rules
 requester_acts law txn (sides.Responder y) new action told e stands = absurd stands
 
-requester_takes : RequesterTakes → (txn : Qualifiers) (old : Side) (a : Apdu) (told : List (Option Apdu)) → WasSent told a → StandsAsRequester txn old told → StandsAsRequester txn (takes old a).1 told
+requester_takes : RequesterTakes → (txn : Qualifiers) (old : Side) (a : Apdu) (told : List (Option Apdu)) → WasSent told a → RequesterSideStands txn old told → RequesterSideStands txn (takes old a).1 told
 requester_takes law txn (sides.Requester x) a told was stands = law txn x a told was stands
 requester_takes law txn (sides.Responder y) a told was stands = absurd stands
 
-requester_more : (txn : Qualifiers) (side : Side) (told more : List (Option Apdu)) → ((a : Apdu) → WasSent told a → WasSent more a) → StandsAsRequester txn side told → StandsAsRequester txn side more
+requester_more : (txn : Qualifiers) (side : Side) (told more : List (Option Apdu)) → ((a : Apdu) → WasSent told a → WasSent more a) → RequesterSideStands txn side told → RequesterSideStands txn side more
 requester_more txn (sides.Requester x) told more stays stands = record {
   same_txn = stands.same_txn;
   rules = stands.rules;
@@ -130,18 +130,18 @@ requester_more txn (sides.Requester x) told more stays stands = record {
 }
 requester_more txn (sides.Responder y) told more stays stands = absurd stands
 
-responder_acts : ResponderActs → (txn : Qualifiers) (old new : Side) (action : Action) (told : List (Option Apdu)) → acts old action ≡ Ok new → StandsAsResponder txn old told → StandsAsResponder txn new told
+responder_acts : ResponderActs → (txn : Qualifiers) (old new : Side) (action : Action) (told : List (Option Apdu)) → acts old action ≡ Ok new → ResponderSideStands txn old told → ResponderSideStands txn new told
 responder_acts law txn (sides.Responder y) new (actions.Deed deed today) told e stands =
     let is = done_is sides.Responder (responder_actions.acts y deed today) new e in
-    subst (λ side. StandsAsResponder txn side told) is.2 (law txn y is.0 deed today told is.1 stands)
+    subst (λ side. ResponderSideStands txn side told) is.2 (law txn y is.0 deed today told is.1 stands)
 responder_acts law txn (sides.Responder y) new (actions.Wish wish) told e stands = search rules
 responder_acts law txn (sides.Requester x) new action told e stands = absurd stands
 
-responder_takes : ResponderTakes → (txn : Qualifiers) (old : Side) (a : Apdu) (told : List (Option Apdu)) → WasSent told a → StandsAsResponder txn old told → StandsAsResponder txn (takes old a).1 told
+responder_takes : ResponderTakes → (txn : Qualifiers) (old : Side) (a : Apdu) (told : List (Option Apdu)) → WasSent told a → ResponderSideStands txn old told → ResponderSideStands txn (takes old a).1 told
 responder_takes law txn (sides.Responder y) a told was stands = law txn y a told was stands
 responder_takes law txn (sides.Requester x) a told was stands = absurd stands
 
-responder_more : (txn : Qualifiers) (side : Side) (told more : List (Option Apdu)) → ((a : Apdu) → WasSent told a → WasSent more a) → StandsAsResponder txn side told → StandsAsResponder txn side more
+responder_more : (txn : Qualifiers) (side : Side) (told more : List (Option Apdu)) → ((a : Apdu) → WasSent told a → WasSent more a) → ResponderSideStands txn side told → ResponderSideStands txn side more
 responder_more txn (sides.Responder y) told more stays stands = record {
   same_txn = stands.same_txn;
   rules = stands.rules;
@@ -152,10 +152,10 @@ responder_more txn (sides.Responder y) told more stays stands = record {
 }
 responder_more txn (sides.Requester x) told more stays stands = absurd stands
 
-pub requester_keeps : RequesterActs → RequesterTakes → (txn : Qualifiers) → Keeps (StandsAsRequester txn)
+pub requester_keeps : RequesterActs → RequesterTakes → (txn : Qualifiers) → Keeps (RequesterSideStands txn)
 requester_keeps acted took txn = record { acts = requester_acts acted txn; more = requester_more txn; takes = requester_takes took txn }
 
-pub responder_keeps : ResponderActs → ResponderTakes → (txn : Qualifiers) → Keeps (StandsAsResponder txn)
+pub responder_keeps : ResponderActs → ResponderTakes → (txn : Qualifiers) → Keeps (ResponderSideStands txn)
 responder_keeps acted took txn = record { acts = responder_acts acted txn; more = responder_more txn; takes = responder_takes took txn }
 
 -- ---- a world
@@ -182,25 +182,25 @@ first_stands K idle told stands = record {
 
 pub world_first : (txn : Qualifiers) → Stands txn (first_world txn)
 world_first txn = record {
-  asking = first_stands (StandsAsRequester txn) _ _ (requester_first txn _);
-  asked = first_stands (StandsAsResponder txn) _ _ (responder_first txn _);
+  requester = first_stands (RequesterSideStands txn) _ _ (requester_first txn _);
+  responder = first_stands (ResponderSideStands txn) _ _ (responder_first txn _);
   due = inl refl;
 }
 
-world_kept : RowsKeepDue → (txn : Qualifiers) (w : Parties) (of : Who) (event : Event) → RowsGrow → Keeps (StandsAsRequester txn) → Keeps (StandsAsResponder txn) → Stands txn w
+world_kept : RowsKeepDue → (txn : Qualifiers) (w : Parties) (of : Who) (event : Event) → RowsGrow → Keeps (RequesterSideStands txn) → Keeps (ResponderSideStands txn) → Stands txn w
     → Stands txn (with_party w of (happens_to (party w of) (party w (other of)).sent event).1)
-world_kept rows txn w who.Requester event grows asking asked stands = record {
-  asking = party_kept (StandsAsRequester txn) w.requester w.responder.sent event grows asking stands.asking;
-  asked =
-      told_more (StandsAsResponder txn) w.responder w.requester.sent _ asked (was_sent_still w.requester w.responder.sent event stands.asking.saved) stands.asked;
-  due = due_after rows txn w.requester w.responder.sent event stands.asking.live stands.due;
+world_kept rows txn w who.Requester event grows requester_kept responder_kept stands = record {
+  requester = party_kept (RequesterSideStands txn) w.requester w.responder.sent event grows requester_kept stands.requester;
+  responder =
+      told_more (ResponderSideStands txn) w.responder w.requester.sent _ responder_kept (was_sent_still w.requester w.responder.sent event stands.requester.saved) stands.responder;
+  due = due_after rows txn w.requester w.responder.sent event stands.requester.live stands.due;
 }
-world_kept rows txn w who.Responder event grows asking asked stands = record {
-  asking =
-      told_more (StandsAsRequester txn) w.requester w.responder.sent _ asking (was_sent_still w.responder w.requester.sent event stands.asked.saved) stands.asking;
-  asked = party_kept (StandsAsResponder txn) w.responder w.requester.sent event grows asked stands.asked;
+world_kept rows txn w who.Responder event grows requester_kept responder_kept stands = record {
+  requester =
+      told_more (RequesterSideStands txn) w.requester w.responder.sent _ requester_kept (was_sent_still w.responder w.requester.sent event stands.responder.saved) stands.requester;
+  responder = party_kept (ResponderSideStands txn) w.responder w.requester.sent event grows responder_kept stands.responder;
   due = stands.due;
 }
 
-pub world_after : RowsKeepDue → (txn : Qualifiers) (w : Parties) (event : Event) → RowsGrow → Keeps (StandsAsRequester txn) → Keeps (StandsAsResponder txn) → Stands txn w → Stands txn (happens w event).1
-world_after rows txn w event grows asking asked stands = world_kept rows txn w (who_of event) event grows asking asked stands
+pub world_after : RowsKeepDue → (txn : Qualifiers) (w : Parties) (event : Event) → RowsGrow → Keeps (RequesterSideStands txn) → Keeps (ResponderSideStands txn) → Stands txn w → Stands txn (happens w event).1
+world_after rows txn w event grows requester_kept responder_kept stands = world_kept rows txn w (who_of event) event grows requester_kept responder_kept stands

@@ -11,7 +11,7 @@ use Rattle.ill_world.specs.declared.event.Event.{Event}
 use Rattle.ill_world.specs.declared.event.Event.TheVariants as events
 use Rattle.ill_world.specs.declared.event.Outcome.{Outcome}
 use Rattle.ill_world.specs.World.{Party, Parties, first_party, first_world, party, with_party, other, who_of, happens_to, happens}
-use Rattle.ill_world.specs.Standing.{Gives}
+use Rattle.ill_world.specs.PartyView.{Gives}
 use Rattle.ill_world.specs.Invariant.{Stands}
 use Rattle.ill_world.specs.Agreement.{KeepsDates}
 

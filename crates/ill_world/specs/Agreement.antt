@@ -107,7 +107,7 @@ KeepsDates old event new =
 -- the states that the end of a request leads a requester to
 abbrev pub settled_by : Body → List State
 settled_by (types.Shipped due) = requester.later
-settled_by (types.CancelReply c accepted) = states.Cancelled ∷ []
+settled_by (types.CancelReply c is_yes) = states.Cancelled ∷ []
 settled_by other = states.NotSupplied ∷ []
 
 -- A message was taken, or was before, and the side is in one of these states.

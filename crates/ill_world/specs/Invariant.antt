@@ -7,6 +7,7 @@ use Rattle.ill_core.specs.Issued.{message}
 use Rattle.ill_core.specs.Requester.{RequesterRecord, IsRequester}
 use Rattle.ill_core.specs.Responder.{ResponderRecord, IsResponder}
 use Rattle.ill_core.specs.RequesterFacts as requester
+use Rattle.ill_core.specs.RequesterFacts.{KeepsDue}
 use Rattle.ill_core.specs.ResponderFacts as responder
 use Rattle.ill_saved.specs.declared.side.Side.{Side}
 use Rattle.ill_saved.specs.declared.side.Side.TheVariants as sides
@@ -46,13 +47,13 @@ pub record ResponderStands (txn : Qualifiers) (y : ResponderRecord) (sent : List
   pub knows : ResponderKnows y sent
 
 -- a side of the requester, and one of the responder
-abbrev pub StandsAsRequester : Qualifiers → Side → List (Option Apdu) → Type 0
-StandsAsRequester txn (sides.Requester x) sent = RequesterStands txn x sent
-StandsAsRequester txn (sides.Responder y) sent = ⊥
+abbrev pub RequesterSideStands : Qualifiers → Side → List (Option Apdu) → Type 0
+RequesterSideStands txn (sides.Requester x) sent = RequesterStands txn x sent
+RequesterSideStands txn (sides.Responder y) sent = ⊥
 
-abbrev pub StandsAsResponder : Qualifiers → Side → List (Option Apdu) → Type 0
-StandsAsResponder txn (sides.Requester x) sent = ⊥
-StandsAsResponder txn (sides.Responder y) sent = ResponderStands txn y sent
+abbrev pub ResponderSideStands : Qualifiers → Side → List (Option Apdu) → Type 0
+ResponderSideStands txn (sides.Requester x) sent = ⊥
+ResponderSideStands txn (sides.Responder y) sent = ResponderStands txn y sent
 
 -- ---- a party and what it has sent
 
@@ -72,6 +73,6 @@ pub record PartyStands (K : Side → List (Option Apdu) → Type 0) (p : Party) 
 -- ---- a world
 
 pub record Stands (txn : Qualifiers) (w : Parties) : Type 0 where
-  pub asking : PartyStands (StandsAsRequester txn) w.requester w.responder.sent
-  pub asked : PartyStands (StandsAsResponder txn) w.responder w.requester.sent
-  pub due : requester.KeepsDue (due_date_of w.requester.landed) (due_date_of w.requester.live)
+  pub requester : PartyStands (RequesterSideStands txn) w.requester w.responder.sent
+  pub responder : PartyStands (ResponderSideStands txn) w.responder w.requester.sent
+  pub due : KeepsDue (due_date_of w.requester.landed) (due_date_of w.requester.live)

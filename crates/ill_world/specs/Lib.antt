@@ -1,5 +1,5 @@
 pub mod World
-pub mod Standing
+pub mod PartyView
 pub mod Words
 pub mod Script
 pub mod Trace

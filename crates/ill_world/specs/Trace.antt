@@ -58,16 +58,16 @@ due_text None = codes "-"
 due_text (Some d) = date_text d
 
 -- how a side stands: its state, its due date, and how many of its messages are released and issued
-abbrev pub standing_text : Side → ℕ → List ℕ
-standing_text side released =
+abbrev pub side_text : Side → ℕ → List ℕ
+side_text side released =
     state_name (state_of side) ++ codes " " ++ due_text (due_date_of side) ++ codes " "
     ++ decimal released ++ codes "/" ++ decimal (length (issued_of side))
 
-abbrev pub side_text : Party → List ℕ
-side_text p = standing_text p.live p.released
+abbrev pub party_text : Party → List ℕ
+party_text p = side_text p.live p.released
 
 -- the line of the event with this number
 unfoldable pub line : ℕ → Outcome → Parties → List ℕ
 line number outcome after =
-    event_text number outcome ++ codes " requester " ++ side_text after.requester ++ codes " responder "
-    ++ side_text after.responder ++ codes "\n"
+    event_text number outcome ++ codes " requester " ++ party_text after.requester ++ codes " responder "
+    ++ party_text after.responder ++ codes "\n"

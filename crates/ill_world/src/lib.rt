@@ -19,5 +19,5 @@ pub use bytes::Bytes;
 pub use event::{Event, Outcome, Who};
 pub use fault::SimFault;
 pub use simulation::simulate;
-pub use trace::push_standing;
+pub use trace::push_side;
 pub use world::{World, run};

@@ -4,7 +4,7 @@ ghost use Rattle.std.specs.Prelude.{◌≡◌, [], Ok};
 ghost use Rattle.ill_values.specs.declared.apdu.Apdu.{Apdu};
 ghost use Rattle.ill_values.specs.Apdu.{IsApdu};
 ghost use Rattle.ill_der.specs.ShortForm.{spelling, apdu_at};
-ghost use Rattle.ill_world.specs.Standing.{apdu_of};
+ghost use Rattle.ill_world.specs.PartyView.{apdu_of};
 
 use ill_der::laws::read_again;
 use std::marker::Model;

@@ -6,7 +6,7 @@ ghost use Rattle.ill_core.specs.Issued.{message};
 ghost use Rattle.ill_saved.specs.Side.{acts, issued_of, idle_of, txn_of};
 ghost use Rattle.ill_world.specs.World as model;
 ghost use Rattle.ill_world.specs.declared.event.Outcome.TheVariants as outcomes;
-ghost use Rattle.ill_world.specs.Standing.{party_of, IsReady, Gives, is_of};
+ghost use Rattle.ill_world.specs.PartyView.{party_of, IsReady, Gives, is_of};
 
 use crate::event::Outcome;
 use crate::message::Message;

@@ -1,7 +1,7 @@
 //! The lines of a trace, which show what is seen of each event and how both sides stand after it.
 
 ghost use Rattle.std.specs.Prelude.{◌≡◌, ◌++◌, OnOk};
-ghost use Rattle.ill_world.specs.Trace.{line, event_text, standing_text, due_text};
+ghost use Rattle.ill_world.specs.Trace.{line, event_text, side_text, due_text};
 
 use crate::event::Outcome;
 use crate::party::Party;
@@ -25,9 +25,9 @@ pub(crate) fn push_line(
 {
     push_event(lines, number, outcome)?;
     lines.extend_from_slice(b" requester ")?;
-    push_standing(lines, requester.side(), requester.released())?;
+    push_side(lines, requester.side(), requester.released())?;
     lines.extend_from_slice(b" responder ")?;
-    push_standing(lines, responder.side(), responder.released())?;
+    push_side(lines, responder.side(), responder.released())?;
     lines.push(b'\n')?;
     Ok(())
 }
@@ -44,8 +44,8 @@ fn push_event(lines: &mut Vec<u8>, number: u32, outcome: Outcome) -> Result<(), 
 
 /// Adds how a side stands: its state, its due date or a dash, and how many of its messages are
 /// released and issued, as `SHIPPED 20250315 2/3`.
-pub fn push_standing(lines: &mut Vec<u8>, side: &Side, released: u8) -> Result<(), OutOfMemory>
-    ensures { OnOk result (lines.new.items ≡ lines.old.items ++ standing_text side.now released) }
+pub fn push_side(lines: &mut Vec<u8>, side: &Side, released: u8) -> Result<(), OutOfMemory>
+    ensures { OnOk result (lines.new.items ≡ lines.old.items ++ side_text side.now released) }
 {
     let state = side.state().to_string(*lines.allocator())?;
     lines.extend_from_slice(state.as_bytes())?;

@@ -8,7 +8,7 @@ ghost use Rattle.ill_world.specs.Trace.{line};
 ghost use Rattle.ill_world.specs.Safety.{IsSafeRun};
 ghost use Rattle.ill_world.specs.Agreement.{IsAgreeingRun, KeepsDates, Arrives};
 ghost use Rattle.ill_world.specs.Invariant.{Stands};
-ghost use Rattle.ill_world.specs.Standing.{Gives};
+ghost use Rattle.ill_world.specs.PartyView.{Gives};
 
 use crate::event::{Event, Outcome, Who};
 use crate::laws::{

@@ -57,7 +57,7 @@ pub fn print_ending(alloc: Global, page: &mut Page, name: &str) -> Option<()> {
 fn print_world(alloc: Global, page: &mut Page, world: &World) -> Option<()> {
     let requester = world.requester();
     page.text("requester");
-    print_standing(page, requester.state(), requester.due());
+    print_state_and_due(page, requester.state(), requester.due());
     print_issued(
         alloc,
         page,
@@ -66,7 +66,7 @@ fn print_world(alloc: Global, page: &mut Page, world: &World) -> Option<()> {
     )?;
     let responder = world.responder();
     page.text("responder");
-    print_standing(page, responder.state(), responder.due());
+    print_state_and_due(page, responder.state(), responder.due());
     print_issued(
         alloc,
         page,
@@ -80,7 +80,7 @@ fn print_world(alloc: Global, page: &mut Page, world: &World) -> Option<()> {
     Some(())
 }
 
-fn print_standing(page: &mut Page, state: State, due: Option<Day>) {
+fn print_state_and_due(page: &mut Page, state: State, due: Option<Day>) {
     page.text(" ");
     page.show(&state);
     page.text(" ");

@@ -9,7 +9,7 @@ use Rattle.ill_saved.specs.declared.fault.LayoutFault.{LayoutFault}
 use Rattle.ill_saved.specs.declared.side.Side.{Side}
 use Rattle.ill_saved.specs.declared.store.NextCall.TheVariants.{Works}
 use Rattle.ill_saved.specs.Side.{idle_of}
-use Rattle.ill_saved.specs.Store.{Memory}
+use Rattle.ill_saved.specs.Store.{MemoryStoreState}
 use Rattle.ill_saved.specs.Desk.{DeskOf, landed_side}
 use Rattle.ill_world.specs.declared.event.Outcome.{Outcome}
 use Rattle.ill_world.specs.World.{Party}
@@ -39,16 +39,16 @@ side_or live (Ok side) = side
 side_or live (Err fault) = live
 
 -- the side that has landed in the store of a desk
-abbrev pub landed_of : DeskOf Memory → Side
+abbrev pub landed_of : DeskOf MemoryStoreState → Side
 landed_of desk = side_or desk.live (landed_side desk.store.landed desk.live)
 
 -- the party that a desk and the messages sent from it stand for
-abbrev pub party_of : DeskOf Memory → List (Option Apdu) → Party
+abbrev pub party_of : DeskOf MemoryStoreState → List (Option Apdu) → Party
 party_of desk sent = record { live = desk.live; landed = landed_of desk; released = desk.released; sent = sent }
 
 -- Between two events the next call of the store works, and what has landed is a side of the same
 -- role and transaction.
-pub record IsReady (desk : DeskOf Memory) : Type 0 where
+pub record IsReady (desk : DeskOf MemoryStoreState) : Type 0 where
   pub works : desk.store.next ≡ Works
   pub landed : landed_side desk.store.landed desk.live ≡ Ok (landed_of desk)
   pub idle : idle_of (landed_of desk) ≡ idle_of desk.live

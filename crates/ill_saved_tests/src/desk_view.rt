@@ -1,4 +1,4 @@
-//! Where a desk stands.
+//! What is seen of a desk.
 
 use crate::line::Line;
 use crate::records::{Facts, side_facts, write_day};
@@ -8,17 +8,17 @@ use std::alloc::Global;
 /// What a refusal must leave: the record of the side, and how many messages are released. The facts of
 /// the side are the record's.
 #[derive(Drop)]
-pub struct Standing {
+pub struct DeskView {
     record: Vec<u8>,
     released: u8,
     pub side: Facts,
 }
 
-impl Standing {
-    /// Where this desk stands.
-    pub fn of<S: Store>(alloc: Global, desk: &Desk1<S>) -> Option<Standing> {
+impl DeskView {
+    /// What is seen of this desk.
+    pub fn of<S: Store>(alloc: Global, desk: &Desk1<S>) -> Option<DeskView> {
         let side = desk.side();
-        Some(Standing {
+        Some(DeskView {
             record: encode_record(alloc, side).ok()?,
             released: desk.released(),
             side: side_facts(side),
@@ -37,7 +37,7 @@ impl Standing {
     }
 
     /// Writes the same after an answer that changes nothing, and whether anything has changed.
-    pub fn write_after(&self, line: &mut Line, before: &Standing) {
+    pub fn write_after(&self, line: &mut Line, before: &DeskView) {
         self.write(line);
         if self.record.as_slice() != before.record.as_slice() || self.released != before.released {
             line.text(" CHANGED");

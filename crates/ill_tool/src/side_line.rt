@@ -1,14 +1,14 @@
 //! The line of how a side stands.
 
 ghost use Rattle.std.specs.Prelude.{◌≡◌, ◌++◌, OnOk};
-ghost use Rattle.ill_tool.specs.Standing.{is_fine, side_line, standing_of, Tells};
+ghost use Rattle.ill_tool.specs.DeskView.{is_fine, side_line, view_of, Tells};
 
 use crate::fault::ToolFault;
 use crate::output::write_whole;
 use ill_core::Taking;
 use ill_saved::{Desk1, Store};
 use ill_values::OutOfMemory;
-use ill_world::{Outcome, push_standing};
+use ill_world::{Outcome, push_side};
 use std::alloc::Global;
 use std::io::Write;
 
@@ -21,7 +21,7 @@ pub fn report<S: Store, W: Write>(
     desk: &Desk1<S>,
 ) -> Result<bool, ToolFault>
     ensures { Tells (W.contents writer.old) (W.contents writer.new) outcome
-        (standing_of S.is_honest S.landed desk.now) result }
+        (view_of S.is_honest S.landed desk.now) result }
 {
     let mut line = Vec::new(alloc);
     push_line(&mut line, outcome, desk)?;
@@ -36,11 +36,11 @@ fn push_line<S: Store>(
     desk: &Desk1<S>,
 ) -> Result<(), OutOfMemory>
     ensures { OnOk result (line.new.items ≡ line.old.items
-        ++ side_line outcome (standing_of S.is_honest S.landed desk.now)) }
+        ++ side_line outcome (view_of S.is_honest S.landed desk.now)) }
 {
     line.extend_from_slice(outcome.word().as_bytes())?;
     line.push(b' ')?;
-    push_standing(line, desk.side(), desk.released())?;
+    push_side(line, desk.side(), desk.released())?;
     line.push(b'\n')?;
     Ok(())
 }

@@ -1,4 +1,4 @@
-//! Where a side in memory stands.
+//! What is seen of a side in memory.
 
 use crate::page::Page;
 use crate::telling::begin;
@@ -7,34 +7,34 @@ use std::alloc::Global;
 
 /// The record of a side, and how many of its messages are released.
 #[derive(Drop)]
-pub struct Standing {
+pub struct DeskView {
     record: Vec<u8>,
     released: u8,
 }
 
-impl Standing {
-    /// Where this side stands.
-    pub fn of<S: Store>(alloc: Global, desk: &Desk1<S>) -> Option<Standing> {
-        Some(Standing {
+impl DeskView {
+    /// What is seen of this side.
+    pub fn of<S: Store>(alloc: Global, desk: &Desk1<S>) -> Option<DeskView> {
+        Some(DeskView {
             record: encode_record(alloc, desk.side()).ok()?,
             released: desk.released(),
         })
     }
 
-    fn is(&self, other: &Standing) -> bool {
+    fn is(&self, other: &DeskView) -> bool {
         self.record.as_slice() == other.record.as_slice() && self.released == other.released
     }
 }
 
 /// Tells how the side in memory stands, and whether that has changed: its state, its due date, and how many of
 /// its messages are released and issued.
-pub fn tell_standing<S: Store>(
+pub fn tell_view<S: Store>(
     alloc: Global,
     page: &mut Page,
     desk: &Desk1<S>,
-    before: &Standing,
+    before: &DeskView,
 ) -> Option<()> {
-    let after = Standing::of(alloc, desk)?;
+    let after = DeskView::of(alloc, desk)?;
     begin(page, if after.is(before) { "stays" } else { "stands" });
     tell_side(page, desk.side());
     page.show(&after.released);

@@ -1,5 +1,9 @@
-//! Tests of the short form: each line of the input is a case, and what is printed for it is what the
-//! calls of `ill_der` answer. The file `stdin` has the cases, and `stdout` what must be printed.
+//! Tests of the short form: each line of the input is a case, and below it is printed what the calls of
+//! `ill_der` answer, behind two spaces, in place of what stands there. The file `stdin` has the cases with
+//! the answers that they should get, and `stdout` is the same.
+//!
+//! To try a case alone, in seconds: put its lines into a file, and `rt try < file | diff file -` prints
+//! nothing where all is right.
 //!
 //! The bytes of a case are words: an octet in hexadecimal, or ASCII in quotes that has no space and no
 //! star. `*N` behind either repeats it N times. A line is one of these:

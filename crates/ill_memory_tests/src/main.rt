@@ -1,5 +1,8 @@
 //! Calls with allocations refused. Standard input lists the cases, a line each, with notes between them
-//! that begin with `#`; each case is printed with what came of it.
+//! that begin with `#`; each case is printed with what came of it, in place of what stands there behind a
+//! colon. So `stdin` has the cases with what should come of them, and `stdout` is the same. To try a case
+//! alone, in seconds: put its line into a file, and `rt try < file | diff file -` prints nothing where all is
+//! right.
 //!
 //! The first word of a case is `grows` where the call takes memory and `quiet` where it takes none; it
 //! is for `tools/want-of-memory`, which has a shim refuse what a call allocates between its marks. Files

@@ -1,9 +1,13 @@
 //! Tests of saved records, stores and desks, whose cases are lines.
 //!
-//! Each line of standard input is a case. It is written again with the library's answer behind it;
-//! what a family of cases is answered stands below it. Notes, which begin with `# `, and empty lines are
-//! written as they are. A line `let` gives bytes a name, and is not written. Files stand in a folder that
+//! Each line of standard input is a case. It is written again with the library's answer behind it, in place
+//! of the one that stands there; what a family of cases is answered stands below it. Notes, which begin
+//! with `# `, empty lines, and lines `let`, which give bytes a name, are written as they are. So `stdin` has
+//! the cases with the answers that they should get, and `stdout` is the same. Files stand in a folder that
 //! is made for them below the system's for temporary files, and removed at the end.
+//!
+//! To try some cases alone, in seconds: put their lines and the `let`s that they name into a file, as
+//! `grep -E '^(let|file) ' stdin > file`, and `rt try < file | diff file -` prints nothing where all is right.
 #![tactic(auto)]
 
 mod actions;

@@ -1,5 +1,10 @@
-//! Tests of two sides in one world: scripts, and the traces that `ill_world` writes of them. The file
-//! `stdin` has the scripts, and says at its head how they are written; `stdout` has what must be printed.
+//! Tests of two sides in one world: scripts, and below them, behind two spaces, the traces that `ill_world`
+//! writes of them, in place of those that stand there. The file `stdin` has the scripts with what they
+//! should give, and says at its head how they are written; `stdout` is the same.
+//!
+//! To try a script alone, in seconds: put its lines into a file, as
+//! `sed -n '/^script a Shipped that comes again$/,/^$/p' stdin > file`, and `rt try < file | diff file -` prints
+//! nothing where all is right.
 #![tactic(auto)]
 
 mod events;

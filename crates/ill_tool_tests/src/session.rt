@@ -110,9 +110,8 @@ impl<'a, B: Performs> Session<'a, B> {
         for case in 1..block.cases() {
             let page = self.lines.perform_block(&block, case)?;
             if page.bytes() != first.bytes() {
-                self.page.text("  BUT IN CASE ");
-                self.page.show(&case);
-                self.page.line(":");
+                self.page.text("  BUT WITH");
+                self.page.line(block.values(case)?.as_str());
                 self.page.page(&page);
             }
         }

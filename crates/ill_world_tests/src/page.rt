@@ -46,6 +46,15 @@ impl Page {
         self.text("\n");
     }
 
+    /// Adds the lines of another page, each behind a mark.
+    pub fn marked(&mut self, mark: &str, other: &Page) {
+        for line in other.bytes.split_inclusive(|byte| *byte == b'\n') {
+            self.text(mark);
+            self.push(line);
+        }
+        self.is_whole &= other.is_whole;
+    }
+
     /// Adds what `{}` prints.
     pub fn show<T: Display>(&mut self, value: &T) {
         match value.to_string(*self.bytes.allocator()) {

@@ -8,6 +8,9 @@ use crate::streams::End;
 use crate::worlds::{print_ending, print_run, print_steps};
 use std::alloc::Global;
 
+/// What a line of an answer begins with.
+const ANSWER: &str = "  > ";
+
 const NOT_UNDERSTOOD: &str = "NOT UNDERSTOOD";
 
 /// What is done with a script.
@@ -32,19 +35,24 @@ enum Block {
 
 /// What the lines so far have printed, and the block that they have begun.
 #[derive(Drop)]
-pub struct Session {
+pub struct Session<'a> {
     alloc: Global,
     page: Page,
     block: Block,
+    /// The line of the block that is performed alone.
+    wanted: Option<&'a str>,
+    is_performing: bool,
 }
 
-impl Session {
-    /// Before the first line.
-    pub fn new(alloc: Global) -> Session {
+impl<'a> Session<'a> {
+    /// Before the first line. Where a block is wanted, it is performed alone.
+    pub fn new(alloc: Global, wanted: Option<&'a str>) -> Session<'a> {
         Session {
             alloc,
             page: Page::new(alloc),
             block: Block::Outside,
+            wanted,
+            is_performing: true,
         }
     }
 
@@ -55,33 +63,54 @@ impl Session {
 
     /// Takes the next line.
     pub fn read(&mut self, line: &str) {
-        if self.understood(line).is_none() {
-            self.page.line(NOT_UNDERSTOOD);
+        let is_answer = line.starts_with(ANSWER);
+        if !is_answer && matches!(self.block, Block::Outside) {
+            self.is_performing = self.is_wanted(line);
+        }
+        if !self.is_performing {
+            return self.page.line(line);
+        }
+        if !is_answer {
+            self.page.line(line);
+            self.answer(line);
         }
     }
 
-    fn understood(&mut self, line: &str) -> Option<()> {
+    fn is_wanted(&self, line: &str) -> bool {
+        match self.wanted {
+            Some(wanted) => wanted == line,
+            None => true,
+        }
+    }
+
+    /// Prints what a line is answered.
+    fn answer(&mut self, line: &str) {
+        let mut answer = Page::new(self.alloc);
+        if self.understood(&mut answer, line).is_none() {
+            answer.line(NOT_UNDERSTOOD);
+        }
+        self.page.marked(ANSWER, &answer);
+    }
+
+    fn understood(&mut self, answer: &mut Page, line: &str) -> Option<()> {
         if line == "end" {
-            return self.end();
+            return self.end(answer);
         }
         match &mut self.block {
-            Block::Outside => {
-                self.page.line(line);
-                self.begin(line)
-            }
-            Block::Each => print_alone(self.alloc, &mut self.page, line),
+            Block::Outside => self.begin(answer, line),
+            Block::Each => print_alone(self.alloc, answer, line),
             Block::Script(_, script) => push_line(script, line),
         }
     }
 
     /// Begins a block, or does what the line says.
-    fn begin(&mut self, line: &str) -> Option<()> {
+    fn begin(&mut self, answer: &mut Page, line: &str) -> Option<()> {
         let (word, name) = line.split_once(' ').unwrap_or((line, ""));
         match word {
             "" | "#" => return Some(()),
-            "steps" => return print_steps(self.alloc, &mut self.page, name),
-            "run" => return print_run(self.alloc, &mut self.page, name),
-            "ending" => return print_ending(self.alloc, &mut self.page, name),
+            "steps" => return print_steps(self.alloc, answer, name),
+            "run" => return print_run(self.alloc, answer, name),
+            "ending" => return print_ending(self.alloc, answer, name),
             "each" => self.block = Block::Each,
             _ => self.block = Block::Script(call_of(word)?, Vec::new(self.alloc)),
         }
@@ -89,12 +118,12 @@ impl Session {
     }
 
     /// Ends a block, and performs its script.
-    fn end(&mut self) -> Option<()> {
+    fn end(&mut self, answer: &mut Page) -> Option<()> {
         let block = std::mem::replace(&mut self.block, Block::Outside);
         match block {
             Block::Outside => None,
             Block::Each => Some(()),
-            Block::Script(call, script) => print_called(self.alloc, &mut self.page, call, &script),
+            Block::Script(call, script) => print_called(self.alloc, answer, call, &script),
         }
     }
 }
@@ -123,7 +152,6 @@ fn print_alone(alloc: Global, page: &mut Page, line: &str) -> Option<()> {
     let mut script = Vec::new(alloc);
     push_line(&mut script, line)?;
     print_trace(alloc, page, &script, End::Stops)?;
-    page.text(": ");
-    page.line(line);
+    page.text("\n");
     Some(())
 }

@@ -62,6 +62,16 @@ impl Block {
         cases
     }
 
+    /// The values of this case, one behind another.
+    pub fn values(&self, case: usize) -> Option<String> {
+        let mut marks = String::new(self.alloc);
+        for variable in &self.variables {
+            marks.push_str(" ").ok()?;
+            marks.push_str(variable.mark.as_str()).ok()?;
+        }
+        self.line(marks.as_str(), case)
+    }
+
     /// A line in this case.
     pub fn line(&self, line: &str, case: usize) -> Option<String> {
         let mut text = String::from_str(self.alloc, line).ok()?;

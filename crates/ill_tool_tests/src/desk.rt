@@ -45,10 +45,9 @@ impl Desk {
         }
     }
 
-    /// Plans the next call of the store: `works`, `fails-old` or `fails-new`.
+    /// Plans the next call of the store: `fails-old` or `fails-new`.
     pub fn plan(&mut self, words: &[Word]) -> Option<()> {
         let next = match words.first()?.text.as_str() {
-            "works" => NextCall::Works,
             "fails-old" => NextCall::FailsOld,
             "fails-new" => NextCall::FailsNew,
             _ => return None,

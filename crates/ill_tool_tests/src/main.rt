@@ -7,9 +7,11 @@
 //! they must have, in both files.
 //!
 //! With a name as its argument the program performs that case alone, and writes the others as they stand.
-//! So nothing is printed by this where the case is right:
+//! So this prints nothing where the case is right, and takes seconds, but for what `rt try` builds:
 //!
 //!     rt try -- "a cancel and a shipped cross" < stdin | diff stdin -
+//!
+//! Behind a check, `rt run < stdin | diff stdin -` does the same for all of them. They are too long for `rt try`.
 #![tactic(auto)]
 
 mod bench;
@@ -18,6 +20,7 @@ mod call;
 mod desk;
 mod desk_view;
 mod engines;
+mod failure;
 mod folder;
 mod limited;
 mod names;

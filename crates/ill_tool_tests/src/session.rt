@@ -12,6 +12,8 @@ const ANSWER: &str = "  ";
 
 const NOT_UNDERSTOOD: &str = "  NOT UNDERSTOOD";
 
+const NO_SUCH_CASE: &str = "NO SUCH CASE";
+
 /// What the lines so far have printed and left.
 #[derive(Drop)]
 pub struct Session<'a, B: Performs> {
@@ -21,6 +23,7 @@ pub struct Session<'a, B: Performs> {
     /// The case that is performed alone.
     wanted: Option<&'a str>,
     is_performing: bool,
+    has_found_case: bool,
     block: Option<Block>,
 }
 
@@ -45,13 +48,18 @@ impl<'a, B: Performs> Session<'a, B> {
             },
             wanted,
             is_performing: true,
+            has_found_case: false,
             block: None,
         }
     }
 
-    /// All that was printed, if nothing is missing and the folder could be removed.
+    /// All that was printed, and that no case was performed where that is so. There is nothing if some of it is
+    /// missing, or the folder could not be removed.
     pub fn finish(&mut self) -> Option<&[u8]> {
         self.lines.bench.end()?;
+        if !self.has_found_case {
+            self.page.line(NO_SUCH_CASE);
+        }
         self.page.bytes()
     }
 
@@ -59,6 +67,7 @@ impl<'a, B: Performs> Session<'a, B> {
     pub fn read(&mut self, line: &str) {
         if let Some(name) = line.strip_prefix("case ") {
             self.is_performing = self.is_wanted(name);
+            self.has_found_case |= self.is_performing;
         }
         if !self.is_performing {
             return self.page.line(line);
@@ -110,9 +119,8 @@ impl<'a, B: Performs> Session<'a, B> {
         for case in 1..block.cases() {
             let page = self.lines.perform_block(&block, case)?;
             if page.bytes() != first.bytes() {
-                self.page.text("  BUT IN CASE ");
-                self.page.show(&case);
-                self.page.line(":");
+                self.page.text("  BUT WITH");
+                self.page.line(block.values(case)?.as_str());
                 self.page.page(&page);
             }
         }

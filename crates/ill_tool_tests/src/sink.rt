@@ -1,7 +1,7 @@
 //! Writers that refuse, take one byte at a time, or cannot be flushed.
 
+use crate::failure::Failure;
 use crate::names::Names;
-use crate::source::Failure;
 use crate::telling::Telling;
 use crate::words::{Word, cut};
 use std::alloc::Global;

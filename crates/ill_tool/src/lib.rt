@@ -25,6 +25,7 @@ pub use check::run_check;
 pub use fault::ToolFault;
 pub use ill_der::DerFault;
 pub use ill_saved::DeskFault;
+pub use new::run_new;
 pub use send::run_send;
 pub use show::run_show;
 pub use simulate::run_simulate;

@@ -1,5 +1,6 @@
 //! What lies on the bench: a folder, and a side in memory.
 
+use crate::beginning::begin;
 use crate::call::Call;
 use crate::desk::{Desk, DeskCall};
 use crate::engines;
@@ -41,13 +42,15 @@ enum Kind {
     File(FileCall),
     /// A side in memory begins.
     Desk,
+    /// One begins by the engine of `new`.
+    New,
     /// The next call of its store is planned.
     Next,
     On(DeskCall),
     Texts,
 }
 
-const KINDS: [(&str, Kind); 19] = [
+const KINDS: [(&str, Kind); 20] = [
     ("ill", Kind::Ill),
     ("show", Kind::Engine(Engine::Show)),
     ("check", Kind::Engine(Engine::Check)),
@@ -59,6 +62,7 @@ const KINDS: [(&str, Kind); 19] = [
     ("folder", Kind::File(FileCall::Folder)),
     ("remove", Kind::File(FileCall::Remove)),
     ("desk", Kind::Desk),
+    ("new", Kind::New),
     ("next", Kind::Next),
     ("save", Kind::On(DeskCall::Save)),
     ("restart", Kind::On(DeskCall::Restart)),
@@ -97,6 +101,11 @@ impl<'a, R: Files> Bench<'a, R> {
             Kind::On(kind) => {
                 let desk = self.desk.as_mut()?;
                 desk.perform(self.alloc, page, names, kind, &mut call)
+            }
+            Kind::New => {
+                let before = self.desk.take();
+                self.desk = begin(self.alloc, page, names, before, &mut call)?;
+                Some(())
             }
             _ => None,
         }

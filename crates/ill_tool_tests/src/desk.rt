@@ -45,6 +45,14 @@ impl Desk {
         }
     }
 
+    /// The store in memory that fails as is planned.
+    pub fn into_store(self) -> Option<MemoryStore> {
+        match self {
+            Desk::Planned(desk) => Some(desk.close()),
+            Desk::Limited(_) => None,
+        }
+    }
+
     /// Plans the next call of the store: `fails-old` or `fails-new`.
     pub fn plan(&mut self, words: &[Word]) -> Option<()> {
         let next = match words.first()?.text.as_str() {

@@ -36,12 +36,22 @@ pub fn tell_view<S: Store>(
 ) -> Option<()> {
     let after = DeskView::of(alloc, desk)?;
     begin(page, if after.is(before) { "stays" } else { "stands" });
+    tell_desk(page, desk);
+    Some(())
+}
+
+/// Tells how a side stands that begins.
+pub fn tell_begun<S: Store>(page: &mut Page, desk: &Desk1<S>) {
+    begin(page, "stands");
+    tell_desk(page, desk);
+}
+
+fn tell_desk<S: Store>(page: &mut Page, desk: &Desk1<S>) {
     tell_side(page, desk.side());
-    page.show(&after.released);
+    page.show(&desk.released());
     page.text("/");
     page.show(&desk.side().issued_count());
     page.text("\n");
-    Some(())
 }
 
 fn tell_side(page: &mut Page, side: &Side) {

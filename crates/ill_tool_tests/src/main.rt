@@ -14,6 +14,7 @@
 //! Behind a check, `rt run < stdin | diff stdin -` does the same for all of them. They are too long for `rt try`.
 #![tactic(auto)]
 
+mod beginning;
 mod bench;
 mod block;
 mod call;

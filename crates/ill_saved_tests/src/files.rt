@@ -1,8 +1,8 @@
 //! Stores in real files, and what stands in their folder.
 
-ghost use Rattle.std.specs.Prelude.{◌≡◌, ◌+◌, min, IfErr};
+ghost use Rattle.std.specs.Prelude.{◌≡◌, IfErr};
 ghost use Rattle.ill_saved.specs.declared.store.StoreFault.TheVariants.{Failed};
-ghost use Rattle.ill_saved.specs.Store.{most_failures};
+ghost use Rattle.ill_saved.specs.Store.{failed_file};
 
 use crate::actions::action;
 use crate::desk_view::DeskView;
@@ -252,8 +252,7 @@ fn load<R: Files>(
     store: &mut FileStore<'_, R>,
     alloc: Global,
 ) -> Result<Option<Vec<u8>>, StoreFault>
-    ensures { IfErr result (λ fault. fault ≡ Failed → store.new ≡
-        record store.old { failures = min (store.old.failures + 1) most_failures }) }
+    ensures { IfErr result (λ fault. fault ≡ Failed → store.new ≡ failed_file store.old) }
 {
     store.load(alloc)
 }
@@ -264,8 +263,7 @@ fn save<R: Files>(
     alloc: Global,
     bytes: &[u8],
 ) -> Result<(), StoreFault>
-    ensures { IfErr result (λ fault. (fault ≡ Failed) × (store.new ≡
-        record store.old { failures = min (store.old.failures + 1) most_failures })) }
+    ensures { IfErr result (λ fault. (fault ≡ Failed) × (store.new ≡ failed_file store.old)) }
 {
     store.save(alloc, bytes)
 }

@@ -19,16 +19,27 @@ pub fn outcome<R: Files>(
         "responder" => sides::responder(alloc, words),
         "idle" => sides::idle(alloc),
         "decode" => codec::decodes_digits(alloc, words.word()?),
-        call => match call.split_once("::") {
-            Some(("codec", call)) => codec_outcome(alloc, call),
-            Some(("MemoryStore", call)) => store_outcome(alloc, call, words),
-            Some(("FileStore", call)) => folder.outcome(alloc, call),
-            Some(("Desk1", call)) => desk_outcome(alloc, call, words),
-            Some(("record", call)) => record_outcome(alloc, call, words),
-            Some(("World", call)) => world_outcome(alloc, call, words),
-            Some(("tool", call)) => tool::outcome(alloc, call, words),
-            _ => value_outcome(alloc, call),
-        },
+        call => call_outcome(alloc, folder, call, words),
+    }
+}
+
+/// What comes of this call of a library.
+fn call_outcome<R: Files>(
+    alloc: Global,
+    folder: &Folder<'_, R>,
+    call: &str,
+    words: &mut Words<'_>,
+) -> Option<Outcome> {
+    let (subject, name) = call.split_once("::").unwrap_or((call, ""));
+    match subject {
+        "codec" => codec_outcome(alloc, name),
+        "MemoryStore" => store_outcome(alloc, name, words),
+        "FileStore" => folder.outcome(alloc, name),
+        "Desk1" => desk_outcome(alloc, name, words),
+        "record" => record_outcome(alloc, name, words),
+        "World" => world_outcome(alloc, name, words),
+        "tool" => tool::outcome(alloc, name, words),
+        _ => value_outcome(alloc, call),
     }
 }
 

@@ -3,56 +3,60 @@
 use crate::codec::REQUEST;
 use crate::judging::{Outcome, done_if, judged, leaving, quiet};
 use crate::marks::{begin, end};
+use crate::messages::wish;
 use crate::records::{Role, spells};
-use crate::starts::create;
+use crate::starts::idle_side;
 use crate::stores::store;
-use crate::words::Words;
+use crate::words::{Words, named};
 use ill_core::{Deed, Refusal, Taking, Wish};
 use ill_der::decode;
 use ill_saved::{Action, Desk1, DeskFault, MemoryStore, NextCall, StoreFault, encode_record};
-use ill_values::{AnswerResult, Apdu, Day, Item, Number};
+use ill_values::{AnswerResult, Apdu, Day, Number};
 use std::alloc::Global;
 
 /// A Shipped of the responder, until 15 March 2025.
-const SHIPPED: &[u8] =
+pub const SHIPPED: &[u8] =
     b"\x63\x1A\x80\x01\x01\xA1\x08\x81\x02G1\x82\x02T1\x82\x01\x01\x85\x0820250315";
 
 /// A Conditional-Reply no of the requester, to conditions 1.
-const NO: &[u8] =
+pub const NO: &[u8] =
     b"\x65\x16\x80\x01\x01\xA1\x08\x81\x02G1\x82\x02T1\x82\x01\x02\x83\x01\x01\x84\x01\x00";
 
 /// The first message of the responder, which names conditions.
-const CONDITIONS: &[u8] =
+pub const CONDITIONS: &[u8] =
     b"\x64\x13\x80\x01\x01\xA1\x08\x81\x02G1\x82\x02T1\x82\x01\x01\x84\x01\x01";
 
 /// A call of a desk.
 #[derive(Clone, Copy)]
-enum Call<'a> {
-    Act(&'a Action),
-    /// The answer is Taken.
-    TakeBytes(&'a [u8]),
-    /// The answer is Taken.
-    Take(&'a Apdu),
+enum Call {
+    Act,
+    TakeBytes,
+    Take,
     Save,
     Restart,
-    /// The first message has these bytes.
-    Message(&'a [u8]),
+    /// It asks for the first message.
+    Message,
 }
 
-/// A call, the fault that it answers with ample memory, if any, and what has landed after it.
-#[derive(Clone, Copy)]
-struct Case<'a> {
-    call: Call<'a>,
-    fault: Option<DeskFault>,
-    landed: &'a [u8],
-}
+const CALLS: [(&str, Call); 7] = [
+    ("act", Call::Act),
+    ("act-of-other-role", Call::Act),
+    ("take_bytes", Call::TakeBytes),
+    ("take", Call::Take),
+    ("save", Call::Save),
+    ("restart", Call::Restart),
+    ("message", Call::Message),
+];
 
-/// What some calls are given.
+/// What calls are given, and what they give.
 #[derive(Drop)]
 struct Given {
     action: Action,
-    /// The message of the bytes that `take_bytes` is given.
+    bytes: &'static [u8],
+    /// The message of these bytes, which is taken.
     apdu: Apdu,
+    /// The bytes of the first message.
+    first: &'static [u8],
 }
 
 /// What a desk keeps, in memory and in its store.
@@ -63,96 +67,120 @@ struct Keeping<'a> {
     landed: &'a [u8],
 }
 
+/// What comes of a call with ample memory: its fault, if any, and what has landed after it.
+type Ample<'a> = (Option<DeskFault>, &'a [u8]);
+
 /// The case of a desk whose side has issued one message more than its store has.
-pub fn outcome(alloc: Global, call: &str, words: &mut Words<'_>) -> Option<Outcome> {
+pub fn outcome(alloc: Global, name: &str, words: &mut Words<'_>) -> Option<Outcome> {
     let role = Role::read(words)?;
     let plan = words.plan().unwrap_or(NextCall::Works);
-    let given = Given {
-        action: action_in(call, role)?,
-        apdu: decode(alloc, message_to(role)).ok()?.0,
-    };
     let mut desk = desk(alloc, role)?;
-    let live = encode_record(alloc, desk.side()).ok()?;
-    let had = Keeping {
-        live: &live,
-        released: desk.released(),
-        landed: role.record(),
-    };
-    desk.set_next(plan);
-    match case_of(call, role, plan, &given, had) {
-        Some(case) => performed(alloc, &mut desk, case, had),
-        None => shows(alloc, &mut desk),
-    }
+    let outcome = called(alloc, &mut desk, name, role, plan, role.record());
+    drop(desk);
+    outcome
 }
 
 /// `restart` of a desk that has begun and saved nothing.
 pub fn restarts_idle(alloc: Global, words: &mut Words<'_>) -> Option<Outcome> {
     let role = Role::read(words)?;
     let mut desk = unsaved_desk(alloc, role)?;
+    let works = NextCall::Works;
+    let outcome = called(alloc, &mut desk, "restart", role, works, role.idle_record());
+    drop(desk);
+    outcome
+}
+
+/// The outcome of the call of this name, under a plan of the store, in which this has landed. A name of no
+/// call is for the readers.
+fn called(
+    alloc: Global,
+    desk: &mut Desk1<MemoryStore>,
+    name: &str,
+    role: Role,
+    plan: NextCall,
+    landed: &[u8],
+) -> Option<Outcome> {
     let live = encode_record(alloc, desk.side()).ok()?;
     let had = Keeping {
         live: &live,
         released: desk.released(),
-        landed: role.idle_record(),
+        landed,
     };
-    performed(alloc, &mut desk, restart_to(had.landed), had)
+    desk.set_next(plan);
+    let Some(call) = named(&CALLS, name) else {
+        return Some(shows(alloc, desk));
+    };
+    let given = given_to(alloc, name, role)?;
+    Some(performed(alloc, desk, call, given, ample_of(name, plan, had), had))
 }
 
-/// `restart` where this has landed.
-fn restart_to(landed: &[u8]) -> Case<'_> {
-    Case {
-        call: Call::Restart,
-        fault: None,
-        landed,
-    }
-}
-
-/// The call of this name, under a plan of the store; none is for the readers.
-fn case_of<'a>(
-    call: &str,
-    role: Role,
-    plan: NextCall,
-    given: &'a Given,
-    had: Keeping<'a>,
-) -> Option<Case<'a>> {
-    let failed = Some(DeskFault::Store(StoreFault::Failed));
-    let (call, fault, landed) = match call {
-        "act" => (Call::Act(&given.action), None, had.landed),
-        "act-of-other-role" => (
-            Call::Act(&given.action),
-            Some(DeskFault::Core(Refusal::WrongRole)),
-            had.landed,
-        ),
-        "take_bytes" => (Call::TakeBytes(message_to(role)), None, had.landed),
-        "take" => (Call::Take(&given.apdu), None, had.landed),
-        "save" => match plan {
-            NextCall::Works => (Call::Save, None, had.live),
-            NextCall::FailsOld => (Call::Save, failed, had.landed),
-            NextCall::FailsNew => (Call::Save, failed, had.live),
-        },
-        "restart" => (Call::Restart, None, had.landed),
-        "message" => (Call::Message(message_of(role)), None, had.landed),
-        _ => return None,
-    };
-    Some(Case {
-        call,
-        fault,
-        landed,
+/// What is given to the call of this name.
+fn given_to(alloc: Global, name: &str, role: Role) -> Option<Given> {
+    let bytes = message_to(role);
+    let decoded = decode(alloc, bytes).ok();
+    let ((apdu, _), action) = decoded.zip(action_in(name, role))?;
+    let first = message_of(role);
+    Some(Given {
+        action,
+        bytes,
+        apdu,
+        first,
     })
+}
+
+/// What comes of the call of this name with ample memory, under a plan of the store.
+fn ample_of<'a>(name: &str, plan: NextCall, had: Keeping<'a>) -> Ample<'a> {
+    let failed = Some(DeskFault::Store(StoreFault::Failed));
+    match (name, plan) {
+        ("act-of-other-role", _) => (Some(DeskFault::Core(Refusal::WrongRole)), had.landed),
+        ("save", NextCall::Works) => (None, had.live),
+        ("save", NextCall::FailsOld) => (failed, had.landed),
+        ("save", NextCall::FailsNew) => (failed, had.live),
+        _ => (None, had.landed),
+    }
 }
 
 /// The outcome of a call.
 fn performed(
     alloc: Global,
     desk: &mut Desk1<MemoryStore>,
-    case: Case<'_>,
+    call: Call,
+    given: Given,
+    ample: Ample<'_>,
     had: Keeping<'_>,
-) -> Option<Outcome> {
-    begin(alloc)?;
-    let answer = answer_of(alloc, desk, case.call);
+) -> Outcome {
+    begin(alloc);
+    let answer = answer_of(alloc, desk, call, &given);
     let refused = end(alloc);
-    let outcome = outcome_of(alloc, desk, answer, case, had)?;
-    Some(judged(outcome, refused))
+    drop(given);
+    judged(outcome_of(alloc, desk, answer, ample, had), refused)
+}
+
+/// Whether the call answers what it has to, or its fault.
+fn answer_of(
+    alloc: Global,
+    desk: &mut Desk1<MemoryStore>,
+    call: Call,
+    given: &Given,
+) -> Result<bool, DeskFault> {
+    match call {
+        Call::Act => desk.act(alloc, &given.action)?,
+        Call::TakeBytes => return is_taken(desk.take_bytes(alloc, given.bytes)),
+        Call::Take => return is_taken(desk.take(alloc, &given.apdu)),
+        Call::Save => desk.save(alloc)?,
+        Call::Restart => desk.restart(alloc)?,
+        Call::Message => return is_first(alloc, desk, given.first),
+    }
+    Ok(true)
+}
+
+fn is_taken(answer: Result<Taking, DeskFault>) -> Result<bool, DeskFault> {
+    Ok(answer? == Taking::Taken)
+}
+
+fn is_first(alloc: Global, desk: &Desk1<MemoryStore>, bytes: &[u8]) -> Result<bool, DeskFault> {
+    let first = Number::new(1).ok_or(DeskFault::NoSuchMessage)?;
+    Ok(desk.message(alloc, first)?.as_slice() == bytes)
 }
 
 /// The outcome of a call with this answer. After want of memory the desk keeps what it had.
@@ -160,25 +188,24 @@ fn outcome_of(
     alloc: Global,
     desk: &mut Desk1<MemoryStore>,
     answer: Result<bool, DeskFault>,
-    case: Case<'_>,
+    ample: Ample<'_>,
     had: Keeping<'_>,
-) -> Option<Outcome> {
+) -> Outcome {
     let is_released = desk.released() == had.released;
     if answer == Err(DeskFault::OutOfMemory) {
-        let is_live = spells(alloc, desk.side(), had.live)?;
-        let is_landed = has_landed(alloc, desk, had.landed)?;
-        return Some(leaving(Outcome::Memory, is_live && is_released && is_landed));
+        let is_live = spells(alloc, desk.side(), had.live);
+        let is_landed = has_landed(alloc, desk, had.landed);
+        return leaving(Outcome::Memory, is_live && is_released && is_landed);
     }
-    let is_right = is_expected(answer, case.fault, is_released);
-    let is_landed = has_landed(alloc, desk, case.landed)?;
-    Some(done_if(is_right && is_landed))
+    let (fault, landed) = ample;
+    let is_right = is_expected(answer, fault, is_released);
+    done_if(has_landed(alloc, desk, landed) && is_right)
 }
 
 /// Whether this record has landed. The desk goes back to it.
-fn has_landed(alloc: Global, desk: &mut Desk1<MemoryStore>, record: &[u8]) -> Option<bool> {
+fn has_landed(alloc: Global, desk: &mut Desk1<MemoryStore>, record: &[u8]) -> bool {
     desk.set_next(NextCall::Works);
-    desk.restart(alloc).ok()?;
-    spells(alloc, desk.side(), record)
+    desk.restart(alloc).is_ok() && spells(alloc, desk.side(), record)
 }
 
 /// Whether the answer is right, or this fault, after which the released messages are those from before.
@@ -193,56 +220,44 @@ fn is_expected(
     }
 }
 
-/// Whether the call answers what it has to, or its fault.
-fn answer_of(
-    alloc: Global,
-    desk: &mut Desk1<MemoryStore>,
-    call: Call<'_>,
-) -> Result<bool, DeskFault> {
-    match call {
-        Call::Act(action) => desk.act(alloc, action)?,
-        Call::TakeBytes(bytes) => return Ok(desk.take_bytes(alloc, bytes)? == Taking::Taken),
-        Call::Take(apdu) => return Ok(desk.take(alloc, apdu)? == Taking::Taken),
-        Call::Save => desk.save(alloc)?,
-        Call::Restart => desk.restart(alloc)?,
-        Call::Message(bytes) => {
-            let first = Number::new(1).ok_or(DeskFault::NoSuchMessage)?;
-            return Ok(desk.message(alloc, first)?.as_slice() == bytes);
-        }
-    }
-    Ok(true)
-}
-
 /// `side`, `released` and `set_next`.
-fn shows(alloc: Global, desk: &mut Desk1<MemoryStore>) -> Option<Outcome> {
-    begin(alloc)?;
+fn shows(alloc: Global, desk: &mut Desk1<MemoryStore>) -> Outcome {
+    begin(alloc);
     let released = desk.released();
     let _side = desk.side();
     desk.set_next(NextCall::FailsOld);
     let refused = end(alloc);
     let is_planned = desk.restart(alloc) == Err(DeskFault::Store(StoreFault::Failed));
-    desk.restart(alloc).ok()?;
-    Some(quiet(is_planned && released == desk.released(), refused))
+    let is_restarted = desk.restart(alloc).is_ok() && released == desk.released();
+    quiet(is_planned && is_restarted, refused)
 }
 
 /// A desk of this role whose side has issued one message more than its store has.
 fn desk(alloc: Global, role: Role) -> Option<Desk1<MemoryStore>> {
-    let action = first_action(role)?;
-    let mut desk = Desk1::start(alloc, store(alloc, role.record())?).ok()?;
-    desk.act(alloc, &action).ok()?;
-    Some(desk)
+    let store = store(alloc, role.record())?;
+    let mut desk = Desk1::start(alloc, store).ok()?;
+    acts(alloc, &mut desk, first_action(role)).then_some(desk)
 }
 
 /// A desk of this role that has begun and saved nothing.
 fn unsaved_desk(alloc: Global, role: Role) -> Option<Desk1<MemoryStore>> {
-    let item = Item::new(alloc, b"Maps").ok()?;
-    let request = Action::Wish(Wish::Request { expiry: None, item });
-    let mut desk = create(alloc, role, MemoryStore::new(alloc))?.0.ok()?;
-    match role {
-        Role::Requester => desk.act(alloc, &request).ok()?,
-        Role::Responder => desk.take_bytes(alloc, REQUEST).map(|_| ()).ok()?,
-    }
-    Some(desk)
+    let first = idle_side(alloc, role)?;
+    let mut desk = Desk1::create(alloc, MemoryStore::new(alloc), first).ok()?;
+    let has_begun = match role {
+        Role::Requester => acts(alloc, &mut desk, wish(alloc, "Request")),
+        Role::Responder => desk.take_bytes(alloc, REQUEST).is_ok(),
+    };
+    has_begun.then_some(desk)
+}
+
+/// Whether the desk does this.
+fn acts(alloc: Global, desk: &mut Desk1<MemoryStore>, action: Option<Action>) -> bool {
+    let Some(action) = action else {
+        return false;
+    };
+    let is_done = desk.act(alloc, &action).is_ok();
+    drop(action);
+    is_done
 }
 
 /// What the library of this role does in the state of its record.
@@ -254,8 +269,8 @@ fn first_action(role: Role) -> Option<Action> {
 }
 
 /// What it does next: for one call, what the other role does.
-fn action_in(call: &str, role: Role) -> Option<Action> {
-    match (role, call) {
+fn action_in(name: &str, role: Role) -> Option<Action> {
+    match (role, name) {
         (Role::Requester, "act-of-other-role") => will_supply(),
         (Role::Responder, "act-of-other-role") => Some(Action::Wish(Wish::Cancel)),
         (Role::Requester, _) => Some(Action::Wish(Wish::Cancel)),
@@ -269,7 +284,7 @@ fn will_supply() -> Option<Action> {
 }
 
 /// A message to the side of this role, which it takes.
-pub fn message_to(role: Role) -> &'static [u8] {
+fn message_to(role: Role) -> &'static [u8] {
     match role {
         Role::Requester => SHIPPED,
         Role::Responder => NO,
@@ -277,7 +292,7 @@ pub fn message_to(role: Role) -> &'static [u8] {
 }
 
 /// The first message of the side of this role.
-pub fn message_of(role: Role) -> &'static [u8] {
+fn message_of(role: Role) -> &'static [u8] {
     match role {
         Role::Requester => REQUEST,
         Role::Responder => CONDITIONS,

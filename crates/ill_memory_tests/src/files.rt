@@ -1,19 +1,41 @@
 //! The store in a file, in a folder of the program's own.
 
-use crate::judging::{Outcome, answered, done_if, judged, leaving, quiet};
+use crate::judging::{Outcome, done_if, judged, leaving};
 use crate::marks::{begin, end};
+use crate::stores::{NEW, OLD, loading, loads_as, saving};
+use crate::words::named;
 use ill_saved::{FileStore, Store, StoreFault};
 use ill_values::OutOfMemory;
 use std::alloc::Global;
 use std::fs;
 use std::rt::Files;
 
-const OLD: &[u8] = b"old record";
-
-const NEW: &[u8] = b"a new record";
-
 /// The most bytes that a store loads here.
 const LIMIT: u32 = 100;
+
+/// A call of `load`: the name of the file, the limit, and what it answers with ample memory.
+type Load = (&'static str, u32, Result<Option<&'static [u8]>, StoreFault>);
+
+const LOADS: [(&str, Load); 4] = [
+    ("load", ("record", LIMIT, Ok(Some(OLD)))),
+    ("load-nothing", ("nothing", LIMIT, Ok(None))),
+    ("load-too-large", ("record", 1, Err(StoreFault::TooLarge))),
+    (
+        "load-failed",
+        ("record/record", LIMIT, Err(StoreFault::Failed)),
+    ),
+];
+
+/// A call of `save`: the name of the file, what it answers with ample memory, and the record after it.
+type Save = (&'static str, Result<(), StoreFault>, &'static [u8]);
+
+const SAVES: [(&str, Save); 2] = [
+    ("save", ("record", Ok(()), NEW)),
+    (
+        "save-failed",
+        ("nothing/record", Err(StoreFault::Failed), OLD),
+    ),
+];
 
 /// A folder, and the system that it is in.
 #[derive(Drop)]
@@ -30,18 +52,18 @@ impl<'a, R: Files> Folder<'a, R> {
 
     /// The outcome of a call with the store in a file that has a record.
     pub fn outcome(&self, alloc: Global, call: &str) -> Option<Outcome> {
-        let path = self.path(alloc, "record")?;
-        fs::write(self.rt, path.as_str(), OLD).ok()?;
+        self.lay_record(alloc)?;
         match call {
-            "at" => self.lays(alloc, path.as_str()),
-            "load" => self.loads(alloc, path.as_str()),
-            "load-nothing" => self.loads_nothing(alloc),
-            "load-too-large" => self.loads_too_large(alloc, path.as_str()),
-            "load-failed" => self.fails_to_load(alloc),
-            "save" => self.saves(alloc, path.as_str()),
-            "save-failed" => self.fails_to_save(alloc),
-            _ => None,
+            "at" => self.lays(alloc),
+            "save" | "save-failed" => self.saves(alloc, call),
+            _ => self.loads(alloc, call),
         }
+    }
+
+    /// Has the old record stand in its file.
+    fn lay_record(&self, alloc: Global) -> Option<()> {
+        let path = self.path(alloc, "record")?;
+        fs::write(self.rt, path.as_str(), OLD).ok()
     }
 
     /// The path of the file with this name.
@@ -49,89 +71,48 @@ impl<'a, R: Files> Folder<'a, R> {
         format!(in alloc; "{}/{name}", self.path).ok()
     }
 
-    /// The store in the file with this name.
-    fn store(&self, alloc: Global, name: &str) -> Option<FileStore<'a, R>> {
-        FileStore::at(self.rt, alloc, self.path(alloc, name)?.as_str(), LIMIT).ok()
+    /// The store in the file with this name, which loads so many bytes at most.
+    fn store(&self, alloc: Global, name: &str, limit: u32) -> Option<FileStore<'a, R>> {
+        let path = self.path(alloc, name)?;
+        FileStore::at(self.rt, alloc, path.as_str(), limit).ok()
     }
 
     /// Whether the file has this record.
-    fn has(&self, alloc: Global, record: &[u8]) -> Option<bool> {
-        let mut store = self.store(alloc, "record")?;
-        let loaded = store.load(alloc).ok()?;
-        Some(loaded.as_ref().map(|bytes| bytes.as_slice()) == Some(record))
+    fn has(&self, alloc: Global, record: &[u8]) -> bool {
+        match self.store(alloc, "record", LIMIT) {
+            Some(store) => loads_as(alloc, store, Ok(Some(record))),
+            None => false,
+        }
     }
 
     /// `at`
-    fn lays(&self, alloc: Global, path: &str) -> Option<Outcome> {
-        begin(alloc)?;
-        let laid = FileStore::at(self.rt, alloc, path, LIMIT);
+    fn lays(&self, alloc: Global) -> Option<Outcome> {
+        let path = self.path(alloc, "record")?;
+        begin(alloc);
+        let laid = FileStore::at(self.rt, alloc, path.as_str(), LIMIT);
         let refused = end(alloc);
         let outcome = match laid {
-            Ok(mut store) => done_if(store.save(alloc, OLD) == Ok(())),
+            Ok(mut store) => done_if(store.save(alloc, OLD).is_ok()),
             Err(OutOfMemory) => Outcome::Memory,
         };
-        Some(leaving(judged(outcome, refused), self.has(alloc, OLD)?))
+        Some(leaving(judged(outcome, refused), self.has(alloc, OLD)))
     }
 
-    /// `load`
-    fn loads(&self, alloc: Global, path: &str) -> Option<Outcome> {
-        let ample = Some(Vec::from_slice(alloc, OLD).ok()?);
-        let mut store = FileStore::at(self.rt, alloc, path, LIMIT).ok()?;
-        begin(alloc)?;
-        let loaded = store.load(alloc);
-        let refused = end(alloc);
-        let outcome = answered(&loaded, &ample, &StoreFault::OutOfMemory, refused);
-        Some(leaving(outcome, store.load(alloc) == Ok(ample)))
+    /// `load`, which answers what it has to, and the same again; the record stays.
+    fn loads(&self, alloc: Global, call: &str) -> Option<Outcome> {
+        let (file, limit, ample) = named(&LOADS, call)?;
+        let mut store = self.store(alloc, file, limit)?;
+        let outcome = loading(alloc, &mut store, ample);
+        let is_same = loads_as(alloc, store, ample);
+        Some(leaving(outcome, is_same && self.has(alloc, OLD)))
     }
 
-    /// `load` where no file is.
-    fn loads_nothing(&self, alloc: Global) -> Option<Outcome> {
-        let mut store = self.store(alloc, "nothing")?;
-        begin(alloc)?;
-        let loaded = store.load(alloc);
-        let refused = end(alloc);
-        Some(quiet(loaded == Ok(None), refused))
-    }
-
-    /// `load` of a record that is too long.
-    fn loads_too_large(&self, alloc: Global, path: &str) -> Option<Outcome> {
-        let mut store = FileStore::at(self.rt, alloc, path, 1).ok()?;
-        begin(alloc)?;
-        let loaded = store.load(alloc);
-        let refused = end(alloc);
-        let outcome = if loaded == Err(StoreFault::OutOfMemory) {
-            Outcome::Memory
-        } else {
-            done_if(loaded == Err(StoreFault::TooLarge))
-        };
-        Some(leaving(judged(outcome, refused), self.has(alloc, OLD)?))
-    }
-
-    /// `load` of a path that leads through a file.
-    fn fails_to_load(&self, alloc: Global) -> Option<Outcome> {
-        let mut store = self.store(alloc, "record/record")?;
-        begin(alloc)?;
-        let loaded = store.load(alloc);
-        let refused = end(alloc);
-        Some(quiet(loaded == Err(StoreFault::Failed), refused))
-    }
-
-    /// `save`
-    fn saves(&self, alloc: Global, path: &str) -> Option<Outcome> {
-        let mut store = FileStore::at(self.rt, alloc, path, LIMIT).ok()?;
-        begin(alloc)?;
-        let saved = store.save(alloc, NEW);
-        let refused = end(alloc);
-        let outcome = quiet(saved == Ok(()), refused);
-        Some(leaving(outcome, self.has(alloc, NEW)?))
-    }
-
-    /// `save` in a folder that is not there.
-    fn fails_to_save(&self, alloc: Global) -> Option<Outcome> {
-        let mut store = self.store(alloc, "nothing/record")?;
-        begin(alloc)?;
-        let saved = store.save(alloc, NEW);
-        let refused = end(alloc);
-        Some(quiet(saved == Err(StoreFault::Failed), refused))
+    /// `save`, and the record after it.
+    fn saves(&self, alloc: Global, call: &str) -> Option<Outcome> {
+        let (file, ample, after) = named(&SAVES, call)?;
+        let mut store = self.store(alloc, file, LIMIT)?;
+        let outcome = saving(alloc, &mut store, ample);
+        drop(store);
+        Some(leaving(outcome, self.has(alloc, after)))
     }
 }

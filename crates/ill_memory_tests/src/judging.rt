@@ -15,6 +15,8 @@ pub enum Outcome {
     Swallowed,
     /// The call answered something else, or changed what it may not.
     Wrong,
+    /// The words are no case.
+    NoSuchCase,
     /// There is no side of these parts.
     NoSide,
     /// What the side answered to a message, and its state then.
@@ -47,15 +49,15 @@ pub fn quiet(is_right: bool, refused: bool) -> Outcome {
 }
 
 /// The outcome of a call that has to answer this with ample memory, and that without.
-pub fn answered<T: PartialEq, F: PartialEq>(
-    answer: &Result<T, F>,
-    ample: &T,
-    memory: &F,
+pub fn answered<T: PartialEq + Drop, F: PartialEq + Drop>(
+    answer: Result<T, F>,
+    ample: T,
+    memory: F,
     refused: bool,
 ) -> Outcome {
-    let outcome = match answer {
-        Ok(value) => done_if(value == ample),
-        Err(fault) if fault == memory => Outcome::Memory,
+    let outcome = match &answer {
+        Ok(value) => done_if(*value == ample),
+        Err(fault) if *fault == memory => Outcome::Memory,
         Err(_) => Outcome::Wrong,
     };
     judged(outcome, refused)

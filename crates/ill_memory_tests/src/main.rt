@@ -7,6 +7,9 @@
 //! The first word of a case is `grows` where the call takes memory and `quiet` where it takes none; it
 //! is for `tools/want-of-memory`, which has a shim refuse what a call allocates between its marks. Files
 //! stand in a folder that is made for them below the system's for temporary files, and removed at the end.
+//!
+//! What owns much, as a side, a desk or a world, is lent to the function that does the work, and then dropped
+//! by name: the proof of that function needs no word of the parts that a drop lets go.
 #![tactic(auto)]
 
 mod cases;
@@ -27,6 +30,7 @@ mod words;
 mod worlds;
 
 use files::Folder;
+use judging::Outcome;
 use std::alloc::Global;
 use std::io::{Error, ErrorKind};
 use std::rt::{Env, Files};
@@ -47,13 +51,19 @@ fn make_folder<R: Files + Env + AllocGlobal>(rt: &R, alloc: Global) -> io::Resul
     let below = env::temp_dir(rt)?;
     for number in 0..u16::MAX {
         let path = format!(in alloc; "{}/ill_memory_tests.{number}", below.as_str())?;
-        match fs::create_dir(rt, path.as_str()) {
-            Ok(()) => return Ok(path),
-            Err(error) if error.kind() == ErrorKind::AlreadyExists => {}
-            Err(error) => return Err(error),
+        if is_made(rt, path.as_str())? {
+            return Ok(path);
         }
     }
     Err(Error::from(ErrorKind::AlreadyExists))
+}
+
+/// Makes a folder, and tells whether it was not there.
+fn is_made<R: Files>(rt: &R, path: &str) -> io::Result<bool> {
+    match fs::create_dir(rt, path) {
+        Err(error) if error.kind() == ErrorKind::AlreadyExists => Ok(false),
+        made => made.and(Ok(true)),
+    }
 }
 
 fn perform_lines<R: Files>(
@@ -61,20 +71,27 @@ fn perform_lines<R: Files>(
     alloc: Global,
     folder: &Folder<'_, R>,
 ) -> io::Result<()> {
-    for line in rt.lines(alloc) {
-        let line = line?;
-        if line.as_str().starts_with('#') {
-            println!(rt; "{line}")?;
-            continue;
-        }
-        let case = line
-            .as_str()
-            .split_once(": ")
-            .map_or(line.as_str(), |(case, _)| case);
-        match cases::outcome(alloc, folder, &mut Words::new(case, ' ')) {
-            Some(outcome) => println!(rt; "{case}: {outcome:?}")?,
-            None => println!(rt; "{case}: no such case")?,
-        }
+    let text = io::read_to_string(alloc, rt.reader())?;
+    for line in text.as_str().lines() {
+        perform_line(rt, alloc, folder, line)?;
     }
     Ok(())
+}
+
+fn perform_line<R: Files>(
+    rt: &impl Print,
+    alloc: Global,
+    folder: &Folder<'_, R>,
+    line: &str,
+) -> io::Result<()> {
+    if line.starts_with('#') {
+        return println!(rt; "{line}");
+    }
+    let case = line.split_once(": ").map_or(line, |(case, _)| case);
+    let outcome = cases::outcome(alloc, folder, &mut Words::new(case, ' '));
+    print_outcome(rt, case, outcome.unwrap_or(Outcome::NoSuchCase))
+}
+
+fn print_outcome(rt: &impl Print, case: &str, outcome: Outcome) -> io::Result<()> {
+    println!(rt; "{case}: {outcome:?}")
 }

@@ -4,7 +4,7 @@
 use crate::words::Words;
 use ill_core::{Deed, Wish};
 use ill_saved::Action;
-use ill_values::{AnswerResult, Apdu, Body, Day, Item, Number, TxnId};
+use ill_values::{AnswerResult, Apdu, Body, Item, Number, TxnId};
 use std::alloc::Global;
 
 /// The transaction of group G1 with this qualifier.
@@ -14,9 +14,13 @@ pub fn txn(alloc: Global, transaction: &str) -> Option<TxnId> {
 
 /// The message of these words: its transaction, its number, and what it says.
 pub fn apdu(alloc: Global, words: &mut Words<'_>) -> Option<Apdu> {
-    let txn = txn(alloc, words.word()?)?;
+    let transaction = words.word()?;
     let number = words.number()?;
-    let body = body(alloc, words.word()?)?;
+    message(alloc, transaction, number, words.word()?)
+}
+
+fn message(alloc: Global, transaction: &str, number: Number, word: &str) -> Option<Apdu> {
+    let (txn, body) = txn(alloc, transaction).zip(body(alloc, word))?;
     Some(Apdu { txn, number, body })
 }
 
@@ -28,22 +32,23 @@ pub fn issued(alloc: Global, word: &str) -> Option<Vec<Apdu>> {
     }
     let mut issued = Vec::with_capacity(alloc, word.split(',').count()).ok()?;
     for part in word.split(',') {
-        let (message, times) = part.split_once('*').unwrap_or((part, "1"));
-        push(alloc, &mut issued, message, times.parse().ok()?)?;
+        push(alloc, &mut issued, part)?;
     }
     Some(issued)
 }
 
-/// Adds a message so many times.
-fn push(alloc: Global, issued: &mut Vec<Apdu>, message: &str, times: u8) -> Option<()> {
-    for _ in 0..times {
-        let next = u8::try_from(issued.len()).ok()?.checked_add(1)?;
-        let number = Number::new(next)?;
-        let txn = txn(alloc, "T1")?;
-        let body = body(alloc, message)?;
-        issued.push(Apdu { txn, number, body }).ok()?;
+/// Adds a message, so many times as are named behind it.
+fn push(alloc: Global, issued: &mut Vec<Apdu>, part: &str) -> Option<()> {
+    let (word, times) = part.split_once('*').unwrap_or((part, "1"));
+    for _ in 0..times.parse::<u8>().ok()? {
+        let message = message(alloc, "T1", next_number(issued)?, word)?;
+        issued.push(message).ok()?;
     }
     Some(())
+}
+
+fn next_number(issued: &[Apdu]) -> Option<Number> {
+    Number::new(u8::try_from(issued.len()).ok()?.checked_add(1)?)
 }
 
 /// The ILL-Request of a responder, or `-` for none.
@@ -51,10 +56,7 @@ pub fn request(alloc: Global, word: &str) -> Option<Option<Apdu>> {
     if word == "-" {
         return Some(None);
     }
-    let txn = txn(alloc, "T1")?;
-    let number = Number::new(1)?;
-    let body = body(alloc, word)?;
-    Some(Some(Apdu { txn, number, body }))
+    Some(Some(message(alloc, "T1", Number::new(1)?, word)?))
 }
 
 /// What a message says.
@@ -116,16 +118,15 @@ fn item(alloc: Global) -> Option<Item> {
 }
 
 fn result(words: &mut Words<'_>) -> Option<AnswerResult> {
-    match words.word()? {
-        "Conditional" => Some(AnswerResult::Conditional),
-        "Retry" => Some(AnswerResult::Retry),
-        "Unfilled" => Some(AnswerResult::Unfilled),
-        "LocationsProvided" => Some(AnswerResult::LocationsProvided),
-        "WillSupply" => Some(AnswerResult::WillSupply),
-        "HoldPlaced" => Some(AnswerResult::HoldPlaced),
-        "Estimate" => Some(AnswerResult::Estimate),
-        _ => None,
-    }
+    words.named(&[
+        ("Conditional", AnswerResult::Conditional),
+        ("Retry", AnswerResult::Retry),
+        ("Unfilled", AnswerResult::Unfilled),
+        ("LocationsProvided", AnswerResult::LocationsProvided),
+        ("WillSupply", AnswerResult::WillSupply),
+        ("HoldPlaced", AnswerResult::HoldPlaced),
+        ("Estimate", AnswerResult::Estimate),
+    ])
 }
 
 /// What the library of a requester decides.
@@ -146,9 +147,10 @@ pub fn wish(alloc: Global, word: &str) -> Option<Action> {
     Some(Action::Wish(wish))
 }
 
-/// What the library of a responder decides on a day.
-pub fn deed(today: Day, word: &str) -> Option<Action> {
-    let mut fields = Words::new(word, ':');
+/// What the library of a responder decides on a day, by these words.
+pub fn deed(words: &mut Words<'_>) -> Option<Action> {
+    let today = words.day()?;
+    let mut fields = Words::new(words.word()?, ':');
     let deed = match fields.word()? {
         "Overdue" => Deed::Overdue,
         "Recall" => Deed::Recall,

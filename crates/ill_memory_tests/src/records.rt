@@ -32,11 +32,10 @@ pub enum Role {
 impl Role {
     /// The role that the next word names.
     pub fn read(words: &mut Words<'_>) -> Option<Role> {
-        match words.word()? {
-            "requester" => Some(Role::Requester),
-            "responder" => Some(Role::Responder),
-            _ => None,
-        }
+        words.named(&[
+            ("requester", Role::Requester),
+            ("responder", Role::Responder),
+        ])
     }
 
     /// The record of a side of this role.
@@ -64,28 +63,39 @@ impl Role {
 pub fn encodes(alloc: Global, words: &mut Words<'_>) -> Option<Outcome> {
     let role = Role::read(words)?;
     let side = role.side(alloc)?;
-    let ample = Vec::from_slice(alloc, role.record()).ok()?;
-    begin(alloc)?;
-    let bytes = encode_record(alloc, &side);
+    let outcome = encodes_side(alloc, &side, role.record());
+    drop(side);
+    outcome
+}
+
+/// `encode_record` of the side that has this record.
+fn encodes_side(alloc: Global, side: &Side, record: &[u8]) -> Option<Outcome> {
+    let ample = Vec::from_slice(alloc, record).ok()?;
+    begin(alloc);
+    let bytes = encode_record(alloc, side);
     let refused = end(alloc);
-    Some(answered(&bytes, &ample, &OutOfMemory, refused))
+    Some(answered(bytes, ample, OutOfMemory, refused))
 }
 
 /// `decode_record`, whose side is the one that has this record.
 pub fn decodes(alloc: Global, words: &mut Words<'_>) -> Option<Outcome> {
     let role = Role::read(words)?;
-    begin(alloc)?;
+    begin(alloc);
     let decoded = decode_record(alloc, role.record());
     let refused = end(alloc);
-    let outcome = match decoded {
-        Ok(side) => done_if(spells(alloc, &side, role.record())?),
+    let outcome = match &decoded {
+        Ok(side) => done_if(spells(alloc, side, role.record())),
         Err(RecordFault::OutOfMemory) => Outcome::Memory,
         Err(_) => Outcome::Wrong,
     };
+    drop(decoded);
     Some(judged(outcome, refused))
 }
 
 /// Whether this is the record of the side.
-pub fn spells(alloc: Global, side: &Side, record: &[u8]) -> Option<bool> {
-    Some(encode_record(alloc, side).ok()?.as_slice() == record)
+pub fn spells(alloc: Global, side: &Side, record: &[u8]) -> bool {
+    match encode_record(alloc, side) {
+        Ok(bytes) => bytes.as_slice() == record,
+        Err(OutOfMemory) => false,
+    }
 }

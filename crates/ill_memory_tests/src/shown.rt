@@ -46,10 +46,10 @@ pub struct ResponderShown {
 
 /// What the readers of a side answer.
 pub fn shows(alloc: Global, side: &Side) -> Option<Outcome> {
-    let txn = txn(alloc, "T1")?;
     let one = Number::new(1)?;
     let nine = Number::new(9)?;
-    begin(alloc)?;
+    let txn = txn(alloc, "T1")?;
+    begin(alloc);
     let outcome = match side {
         Side::Requester(side) => Outcome::Requester(requester(side, &txn, one, nine)),
         Side::Responder(side) => Outcome::Responder(responder(side, &txn, one, nine)),

@@ -7,7 +7,7 @@ use crate::shown::shows;
 use crate::words::Words;
 use ill_core::{Refusal, Requester, Responder, State, Taking};
 use ill_saved::{Action, Side, encode_record};
-use ill_values::Apdu;
+use ill_values::{Apdu, Number, OutOfMemory, TxnId};
 use std::alloc::Global;
 
 /// The case of a requester: its state, the conditions that it holds, its due date, its mark, what it has
@@ -17,9 +17,9 @@ pub fn requester(alloc: Global, words: &mut Words<'_>) -> Option<Outcome> {
     let held = words.number_if()?;
     let due = words.day_if()?;
     let checked_in = words.mark()?;
-    let txn = txn(alloc, "T1")?;
-    let issued = issued(alloc, words.word()?)?;
-    begin(alloc)?;
+    let listed = words.word()?;
+    let (txn, issued) = txn(alloc, "T1").zip(issued(alloc, listed))?;
+    begin(alloc);
     let made = Requester::of_parts(txn, state, held, checked_in, due, issued);
     let refused = end(alloc);
     case(alloc, made.map(Side::Requester), refused, words)
@@ -29,14 +29,27 @@ pub fn requester(alloc: Global, words: &mut Words<'_>) -> Option<Outcome> {
 /// Renew, its mark, the ILL-Request, what it has issued, and the call.
 pub fn responder(alloc: Global, words: &mut Words<'_>) -> Option<Outcome> {
     let state = words.state()?;
-    let accepted = words.number_if()?;
-    let last_cancel = words.number_if()?;
-    let last_renew = words.number_if()?;
+    let numbers = words.three_numbers()?;
     let received = words.mark()?;
-    let txn = txn(alloc, "T1")?;
-    let request = request(alloc, words.word()?)?;
-    let issued = issued(alloc, words.word()?)?;
-    begin(alloc)?;
+    let (requested, listed) = (words.word()?, words.word()?);
+    let messages = request(alloc, requested).zip(issued(alloc, listed));
+    let ((request, issued), txn) = messages.zip(txn(alloc, "T1"))?;
+    let (made, refused) = responder_of(alloc, txn, state, numbers, received, request, issued);
+    case(alloc, made, refused, words)
+}
+
+/// The side that `of_parts` gives, and whether an allocation was refused meanwhile.
+fn responder_of(
+    alloc: Global,
+    txn: TxnId,
+    state: State,
+    numbers: [Option<Number>; 3],
+    received: bool,
+    request: Option<Apdu>,
+    issued: Vec<Apdu>,
+) -> (Option<Side>, bool) {
+    let [accepted, last_cancel, last_renew] = numbers;
+    begin(alloc);
     let made = Responder::of_parts(
         txn,
         state,
@@ -48,7 +61,7 @@ pub fn responder(alloc: Global, words: &mut Words<'_>) -> Option<Outcome> {
         issued,
     );
     let refused = end(alloc);
-    case(alloc, made.map(Side::Responder), refused, words)
+    (made.map(Side::Responder), refused)
 }
 
 /// The case of a side that `of_parts` gave.
@@ -61,71 +74,58 @@ fn case(
     let Some(mut side) = made else {
         return Some(judged(Outcome::NoSide, refused));
     };
-    if refused {
-        return Some(Outcome::Swallowed);
-    }
-    called(alloc, &mut side, words)
+    let outcome = if refused {
+        Some(Outcome::Swallowed)
+    } else {
+        called(alloc, &mut side, words)
+    };
+    drop(side);
+    outcome
 }
 
 /// The outcome of the call of these words.
 fn called(alloc: Global, side: &mut Side, words: &mut Words<'_>) -> Option<Outcome> {
     match words.word()? {
         "shows" => shows(alloc, side),
-        "takes" => takes(alloc, side, words),
-        "wishes" => wishes(alloc, side, words),
-        "does" => does(alloc, side, words),
+        "takes" => Some(takes(alloc, side, apdu(alloc, words)?)),
+        "wishes" => Some(acts(alloc, side, wish(alloc, words.word()?)?)),
+        "does" => Some(acts(alloc, side, deed(words)?)),
         _ => None,
     }
 }
 
-fn takes(alloc: Global, side: &mut Side, words: &mut Words<'_>) -> Option<Outcome> {
-    let apdu = apdu(alloc, words)?;
-    taken(alloc, side, &apdu)
-}
-
-fn wishes(alloc: Global, side: &mut Side, words: &mut Words<'_>) -> Option<Outcome> {
-    let action = wish(alloc, words.word()?)?;
-    acted(alloc, side, &action)
-}
-
-fn does(alloc: Global, side: &mut Side, words: &mut Words<'_>) -> Option<Outcome> {
-    let today = words.day()?;
-    let action = deed(today, words.word()?)?;
-    acted(alloc, side, &action)
-}
-
-fn taken(alloc: Global, side: &mut Side, apdu: &Apdu) -> Option<Outcome> {
-    let before = encode_record(alloc, side).ok()?;
-    begin(alloc)?;
-    let answer = match side {
-        Side::Requester(side) => side.take(apdu),
-        Side::Responder(side) => side.take(alloc, apdu),
-    };
+fn takes(alloc: Global, side: &mut Side, apdu: Apdu) -> Outcome {
+    let before = encode_record(alloc, side);
+    begin(alloc);
+    let answer = side.take(alloc, &apdu);
     let refused = end(alloc);
-    let is_same = encode_record(alloc, side).ok()? == before;
-    let state = state_of(side);
-    Some(match answer {
+    drop(apdu);
+    let is_same = has_record(alloc, side, before);
+    let state = side.state();
+    match answer {
         Ok(Taking::Taken) => judged(Outcome::Took(Taking::Taken, state), refused),
         Ok(taking) => leaving(judged(Outcome::Took(taking, state), refused), is_same),
         Err(refusal) => leaving(refusal_of(refusal, state, refused), is_same),
-    })
+    }
 }
 
-fn acted(alloc: Global, side: &mut Side, action: &Action) -> Option<Outcome> {
-    let before = encode_record(alloc, side).ok()?;
-    begin(alloc)?;
-    let answer = match (&mut *side, action) {
-        (Side::Requester(side), Action::Wish(wish)) => side.act(alloc, wish),
-        (Side::Responder(side), Action::Deed(deed, today)) => side.act(alloc, deed, *today),
-        _ => return None,
-    };
+fn acts(alloc: Global, side: &mut Side, action: Action) -> Outcome {
+    let before = encode_record(alloc, side);
+    begin(alloc);
+    let answer = side.act(alloc, &action);
     let refused = end(alloc);
-    let is_same = encode_record(alloc, side).ok()? == before;
-    let state = state_of(side);
-    Some(match answer {
+    drop(action);
+    let is_same = has_record(alloc, side, before);
+    let state = side.state();
+    match answer {
         Ok(()) => judged(Outcome::Acted(state), refused),
         Err(refusal) => leaving(refusal_of(refusal, state, refused), is_same),
-    })
+    }
+}
+
+/// Whether this is what the record of the side came to.
+fn has_record(alloc: Global, side: &Side, before: Result<Vec<u8>, OutOfMemory>) -> bool {
+    encode_record(alloc, side) == before
 }
 
 fn refusal_of(refusal: Refusal, state: State, refused: bool) -> Outcome {
@@ -136,21 +136,15 @@ fn refusal_of(refusal: Refusal, state: State, refused: bool) -> Outcome {
     judged(outcome, refused)
 }
 
-fn state_of(side: &Side) -> State {
-    match side {
-        Side::Requester(side) => side.state(),
-        Side::Responder(side) => side.state(),
-    }
-}
-
 /// `idle` of both roles.
 pub fn idle(alloc: Global) -> Option<Outcome> {
     let asking = txn(alloc, "T1")?;
     let asked = txn(alloc, "T1")?;
-    begin(alloc)?;
+    begin(alloc);
     let requester = Requester::idle(alloc, asking);
     let responder = Responder::idle(alloc, asked);
     let refused = end(alloc);
     let is_right = requester.state() == State::Idle && responder.state() == State::Idle;
+    drop((requester, responder));
     Some(quiet(is_right, refused))
 }

@@ -1,12 +1,12 @@
 //! The commands of one side: what each writes, and what it leaves in memory and in its store.
 
 use crate::codec::REQUEST;
-use crate::desks::{message_of, message_to};
+use crate::desks::{CONDITIONS, NO, SHIPPED};
 use crate::judging::{Outcome, done_if, judged, leaving};
 use crate::marks::{begin, end};
 use crate::records::Role;
 use crate::stores::store;
-use crate::words::Words;
+use crate::words::{Words, named};
 use ill_core::State;
 use ill_saved::{Desk1, MemoryStore};
 use ill_tool::{ToolFault, run_act, run_send, run_status, run_take};
@@ -45,15 +45,21 @@ pub fn outcome(alloc: Global, command: &str, words: &mut Words<'_>) -> Option<Ou
     let role = Role::read(words)?;
     let case = case_of(command, role)?;
     let mut desk = Desk1::start(alloc, store(alloc, role.record())?).ok()?;
-    let before = side_view(&desk);
+    let outcome = performed(alloc, &mut desk, case);
+    drop(desk);
+    outcome
+}
+
+fn performed(alloc: Global, desk: &mut Desk1<MemoryStore>, case: Case) -> Option<Outcome> {
+    let before = side_view(desk);
     let mut output = Vec::with_capacity(alloc, ROOM).ok()?;
-    begin(alloc)?;
-    let answer = run(alloc, &mut desk, case.command, &mut output);
+    begin(alloc);
+    let answer = run(alloc, desk, case.command, &mut output);
     let refused = end(alloc);
-    let live = side_view(&desk);
-    desk.restart(alloc).ok()?;
-    let landed = side_view(&desk);
-    Some(match answer {
+    let live = side_view(desk);
+    let is_restarted = desk.restart(alloc).is_ok();
+    let landed = side_view(desk);
+    let outcome = match answer {
         Ok(true) => {
             let is_written = output.as_slice() == case.output;
             done_if(is_written && live == case.after && landed == case.after)
@@ -64,7 +70,8 @@ pub fn outcome(alloc: Global, command: &str, words: &mut Words<'_>) -> Option<Ou
             leaving(judged(Outcome::Memory, refused), is_right)
         }
         _ => Outcome::Wrong,
-    })
+    };
+    Some(leaving(outcome, is_restarted))
 }
 
 /// Whether a side that stood so before, and would stand so after, may stand so in memory and in its store.
@@ -91,82 +98,90 @@ fn run(
             let mut reader = bytes;
             run_take(alloc, desk, &mut reader, output)
         }
-        Command::Send => {
-            let first = Number::new(1).ok_or(ToolFault::Arguments)?;
-            run_send(alloc, desk, first, output)?;
-            Ok(true)
-        }
-        Command::Status => {
-            run_status(alloc, desk, output)?;
-            Ok(true)
-        }
+        Command::Send => match Number::new(1) {
+            Some(first) => run_send(alloc, desk, first, output).and(Ok(true)),
+            None => Ok(false),
+        },
+        Command::Status => run_status(alloc, desk, output).and(Ok(true)),
     }
 }
 
 /// The command of this name, on the side of the record of this role.
 fn case_of(command: &str, role: Role) -> Option<Case> {
     match role {
-        Role::Requester => requester_case(command),
-        Role::Responder => responder_case(command),
+        Role::Requester => named(&ON_REQUESTER, command),
+        Role::Responder => named(&ON_RESPONDER, command),
     }
 }
 
-/// A requester in CONDITIONAL, which has issued its request.
-fn requester_case(command: &str) -> Option<Case> {
-    let (command, output, after): (Command, &[u8], SideView) = match command {
-        "run_act" => (
-            Command::Act(&["reply", "yes"]),
-            b"done PENDING - 2/2\n",
-            (State::Pending, 2),
-        ),
-        "run_take" => (
-            Command::Take(message_to(Role::Requester)),
-            b"taken SHIPPED 20250315 1/1\n",
-            (State::Shipped, 1),
-        ),
-        "run_send" => (Command::Send, REQUEST, (State::Conditional, 1)),
-        "run_status" => (
-            Command::Status,
-            b"role requester\ngroup G1\ntransaction T1\nstate CONDITIONAL\ndue -\nmessages 1/1\nmarks -\n",
-            (State::Conditional, 1),
-        ),
-        _ => return None,
-    };
-    Some(Case {
-        command,
-        output,
-        after,
-    })
-}
+/// The commands on a requester in CONDITIONAL, which has issued its request.
+const ON_REQUESTER: [(&str, Case); 4] = [
+    (
+        "run_act",
+        Case {
+            command: Command::Act(&["reply", "yes"]),
+            output: b"done PENDING - 2/2\n",
+            after: (State::Pending, 2),
+        },
+    ),
+    (
+        "run_take",
+        Case {
+            command: Command::Take(SHIPPED),
+            output: b"taken SHIPPED 20250315 1/1\n",
+            after: (State::Shipped, 1),
+        },
+    ),
+    (
+        "run_send",
+        Case {
+            command: Command::Send,
+            output: REQUEST,
+            after: (State::Conditional, 1),
+        },
+    ),
+    (
+        "run_status",
+        Case {
+            command: Command::Status,
+            output: b"role requester\ngroup G1\ntransaction T1\nstate CONDITIONAL\ndue -\nmessages 1/1\nmarks -\n",
+            after: (State::Conditional, 1),
+        },
+    ),
+];
 
-/// A responder in IN-PROCESS, which has issued two messages.
-fn responder_case(command: &str) -> Option<Case> {
-    let (command, output, after): (Command, &[u8], SideView) = match command {
-        "run_act" => (
-            Command::Act(&["ship", "+14"]),
-            b"done SHIPPED 20250315 3/3\n",
-            (State::Shipped, 3),
-        ),
-        "run_take" => (
-            Command::Take(message_to(Role::Responder)),
-            b"taken NOT-SUPPLIED - 3/3\n",
-            (State::NotSupplied, 3),
-        ),
-        "run_send" => (
-            Command::Send,
-            message_of(Role::Responder),
-            (State::InProcess, 2),
-        ),
-        "run_status" => (
-            Command::Status,
-            b"role responder\ngroup G1\ntransaction T1\nstate IN-PROCESS\ndue -\nmessages 2/2\nmarks -\n",
-            (State::InProcess, 2),
-        ),
-        _ => return None,
-    };
-    Some(Case {
-        command,
-        output,
-        after,
-    })
-}
+/// The commands on a responder in IN-PROCESS, which has issued two messages.
+const ON_RESPONDER: [(&str, Case); 4] = [
+    (
+        "run_act",
+        Case {
+            command: Command::Act(&["ship", "+14"]),
+            output: b"done SHIPPED 20250315 3/3\n",
+            after: (State::Shipped, 3),
+        },
+    ),
+    (
+        "run_take",
+        Case {
+            command: Command::Take(NO),
+            output: b"taken NOT-SUPPLIED - 3/3\n",
+            after: (State::NotSupplied, 3),
+        },
+    ),
+    (
+        "run_send",
+        Case {
+            command: Command::Send,
+            output: CONDITIONS,
+            after: (State::InProcess, 2),
+        },
+    ),
+    (
+        "run_status",
+        Case {
+            command: Command::Status,
+            output: b"role responder\ngroup G1\ntransaction T1\nstate IN-PROCESS\ndue -\nmessages 2/2\nmarks -\n",
+            after: (State::InProcess, 2),
+        },
+    ),
+];

@@ -15,84 +15,83 @@ fn item(alloc: Global) -> Option<Item> {
 
 /// The ILL-Request for maps, number 1.
 pub fn request(alloc: Global) -> Option<Apdu> {
-    let item = item(alloc)?;
-    Some(Apdu {
-        txn: id(alloc)?,
-        number: Number::new(1)?,
-        body: Body::IllRequest { expiry: None, item },
-    })
+    let number = Number::new(1)?;
+    let (txn, item) = id(alloc).zip(item(alloc))?;
+    let body = Body::IllRequest { expiry: None, item };
+    Some(Apdu { txn, number, body })
 }
 
 pub fn new_id(alloc: Global) -> Option<Outcome> {
     let ample = id(alloc)?;
-    begin(alloc)?;
+    begin(alloc);
     let made = TxnId::new(alloc, b"G1", b"T1");
     let refused = end(alloc);
-    Some(answered(&made, &ample, &TextFault::OutOfMemory, refused))
+    Some(answered(made, ample, TextFault::OutOfMemory, refused))
 }
 
 pub fn new_item(alloc: Global) -> Option<Outcome> {
     let ample = item(alloc)?;
-    begin(alloc)?;
+    begin(alloc);
     let made = Item::new(alloc, b"Maps");
     let refused = end(alloc);
-    Some(answered(&made, &ample, &TextFault::OutOfMemory, refused))
+    Some(answered(made, ample, TextFault::OutOfMemory, refused))
 }
 
 pub fn copy_id(alloc: Global) -> Option<Outcome> {
     let id = id(alloc)?;
-    begin(alloc)?;
+    begin(alloc);
     let copy = id.copy(alloc);
     let refused = end(alloc);
-    Some(answered(&copy, &id, &OutOfMemory, refused))
+    Some(answered(copy, id, OutOfMemory, refused))
 }
 
 pub fn copy_item(alloc: Global) -> Option<Outcome> {
     let item = item(alloc)?;
-    begin(alloc)?;
+    begin(alloc);
     let copy = item.copy(alloc);
     let refused = end(alloc);
-    Some(answered(&copy, &item, &OutOfMemory, refused))
+    Some(answered(copy, item, OutOfMemory, refused))
 }
 
 pub fn copy_apdu(alloc: Global) -> Option<Outcome> {
     let apdu = request(alloc)?;
-    begin(alloc)?;
+    begin(alloc);
     let copy = apdu.copy(alloc);
     let refused = end(alloc);
-    Some(answered(&copy, &apdu, &OutOfMemory, refused))
+    Some(answered(copy, apdu, OutOfMemory, refused))
 }
 
 /// `group` and `transaction` of an id, and `text` of an item.
 pub fn texts(alloc: Global) -> Option<Outcome> {
-    let id = id(alloc)?;
-    let item = item(alloc)?;
-    begin(alloc)?;
-    let (group, transaction, text) = (id.group(), id.transaction(), item.text());
+    let (id, item) = id(alloc).zip(item(alloc))?;
+    begin(alloc);
+    let texts = [id.group(), id.transaction(), item.text()];
     let refused = end(alloc);
-    let is_right = group == b"G1".as_slice()
-        && transaction == b"T1".as_slice()
-        && text == b"Maps".as_slice();
-    Some(quiet(is_right, refused))
+    let expected = [b"G1".as_slice(), b"T1".as_slice(), b"Maps".as_slice()];
+    Some(quiet(texts == expected, refused))
 }
 
 /// `TxnId::new` and `Item::new` of texts that they refuse before they take memory.
 pub fn no_texts(alloc: Global) -> Option<Outcome> {
-    begin(alloc)?;
-    let group = TxnId::new(alloc, b"", b"T1");
-    let transaction = TxnId::new(alloc, b"G1", &[b'T'; 65]);
-    let item = Item::new(alloc, b"\x7F");
+    begin(alloc);
+    let faults = [
+        TxnId::new(alloc, b"", b"T1").err(),
+        TxnId::new(alloc, b"G1", &[b'T'; 65]).err(),
+        Item::new(alloc, b"\x7F").err(),
+    ];
     let refused = end(alloc);
-    let is_right = group.err() == Some(TextFault::Empty)
-        && transaction.err() == Some(TextFault::TooLong)
-        && item.err() == Some(TextFault::BadByte);
-    Some(quiet(is_right, refused))
+    let expected = [
+        Some(TextFault::Empty),
+        Some(TextFault::TooLong),
+        Some(TextFault::BadByte),
+    ];
+    Some(quiet(faults == expected, refused))
 }
 
 /// `new`, `read`, `digits` and `after` of days.
 pub fn days(alloc: Global) -> Option<Outcome> {
     let leap = Day::new(2024, 2, 28).ok()?;
-    begin(alloc)?;
+    begin(alloc);
     let made = Day::new(2024, 3, 1);
     let read = Day::read(b"20240301");
     let later = leap.after(2);
@@ -105,7 +104,7 @@ pub fn days(alloc: Global) -> Option<Outcome> {
 /// `new`, `read` and `after` where there is no such day.
 pub fn no_days(alloc: Global) -> Option<Outcome> {
     let last = Day::new(9999, 12, 31).ok()?;
-    begin(alloc)?;
+    begin(alloc);
     let made = [Day::new(1899, 12, 31).err(), Day::new(2025, 4, 31).err()];
     let read = [Day::read(b"2025031").err(), Day::read(b"20250229").err()];
     let later = [last.after(1).err(), last.after(u32::MAX).err()];
@@ -118,7 +117,7 @@ pub fn no_days(alloc: Global) -> Option<Outcome> {
 
 /// `new` and `get` of numbers.
 pub fn numbers(alloc: Global) -> Option<Outcome> {
-    begin(alloc)?;
+    begin(alloc);
     let none = Number::new(0);
     let last = Number::new(255).map_or(0, |number| number.get());
     let refused = end(alloc);

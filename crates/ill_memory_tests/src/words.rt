@@ -4,6 +4,31 @@ use ill_core::State;
 use ill_saved::NextCall;
 use ill_values::{Day, Number};
 
+const PLANS: [(&str, NextCall); 3] = [
+    ("Works", NextCall::Works),
+    ("FailsOld", NextCall::FailsOld),
+    ("FailsNew", NextCall::FailsNew),
+];
+
+const STATES: [(&str, State); 16] = [
+    ("Idle", State::Idle),
+    ("Pending", State::Pending),
+    ("InProcess", State::InProcess),
+    ("Conditional", State::Conditional),
+    ("CancelPending", State::CancelPending),
+    ("Cancelled", State::Cancelled),
+    ("NotSupplied", State::NotSupplied),
+    ("Shipped", State::Shipped),
+    ("Received", State::Received),
+    ("RenewPending", State::RenewPending),
+    ("Overdue", State::Overdue),
+    ("RenewOverdue", State::RenewOverdue),
+    ("NotReceivedOverdue", State::NotReceivedOverdue),
+    ("Recall", State::Recall),
+    ("Returned", State::Returned),
+    ("CheckedIn", State::CheckedIn),
+];
+
 /// The words of a text that are not read yet, with this character between two of them.
 #[derive(Drop)]
 pub struct Words<'a> {
@@ -35,15 +60,20 @@ impl<'a> Words<'a> {
 
     /// A number from 1 to 255.
     pub fn number(&mut self) -> Option<Number> {
-        Number::new(self.word()?.parse::<u8>().ok()?)
+        number_in(self.word()?)
     }
 
     /// A number, or `-` for none.
     pub fn number_if(&mut self) -> Option<Option<Number>> {
         match self.word()? {
             "-" => Some(None),
-            word => Some(Some(Number::new(word.parse::<u8>().ok()?)?)),
+            word => Some(Some(number_in(word)?)),
         }
+    }
+
+    /// Three numbers, or `-` for each that is none.
+    pub fn three_numbers(&mut self) -> Option<[Option<Number>; 3]> {
+        Some([self.number_if()?, self.number_if()?, self.number_if()?])
     }
 
     /// A day as eight digits.
@@ -61,52 +91,40 @@ impl<'a> Words<'a> {
 
     /// `yes` or `no`.
     pub fn yes(&mut self) -> Option<bool> {
-        match self.word()? {
-            "yes" => Some(true),
-            "no" => Some(false),
-            _ => None,
-        }
+        self.named(&[("yes", true), ("no", false)])
     }
 
     /// A mark by its name, or `-` where it is not there.
     pub fn mark(&mut self) -> Option<bool> {
-        match self.word()? {
-            "-" => Some(false),
-            "checked-in" | "received" => Some(true),
-            _ => None,
-        }
+        self.named(&[("-", false), ("checked-in", true), ("received", true)])
     }
 
     /// What a store does next.
     pub fn plan(&mut self) -> Option<NextCall> {
-        match self.word()? {
-            "Works" => Some(NextCall::Works),
-            "FailsOld" => Some(NextCall::FailsOld),
-            "FailsNew" => Some(NextCall::FailsNew),
-            _ => None,
-        }
+        self.named(&PLANS)
     }
 
     /// A state by its name in the code.
     pub fn state(&mut self) -> Option<State> {
-        match self.word()? {
-            "Idle" => Some(State::Idle),
-            "Pending" => Some(State::Pending),
-            "InProcess" => Some(State::InProcess),
-            "Conditional" => Some(State::Conditional),
-            "CancelPending" => Some(State::CancelPending),
-            "Cancelled" => Some(State::Cancelled),
-            "NotSupplied" => Some(State::NotSupplied),
-            "Shipped" => Some(State::Shipped),
-            "Received" => Some(State::Received),
-            "RenewPending" => Some(State::RenewPending),
-            "Overdue" => Some(State::Overdue),
-            "RenewOverdue" => Some(State::RenewOverdue),
-            "NotReceivedOverdue" => Some(State::NotReceivedOverdue),
-            "Recall" => Some(State::Recall),
-            "Returned" => Some(State::Returned),
-            "CheckedIn" => Some(State::CheckedIn),
-            _ => None,
+        self.named(&STATES)
+    }
+
+    /// What the next word names, of these names with what they stand for.
+    pub fn named<T: Copy>(&mut self, names: &[(&str, T)]) -> Option<T> {
+        named(names, self.word()?)
+    }
+}
+
+/// What this word names, of these names with what they stand for.
+pub fn named<T: Copy>(names: &[(&str, T)], word: &str) -> Option<T> {
+    for (name, value) in names {
+        if *name == word {
+            return Some(*value);
         }
     }
+    None
+}
+
+fn number_in(word: &str) -> Option<Number> {
+    Number::new(word.parse::<u8>().ok()?)
 }

@@ -1,12 +1,12 @@
 //! Two sides in one world: each kind of event, and what it leaves.
 
-use crate::judging::{Outcome, done_if, judged, leaving, quiet};
+use crate::judging::{Outcome, answered, done_if, judged, leaving, quiet};
 use crate::marks::{begin, end};
 use crate::messages::txn;
 use crate::shown::{RequesterShown, ResponderShown, requester, responder};
 use crate::words::Words;
 use ill_core::{Deed, Refusal, State, Taking, Wish};
-use ill_values::{Day, Item, Number, TxnId};
+use ill_values::{Day, Item, Number, OutOfMemory, TxnId};
 use ill_world::{Bytes, Event, Outcome as Seen, Who, World, run};
 use std::alloc::Global;
 
@@ -42,10 +42,10 @@ fn shown(world: &World, txn: &TxnId) -> Option<WorldShown> {
 /// Events after which the requester has sent two messages and issued a third, and the responder has
 /// sent one and issued a second. The requester's Received, its message 2, is on its way.
 fn events(alloc: Global) -> Option<Vec<Event>> {
-    let item = Item::new(alloc, b"Maps").ok()?;
     let [first, second, _] = numbers()?;
     let due = Day::new(2025, 3, 15).ok()?;
     let later = Day::new(2025, 3, 16).ok()?;
+    let item = Item::new(alloc, b"Maps").ok()?;
     let events = [
         Event::Wish(Wish::Request { expiry: None, item }),
         Event::Save(Who::Requester),
@@ -70,11 +70,19 @@ fn numbers() -> Option<[Number; 3]> {
 
 /// The world after those events, one step after another.
 fn world(alloc: Global, txn: &TxnId) -> Option<World> {
+    let events = events(alloc)?;
     let mut world = World::new(alloc, txn).ok()?;
-    for event in events(alloc)?.iter() {
-        world.step(alloc, event).ok()?;
+    perform(alloc, &mut world, &events).then_some(world)
+}
+
+/// Has events happen in a world, and tells whether memory sufficed.
+fn perform(alloc: Global, world: &mut World, events: &[Event]) -> bool {
+    for event in events {
+        if world.step(alloc, event).is_err() {
+            return false;
+        }
     }
-    Some(world)
+    true
 }
 
 /// The event of the next words, and what is seen of it in that world with ample memory.
@@ -138,36 +146,57 @@ fn message(kind: &str, who: Who) -> Option<(Event, Seen)> {
     }
 }
 
-/// `step` with an event. After want of memory the readers show what they did, and the same event comes
-/// to what it comes to with ample memory.
+/// `step` with an event.
 pub fn steps(alloc: Global, words: &mut Words<'_>) -> Option<Outcome> {
     let txn = txn(alloc, "T1")?;
-    let (event, ample) = event(alloc, words)?;
     let mut world = world(alloc, &txn)?;
-    let before = shown(&world, &txn)?;
-    begin(alloc)?;
-    let answer = world.step(alloc, &event);
+    let outcome = steps_with(alloc, &mut world, &txn, words);
+    drop(world);
+    outcome
+}
+
+/// The outcome of the event of the next words.
+fn steps_with(
+    alloc: Global,
+    world: &mut World,
+    txn: &TxnId,
+    words: &mut Words<'_>,
+) -> Option<Outcome> {
+    let (event, ample) = event(alloc, words)?;
+    let outcome = stepped(alloc, world, txn, &event, ample);
+    drop(event);
+    outcome
+}
+
+/// The outcome of an event. After want of memory the readers show what they did, and the same event comes
+/// to what it comes to with ample memory.
+fn stepped(
+    alloc: Global,
+    world: &mut World,
+    txn: &TxnId,
+    event: &Event,
+    ample: Seen,
+) -> Option<Outcome> {
+    let before = shown(world, txn)?;
+    begin(alloc);
+    let answer = world.step(alloc, event);
     let refused = end(alloc);
-    Some(match answer {
-        Ok(seen) => judged(done_if(seen == ample), refused),
-        Err(_) => {
-            let is_same = shown(&world, &txn)? == before;
-            let seen = world.step(alloc, &event).ok()?;
-            leaving(judged(Outcome::Memory, refused), is_same && seen == ample)
-        }
-    })
+    let is_right = answer.is_ok()
+        || shown(world, txn)? == before && world.step(alloc, event) == Ok(ample);
+    Some(leaving(answered(answer, ample, OutOfMemory, refused), is_right))
 }
 
 /// `new`, whose two sides are idle.
 pub fn begins(alloc: Global) -> Option<Outcome> {
     let txn = txn(alloc, "T1")?;
-    begin(alloc)?;
+    begin(alloc);
     let made = World::new(alloc, &txn);
     let refused = end(alloc);
-    let outcome = match made {
-        Ok(world) => done_if(is_idle(&world, &txn)),
+    let outcome = match &made {
+        Ok(world) => done_if(is_idle(world, &txn)),
         Err(_) => Outcome::Memory,
     };
+    drop(made);
     Some(judged(outcome, refused))
 }
 
@@ -183,32 +212,50 @@ fn is_idle(world: &World, txn: &TxnId) -> bool {
 /// `run` over events, which leads where they lead one by one.
 pub fn runs(alloc: Global) -> Option<Outcome> {
     let txn = txn(alloc, "T1")?;
+    let ample = shown_in_turn(alloc, &txn)?;
     let events = events(alloc)?;
-    let ample = shown(&world(alloc, &txn)?, &txn)?;
-    begin(alloc)?;
+    begin(alloc);
     let made = run(alloc, &txn, &events);
     let refused = end(alloc);
-    let outcome = match made {
-        Ok(world) => done_if(shown(&world, &txn)? == ample),
+    let outcome = match &made {
+        Ok(world) => done_if(shown(world, &txn) == Some(ample)),
         Err(_) => Outcome::Memory,
     };
+    drop(made);
     Some(judged(outcome, refused))
+}
+
+/// What the world shows after those events, one step after another.
+fn shown_in_turn(alloc: Global, txn: &TxnId) -> Option<WorldShown> {
+    let world = world(alloc, txn)?;
+    let seen = shown(&world, txn);
+    drop(world);
+    seen
 }
 
 /// `requester`, `responder` and `released`.
 pub fn shows(alloc: Global) -> Option<Outcome> {
     let txn = txn(alloc, "T1")?;
     let world = world(alloc, &txn)?;
-    begin(alloc)?;
-    let requester = (world.requester().state(), world.requester().issued_count());
-    let responder = (world.responder().state(), world.responder().issued_count());
-    let released = (
+    let outcome = shows_of(alloc, &world);
+    drop(world);
+    Some(outcome)
+}
+
+fn shows_of(alloc: Global, world: &World) -> Outcome {
+    begin(alloc);
+    let states = [world.requester().state(), world.responder().state()];
+    let counts = [
+        world.requester().issued_count(),
+        world.responder().issued_count(),
+    ];
+    let released = [
         world.released(Who::Requester),
         world.released(Who::Responder),
-    );
+    ];
     let refused = end(alloc);
-    let is_right = requester == (State::RenewPending, 3)
-        && responder == (State::Overdue, 2)
-        && released == (2, 1);
-    Some(quiet(is_right, refused))
+    let is_right = states == [State::RenewPending, State::Overdue]
+        && counts == [3, 2]
+        && released == [2, 1];
+    quiet(is_right, refused)
 }

@@ -9,8 +9,8 @@ use std::alloc::Global;
 pub fn action(alloc: Global, words: &str) -> Option<Action> {
     let (first, others) = words.split_once(' ').unwrap_or((words, ""));
     match day(first) {
-        Some(today) => Some(Action::Deed(deed(others)?, today)),
-        None => Some(Action::Wish(wish(alloc, words)?)),
+        Some(today) => deed(others).map(|deed| Action::Deed(deed, today)),
+        None => wish(alloc, words).map(Action::Wish),
     }
 }
 
@@ -26,8 +26,8 @@ fn wish(alloc: Global, words: &str) -> Option<Wish> {
 }
 
 fn request(alloc: Global, words: &str) -> Option<Wish> {
-    let item = words.strip_prefix("request none ")?;
-    let item = Item::new(alloc, item.as_bytes()).ok()?;
+    let text = words.strip_prefix("request none ")?.as_bytes();
+    let item = Item::new(alloc, text).ok()?;
     Some(Wish::Request { expiry: None, item })
 }
 
@@ -47,18 +47,15 @@ const DEEDS: [(&str, Deed); 9] = [
 ];
 
 fn deed(words: &str) -> Option<Deed> {
-    for (name, deed) in &DEEDS {
-        if *name == words {
-            return Some(*deed);
-        }
+    match DEEDS.iter().find(|(name, _)| *name == words) {
+        Some((_, deed)) => Some(*deed),
+        None => dated_deed(words),
     }
-    dated_deed(words)
 }
 
 fn dated_deed(words: &str) -> Option<Deed> {
     if let Some(digits) = words.strip_prefix("ship ") {
-        let due = day(digits)?;
-        return Some(Deed::Ship { due });
+        return day(digits).map(|due| Deed::Ship { due });
     }
     let granted = Some(day(words.strip_prefix("renew-answer yes ")?)?);
     Some(Deed::RenewAnswer { granted })

@@ -7,7 +7,7 @@ use crate::files::Folder;
 use crate::idle::idle;
 use crate::line::Line;
 use crate::names::Names;
-use crate::words::{store_words, write_fault};
+use crate::words::{write_fault, write_loaded, write_saved};
 use ill_core::State;
 use ill_saved::{Desk1, DeskFault, MemoryStore, NextCall, Store};
 use std::alloc::Global;
@@ -42,19 +42,17 @@ impl<'a, R: Files> Answers for Bench<'a, R> {
             WordsCall::Next => self.plan(line, words),
             WordsCall::Create => self.create(line, words),
             WordsCall::Start => self.start(line),
-            WordsCall::Act => desks::act(self.alloc, line, self.desk.as_mut()?, words),
-            WordsCall::Message => desks::message(self.alloc, line, self.desk.as_ref()?, words),
-            WordsCall::Restart => desks::restart(self.alloc, line, self.desk.as_mut()?),
+            call => desks::call(self.alloc, line, self.desk.as_mut()?, call, words),
         }
     }
 
     fn call_with(&mut self, line: &mut Line, call: BytesCall, bytes: &[u8]) -> Option<()> {
-        match call {
-            BytesCall::Save => self.save(line, bytes),
-            BytesCall::Take => desks::take(self.alloc, line, self.desk.as_mut()?, bytes),
-            BytesCall::Hand => desks::hand(self.alloc, line, self.desk.as_mut()?, bytes),
-            BytesCall::Live => desks::live(self.alloc, line, self.desk.as_ref()?, bytes),
-            BytesCall::Messages => desks::messages(self.alloc, line, self.desk.as_ref()?, bytes),
+        match (call, &mut self.store) {
+            (BytesCall::Save, Some(store)) => {
+                write_saved(line, store.save(self.alloc, bytes));
+                Some(())
+            }
+            (call, _) => desks::call_with(self.alloc, line, self.desk.as_mut()?, call, bytes),
         }
     }
 
@@ -76,31 +74,15 @@ impl<'a, R: Files> Bench<'a, R> {
 
     /// `store`: a store in which nothing has landed.
     fn lay_store(&mut self, line: &mut Line) -> Option<()> {
-        self.desk = None;
-        self.store = Some(MemoryStore::new(self.alloc));
+        drop(self.desk.take());
+        drop(self.store.replace(MemoryStore::new(self.alloc)));
         line.text("new");
         Some(())
     }
 
     /// `load`
     fn load(&mut self, line: &mut Line) -> Option<()> {
-        match self.store.as_mut()?.load(self.alloc) {
-            Ok(Some(bytes)) => line.octets(&bytes),
-            Ok(None) => line.text("none"),
-            Err(fault) => line.text(store_words(fault)),
-        }
-        Some(())
-    }
-
-    /// `save BYTES` of a store, or `save` of a desk.
-    fn save(&mut self, line: &mut Line, bytes: &[u8]) -> Option<()> {
-        let Some(store) = &mut self.store else {
-            return desks::save(self.alloc, line, self.desk.as_mut()?);
-        };
-        match store.save(self.alloc, bytes) {
-            Ok(()) => line.text("saved"),
-            Err(fault) => line.text(store_words(fault)),
-        }
+        write_loaded(line, self.store.as_mut()?.load(self.alloc));
         Some(())
     }
 
@@ -117,9 +99,8 @@ impl<'a, R: Files> Bench<'a, R> {
 
     /// `create ROLE GROUP TRANSACTION`, over the store that lies there.
     fn create(&mut self, line: &mut Line, words: &str) -> Option<()> {
-        let first = idle(self.alloc, words)?;
         let store = self.store.take()?;
-        let answer = Desk1::create(self.alloc, store, first);
+        let answer = Desk1::create(self.alloc, store, idle(self.alloc, words)?);
         self.begin(line, answer)
     }
 
@@ -139,12 +120,12 @@ impl<'a, R: Files> Bench<'a, R> {
         match answer {
             Ok(desk) => {
                 line.text("done");
-                DeskView::of(self.alloc, &desk)?.write(line);
-                self.desk = Some(desk);
+                let desk = self.desk.insert(desk);
+                DeskView::of(self.alloc, desk)?.write(line);
             }
             Err((fault, store)) => {
                 write_fault(line, fault, State::Idle);
-                self.store = Some(store);
+                drop(self.store.replace(store));
             }
         }
         Some(())

@@ -76,10 +76,6 @@ const CALLS: [(&str, Call); 20] = [
 
 /// What this word says.
 pub fn call_of(word: &str) -> Option<Call> {
-    for (name, call) in &CALLS {
-        if *name == word {
-            return Some(*call);
-        }
-    }
-    None
+    let found = CALLS.iter().find(|(name, _)| *name == word);
+    found.map(|(_, call)| *call)
 }

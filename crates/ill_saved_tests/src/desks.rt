@@ -1,13 +1,14 @@
 //! Calls of a desk. An answer is a word, and where the desk stands after it.
 
 use crate::actions::action;
+use crate::calls::{BytesCall, WordsCall};
 use crate::desk_view::DeskView;
 use crate::line::Line;
 use crate::records::write_side;
 use crate::words::{taking_word, write_fault};
-use ill_core::Taking;
+use ill_core::{State, Taking};
 use ill_der::decode;
-use ill_saved::{Desk1, DeskFault, MemoryStore};
+use ill_saved::{Desk1, DeskFault, MemoryStore, Store};
 use ill_values::Number;
 use std::alloc::Global;
 
@@ -31,13 +32,49 @@ fn write_answer(
     }
 }
 
-/// `act WORDS`
-pub fn act(
+/// Writes whether a desk was begun, or why not.
+pub fn write_begun<D: Drop, S: Drop>(line: &mut Line, begun: Result<D, (DeskFault, S)>) {
+    match begun {
+        Ok(_) => line.text("done"),
+        Err((fault, _)) => write_fault(line, fault, State::Idle),
+    }
+}
+
+/// Performs a call that takes words, and writes its answer.
+pub fn call(
     alloc: Global,
     line: &mut Line,
     desk: &mut Desk1<MemoryStore>,
+    call: WordsCall,
     words: &str,
 ) -> Option<()> {
+    match call {
+        WordsCall::Act => act(alloc, line, desk, words),
+        WordsCall::Message => message(alloc, line, desk, words),
+        WordsCall::Restart => restart(alloc, line, desk, "restarted").map(drop),
+        _ => None,
+    }
+}
+
+/// Performs a call that takes bytes, and writes its answer.
+pub fn call_with(
+    alloc: Global,
+    line: &mut Line,
+    desk: &mut Desk1<MemoryStore>,
+    call: BytesCall,
+    bytes: &[u8],
+) -> Option<()> {
+    match call {
+        BytesCall::Save => save(alloc, line, desk),
+        BytesCall::Take => take(alloc, line, desk, bytes),
+        BytesCall::Hand => hand(alloc, line, desk, bytes),
+        BytesCall::Live => live(alloc, line, desk, bytes),
+        BytesCall::Messages => messages(alloc, line, desk, bytes),
+    }
+}
+
+/// `act WORDS`
+fn act(alloc: Global, line: &mut Line, desk: &mut Desk1<MemoryStore>, words: &str) -> Option<()> {
     let action = action(alloc, words)?;
     let before = DeskView::of(alloc, desk)?;
     let answer = desk.act(alloc, &action);
@@ -47,7 +84,7 @@ pub fn act(
 }
 
 /// `save`
-pub fn save(alloc: Global, line: &mut Line, desk: &mut Desk1<MemoryStore>) -> Option<()> {
+fn save(alloc: Global, line: &mut Line, desk: &mut Desk1<MemoryStore>) -> Option<()> {
     let before = DeskView::of(alloc, desk)?;
     let answer = desk.save(alloc);
     let after = DeskView::of(alloc, desk)?;
@@ -55,22 +92,23 @@ pub fn save(alloc: Global, line: &mut Line, desk: &mut Desk1<MemoryStore>) -> Op
     Some(())
 }
 
-/// `restart`
-pub fn restart(alloc: Global, line: &mut Line, desk: &mut Desk1<MemoryStore>) -> Option<()> {
+/// `restart`: this word, or why not; and whether it was done.
+pub fn restart<S: Store>(
+    alloc: Global,
+    line: &mut Line,
+    desk: &mut Desk1<S>,
+    word: &str,
+) -> Option<bool> {
     let before = DeskView::of(alloc, desk)?;
     let answer = desk.restart(alloc);
+    let is_done = answer.is_ok();
     let after = DeskView::of(alloc, desk)?;
-    write_answer(line, "restarted", answer, &before, &after);
-    Some(())
+    write_answer(line, word, answer, &before, &after);
+    Some(is_done)
 }
 
 /// `take BYTES`
-pub fn take(
-    alloc: Global,
-    line: &mut Line,
-    desk: &mut Desk1<MemoryStore>,
-    bytes: &[u8],
-) -> Option<()> {
+fn take(alloc: Global, line: &mut Line, desk: &mut Desk1<MemoryStore>, bytes: &[u8]) -> Option<()> {
     let before = DeskView::of(alloc, desk)?;
     let answer = desk.take_bytes(alloc, bytes);
     write_taking(line, answer, &before, &DeskView::of(alloc, desk)?);
@@ -78,12 +116,7 @@ pub fn take(
 }
 
 /// `hand BYTES`: a message is read from them, and the desk takes it.
-pub fn hand(
-    alloc: Global,
-    line: &mut Line,
-    desk: &mut Desk1<MemoryStore>,
-    bytes: &[u8],
-) -> Option<()> {
+fn hand(alloc: Global, line: &mut Line, desk: &mut Desk1<MemoryStore>, bytes: &[u8]) -> Option<()> {
     let before = DeskView::of(alloc, desk)?;
     let (apdu, _) = decode(alloc, bytes).ok()?;
     let answer = desk.take(alloc, &apdu);
@@ -109,12 +142,7 @@ fn write_taking(
 }
 
 /// `message NUMBER`: its octets, or why there are none.
-pub fn message(
-    alloc: Global,
-    line: &mut Line,
-    desk: &Desk1<MemoryStore>,
-    words: &str,
-) -> Option<()> {
+fn message(alloc: Global, line: &mut Line, desk: &Desk1<MemoryStore>, words: &str) -> Option<()> {
     let number = Number::new(words.parse::<u8>().ok()?)?;
     let view = DeskView::of(alloc, desk)?;
     match desk.message(alloc, number) {
@@ -125,12 +153,7 @@ pub fn message(
 }
 
 /// `messages BYTES`: whether these bytes are all released messages, one behind another.
-pub fn messages(
-    alloc: Global,
-    line: &mut Line,
-    desk: &Desk1<MemoryStore>,
-    bytes: &[u8],
-) -> Option<()> {
+fn messages(alloc: Global, line: &mut Line, desk: &Desk1<MemoryStore>, bytes: &[u8]) -> Option<()> {
     let view = DeskView::of(alloc, desk)?;
     line.text(if released(alloc, desk)?.as_slice() == bytes {
         "the same"
@@ -152,7 +175,7 @@ fn released(alloc: Global, desk: &Desk1<MemoryStore>) -> Option<Vec<u8>> {
 }
 
 /// `live BYTES`: what the live side is, and whether its record has these bytes.
-pub fn live(alloc: Global, line: &mut Line, desk: &Desk1<MemoryStore>, bytes: &[u8]) -> Option<()> {
+fn live(alloc: Global, line: &mut Line, desk: &Desk1<MemoryStore>, bytes: &[u8]) -> Option<()> {
     write_side(alloc, line, desk.side(), bytes);
     Some(())
 }

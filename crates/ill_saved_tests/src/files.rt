@@ -4,19 +4,15 @@ ghost use Rattle.std.specs.Prelude.{◌≡◌, IfErr};
 ghost use Rattle.ill_saved.specs.declared.store.StoreFault.TheVariants.{Failed};
 ghost use Rattle.ill_saved.specs.Store.{failed_file};
 
-use crate::actions::action;
-use crate::desk_view::DeskView;
 use crate::failing::Failing;
 use crate::line::Line;
 use crate::longest;
 use crate::names::Names;
 use crate::restarts::{Damage, Restarts};
-use crate::words::store_words;
-use ill_core::Requester;
-use ill_saved::{Desk1, FileStore, Side, Store, StoreFault};
-use ill_values::{Number, TxnId};
+use crate::words::{write_loaded, write_saved};
+use ill_saved::{FileStore, Store, StoreFault};
 use std::alloc::Global;
-use std::fs::Permissions;
+use std::fs::{Metadata, Permissions};
 use std::io::ErrorKind;
 use std::os::unix::fs::{MetadataExt, PermissionsExt};
 use std::rt::Files;
@@ -27,13 +23,13 @@ use std::{fs, io};
 pub struct Folder<'a, R: Files> {
     rt: &'a R,
     alloc: Global,
-    path: String,
+    path: &'a str,
     store: Option<FileStore<'a, R>>,
 }
 
 impl<'a, R: Files> Folder<'a, R> {
     /// The folder at this path, in which no store was laid.
-    pub fn new(rt: &'a R, alloc: Global, path: String) -> Folder<'a, R> {
+    pub fn new(rt: &'a R, alloc: Global, path: &'a str) -> Folder<'a, R> {
         Folder {
             rt,
             alloc,
@@ -46,20 +42,49 @@ impl<'a, R: Files> Folder<'a, R> {
     pub fn call(&mut self, line: &mut Line, names: &Names, words: &str) -> Option<()> {
         let (call, words) = words.split_once(' ').unwrap_or((words, ""));
         match call {
-            "at" => self.lay(line, words),
             "load" => self.load(line),
-            "save" => self.save(line, &names.bytes(words, 0)?),
-            "failing" => self.failing(line, names, words),
-            "desk" => self.desk(line, words),
-            "put" => self.put(line, names, words),
-            "folder" => self.folder(line, words),
-            "link" => self.link(line, words),
-            "shows" => self.shows(line, words),
-            "mode" => self.mode(line, words),
-            "change" => self.change_mode(line, words),
-            "making" => self.making(line, names, words),
-            "damaged" => self.damaged(line, names, words),
-            "longest" => self.longest(line, words),
+            "save" => self.save(line, names, words),
+            _ => self.call_of_file(line, names, call, words),
+        }
+    }
+
+    /// Performs a call whose words begin with the name of a file.
+    fn call_of_file(
+        &mut self,
+        line: &mut Line,
+        names: &Names,
+        call: &str,
+        words: &str,
+    ) -> Option<()> {
+        let (name, words) = words.split_once(' ').unwrap_or((words, ""));
+        let path = self.path(name)?;
+        match call {
+            "at" => self.lay(line, path.as_str(), words),
+            "failing" => self.failing(line, names, path.as_str(), words),
+            "desk" => self.desk(line, path.as_str()),
+            "making" => self.making(line, names, path.as_str(), words),
+            "damaged" => self.damaged(line, names, path.as_str(), words),
+            "longest" => longest::write(self.rt, self.alloc, line, path.as_str()),
+            _ => self.call_system(line, names, call, path.as_str(), words),
+        }
+    }
+
+    /// Performs a call of the system.
+    fn call_system(
+        &self,
+        line: &mut Line,
+        names: &Names,
+        call: &str,
+        path: &str,
+        words: &str,
+    ) -> Option<()> {
+        match call {
+            "put" => self.put(line, names, path, words),
+            "folder" => write_done(line, "made", fs::create_dir(self.rt, path)),
+            "link" => write_done(line, "linked", self.rt.symlink(words, path)),
+            "shows" => self.shows(line, path),
+            "mode" => self.mode(line, path),
+            "change" => self.change_mode(line, path, words),
             _ => None,
         }
     }
@@ -73,11 +98,10 @@ impl<'a, R: Files> Folder<'a, R> {
     }
 
     /// `at NAME LIMIT`
-    fn lay(&mut self, line: &mut Line, words: &str) -> Option<()> {
-        let (name, limit) = words.split_once(' ')?;
-        let path = self.path(name)?;
+    fn lay(&mut self, line: &mut Line, path: &str, limit: &str) -> Option<()> {
         let limit = limit.parse::<u32>().ok()?;
-        self.store = Some(FileStore::at(self.rt, self.alloc, path.as_str(), limit).ok()?);
+        let store = FileStore::at(self.rt, self.alloc, path, limit).ok()?;
+        drop(self.store.replace(store));
         line.text("laid");
         Some(())
     }
@@ -89,126 +113,95 @@ impl<'a, R: Files> Folder<'a, R> {
     }
 
     /// `save BYTES`
-    fn save(&mut self, line: &mut Line, bytes: &[u8]) -> Option<()> {
-        write_saved(line, save(self.store.as_mut()?, self.alloc, bytes));
+    fn save(&mut self, line: &mut Line, names: &Names, words: &str) -> Option<()> {
+        let store = self.store.as_mut()?;
+        write_saved(line, save(store, self.alloc, &names.bytes(words, 0)?));
         Some(())
     }
 
     /// `failing NAME COUNT FAULT load`, or `save BYTES` in place of `load`: with a store of its own, whose
     /// call of the system fails with this fault before which so many are made.
-    fn failing(&mut self, line: &mut Line, names: &Names, words: &str) -> Option<()> {
-        let (name, words) = words.split_once(' ')?;
+    fn failing(&self, line: &mut Line, names: &Names, path: &str, words: &str) -> Option<()> {
         let (count, words) = words.split_once(' ')?;
         let (fault, words) = words.split_once(' ')?;
+        let files = self.failing_files(count.parse::<u32>().ok()?, fault_of(fault)?)?;
+        self.call_failing(line, names, &files, path, words)
+    }
+
+    fn failing_files(&self, calls: u32, fault: ErrorKind) -> Option<Failing<'a, R>> {
+        Failing::after(self.rt, self.alloc, calls, fault).ok()
+    }
+
+    /// `load` or `save BYTES`, over these files.
+    fn call_failing(
+        &self,
+        line: &mut Line,
+        names: &Names,
+        files: &Failing<'a, R>,
+        path: &str,
+        words: &str,
+    ) -> Option<()> {
         let (call, bytes) = words.split_once(' ').unwrap_or((words, ""));
-        let count = count.parse::<u32>().ok()?;
-        let files = Failing::after(self.rt, self.alloc, count, fault_of(fault)?).ok()?;
-        let path = self.path(name)?;
-        let mut store = FileStore::at(&files, self.alloc, path.as_str(), 100).ok()?;
+        let bytes = names.bytes(bytes, 0)?;
+        let mut store = FileStore::at(files, self.alloc, path, 100).ok()?;
         match call {
             "load" => write_loaded(line, load(&mut store, self.alloc)),
-            "save" => {
-                let bytes = names.bytes(bytes, 0)?;
-                write_saved(line, save(&mut store, self.alloc, &bytes));
-            }
+            "save" => write_saved(line, save(&mut store, self.alloc, &bytes)),
             _ => return None,
         }
         Some(())
     }
 
     /// `desk NAME`: a requester that asks is saved there, and another desk starts from its record.
-    fn desk(&mut self, line: &mut Line, name: &str) -> Option<()> {
-        let path = self.path(name)?;
-        let store = FileStore::at(self.rt, self.alloc, path.as_str(), 1000).ok()?;
-        let txn = TxnId::new(self.alloc, b"G1", b"T1").ok()?;
-        let first = Side::Requester(Requester::idle(self.alloc, txn));
-        let mut desk = Desk1::create(self.alloc, store, first).ok()?;
-        desk.act(self.alloc, &action(self.alloc, "request none Maps")?)
-            .ok()?;
-        desk.save(self.alloc).ok()?;
-        let again = FileStore::at(self.rt, self.alloc, path.as_str(), 1000).ok()?;
-        let started = Desk1::start(self.alloc, again).ok()?;
-        line.text("started");
-        DeskView::of(self.alloc, &started)?.write(line);
-        line.text(", ");
-        line.octets(&started.message(self.alloc, Number::new(1)?).ok()?);
-        Some(())
+    fn desk(&self, line: &mut Line, path: &str) -> Option<()> {
+        Restarts::new(self.rt, self.alloc, path, 1000).write_started(line)
     }
 
     /// `put NAME BYTES`: a file with these bytes.
-    fn put(&mut self, line: &mut Line, names: &Names, words: &str) -> Option<()> {
-        let (name, bytes) = words.split_once(' ').unwrap_or((words, ""));
-        let bytes = names.bytes(bytes, 0)?;
-        fs::write(self.rt, self.path(name)?.as_str(), bytes.as_slice()).ok()?;
-        line.text("put");
-        Some(())
-    }
-
-    /// `folder NAME`: an empty folder.
-    fn folder(&mut self, line: &mut Line, name: &str) -> Option<()> {
-        fs::create_dir(self.rt, self.path(name)?.as_str()).ok()?;
-        line.text("made");
-        Some(())
-    }
-
-    /// `link NAME TARGET`: a symbolic link.
-    fn link(&mut self, line: &mut Line, words: &str) -> Option<()> {
-        let (name, target) = words.split_once(' ')?;
-        self.rt.symlink(target, self.path(name)?.as_str()).ok()?;
-        line.text("linked");
-        Some(())
+    fn put(&self, line: &mut Line, names: &Names, path: &str, words: &str) -> Option<()> {
+        let bytes = names.bytes(words, 0)?;
+        write_done(line, "put", fs::write(self.rt, path, bytes.as_slice()))
     }
 
     /// `shows NAME`: what stands there, no link followed.
-    fn shows(&mut self, line: &mut Line, name: &str) -> Option<()> {
-        let path = self.path(name)?;
-        let found = match self.rt.symlink_metadata(path.as_str()) {
-            Ok(found) => found,
-            Err(error) if error.kind() == ErrorKind::NotFound => {
-                line.text("nothing");
-                return Some(());
-            }
-            Err(_) => return None,
-        };
+    fn shows(&self, line: &mut Line, path: &str) -> Option<()> {
+        match self.rt.symlink_metadata(path) {
+            Ok(found) => self.show(line, path, &found),
+            Err(error) => write_absent(line, error.kind()),
+        }
+    }
+
+    fn show(&self, line: &mut Line, path: &str, found: &Metadata) -> Option<()> {
         if found.is_symlink() {
             line.text("a link");
         } else if found.is_dir() {
             line.text("a folder");
         } else {
             line.text("a file of ");
-            line.octets(&self.bytes_of(path.as_str()).ok()?);
+            line.octets(&fs::read(&(self.rt, self.alloc), path).ok()?);
         }
         Some(())
     }
 
-    fn bytes_of(&self, path: &str) -> io::Result<Vec<u8>> {
-        fs::read(&(self.rt, self.alloc), path)
-    }
-
     /// `mode NAME`: who may read and write the file, in octal.
-    fn mode(&mut self, line: &mut Line, name: &str) -> Option<()> {
-        let found = fs::metadata(self.rt, self.path(name)?.as_str()).ok()?;
+    fn mode(&self, line: &mut Line, path: &str) -> Option<()> {
+        let found = fs::metadata(self.rt, path).ok()?;
         line.octal(found.mode() & 0o777);
         Some(())
     }
 
     /// `change NAME MODE`: says in octal who may read and write the file.
-    fn change_mode(&mut self, line: &mut Line, words: &str) -> Option<()> {
-        let (name, mode) = words.split_once(' ')?;
+    fn change_mode(&self, line: &mut Line, path: &str, mode: &str) -> Option<()> {
         let mode = u32::from_str_radix(mode, 8).ok()?;
-        let permissions = Permissions::from_mode(mode);
-        fs::set_permissions(self.rt, self.path(name)?.as_str(), permissions).ok()?;
-        line.text("changed");
-        Some(())
+        let changed = fs::set_permissions(self.rt, path, Permissions::from_mode(mode));
+        write_done(line, "changed", changed)
     }
 
     /// `making NAME BYTES`: a save, and who may read and write the new file from its making on.
-    fn making(&mut self, line: &mut Line, names: &Names, words: &str) -> Option<()> {
-        let (name, bytes) = words.split_once(' ')?;
-        let bytes = names.bytes(bytes, 0)?;
-        let files = Failing::after(self.rt, self.alloc, u32::MAX, ErrorKind::Other).ok()?;
-        let path = self.path(name)?;
-        let mut store = FileStore::at(&files, self.alloc, path.as_str(), 100).ok()?;
+    fn making(&self, line: &mut Line, names: &Names, path: &str, words: &str) -> Option<()> {
+        let bytes = names.bytes(words, 0)?;
+        let files = self.failing_files(u32::MAX, ErrorKind::Other)?;
+        let mut store = FileStore::at(&files, self.alloc, path, 100).ok()?;
         write_saved(line, save(&mut store, self.alloc, &bytes));
         line.text(", made ");
         line.octal(files.made());
@@ -216,22 +209,11 @@ impl<'a, R: Files> Folder<'a, R> {
     }
 
     /// `damaged NAME LIMIT DAMAGE`: what a desk answers behind whose back its record was damaged.
-    fn damaged(&mut self, line: &mut Line, names: &Names, words: &str) -> Option<()> {
-        let (name, words) = words.split_once(' ')?;
+    fn damaged(&self, line: &mut Line, names: &Names, path: &str, words: &str) -> Option<()> {
         let (limit, words) = words.split_once(' ').unwrap_or((words, ""));
-        let damage = match words {
-            "folder" => Damage::Folder,
-            "nothing" => Damage::Nothing,
-            bytes => Damage::Bytes(names.bytes(bytes, 0)?),
-        };
-        let path = self.path(name)?;
         let limit = limit.parse::<u32>().ok()?;
-        Restarts::new(self.rt, self.alloc, path.as_str(), limit).write(line, &damage)
-    }
-
-    /// `longest NAME`: the longest record of a side, in this file.
-    fn longest(&mut self, line: &mut Line, name: &str) -> Option<()> {
-        longest::write(self.rt, self.alloc, line, self.path(name)?.as_str())
+        let damage = damage_of(names, words)?;
+        Restarts::new(self.rt, self.alloc, path, limit).write_damaged(line, &damage)
     }
 }
 
@@ -244,6 +226,14 @@ fn fault_of(word: &str) -> Option<ErrorKind> {
         "unsupported" => Some(ErrorKind::Unsupported),
         "invalid" => Some(ErrorKind::InvalidInput),
         _ => None,
+    }
+}
+
+fn damage_of(names: &Names, words: &str) -> Option<Damage> {
+    match words {
+        "folder" => Some(Damage::Folder),
+        "nothing" => Some(Damage::Nothing),
+        bytes => names.bytes(bytes, 0).map(Damage::Bytes),
     }
 }
 
@@ -268,17 +258,18 @@ fn save<R: Files>(
     store.save(alloc, bytes)
 }
 
-fn write_loaded(line: &mut Line, loaded: Result<Option<Vec<u8>>, StoreFault>) {
-    match loaded {
-        Ok(Some(bytes)) => line.octets(&bytes),
-        Ok(None) => line.text("none"),
-        Err(fault) => line.text(store_words(fault)),
-    }
+/// Writes this word, if the call has succeeded.
+fn write_done(line: &mut Line, word: &str, done: io::Result<()>) -> Option<()> {
+    done.ok()?;
+    line.text(word);
+    Some(())
 }
 
-fn write_saved(line: &mut Line, saved: Result<(), StoreFault>) {
-    match saved {
-        Ok(()) => line.text("saved"),
-        Err(fault) => line.text(store_words(fault)),
+/// Writes that nothing stands there, if that is the fault.
+fn write_absent(line: &mut Line, fault: ErrorKind) -> Option<()> {
+    if fault != ErrorKind::NotFound {
+        return None;
     }
+    line.text("nothing");
+    Some(())
 }

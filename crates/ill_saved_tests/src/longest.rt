@@ -2,8 +2,8 @@
 
 use crate::again::written_and_read;
 use crate::desk_view::DeskView;
+use crate::desks::write_begun;
 use crate::line::Line;
-use crate::words::write_fault;
 use ill_core::{Responder, State};
 use ill_saved::{Desk1, FileStore, Side, Store, encode_record};
 use ill_values::{Apdu, Body, Day, Item, Number, TxnId};
@@ -16,30 +16,47 @@ const LIMIT: u32 = 65_535;
 /// Saves the longest record in a file, and writes its size, what a desk gives that begins from there, and
 /// what a store answers whose limit is one byte too low.
 pub fn write<R: Files>(rt: &R, alloc: Global, line: &mut Line, path: &str) -> Option<()> {
-    let record = encode_record(alloc, &longest(alloc)?).ok()?;
-    line.show(&record.len());
-    line.text(" bytes");
-    FileStore::at(rt, alloc, path, LIMIT)
-        .ok()?
-        .save(alloc, &record)
-        .ok()?;
-    write_desk(rt, alloc, line, path)?;
-    let lower = u32::try_from(record.len()).ok()?.checked_sub(1)?;
+    let size = save(&mut store(rt, alloc, path, LIMIT)?, alloc)?;
+    line.show(&size);
+    line.text(" bytes; started");
+    write_started(rt, alloc, line, path)?;
     line.text("; a byte less ");
-    match Desk1::start(alloc, FileStore::at(rt, alloc, path, lower).ok()?) {
-        Ok(_) => line.text("done"),
-        Err((fault, _)) => write_fault(line, fault, State::Idle),
-    }
+    let lower = store(rt, alloc, path, size.checked_sub(1)?)?;
+    write_begun(line, Desk1::start(alloc, lower));
     Some(())
 }
 
-/// Writes where a desk stands that begins from this file, and the size of its last message.
-fn write_desk<R: Files>(rt: &R, alloc: Global, line: &mut Line, path: &str) -> Option<()> {
-    let store = FileStore::at(rt, alloc, path, LIMIT).ok()?;
-    let desk = Desk1::start(alloc, store).ok()?;
-    line.text("; started");
-    DeskView::of(alloc, &desk)?.write(line);
-    written_and_read(alloc, desk.side()).ok()?;
+fn store<'a, R: Files>(
+    rt: &'a R,
+    alloc: Global,
+    path: &str,
+    limit: u32,
+) -> Option<FileStore<'a, R>> {
+    FileStore::at(rt, alloc, path, limit).ok()
+}
+
+/// Saves the longest record, and gives its size.
+fn save<S: Store>(store: &mut S, alloc: Global) -> Option<u32> {
+    let record = record(alloc)?;
+    store.save(alloc, &record).ok()?;
+    u32::try_from(record.len()).ok()
+}
+
+fn record(alloc: Global) -> Option<Vec<u8>> {
+    encode_record(alloc, &longest(alloc)?).ok()
+}
+
+fn write_started<R: Files>(rt: &R, alloc: Global, line: &mut Line, path: &str) -> Option<()> {
+    let desk = Desk1::start(alloc, store(rt, alloc, path, LIMIT)?).ok()?;
+    let written = write_desk(alloc, line, &desk);
+    drop(desk);
+    written
+}
+
+/// Writes where a desk stands, and the size of its last message.
+fn write_desk<S: Store>(alloc: Global, line: &mut Line, desk: &Desk1<S>) -> Option<()> {
+    DeskView::of(alloc, desk)?.write(line);
+    written_and_read(alloc, desk.side()).map(drop).ok()?;
     let message = desk.message(alloc, Number::new(255)?).ok()?;
     line.text(", the last message ");
     line.show(&message.len());
@@ -50,29 +67,38 @@ fn write_desk<R: Files>(rt: &R, alloc: Global, line: &mut Line, path: &str) -> O
 fn longest(alloc: Global) -> Option<Side> {
     let txn = TxnId::new(alloc, &[b'g'; 64], &[b't'; 64]).ok()?;
     let due = Day::new(2025, 3, 15).ok()?;
-    let last = Number::new(255)?;
-    let item = Item::new(alloc, &[b'm'; 200]).ok()?;
-    let expiry = Some(due);
-    let request = apdu(alloc, &txn, last, Body::IllRequest { expiry, item })?;
-    let mut issued = Vec::new(alloc);
-    issued
-        .push(apdu(alloc, &txn, Number::new(1)?, Body::Shipped { due })?)
-        .ok()?;
-    for number in 2..=255 {
-        let granted = Some(due.after(u32::from(number)).ok()?);
-        let answers = last;
-        let body = Body::RenewAnswer { answers, granted };
-        issued
-            .push(apdu(alloc, &txn, Number::new(number)?, body)?)
-            .ok()?;
-    }
-    let request = Some(request);
+    let issued = issued(alloc, &txn, due)?;
+    let request = Some(request(alloc, &txn, due)?);
     let state = State::Shipped;
     Responder::of_parts(txn, state, None, None, None, false, request, issued).map(Side::Responder)
 }
 
+fn request(alloc: Global, txn: &TxnId, day: Day) -> Option<Apdu> {
+    let item = Item::new(alloc, &[b'm'; 200]).ok()?;
+    let expiry = Some(day);
+    apdu(alloc, txn, 255, Body::IllRequest { expiry, item })
+}
+
+fn issued(alloc: Global, txn: &TxnId, due: Day) -> Option<Vec<Apdu>> {
+    let mut issued = Vec::new(alloc);
+    issued
+        .push(apdu(alloc, txn, 1, Body::Shipped { due })?)
+        .ok()?;
+    for number in 2..=255 {
+        issued.push(renewal(alloc, txn, due, number)?).ok()?;
+    }
+    Some(issued)
+}
+
+fn renewal(alloc: Global, txn: &TxnId, due: Day, number: u8) -> Option<Apdu> {
+    let granted = Some(due.after(u32::from(number)).ok()?);
+    let answers = Number::new(255)?;
+    apdu(alloc, txn, number, Body::RenewAnswer { answers, granted })
+}
+
 /// A message of this transaction.
-fn apdu(alloc: Global, txn: &TxnId, number: Number, body: Body) -> Option<Apdu> {
+fn apdu(alloc: Global, txn: &TxnId, number: u8, body: Body) -> Option<Apdu> {
+    let number = Number::new(number)?;
     let txn = txn.copy(alloc).ok()?;
     Some(Apdu { txn, number, body })
 }

@@ -38,12 +38,18 @@ use std::{env, fs, io};
 
 fn main(rt: HostRuntime) -> io::Result<()> {
     let alloc = rt.alloc();
-    let text = io::read_to_string(alloc, rt.stdin())?;
     let path = make_folder(&rt, alloc)?;
-    let folder = Folder::new(&rt, alloc, path.clone()?);
-    let mut session = Session::new(alloc, Bench::new(alloc, folder));
-    let printed = print_lines(&rt, &mut session, text.as_str());
+    let printed = print_answers(&rt, alloc, path.as_str());
     fs::remove_dir_all(&rt, path.as_str())?;
+    printed
+}
+
+fn print_answers(rt: &HostRuntime, alloc: Global, path: &str) -> io::Result<()> {
+    let text = io::read_to_string(alloc, rt.stdin())?;
+    let folder = Folder::new(rt, alloc, path);
+    let mut session = Session::new(alloc, Bench::new(alloc, folder));
+    let printed = print_lines(rt, &mut session, text.as_str());
+    drop(session);
     printed
 }
 
@@ -52,13 +58,19 @@ fn make_folder<R: Files + Env + AllocGlobal>(rt: &R, alloc: Global) -> io::Resul
     let below = env::temp_dir(rt)?;
     for number in 0..u16::MAX {
         let path = format!(in alloc; "{}/ill_saved_tests.{number}", below.as_str())?;
-        match fs::create_dir(rt, path.as_str()) {
-            Ok(()) => return Ok(path),
-            Err(error) if error.kind() == ErrorKind::AlreadyExists => {}
-            Err(error) => return Err(error),
+        if is_made(fs::create_dir(rt, path.as_str()))? {
+            return Ok(path);
         }
     }
     Err(Error::from(ErrorKind::AlreadyExists))
+}
+
+/// Whether a folder was made, and was not there before.
+fn is_made(answer: io::Result<()>) -> io::Result<bool> {
+    match answer {
+        Err(error) if error.kind() == ErrorKind::AlreadyExists => Ok(false),
+        answer => answer.map(|()| true),
+    }
 }
 
 fn print_lines<B: Answers>(

@@ -25,7 +25,7 @@ pub fn write_side(alloc: Global, line: &mut Line, side: &Side, bytes: &[u8]) {
     }
     write_issued(alloc, line, side);
     let is_same = match encode_record(alloc, side) {
-        Ok(record) => record.as_slice() == bytes && written_and_read(alloc, side).is_ok(),
+        Ok(record) => record.as_slice() == bytes && written_and_read(alloc, side).map(drop).is_ok(),
         Err(_) => false,
     };
     line.text(if is_same {

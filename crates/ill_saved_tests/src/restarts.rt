@@ -2,10 +2,9 @@
 
 use crate::actions::action;
 use crate::desk_view::DeskView;
+use crate::desks::{restart, write_begun};
 use crate::idle::idle;
 use crate::line::Line;
-use crate::words::write_fault;
-use ill_core::State;
 use ill_saved::{Desk1, DeskFault, FileStore};
 use ill_values::Number;
 use std::alloc::Global;
@@ -48,33 +47,80 @@ impl<'a, R: Files> Restarts<'a, R> {
 
     /// Writes what a desk answers whose record is damaged: to `restart`, with where it stands then, and
     /// then what `start` and `create` answer there.
-    pub fn write(&self, line: &mut Line, damage: &Damage) -> Option<()> {
-        let mut desk = self.unsaved()?;
-        self.inflict(damage).ok()?;
-        line.text("restart ");
-        self.restart(line, &mut desk)?;
+    pub fn write_damaged(&self, line: &mut Line, damage: &Damage) -> Option<()> {
+        self.damaged(line, damage)?;
         line.text("; start ");
-        self.tell(line, Desk1::start(self.alloc, self.store()?));
+        write_begun(line, Desk1::start(self.alloc, self.store()?));
         line.text("; create ");
-        self.tell(
-            line,
-            Desk1::create(self.alloc, self.store()?, idle(self.alloc, FIRST)?),
-        );
+        write_begun(line, self.create()?);
         Some(())
     }
 
-    /// A desk that has asked and saved that, and then wishes to cancel.
-    fn unsaved(&self) -> Option<Desk1<FileStore<'a, R>>> {
-        let mut desk = Desk1::create(self.alloc, self.store()?, idle(self.alloc, FIRST)?).ok()?;
-        desk.act(self.alloc, &action(self.alloc, "request none Maps")?)
-            .ok()?;
-        desk.save(self.alloc).ok()?;
-        desk.act(self.alloc, &action(self.alloc, "cancel")?).ok()?;
-        Some(desk)
+    /// Writes where a desk stands that starts from the record of another, and its first message.
+    pub fn write_started(&self, line: &mut Line) -> Option<()> {
+        self.asked()?;
+        line.text("started");
+        let desk = Desk1::start(self.alloc, self.store()?).ok()?;
+        let shown = self.show(line, &desk);
+        drop(desk);
+        shown
     }
 
     fn store(&self) -> Option<FileStore<'a, R>> {
         FileStore::at(self.rt, self.alloc, self.path, self.limit).ok()
+    }
+
+    /// A desk that begins with the first side.
+    fn create(&self) -> Option<Result<Desk1<FileStore<'a, R>>, (DeskFault, FileStore<'a, R>)>> {
+        let store = self.store()?;
+        let first = idle(self.alloc, FIRST)?;
+        Some(Desk1::create(self.alloc, store, first))
+    }
+
+    /// A desk asks, and is gone.
+    fn asked(&self) -> Option<()> {
+        let mut desk = self.create()?.ok()?;
+        let asked = self.ask(&mut desk);
+        drop(desk);
+        asked
+    }
+
+    /// Has the desk ask, and saves that.
+    fn ask(&self, desk: &mut Desk1<FileStore<'a, R>>) -> Option<()> {
+        self.act(desk, "request none Maps")?;
+        desk.save(self.alloc).ok()
+    }
+
+    fn act(&self, desk: &mut Desk1<FileStore<'a, R>>, words: &str) -> Option<()> {
+        desk.act(self.alloc, &action(self.alloc, words)?).ok()
+    }
+
+    fn show(&self, line: &mut Line, desk: &Desk1<FileStore<'a, R>>) -> Option<()> {
+        DeskView::of(self.alloc, desk)?.write(line);
+        line.text(", ");
+        line.octets(&self.first_message(desk)?);
+        Some(())
+    }
+
+    /// Damages the record of a desk that has asked and then wishes to cancel, and restarts it.
+    fn damaged(&self, line: &mut Line, damage: &Damage) -> Option<()> {
+        let mut desk = self.create()?.ok()?;
+        let answered = self.damage(line, &mut desk, damage);
+        drop(desk);
+        answered
+    }
+
+    fn damage(
+        &self,
+        line: &mut Line,
+        desk: &mut Desk1<FileStore<'a, R>>,
+        damage: &Damage,
+    ) -> Option<()> {
+        self.ask(desk)?;
+        self.act(desk, "cancel")?;
+        self.inflict(damage).ok()?;
+        line.text("restart ");
+        self.restart(line, desk)
     }
 
     /// Damages the record.
@@ -92,33 +138,15 @@ impl<'a, R: Files> Restarts<'a, R> {
     /// Writes what `restart` answers, and where the desk stands then. After a fault that is as before,
     /// and its first message has the bytes that it had.
     fn restart(&self, line: &mut Line, desk: &mut Desk1<FileStore<'a, R>>) -> Option<()> {
-        let first = Number::new(1)?;
-        let before = DeskView::of(self.alloc, desk)?;
-        let message = desk.message(self.alloc, first).ok()?;
-        let answer = desk.restart(self.alloc);
-        let after = DeskView::of(self.alloc, desk)?;
-        let Err(fault) = answer else {
-            line.text("done");
-            after.write(line);
-            return Some(());
-        };
-        write_fault(line, fault, after.side.state);
-        after.write_after(line, &before);
-        if desk.message(self.alloc, first).ok()?.as_slice() != message.as_slice() {
+        let message = self.first_message(desk)?;
+        let is_done = restart(self.alloc, line, desk, "done")?;
+        if !is_done && self.first_message(desk)?.as_slice() != message.as_slice() {
             line.text(" ANOTHER MESSAGE");
         }
         Some(())
     }
 
-    /// Writes whether a desk was begun, or why not.
-    fn tell(
-        &self,
-        line: &mut Line,
-        begun: Result<Desk1<FileStore<'a, R>>, (DeskFault, FileStore<'a, R>)>,
-    ) {
-        match begun {
-            Ok(_) => line.text("done"),
-            Err((fault, _)) => write_fault(line, fault, State::Idle),
-        }
+    fn first_message(&self, desk: &Desk1<FileStore<'a, R>>) -> Option<Vec<u8>> {
+        desk.message(self.alloc, Number::new(1)?).ok()
     }
 }

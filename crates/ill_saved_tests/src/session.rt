@@ -129,10 +129,8 @@ fn without_answer(text: &str) -> &str {
     if text.starts_with('#') {
         return text;
     }
-    match text.split_once(": ") {
-        Some((case, _)) => case,
-        None => text.strip_suffix(":").unwrap_or(text),
-    }
+    let case = text.split_once(": ").map_or(text, |(case, _)| case);
+    case.strip_suffix(':').unwrap_or(case)
 }
 
 /// The octet for which `#` is written.

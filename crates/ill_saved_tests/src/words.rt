@@ -51,11 +51,28 @@ fn write_bytes_fault(line: &mut Line, fault: DerFault) {
 }
 
 /// The words of why a store did nothing.
-pub fn store_words(fault: StoreFault) -> &'static str {
+fn store_words(fault: StoreFault) -> &'static str {
     match fault {
         StoreFault::Failed => "store failed",
         StoreFault::TooLarge => "store too-large",
         StoreFault::OutOfMemory => "memory",
+    }
+}
+
+/// Writes what a store gave.
+pub fn write_loaded(line: &mut Line, loaded: Result<Option<Vec<u8>>, StoreFault>) {
+    match loaded {
+        Ok(Some(bytes)) => line.octets(&bytes),
+        Ok(None) => line.text("none"),
+        Err(fault) => line.text(store_words(fault)),
+    }
+}
+
+/// Writes whether a store has saved.
+pub fn write_saved(line: &mut Line, saved: Result<(), StoreFault>) {
+    match saved {
+        Ok(()) => line.text("saved"),
+        Err(fault) => line.text(store_words(fault)),
     }
 }
 

@@ -1,12 +1,15 @@
 pub mod IssuedLemmas
 pub mod NumberLemmas
-pub mod RowLemmas
+pub mod LineLemmas
+pub mod TableLemmas
 pub mod RequesterKept
 pub mod RequesterAnswers
 pub mod RequesterRows
 pub mod RequesterLaws
+pub mod RequesterTable
 pub mod ResponderLists
-pub mod ResponderTable
+pub mod ResponderLines
 pub mod ResponderKept
 pub mod ResponderRows
+pub mod ResponderTable
 pub mod ResponderLaws

@@ -1,5 +1,5 @@
 -- A wish keeps the rules of a requester's record.
-use Rattle.std.proofs.Common.{rules, arith, ◌≡◌, ℕ, Bool, true, false, not, ◌||◌, List, [], ◌∷◌, Option, is_some, IsOk, Result, Ok, Err, refl, ap, subst, sym, ◌∙◌}
+use Rattle.std.proofs.Common.{rules, arith, ◌≡◌, ℕ, Bool, true, false, not, ◌||◌, List, [], ◌∷◌, Option, is_some, Ok, ap, subst, sym, ◌∙◌}
 use Rattle.ill_values.specs.Day.{Date}
 use Rattle.ill_values.specs.TxnId.{Qualifiers}
 use Rattle.ill_values.specs.declared.apdu.Apdu.{Apdu}
@@ -9,17 +9,13 @@ use Rattle.ill_core.specs.declared.state.State.{State}
 use Rattle.ill_core.specs.declared.state.State.TheVariants.{Idle, Pending, Conditional, CancelPending, Cancelled, Received, RenewPending, Overdue, RenewOverdue, Recall, Returned}
 use Rattle.ill_core.specs.declared.requester.Wish.{Wish}
 use Rattle.ill_core.specs.declared.requester.Wish.TheVariants as wishes
-use Rattle.ill_core.specs.declared.requester.actions.Row.{Row}
 use Rattle.ill_core.specs.State.{is_among}
 use Rattle.ill_core.specs.Rules.{implies}
 use Rattle.ill_core.specs.Bodies.{declines, is_requesters, is_ill_request, is_cancel, is_received, is_renew, is_returned}
 use Rattle.ill_core.specs.Issued.{has, is_none, with_next, next_apdu}
 use Rattle.ill_core.specs.Requester.{RequesterRecord, requester_of, IsRequester, PartsFit, IssuedFit}
-use Rattle.ill_core.specs.declared.refusal.Refusal.{Refusal}
-use Rattle.ill_core.specs.declared.refusal.Refusal.TheVariants as refusals
-use Rattle.ill_core.specs.Issued.{next_number}
-use Rattle.ill_core.specs.RequesterActions.{answer_held, row_of, acts_by, FindsRow, Acts}
-use Rattle.ill_core.proofs.RowLemmas.{at_line, is_this, no_more}
+use Rattle.ill_core.specs.RequesterActions.{Line, answer_held, line_of}
+use Rattle.ill_core.proofs.LineLemmas.{at_line, is_this, no_more}
 use Rattle.ill_core.proofs.IssuedLemmas.{numbered_next, not_true, same_txn, has_more, all_more, none_more, begins_more}
 
 -- a state fits a record that has issued one more APDU
@@ -69,8 +65,8 @@ return_fits : (txn : Qualifiers) (held : Option ℕ) (checked_in : Bool) (due : 
 return_fits txn held checked_in due issued h received = search rules
 
 -- where a wish leads fits
-pub fits : (txn : Qualifiers) (state : State) (held : Option ℕ) (checked_in : Bool) (due : Option Date) (issued : List Apdu) (wish : Wish) (row : Row)
-    → IsRequester (requester_of txn state held checked_in due issued) → row_of (requester_of txn state held checked_in due issued) wish ≡ Ok row
+pub fits : (txn : Qualifiers) (state : State) (held : Option ℕ) (checked_in : Bool) (due : Option Date) (issued : List Apdu) (wish : Wish) (row : Line)
+    → IsRequester (requester_of txn state held checked_in due issued) → line_of (requester_of txn state held checked_in due issued) wish ≡ Ok row
     → FitsWith row.next row.held (requester_of txn state held checked_in due issued) row.body
 fits txn Idle held checked_in due issued (wishes.Request expiry item) row h leads = search rules
 fits txn Conditional held checked_in due issued (wishes.Reply is_yes) row h leads =
@@ -91,21 +87,9 @@ fits txn Recall held checked_in due issued wishes.Return row h leads =
 fits txn state held checked_in due issued wish row h leads = search rules
 
 -- The record after a row that fits is a requester's.
-pub row_kept : (x : RequesterRecord) (row : Row) (txn : Qualifiers) (issued : List Apdu) → IsRequester x → FitsWith row.next row.held x row.body
+pub row_kept : (x : RequesterRecord) (row : Line) (txn : Qualifiers) (issued : List Apdu) → IsRequester x → FitsWith row.next row.held x row.body
     → txn ≡ x.txn → issued ≡ with_next x.txn x.issued row.body → IsRequester (requester_of txn row.next row.held x.checked_in x.due issued)
 row_kept x row txn issued h fits same more =
     let parts : (txn, issued) ≡ (x.txn, with_next x.txn x.issued row.body) = cc in
     subst (λ (p : Qualifiers × List Apdu). IsRequester (requester_of p.0 row.next row.held x.checked_in x.due p.1)) (sym parts)
     (kept x row.body row.next row.held h fits)
-
-first_number : (apdus : List Apdu) → is_none apdus ≡ true → next_number apdus ≡ Ok 1
-first_number [] none = refl
-first_number (a ∷ apdus) none = search rules
-
-acts_first : (x : RequesterRecord) (found : Result Row Refusal) → IsOk found → next_number x.issued ≡ Ok 1 → IsOk (acts_by x found (next_number x.issued))
-acts_first x found is first = subst (λ n. IsOk (acts_by x found n)) (sym first) (search rules)
-
--- a wish whose row is not found is refused so; where memory is wanted a number is left, since none is used
-pub not_found : (x : RequesterRecord) (wish : Wish) (refusal : Refusal) → IsRequester x → FindsRow x wish (Err refusal) → Acts x wish (Err refusal) x
-not_found x wish refusals.OutOfMemory h (is, idle) = (acts_first x (row_of x wish) is (first_number x.issued (h.issued.idle ∙ idle)), refl)
-not_found x wish other h found = search rules

@@ -10,7 +10,6 @@ use Rattle.ill_values.specs.declared.apdu.AnswerResult.TheVariants as results
 use Rattle.ill_core.specs.declared.state.State.{State}
 use Rattle.ill_core.specs.declared.requester.Wish.{Wish}
 use Rattle.ill_core.specs.declared.requester.Wish.TheVariants as wishes
-use Rattle.ill_core.specs.declared.requester.actions.Row.{Row}
 use Rattle.ill_core.specs.declared.state.State.TheVariants.{Idle, Pending, Conditional, CancelPending, Cancelled, NotSupplied, Shipped, Received, RenewPending, Overdue, RenewOverdue, NotReceivedOverdue, Recall, Returned}
 use Rattle.ill_core.specs.declared.taking.Taking.{Taking}
 use Rattle.ill_core.specs.declared.taking.Taking.TheVariants as takings
@@ -19,7 +18,7 @@ use Rattle.ill_core.specs.Numbers.{is_at_most, is_the}
 use Rattle.ill_core.specs.Bodies.{is_requesters, is_cancel, is_renew, declines, accepts}
 use Rattle.ill_core.specs.Issued.{first_refusal, was, has, next_number, next_apdu, number_of_cancel, last_of}
 use Rattle.ill_core.specs.Requester.{RequesterRecord, IsRequester, later, accepted_number, is_declined, is_received_by, last_cancel, last_renew}
-use Rattle.ill_core.specs.RequesterActions.{acts, acts_by, row_of, record_after, answer_held}
+use Rattle.ill_core.specs.RequesterActions.{Line, acts, acts_by, line_of, record_after, answer_held}
 use Rattle.ill_core.specs.Answers.{taken, unless_refused}
 use Rattle.ill_core.specs.RequesterDeliveries.{take_message, takes, take_end, take_cancel_reply, take_renew_answer, take_renewal}
 use Rattle.ill_core.specs.Dates.{is_after_due, is_due_on}
@@ -27,7 +26,7 @@ use Rattle.ill_core.specs.declared.refusal.Refusal.{Refusal}
 use Rattle.ill_core.specs.RequesterFacts.{Fact, Shows, Tells, KeepsDue, Holds, ShowsRefused, AnswersOnce, replied_number}
 use Rattle.ill_core.specs.RequesterFacts as facts
 use Rattle.ill_core.proofs.IssuedLemmas.{was_more, still_cancel, last_cancel_more, older_cancel}
-use Rattle.ill_core.proofs.RowLemmas.{at_line, is_this, no_more}
+use Rattle.ill_core.proofs.LineLemmas.{at_line, is_this, no_more}
 use Rattle.ill_core.proofs.RequesterAnswers.{silent_once, reply_once, held_number}
 
 not_both : {P : Type 0} (b : Bool) → b ≡ false → b ≡ true → P
@@ -158,7 +157,7 @@ delivery_row x a = admitted x a.number a.body (first_refusal x.txn (is_requester
 -- ---- actions
 
 -- a row that issues an APDU
-pub record Issues (x : RequesterRecord) (row : Row) : Type 0 where
+pub record Issues (x : RequesterRecord) (row : Line) : Type 0 where
   pub final : is_among (Cancelled ∷ NotSupplied ∷ Returned ∷ []) x.state ≡ true → row.next ≡ x.state
   pub stays : is_among later x.state ≡ true → is_among later row.next ≡ true
   pub shows : (fact : Fact) → Shows (record_after x row) fact → Shows x fact
@@ -167,7 +166,7 @@ pub record Issues (x : RequesterRecord) (row : Row) : Type 0 where
   pub once : is_some x.held ≡ is_among (Conditional ∷ []) x.state → AnswersOnce x → AnswersOnce (record_after x row)
 
 -- no wish leads to CANCELLED or NOT-SUPPLIED
-goes_on : (x : RequesterRecord) (row : Row) → is_among (Cancelled ∷ NotSupplied ∷ []) row.next ≡ false
+goes_on : (x : RequesterRecord) (row : Line) → is_among (Cancelled ∷ NotSupplied ∷ []) row.next ≡ false
     → ((c : ℕ) → ShowsRefused (record_after x row) c → ShowsRefused x c) → (fact : Fact) → Shows (record_after x row) fact → Shows x fact
 goes_on x row away refused facts.Cancelled shown = search rules
 goes_on x row away refused facts.Ended shown = search rules
@@ -228,7 +227,7 @@ undeclined_there : (conditional declined : Bool) → conditional && not (conditi
 undeclined_there true false h = (refl, refl)
 undeclined_there conditional declined h = search rules
 
-wish_row : (x : RequesterRecord) (wish : Wish) (row : Row) → row_of x wish ≡ Ok row → Issues x row
+wish_row : (x : RequesterRecord) (wish : Wish) (row : Line) → line_of x wish ≡ Ok row → Issues x row
 wish_row x (wishes.Request expiry item) row =
     at_line (Issues x) (is_among (Idle ∷ []) x.state) _ _ row (λ is. is_this (Issues x) _ row
     (silent_row x Pending (types.IllRequest expiry item) refl refl refl refl refl (search (rules, is)) (search (rules, is))
@@ -258,13 +257,13 @@ wish_row x wishes.Return row =
 ok_is : (x y : RequesterRecord) → ◌≡◌ {A = Result RequesterRecord Refusal} (Ok x) (Ok y) → x ≡ y
 ok_is x y h = search rules
 
-by_row : (P : RequesterRecord → Type 0) (x new : RequesterRecord) (found : Result Row Refusal) (number : Result ℕ Refusal)
-    → ((row : Row) → found ≡ Ok row → P (record_after x row)) → acts_by x found number ≡ Ok new → P new
+by_row : (P : RequesterRecord → Type 0) (x new : RequesterRecord) (found : Result Line Refusal) (number : Result ℕ Refusal)
+    → ((row : Line) → found ≡ Ok row → P (record_after x row)) → acts_by x found number ≡ Ok new → P new
 by_row P x new (Err refusal) number leads acted = search rules
 by_row P x new (Ok row) (Err refusal) leads acted = search rules
 by_row P x new (Ok row) (Ok n) leads acted = subst P (ok_is (record_after x row) new acted) (leads row refl)
 
 -- What holds after every row holds after a wish.
 pub of_acts : (P : RequesterRecord → Type 0) (x new : RequesterRecord) (wish : Wish)
-    → ((row : Row) → row_of x wish ≡ Ok row → Issues x row → P (record_after x row)) → acts x wish ≡ Ok new → P new
-of_acts P x new wish leads acted = by_row P x new (row_of x wish) (next_number x.issued) (λ row there. leads row there (wish_row x wish row there)) acted
+    → ((row : Line) → line_of x wish ≡ Ok row → Issues x row → P (record_after x row)) → acts x wish ≡ Ok new → P new
+of_acts P x new wish leads acted = by_row P x new (line_of x wish) (next_number x.issued) (λ row there. leads row there (wish_row x wish row there)) acted

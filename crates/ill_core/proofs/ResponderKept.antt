@@ -15,17 +15,16 @@ use Rattle.ill_core.specs.Dates.{is_after_due}
 use Rattle.ill_core.specs.Rules.{implies}
 use Rattle.ill_core.specs.Numbers.{is_the, is_at_most}
 use Rattle.ill_core.specs.Bodies.{is_ill_request, is_requesters, is_shipped, is_checked_in, names_conditions, is_renewal, grant_in}
-use Rattle.ill_core.specs.Issued.{next_number, was, is_same_txn, with_next, next_apdu, granted_day}
+use Rattle.ill_core.specs.Issued.{next_number, was, is_same_txn, next_apdu, granted_day}
 use Rattle.ill_core.specs.Responder.{ResponderRecord, responder_of, outstanding_number, is_named, IsResponder, IssuedFits, PartsFit, later, are_rising, ships_first, due_of}
-use Rattle.ill_core.specs.declared.responder.actions.Row.{Row}
-use Rattle.ill_core.specs.ResponderActions.{issues_to, record_after}
+use Rattle.ill_core.specs.ResponderActions.{Line, issues_to, record_after}
 use Rattle.ill_core.specs.declared.refusal.Refusal.{Refusal}
 use Rattle.ill_core.specs.declared.refusal.Refusal.TheVariants.{OtherTransaction, WrongRole}
 use Rattle.ill_core.specs.declared.taking.Taking.{Taking}
 use Rattle.ill_core.specs.Issued.{Admits, first_refusal}
 use Rattle.ill_core.specs.ResponderDeliveries.{MayWantMemory, answers_no, Takes, take_message, takes_memory, takes}
 use Rattle.ill_core.specs.Answers.{unless_refused}
-use Rattle.ill_core.proofs.ResponderTable.{IsRow, answers, allows_cancel, refuses_cancel, ships, renews, refuses_renewal, refuses_late, reminds, reminds_renewing, recalls, checks_in, expires}
+use Rattle.ill_core.proofs.ResponderLines.{IsLine, answers, allows_cancel, refuses_cancel, ships, renews, refuses_renewal, refuses_late, reminds, reminds_renewing, recalls, checks_in, expires}
 use Rattle.ill_core.proofs.IssuedLemmas.{numbered_next, same_txn, has_more, all_more, none_more, found_none, found_more}
 use Rattle.ill_core.proofs.ResponderLists.{count_more, ends_more, named_more, rise_more, ships_more, ships_renewed, no_grants}
 
@@ -67,7 +66,7 @@ ships_next y a h (later_grant d is here after) =
     ships_renewed y.issued a h.ships_first (omega (arith, h.issued.shipped ∙ ap (λ b. if b then 1 else 0) here))
 
 -- the record with one more APDU, in a state that fits, is a responder's
-pub next_kept : (y : ResponderRecord) (body : Body) (state : State) → IsResponder y → FitsNext y body state → Grants y body → IsResponder (issues_to y body state)
+next_kept : (y : ResponderRecord) (body : Body) (state : State) → IsResponder y → FitsNext y body state → Grants y body → IsResponder (issues_to y body state)
 next_kept y body state h fits grants =
     let a : Apdu = next_apdu y.txn y.issued body in
     record {
@@ -85,58 +84,58 @@ next_kept y body state h fits grants =
       ships_first = ships_next y a h grants;
     }
 
--- a row of the table of actions fits
-row_fits : (txn : Qualifiers) (state : State) (accepted last_cancel last_renew : Option ℕ) (received : Bool) (request : Option Apdu) (issued : List Apdu) (row : Row)
-    → IsResponder (responder_of txn state accepted last_cancel last_renew received request issued) → IsRow (responder_of txn state accepted last_cancel last_renew received request issued) row
-    → FitsNext (responder_of txn state accepted last_cancel last_renew received request issued) row.body row.next
-row_fits txn InProcess accepted last_cancel last_renew received request issued _ h (answers results.Conditional is) = search rules
-row_fits txn InProcess accepted last_cancel last_renew received request issued _ h (answers answer is) = search rules
-row_fits txn state accepted last_cancel last_renew received request issued _ h (answers answer is) = search rules
-row_fits txn CancelPending accepted last_cancel last_renew received request issued _ h (allows_cancel is) = search rules
-row_fits txn state accepted last_cancel last_renew received request issued _ h (allows_cancel is) = search rules
-row_fits txn CancelPending accepted last_cancel last_renew received request issued _ h (refuses_cancel is) = search rules
-row_fits txn state accepted last_cancel last_renew received request issued _ h (refuses_cancel is) = search rules
-row_fits txn InProcess accepted last_cancel last_renew received request issued _ h (ships due is) = search rules
-row_fits txn state accepted last_cancel last_renew received request issued _ h (ships due is) = search rules
-row_fits txn RenewPending accepted last_cancel last_renew received request issued _ h (renews due is after) = search rules
-row_fits txn RenewOverdue accepted last_cancel last_renew received request issued _ h (renews due is after) = search rules
-row_fits txn state accepted last_cancel last_renew received request issued _ h (renews due is after) = search rules
-row_fits txn RenewPending accepted last_cancel last_renew received request issued _ h (refuses_renewal is) = search rules
-row_fits txn state accepted last_cancel last_renew received request issued _ h (refuses_renewal is) = search rules
-row_fits txn RenewOverdue accepted last_cancel last_renew received request issued _ h (refuses_late is) = search rules
-row_fits txn state accepted last_cancel last_renew received request issued _ h (refuses_late is) = search rules
-row_fits txn Shipped accepted last_cancel last_renew received request issued _ h (reminds is) = search rules
-row_fits txn state accepted last_cancel last_renew received request issued _ h (reminds is) = search rules
-row_fits txn RenewPending accepted last_cancel last_renew received request issued _ h (reminds_renewing is) = search rules
-row_fits txn state accepted last_cancel last_renew received request issued _ h (reminds_renewing is) = search rules
-row_fits txn Shipped accepted last_cancel last_renew received request issued _ h (recalls is) = search rules
-row_fits txn Overdue accepted last_cancel last_renew received request issued _ h (recalls is) = search rules
-row_fits txn state accepted last_cancel last_renew received request issued _ h (recalls is) = search rules
-row_fits txn Returned accepted last_cancel last_renew received request issued _ h (checks_in is) = search rules
-row_fits txn state accepted last_cancel last_renew received request issued _ h (checks_in is) = search rules
-row_fits txn InProcess accepted last_cancel last_renew received request issued _ h (expires is) = search rules
-row_fits txn Conditional accepted last_cancel last_renew received request issued _ h (expires is) = search rules
-row_fits txn state accepted last_cancel last_renew received request issued _ h (expires is) = search rules
+-- a line of the table of actions fits
+line_fits : (txn : Qualifiers) (state : State) (accepted last_cancel last_renew : Option ℕ) (received : Bool) (request : Option Apdu) (issued : List Apdu) (line : Line)
+    → IsResponder (responder_of txn state accepted last_cancel last_renew received request issued) → IsLine (responder_of txn state accepted last_cancel last_renew received request issued) line
+    → FitsNext (responder_of txn state accepted last_cancel last_renew received request issued) line.body line.next
+line_fits txn InProcess accepted last_cancel last_renew received request issued _ h (answers results.Conditional is) = search rules
+line_fits txn InProcess accepted last_cancel last_renew received request issued _ h (answers answer is) = search rules
+line_fits txn state accepted last_cancel last_renew received request issued _ h (answers answer is) = search rules
+line_fits txn CancelPending accepted last_cancel last_renew received request issued _ h (allows_cancel is) = search rules
+line_fits txn state accepted last_cancel last_renew received request issued _ h (allows_cancel is) = search rules
+line_fits txn CancelPending accepted last_cancel last_renew received request issued _ h (refuses_cancel is) = search rules
+line_fits txn state accepted last_cancel last_renew received request issued _ h (refuses_cancel is) = search rules
+line_fits txn InProcess accepted last_cancel last_renew received request issued _ h (ships due is) = search rules
+line_fits txn state accepted last_cancel last_renew received request issued _ h (ships due is) = search rules
+line_fits txn RenewPending accepted last_cancel last_renew received request issued _ h (renews due is after) = search rules
+line_fits txn RenewOverdue accepted last_cancel last_renew received request issued _ h (renews due is after) = search rules
+line_fits txn state accepted last_cancel last_renew received request issued _ h (renews due is after) = search rules
+line_fits txn RenewPending accepted last_cancel last_renew received request issued _ h (refuses_renewal is) = search rules
+line_fits txn state accepted last_cancel last_renew received request issued _ h (refuses_renewal is) = search rules
+line_fits txn RenewOverdue accepted last_cancel last_renew received request issued _ h (refuses_late is) = search rules
+line_fits txn state accepted last_cancel last_renew received request issued _ h (refuses_late is) = search rules
+line_fits txn Shipped accepted last_cancel last_renew received request issued _ h (reminds is) = search rules
+line_fits txn state accepted last_cancel last_renew received request issued _ h (reminds is) = search rules
+line_fits txn RenewPending accepted last_cancel last_renew received request issued _ h (reminds_renewing is) = search rules
+line_fits txn state accepted last_cancel last_renew received request issued _ h (reminds_renewing is) = search rules
+line_fits txn Shipped accepted last_cancel last_renew received request issued _ h (recalls is) = search rules
+line_fits txn Overdue accepted last_cancel last_renew received request issued _ h (recalls is) = search rules
+line_fits txn state accepted last_cancel last_renew received request issued _ h (recalls is) = search rules
+line_fits txn Returned accepted last_cancel last_renew received request issued _ h (checks_in is) = search rules
+line_fits txn state accepted last_cancel last_renew received request issued _ h (checks_in is) = search rules
+line_fits txn InProcess accepted last_cancel last_renew received request issued _ h (expires is) = search rules
+line_fits txn Conditional accepted last_cancel last_renew received request issued _ h (expires is) = search rules
+line_fits txn state accepted last_cancel last_renew received request issued _ h (expires is) = search rules
 
--- the dates of a row
-row_grants : (y : ResponderRecord) (row : Row) → IsRow y row → Grants y row.body
-row_grants y _ (answers answer is) = no_grant refl refl
-row_grants y _ (allows_cancel is) = no_grant refl refl
-row_grants y _ (refuses_cancel is) = no_grant refl refl
-row_grants y _ (ships due is) = first_grant due refl (search rules)
-row_grants y _ (renews due is after) = later_grant due refl (search rules) after
-row_grants y _ (refuses_renewal is) = no_grant refl refl
-row_grants y _ (refuses_late is) = no_grant refl refl
-row_grants y _ (reminds is) = no_grant refl refl
-row_grants y _ (reminds_renewing is) = no_grant refl refl
-row_grants y _ (recalls is) = no_grant refl refl
-row_grants y _ (checks_in is) = no_grant refl refl
-row_grants y _ (expires is) = no_grant refl refl
+-- the dates of a line
+line_grants : (y : ResponderRecord) (line : Line) → IsLine y line → Grants y line.body
+line_grants y _ (answers answer is) = no_grant refl refl
+line_grants y _ (allows_cancel is) = no_grant refl refl
+line_grants y _ (refuses_cancel is) = no_grant refl refl
+line_grants y _ (ships due is) = first_grant due refl (search rules)
+line_grants y _ (renews due is after) = later_grant due refl (search rules) after
+line_grants y _ (refuses_renewal is) = no_grant refl refl
+line_grants y _ (refuses_late is) = no_grant refl refl
+line_grants y _ (reminds is) = no_grant refl refl
+line_grants y _ (reminds_renewing is) = no_grant refl refl
+line_grants y _ (recalls is) = no_grant refl refl
+line_grants y _ (checks_in is) = no_grant refl refl
+line_grants y _ (expires is) = no_grant refl refl
 
--- A row leads to a responder's record.
-pub row_kept : (y : ResponderRecord) (row : Row) → IsResponder y → IsRow y row → IsResponder (record_after y row)
-row_kept y row h is =
-    next_kept y row.body row.next h (row_fits y.txn y.state y.accepted y.last_cancel y.last_renew y.received y.request y.issued row h is) (row_grants y row is)
+-- A line leads to a responder's record.
+pub line_kept : (y : ResponderRecord) (line : Line) → IsResponder y → IsLine y line → IsResponder (record_after y line)
+line_kept y line h is =
+    next_kept y line.body line.next h (line_fits y.txn y.state y.accepted y.last_cancel y.last_renew y.received y.request y.issued line h is) (line_grants y line is)
 
 no_fits : (txn : Qualifiers) (state : State) (accepted last_cancel last_renew : Option ℕ) (received : Bool) (request : Option Apdu) (issued : List Apdu)
     → IsResponder (responder_of txn state accepted last_cancel last_renew received request issued) → is_among (InProcess ∷ Conditional ∷ []) state ≡ true
@@ -145,7 +144,7 @@ no_fits txn InProcess accepted last_cancel last_renew received request issued h 
 no_fits txn state accepted last_cancel last_renew received request issued h waits = search rules
 
 -- a no is answered
-pub no_kept : (y : ResponderRecord) → IsResponder y → is_among (InProcess ∷ Conditional ∷ []) y.state ≡ true
+no_kept : (y : ResponderRecord) → IsResponder y → is_among (InProcess ∷ Conditional ∷ []) y.state ≡ true
     → IsResponder (issues_to y (types.IllAnswer results.Unfilled) NotSupplied)
 no_kept y h waits =
     next_kept y (types.IllAnswer results.Unfilled) NotSupplied h
@@ -181,7 +180,7 @@ first_of_two : (state : State) → is_among (Idle ∷ []) state ≡ true → is_
 first_of_two state is = search rules
 
 -- conditions are accepted
-pub yes_kept : (y : ResponderRecord) (c : ℕ) → IsResponder y → is_the c (outstanding_number y) ≡ true
+yes_kept : (y : ResponderRecord) (c : ℕ) → IsResponder y → is_the c (outstanding_number y) ≡ true
     → IsResponder (record y { state = InProcess; accepted = Some c })
 yes_kept y c h is =
     let named = outstanding_named y.txn y.state y.accepted y.last_cancel y.last_renew y.received y.request y.issued c h is in
@@ -197,7 +196,7 @@ yes_kept y c h is =
     }
 
 -- a request is kept
-pub request_kept : (y : ResponderRecord) (a : Apdu) → IsResponder y → is_among (Idle ∷ []) y.state ≡ true → is_same_txn a.txn y.txn ≡ true → is_ill_request a.body ≡ true
+request_kept : (y : ResponderRecord) (a : Apdu) → IsResponder y → is_among (Idle ∷ []) y.state ≡ true → is_same_txn a.txn y.txn ≡ true → is_ill_request a.body ≡ true
     → IsResponder (record y { state = InProcess; request = Some a })
 request_kept y a h idle same is =
     record {
@@ -211,19 +210,11 @@ request_kept y a h idle same is =
       ships_first = h.ships_first;
     }
 
--- a record whose parts are those of one that issued one APDU more
-pub with_issue : (y : ResponderRecord) (state : State) (body : Body) (txn : Qualifiers) (issued : List Apdu) → IsResponder (issues_to y body state)
-    → txn ≡ y.txn → issued ≡ with_next y.txn y.issued body
-    → IsResponder (responder_of txn state y.accepted y.last_cancel y.last_renew y.received y.request issued)
-with_issue y state body txn issued h same_txn more =
-    let parts : (txn, issued) ≡ (y.txn, with_next y.txn y.issued body) = cc in
-    subst (λ (p : Qualifiers × List Apdu). IsResponder (responder_of p.0 state y.accepted y.last_cancel y.last_renew y.received y.request p.1)) (sym parts) h
-
 pub admits_none : (o : Option Refusal) → Admits o (Ok tt) → o ≡ None
 admits_none None h = refl
 admits_none (Some refusal) h = search rules
 
--- an APDU that is admitted does what its row says
+-- an APDU that is admitted does what its line says
 pub takes_admitted : (y new : ResponderRecord) (a : Apdu) (answer : Result Taking Refusal) → first_refusal y.txn (not (is_requesters a.body)) a ≡ None
     → MayWantMemory (take_message y a a.body) (takes_memory y a.body) y answer new → Takes y a answer new
 takes_admitted y new a answer admitted comes =
@@ -263,7 +254,7 @@ answer_kept : (y : ResponderRecord) (next : Result ℕ Refusal) → IsResponder 
 answer_kept y (Ok number) h waits = no_kept y h waits
 answer_kept y (Err refusal) h waits = h
 
-message_kept : (y : ResponderRecord) (a : Apdu) (body : Body) → IsResponder y → is_same_txn a.txn y.txn ≡ true → is_ill_request a.body ≡ is_ill_request body → IsResponder (take_message y a body).1
+pub message_kept : (y : ResponderRecord) (a : Apdu) (body : Body) → IsResponder y → is_same_txn a.txn y.txn ≡ true → is_ill_request a.body ≡ is_ill_request body → IsResponder (take_message y a body).1
 message_kept y a (types.IllRequest expiry item) h same is =
     line (is_among (Idle ∷ []) y.state) _ _ (λ idle. request_kept y a h idle same is) (λ _. h)
 message_kept y a (types.ConditionalReply c true) h same is =

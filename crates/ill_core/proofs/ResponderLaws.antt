@@ -23,24 +23,24 @@ use Rattle.ill_core.specs.ResponderDeliveries.{takes}
 use Rattle.ill_core.specs.ResponderFacts.{Fact, Shows, Tells, Requested, Accepted, CancelAsked, Arrived, SentBack, cancels, IssuesUnfilled, StaysLater, Ends, EntersByEnd, EndsOnce, is_unsupplied, is_cancelled, is_end, ended, ends_in, Question, MayCancel, MayRenew, answered_number, last_asked, waits, answers_to, AnswersLast, KeepsLast, TakesNew, AnsweredOnce, AnswersOnce}
 use Rattle.ill_core.proofs.IssuedLemmas.{issued_body, not_longer, has_more, found_none, found_more}
 use Rattle.ill_core.proofs.ResponderLists.{count_more}
-use Rattle.ill_core.proofs.ResponderKept.{row_kept}
+use Rattle.ill_core.proofs.ResponderKept.{line_kept}
 use Rattle.ill_core.proofs.ResponderRows.{Issues, Moves, of_takes, of_acts}
 use Rattle.ill_core.proofs.NumberLemmas.{all_weaker, below_new, at_most_below, distinct_more}
 
 pub acts_issue : (y new : ResponderRecord) (deed : Deed) (today : Date) → acts y deed today ≡ Ok new → IssuesNext y.txn y.issued new.issued
-acts_issue y new deed today = of_acts (λ r. IssuesNext y.txn y.issued r.issued) y new deed today (λ row there how. (row.body, refl))
+acts_issue y new deed today = of_acts (λ r. IssuesNext y.txn y.issued r.issued) y new deed today (λ line there how. (line.body, refl))
 
 pub takes_issue : (y : ResponderRecord) (a : Apdu) → IssuesUnfilled y a.body (takes y a).1
 takes_issue y a = of_takes (IssuesUnfilled y a.body) y a (λ how. inl how.issued) (λ said how. inr (said, refl))
 
 pub acts_txn : (y new : ResponderRecord) (deed : Deed) (today : Date) → acts y deed today ≡ Ok new → new.txn ≡ y.txn
-acts_txn y new deed today = of_acts (λ r. r.txn ≡ y.txn) y new deed today (λ row there how. refl)
+acts_txn y new deed today = of_acts (λ r. r.txn ≡ y.txn) y new deed today (λ line there how. refl)
 
 pub takes_txn : (y : ResponderRecord) (a : Apdu) → (takes y a).1.txn ≡ y.txn
 takes_txn y a = of_takes (λ r. r.txn ≡ y.txn) y a (λ how. how.txn) (λ said how. refl)
 
 pub acts_kept : (y new : ResponderRecord) (deed : Deed) (today : Date) → acts y deed today ≡ Ok new → IsResponder y → IsResponder new
-acts_kept y new deed today = of_acts (λ r. IsResponder y → IsResponder r) y new deed today (λ row is how h. row_kept y row h is)
+acts_kept y new deed today = of_acts (λ r. IsResponder y → IsResponder r) y new deed today (λ line is how h. line_kept y line h is)
 
 not_both : {P : Type 0} (b : Bool) → b ≡ false → b ≡ true → P
 not_both b is_false is_true = search rules
@@ -50,7 +50,7 @@ abbrev final : List State
 final = NotSupplied ∷ Cancelled ∷ CheckedIn ∷ []
 
 pub acts_final : (y new : ResponderRecord) (deed : Deed) (today : Date) → acts y deed today ≡ Ok new → is_among final y.state ≡ true → new.state ≡ y.state
-acts_final y new deed today = of_acts (λ r. is_among final y.state ≡ true → r.state ≡ y.state) y new deed today (λ row there how. not_both _ how.final)
+acts_final y new deed today = of_acts (λ r. is_among final y.state ≡ true → r.state ≡ y.state) y new deed today (λ line there how. not_both _ how.final)
 
 pub takes_final : (y : ResponderRecord) (a : Apdu) → is_among final y.state ≡ true → (takes y a).1.state ≡ y.state
 takes_final y a = of_takes (λ r. is_among final y.state ≡ true → r.state ≡ y.state) y a (λ how. how.final) (λ said how. not_both _ how.final)
@@ -65,7 +65,7 @@ issues_stays y body next how = (
 )
 
 pub acts_later : (y new : ResponderRecord) (deed : Deed) (today : Date) → acts y deed today ≡ Ok new → StaysLater y new
-acts_later y new deed today = of_acts (StaysLater y) y new deed today (λ row there. issues_stays y row.body row.next)
+acts_later y new deed today = of_acts (StaysLater y) y new deed today (λ line there. issues_stays y line.body line.next)
 
 pub takes_later : (y : ResponderRecord) (a : Apdu) → StaysLater y (takes y a).1
 takes_later y a =
@@ -79,7 +79,7 @@ issues_ends y body next how a same is =
     subst (λ b. (is_among (InProcess ∷ Conditional ∷ CancelPending ∷ []) y.state ≡ true) × (ends_in b next ≡ true)) said (how.ends (ap is_end said ∙ is))
 
 pub acts_end : (y new : ResponderRecord) (deed : Deed) (today : Date) → acts y deed today ≡ Ok new → Ends y new
-acts_end y new deed today = of_acts (Ends y) y new deed today (λ row there. issues_ends y row.body row.next)
+acts_end y new deed today = of_acts (Ends y) y new deed today (λ line there. issues_ends y line.body line.next)
 
 pub takes_end : (y : ResponderRecord) (a : Apdu) → Ends y (takes y a).1
 takes_end y a = of_takes (Ends y) y a (λ how b same is. not_longer y.issued _ b how.issued same) (λ said how. issues_ends y _ _ how)
@@ -93,7 +93,7 @@ issues_enters : (y : ResponderRecord) (body : Body) (next : State) → Issues y 
 issues_enters y body next how is = by_end y (issues_to y body next) (next_apdu y.txn y.issued body) refl (how.enters is)
 
 pub acts_enter : (y new : ResponderRecord) (deed : Deed) (today : Date) → acts y deed today ≡ Ok new → EntersByEnd y new
-acts_enter y new deed today = of_acts (EntersByEnd y) y new deed today (λ row there. issues_enters y row.body row.next)
+acts_enter y new deed today = of_acts (EntersByEnd y) y new deed today (λ line there. issues_enters y line.body line.next)
 
 pub takes_enter : (y : ResponderRecord) (a : Apdu) → EntersByEnd y (takes y a).1
 takes_enter y a = of_takes (EntersByEnd y) y a (λ how is. inl (how.ended ∙ is)) (λ said how. issues_enters y _ _ how)
@@ -118,7 +118,7 @@ moves_once y new number body how h =
     }
 
 pub acts_end_once : (y new : ResponderRecord) (deed : Deed) (today : Date) → acts y deed today ≡ Ok new → EndsOnce y → EndsOnce new
-acts_end_once y new deed today = of_acts (λ r. EndsOnce y → EndsOnce r) y new deed today (λ row there. issues_once y row.body row.next)
+acts_end_once y new deed today = of_acts (λ r. EndsOnce y → EndsOnce r) y new deed today (λ line there. issues_once y line.body line.next)
 
 pub takes_end_once : (y : ResponderRecord) (a : Apdu) → EndsOnce y → EndsOnce (takes y a).1
 takes_end_once y a = of_takes (λ r. EndsOnce y → EndsOnce r) y a (moves_once y (takes y a).1 a.number a.body) (λ said how. issues_once y _ _ how)
@@ -128,7 +128,7 @@ issues_answer question y body next how a n same is =
     how.replies question n (ap (answered_number question) (issued_body y.txn y.issued body a same) ∙ is)
 
 pub acts_answer_last : (question : Question) (y new : ResponderRecord) (deed : Deed) (today : Date) → acts y deed today ≡ Ok new → AnswersLast question y new
-acts_answer_last question y new deed today = of_acts (AnswersLast question y) y new deed today (λ row there. issues_answer question y row.body row.next)
+acts_answer_last question y new deed today = of_acts (AnswersLast question y) y new deed today (λ line there. issues_answer question y line.body line.next)
 
 pub takes_answer_last : (question : Question) (y : ResponderRecord) (a : Apdu) → AnswersLast question y (takes y a).1
 takes_answer_last question y a =
@@ -142,7 +142,7 @@ issues_keeps : (question : Question) (y : ResponderRecord) (body : Body) (next :
 issues_keeps question y body next how = (last_same question y body next, how.asked question)
 
 pub acts_keep_last : (question : Question) (y new : ResponderRecord) (deed : Deed) (today : Date) → acts y deed today ≡ Ok new → KeepsLast question y new
-acts_keep_last question y new deed today = of_acts (KeepsLast question y) y new deed today (λ row there. issues_keeps question y row.body row.next)
+acts_keep_last question y new deed today = of_acts (KeepsLast question y) y new deed today (λ line there. issues_keeps question y line.body line.next)
 
 pub takes_keep_last : (question : Question) (y : ResponderRecord) (a : Apdu)
     → KeepsLast question y (takes y a).1 ⊎ TakesNew question a.number a.body y (takes y a).1
@@ -204,7 +204,7 @@ issues_each question y body next how there h =
 pub acts_once : (question : Question) (y new : ResponderRecord) (deed : Deed) (today : Date) → acts y deed today ≡ Ok new
     → implies (waits question y.state) (is_some (last_asked question y)) ≡ true → AnswersOnce question y → AnswersOnce question new
 acts_once question y new deed today done there =
-    of_acts (λ r. AnswersOnce question y → AnswersOnce question r) y new deed today (λ row leads how. issues_each question y row.body row.next how there) done
+    of_acts (λ r. AnswersOnce question y → AnswersOnce question r) y new deed today (λ line leads how. issues_each question y line.body line.next how there) done
 
 moves_each : (question : Question) (y new : ResponderRecord) (number : ℕ) (body : Body) → new.issued ≡ y.issued → KeepsLast question y new ⊎ TakesNew question number body y new
     → AnswersOnce question y → AnswersOnce question new
@@ -269,7 +269,7 @@ pub acts_shows : (y new : ResponderRecord) (deed : Deed) (today : Date) (fact : 
     → implies (waits MayCancel y.state) (is_some y.last_cancel) ≡ true → Shows new fact → Shows y fact
 acts_shows y new deed today fact done there =
     of_acts (λ r. Shows r fact → Shows y fact) y new deed today
-    (λ row leads how. issues_shows y row.body row.next fact how (yes_answers_last y row.body row.next how there)) done
+    (λ line leads how. issues_shows y line.body line.next fact how (yes_answers_last y line.body line.next how there)) done
 
 moves_shows : (y new : ResponderRecord) (number : ℕ) (body : Body) (fact : Fact) → Moves y number body new → Shows new fact
     → Shows y fact ⊎ Tells number body fact

@@ -1,4 +1,4 @@
--- What each row of a responder's two tables changes.
+-- What each line of a responder's two tables changes.
 use Rattle.std.proofs.Common.{rules, ◌≡◌, ◌⊎◌, inl, inr, ℕ, ◌+◌, Bool, true, false, not, ◌&&◌, ◌||◌, List, [], ◌∷◌, Option, Some, None, Result, Ok, Err, if◌then◌else◌, refl, ap, sym, subst}
 use Rattle.std.specs.Option.{unwrap_or}
 use Rattle.std.proofs.lemmas.Bool.{cond_both}
@@ -19,14 +19,13 @@ use Rattle.ill_core.specs.Numbers.{is_the, is_at_most}
 use Rattle.ill_core.specs.Bodies.{is_requesters, names_conditions, declines, is_shipped}
 use Rattle.ill_core.specs.Issued.{first_refusal, next_number, was}
 use Rattle.ill_core.specs.Responder.{ResponderRecord, responder_of, later, outstanding_number}
-use Rattle.ill_core.specs.declared.responder.actions.Row.{Row}
 use Rattle.ill_core.specs.Answers.{unless_refused}
-use Rattle.ill_core.specs.ResponderActions.{row_of, acts, acts_by, issues_to, record_after}
+use Rattle.ill_core.specs.ResponderActions.{Line, line_of, acts, acts_by, issues_to, record_after}
 use Rattle.ill_core.specs.ResponderDeliveries.{takes, take_message, answers_no}
 use Rattle.ill_core.specs.ResponderFacts.{Tells, Requested, Accepted, CancelAsked, Arrived, SentBack, Question, KeepsLast, TakesNew, answered_number, last_asked, waits, is_unsupplied, is_cancelled, is_end, ended, ends_in}
-use Rattle.ill_core.proofs.ResponderTable.{IsRow, is_row, answers, allows_cancel, refuses_cancel, ships, renews, refuses_renewal, refuses_late, reminds, reminds_renewing, recalls, checks_in, expires}
+use Rattle.ill_core.proofs.ResponderLines.{IsLine, is_line, answers, allows_cancel, refuses_cancel, ships, renews, refuses_renewal, refuses_late, reminds, reminds_renewing, recalls, checks_in, expires}
 
--- a row that issues this, and leads to this state
+-- a line that issues this, and leads to this state
 pub record Issues (y : ResponderRecord) (body : Body) (state : State) : Type 0 where
   pub begun : is_among (Idle ∷ []) y.state ≡ false
   pub final : is_among (NotSupplied ∷ Cancelled ∷ CheckedIn ∷ []) y.state ≡ false
@@ -41,7 +40,7 @@ pub record Issues (y : ResponderRecord) (body : Body) (state : State) : Type 0 w
   pub replies : (question : Question) (n : ℕ) → answered_number question body ≡ Some n
       → (waits question y.state ≡ true) × (waits question state ≡ false) × (n ≡ unwrap_or (last_asked question y) 0)
 
--- a row that issues nothing
+-- a line that issues nothing
 pub record Moves (y : ResponderRecord) (number : ℕ) (body : Body) (new : ResponderRecord) : Type 0 where
   pub txn : new.txn ≡ y.txn
   pub issued : new.issued ≡ y.issued
@@ -58,9 +57,9 @@ pub record Moves (y : ResponderRecord) (number : ℕ) (body : Body) (new : Respo
   pub arrived : new.received ≡ true → (y.received ≡ true) ⊎ Tells number body Arrived
   pub sent_back : is_among (Returned ∷ CheckedIn ∷ []) new.state ≡ true → (is_among (Returned ∷ CheckedIn ∷ []) y.state ≡ true) ⊎ Tells number body SentBack
 
-issues : (txn : Qualifiers) (state : State) (accepted last_cancel last_renew : Option ℕ) (received : Bool) (request : Option Apdu) (issued : List Apdu) (row : Row)
-    → IsRow (responder_of txn state accepted last_cancel last_renew received request issued) row
-    → Issues (responder_of txn state accepted last_cancel last_renew received request issued) row.body row.next
+issues : (txn : Qualifiers) (state : State) (accepted last_cancel last_renew : Option ℕ) (received : Bool) (request : Option Apdu) (issued : List Apdu) (line : Line)
+    → IsLine (responder_of txn state accepted last_cancel last_renew received request issued) line
+    → Issues (responder_of txn state accepted last_cancel last_renew received request issued) line.body line.next
 issues txn InProcess accepted last_cancel last_renew received request issued _ (answers results.Conditional is) = search rules
 issues txn InProcess accepted last_cancel last_renew received request issued _ (answers answer is) = search rules
 issues txn state accepted last_cancel last_renew received request issued _ (answers answer is) = search rules
@@ -211,16 +210,16 @@ takes_quiet y a = row_quiet y a.number a.body (takes y a) (delivery_row y a)
 ok_is : (x y : ResponderRecord) → ◌≡◌ {A = Result ResponderRecord Refusal} (Ok x) (Ok y) → x ≡ y
 ok_is x y h = search rules
 
-by_row : (P : ResponderRecord → Type 0) (y new : ResponderRecord) (found : Result Row Refusal) (number : Result ℕ Refusal)
-    → ((row : Row) → found ≡ Ok row → P (record_after y row)) → acts_by y found number ≡ Ok new → P new
-by_row P y new (Err refusal) number leads done = search rules
-by_row P y new (Ok row) (Err refusal) leads done = search rules
-by_row P y new (Ok row) (Ok n) leads done = subst P (ok_is (record_after y row) new done) (leads row refl)
+by_line : (P : ResponderRecord → Type 0) (y new : ResponderRecord) (found : Result Line Refusal) (number : Result ℕ Refusal)
+    → ((line : Line) → found ≡ Ok line → P (record_after y line)) → acts_by y found number ≡ Ok new → P new
+by_line P y new (Err refusal) number leads done = search rules
+by_line P y new (Ok line) (Err refusal) leads done = search rules
+by_line P y new (Ok line) (Ok n) leads done = subst P (ok_is (record_after y line) new done) (leads line refl)
 
--- What holds after every row holds after a deed.
+-- What holds after every line holds after a deed.
 pub of_acts : (P : ResponderRecord → Type 0) (y new : ResponderRecord) (deed : Deed) (today : Date)
-    → ((row : Row) → IsRow y row → Issues y row.body row.next → P (record_after y row)) → acts y deed today ≡ Ok new → P new
+    → ((line : Line) → IsLine y line → Issues y line.body line.next → P (record_after y line)) → acts y deed today ≡ Ok new → P new
 of_acts P y new deed today leads done =
-    by_row P y new (row_of y deed today) (next_number y.issued) (λ row there.
-    let is = is_row y deed today row there in
-    leads row is (issues y.txn y.state y.accepted y.last_cancel y.last_renew y.received y.request y.issued row is)) done
+    by_line P y new (line_of y deed today) (next_number y.issued) (λ line there.
+    let is = is_line y deed today line there in
+    leads line is (issues y.txn y.state y.accepted y.last_cancel y.last_renew y.received y.request y.issued line is)) done

@@ -1,7 +1,7 @@
 -- What a requester does: its table of actions (this profile's own; the services are those of ISO
--- 10160). A row says from which states, to which state, what is issued, and what is held then; a
--- wish that no row has is not done now.
-use Rattle.std.specs.Prelude.{◌≡◌, ℕ, Bool, true, not, ◌&&◌, [], ◌∷◌, List, Option, None, Result, Ok, Err, IsOk, if◌then◌else◌}
+-- 10160). A line says from which states, to which state, what is issued, and what is held then; a
+-- wish that no line has is not done now.
+use Rattle.std.specs.Prelude.{◌≡◌, ℕ, Bool, not, ◌&&◌, [], ◌∷◌, List, Option, None, Result, Ok, Err, IsOk, if◌then◌else◌}
 use Rattle.std.specs.Option.{unwrap_or}
 use Rattle.ill_values.specs.Day.{Date}
 use Rattle.ill_values.specs.declared.apdu.Body.{Body}
@@ -12,30 +12,35 @@ use Rattle.ill_core.specs.declared.refusal.Refusal.{Refusal}
 use Rattle.ill_core.specs.declared.refusal.Refusal.TheVariants as refusals
 use Rattle.ill_core.specs.declared.requester.Wish.{Wish}
 use Rattle.ill_core.specs.declared.requester.Wish.TheVariants as wishes
-use Rattle.ill_core.specs.declared.requester.actions.Row.{Row}
 use Rattle.ill_core.specs.State.{is_among}
 use Rattle.ill_core.specs.Issued.{next_number, with_next}
 use Rattle.ill_core.specs.Requester.{RequesterRecord, is_declined, is_received_by}
 
+-- where a wish leads: the next state, what is issued, and the conditions that are held then
+pub record Line : Type 0 where
+  pub next : State
+  pub body : Body
+  pub held : Option ℕ
+
 -- to this state, and this is issued; the conditions stay as they are
-abbrev pub leads_to : State → Body → RequesterRecord → Result Row Refusal
+abbrev pub leads_to : State → Body → RequesterRecord → Result Line Refusal
 leads_to next body x = Ok (record { next = next; body = body; held = x.held })
 
-abbrev pub not_now : RequesterRecord → Result Row Refusal
+abbrev pub not_now : RequesterRecord → Result Line Refusal
 not_now x = Err (refusals.NotNow x.state)
 
-abbrev pub request_row : RequesterRecord → Option Date → List ℕ → Result Row Refusal
-request_row x expiry item =
+abbrev pub request_line : RequesterRecord → Option Date → List ℕ → Result Line Refusal
+request_line x expiry item =
     if is_among (Idle ∷ []) x.state then leads_to Pending (types.IllRequest expiry item) x
     else not_now x
 
-abbrev pub cancel_row : RequesterRecord → Result Row Refusal
-cancel_row x =
+abbrev pub cancel_line : RequesterRecord → Result Line Refusal
+cancel_line x =
     if is_among (Pending ∷ []) x.state then leads_to CancelPending types.Cancel x
     else not_now x
 
 -- the answer to the conditions held; none are held once they are accepted
-abbrev pub answer_held : RequesterRecord → Bool → Row
+abbrev pub answer_held : RequesterRecord → Bool → Line
 answer_held x is_yes =
     record {
       next = if is_yes then Pending else Conditional;
@@ -43,70 +48,64 @@ answer_held x is_yes =
       held = if is_yes then None else x.held;
     }
 
-abbrev pub reply_row : RequesterRecord → Bool → Result Row Refusal
-reply_row x is_yes =
+abbrev pub reply_line : RequesterRecord → Bool → Result Line Refusal
+reply_line x is_yes =
     if is_among (Conditional ∷ []) x.state && not (is_declined x) then Ok (answer_held x is_yes)
     else not_now x
 
-abbrev pub receive_row : RequesterRecord → Result Row Refusal
-receive_row x =
+abbrev pub receive_line : RequesterRecord → Result Line Refusal
+receive_line x =
     if is_among (Shipped ∷ []) x.state then leads_to Received types.Received x
     else if is_among (NotReceivedOverdue ∷ []) x.state then leads_to Overdue types.Received x
     else if is_among (Recall ∷ []) x.state && not (is_received_by x)
     then leads_to Recall types.Received x
     else not_now x
 
-abbrev pub renew_row : RequesterRecord → Option Date → Result Row Refusal
-renew_row x wished =
+abbrev pub renew_line : RequesterRecord → Option Date → Result Line Refusal
+renew_line x wished =
     if is_among (Received ∷ []) x.state then leads_to RenewPending (types.Renew wished) x
     else if is_among (Overdue ∷ []) x.state then leads_to RenewOverdue (types.Renew wished) x
     else not_now x
 
-abbrev pub return_row : RequesterRecord → Result Row Refusal
-return_row x =
+abbrev pub return_line : RequesterRecord → Result Line Refusal
+return_line x =
     if is_among (Received ∷ RenewPending ∷ Overdue ∷ RenewOverdue ∷ []) x.state
     then leads_to Returned types.Returned x
     else if is_among (Recall ∷ []) x.state && is_received_by x
     then leads_to Returned types.Returned x
     else not_now x
 
--- the row of a wish, or that it has no place now
-abbrev pub row_of : RequesterRecord → Wish → Result Row Refusal
-row_of x (wishes.Request expiry item) = request_row x expiry item
-row_of x wishes.Cancel = cancel_row x
-row_of x (wishes.Reply is_yes) = reply_row x is_yes
-row_of x wishes.Receive = receive_row x
-row_of x (wishes.Renew wished) = renew_row x wished
-row_of x wishes.Return = return_row x
+-- the line of a wish, or that it has no place now
+abbrev pub line_of : RequesterRecord → Wish → Result Line Refusal
+line_of x (wishes.Request expiry item) = request_line x expiry item
+line_of x wishes.Cancel = cancel_line x
+line_of x (wishes.Reply is_yes) = reply_line x is_yes
+line_of x wishes.Receive = receive_line x
+line_of x (wishes.Renew wished) = renew_line x wished
+line_of x wishes.Return = return_line x
 
--- The row is found, or memory is wanted for the ILL-Request that it issues.
-abbrev pub FindsRow : RequesterRecord → Wish → Result Row Refusal → Type 0
-FindsRow x wish (Err refusals.OutOfMemory) =
-    IsOk (row_of x wish) × (is_among (Idle ∷ []) x.state ≡ true)
-FindsRow x wish found = found ≡ row_of x wish
-
--- the record after a row
-abbrev pub record_after : RequesterRecord → Row → RequesterRecord
-record_after x row =
+-- the record after a line
+abbrev pub record_after : RequesterRecord → Line → RequesterRecord
+record_after x line =
     record {
       txn = x.txn;
-      state = row.next;
-      held = row.held;
+      state = line.next;
+      held = line.held;
       checked_in = x.checked_in;
       due = x.due;
-      issued = with_next x.txn x.issued row.body;
+      issued = with_next x.txn x.issued line.body;
     }
 
-abbrev pub acts_by : RequesterRecord → Result Row Refusal → Result ℕ Refusal →
+abbrev pub acts_by : RequesterRecord → Result Line Refusal → Result ℕ Refusal →
     Result RequesterRecord Refusal
 acts_by x (Err refusal) number = Err refusal
-acts_by x (Ok row) (Err refusal) = Err refusal
-acts_by x (Ok row) (Ok number) = Ok (record_after x row)
+acts_by x (Ok line) (Err refusal) = Err refusal
+acts_by x (Ok line) (Ok number) = Ok (record_after x line)
 
 -- The record after a wish, or why it is refused: first that it has no place now, then that all
 -- numbers are used.
 abbrev pub acts : RequesterRecord → Wish → Result RequesterRecord Refusal
-acts x wish = acts_by x (row_of x wish) (next_number x.issued)
+acts x wish = acts_by x (line_of x wish) (next_number x.issued)
 
 -- What a requester answers to a wish, and the record after it. Memory is wanted only where the wish
 -- would be done.

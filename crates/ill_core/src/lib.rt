@@ -7,12 +7,14 @@
 mod body;
 mod date;
 mod issued;
+mod kind;
 pub mod laws;
 mod number;
 mod refusal;
 mod requester;
 mod responder;
 mod state;
+mod table;
 mod taking;
 
 pub use refusal::Refusal;

@@ -3,6 +3,7 @@
 mod actions;
 mod deliveries;
 mod rules;
+mod standing;
 
 ghost use Rattle.std.specs.Prelude.{◌≡◌, ◌≤◌, ◌↔◌, [], None, Err, false, length, IsSome, IfSome, option_map};
 ghost use Rattle.ill_core.specs.declared.state.State.TheVariants as State;
@@ -18,18 +19,15 @@ use crate::issued::{Issued, Sought, are_numbered, has_declined, has_received};
 use crate::refusal::Refusal;
 use crate::state::State;
 use crate::taking::Taking;
-use actions::Row;
 use ill_values::{Apdu, Day, Item, Number, TxnId};
+use standing::Standing;
 use std::alloc::Global;
 use std::marker::Model;
 
 /// The record of the side that asks for an item.
 #[derive(Debug, Drop)]
 pub struct Requester {
-    state: State,
-    held: Option<Number>,
-    checked_in: bool,
-    due: Option<Day>,
+    standing: Standing,
     issued: Issued,
 }
 
@@ -64,10 +62,12 @@ pub enum Wish {
 impl Model for Requester {
     ghost Value = { RequesterRecord };
 
-    ghost view = { λ r. requester_of r.issued.txn r.state r.held r.checked_in r.due r.issued.apdus };
+    ghost view = { λ r. requester_of r.issued.txn r.standing.state r.standing.held
+        r.standing.checked_in r.standing.due r.issued.apdus };
 
     ghost invariant = { λ r. IsRequester
-        (requester_of r.issued.txn r.state r.held r.checked_in r.due r.issued.apdus) };
+        (requester_of r.issued.txn r.standing.state r.standing.held
+        r.standing.checked_in r.standing.due r.issued.apdus) };
 }
 
 impl Requester {
@@ -76,10 +76,12 @@ impl Requester {
         ensures { result ≡ requester_of txn State.Idle None false None [] }
     {
         Requester {
-            state: State::Idle,
-            held: None,
-            checked_in: false,
-            due: None,
+            standing: Standing {
+                state: State::Idle,
+                held: None,
+                checked_in: false,
+                due: None,
+            },
             issued: Issued::none(alloc, txn),
         }
     }
@@ -108,10 +110,12 @@ impl Requester {
             return None;
         }
         Some(Requester {
-            state,
-            held,
-            checked_in,
-            due,
+            standing: Standing {
+                state,
+                held,
+                checked_in,
+                due,
+            },
             issued: Issued::of_numbered(txn, issued),
         })
     }
@@ -123,11 +127,14 @@ impl Requester {
     pub fn act(&mut self, alloc: Global, wish: &Wish) -> Result<(), Refusal>
         ensures { Acts self.old wish.now result self.new }
     {
-        let Row { next, body, held } = actions::row_of(self, alloc, wish)?;
+        let Some(row) = actions::row_of(self, wish) else {
+            return Err(Refusal::NotNow(self.standing.state));
+        };
         let number = self.issued.next_number()?;
+        let body = actions::body_of(self, alloc, wish)?;
+        let standing = self.standing.after(row, number, None);
         self.issued.issue(alloc, number, body)?;
-        self.state = next;
-        self.held = held;
+        self.standing = standing;
         Ok(())
     }
 
@@ -153,14 +160,14 @@ impl Requester {
         ensures value { result ≡ self.now.state }
         ensures requester { IsRequester self.now }
     {
-        self.state
+        self.standing.state
     }
 
     /// The day on which the item is due, once it was shipped.
     pub fn due(&self) -> Option<Day>
         ensures { result ≡ self.now.due }
     {
-        self.due
+        self.standing.due
     }
 
     /// How many messages the requester has issued: 0 to 255.
@@ -203,21 +210,21 @@ impl Requester {
     pub fn held(&self) -> Option<Number>
         ensures { result ≡ self.now.held }
     {
-        self.held
+        self.standing.held
     }
 
     /// Whether the conditions that stand were declined.
     pub fn is_declined(&self) -> bool
         ensures { result ≡ is_declined self.now }
     {
-        self.state == State::Conditional && has_declined(self.issued.apdus())
+        self.standing.state == State::Conditional && has_declined(self.issued.apdus())
     }
 
     /// Whether the responder has said that the item is back.
     pub fn is_checked_in(&self) -> bool
         ensures { result ≡ self.now.checked_in }
     {
-        self.checked_in
+        self.standing.checked_in
     }
 }
 

@@ -3,6 +3,7 @@
 mod actions;
 mod deliveries;
 mod rules;
+mod standing;
 
 ghost use Rattle.std.specs.Prelude.{◌≡◌, ◌≤◌, ◌↔◌, [], None, false, length, IsSome, IfSome, option_map};
 ghost use Rattle.ill_core.specs.declared.state.State.TheVariants as State;
@@ -17,19 +18,15 @@ use crate::issued::{Issued, Sought, are_numbered};
 use crate::refusal::Refusal;
 use crate::state::State;
 use crate::taking::Taking;
-use actions::Row;
 use ill_values::{AnswerResult, Apdu, Body, Day, Number, TxnId};
+use standing::Standing;
 use std::alloc::Global;
 use std::marker::Model;
 
 /// The record of the side that is asked for an item.
 #[derive(Debug, Drop)]
 pub struct Responder {
-    state: State,
-    accepted: Option<Number>,
-    last_cancel: Option<Number>,
-    last_renew: Option<Number>,
-    received: bool,
+    standing: Standing,
     request: Option<Apdu>,
     issued: Issued,
 }
@@ -67,12 +64,13 @@ pub enum Deed {
 impl Model for Responder {
     ghost Value = { ResponderRecord };
 
-    ghost view = { λ r. responder_of r.issued.txn r.state r.accepted r.last_cancel r.last_renew
-        r.received r.request r.issued.apdus };
+    ghost view = { λ r. responder_of r.issued.txn r.standing.state r.standing.accepted
+        r.standing.last_cancel r.standing.last_renew r.standing.received r.request
+        r.issued.apdus };
 
     ghost invariant = { λ r. IsResponder
-        (responder_of r.issued.txn r.state r.accepted r.last_cancel r.last_renew r.received
-        r.request r.issued.apdus) };
+        (responder_of r.issued.txn r.standing.state r.standing.accepted r.standing.last_cancel
+        r.standing.last_renew r.standing.received r.request r.issued.apdus) };
 }
 
 impl Responder {
@@ -82,11 +80,13 @@ impl Responder {
         ensures { result ≡ responder_of txn State.Idle None None None false None [] }
     {
         Responder {
-            state: State::Idle,
-            accepted: None,
-            last_cancel: None,
-            last_renew: None,
-            received: false,
+            standing: Standing {
+                state: State::Idle,
+                accepted: None,
+                last_cancel: None,
+                last_renew: None,
+                received: false,
+            },
             request: None,
             issued: Issued::none(alloc, txn),
         }
@@ -131,11 +131,13 @@ impl Responder {
             return None;
         }
         Some(Responder {
-            state,
-            accepted,
-            last_cancel,
-            last_renew,
-            received,
+            standing: Standing {
+                state,
+                accepted,
+                last_cancel,
+                last_renew,
+                received,
+            },
             request,
             issued: Issued::of_numbered(txn, issued),
         })
@@ -148,10 +150,15 @@ impl Responder {
     pub fn act(&mut self, alloc: Global, deed: &Deed, today: Day) -> Result<(), Refusal>
         ensures { Acts self.old deed.now today result self.new }
     {
-        let Row { next, body } = actions::row_of(self, deed, today)?;
+        let state = self.standing.state;
+        let Some(row) = actions::row_of(state, deed) else {
+            return Err(Refusal::NotNow(state));
+        };
+        actions::check_date(self, deed, today)?;
         let number = self.issued.next_number()?;
+        let body = actions::body_of(self, deed);
         self.issued.issue(alloc, number, body)?;
-        self.state = next;
+        self.standing = self.standing.after(row, number);
         Ok(())
     }
 
@@ -178,7 +185,7 @@ impl Responder {
         ensures value { result ≡ self.now.state }
         ensures responder { IsResponder self.now }
     {
-        self.state
+        self.standing.state
     }
 
     /// The day on which the item is due, once it was shipped: that of the last Shipped or
@@ -215,21 +222,21 @@ impl Responder {
     pub fn is_received(&self) -> bool
         ensures { result ≡ self.now.received }
     {
-        self.received
+        self.standing.received
     }
 
     /// The number of the ILL-Answer whose conditions the requester accepted last, if any.
     pub fn accepted(&self) -> Option<Number>
         ensures { result ≡ self.now.accepted }
     {
-        self.accepted
+        self.standing.accepted
     }
 
     /// The number of the ILL-Answer whose conditions wait for a reply (CONDITIONAL).
     pub fn outstanding(&self) -> Option<Number>
         ensures { result ≡ outstanding_number self.now }
     {
-        match self.state {
+        match self.standing.state {
             State::Conditional => Number::new(self.issued.count()),
             _ => None,
         }
@@ -239,14 +246,14 @@ impl Responder {
     pub fn last_cancel(&self) -> Option<Number>
         ensures { result ≡ self.now.last_cancel }
     {
-        self.last_cancel
+        self.standing.last_cancel
     }
 
     /// The number of the last Renew that was taken, if any.
     pub fn last_renew(&self) -> Option<Number>
         ensures { result ≡ self.now.last_renew }
     {
-        self.last_renew
+        self.standing.last_renew
     }
 
     /// The number of the message that ended the request, if one did: an ILL-Answer after which the

@@ -24,8 +24,6 @@ use Rattle.ill_core.specs.Bodies.{is_requesters, names_conditions}
 use Rattle.ill_core.specs.Issued.{message, was, next_number, is_same_txn}
 use Rattle.ill_core.specs.Requester.{RequesterRecord}
 use Rattle.ill_core.specs.RequesterActions as requester_actions
-use Rattle.ill_core.specs.declared.requester.actions.Row.{Row as RequesterRow}
-use Rattle.ill_core.specs.declared.responder.actions.Row.{Row as ResponderRow}
 use Rattle.ill_core.specs.RequesterDeliveries as requester_deliveries
 use Rattle.ill_core.specs.Responder.{ResponderRecord, outstanding_number}
 use Rattle.ill_core.specs.ResponderActions as responder_actions
@@ -50,27 +48,27 @@ abbrev is_seen : {V : Type 0} → Result V Refusal → Bool
 is_seen (Ok v) = true
 is_seen (Err refusal) = can_refuse refusal
 
-wish_row : (x : RequesterRecord) (wish : Wish) → is_seen (requester_actions.row_of x wish) ≡ true
-wish_row x (wishes.Request expiry item) = search rules
-wish_row x wish = search rules
+wish_line : (x : RequesterRecord) (wish : Wish) → is_seen (requester_actions.line_of x wish) ≡ true
+wish_line x (wishes.Request expiry item) = search rules
+wish_line x wish = search rules
 
-deed_row : (y : ResponderRecord) (deed : Deed) (today : Date) → is_seen (responder_actions.row_of y deed today) ≡ true
-deed_row y (deeds.RenewAnswer None) today = search rules
-deed_row y (deeds.RenewAnswer (Some d)) today = search rules
-deed_row y deed today = search rules
+deed_line : (y : ResponderRecord) (deed : Deed) (today : Date) → is_seen (responder_actions.line_of y deed today) ≡ true
+deed_line y (deeds.RenewAnswer None) today = search rules
+deed_line y (deeds.RenewAnswer (Some d)) today = search rules
+deed_line y deed today = search rules
 
 number_seen : (apdus : List Apdu) → is_seen (next_number apdus) ≡ true
 number_seen apdus = search rules
 
-wish_done : (x : RequesterRecord) (row : Result RequesterRow Refusal) (number : Result ℕ Refusal) → is_seen row ≡ true → is_seen number ≡ true → is_seen (requester_actions.acts_by x row number) ≡ true
+wish_done : (x : RequesterRecord) (line : Result requester_actions.Line Refusal) (number : Result ℕ Refusal) → is_seen line ≡ true → is_seen number ≡ true → is_seen (requester_actions.acts_by x line number) ≡ true
 wish_done x (Err refusal) number first second = first
-wish_done x (Ok row) (Err refusal) first second = second
-wish_done x (Ok row) (Ok number) first second = refl
+wish_done x (Ok line) (Err refusal) first second = second
+wish_done x (Ok line) (Ok number) first second = refl
 
-deed_done : (y : ResponderRecord) (row : Result ResponderRow Refusal) (number : Result ℕ Refusal) → is_seen row ≡ true → is_seen number ≡ true → is_seen (responder_actions.acts_by y row number) ≡ true
+deed_done : (y : ResponderRecord) (line : Result responder_actions.Line Refusal) (number : Result ℕ Refusal) → is_seen line ≡ true → is_seen number ≡ true → is_seen (responder_actions.acts_by y line number) ≡ true
 deed_done y (Err refusal) number first second = first
-deed_done y (Ok row) (Err refusal) first second = second
-deed_done y (Ok row) (Ok number) first second = refl
+deed_done y (Ok line) (Err refusal) first second = second
+deed_done y (Ok line) (Ok number) first second = refl
 
 -- ---- messages
 
@@ -111,11 +109,11 @@ done_seen make (Ok new) seen = refl
 done_seen make (Err refusal) seen = seen
 
 wish_seen : (txn : Qualifiers) (side : Side) (told : List (Option Apdu)) (wish : Wish) → RequesterSideStands txn side told → is_seen (acts side (actions.Wish wish)) ≡ true
-wish_seen txn (sides.Requester x) told wish stands = done_seen sides.Requester (requester_actions.acts x wish) (wish_done x _ _ (wish_row x wish) (number_seen x.issued))
+wish_seen txn (sides.Requester x) told wish stands = done_seen sides.Requester (requester_actions.acts x wish) (wish_done x _ _ (wish_line x wish) (number_seen x.issued))
 wish_seen txn (sides.Responder y) told wish stands = absurd stands
 
 deed_seen : (txn : Qualifiers) (side : Side) (told : List (Option Apdu)) (deed : Deed) (today : Date) → ResponderSideStands txn side told → is_seen (acts side (actions.Deed deed today)) ≡ true
-deed_seen txn (sides.Responder y) told deed today stands = done_seen sides.Responder (responder_actions.acts y deed today) (deed_done y _ _ (deed_row y deed today) (number_seen y.issued))
+deed_seen txn (sides.Responder y) told deed today stands = done_seen sides.Responder (responder_actions.acts y deed today) (deed_done y _ _ (deed_line y deed today) (number_seen y.issued))
 deed_seen txn (sides.Requester x) told deed today stands = absurd stands
 
 -- each message passes a test that all pass

@@ -1,129 +1,127 @@
-//! What a requester does: its table of actions.
+//! What a requester does: its table of wishes.
 
-ghost use Rattle.std.specs.Prelude.{◌≡◌};
-ghost use Rattle.ill_core.specs.declared.requester.Wish.TheVariants as wishes;
-ghost use Rattle.ill_core.specs.RequesterActions.{FindsRow, leads_to, cancel_row, reply_row, receive_row, renew_row, return_row};
+ghost use Rattle.std.specs.Prelude.{◌≡◌, IsOk, IsSome, IfOk, IfErr, option_copied};
+ghost use Rattle.std.specs.Option.{unwrap_or};
+ghost use Rattle.ill_core.specs.declared.refusal.Refusal.TheVariants as refusals;
+ghost use Rattle.ill_core.specs.Kinds.{wish_kind};
+ghost use Rattle.ill_core.specs.RequesterActions.{line_of};
+ghost use Rattle.ill_core.specs.RequesterTables.{wish_facts, wish_rows, wish_row, wish_body};
 
+use super::standing::FREES;
 use super::{Requester, Wish};
+use crate::kind::{RequesterKind as Kind, told};
 use crate::refusal::Refusal;
-use crate::state::State;
-use ill_values::{Body, Day, Item, Number};
+use crate::state::State::{
+    CancelPending, Overdue, Pending, Received, RenewOverdue, RenewPending, Returned,
+};
+use crate::table::Then::{Stay, To};
+use crate::table::{
+    CONDITIONAL, Facts, IDLE, NONE, NOT_RECEIVED_OVERDUE, OVERDUE, PENDING, RECALL, RECEIVED,
+    RENEW_OVERDUE, RENEW_PENDING, Row, SHIPPED, find,
+};
+use ill_values::{Body, Number};
 use std::alloc::Global;
 
-/// What a wish leads to.
-#[derive(Debug, Drop)]
-pub struct Row {
-    /// The state after the wish.
-    pub next: State,
-    /// The message that is issued.
-    pub body: Body,
-    /// The number of the conditions that are held after the wish.
-    pub held: Option<Number>,
+// Facts.
+const UNDECLINED: u16 = 1; // the conditions that stand were not declined
+
+const IS_HERE: u16 = 1 << 1; // a Received was issued
+
+const NOT_HERE: u16 = 1 << 2; // no Received was issued
+
+// States.
+const KEPT: u16 = RECEIVED | RENEW_PENDING | OVERDUE | RENEW_OVERDUE;
+
+const ROWS: [Row<Kind>; 11] = [
+    Row(Kind::Request, IDLE, NONE, To(Pending), NONE),
+    Row(Kind::Yes, CONDITIONAL, UNDECLINED, To(Pending), FREES),
+    Row(Kind::No, CONDITIONAL, UNDECLINED, Stay, NONE),
+    Row(Kind::Cancel, PENDING, NONE, To(CancelPending), NONE),
+    Row(Kind::Received, SHIPPED, NONE, To(Received), NONE),
+    Row(
+        Kind::Received,
+        NOT_RECEIVED_OVERDUE,
+        NONE,
+        To(Overdue),
+        NONE,
+    ),
+    Row(Kind::Received, RECALL, NOT_HERE, Stay, NONE),
+    Row(Kind::Renew, RECEIVED, NONE, To(RenewPending), NONE),
+    Row(Kind::Renew, OVERDUE, NONE, To(RenewOverdue), NONE),
+    Row(Kind::Returned, KEPT, NONE, To(Returned), NONE),
+    Row(Kind::Returned, RECALL, IS_HERE, To(Returned), NONE),
+];
+
+/// Where the rows of each kind begin, and where those of the last end.
+const BEGINNINGS: [usize; 8] = [0, 1, 2, 3, 4, 7, 9, 11];
+
+/// The first row that fits a wish.
+pub fn row_of(requester: &Requester, wish: &Wish) -> Option<&'static Row<Kind>>
+    ensures { option_copied result ≡ wish_row requester.now wish.now }
+{
+    find(rows_of(kind_of(wish)), requester.standing.state, requester)
 }
 
-/// Where the wish leads, or why it is not done.
-pub fn row_of(requester: &Requester, alloc: Global, wish: &Wish) -> Result<Row, Refusal>
-    ensures { FindsRow requester.now wish.now result }
+/// The rows of a kind.
+fn rows_of(kind: Kind) -> &'static [Row<Kind>]
+    ensures { result.now ≡ wish_rows kind }
+{
+    let place = kind.place();
+    &ROWS[BEGINNINGS[place]..BEGINNINGS[place + 1]]
+}
+
+/// The kind of the message that a wish issues.
+fn kind_of(wish: &Wish) -> Kind
+    ensures { result ≡ wish_kind wish.now }
 {
     match wish {
-        Wish::Request { expiry, item } => request_row(requester, alloc, *expiry, item),
-        Wish::Cancel => cancel_row(requester),
-        Wish::Reply { yes } => reply_row(requester, *yes),
-        Wish::Receive => receive_row(requester),
-        Wish::Renew { wished } => renew_row(requester, *wished),
-        Wish::Return => return_row(requester),
+        Wish::Request { .. } => Kind::Request,
+        Wish::Cancel => Kind::Cancel,
+        Wish::Reply { yes: true } => Kind::Yes,
+        Wish::Reply { yes: false } => Kind::No,
+        Wish::Receive => Kind::Received,
+        Wish::Renew { .. } => Kind::Renew,
+        Wish::Return => Kind::Returned,
     }
 }
 
-/// To this state, and this is issued; the conditions stay as they are.
-fn leads_to(next: State, body: Body, requester: &Requester) -> Result<Row, Refusal>
-    ensures { result ≡ leads_to next body requester.now }
-{
-    let held = requester.held;
-    Ok(Row { next, body, held })
+/// The facts that the rows of wishes ask for.
+impl Facts for Requester {
+    ghost facts = { wish_facts };
+
+    fn hold(&self, asked: u16) -> bool {
+        if asked & UNDECLINED != 0 && self.is_declined() {
+            return false;
+        }
+        if asked & NOT_HERE != 0 && self.is_received() {
+            return false;
+        }
+        asked & IS_HERE == 0 || self.is_received()
+    }
 }
 
-fn request_row(
-    requester: &Requester,
-    alloc: Global,
-    expiry: Option<Day>,
-    item: &Item,
-) -> Result<Row, Refusal>
-    ensures { FindsRow requester.now (wishes.Request expiry item.now) result }
+/// What a wish that a line has issues.
+pub fn body_of(requester: &Requester, alloc: Global, wish: &Wish) -> Result<Body, Refusal>
+    requires done { IsOk (line_of requester.now wish.now) }
+    ensures value { IfOk result (λ body. body ≡ wish_body requester.now wish.now) }
+    ensures memory { IfErr result (λ refusal. refusal ≡ refusals.OutOfMemory) }
 {
-    match requester.state {
-        State::Idle => {
+    let body = match wish {
+        Wish::Request { expiry, item } => {
             let item = item.copy(alloc)?;
-            leads_to(State::Pending, Body::IllRequest { expiry, item }, requester)
+            Body::IllRequest {
+                expiry: *expiry,
+                item,
+            }
         }
-        state => Err(Refusal::NotNow(state)),
-    }
-}
-
-fn cancel_row(requester: &Requester) -> Result<Row, Refusal>
-    ensures { result ≡ cancel_row requester.now }
-{
-    match requester.state {
-        State::Pending => leads_to(State::CancelPending, Body::Cancel, requester),
-        state => Err(Refusal::NotNow(state)),
-    }
-}
-
-fn reply_row(requester: &Requester, yes: bool) -> Result<Row, Refusal>
-    ensures { result ≡ reply_row requester.now yes }
-{
-    let (State::Conditional, Some(answers), false) = (
-        requester.state,
-        requester.held,
-        requester.is_declined(),
-    ) else {
-        return Err(Refusal::NotNow(requester.state));
+        Wish::Cancel => Body::Cancel,
+        Wish::Reply { yes } => Body::ConditionalReply {
+            answers: told(requester.standing.held),
+            yes: *yes,
+        },
+        Wish::Receive => Body::Received,
+        Wish::Renew { wished } => Body::Renew { wished: *wished },
+        Wish::Return => Body::Returned,
     };
-    let body = Body::ConditionalReply { answers, yes };
-    if yes {
-        let next = State::Pending;
-        return Ok(Row {
-            next,
-            body,
-            held: None,
-        });
-    }
-    leads_to(State::Conditional, body, requester)
-}
-
-fn receive_row(requester: &Requester) -> Result<Row, Refusal>
-    ensures { result ≡ receive_row requester.now }
-{
-    match requester.state {
-        State::Shipped => leads_to(State::Received, Body::Received, requester),
-        State::NotReceivedOverdue => leads_to(State::Overdue, Body::Received, requester),
-        State::Recall if !requester.is_received() => {
-            leads_to(State::Recall, Body::Received, requester)
-        }
-        state => Err(Refusal::NotNow(state)),
-    }
-}
-
-fn renew_row(requester: &Requester, wished: Option<Day>) -> Result<Row, Refusal>
-    ensures { result ≡ renew_row requester.now wished }
-{
-    match requester.state {
-        State::Received => leads_to(State::RenewPending, Body::Renew { wished }, requester),
-        State::Overdue => leads_to(State::RenewOverdue, Body::Renew { wished }, requester),
-        state => Err(Refusal::NotNow(state)),
-    }
-}
-
-fn return_row(requester: &Requester) -> Result<Row, Refusal>
-    ensures { result ≡ return_row requester.now }
-{
-    match requester.state {
-        State::Received | State::RenewPending | State::Overdue | State::RenewOverdue => {
-            leads_to(State::Returned, Body::Returned, requester)
-        }
-        State::Recall if requester.is_received() => {
-            leads_to(State::Returned, Body::Returned, requester)
-        }
-        state => Err(Refusal::NotNow(state)),
-    }
+    Ok(body)
 }

@@ -1,207 +1,213 @@
-//! What the messages of a responder do.
+//! What the messages of a responder do: the requester's table of deliveries.
 
-ghost use Rattle.std.specs.Prelude.{◌≡◌, true, [], ◌∷◌, Ok};
-ghost use Rattle.ill_core.specs.declared.state.State.TheVariants as State;
+ghost use Rattle.std.specs.Prelude.{◌≡◌, ◌==◌, ◌&&◌, Ok, List, filter, option_copied};
 ghost use Rattle.ill_core.specs.Bodies.{is_cancel, is_renew};
 ghost use Rattle.ill_core.specs.Issued.{was};
-ghost use Rattle.ill_core.specs.RequesterDeliveries.{take_message, take_answer, take_conditions, take_promise, take_end, take_cancel_reply, take_shipped, take_overdue, take_renew_answer, take_renewal, take_recall, take_checked_in};
-ghost use Rattle.ill_core.specs.State.{is_among};
+ghost use Rattle.ill_core.specs.Dates.{is_due_on, is_after_due};
+ghost use Rattle.ill_core.specs.Tables.{are_met};
+ghost use Rattle.ill_core.specs.RequesterDeliveries.{take_message};
+ghost use Rattle.ill_core.specs.RequesterTables.{is_dated, number_facts, cancel_facts, renew_facts, due_facts, delivery_facts, delivery_rows, delivery_row};
 
-use super::{Requester, is_later};
-use crate::date::is_due_on;
+use super::Requester;
+use super::standing::{DUE, FREES, HOLDS, MARK};
+use crate::date::{is_after, is_due_on};
 use crate::issued::Sought;
+use crate::kind::{ResponderKind as Kind, date_in, number_in};
 use crate::number::is_at_most;
-use crate::state::State;
+use crate::state::State::{
+    Cancelled, Conditional, NotReceivedOverdue, NotSupplied, Overdue, Pending, Recall, Received,
+    RenewOverdue, Shipped,
+};
+use crate::table::Then::{Conflict, Repeat, Stale, Stay, To};
+use crate::table::{
+    ANY, CANCEL_PENDING, CANCELLED, CONDITIONAL, Facts, NONE, NOT_RECEIVED_OVERDUE, NOT_SUPPLIED,
+    OVERDUE, PENDING, RECALL, RECEIVED, RENEW_OVERDUE, RENEW_PENDING, RETURNED, Row, SHIPPED, find,
+};
 use crate::taking::Taking;
-use ill_values::{AnswerResult, Apdu, Body, Day, Number};
+use ill_values::{Apdu, Body, Day, Number};
+
+// Facts of a message with number k, that answers c and has the date d.
+const PASSED: u16 = 1; // k is at most the number of the conditions accepted last
+
+const HELD: u16 = 1 << 1; // k is held
+
+const LAST_CANCEL: u16 = 1 << 2; // c is the last Cancel
+
+const WAS_CANCEL: u16 = 1 << 3; // message c of the requester is a Cancel
+
+const NOT_DUE: u16 = 1 << 4; // d is not the due date
+
+const LATER: u16 = 1 << 5; // d is later than the due date
+
+const LAST_RENEW: u16 = 1 << 6; // c is the last Renew
+
+const WAS_RENEW: u16 = 1 << 7; // message c of the requester is a Renew
+
+const UNMARKED: u16 = 1 << 8; // no Checked-In was taken
+
+const RENEWS: u16 = LAST_RENEW | LATER;
+
+// States.
+const OPEN: u16 = PENDING | CONDITIONAL | CANCEL_PENDING;
+
+const WAITING: u16 = CANCEL_PENDING; // for the answer to a Cancel
+
+const RENEWING: u16 = RENEW_PENDING | RENEW_OVERDUE;
+
+const LENT: u16 = SHIPPED | RECEIVED | OVERDUE | NOT_RECEIVED_OVERDUE | RENEWING;
+
+const SHIPPED_OR_LATER: u16 = LENT | RECALL | RETURNED;
+
+const REMINDED: u16 = NOT_RECEIVED_OVERDUE | OVERDUE | RENEW_OVERDUE;
+
+const ROWS: [Row<Kind>; 30] = [
+    Row(Kind::Conditions, ANY, PASSED, Repeat, NONE),
+    Row(Kind::Conditions, CONDITIONAL, HELD, Repeat, NONE),
+    Row(Kind::Conditions, PENDING, NONE, To(Conditional), HOLDS),
+    Row(Kind::Promise, PENDING, NONE, Stay, NONE),
+    Row(Kind::NoSupply, NOT_SUPPLIED, NONE, Repeat, NONE),
+    Row(Kind::NoSupply, OPEN, NONE, To(NotSupplied), FREES),
+    Row(Kind::Expired, NOT_SUPPLIED, NONE, Repeat, NONE),
+    Row(Kind::Expired, OPEN, NONE, To(NotSupplied), FREES),
+    Row(Kind::CancelYes, WAITING, LAST_CANCEL, To(Cancelled), NONE),
+    Row(Kind::CancelYes, CANCELLED, LAST_CANCEL, Repeat, NONE),
+    Row(Kind::CancelYes, ANY, WAS_CANCEL, Stale, NONE),
+    Row(Kind::CancelNo, WAITING, LAST_CANCEL, To(Pending), NONE),
+    Row(Kind::CancelNo, ANY, WAS_CANCEL, Stale, NONE),
+    Row(Kind::Shipped, OPEN, NONE, To(Shipped), DUE | FREES),
+    Row(Kind::Shipped, SHIPPED_OR_LATER, NONE, Repeat, NONE),
+    Row(Kind::Overdue, SHIPPED_OR_LATER, NOT_DUE, Stale, NONE),
+    Row(Kind::Overdue, SHIPPED, NONE, To(NotReceivedOverdue), NONE),
+    Row(Kind::Overdue, RECEIVED, NONE, To(Overdue), NONE),
+    Row(Kind::Overdue, RENEW_PENDING, NONE, To(RenewOverdue), NONE),
+    Row(Kind::Overdue, REMINDED, NONE, Repeat, NONE),
+    Row(Kind::RenewYes, RENEWING, RENEWS, To(Received), DUE),
+    Row(Kind::RenewYes, RENEWING, LAST_RENEW, Conflict, NONE),
+    Row(Kind::RenewYes, ANY, WAS_RENEW, Stale, NONE),
+    Row(Kind::RenewNo, RENEW_PENDING, LAST_RENEW, To(Received), NONE),
+    Row(Kind::RenewNo, RENEW_OVERDUE, LAST_RENEW, To(Overdue), NONE),
+    Row(Kind::RenewNo, ANY, WAS_RENEW, Stale, NONE),
+    Row(Kind::Recall, LENT, NONE, To(Recall), NONE),
+    Row(Kind::Recall, RECALL, NONE, Repeat, NONE),
+    Row(Kind::CheckedIn, RETURNED, UNMARKED, Stay, MARK),
+    Row(Kind::CheckedIn, RETURNED, NONE, Repeat, NONE),
+];
+
+/// Where the rows of each kind begin, and where those of the last end.
+const BEGINNINGS: [usize; 13] = [0, 3, 4, 6, 8, 11, 13, 15, 20, 23, 26, 28, 30];
 
 /// What a message does.
 pub fn take_message(requester: &mut Requester, apdu: &Apdu) -> Taking
     ensures { (Ok result, requester.new) ≡ take_message requester.old apdu.now apdu.now.body }
 {
-    match &apdu.body {
-        Body::IllAnswer { result } => take_answer(requester, apdu.number, *result),
-        Body::Expired => take_end(requester),
-        Body::CancelReply { answers, yes } => take_cancel_reply(requester, *answers, *yes),
-        Body::Shipped { due } => take_shipped(requester, *due),
-        Body::Overdue { due } => take_overdue(requester, *due),
-        Body::RenewAnswer { answers, granted } => take_renew_answer(requester, *answers, *granted),
-        Body::Recall => take_recall(requester),
-        Body::CheckedIn => take_checked_in(requester),
-        _ => Taking::Conflict(requester.state),
+    let state = requester.standing.state;
+    match row_of(requester, apdu) {
+        Some(row) => {
+            let next = requester
+                .standing
+                .after(row, number_in(apdu), date_in(&apdu.body));
+            requester.standing = next;
+            row.3.taking(state)
+        }
+        None => Taking::Conflict(state),
     }
 }
 
-fn take_answer(requester: &mut Requester, number: Number, answer: AnswerResult) -> Taking
-    ensures { (Ok result, requester.new) ≡ take_answer requester.old number answer }
+/// The first row that fits a message.
+fn row_of(requester: &Requester, apdu: &Apdu) -> Option<&'static Row<Kind>>
+    ensures { option_copied result ≡ delivery_row requester.now apdu.now }
 {
-    match answer {
-        AnswerResult::Conditional => take_conditions(requester, number),
-        AnswerResult::WillSupply | AnswerResult::HoldPlaced => take_promise(requester),
-        _ => take_end(requester),
+    let arrival = Arrival {
+        requester,
+        number: number_in(apdu),
+        date: date_in(&apdu.body),
+    };
+    let rows = rows_of(Kind::of(&apdu.body)?);
+    find(rows, requester.standing.state, &arrival)
+}
+
+/// The rows of a kind.
+fn rows_of(kind: Kind) -> &'static [Row<Kind>]
+    ensures { result.now ≡ delivery_rows kind }
+{
+    let place = kind.place();
+    &ROWS[BEGINNINGS[place]..BEGINNINGS[place + 1]]
+}
+
+/// A message beside the record that it comes to.
+#[derive(Drop)]
+struct Arrival<'a> {
+    requester: &'a Requester,
+    number: Number,
+    date: Option<Day>,
+}
+
+impl Facts for Arrival<'_> {
+    ghost facts = { λ a. delivery_facts a.requester.now a.number a.date };
+
+    fn hold(&self, asked: u16) -> bool {
+        let requester = self.requester;
+        number_holds(requester, self.number, asked)
+            & cancel_holds(requester, self.number, asked)
+            & renew_holds(requester, self.number, asked)
+            & due_holds(requester, &self.date, asked)
     }
 }
 
-fn take_conditions(requester: &mut Requester, number: Number) -> Taking
-    ensures { (Ok result, requester.new) ≡ take_conditions requester.old number }
+fn number_holds(requester: &Requester, number: Number, asked: u16) -> bool
+    ensures { result ≡ are_met asked (number_facts requester.now number) }
 {
-    if is_at_most(number, requester.accepted()) {
-        return Taking::Repeat;
+    if asked & PASSED != 0 && !is_at_most(number, requester.accepted()) {
+        return false;
     }
-    match requester.state {
-        State::Conditional if requester.held == Some(number) => Taking::Repeat,
-        State::Pending => {
-            requester.state = State::Conditional;
-            requester.held = Some(number);
-            Taking::Taken
-        }
-        state => Taking::Conflict(state),
+    asked & HELD == 0 || requester.standing.held == Some(number)
+}
+
+fn cancel_holds(requester: &Requester, number: Number, asked: u16) -> bool
+    ensures { result ≡ are_met asked (cancel_facts requester.now number) }
+{
+    if asked & LAST_CANCEL != 0 && requester.issued.last(Sought::CancelNumber) != Some(number) {
+        return false;
+    }
+    asked & WAS_CANCEL == 0 || was_cancel(requester, number)
+}
+
+fn renew_holds(requester: &Requester, number: Number, asked: u16) -> bool
+    ensures { result ≡ are_met asked (renew_facts requester.now number) }
+{
+    if asked & LAST_RENEW != 0 && requester.issued.last(Sought::RenewNumber) != Some(number) {
+        return false;
+    }
+    asked & WAS_RENEW == 0 || was_renew(requester, number)
+}
+
+fn due_holds(requester: &Requester, date: &Option<Day>, asked: u16) -> bool
+    ensures { result ≡ are_met asked (due_facts requester.now date.now) }
+{
+    if asked & NOT_DUE != 0 && is_due(requester, date) {
+        return false;
+    }
+    if asked & LATER != 0 && !is_later(requester, date) {
+        return false;
+    }
+    asked & UNMARKED == 0 || !requester.standing.checked_in
+}
+
+fn is_due(requester: &Requester, date: &Option<Day>) -> bool
+    ensures { result ≡ is_dated (λ d. is_due_on d requester.now.due) date.now }
+{
+    match date {
+        Some(day) => is_due_on(*day, requester.standing.due),
+        None => false,
     }
 }
 
-fn take_promise(requester: &Requester) -> Taking
-    ensures { (Ok result, requester.now) ≡ take_promise requester.now }
+fn is_later(requester: &Requester, date: &Option<Day>) -> bool
+    ensures { result ≡ is_dated (λ d. is_after_due d requester.now.due) date.now }
 {
-    match requester.state {
-        State::Pending => Taking::Taken,
-        state => Taking::Conflict(state),
-    }
-}
-
-fn take_end(requester: &mut Requester) -> Taking
-    ensures { (Ok result, requester.new) ≡ take_end requester.old }
-{
-    match requester.state {
-        State::NotSupplied => Taking::Repeat,
-        State::Pending | State::Conditional | State::CancelPending => {
-            requester.state = State::NotSupplied;
-            requester.held = None;
-            Taking::Taken
-        }
-        state => Taking::Conflict(state),
-    }
-}
-
-fn take_cancel_reply(requester: &mut Requester, answers: Number, yes: bool) -> Taking
-    ensures { (Ok result, requester.new) ≡ take_cancel_reply requester.old answers yes }
-{
-    let is_last = requester.issued.last(Sought::CancelNumber) == Some(answers);
-    match requester.state {
-        State::CancelPending if is_last => {
-            requester.state = if yes {
-                State::Cancelled
-            } else {
-                State::Pending
-            };
-            Taking::Taken
-        }
-        State::Cancelled if yes && is_last => Taking::Repeat,
-        _ if was_cancel(requester, answers) => Taking::Stale,
-        state => Taking::Conflict(state),
-    }
-}
-
-fn take_shipped(requester: &mut Requester, due: Day) -> Taking
-    ensures { (Ok result, requester.new) ≡ take_shipped requester.old due }
-{
-    match requester.state {
-        State::Pending | State::Conditional | State::CancelPending => {
-            requester.state = State::Shipped;
-            requester.due = Some(due);
-            requester.held = None;
-            Taking::Taken
-        }
-        state if is_later(state) => Taking::Repeat,
-        state => Taking::Conflict(state),
-    }
-}
-
-fn take_overdue(requester: &mut Requester, due: Day) -> Taking
-    ensures { (Ok result, requester.new) ≡ take_overdue requester.old due }
-{
-    if is_later(requester.state) && !is_due_on(due, requester.due) {
-        return Taking::Stale;
-    }
-    match requester.state {
-        State::Shipped => {
-            requester.state = State::NotReceivedOverdue;
-            Taking::Taken
-        }
-        State::Received => {
-            requester.state = State::Overdue;
-            Taking::Taken
-        }
-        State::RenewPending => {
-            requester.state = State::RenewOverdue;
-            Taking::Taken
-        }
-        State::NotReceivedOverdue | State::Overdue | State::RenewOverdue => Taking::Repeat,
-        state => Taking::Conflict(state),
-    }
-}
-
-fn take_renew_answer(requester: &mut Requester, answers: Number, granted: Option<Day>) -> Taking
-    ensures { (Ok result, requester.new) ≡ take_renew_answer requester.old answers granted }
-{
-    let is_last = requester.issued.last(Sought::RenewNumber) == Some(answers);
-    match requester.state {
-        State::RenewPending | State::RenewOverdue if is_last => take_renewal(requester, granted),
-        _ if was_renew(requester, answers) => Taking::Stale,
-        state => Taking::Conflict(state),
-    }
-}
-
-/// What the answer to the open Renew does.
-fn take_renewal(requester: &mut Requester, granted: Option<Day>) -> Taking
-    requires open { is_among (State.RenewPending ∷ State.RenewOverdue ∷ [])
-        requester.old.state ≡ true }
-    ensures { (Ok result, requester.new) ≡ take_renewal requester.old granted }
-{
-    match granted {
-        Some(day) if requester.due < Some(day) => {
-            requester.state = State::Received;
-            requester.due = Some(day);
-            Taking::Taken
-        }
-        Some(_) => Taking::Conflict(requester.state),
-        None => {
-            requester.state = match requester.state {
-                State::RenewOverdue => State::Overdue,
-                _ => State::Received,
-            };
-            Taking::Taken
-        }
-    }
-}
-
-fn take_recall(requester: &mut Requester) -> Taking
-    ensures { (Ok result, requester.new) ≡ take_recall requester.old }
-{
-    match requester.state {
-        State::Shipped
-        | State::NotReceivedOverdue
-        | State::Received
-        | State::Overdue
-        | State::RenewPending
-        | State::RenewOverdue => {
-            requester.state = State::Recall;
-            Taking::Taken
-        }
-        State::Recall => Taking::Repeat,
-        state => Taking::Conflict(state),
-    }
-}
-
-fn take_checked_in(requester: &mut Requester) -> Taking
-    ensures { (Ok result, requester.new) ≡ take_checked_in requester.old }
-{
-    match requester.state {
-        State::Returned if requester.checked_in => Taking::Repeat,
-        State::Returned => {
-            requester.checked_in = true;
-            Taking::Taken
-        }
-        state => Taking::Conflict(state),
+    match date {
+        Some(day) => is_after(*day, requester.standing.due),
+        None => false,
     }
 }
 

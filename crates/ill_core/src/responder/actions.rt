@@ -1,174 +1,114 @@
 //! What a responder does: its table of actions.
 
-ghost use Rattle.std.specs.Prelude.{◌≡◌, ◌∷◌, [], true, IsSome};
-ghost use Rattle.std.specs.Option.{unwrap_or};
-ghost use Rattle.ill_core.specs.declared.state.State.TheVariants as states;
-ghost use Rattle.ill_core.specs.State.{is_among};
-ghost use Rattle.ill_core.specs.ResponderActions.{leads_to, row_of, answer_row, after_answer, cancel_reply_row, ship_row, renew_answer_row, renewal_row, overdue_row, overdue_row_to, recall_row, check_in_row, expire_row, expiry_of};
+ghost use Rattle.std.specs.Prelude.{◌≡◌, Bool, [], filter, option_copied};
+ghost use Rattle.ill_core.specs.Kinds.{deed_kind};
+ghost use Rattle.ill_core.specs.ResponderActions.{expiry_of};
+ghost use Rattle.ill_core.specs.ResponderTables.{deed_rows, deed_row, check, check_date, deed_body, HasTold};
 
 use super::{Deed, Responder};
 use crate::date::is_after;
+use crate::kind::{ResponderKind as Kind, told};
 use crate::refusal::Refusal;
-use crate::state::State;
-use ill_values::{AnswerResult, Body, Day, Number};
+use crate::state::State::{
+    self, Cancelled, CheckedIn, Conditional, InProcess, NotSupplied, Overdue, Recall, RenewOverdue,
+    Shipped,
+};
+use crate::table::Then::{Stay, To};
+use crate::table::{
+    CANCEL_PENDING, CONDITIONAL, Facts, IN_PROCESS, NONE, OVERDUE, RENEW_OVERDUE, RENEW_PENDING,
+    RETURNED, Row, SHIPPED, find,
+};
+use ill_values::{Body, Day};
 
-/// What a deed leads to.
-#[derive(Debug, Drop)]
-pub struct Row {
-    /// The state after the deed.
-    pub next: State,
-    /// The message that is issued.
-    pub body: Body,
+// States.
+const OPEN: u16 = IN_PROCESS | CONDITIONAL;
+
+const RENEWING: u16 = RENEW_PENDING | RENEW_OVERDUE;
+
+const ROWS: [Row<Kind>; 14] = [
+    Row(Kind::Conditions, IN_PROCESS, NONE, To(Conditional), NONE),
+    Row(Kind::Promise, IN_PROCESS, NONE, Stay, NONE),
+    Row(Kind::NoSupply, IN_PROCESS, NONE, To(NotSupplied), NONE),
+    Row(Kind::Expired, OPEN, NONE, To(NotSupplied), NONE),
+    Row(Kind::CancelYes, CANCEL_PENDING, NONE, To(Cancelled), NONE),
+    Row(Kind::CancelNo, CANCEL_PENDING, NONE, To(InProcess), NONE),
+    Row(Kind::Shipped, IN_PROCESS, NONE, To(Shipped), NONE),
+    Row(Kind::Overdue, SHIPPED, NONE, To(Overdue), NONE),
+    Row(Kind::Overdue, RENEW_PENDING, NONE, To(RenewOverdue), NONE),
+    Row(Kind::RenewYes, RENEWING, NONE, To(Shipped), NONE),
+    Row(Kind::RenewNo, RENEW_PENDING, NONE, To(Shipped), NONE),
+    Row(Kind::RenewNo, RENEW_OVERDUE, NONE, To(Overdue), NONE),
+    Row(Kind::Recall, SHIPPED | OVERDUE, NONE, To(Recall), NONE),
+    Row(Kind::CheckedIn, RETURNED, NONE, To(CheckedIn), NONE),
+];
+
+/// Where the rows of each kind begin, and where those of the last end.
+const BEGINNINGS: [usize; 13] = [0, 1, 2, 3, 4, 5, 6, 7, 9, 10, 12, 13, 14];
+
+/// The row of a deed, if it has a place in this state.
+pub fn row_of(state: State, deed: &Deed) -> Option<&'static Row<Kind>>
+    ensures { option_copied result ≡ deed_row state deed.now }
+{
+    find(rows_of(kind_of(deed)), state, &NoFacts)
 }
 
-/// Where the deed leads, or why it is not done: that it has no place now, or its date.
-pub fn row_of(responder: &Responder, deed: &Deed, today: Day) -> Result<Row, Refusal>
-    ensures { result ≡ row_of responder.now deed.now today }
+/// The rows of a kind.
+fn rows_of(kind: Kind) -> &'static [Row<Kind>]
+    ensures { result.now ≡ deed_rows kind }
+{
+    let place = kind.place();
+    &ROWS[BEGINNINGS[place]..BEGINNINGS[place + 1]]
+}
+
+/// The kind of the message that a deed issues.
+fn kind_of(deed: &Deed) -> Kind
+    ensures { result ≡ deed_kind deed.now }
 {
     match deed {
-        Deed::Answer(answer) => answer_row(responder, *answer),
-        Deed::CancelReply { yes } => cancel_reply_row(responder, *yes),
-        Deed::Ship { due } => ship_row(responder, *due, today),
-        Deed::RenewAnswer { granted } => renew_answer_row(responder, *granted),
-        Deed::Overdue => overdue_row(responder, today),
-        Deed::Recall => recall_row(responder),
-        Deed::CheckIn => check_in_row(responder),
-        Deed::Expire => expire_row(responder, today),
+        Deed::Answer(answer) => Kind::of_answer(*answer),
+        Deed::CancelReply { yes: true } => Kind::CancelYes,
+        Deed::CancelReply { yes: false } => Kind::CancelNo,
+        Deed::Ship { .. } => Kind::Shipped,
+        Deed::RenewAnswer { granted: Some(_) } => Kind::RenewYes,
+        Deed::RenewAnswer { granted: None } => Kind::RenewNo,
+        Deed::Overdue => Kind::Overdue,
+        Deed::Recall => Kind::Recall,
+        Deed::CheckIn => Kind::CheckedIn,
+        Deed::Expire => Kind::Expired,
     }
 }
 
-fn answer_row(responder: &Responder, answer: AnswerResult) -> Result<Row, Refusal>
-    ensures { result ≡ answer_row responder.now answer }
+/// No row of actions asks for a fact.
+#[derive(Clone, Copy, Debug, PartialEq, Eq, Hash)]
+struct NoFacts;
+
+impl Facts for NoFacts {
+    ghost facts = { λ _. [] };
+
+    fn hold(&self, _asked: u16) -> bool {
+        true
+    }
+}
+
+/// Refuses a deed that its date forbids.
+pub fn check_date(responder: &Responder, deed: &Deed, today: Day) -> Result<(), Refusal>
+    ensures { result ≡ check_date responder.now deed.now today }
 {
-    match responder.state {
-        State::InProcess => {
-            let body = Body::IllAnswer { result: answer };
-            leads_to(after_answer(answer), body)
+    match deed {
+        Deed::Ship { due } => check(!(*due < today), Refusal::DateEarlier),
+        Deed::RenewAnswer { granted: Some(day) } => {
+            check(is_after(*day, responder.due()), Refusal::DateNotLater)
         }
-        state => Err(Refusal::NotNow(state)),
+        Deed::Overdue => check(is_after(today, responder.due()), Refusal::NotDue),
+        Deed::Expire => check(is_after(today, expiry(responder)), Refusal::NotExpired),
+        _ => Ok(()),
     }
 }
 
-fn after_answer(answer: AnswerResult) -> State
-    ensures { result ≡ after_answer answer }
+fn check(is_allowed: bool, refusal: Refusal) -> Result<(), Refusal>
+    ensures { result ≡ check is_allowed refusal }
 {
-    match answer {
-        AnswerResult::Conditional => State::Conditional,
-        AnswerResult::WillSupply | AnswerResult::HoldPlaced => State::InProcess,
-        _ => State::NotSupplied,
-    }
-}
-
-fn cancel_reply_row(responder: &Responder, yes: bool) -> Result<Row, Refusal>
-    ensures { result ≡ cancel_reply_row responder.now yes }
-{
-    match responder.state {
-        State::CancelPending => {
-            let answers = question_number(responder.last_cancel);
-            let body = Body::CancelReply { answers, yes };
-            if yes {
-                leads_to(State::Cancelled, body)
-            } else {
-                leads_to(State::InProcess, body)
-            }
-        }
-        state => Err(Refusal::NotNow(state)),
-    }
-}
-
-fn ship_row(responder: &Responder, due: Day, today: Day) -> Result<Row, Refusal>
-    ensures { result ≡ ship_row responder.now due today }
-{
-    match responder.state {
-        State::InProcess if due < today => Err(Refusal::DateEarlier),
-        State::InProcess => leads_to(State::Shipped, Body::Shipped { due }),
-        state => Err(Refusal::NotNow(state)),
-    }
-}
-
-fn renew_answer_row(responder: &Responder, granted: Option<Day>) -> Result<Row, Refusal>
-    ensures { result ≡ renew_answer_row responder.now granted }
-{
-    match responder.state {
-        State::RenewPending => renewal_row(responder, State::Shipped, granted),
-        State::RenewOverdue => renewal_row(responder, State::Overdue, granted),
-        state => Err(Refusal::NotNow(state)),
-    }
-}
-
-/// What the answer to the last Renew leads to, where a no leads to the state `unrenewed`.
-fn renewal_row(
-    responder: &Responder,
-    unrenewed: State,
-    granted: Option<Day>,
-) -> Result<Row, Refusal>
-    requires waits { is_among (states.RenewPending ∷ states.RenewOverdue ∷ [])
-        responder.now.state ≡ true }
-    ensures { result ≡ renewal_row responder.now unrenewed granted }
-{
-    let answers = question_number(responder.last_renew);
-    match granted {
-        Some(day) if !is_after(day, responder.due()) => Err(Refusal::DateNotLater),
-        Some(_) => leads_to(State::Shipped, Body::RenewAnswer { answers, granted }),
-        None => leads_to(unrenewed, Body::RenewAnswer { answers, granted }),
-    }
-}
-
-fn overdue_row(responder: &Responder, today: Day) -> Result<Row, Refusal>
-    ensures { result ≡ overdue_row responder.now today }
-{
-    match responder.state {
-        State::Shipped => overdue_row_to(responder, today, State::Overdue),
-        State::RenewPending => overdue_row_to(responder, today, State::RenewOverdue),
-        state => Err(Refusal::NotNow(state)),
-    }
-}
-
-/// What an Overdue leads to, from the day after the due date on: the state `next`.
-fn overdue_row_to(responder: &Responder, today: Day, next: State) -> Result<Row, Refusal>
-    ensures { result ≡ overdue_row_to responder.now today next }
-{
-    match responder.due() {
-        Some(due) if due < today => leads_to(next, Body::Overdue { due }),
-        _ => Err(Refusal::NotDue),
-    }
-}
-
-fn recall_row(responder: &Responder) -> Result<Row, Refusal>
-    ensures { result ≡ recall_row responder.now }
-{
-    match responder.state {
-        State::Shipped | State::Overdue => leads_to(State::Recall, Body::Recall),
-        state => Err(Refusal::NotNow(state)),
-    }
-}
-
-fn check_in_row(responder: &Responder) -> Result<Row, Refusal>
-    ensures { result ≡ check_in_row responder.now }
-{
-    match responder.state {
-        State::Returned => leads_to(State::CheckedIn, Body::CheckedIn),
-        state => Err(Refusal::NotNow(state)),
-    }
-}
-
-fn expire_row(responder: &Responder, today: Day) -> Result<Row, Refusal>
-    ensures { result ≡ expire_row responder.now today }
-{
-    match responder.state {
-        State::InProcess | State::Conditional if is_after(today, expiry(responder)) => {
-            leads_to(State::NotSupplied, Body::Expired)
-        }
-        State::InProcess | State::Conditional => Err(Refusal::NotExpired),
-        state => Err(Refusal::NotNow(state)),
-    }
-}
-
-/// To this state, and this is issued.
-fn leads_to(next: State, body: Body) -> Result<Row, Refusal>
-    ensures { result ≡ leads_to next body }
-{
-    Ok(Row { next, body })
+    if is_allowed { Ok(()) } else { Err(refusal) }
 }
 
 /// The expiry date of the request.
@@ -184,13 +124,28 @@ fn expiry(responder: &Responder) -> Option<Day>
     }
 }
 
-/// The number of a question that waits, which is there.
-fn question_number(number: Option<Number>) -> Number
-    requires there { IsSome number }
-    ensures { result ≡ unwrap_or number 0 }
+/// The message that a deed issues.
+pub fn body_of(responder: &Responder, deed: &Deed) -> Body
+    requires told { HasTold responder.now deed.now }
+    ensures { result ≡ deed_body responder.now deed.now }
 {
-    match number {
-        Some(number) => number,
-        None => unreachable!(),
+    let standing = responder.standing;
+    match deed {
+        Deed::Answer(result) => Body::IllAnswer { result: *result },
+        Deed::CancelReply { yes } => Body::CancelReply {
+            answers: told(standing.last_cancel),
+            yes: *yes,
+        },
+        Deed::Ship { due } => Body::Shipped { due: *due },
+        Deed::RenewAnswer { granted } => Body::RenewAnswer {
+            answers: told(standing.last_renew),
+            granted: *granted,
+        },
+        Deed::Overdue => Body::Overdue {
+            due: told(responder.due()),
+        },
+        Deed::Recall => Body::Recall,
+        Deed::CheckIn => Body::CheckedIn,
+        Deed::Expire => Body::Expired,
     }
 }

@@ -1,20 +1,74 @@
-//! What the messages of a requester do.
+//! What the messages of a requester do: the responder's table of deliveries.
 
-ghost use Rattle.std.specs.Prelude.{◌≡◌, true, Ok, [], ◌∷◌};
-ghost use Rattle.ill_core.specs.declared.state.State.TheVariants as states;
-ghost use Rattle.ill_core.specs.State.{is_among};
-ghost use Rattle.ill_core.specs.Bodies.{is_ill_request, names_conditions};
+ghost use Rattle.std.specs.Prelude.{◌≡◌, true, OnOk, OnErr, IfErr, None, filter, option_copied};
+ghost use Rattle.ill_core.specs.Bodies.{names_conditions};
 ghost use Rattle.ill_core.specs.Issued.{is_same_txn, was};
-ghost use Rattle.ill_core.specs.ResponderDeliveries.{MayWantMemory, takes_memory, take_message, take_request, take_yes, take_no, take_cancel, take_received, take_renew, take_returned};
+ghost use Rattle.ill_core.specs.Tables.{are_met};
+ghost use Rattle.ill_core.specs.ResponderDeliveries.{MayWantMemory, takes_memory, take_message};
+ghost use Rattle.ill_core.specs.ResponderTables.{request_after, issued_after, number_refusal, IsRefused, reply_facts, past_facts, delivery_facts, delivery_rows, delivery_row};
 
-use super::{Responder, is_later};
+use super::Responder;
+use super::standing::{ACCEPTS, CANCELS, ENDS, KEEPS, RECEIVES, RENEWS};
 use crate::body::names_conditions;
+use crate::issued::Issued;
+use crate::kind::{RequesterKind as Kind, number_in};
 use crate::number::is_at_most;
 use crate::refusal::Refusal;
-use crate::state::State;
+use crate::state::State::{
+    CancelPending, InProcess, NotSupplied, RenewOverdue, RenewPending, Returned,
+};
+use crate::table::Then::{Repeat, Stale, Stay, To};
+use crate::table::{
+    ANY, CHECKED_IN, CONDITIONAL, Facts, IDLE, IN_PROCESS, NONE, NOT_SUPPLIED, OVERDUE, RECALL,
+    RENEW_OVERDUE, RENEW_PENDING, RETURNED, Row, SHIPPED, find,
+};
 use crate::taking::Taking;
 use ill_values::{AnswerResult, Apdu, Body, Number};
 use std::alloc::Global;
+
+// Facts of a message with number n, that answers c.
+const OUTSTANDING: u16 = 1; // c is outstanding
+
+const ACCEPTED: u16 = 1 << 1; // c is accepted
+
+const WAS_CONDITIONAL: u16 = 1 << 2; // message c of the responder names conditions
+
+const PAST_CANCEL: u16 = 1 << 3; // n is at most the last Cancel
+
+const PAST_RENEW: u16 = 1 << 4; // n is at most the last Renew
+
+const UNMARKED: u16 = 1 << 5; // no Received was taken
+
+// States.
+const OPEN: u16 = IN_PROCESS | CONDITIONAL;
+
+const LENT: u16 = SHIPPED | RENEW_PENDING | OVERDUE | RENEW_OVERDUE | RECALL;
+
+const BACK: u16 = RETURNED | CHECKED_IN;
+
+const SHIPPED_OR_LATER: u16 = LENT | BACK;
+
+const ROWS: [Row<Kind>; 16] = [
+    Row(Kind::Request, IDLE, NONE, To(InProcess), KEEPS),
+    Row(Kind::Request, ANY, NONE, Repeat, NONE),
+    Row(Kind::Yes, CONDITIONAL, OUTSTANDING, To(InProcess), ACCEPTS),
+    Row(Kind::Yes, ANY, ACCEPTED, Repeat, NONE),
+    Row(Kind::Yes, ANY, WAS_CONDITIONAL, Stale, NONE),
+    Row(Kind::No, OPEN, NONE, To(NotSupplied), ENDS),
+    Row(Kind::No, NOT_SUPPLIED, NONE, Repeat, NONE),
+    Row(Kind::Cancel, ANY, PAST_CANCEL, Repeat, NONE),
+    Row(Kind::Cancel, OPEN, NONE, To(CancelPending), CANCELS),
+    Row(Kind::Received, SHIPPED_OR_LATER, UNMARKED, Stay, RECEIVES),
+    Row(Kind::Received, SHIPPED_OR_LATER, NONE, Repeat, NONE),
+    Row(Kind::Renew, ANY, PAST_RENEW, Repeat, NONE),
+    Row(Kind::Renew, SHIPPED, NONE, To(RenewPending), RENEWS),
+    Row(Kind::Renew, OVERDUE, NONE, To(RenewOverdue), RENEWS),
+    Row(Kind::Returned, LENT, NONE, To(Returned), NONE),
+    Row(Kind::Returned, BACK, NONE, Repeat, NONE),
+];
+
+/// Where the rows of each kind begin, and where those of the last end.
+const BEGINNINGS: [usize; 8] = [0, 2, 5, 7, 9, 11, 14, 16];
 
 /// What a message does. Only an ILL-Request that is kept and a Conditional-Reply no take memory.
 pub fn take_message(
@@ -26,138 +80,114 @@ pub fn take_message(
     ensures { MayWantMemory (take_message responder.old apdu.now apdu.now.body)
         (takes_memory responder.old apdu.now.body) responder.old result responder.new }
 {
-    match &apdu.body {
-        Body::IllRequest { .. } => take_request(responder, alloc, apdu),
-        Body::ConditionalReply { answers, yes: true } => Ok(take_yes(responder, *answers)),
-        Body::ConditionalReply { yes: false, .. } => take_no(responder, alloc),
-        Body::Cancel => Ok(take_cancel(responder, apdu.number)),
-        Body::Received => Ok(take_received(responder)),
-        Body::Renew { .. } => Ok(take_renew(responder, apdu.number)),
-        Body::Returned => Ok(take_returned(responder)),
-        _ => Ok(Taking::Conflict(responder.state)),
-    }
-}
-
-#[tactic(auto, using(crate::proofs::ResponderKept::request_kept))]
-fn take_request(responder: &mut Responder, alloc: Global, apdu: &Apdu) -> Result<Taking, Refusal>
-    requires same { is_same_txn apdu.now.txn responder.old.txn ≡ true }
-    requires request { is_ill_request apdu.now.body ≡ true }
-    ensures { MayWantMemory (take_request responder.old apdu.now)
-        (is_among (states.Idle ∷ []) responder.old.state) responder.old result responder.new }
-{
-    if responder.state != State::Idle {
-        return Ok(Taking::Repeat);
-    }
-    let request = apdu.copy(alloc)?;
-    responder.request = Some(request);
-    responder.state = State::InProcess;
-    Ok(Taking::Taken)
-}
-
-#[tactic(auto, using(crate::proofs::ResponderKept::yes_kept))]
-fn take_yes(responder: &mut Responder, answers: Number) -> Taking
-    ensures { (Ok result, responder.new) ≡ take_yes responder.old answers }
-{
-    if responder.outstanding() == Some(answers) {
-        responder.state = State::InProcess;
-        responder.accepted = Some(answers);
-        return Taking::Taken;
-    }
-    if responder.accepted == Some(answers) {
-        return Taking::Repeat;
-    }
-    if was_conditional(responder, answers) {
-        return Taking::Stale;
-    }
-    Taking::Conflict(responder.state)
-}
-
-#[tactic(auto, using(crate::proofs::ResponderKept::no_kept))]
-fn take_no(responder: &mut Responder, alloc: Global) -> Result<Taking, Refusal>
-    ensures { MayWantMemory (take_no responder.old)
-        (is_among (states.InProcess ∷ states.Conditional ∷ []) responder.old.state) responder.old
-        result responder.new }
-{
-    match responder.state {
-        State::InProcess | State::Conditional => {
-            let number = responder.issued.next_number()?;
-            let result = AnswerResult::Unfilled;
-            responder
-                .issued
-                .issue(alloc, number, Body::IllAnswer { result })?;
-            responder.state = State::NotSupplied;
-            Ok(Taking::Taken)
+    let state = responder.standing.state;
+    match row_of(responder, apdu) {
+        Some(row) => {
+            let next = responder.standing.after(row, number_in(apdu));
+            grow(
+                &mut responder.request,
+                &mut responder.issued,
+                alloc,
+                row.4,
+                apdu,
+            )?;
+            responder.standing = next;
+            Ok(row.3.taking(state))
         }
-        State::NotSupplied => Ok(Taking::Repeat),
-        state => Ok(Taking::Conflict(state)),
+        None => Ok(Taking::Conflict(state)),
     }
 }
 
-fn take_cancel(responder: &mut Responder, number: Number) -> Taking
-    ensures { (Ok result, responder.new) ≡ take_cancel responder.old number }
+/// The first row that fits a message.
+fn row_of(responder: &Responder, apdu: &Apdu) -> Option<&'static Row<Kind>>
+    ensures { option_copied result ≡ delivery_row responder.now apdu.now }
 {
-    if is_at_most(number, responder.last_cancel) {
-        return Taking::Repeat;
+    let arrival = Arrival {
+        responder,
+        number: number_in(apdu),
+    };
+    find(
+        rows_of(Kind::of(&apdu.body)?),
+        responder.standing.state,
+        &arrival,
+    )
+}
+
+/// The rows of a kind.
+fn rows_of(kind: Kind) -> &'static [Row<Kind>]
+    ensures { result.now ≡ delivery_rows kind }
+{
+    let place = kind.place();
+    &ROWS[BEGINNINGS[place]..BEGINNINGS[place + 1]]
+}
+
+/// Issues the answer to a no, or keeps the request, where that is among the changes. Where it is
+/// refused, nothing changes.
+fn grow(
+    request: &mut Option<Apdu>,
+    issued: &mut Issued,
+    alloc: Global,
+    changes: u16,
+    apdu: &Apdu,
+) -> Result<(), Refusal>
+    ensures txn { issued.new.txn ≡ issued.old.txn }
+    ensures request { OnOk result (request.new ≡ request_after changes request.old apdu.now) }
+    ensures issued { OnOk result
+        (issued.new.apdus ≡ issued_after changes issued.old.txn issued.old.apdus) }
+    ensures numbered { OnOk result (number_refusal changes issued.old.apdus ≡ None) }
+    ensures request_unchanged { OnErr result (request.new ≡ request.old) }
+    ensures issued_unchanged { OnErr result (issued.new ≡ issued.old) }
+    ensures refused { IfErr result (λ refusal. IsRefused changes issued.old.apdus refusal) }
+{
+    if changes & ENDS != 0 {
+        let number = issued.next_number()?;
+        let result = AnswerResult::Unfilled;
+        return issued.issue(alloc, number, Body::IllAnswer { result });
     }
-    match responder.state {
-        State::InProcess | State::Conditional => {
-            responder.state = State::CancelPending;
-            responder.last_cancel = Some(number);
-            Taking::Taken
-        }
-        state => Taking::Conflict(state),
+    if changes & KEEPS != 0 {
+        *request = Some(apdu.copy(alloc)?);
+    }
+    Ok(())
+}
+
+/// A message beside the record that it comes to.
+#[derive(Drop)]
+struct Arrival<'a> {
+    responder: &'a Responder,
+    number: Number,
+}
+
+impl Facts for Arrival<'_> {
+    ghost facts = { λ a. delivery_facts a.responder.now a.number };
+
+    fn hold(&self, asked: u16) -> bool {
+        let responder = self.responder;
+        reply_holds(responder, self.number, asked) & past_holds(responder, self.number, asked)
     }
 }
 
-fn take_received(responder: &mut Responder) -> Taking
-    ensures { (Ok result, responder.new) ≡ take_received responder.old }
+fn reply_holds(responder: &Responder, number: Number, asked: u16) -> bool
+    ensures { result ≡ are_met asked (reply_facts responder.now number) }
 {
-    if !is_later(responder.state) {
-        return Taking::Conflict(responder.state);
+    if asked & OUTSTANDING != 0 && responder.outstanding() != Some(number) {
+        return false;
     }
-    if responder.received {
-        return Taking::Repeat;
+    if asked & ACCEPTED != 0 && responder.standing.accepted != Some(number) {
+        return false;
     }
-    responder.received = true;
-    Taking::Taken
+    asked & WAS_CONDITIONAL == 0 || was_conditional(responder, number)
 }
 
-fn take_renew(responder: &mut Responder, number: Number) -> Taking
-    ensures { (Ok result, responder.new) ≡ take_renew responder.old number }
+fn past_holds(responder: &Responder, number: Number, asked: u16) -> bool
+    ensures { result ≡ are_met asked (past_facts responder.now number) }
 {
-    if is_at_most(number, responder.last_renew) {
-        return Taking::Repeat;
+    if asked & PAST_CANCEL != 0 && !is_at_most(number, responder.standing.last_cancel) {
+        return false;
     }
-    match responder.state {
-        State::Shipped => {
-            responder.state = State::RenewPending;
-            responder.last_renew = Some(number);
-            Taking::Taken
-        }
-        State::Overdue => {
-            responder.state = State::RenewOverdue;
-            responder.last_renew = Some(number);
-            Taking::Taken
-        }
-        state => Taking::Conflict(state),
+    if asked & PAST_RENEW != 0 && !is_at_most(number, responder.standing.last_renew) {
+        return false;
     }
-}
-
-fn take_returned(responder: &mut Responder) -> Taking
-    ensures { (Ok result, responder.new) ≡ take_returned responder.old }
-{
-    match responder.state {
-        State::Shipped
-        | State::RenewPending
-        | State::Overdue
-        | State::RenewOverdue
-        | State::Recall => {
-            responder.state = State::Returned;
-            Taking::Taken
-        }
-        State::Returned | State::CheckedIn => Taking::Repeat,
-        state => Taking::Conflict(state),
-    }
+    asked & UNMARKED == 0 || !responder.standing.received
 }
 
 fn was_conditional(responder: &Responder, number: Number) -> bool

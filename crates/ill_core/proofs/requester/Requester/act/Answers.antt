@@ -1,17 +1,68 @@
-use Rattle.std.proofs.Common.{rules, ◌≡◌, Ok}
-use Rattle.ill_core.specs.Requester.{RequesterRecord, requester_of}
-use Rattle.ill_core.specs.RequesterActions.{row_of}
-use Rattle.ill_core.proofs.RequesterKept.{row_kept, fits, not_found}
+use Rattle.std.proofs.Common.{rules, ◌≡◌, Ok, Err, Some, sym, subst}
+use Rattle.ill_core.specs.declared.refusal.Refusal.TheVariants as refusals
+use Rattle.ill_core.specs.RequesterActions.{Acts}
+use Rattle.ill_core.specs.Issued.{next_number, with_next}
+use Rattle.ill_core.specs.Requester.{RequesterRecord, requester_of, IsRequester}
+use Rattle.ill_core.specs.RequesterTables.{wish_row, wish_body}
+use Rattle.ill_core.proofs.RequesterTable.{acts_this, line_there, wished_kept, wished_is, act_used, act_memory}
 use Rattle.ill_core.proofs.requester.Requester.act.Goals as goal
 
-pub returns-in_err-next : goal.returns-in_err-next
-returns-in_err-next c = search (rules, not_found)
+pub returns-in_err-number : goal.returns-in_err-number
+returns-in_err-number c =
+    let x = c.args.self.now in
+    let wish = c.args.wish.now in
+    let row = c.in-Some.row.now in
+    let fits : wish_row x wish ≡ Some row = search rules in
+    let refused : next_number x.issued ≡ Err c.in_err-number.field-0.0 = search rules in
+    let answer : c.from_residual.result ≡ Err c.in_err-number.field-0.0 = search rules in
+    subst (λ r. Acts x wish r x) (sym answer) (act_used x wish row _ fits refused)
+
+pub body_of-requires : goal.body_of-requires
+body_of-requires c = record { done = line_there c.args.self.now c.args.wish.now c.in-Some.row.now (search rules) }
+
+pub returns-in_err-body : goal.returns-in_err-body
+returns-in_err-body c =
+    let x = c.args.self.now in
+    let wish = c.args.wish.now in
+    let row = c.in-Some.row.now in
+    let fits : wish_row x wish ≡ Some row = search rules in
+    let next : next_number x.issued ≡ Ok c.in_ok-number.number = search rules in
+    let memory : c.in_err-body.field-0.0 ≡ refusals.OutOfMemory = search rules in
+    let answer : c.from_residual-in_err-body.result ≡ Err c.in_err-body.field-0.0 = search rules in
+    subst (λ r. Acts x wish r x) (sym answer) (act_memory x wish row _ _ fits next memory)
+
+pub returns-in_err-issue : goal.returns-in_err-issue
+returns-in_err-issue c =
+    let x = c.args.self.now in
+    let wish = c.args.wish.now in
+    let row = c.in-Some.row.now in
+    let fits : wish_row x wish ≡ Some row = search rules in
+    let next : next_number x.issued ≡ Ok c.in_ok-number.number = search rules in
+    let memory : c.in_err-issue.field-0.0 ≡ refusals.OutOfMemory = search rules in
+    let answer : c.from_residual-in_err-issue.result ≡ Err c.in_err-issue.field-0.0 = search rules in
+    let same : c.issue.new.self ≡ c.self.inside.issued = search rules in
+    search (rules, act_memory x wish row _ _ fits next memory)
 
 pub invariant_of-self-2 : goal.invariant_of-self-2
 invariant_of-self-2 c =
     let r = c.self.inside in
-    let x : RequesterRecord = requester_of r.issued.txn r.state r.held r.checked_in r.due r.issued.apdus in
-    let row = c.in_ok-next.field-0 in
-    let leads : row_of x c.args.wish.now ≡ Ok row = search rules in
-    row_kept x row c.issue.new.self.txn c.issue.new.self.apdus c.self.invariant
-    (fits x.txn x.state x.held x.checked_in x.due x.issued c.args.wish.now row c.self.invariant leads) c.in_ok-issue.ensures.txn (search rules)
+    let x : RequesterRecord = requester_of r.issued.txn r.standing.state r.standing.held r.standing.checked_in r.standing.due r.issued.apdus in
+    let row = c.in-Some.row.now in
+    let fits : wish_row x c.args.wish.now ≡ Some row = search rules in
+    let next : next_number x.issued ≡ Ok c.in_ok-number.number = search rules in
+    let issued : c.issue.new.self.apdus ≡ with_next x.txn x.issued (wish_body x c.args.wish.now) = search rules in
+    let e = c.after-standing.ensures in
+    let same = wished_is x c.args.wish.now row c.in_ok-number.number _ _ _ _ _ _ c.issue.ensures.txn e.state e.held e.checked_in e.due issued in
+    subst IsRequester (sym same) (wished_kept x c.args.wish.now row _ _ c.self.invariant fits next)
+
+pub returns : goal.returns
+returns c =
+    let r = c.self.inside in
+    let x : RequesterRecord = requester_of r.issued.txn r.standing.state r.standing.held r.standing.checked_in r.standing.due r.issued.apdus in
+    let row = c.in-Some.row.now in
+    let fits : wish_row x c.args.wish.now ≡ Some row = search rules in
+    let next : next_number x.issued ≡ Ok c.in_ok-number.number = search rules in
+    let issued : c.issue.new.self.apdus ≡ with_next x.txn x.issued (wish_body x c.args.wish.now) = search rules in
+    let e = c.after-standing.ensures in
+    let same = wished_is x c.args.wish.now row c.in_ok-number.number _ _ _ _ _ _ c.issue.ensures.txn e.state e.held e.checked_in e.due issued in
+    search (rules, acts_this x c.args.wish.now row c.in_ok-number.number _ fits next, same)

@@ -1,15 +1,65 @@
-use Rattle.std.proofs.Common.{rules, ◌≡◌, Ok}
-use Rattle.ill_core.specs.Responder.{ResponderRecord, responder_of}
-use Rattle.ill_core.specs.ResponderActions.{row_of}
-use Rattle.ill_core.proofs.ResponderKept.{row_kept, with_issue}
-use Rattle.ill_core.proofs.ResponderTable.{is_row}
+use Rattle.std.proofs.Common.{rules, ◌≡◌, Some, Ok, sym, subst}
+use Rattle.ill_core.specs.Issued.{next_number, with_next}
+use Rattle.ill_core.specs.Responder.{ResponderRecord, responder_of, IsResponder}
+use Rattle.ill_core.specs.ResponderActions.{acts}
+use Rattle.ill_core.specs.ResponderTables.{deed_row, check_date, deed_body, after_deed}
+use Rattle.ill_core.proofs.ResponderTable.{acts_this, acts_forbidden, acts_numberless, acts_wanting, deed_kept, deed_is}
 use Rattle.ill_core.proofs.responder.Responder.act.Goals as goal
+
+pub returns-in_err-check_date : goal.returns-in_err-check_date
+returns-in_err-check_date c =
+    let y = c.args.self.now in
+    let row = c.in-Some.row.now in
+    let has : deed_row y.state c.args.deed.now ≡ Some row = search rules in
+    search (rules, acts_forbidden y c.args.deed.now c.args.today row c.in_err-check_date.field-0.0 has)
+
+pub returns-in_err-number : goal.returns-in_err-number
+returns-in_err-number c =
+    let y = c.args.self.now in
+    let row = c.in-Some.row.now in
+    let has : deed_row y.state c.args.deed.now ≡ Some row = search rules in
+    let date : check_date y c.args.deed.now c.args.today ≡ Ok tt = search rules in
+    search (rules, acts_numberless y c.args.deed.now c.args.today row c.in_err-number.field-0.0 has date)
+
+pub returns-in_err-issue : goal.returns-in_err-issue
+returns-in_err-issue c =
+    let y = c.args.self.now in
+    let row = c.in-Some.row.now in
+    let has : deed_row y.state c.args.deed.now ≡ Some row = search rules in
+    let date : check_date y c.args.deed.now c.args.today ≡ Ok tt = search rules in
+    let next : next_number y.issued ≡ Ok c.in_ok-number.number = search rules in
+    search (rules, acts_wanting y c.args.deed.now c.args.today row c.in_ok-number.number has date next)
 
 pub invariant_of-self-2 : goal.invariant_of-self-2
 invariant_of-self-2 c =
     let r = c.self.inside in
-    let y : ResponderRecord = responder_of r.issued.txn r.state r.accepted r.last_cancel r.last_renew r.received r.request r.issued.apdus in
-    let row = c.in_ok-next.field-0 in
-    let leads : row_of y c.args.deed.now c.args.today ≡ Ok row = search rules in
-    with_issue y row.next row.body c.issue.new.self.txn c.issue.new.self.apdus (row_kept y row c.self.invariant (is_row y c.args.deed.now c.args.today row leads))
-    c.in_ok-issue.ensures.txn (search rules)
+    let y : ResponderRecord = responder_of r.issued.txn r.standing.state r.standing.accepted r.standing.last_cancel r.standing.last_renew r.standing.received r.request r.issued.apdus in
+    let deed = c.args.deed.now in
+    let row = c.in-Some.row.now in
+    let number = c.in_ok-number.number in
+    let body = deed_body y deed in
+    let has : deed_row y.state deed ≡ Some row = search rules in
+    let date : check_date y deed c.args.today ≡ Ok tt = search rules in
+    let next : next_number y.issued ≡ Ok number = search rules in
+    let e = c.after-self-inside.ensures in
+    let more : c.issue.new.self.apdus ≡ with_next y.txn y.issued body = search rules in
+    let parts = deed_is y row number body _ _ _ _ _ _ _ c.in_ok-issue.ensures.txn e.state e.accepted e.cancel e.renew e.received more in
+    let done : acts y deed c.args.today ≡ Ok (after_deed y row number body) = acts_this y deed c.args.today row number has date next in
+    subst IsResponder (sym parts) (deed_kept y (after_deed y row number body) deed c.args.today c.self.invariant done)
+
+pub returns : goal.returns
+returns c =
+    let r = c.self.inside in
+    let y : ResponderRecord = responder_of r.issued.txn r.standing.state r.standing.accepted r.standing.last_cancel r.standing.last_renew r.standing.received r.request r.issued.apdus in
+    let deed = c.args.deed.now in
+    let row = c.in-Some.row.now in
+    let number = c.in_ok-number.number in
+    let body = deed_body y deed in
+    let has : deed_row y.state deed ≡ Some row = search rules in
+    let date : check_date y deed c.args.today ≡ Ok tt = search rules in
+    let next : next_number y.issued ≡ Ok number = search rules in
+    let e = c.after-self-inside.ensures in
+    let more : c.issue.new.self.apdus ≡ with_next y.txn y.issued body = search rules in
+    let parts = deed_is y row number body _ _ _ _ _ _ _ c.in_ok-issue.ensures.txn e.state e.accepted e.cancel e.renew e.received more in
+    let done : acts y deed c.args.today ≡ Ok (after_deed y row number body) = acts_this y deed c.args.today row number has date next in
+    search (rules, done, parts)

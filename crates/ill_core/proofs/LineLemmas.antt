@@ -1,9 +1,9 @@
--- Rows of a table of actions, of either role.
+-- Lines of a table of actions, of either role.
 use Rattle.std.proofs.Common.{rules, ◌≡◌, Bool, true, false, Result, Ok, Err, if◌then◌else◌, refl, subst}
 use Rattle.ill_core.specs.declared.refusal.Refusal.{Refusal}
 
-pub row_is : {R : Type 0} (here row : R) → ◌≡◌ {A = Result R Refusal} (Ok here) (Ok row) → here ≡ row
-row_is here row e = search rules
+pub line_is : {R : Type 0} (here row : R) → ◌≡◌ {A = Result R Refusal} (Ok here) (Ok row) → here ≡ row
+line_is here row e = search rules
 
 -- a line of the table, or those behind it
 pub at_line : {R : Type 0} (P : R → Type 0) (is_here : Bool) (here others : Result R Refusal) (row : R)
@@ -12,9 +12,9 @@ pub at_line : {R : Type 0} (P : R → Type 0) (is_here : Bool) (here others : Re
 at_line P true here others row leads behind e = leads refl e
 at_line P false here others row leads behind e = behind e
 
--- the row of a line
+-- what a line says
 pub is_this : {R : Type 0} (P : R → Type 0) (here row : R) → P here → ◌≡◌ {A = Result R Refusal} (Ok here) (Ok row) → P row
-is_this P here row there e = subst P (row_is here row e) there
+is_this P here row there e = subst P (line_is here row e) there
 
 -- behind the last line
 pub no_more : {R : Type 0} (P : R → Type 0) (refusal : Refusal) (row : R) → Err refusal ≡ Ok row → P row

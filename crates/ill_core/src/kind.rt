@@ -1,0 +1,157 @@
+//! The kinds of messages: what the tables tell apart in them.
+
+ghost use Rattle.std.specs.Prelude.{◌≡◌, ◌<◌, Some, None, IsSome};
+ghost use Rattle.ill_core.specs.Kinds.{requester_kind, responder_kind, answer_kind, requester_place, responder_place, number_in, date_in};
+
+use ill_values::{AnswerResult, Apdu, Body, Day, Number};
+
+/// The kind of a message that a requester issues, and of the wish that issues it.
+#[derive(Clone, Copy, Debug, PartialEq, Eq, Hash)]
+pub enum RequesterKind {
+    /// An ILL-Request.
+    Request,
+    /// A Conditional-Reply yes.
+    Yes,
+    /// A Conditional-Reply no.
+    No,
+    /// A Cancel.
+    Cancel,
+    /// A Received.
+    Received,
+    /// A Renew.
+    Renew,
+    /// A Returned.
+    Returned,
+}
+
+/// The kind of a message that a responder issues, and of the deed that issues it.
+#[derive(Clone, Copy, Debug, PartialEq, Eq, Hash)]
+pub enum ResponderKind {
+    /// An ILL-Answer conditional.
+    Conditions,
+    /// An ILL-Answer will-supply or hold-placed.
+    Promise,
+    /// An ILL-Answer with any other result: the item is not supplied.
+    NoSupply,
+    /// An Expired.
+    Expired,
+    /// A Cancel-Reply yes.
+    CancelYes,
+    /// A Cancel-Reply no.
+    CancelNo,
+    /// A Shipped.
+    Shipped,
+    /// An Overdue.
+    Overdue,
+    /// A Renew-Answer yes.
+    RenewYes,
+    /// A Renew-Answer no.
+    RenewNo,
+    /// A Recall.
+    Recall,
+    /// A Checked-In.
+    CheckedIn,
+}
+
+impl RequesterKind {
+    /// The place of the kind in their order.
+    pub fn place(self) -> usize
+        ensures value { result ≡ requester_place self }
+        ensures few { result < 7 }
+    {
+        self as usize
+    }
+
+    /// The kind of a message, if a requester issues it.
+    pub fn of(body: &Body) -> Option<RequesterKind>
+        ensures { result ≡ requester_kind body.now }
+    {
+        match body {
+            Body::IllRequest { .. } => Some(RequesterKind::Request),
+            Body::ConditionalReply { yes: true, .. } => Some(RequesterKind::Yes),
+            Body::ConditionalReply { yes: false, .. } => Some(RequesterKind::No),
+            Body::Cancel => Some(RequesterKind::Cancel),
+            Body::Received => Some(RequesterKind::Received),
+            Body::Renew { .. } => Some(RequesterKind::Renew),
+            Body::Returned => Some(RequesterKind::Returned),
+            _ => None,
+        }
+    }
+}
+
+impl ResponderKind {
+    /// The place of the kind in their order.
+    pub fn place(self) -> usize
+        ensures value { result ≡ responder_place self }
+        ensures few { result < 12 }
+    {
+        self as usize
+    }
+
+    /// The kind of a message, if a responder issues it.
+    pub fn of(body: &Body) -> Option<ResponderKind>
+        ensures { result ≡ responder_kind body.now }
+    {
+        match body {
+            Body::IllAnswer { result } => Some(ResponderKind::of_answer(*result)),
+            Body::Expired => Some(ResponderKind::Expired),
+            Body::CancelReply { yes: true, .. } => Some(ResponderKind::CancelYes),
+            Body::CancelReply { yes: false, .. } => Some(ResponderKind::CancelNo),
+            Body::Shipped { .. } => Some(ResponderKind::Shipped),
+            Body::Overdue { .. } => Some(ResponderKind::Overdue),
+            Body::RenewAnswer {
+                granted: Some(_),
+                ..
+            } => Some(ResponderKind::RenewYes),
+            Body::RenewAnswer { granted: None, .. } => Some(ResponderKind::RenewNo),
+            Body::Recall => Some(ResponderKind::Recall),
+            Body::CheckedIn => Some(ResponderKind::CheckedIn),
+            _ => None,
+        }
+    }
+
+    /// The kind of an ILL-Answer with this result.
+    pub fn of_answer(answer: AnswerResult) -> ResponderKind
+        ensures { result ≡ answer_kind answer }
+    {
+        match answer {
+            AnswerResult::Conditional => ResponderKind::Conditions,
+            AnswerResult::WillSupply | AnswerResult::HoldPlaced => ResponderKind::Promise,
+            _ => ResponderKind::NoSupply,
+        }
+    }
+}
+
+/// The number that a message tells: that of the message which it answers, or its own.
+pub fn number_in(apdu: &Apdu) -> Number
+    ensures { result ≡ number_in apdu.now apdu.now.body }
+{
+    match &apdu.body {
+        Body::ConditionalReply { answers, .. }
+        | Body::CancelReply { answers, .. }
+        | Body::RenewAnswer { answers, .. } => *answers,
+        _ => apdu.number,
+    }
+}
+
+/// The due date that a message tells.
+pub fn date_in(body: &Body) -> Option<Day>
+    ensures { result ≡ date_in body.now }
+{
+    match body {
+        Body::Shipped { due } | Body::Overdue { due } => Some(*due),
+        Body::RenewAnswer { granted, .. } => *granted,
+        _ => None,
+    }
+}
+
+/// A number or a date that is there, for a message to tell.
+pub fn told<T: Copy>(value: Option<T>) -> T
+    requires there { IsSome value }
+    ensures { Some result ≡ value }
+{
+    match value {
+        Some(value) => value,
+        None => unreachable!(),
+    }
+}

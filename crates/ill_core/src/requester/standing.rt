@@ -1,0 +1,55 @@
+//! Where a requester stands: the parts of its record that a row of its tables may change.
+
+ghost use Rattle.std.specs.Prelude.{◌≡◌, ◌||◌};
+ghost use Rattle.ill_core.specs.Tables.{has, next_state};
+ghost use Rattle.ill_core.specs.RequesterTables.{held_after, due_after};
+ghost use Rattle.ill_core.specs.declared.requester.standing.TheConstants.{MARK};
+
+use crate::state::State;
+use crate::table::Row;
+use ill_values::{Day, Number};
+
+// What changes beside the state, where a row is followed for a message of number k with the date d.
+pub const HOLDS: u16 = 1; // k is held
+
+pub const FREES: u16 = 1 << 1; // no conditions are held
+
+pub const DUE: u16 = 1 << 2; // the due date is d
+
+pub const MARK: u16 = 1 << 3; // a Checked-In was taken
+
+/// Where a requester stands.
+#[derive(Clone, Copy, Debug, PartialEq, Eq, Hash)]
+pub struct Standing {
+    pub state: State,
+    pub held: Option<Number>,
+    pub checked_in: bool,
+    pub due: Option<Day>,
+}
+
+impl Standing {
+    /// Where the row leads from here.
+    pub fn after<K>(self, row: &Row<K>, number: Number, date: Option<Day>) -> Standing
+        ensures state { result.state ≡ next_state row.now.3 self.state }
+        ensures held { result.held ≡ held_after row.now.4 self.held number }
+        ensures checked_in { result.checked_in ≡ (has row.now.4 MARK || self.checked_in) }
+        ensures due { result.due ≡ due_after row.now.4 self.due date }
+    {
+        let changes = row.4;
+        Standing {
+            state: row.3.next_state(self.state),
+            held: held_after(changes, self.held, number),
+            checked_in: changes & MARK != 0 || self.checked_in,
+            due: if changes & DUE != 0 { date } else { self.due },
+        }
+    }
+}
+
+fn held_after(changes: u16, held: Option<Number>, number: Number) -> Option<Number>
+    ensures { result ≡ held_after changes held number }
+{
+    if changes & HOLDS != 0 {
+        return Some(number);
+    }
+    if changes & FREES != 0 { None } else { held }
+}

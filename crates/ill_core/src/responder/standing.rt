@@ -1,0 +1,65 @@
+//! Where a responder stands: the parts of its record that a row of either table may change.
+
+ghost use Rattle.std.specs.Prelude.{◌≡◌, ◌||◌};
+ghost use Rattle.ill_core.specs.Tables.{has, next_state};
+ghost use Rattle.ill_core.specs.ResponderTables.{number_after};
+ghost use Rattle.ill_core.specs.declared.responder.standing.TheConstants.{ACCEPTS, CANCELS, RENEWS, RECEIVES};
+
+use crate::state::State;
+use crate::table::Row;
+use ill_values::Number;
+
+// What changes beside the state, where a row is followed for a message that tells the number k.
+pub const ACCEPTS: u16 = 1; // the conditions accepted last are k
+
+pub const CANCELS: u16 = 1 << 1; // the last Cancel is k
+
+pub const RENEWS: u16 = 1 << 2; // the last Renew is k
+
+pub const RECEIVES: u16 = 1 << 3; // a Received was taken
+
+pub const KEEPS: u16 = 1 << 4; // the ILL-Request is kept
+
+pub const ENDS: u16 = 1 << 5; // an ILL-Answer unfilled is issued
+
+/// Where a responder stands.
+#[derive(Clone, Copy, Debug, PartialEq, Eq, Hash)]
+pub struct Standing {
+    pub state: State,
+    pub accepted: Option<Number>,
+    pub last_cancel: Option<Number>,
+    pub last_renew: Option<Number>,
+    pub received: bool,
+}
+
+impl Standing {
+    /// Where the row leads from here.
+    pub fn after<K>(self, row: &Row<K>, number: Number) -> Standing
+        ensures state { result.state ≡ next_state row.now.3 self.state }
+        ensures accepted { result.accepted ≡ number_after ACCEPTS row.now.4 self.accepted number }
+        ensures cancel { result.last_cancel ≡
+            number_after CANCELS row.now.4 self.last_cancel number }
+        ensures renew { result.last_renew ≡ number_after RENEWS row.now.4 self.last_renew number }
+        ensures received { result.received ≡ (has row.now.4 RECEIVES || self.received) }
+    {
+        let changes = row.4;
+        Standing {
+            state: row.3.next_state(self.state),
+            accepted: number_after(ACCEPTS, changes, self.accepted, number),
+            last_cancel: number_after(CANCELS, changes, self.last_cancel, number),
+            last_renew: number_after(RENEWS, changes, self.last_renew, number),
+            received: changes & RECEIVES != 0 || self.received,
+        }
+    }
+}
+
+/// The number, where its bit is among the changes, or the one before.
+fn number_after(bit: u16, changes: u16, last: Option<Number>, number: Number) -> Option<Number>
+    ensures { result ≡ number_after bit changes last number }
+{
+    if changes & bit != 0 {
+        Some(number)
+    } else {
+        last
+    }
+}

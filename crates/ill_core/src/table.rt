@@ -1,0 +1,126 @@
+//! The tables of both roles: arrays of rows, of which the first that fits decides.
+
+ghost use Rattle.std.specs.Prelude.{◌≡◌, ℕ, Bool, List, option_copied};
+ghost use Rattle.std.specs.List.{find};
+ghost use Rattle.ill_core.specs.State.{place_of};
+ghost use Rattle.ill_core.specs.Tables.{Fact, are_met, has_state, fits, taking_of, next_state};
+
+use crate::state::State;
+use crate::taking::Taking;
+
+/// A row: the kind of action or message, the states and the facts that it asks for, what comes of
+/// it, and what changes beside the state.
+///
+/// Bit i of the states is variant i of `State`, from 0. Each role names the bits of its facts and of
+/// its changes. The rows of a kind stand together, and the first of them that fits decides.
+#[derive(Clone, Copy, Debug, PartialEq, Eq, Hash)]
+pub struct Row<K>(pub K, pub u16, pub u16, pub Then, pub u16);
+
+/// What comes of an action or a message: its answer, and the next state.
+#[derive(Clone, Copy, Debug, PartialEq, Eq, Hash)]
+pub enum Then {
+    /// It is done, or is new, and leads to this state.
+    To(State),
+    /// It is done, or is new, and the state stays.
+    Stay,
+    /// The record shows it already.
+    Repeat,
+    /// It has been overtaken.
+    Stale,
+    /// It has no place in the present state.
+    Conflict,
+}
+
+impl Then {
+    /// What is answered in a state.
+    pub fn taking(self, state: State) -> Taking
+        ensures { result ≡ taking_of self state }
+    {
+        match self {
+            Then::To(_) | Then::Stay => Taking::Taken,
+            Then::Repeat => Taking::Repeat,
+            Then::Stale => Taking::Stale,
+            Then::Conflict => Taking::Conflict(state),
+        }
+    }
+
+    /// The state that follows.
+    pub fn next_state(self, state: State) -> State
+        ensures { result ≡ next_state self state }
+    {
+        match self {
+            Then::To(next) => next,
+            _ => state,
+        }
+    }
+}
+
+/// What the facts are in which rows may be interested.
+pub trait Facts {
+    /// Each fact with its bit.
+    ghost facts: { Self → List Fact };
+
+    /// Whether all these facts hold.
+    fn hold(&self, asked: u16) -> bool
+        ensures { result ≡ are_met asked (facts self.now) };
+}
+
+/// The first of the rows that has the state and of which the facts hold.
+pub fn find<'a, K, F: Facts>(rows: &'a [Row<K>], state: State, facts: &F) -> Option<&'a Row<K>>
+    ensures { option_copied result ≡ find (fits state (F.facts facts.now)) rows.now }
+{
+    rows.iter()
+        .find(|row| has_state(row.1, state) && facts.hold(row.2))
+}
+
+/// Whether a state is among these.
+fn has_state(states: u16, state: State) -> bool
+    ensures { result ≡ has_state states state }
+{
+    states >> place_of(state) & 1 == 1
+}
+
+/// The place of a state in their order.
+fn place_of(state: State) -> u16
+    ensures { result ≡ place_of state }
+{
+    state as u16
+}
+
+/// No facts, or no changes.
+pub const NONE: u16 = 0;
+
+pub const IDLE: u16 = 1 << State::Idle as u16;
+
+pub const PENDING: u16 = 1 << State::Pending as u16;
+
+pub const IN_PROCESS: u16 = 1 << State::InProcess as u16;
+
+pub const CONDITIONAL: u16 = 1 << State::Conditional as u16;
+
+pub const CANCEL_PENDING: u16 = 1 << State::CancelPending as u16;
+
+pub const CANCELLED: u16 = 1 << State::Cancelled as u16;
+
+pub const NOT_SUPPLIED: u16 = 1 << State::NotSupplied as u16;
+
+pub const SHIPPED: u16 = 1 << State::Shipped as u16;
+
+pub const RECEIVED: u16 = 1 << State::Received as u16;
+
+pub const RENEW_PENDING: u16 = 1 << State::RenewPending as u16;
+
+pub const OVERDUE: u16 = 1 << State::Overdue as u16;
+
+pub const RENEW_OVERDUE: u16 = 1 << State::RenewOverdue as u16;
+
+pub const NOT_RECEIVED_OVERDUE: u16 = 1 << State::NotReceivedOverdue as u16;
+
+pub const RECALL: u16 = 1 << State::Recall as u16;
+
+pub const RETURNED: u16 = 1 << State::Returned as u16;
+
+pub const CHECKED_IN: u16 = 1 << State::CheckedIn as u16;
+
+/// Every state.
+pub const ANY: u16 = 0xffff;

@@ -54,6 +54,11 @@ found_lines state facts hit miss (row ∷ rows) =
     (met_asked row.2 facts (hit row) (answer_of hit miss (find (fits state facts) rows)))
     ∙ ap (λ others. if has_state row.1 state then where_asked row.2 facts (hit row) others else others) (found_lines state facts hit miss rows))
 
+-- where none is asked for, all hold that are asked for
+pub none_asked : (facts : List Fact) → are_met 0 facts ≡ true
+none_asked [] = refl
+none_asked (f ∷ facts) = none_asked facts
+
 -- the facts of two lists hold where those of each do
 pub both_met : (asked : ℕ) (facts others : List Fact) (a b : Bool) → a ≡ are_met asked facts → b ≡ are_met asked others → (a && b) ≡ are_met asked (facts ++ others)
 both_met asked facts others a b met met_too =

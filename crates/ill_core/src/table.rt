@@ -70,7 +70,15 @@ pub fn find<'a, K, F: Facts>(rows: &'a [Row<K>], state: State, facts: &F) -> Opt
     ensures { option_copied result ≡ find (fits state (F.facts facts.now)) rows.now }
 {
     rows.iter()
-        .find(|row| has_state(row.1, state) && facts.hold(row.2))
+        .find(|row| has_state(row.1, state) && are_met(facts, row.2))
+}
+
+/// Whether all these facts hold; where a row asks for none, none is looked at.
+#[tactic(auto, using(crate::proofs::TableLemmas::none_asked))]
+fn are_met<F: Facts>(facts: &F, asked: u16) -> bool
+    ensures { result ≡ are_met asked (F.facts facts.now) }
+{
+    asked == NONE || facts.hold(asked)
 }
 
 /// Whether a state is among these.

@@ -29,7 +29,8 @@ pub fn creates(alloc: Global, words: &mut Words<'_>) -> Option<Outcome> {
 /// `create` over a store that has a record.
 pub fn exists(alloc: Global, words: &mut Words<'_>) -> Option<Outcome> {
     let role = Role::read(words)?;
-    let (first, store) = idle_side(alloc, role).zip(store(alloc, role.record()))?;
+    let store = store(alloc, role.record())?;
+    let first = idle_side(alloc, role)?;
     begin(alloc);
     let begun = Desk1::create(alloc, store, first);
     let refused = end(alloc);

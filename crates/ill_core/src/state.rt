@@ -46,7 +46,8 @@ pub enum State {
 }
 
 impl State {
-    fn name(self) -> &'static str
+    /// The name of the state, as `NOT-SUPPLIED`.
+    pub fn name(self) -> &'static str
         ensures { result.now ≡ state_name self }
     {
         match self {

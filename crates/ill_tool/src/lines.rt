@@ -4,6 +4,7 @@ ghost use Rattle.std.specs.Prelude.{◌≡◌, ◌++◌, OnOk};
 ghost use Rattle.ill_tool.specs.Lines.{line, name_of, word_of, reply_word, number_line, date_line, optional_date_line, reply_lines, grant_lines, field_lines, id_lines, head_lines, lines_of, count_line};
 
 use ill_values::{AnswerResult, Apdu, Body, Day, Number, OutOfMemory, TxnId};
+use itoa::Buffer;
 
 /// Adds the lines of an APDU.
 #[tactic(auto, unfolding(crate::specs::Lines::lines_of))]
@@ -93,16 +94,14 @@ fn push_date(lines: &mut Vec<u8>, day: Day) -> Result<(), OutOfMemory>
 fn push_number(lines: &mut Vec<u8>, label: &str, number: Number) -> Result<(), OutOfMemory>
     ensures { OnOk result (lines.new.items ≡ lines.old.items ++ number_line label.now number) }
 {
-    let digits = number.get().to_string(*lines.allocator())?;
-    push_line(lines, label, digits.as_bytes())
+    push_line(lines, label, Buffer::new().format(number.get()).as_bytes())
 }
 
 /// Adds the line of how many APDUs there are.
 pub fn push_count(lines: &mut Vec<u8>, count: u32) -> Result<(), OutOfMemory>
     ensures { OnOk result (lines.new.items ≡ lines.old.items ++ count_line count) }
 {
-    let digits = count.to_string(*lines.allocator())?;
-    push_line(lines, digits.as_str(), b"apdus")
+    push_line(lines, Buffer::new().format(count), b"apdus")
 }
 
 /// Adds a line: a label, a space and a value.

@@ -49,8 +49,7 @@ fn push_state_and_due(lines: &mut Vec<u8>, side: &Side) -> Result<(), OutOfMemor
         ++ (line (codes "state") (state_name (state_of side.now))
         ++ line (codes "due") (due_text (due_date_of side.now)))) }
 {
-    let state = side.state().to_string(*lines.allocator())?;
-    push_line(lines, "state", state.as_bytes())?;
+    push_line(lines, "state", side.state().name().as_bytes())?;
     match side.due() {
         None => push_line(lines, "due", b"-"),
         Some(day) => push_line(lines, "due", &day.digits()),

@@ -47,8 +47,7 @@ fn push_event(lines: &mut Vec<u8>, number: u32, outcome: Outcome) -> Result<(), 
 pub fn push_side(lines: &mut Vec<u8>, side: &Side, released: u8) -> Result<(), OutOfMemory>
     ensures { OnOk result (lines.new.items ≡ lines.old.items ++ side_text side.now released) }
 {
-    let state = side.state().to_string(*lines.allocator())?;
-    lines.extend_from_slice(state.as_bytes())?;
+    lines.extend_from_slice(side.state().name().as_bytes())?;
     lines.push(b' ')?;
     push_due(lines, side.due())?;
     lines.push(b' ')?;

@@ -19,7 +19,7 @@ pub struct Issued {
 }
 
 /// What is looked for among the APDUs: the last number of this kind.
-#[derive(Clone, Copy, Debug, PartialEq, Eq, Hash)]
+#[derive(Clone, Copy)]
 pub enum Sought {
     /// The number that a Conditional-Reply yes answers.
     Accepted,

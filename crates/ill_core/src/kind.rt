@@ -6,7 +6,7 @@ ghost use Rattle.ill_core.specs.Kinds.{requester_kind, responder_kind, answer_ki
 use ill_values::{AnswerResult, Apdu, Body, Day, Number};
 
 /// The kind of a message that a requester issues, and of the wish that issues it.
-#[derive(Clone, Copy, Debug, PartialEq, Eq, Hash)]
+#[derive(Clone, Copy)]
 pub enum RequesterKind {
     /// An ILL-Request.
     Request,
@@ -25,7 +25,7 @@ pub enum RequesterKind {
 }
 
 /// The kind of a message that a responder issues, and of the deed that issues it.
-#[derive(Clone, Copy, Debug, PartialEq, Eq, Hash)]
+#[derive(Clone, Copy)]
 pub enum ResponderKind {
     /// An ILL-Answer conditional.
     Conditions,

@@ -13,11 +13,10 @@ use crate::taking::Taking;
 ///
 /// Bit i of the states is variant i of `State`, from 0. Each role names the bits of its facts and of
 /// its changes. The rows of a kind stand together, and the first of them that fits decides.
-#[derive(Clone, Copy, Debug, PartialEq, Eq, Hash)]
 pub struct Row<K>(pub K, pub u16, pub u16, pub Then, pub u16);
 
 /// What comes of an action or a message: its answer, and the next state.
-#[derive(Clone, Copy, Debug, PartialEq, Eq, Hash)]
+#[derive(Clone, Copy)]
 pub enum Then {
     /// It is done, or is new, and leads to this state.
     To(State),

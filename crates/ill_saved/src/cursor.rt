@@ -16,7 +16,7 @@ use std::alloc::Global;
 use std::marker::Model;
 
 /// Holds the bytes of a record that are not read yet, and the offset of the first in the record.
-#[derive(Debug, Drop)]
+#[derive(Drop)]
 pub struct Cursor<'a> {
     at: u32,
     bytes: &'a [u8],

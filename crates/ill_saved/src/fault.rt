@@ -30,7 +30,7 @@ pub enum RecordFault {
 }
 
 /// The first fault of bytes that have not the layout of a record.
-#[derive(Clone, Copy, Debug, PartialEq, Eq, Hash)]
+#[derive(Clone, Copy)]
 pub enum LayoutFault {
     /// The bytes end within a field, or before one that must follow.
     Short,

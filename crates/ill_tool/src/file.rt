@@ -31,10 +31,8 @@ pub fn new<T: Files, W: Write>(
     let role = who(role.as_bytes()).ok_or(ToolFault::Arguments)?;
     let txn = id(alloc, group, transaction)?;
     let store = FileStore::at(rt, alloc, file, MAX_RECORD)?;
-    match run_new(alloc, store, role, txn, writer) {
-        Ok(_) => Ok(true),
-        Err((fault, _)) => Err(fault),
-    }
+    answer_of(run_new(alloc, store, role, txn, writer))?;
+    Ok(true)
 }
 
 /// `ill act`: performs one action.
@@ -48,7 +46,9 @@ pub fn act<T: Files, W: Write>(
 ) -> Result<bool, ToolFault> {
     let today = day(today)?;
     let mut desk = open(rt, alloc, file)?;
-    run_act(alloc, &mut desk, today, words, writer)
+    let acted = run_act(alloc, &mut desk, today, words, writer);
+    drop(desk);
+    acted
 }
 
 /// `ill take`: takes the APDUs of the input.
@@ -60,7 +60,9 @@ pub fn take<T: Files, R: Read, W: Write>(
     writer: &mut W,
 ) -> Result<bool, ToolFault> {
     let mut desk = open(rt, alloc, file)?;
-    run_take(alloc, &mut desk, reader, writer)
+    let taken = run_take(alloc, &mut desk, reader, writer);
+    drop(desk);
+    taken
 }
 
 /// `ill send`: gives the bytes of a message.
@@ -73,7 +75,9 @@ pub fn send<T: Files, W: Write>(
 ) -> Result<bool, ToolFault> {
     let number = number(wanted.as_bytes()).ok_or(ToolFault::Arguments)?;
     let desk = open(rt, alloc, file)?;
-    run_send(alloc, &desk, number, writer)?;
+    let sent = run_send(alloc, &desk, number, writer);
+    drop(desk);
+    sent?;
     Ok(true)
 }
 
@@ -85,7 +89,9 @@ pub fn status<T: Files, W: Write>(
     writer: &mut W,
 ) -> Result<bool, ToolFault> {
     let desk = open(rt, alloc, file)?;
-    run_status(alloc, &desk, writer)?;
+    let shown = run_status(alloc, &desk, writer);
+    drop(desk);
+    shown?;
     Ok(true)
 }
 
@@ -96,9 +102,14 @@ fn open<'a, T: Files>(
     file: &str,
 ) -> Result<Desk1<FileStore<'a, T>>, ToolFault> {
     let store = FileStore::at(rt, alloc, file, MAX_RECORD)?;
-    match Desk1::start(alloc, store) {
+    Ok(answer_of(Desk1::start(alloc, store))?)
+}
+
+/// An answer without the store that it hands back with a fault.
+fn answer_of<D, F, S: Drop>(answer: Result<D, (F, S)>) -> Result<D, F> {
+    match answer {
         Ok(desk) => Ok(desk),
-        Err((fault, _)) => Err(fault.into()),
+        Err((fault, _)) => Err(fault),
     }
 }
 

@@ -71,10 +71,10 @@ fn run<T: Files, R: Read, W: Write>(
     writer: &mut W,
 ) -> Result<bool, ToolFault> {
     match request {
-        Request::Show => run_show(alloc, reader, writer).map(|_| true),
-        Request::Check => run_check(alloc, reader, writer).map(|_| true),
+        Request::Show => run_show(alloc, reader, writer).and(Ok(true)),
+        Request::Check => run_check(alloc, reader, writer).and(Ok(true)),
         Request::Simulate { group, transaction } => {
-            run_simulate(alloc, group, transaction, reader, writer).map(|_| true)
+            run_simulate(alloc, group, transaction, reader, writer).and(Ok(true))
         }
         Request::New {
             file,

@@ -12,7 +12,7 @@ const MAX_LINE: usize = 1024;
 const LF: u8 = b'\n';
 
 /// What was found where a line may begin.
-#[derive(Clone, Copy, Debug, PartialEq, Eq)]
+#[derive(Clone, Copy)]
 pub enum Found {
     /// A line, and its LF.
     Line,

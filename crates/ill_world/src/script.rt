@@ -11,7 +11,7 @@ use ill_values::OutOfMemory;
 use std::alloc::Global;
 
 /// What a line of a script says.
-#[derive(Debug, Drop)]
+#[derive(Drop)]
 pub(crate) enum Line {
     /// Nothing: it has no words, or is a remark.
     Skipped,

@@ -52,7 +52,7 @@ pub fn simulate<R: Read, W: Write>(
 }
 
 /// A simulation in the midst of a script.
-#[derive(Debug, Drop)]
+#[derive(Drop)]
 struct Simulation {
     /// The two sides as they are now.
     world: World,

@@ -19,7 +19,7 @@ pub const DUE: u16 = 1 << 2; // the due date is d
 pub const MARK: u16 = 1 << 3; // a Checked-In was taken
 
 /// Where a requester stands.
-#[derive(Clone, Copy, Debug, PartialEq, Eq, Hash)]
+#[derive(Clone, Copy, Debug)]
 pub struct Standing {
     pub state: State,
     pub held: Option<Number>,

@@ -79,7 +79,6 @@ fn kind_of(deed: &Deed) -> Kind
 }
 
 /// No row of actions asks for a fact.
-#[derive(Clone, Copy, Debug, PartialEq, Eq, Hash)]
 struct NoFacts;
 
 impl Facts for NoFacts {

@@ -51,7 +51,7 @@ pub fn is_role(apdus: &[Apdu]) -> bool
 }
 
 /// Which parts of a responder are there.
-#[derive(Clone, Copy, Debug, PartialEq, Eq, Hash)]
+#[derive(Clone, Copy)]
 pub struct Present {
     /// The ILL-Request.
     pub request: bool,

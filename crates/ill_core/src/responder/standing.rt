@@ -23,7 +23,7 @@ pub const KEEPS: u16 = 1 << 4; // the ILL-Request is kept
 pub const ENDS: u16 = 1 << 5; // an ILL-Answer unfilled is issued
 
 /// Where a responder stands.
-#[derive(Clone, Copy, Debug, PartialEq, Eq, Hash)]
+#[derive(Clone, Copy, Debug)]
 pub struct Standing {
     pub state: State,
     pub accepted: Option<Number>,

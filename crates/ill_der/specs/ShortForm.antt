@@ -165,11 +165,11 @@ abbrev pub Finds : {X V : Type 0} → (X → V) → Result X DerFault → Result
 Finds view (Ok value) read = read ≡ Ok (view value)
 Finds view (Err fault) read = read ≡ Err fault
 
--- A call that takes memory last gave what reading gives: its fault, or its value unless memory ran
--- out.
-abbrev pub Gives : {V : Type 0} → Result V DerFault → Result V DerFault → Type 0
-Gives (Err fault) result = result ≡ Err fault
-Gives (Ok value) result = MatchResult result (λ made. made ≡ value) (λ fault. fault ≡ OutOfMemory)
+-- Viewing gave what reading gives: the APDU at the front with the number of its bytes, or the fault.
+abbrev pub Views : List ℕ → Result (Apdu × List ℕ) DerFault → Result (Apdu × ℕ) DerFault → Type 0
+Views bytes read (Ok found) =
+    (found.1 ≤ length bytes) × (read ≡ Ok (found.0, drop found.1 bytes))
+Views bytes read (Err fault) = read ≡ Err fault
 
 -- Decoding gave what reading gives: the fault, or the APDU at the front with the number of its
 -- bytes, unless memory ran out.

@@ -1,16 +1,18 @@
-//! Decoding of one APDU from the front of bytes.
+//! Viewing and decoding of one APDU at the front of bytes.
 
-ghost use Rattle.std.specs.Prelude.{◌≡◌, ◌≢◌, ◌+◌, ◌≤◌, length, IfOk};
+ghost use Rattle.std.specs.Prelude.{◌+◌, ◌≤◌, length, IfOk};
 ghost use Rattle.ill_der.specs.Contents.{yes_no, date, number};
 ghost use Rattle.ill_der.specs.Format.{Reads, length_of, required, where_yes};
-ghost use Rattle.ill_der.specs.ShortForm.{outer_view, outer_at, outer_by, read_body, reply, body_of, inside_of, apdu_at, Finds, Gives, Decodes};
+ghost use Rattle.ill_der.specs.ShortForm.{outer_view, outer_at, outer_by, read_body, reply, body_of, inside_of, apdu_at, Finds, Views, Decodes};
+ghost use Rattle.ill_der.specs.View.{body_in, HasItem};
 
 use crate::apdu_type::ApduType;
+use crate::apdu_view::{ApduView, BodyView};
 use crate::cursor::Cursor;
 use crate::fault::DerFault;
 use crate::length::{LengthForm, length_of};
 use crate::tags;
-use ill_values::{Apdu, Body, Day, Item, Number, TxnId};
+use ill_values::{Apdu, Day, Number};
 use std::alloc::Global;
 
 /// The largest number of contents octets of an APDU.
@@ -28,14 +30,35 @@ struct Outer<'a> {
 ///
 /// The fault is the first in the bytes. All checks come before memory is taken, so that
 /// `OutOfMemory` means that the bytes begin with an APDU.
-#[tactic(auto, unfolding(crate::specs::ShortForm::apdu_at))]
 pub fn decode(alloc: Global, bytes: &[u8]) -> Result<(Apdu, usize), DerFault>
     ensures read { Decodes bytes.now (apdu_at bytes.now) result }
     ensures most { IfOk result (λ found. found.1 ≤ 359) }
 {
-    let mut outer = outer_at(bytes)?;
-    let apdu = inside_of(alloc, outer.apdu_type, &mut outer.inside)?;
-    Ok((apdu, outer.size))
+    match view(bytes) {
+        Ok((apdu, size)) => match apdu.to_apdu(alloc) {
+            Ok(apdu) => Ok((apdu, size)),
+            Err(_) => Err(DerFault::OutOfMemory),
+        },
+        Err(fault) => Err(fault),
+    }
+}
+
+/// Views the APDU at the front of the bytes, and gives its size in bytes, at most 359; what follows is
+/// not read. The view is judged in full, as `decode` judges, and takes no memory.
+///
+/// The fault is the first in the bytes, and never `OutOfMemory`.
+#[tactic(auto, unfolding(crate::specs::ShortForm::apdu_at))]
+pub fn view(bytes: &[u8]) -> Result<(ApduView<'_>, usize), DerFault>
+    ensures read { Views bytes.now (apdu_at bytes.now) result }
+    ensures most { IfOk result (λ found. found.1 ≤ 359) }
+{
+    match outer_at(bytes) {
+        Ok(mut outer) => match inside_of(outer.apdu_type, &mut outer.inside) {
+            Ok(apdu) => Ok((apdu, outer.size)),
+            Err(fault) => Err(fault),
+        },
+        Err(fault) => Err(fault),
+    }
 }
 
 /// Splits off the identifier and the length, and checks that all of the contents are there.
@@ -81,10 +104,10 @@ fn outer_by(apdu_type: ApduType, bytes: &[u8]) -> Result<Outer<'_>, DerFault>
     }
 }
 
-/// Decodes the contents of an APDU of this type, to their end.
+/// Views the contents of an APDU of this type, to their end.
 #[tactic(auto, unfolding(crate::specs::ShortForm::inside_of))]
-fn inside_of(alloc: Global, apdu_type: ApduType, inside: &mut Cursor<'_>) -> Result<Apdu, DerFault>
-    ensures { Gives (inside_of apdu_type inside.old) result }
+fn inside_of<'a>(apdu_type: ApduType, inside: &mut Cursor<'a>) -> Result<ApduView<'a>, DerFault>
+    ensures { Finds (λ apdu. apdu) result (inside_of apdu_type inside.old) }
 {
     inside.version(tags::VERSION)?;
     let mut id = inside.element_at(tags::TRANSACTION_ID)?;
@@ -92,74 +115,74 @@ fn inside_of(alloc: Global, apdu_type: ApduType, inside: &mut Cursor<'_>) -> Res
     let transaction = id.qualifier(tags::TRANSACTION_QUALIFIER)?;
     id.ended()?;
     let number = inside.number(tags::NUMBER)?;
-    let body = body_of(alloc, apdu_type, inside)?;
-    let txn = TxnId::new(alloc, group, transaction).map_err(|_| DerFault::OutOfMemory)?;
-    Ok(Apdu { txn, number, body })
-}
-
-/// Decodes the further fields of an APDU of this type, to the end of the contents.
-#[tactic(auto, unfolding(crate::specs::ShortForm::body_of))]
-fn body_of(alloc: Global, apdu_type: ApduType, inside: &mut Cursor<'_>) -> Result<Body, DerFault>
-    ensures { Gives (body_of apdu_type inside.old) result }
-{
-    if apdu_type == ApduType::IllRequest {
-        return body_of_request(alloc, inside);
+    match body_of(apdu_type, inside) {
+        Ok(body) => Ok(ApduView {
+            group,
+            transaction,
+            number,
+            body,
+        }),
+        Err(fault) => Err(fault),
     }
-    let body = read_body(apdu_type, inside)?;
-    inside.ended()?;
-    Ok(body)
 }
 
-/// Decodes the further fields of an ILL-Request, to the end of the contents.
+/// Views the further fields of an APDU of this type, to the end of the contents.
 #[tactic(auto, unfolding(crate::specs::ShortForm::body_of))]
-fn body_of_request(alloc: Global, inside: &mut Cursor<'_>) -> Result<Body, DerFault>
-    ensures { Gives (body_of ApduType.IllRequest inside.old) result }
+fn body_of<'a>(apdu_type: ApduType, inside: &mut Cursor<'a>) -> Result<BodyView<'a>, DerFault>
+    ensures read { Finds body_in result (body_of apdu_type inside.old) }
+    ensures item { IfOk result (λ body. HasItem (body_in body)) }
 {
-    let expiry = inside.optional_date(tags::DATE)?;
-    let text = inside.item(tags::ITEM)?;
-    inside.ended()?;
-    let item = Item::new(alloc, text).map_err(|_| DerFault::OutOfMemory)?;
-    Ok(Body::IllRequest { expiry, item })
+    match read_body(apdu_type, inside) {
+        Ok(body) => match inside.ended() {
+            Ok(()) => Ok(body),
+            Err(fault) => Err(fault),
+        },
+        Err(fault) => Err(fault),
+    }
 }
 
-/// Decodes the further fields of a type that has no text.
-fn read_body(apdu_type: ApduType, inside: &mut Cursor<'_>) -> Result<Body, DerFault>
-    requires { apdu_type ≢ ApduType.IllRequest }
-    ensures { Reads (λ body. body) result inside.new (read_body apdu_type inside.old) }
+/// Views the further fields of an APDU of this type.
+fn read_body<'a>(apdu_type: ApduType, inside: &mut Cursor<'a>) -> Result<BodyView<'a>, DerFault>
+    ensures read { Reads body_in result inside.new (read_body apdu_type inside.old) }
+    ensures item { IfOk result (λ body. HasItem (body_in body)) }
 {
     match apdu_type {
-        ApduType::IllRequest => unreachable!(),
-        ApduType::Shipped => Ok(Body::Shipped {
+        ApduType::IllRequest => {
+            let expiry = inside.optional_date(tags::DATE)?;
+            let item = inside.item(tags::ITEM)?;
+            Ok(BodyView::IllRequest { expiry, item })
+        }
+        ApduType::Shipped => Ok(BodyView::Shipped {
             due: inside.date(tags::DATE)?,
         }),
-        ApduType::IllAnswer => Ok(Body::IllAnswer {
+        ApduType::IllAnswer => Ok(BodyView::IllAnswer {
             result: inside.answer_result(tags::RESULT)?,
         }),
         ApduType::ConditionalReply => {
             let (answers, yes) = read_reply(inside)?;
-            Ok(Body::ConditionalReply { answers, yes })
+            Ok(BodyView::ConditionalReply { answers, yes })
         }
-        ApduType::Cancel => Ok(Body::Cancel),
+        ApduType::Cancel => Ok(BodyView::Cancel),
         ApduType::CancelReply => {
             let (answers, yes) = read_reply(inside)?;
-            Ok(Body::CancelReply { answers, yes })
+            Ok(BodyView::CancelReply { answers, yes })
         }
-        ApduType::Received => Ok(Body::Received),
-        ApduType::Recall => Ok(Body::Recall),
-        ApduType::Returned => Ok(Body::Returned),
-        ApduType::CheckedIn => Ok(Body::CheckedIn),
-        ApduType::Overdue => Ok(Body::Overdue {
+        ApduType::Received => Ok(BodyView::Received),
+        ApduType::Recall => Ok(BodyView::Recall),
+        ApduType::Returned => Ok(BodyView::Returned),
+        ApduType::CheckedIn => Ok(BodyView::CheckedIn),
+        ApduType::Overdue => Ok(BodyView::Overdue {
             due: inside.date(tags::DATE)?,
         }),
-        ApduType::Renew => Ok(Body::Renew {
+        ApduType::Renew => Ok(BodyView::Renew {
             wished: inside.optional_date(tags::DATE)?,
         }),
         ApduType::RenewAnswer => {
             let answers = inside.number(tags::ANSWERS)?;
             let granted = read_granted(inside)?;
-            Ok(Body::RenewAnswer { answers, granted })
+            Ok(BodyView::RenewAnswer { answers, granted })
         }
-        ApduType::Expired => Ok(Body::Expired),
+        ApduType::Expired => Ok(BodyView::Expired),
     }
 }
 

@@ -2,6 +2,7 @@
 #![tactic(auto)]
 
 mod apdu_type;
+mod apdu_view;
 mod counted;
 mod cursor;
 mod decoding;
@@ -15,7 +16,8 @@ mod steps;
 mod tags;
 mod writing;
 
-pub use decoding::decode;
+pub use apdu_view::{ApduView, BodyView};
+pub use decoding::{decode, view};
 pub use encoding::{encode, encode_onto};
 pub use fault::{DerFault, ReadFault, WriteFault};
 pub use reading::{read_apdu, read_apdu_counted};

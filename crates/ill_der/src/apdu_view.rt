@@ -1,0 +1,172 @@
+//! APDUs whose texts lie in the bytes that they were read from.
+
+ghost use Rattle.std.specs.Prelude.{◌≡◌, IfOk};
+ghost use Rattle.ill_values.specs.declared.apdu.Apdu.{Apdu};
+ghost use Rattle.ill_values.specs.Text.{IsQualifier};
+ghost use Rattle.ill_der.specs.View.{apdu_of, body_in, HasItem};
+
+use ill_values::{AnswerResult, Apdu, Body, Day, Item, Number, OutOfMemory, TxnId};
+use std::alloc::Global;
+use std::marker::Model;
+
+/// An APDU in bytes: its texts are borrowed from them, so that it takes no memory.
+#[derive(Debug, Drop)]
+pub struct ApduView<'a> {
+    pub(crate) group: &'a [u8],
+    pub(crate) transaction: &'a [u8],
+    pub(crate) number: Number,
+    pub(crate) body: BodyView<'a>,
+}
+
+impl<'a> Model for ApduView<'a> {
+    ghost Value = { Apdu };
+
+    ghost view = { λ v. apdu_of v.group.now v.transaction.now v.number (body_in v.body) };
+
+    ghost invariant = { λ v. IsQualifier v.group.now × IsQualifier v.transaction.now
+        × HasItem (body_in v.body) };
+}
+
+/// What an APDU in bytes says: `Body`, with its text borrowed.
+#[derive(Clone, Copy, Debug)]
+pub enum BodyView<'a> {
+    /// `Body::IllRequest`.
+    IllRequest {
+        /// The last day of the request.
+        expiry: Option<Day>,
+        /// The bytes of the item that is asked for: 1 to 200 bytes of UTF-8.
+        item: &'a [u8],
+    },
+    /// `Body::Shipped`.
+    Shipped {
+        /// The day on which the item is due.
+        due: Day,
+    },
+    /// `Body::IllAnswer`.
+    IllAnswer {
+        /// The answer.
+        result: AnswerResult,
+    },
+    /// `Body::ConditionalReply`.
+    ConditionalReply {
+        /// The number of the ILL-Answer that named the conditions.
+        answers: Number,
+        /// Whether the conditions are accepted.
+        yes: bool,
+    },
+    /// `Body::Cancel`.
+    Cancel,
+    /// `Body::CancelReply`.
+    CancelReply {
+        /// The number of the Cancel.
+        answers: Number,
+        /// Whether the request is cancelled.
+        yes: bool,
+    },
+    /// `Body::Received`.
+    Received,
+    /// `Body::Recall`.
+    Recall,
+    /// `Body::Returned`.
+    Returned,
+    /// `Body::CheckedIn`.
+    CheckedIn,
+    /// `Body::Overdue`.
+    Overdue {
+        /// The due date that has passed.
+        due: Day,
+    },
+    /// `Body::Renew`.
+    Renew {
+        /// The due date that the requester would like, if it names one.
+        wished: Option<Day>,
+    },
+    /// `Body::RenewAnswer`.
+    RenewAnswer {
+        /// The number of the Renew.
+        answers: Number,
+        /// The new due date, where the answer is yes.
+        granted: Option<Day>,
+    },
+    /// `Body::Expired`.
+    Expired,
+}
+
+impl<'a> ApduView<'a> {
+    /// The transaction group qualifier: 1 to 64 bytes.
+    pub fn group(&self) -> &'a [u8]
+        ensures { result.now ≡ self.now.txn.group }
+    {
+        self.group
+    }
+
+    /// The transaction qualifier: 1 to 64 bytes.
+    pub fn transaction(&self) -> &'a [u8]
+        ensures { result.now ≡ self.now.txn.transaction }
+    {
+        self.transaction
+    }
+
+    /// The number of the message.
+    pub fn number(&self) -> Number
+        ensures { result ≡ self.now.number }
+    {
+        self.number
+    }
+
+    /// The type of the message, with the fields of that type.
+    pub fn body(&self) -> &BodyView<'a>
+        ensures { body_in result.now ≡ self.now.body }
+    {
+        &self.body
+    }
+
+    /// The APDU, its texts on their own memory.
+    pub fn to_apdu(&self, alloc: Global) -> Result<Apdu, OutOfMemory>
+        ensures { IfOk result (λ apdu. apdu ≡ self.now) }
+    {
+        let txn = TxnId::new(alloc, self.group, self.transaction).map_err(|_| OutOfMemory)?;
+        let body = self.body.to_body(alloc)?;
+        Ok(Apdu {
+            txn,
+            number: self.number,
+            body,
+        })
+    }
+}
+
+impl BodyView<'_> {
+    /// The body, its text on its own memory.
+    fn to_body(&self, alloc: Global) -> Result<Body, OutOfMemory>
+        ensures { IfOk result (λ body. body ≡ body_in self.now) }
+    {
+        Ok(match self {
+            BodyView::IllRequest { expiry, item } => Body::IllRequest {
+                expiry: *expiry,
+                item: Item::new(alloc, item).map_err(|_| OutOfMemory)?,
+            },
+            BodyView::Shipped { due } => Body::Shipped { due: *due },
+            BodyView::IllAnswer { result } => Body::IllAnswer { result: *result },
+            BodyView::ConditionalReply { answers, yes } => Body::ConditionalReply {
+                answers: *answers,
+                yes: *yes,
+            },
+            BodyView::Cancel => Body::Cancel,
+            BodyView::CancelReply { answers, yes } => Body::CancelReply {
+                answers: *answers,
+                yes: *yes,
+            },
+            BodyView::Received => Body::Received,
+            BodyView::Recall => Body::Recall,
+            BodyView::Returned => Body::Returned,
+            BodyView::CheckedIn => Body::CheckedIn,
+            BodyView::Overdue { due } => Body::Overdue { due: *due },
+            BodyView::Renew { wished } => Body::Renew { wished: *wished },
+            BodyView::RenewAnswer { answers, granted } => Body::RenewAnswer {
+                answers: *answers,
+                granted: *granted,
+            },
+            BodyView::Expired => Body::Expired,
+        })
+    }
+}

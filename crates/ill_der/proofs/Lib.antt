@@ -10,3 +10,4 @@ pub mod Sizes
 pub mod WriteLemmas
 pub mod SpellingLaws
 pub mod MissingLemmas
+pub mod FeedLemmas

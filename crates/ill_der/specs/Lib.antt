@@ -5,3 +5,6 @@ pub mod View
 pub mod ShortForm
 pub mod Stream
 pub mod Laws
+pub mod Feed
+pub mod Handling
+pub mod FeedView

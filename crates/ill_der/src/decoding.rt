@@ -1,6 +1,6 @@
 //! Viewing and decoding of one APDU at the front of bytes.
 
-ghost use Rattle.std.specs.Prelude.{◌+◌, ◌≤◌, length, IfOk};
+ghost use Rattle.std.specs.Prelude.{◌+◌, ◌<◌, ◌≤◌, length, IfOk};
 ghost use Rattle.ill_der.specs.Contents.{yes_no, date, number};
 ghost use Rattle.ill_der.specs.Format.{Reads, length_of, required, where_yes};
 ghost use Rattle.ill_der.specs.ShortForm.{outer_view, outer_at, outer_by, read_body, reply, body_of, inside_of, apdu_at, Finds, Views, Decodes};
@@ -50,6 +50,7 @@ pub fn decode(alloc: Global, bytes: &[u8]) -> Result<(Apdu, usize), DerFault>
 #[tactic(auto, unfolding(crate::specs::ShortForm::apdu_at))]
 pub fn view(bytes: &[u8]) -> Result<(ApduView<'_>, usize), DerFault>
     ensures read { Views bytes.now (apdu_at bytes.now) result }
+    ensures some { IfOk result (λ found. 0 < found.1) }
     ensures most { IfOk result (λ found. found.1 ≤ 359) }
 {
     match outer_at(bytes) {
@@ -66,6 +67,7 @@ pub fn view(bytes: &[u8]) -> Result<(ApduView<'_>, usize), DerFault>
 fn outer_at(bytes: &[u8]) -> Result<Outer<'_>, DerFault>
     ensures read { Finds outer_view result (outer_at bytes.now) }
     ensures size { IfOk result (λ outer. outer.size ≤ length bytes.now) }
+    ensures some { IfOk result (λ outer. 0 < outer.size) }
     ensures most { IfOk result (λ outer. outer.size ≤ 359) }
 {
     match bytes {
@@ -81,6 +83,7 @@ fn outer_at(bytes: &[u8]) -> Result<Outer<'_>, DerFault>
 fn outer_by(apdu_type: ApduType, bytes: &[u8]) -> Result<Outer<'_>, DerFault>
     ensures read { Finds outer_view result (outer_by apdu_type (length_of bytes.now) bytes.now) }
     ensures size { IfOk result (λ outer. outer.size ≤ length bytes.now + 1) }
+    ensures some { IfOk result (λ outer. 0 < outer.size) }
     ensures most { IfOk result (λ outer. outer.size ≤ 359) }
 {
     match length_of(bytes) {

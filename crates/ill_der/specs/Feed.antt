@@ -1,0 +1,56 @@
+-- Bytes that come in pieces, and the APDUs in them.
+use Rattle.std.specs.Prelude.{◌≡◌, ℕ, ◌==◌, if◌then◌else◌, List, [], ◌∷◌, ◌++◌, length, Option, Some, None, Result, Ok, Err}
+use Rattle.std.specs.List.{flat_map, AllByRecursion}
+use Rattle.std.specs.declared.alloc.AllocError.{AllocError}
+use Rattle.ill_values.specs.declared.apdu.Apdu.{Apdu}
+use Rattle.ill_values.specs.Apdu.{IsApdu}
+use Rattle.ill_der.specs.declared.fault.DerFault.{DerFault}
+use Rattle.ill_der.specs.declared.fault.DerFault.TheVariants.{Short}
+use Rattle.ill_der.specs.declared.feed.Pushed.{Pushed}
+use Rattle.ill_der.specs.ShortForm.{spelling, apdu_at}
+use Rattle.ill_der.specs.Stream.{IsUnfinished, IfShort}
+
+-- the bytes are the spellings of these APDUs, one behind another, and then the rest
+pub record Begins (bytes : List ℕ) (apdus : List Apdu) (rest : List ℕ) : Type 0 where
+  pub spelled : AllByRecursion IsApdu apdus
+  pub parts : bytes ≡ flat_map spelling apdus ++ rest
+
+-- a feed: the bytes that it holds, or the fault that closed it
+abbrev pub Held : Type 0
+Held = Result (List ℕ) DerFault
+
+-- What is left of a rest, behind which APDUs may stand: it is held while it is less than an APDU, and
+-- its fault closes the feed.
+abbrev pub Leaves : List ℕ → Held → Type 0
+Leaves rest (Ok held) = (held ≡ rest) × IsUnfinished rest
+Leaves rest (Err fault) = (apdu_at rest ≡ Err fault) × IfShort fault ⊥
+
+-- A piece was pushed: what was held and the piece are the spellings of these APDUs and then a rest,
+-- of which the feed is left. A closed feed gives nothing and stays closed.
+abbrev pub Feeds : Held → List ℕ → List Apdu → Held → Type 0
+Feeds (Ok held) piece apdus new =
+    (rest : List ℕ) × Begins (held ++ piece) apdus rest × Leaves rest new
+Feeds (Err fault) piece apdus new = (apdus ≡ []) × (new ≡ Err fault)
+
+-- the fault that closed a feed, if one did
+abbrev pub fault_of : Held → Option DerFault
+fault_of (Ok held) = None
+fault_of (Err fault) = Some fault
+
+-- what a push gives: the APDUs and the fault that closed the feed; without memory it changes nothing
+abbrev pub Pushes : Held → List ℕ → Result Pushed AllocError → Held → Type 0
+Pushes old piece (Ok pushed) new =
+    Feeds old piece pushed.apdus.items new × (pushed.fault ≡ fault_of new)
+Pushes old piece (Err refused) new = new ≡ old
+
+-- whether the bytes may end here: between two APDUs, and not within one
+abbrev pub end_of : Held → Result (Unit {0}) DerFault
+end_of (Ok held) = if length held == 0 then Ok tt else Err (Short (length held))
+end_of (Err fault) = Err fault
+
+-- pieces were pushed, one after another, and gave these APDUs in all
+abbrev pub FeedsAll : Held → List (List ℕ) → List Apdu → Held → Type 0
+FeedsAll old [] apdus new = (apdus ≡ []) × (new ≡ old)
+FeedsAll old (piece ∷ pieces) apdus new =
+    (first : List Apdu) × (others : List Apdu) × (next : Held)
+    × Feeds old piece first next × FeedsAll next pieces others new × (apdus ≡ first ++ others)

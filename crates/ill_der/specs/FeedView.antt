@@ -1,0 +1,39 @@
+-- A feed as its code has it: a buffer whose first bytes are held, and the fault that closed it.
+use Rattle.std.specs.Prelude.{◌≡◌, ℕ, ◌+◌, ◌-◌, ◌≤◌, min, List, [], ◌++◌, length, take, Option, Some, None, Result, Ok, Err}
+use Rattle.ill_der.specs.declared.fault.DerFault.{DerFault}
+use Rattle.ill_der.specs.declared.fault.DerFault.TheVariants.{Short}
+use Rattle.ill_der.specs.Stream.{IsUnfinished}
+use Rattle.ill_der.specs.Feed.{Held, fault_of}
+use Rattle.ill_der.specs.Handling.{Handles, FailsIn, HandlesEach}
+
+-- what a feed is, of the fault that closed it, if one did, and the bytes that are held
+abbrev pub held_of : Option DerFault → List ℕ → Held
+held_of None bytes = Ok bytes
+held_of (Some fault) bytes = Err fault
+
+-- the fault that closes a feed whose rest has this fault
+abbrev pub closing : DerFault → Option DerFault
+closing (Short n) = None
+closing fault = Some fault
+
+-- the first bytes of a buffer are less than an APDU
+pub record Holds (size : ℕ) (buffer : List ℕ) : Type 0 where
+  pub most : size ≤ 358
+  pub unfinished : IsUnfinished (take size buffer)
+
+-- A piece was copied behind the first bytes of a buffer, as far as there was room: so many bytes of it
+-- are filled then.
+pub record Fills (old new : List ℕ) (size : ℕ) (piece : List ℕ) (filled : ℕ) : Type 0 where
+  pub few : size ≤ 359
+  pub room : length old ≡ 359
+  pub count : filled ≡ min 359 (size + length piece)
+  pub parts : take filled new ≡ take size old ++ take (filled - size) piece
+
+-- an open feed dropped what it held, and these bytes were pushed; where handling failed it dropped
+-- nothing
+abbrev pub GoesOn : {S F : Type 0} → Handles S F → Held → List ℕ → S → Result (Option DerFault) F → Held → S
+    → Type 0
+GoesOn handles old bytes before (Ok fault) new after =
+    HandlesEach handles (Ok []) bytes before (Ok fault) new after
+GoesOn handles old bytes before (Err fault) new after =
+    (new ≡ old) × FailsIn handles bytes before fault after

@@ -1,0 +1,236 @@
+//! Bytes that come in pieces, and the APDUs in them.
+
+ghost use Rattle.std.specs.Prelude.{◌≡◌, ◌+◌, ◌-◌, ◌≤◌, [], ◌∷◌, ◌++◌, length, take, min, IfOk, IsOk, OnOk};
+ghost use Rattle.ill_der.specs.ShortForm.{apdu_at};
+ghost use Rattle.ill_der.specs.Stream.{IsUnfinished};
+ghost use Rattle.ill_der.specs.Feed.{Held, Leaves, Pushes, fault_of, end_of};
+ghost use Rattle.ill_der.specs.Handling.{HandlesEach};
+ghost use Rattle.ill_der.specs.FeedView.{held_of, closing, Holds, Fills, GoesOn};
+
+use crate::apdu_view::ApduView;
+use crate::fault::DerFault;
+use crate::handling::{Handler, handle_all, handle_first};
+use crate::laws::{read_again, short_has_the_size};
+use ill_values::{Apdu, OutOfMemory};
+use std::alloc::Global;
+use std::marker::Model;
+
+/// How many bytes the longest APDU has.
+const MAX_SIZE: usize = 359;
+
+/// Takes the bytes of APDUs, one behind another, in pieces cut anywhere.
+///
+/// It holds the bytes of an APDU of which some have not come yet, at most 358. The first fault of the
+/// bytes closes it.
+#[derive(Debug, Drop)]
+pub struct Feed {
+    alloc: Global,
+    buffer: [u8; MAX_SIZE],
+    size: usize,
+    closed: Option<DerFault>,
+}
+
+impl Model for Feed {
+    ghost Value = { Held };
+
+    ghost view = { λ f. held_of f.closed (take f.size f.buffer) };
+
+    ghost invariant = { λ f. Holds f.size f.buffer };
+}
+
+/// What a piece gave.
+#[derive(Debug, Drop)]
+pub struct Pushed {
+    /// The APDUs that the piece completed, in their order, up to the first fault.
+    pub apdus: Vec<Apdu>,
+    /// The fault that closed the feed, if it is closed.
+    pub fault: Option<DerFault>,
+}
+
+impl Feed {
+    /// A feed that holds nothing. It takes no memory.
+    pub fn new(alloc: Global) -> Feed
+        ensures { result ≡ Ok [] }
+    {
+        Feed {
+            alloc,
+            buffer: [0; MAX_SIZE],
+            size: 0,
+            closed: None,
+        }
+    }
+
+    /// Pushes a piece, and gives each APDU that it completes before the first fault, then that fault.
+    ///
+    /// After a fault a push gives no APDU and the same fault. If memory runs out, the feed is as it
+    /// was.
+    pub fn push(&mut self, piece: &[u8]) -> Result<Pushed, OutOfMemory>
+        ensures { Pushes self.old piece.now result self.new }
+    {
+        let mut collector = Collector {
+            apdus: Vec::new(self.alloc),
+        };
+        let mut nothing = ();
+        match self.each(piece, &mut nothing, &mut collector) {
+            Ok(fault) => Ok(Pushed {
+                apdus: collector.apdus,
+                fault,
+            }),
+            Err(fault) => Err(fault),
+        }
+    }
+
+    /// Pushes a piece, and hands each APDU that it completes before the first fault to the handler,
+    /// one after another; then gives that fault. It takes no memory of its own, and an APDU that
+    /// stands whole in the piece is not copied.
+    ///
+    /// After a fault it hands nothing on and gives the same fault. If handling fails, the feed is as it
+    /// was: the same piece would hand the same APDUs on again.
+    pub fn each<C, H: Handler<C>>(
+        &mut self,
+        piece: &[u8],
+        context: &mut C,
+        handler: &mut H,
+    ) -> Result<Option<DerFault>, H::Fault>
+        ensures { HandlesEach H.handles self.old piece.now (handler.old, context.old) result self.new
+            (handler.new, context.new) }
+    {
+        match self.closed {
+            None => self.complete(piece, context, handler),
+            Some(fault) => Ok(Some(fault)),
+        }
+    }
+
+    /// Whether the bytes may end here: `Ok` between two APDUs, and `Short` with the number of bytes
+    /// held within one. A closed feed answers its fault.
+    pub fn end(&self) -> Result<(), DerFault>
+        ensures end { result ≡ end_of self.now }
+        ensures most { IfOk self.now (λ held. length held ≤ 358) }
+    {
+        match self.closed {
+            None if self.size == 0 => Ok(()),
+            None => Err(DerFault::Short(self.size as u16)),
+            Some(fault) => Err(fault),
+        }
+    }
+
+    /// Pushes a piece into an open feed: completes the APDU whose bytes are held, if any, and goes on
+    /// behind it.
+    fn complete<C, H: Handler<C>>(
+        &mut self,
+        piece: &[u8],
+        context: &mut C,
+        handler: &mut H,
+    ) -> Result<Option<DerFault>, H::Fault>
+        requires { IsOk self.old }
+        ensures { HandlesEach H.handles self.old piece.now (handler.old, context.old) result self.new
+            (handler.new, context.new) }
+    {
+        read_again();
+        short_has_the_size();
+        if self.size == 0 {
+            return self.go_on(piece, context, handler);
+        }
+        let filled = fill(&mut self.buffer, self.size, piece);
+        match handle_first(self.alloc, &self.buffer[..filled], context, handler) {
+            Ok(Ok(end)) => {
+                let behind = end - self.size;
+                self.go_on(&piece[behind..], context, handler)
+            }
+            Ok(Err(fault)) => match closing(fault) {
+                None => {
+                    self.size = filled;
+                    Ok(None)
+                }
+                Some(fault) => {
+                    self.closed = Some(fault);
+                    Ok(Some(fault))
+                }
+            },
+            Err(fault) => Err(fault),
+        }
+    }
+
+    /// Hands on the APDUs of bytes with which one begins, and leaves of the feed what stands behind
+    /// them, whatever it held.
+    fn go_on<C, H: Handler<C>>(
+        &mut self,
+        bytes: &[u8],
+        context: &mut C,
+        handler: &mut H,
+    ) -> Result<Option<DerFault>, H::Fault>
+        requires { IsOk self.old }
+        ensures { GoesOn H.handles self.old bytes.now (handler.old, context.old) result self.new
+            (handler.new, context.new) }
+    {
+        match handle_all(self.alloc, bytes, context, handler) {
+            Ok((at, fault)) => Ok(self.leave(&bytes[at..], fault)),
+            Err(fault) => Err(fault),
+        }
+    }
+
+    /// Leaves of the feed a rest that has this fault, whatever it held, and gives the fault that closes
+    /// it, if one does.
+    fn leave(&mut self, rest: &[u8], fault: DerFault) -> Option<DerFault>
+        requires opened { IsOk self.old }
+        requires fault { apdu_at rest.now ≡ Err fault }
+        ensures leaves { Leaves rest.now self.new }
+        ensures fault { result ≡ fault_of self.new }
+    {
+        short_has_the_size();
+        match closing(fault) {
+            None => {
+                self.size = fill(&mut self.buffer, 0, rest);
+                None
+            }
+            Some(fault) => {
+                self.closed = Some(fault);
+                Some(fault)
+            }
+        }
+    }
+}
+
+/// The fault that closes a feed whose rest has this fault: a rest that is short is held.
+fn closing(fault: DerFault) -> Option<DerFault>
+    ensures { result ≡ closing fault }
+{
+    match fault {
+        DerFault::Short(_) => None,
+        fault => Some(fault),
+    }
+}
+
+/// Copies as many bytes of the piece behind the first of the buffer as there is room for, and gives how
+/// many bytes the buffer has then.
+fn fill(buffer: &mut [u8; MAX_SIZE], size: usize, piece: &[u8]) -> usize
+    requires { size ≤ 359 }
+    ensures { Fills buffer.old buffer.new size piece.now result }
+{
+    let count = piece.len().min(MAX_SIZE - size);
+    buffer[size..size + count].copy_from_slice(&piece[..count]);
+    size + count
+}
+
+/// Keeps each APDU.
+#[derive(Drop)]
+struct Collector {
+    apdus: Vec<Apdu>,
+}
+
+impl Handler<()> for Collector {
+    type Fault = OutOfMemory;
+
+    ghost handles = { λ old apdu result new. OnOk result (new.0.apdus.items ≡ old.0.apdus.items ++ apdu ∷ []) };
+
+    fn handle(
+        &mut self,
+        alloc: Global,
+        _context: &mut (),
+        apdu: &ApduView<'_>,
+    ) -> Result<(), OutOfMemory> {
+        let apdu = apdu.to_apdu(alloc)?;
+        self.apdus.push(apdu)?;
+        Ok(())
+    }
+}

@@ -296,3 +296,13 @@ fails_first handles old new piece size filled before after was fault fills opene
     subst (λ (x : List ℕ). Begins x (first.0 ∷ []) rest) (whole_piece k held piece (take filled new) fills.parts) (begins_more (take filled new) first.1 (drop k piece) (first.0 ∷ []) first.2) in
     let failed : FailsIn handles (held ++ piece) before fault after = ([], first.0, rest, before, begins, refl, first.3) in
     subst (λ (h : Held). FailsAt handles h piece before fault after) (sym opened) failed
+
+-- ---- keeping the APDUs
+
+-- a handler that puts each APDU behind those that it has has all of them at last
+pub all_kept : {S F : Type 0} (handles : Handles S F) (kept : S → List Apdu) → ((before after : S) (apdu : Apdu) → handles before apdu (Ok tt) after → kept after ≡ kept before ++ apdu ∷ [])
+    → (before after : S) (apdus : List Apdu) → Handled handles before apdus after → kept after ≡ kept before ++ apdus
+all_kept handles kept law before after [] same = ap kept same ∙ sym (append-nil (kept before))
+all_kept handles kept law before after (apdu ∷ apdus) handled =
+    all_kept handles kept law handled.0 after apdus handled.2 ∙ ap (λ (x : List Apdu). x ++ apdus) (law before handled.0 apdu handled.1)
+    ∙ append_assoc (kept before) (apdu ∷ []) apdus

@@ -1,7 +1,9 @@
 -- A feed as its code has it: a buffer whose first bytes are held, and the fault that closed it.
-use Rattle.std.specs.Prelude.{◌≡◌, ℕ, ◌+◌, ◌-◌, ◌≤◌, min, List, [], ◌++◌, length, take, Option, Some, None, Result, Ok, Err}
+use Rattle.std.specs.Prelude.{◌≡◌, ℕ, ◌+◌, ◌-◌, ◌≤◌, min, List, [], ◌∷◌, ◌++◌, length, take, Option, Some, None, Result, Ok, Err, OnOk}
+use Rattle.std.specs.declared.alloc.AllocError.{AllocError}
 use Rattle.ill_der.specs.declared.fault.DerFault.{DerFault}
 use Rattle.ill_der.specs.declared.fault.DerFault.TheVariants.{Short}
+use Rattle.ill_der.specs.declared.feed.Collector.{Collector}
 use Rattle.ill_der.specs.Stream.{IsUnfinished}
 use Rattle.ill_der.specs.Feed.{Held, fault_of}
 use Rattle.ill_der.specs.Handling.{Handles, FailsIn, HandlesEach}
@@ -37,3 +39,7 @@ GoesOn handles old bytes before (Ok fault) new after =
     HandlesEach handles (Ok []) bytes before (Ok fault) new after
 GoesOn handles old bytes before (Err fault) new after =
     (new ≡ old) × FailsIn handles bytes before fault after
+
+-- an APDU is kept behind those that were
+abbrev pub Keeps : Handles (Collector × Unit {0}) AllocError
+Keeps old apdu result new = OnOk result (new.0.apdus.items ≡ old.0.apdus.items ++ apdu ∷ [])

@@ -5,7 +5,7 @@ ghost use Rattle.ill_der.specs.ShortForm.{apdu_at};
 ghost use Rattle.ill_der.specs.Stream.{IsUnfinished};
 ghost use Rattle.ill_der.specs.Feed.{Held, Leaves, Pushes, fault_of, end_of};
 ghost use Rattle.ill_der.specs.Handling.{HandlesEach};
-ghost use Rattle.ill_der.specs.FeedView.{held_of, closing, Holds, Fills, GoesOn};
+ghost use Rattle.ill_der.specs.FeedView.{held_of, closing, Holds, Fills, GoesOn, Keeps};
 
 use crate::apdu_view::ApduView;
 use crate::fault::DerFault;
@@ -221,7 +221,7 @@ struct Collector {
 impl Handler<()> for Collector {
     type Fault = OutOfMemory;
 
-    ghost handles = { λ old apdu result new. OnOk result (new.0.apdus.items ≡ old.0.apdus.items ++ apdu ∷ []) };
+    ghost handles = { Keeps };
 
     fn handle(
         &mut self,

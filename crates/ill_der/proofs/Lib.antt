@@ -11,3 +11,4 @@ pub mod WriteLemmas
 pub mod SpellingLaws
 pub mod MissingLemmas
 pub mod FeedLemmas
+pub mod CutLemmas

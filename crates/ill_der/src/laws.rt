@@ -9,6 +9,8 @@ ghost use Rattle.ill_der.specs.declared.apdu_type.ApduType.TheVariants.{IllReque
 ghost use Rattle.ill_der.specs.Types.{type_of};
 ghost use Rattle.ill_der.specs.ShortForm.{spelling, apdu_at};
 ghost use Rattle.ill_der.specs.Stream.{IfShort};
+ghost use Rattle.std.specs.List.{concat};
+ghost use Rattle.ill_der.specs.Feed.{Held, Feeds, FeedsAll};
 ghost use Rattle.ill_der.specs.Laws.{IsBytes, BeginsWithOne};
 
 use ill_values::laws::{date_texts, text_sizes};
@@ -79,4 +81,28 @@ pub fn short_has_the_size()
 {
     date_texts();
     text_sizes();
+}
+
+/// Two pieces that are pushed one after the other are as one.
+pub fn two_pushes()
+    ensures { (old middle new : Held) (front piece : List ℕ) (first more : List Apdu) →
+        Feeds old front first middle → Feeds middle piece more new →
+        Feeds old (front ++ piece) (first ++ more) new }
+{}
+
+/// However bytes are cut into pieces, a feed gives the same APDUs for them, and comes to the same end.
+pub fn any_cut()
+    ensures { (pieces others : List (List ℕ)) (a b : List Apdu) (x y : Held) →
+        concat pieces ≡ concat others → FeedsAll (Ok []) pieces a x → FeedsAll (Ok []) others b y →
+        (a ≡ b) × (x ≡ y) }
+{
+    read_again();
+}
+
+/// A feed holds fewer bytes than the longest APDU has.
+pub fn few_are_held()
+    ensures { (pieces : List (List ℕ)) (apdus : List Apdu) (held : List ℕ) →
+        FeedsAll (Ok []) pieces apdus (Ok held) → length held ≤ 358 }
+{
+    short_has_the_size();
 }

@@ -1,0 +1,5 @@
+use Rattle.ill_der.proofs.CutLemmas.{two_pushes}
+use Rattle.ill_der.proofs.laws.two_pushes.Goals as goal
+
+pub returns : goal.returns
+returns c = two_pushes

@@ -1,11 +1,11 @@
 -- Bytes that are cut into pieces in two ways.
-use Rattle.std.proofs.Common.{◌≡◌, ℕ, ◌≤◌, List, [], ◌∷◌, ◌++◌, length, Result, Ok, Err, refl, sym, ap, subst, ◌∙◌, arith, append_assoc}
+use Rattle.std.proofs.Common.{◌≡◌, ℕ, ◌≤◌, List, [], ◌∷◌, ◌++◌, length, Ok, Err, refl, sym, ap, subst, ◌∙◌, arith, append_assoc}
 use Rattle.std.specs.List.{flat_map, concat}
 use Rattle.std.proofs.lemmas.List.{append-nil}
 use Rattle.ill_values.specs.declared.apdu.Apdu.{Apdu}
 use Rattle.ill_der.specs.declared.fault.DerFault.{DerFault}
 use Rattle.ill_der.specs.declared.fault.DerFault.TheVariants.{Short}
-use Rattle.ill_der.specs.ShortForm.{spelling, outer_at, apdu_at}
+use Rattle.ill_der.specs.ShortForm.{spelling, header_at, outer_at, apdu_at}
 use Rattle.ill_der.specs.Stream.{IsUnfinished, IfShort}
 use Rattle.ill_der.specs.Feed.{Begins, Held, Leaves, Feeds, FeedsAll}
 use Rattle.ill_der.proofs.Chains.{no_value, ok_is, fault_is}
@@ -99,7 +99,7 @@ one_cut again (apdu ∷ apdus) (one ∷ ones) bytes rest behind a b x leaves y o
     (ap (λ (e : Apdu). e ∷ apdus) head ∙ ap (λ (es : List Apdu). one ∷ es) later.0, later.1)
 
 nothing_held : IsUnfinished []
-unfolding apdu_at outer_at
+unfolding apdu_at outer_at header_at
 nothing_held = refl
 
 pub any_cut : AgainLaw → (pieces others : List (List ℕ)) (first second : List Apdu) (a b : Held) → concat pieces ≡ concat others → FeedsAll (Ok []) pieces first a → FeedsAll (Ok []) others second b

@@ -1,5 +1,5 @@
 -- APDUs in bytes that come in pieces: how they are handed on, and what is left of the bytes.
-use Rattle.std.proofs.Common.{◌≡◌, ℕ, ◌+◌, ◌-◌, ◌<◌, ◌≤◌, min, List, [], ◌∷◌, ◌++◌, length, take, drop, Option, Some, None, Result, Ok, Err, IsOk, inl, inr, refl, sym, ap, subst, ◌∙◌, arith, append_assoc}
+use Rattle.std.proofs.Common.{◌≡◌, ℕ, ◌+◌, ◌-◌, ◌<◌, ◌≤◌, List, [], ◌∷◌, ◌++◌, length, take, drop, Option, Some, None, Result, Ok, Err, IsOk, inl, inr, refl, sym, ap, subst, ◌∙◌, arith, append_assoc}
 use Rattle.std.specs.List.{flat_map, AllByRecursion}
 use Rattle.std.proofs.lemmas.Bool.{cases_lt}
 use Rattle.std.proofs.lemmas.List.{append-nil, length-append, length-take-le, length-drop, drop-drop, take-append-le, drop-append-le, take-append-drop, take_at, take_rest}
@@ -10,11 +10,11 @@ use Rattle.ill_values.specs.Apdu.{IsApdu}
 use Rattle.ill_der.specs.declared.fault.DerFault.{DerFault}
 use Rattle.ill_der.specs.declared.fault.DerFault.TheVariants.{Short, Tag, Length, Field, OutOfMemory}
 use Rattle.ill_der.specs.Laws.{IsBytes, BeginsWithOne}
-use Rattle.ill_der.specs.ShortForm.{spelling, outer_at, apdu_at}
+use Rattle.ill_der.specs.ShortForm.{spelling, header_at, outer_at, apdu_at}
 use Rattle.ill_der.specs.Stream.{IsUnfinished, IfShort}
-use Rattle.ill_der.specs.Feed.{Begins, Held, Leaves, Feeds, fault_of}
-use Rattle.ill_der.specs.Handling.{Handles, Handled, FailsIn, HandlesFirst, HandlesAll, FailsAt, HandlesEach}
-use Rattle.ill_der.specs.FeedView.{held_of, closing, Holds, Fills, GoesOn}
+use Rattle.ill_der.specs.Feed.{Begins, Held, Leaves, fault_of}
+use Rattle.ill_der.specs.Handling.{Handles, Handled, FailsIn, FailsAt, HandlesEach}
+use Rattle.ill_der.specs.FeedView.{held_of, closing, Holds, Fills, HandlesFirst, GoesOn}
 use Rattle.ill_der.proofs.Chains.{no_value}
 use Rattle.ill_der.proofs.ShortFormLaws.{fault_stays}
 
@@ -112,7 +112,7 @@ closing_some (Field at) closed e = (let is : Field at ≡ closed = cc in is, tt)
 closing_some OutOfMemory closed e = (let is : OutOfMemory ≡ closed = cc in is, tt)
 
 pub holds_nothing : (buffer : List ℕ) → Holds 0 buffer
-unfolding apdu_at outer_at
+unfolding apdu_at outer_at header_at
 holds_nothing buffer = record { most = omega arith; unfinished = refl }
 
 pub holds : (size : ℕ) (buffer front : List ℕ) → size ≤ 358 → take size buffer ≡ front → IsUnfinished front → Holds size buffer

@@ -12,41 +12,71 @@ use Rattle.ill_der.specs.declared.length.LengthForm.{LengthForm}
 use Rattle.ill_der.specs.declared.length.LengthForm.TheVariants.{Truncated, Invalid, Definite}
 use Rattle.ill_der.specs.Format.{◌>>=◌, length_of, IsFew}
 use Rattle.ill_der.specs.Types.{type_with}
-use Rattle.ill_der.specs.ShortForm.{outer_by, outer_of, outer_at, inside_of, apdu_at, Decodes}
+use Rattle.ill_der.specs.ShortForm.{header_by, header_of, header_at, outer_at, inside_of, apdu_at, Decodes}
 use Rattle.ill_der.specs.Stream.{IsUnfinished, AreUnfinished, IfShort, missing_by, missing_of}
 use Rattle.ill_der.proofs.Chains.{bind_err, chosen, no_value, tag_inside, length_inside}
 use Rattle.ill_der.proofs.Lengths.{length_few}
 use Rattle.ill_der.proofs.StreamLemmas.{decodes_err}
 use Rattle.ill_der.proofs.ContentsLaws.{Values}
-use Rattle.ill_der.proofs.ShortFormLaws.{IsFinal, length_more, outer_with, inside_faults}
+use Rattle.ill_der.proofs.ShortFormLaws.{IsFinal, length_more, outer_with, outer_behind, outer_of, outer_is, outer_none, inside_faults}
+
+-- ---- what is missing behind an identifier
+
+abbrev missing_behind : LengthForm → ℕ → ℕ
+missing_behind Truncated size = 1
+missing_behind Invalid size = 0
+missing_behind (Definite n octets) size = cond (ltb 355 n) 0 (octets + n - size)
+
+missing_in : (apdu_type : ApduType) (n octets size : ℕ) (large : Bool)
+    → missing_by (cond large (Err (Length 1)) (Ok (record { apdu_type = apdu_type; start = 1 + octets; size = 1 + (octets + n) }))) (size + 1) ≡ cond large 0 (octets + n - size)
+missing_in apdu_type n octets size true = refl
+missing_in apdu_type n octets size false = omega arith
+
+missing_cases : (apdu_type : ApduType) (form : LengthForm) (size : ℕ) → missing_by (header_by apdu_type form (size + 1)) (size + 1) ≡ missing_behind form size
+missing_cases apdu_type Truncated size = refl
+missing_cases apdu_type Invalid size = refl
+missing_cases apdu_type (Definite n octets) size = missing_in apdu_type n octets size (ltb 355 n)
+
+missing_from : (o : Option ApduType) (bytes : List ℕ) → missing_by (header_of o bytes) (length bytes + 1) ≡ cond (is_some o) (missing_behind (length_of bytes) (length bytes)) 0
+missing_from None bytes = refl
+missing_from (Some apdu_type) bytes = missing_cases apdu_type (length_of bytes) (length bytes)
+
+missing_is : (first : ℕ) (bytes : List ℕ) → missing_of (first ∷ bytes) ≡ cond (is_some (type_with first)) (missing_behind (length_of bytes) (length bytes)) 0
+unfolding missing_of header_at
+missing_is first bytes =
+    ap (λ (size : ℕ). missing_by (header_of (type_with first) bytes) size) (let e : length (first ∷ bytes) ≡ length bytes + 1 = omega arith in e) ∙ missing_from (type_with first) bytes
+
+missing_none : missing_of [] ≡ 1
+unfolding missing_of header_at
+missing_none = refl
 
 -- ---- bytes of which some are missing, with fewer behind them
 
 wanted_is : (apdu_type : ApduType) (n octets : ℕ) (large : Bool) (bytes more : List ℕ) → ltb 355 n ≡ large → length_of bytes ≡ Definite n octets
-    → length more < cond large 0 (octets + n - length bytes) → outer_by apdu_type (length_of (bytes ++ more)) (bytes ++ more) ≡ Err (Short (length (bytes ++ more) + 1))
+    → length more < cond large 0 (octets + n - length bytes) → outer_behind apdu_type (length_of (bytes ++ more)) (bytes ++ more) ≡ Err (Short (length (bytes ++ more) + 1))
 wanted_is apdu_type n octets true bytes more large e lt = absurd (omega (arith, lt))
 wanted_is apdu_type n octets false bytes more large e lt =
     let same : length_of (bytes ++ more) ≡ Definite n octets = length_more bytes more (subst IsFinal (sym e) tt) ∙ e in
     let few : ltb (length (bytes ++ more)) (octets + n) ≡ true = lt-ltb _ _ (omega (arith, lt, length-append bytes more)) in
     rw (same, large, few) refl
 
-wanted_by : (apdu_type : ApduType) (form : LengthForm) (bytes more : List ℕ) → length_of bytes ≡ form → length more < missing_by form (length bytes)
-    → outer_by apdu_type (length_of (bytes ++ more)) (bytes ++ more) ≡ Err (Short (length (bytes ++ more) + 1))
+wanted_by : (apdu_type : ApduType) (form : LengthForm) (bytes more : List ℕ) → length_of bytes ≡ form → length more < missing_behind form (length bytes)
+    → outer_behind apdu_type (length_of (bytes ++ more)) (bytes ++ more) ≡ Err (Short (length (bytes ++ more) + 1))
 wanted_by apdu_type Truncated bytes [] e lt = rw (append-nil bytes, e) refl
 wanted_by apdu_type Truncated bytes (x ∷ more) e lt = absurd (omega (arith, lt))
 wanted_by apdu_type Invalid bytes more e lt = absurd (omega (arith, lt))
 wanted_by apdu_type (Definite n octets) bytes more e lt = wanted_is apdu_type n octets (ltb 355 n) bytes more refl e lt
 
-wanted_of : (o : Option ApduType) (bytes more : List ℕ) → length more < cond (is_some o) (missing_by (length_of bytes) (length bytes)) 0
+wanted_of : (o : Option ApduType) (bytes more : List ℕ) → length more < cond (is_some o) (missing_behind (length_of bytes) (length bytes)) 0
     → outer_of o (bytes ++ more) ≡ Err (Short (length (bytes ++ more) + 1))
 wanted_of None bytes more lt = absurd (omega (arith, lt))
 wanted_of (Some apdu_type) bytes more lt = wanted_by apdu_type (length_of bytes) bytes more refl lt
 
 wanted_outer : (bytes more : List ℕ) → length more < missing_of bytes → outer_at (bytes ++ more) ≡ Err (Short (length (bytes ++ more)))
-unfolding missing_of outer_at
-wanted_outer [] [] lt = refl
-wanted_outer [] (x ∷ more) lt = absurd (omega (arith, lt))
-wanted_outer (first ∷ bytes) more lt = wanted_of (type_with first) bytes more lt ∙ ap (λ (k : ℕ). Err (Short k)) (omega arith)
+wanted_outer [] [] lt = outer_none
+wanted_outer [] (x ∷ more) lt = absurd (omega (arith, lt, missing_none))
+wanted_outer (first ∷ bytes) more lt =
+    outer_is first (bytes ++ more) ∙ wanted_of (type_with first) bytes more (subst (λ (k : ℕ). length more < k) (missing_is first bytes) lt) ∙ ap (λ (k : ℕ). Err (Short k)) (omega arith)
 
 pub wanted : (bytes more : List ℕ) → length more < missing_of bytes → IsUnfinished (bytes ++ more)
 unfolding apdu_at
@@ -54,7 +84,7 @@ wanted bytes more lt = rw (wanted_outer bytes more lt) refl
 
 -- ---- bytes of which none is missing
 
-enough_by : (apdu_type : ApduType) (form : LengthForm) (bytes : List ℕ) (n : ℕ) → missing_by form (length bytes) ≡ 0 → outer_by apdu_type form bytes ≡ Err (Short n) → ⊥
+enough_by : (apdu_type : ApduType) (form : LengthForm) (bytes : List ℕ) (n : ℕ) → missing_behind form (length bytes) ≡ 0 → outer_behind apdu_type form bytes ≡ Err (Short n) → ⊥
 enough_by apdu_type Truncated bytes n none e = omega (arith, none)
 enough_by apdu_type Invalid bytes n none e = length_inside 1 (Short n) e
 enough_by apdu_type (Definite m octets) bytes n none e =
@@ -68,14 +98,13 @@ enough_by apdu_type (Definite m octets) bytes n none e =
       ]
     ]
 
-enough_of : (o : Option ApduType) (bytes : List ℕ) (n : ℕ) → cond (is_some o) (missing_by (length_of bytes) (length bytes)) 0 ≡ 0 → outer_of o bytes ≡ Err (Short n) → ⊥
+enough_of : (o : Option ApduType) (bytes : List ℕ) (n : ℕ) → cond (is_some o) (missing_behind (length_of bytes) (length bytes)) 0 ≡ 0 → outer_of o bytes ≡ Err (Short n) → ⊥
 enough_of None bytes n none e = tag_inside 0 (Short n) e
 enough_of (Some apdu_type) bytes n none e = enough_by apdu_type (length_of bytes) bytes n none e
 
 enough_outer : (bytes : List ℕ) (n : ℕ) → missing_of bytes ≡ 0 → outer_at bytes ≡ Err (Short n) → ⊥
-unfolding missing_of outer_at
-enough_outer [] n none e = omega (arith, none)
-enough_outer (first ∷ bytes) n none e = enough_of (type_with first) bytes n none e
+enough_outer [] n none e = omega (arith, none, missing_none)
+enough_outer (first ∷ bytes) n none e = enough_of (type_with first) bytes n (sym (missing_is first bytes) ∙ none) (sym (outer_is first bytes) ∙ e)
 
 enough : Values → (bytes : List ℕ) (n : ℕ) → missing_of bytes ≡ 0 → apdu_at bytes ≡ Err (Short n) → ⊥
 unfolding apdu_at
@@ -111,20 +140,19 @@ most_is : (n octets size : ℕ) (large : Bool) → ltb 355 n ≡ large → octet
 most_is n octets size true e few some = absurd (omega (arith, some))
 most_is n octets size false e few some = omega (arith, few, some, ltb-false 355 n e)
 
-most_by : (form : LengthForm) (size : ℕ) → IsFew form size → 0 < missing_by form size → size + missing_by form size ≤ 358
+most_by : (form : LengthForm) (size : ℕ) → IsFew form size → 0 < missing_behind form size → size + missing_behind form size ≤ 358
 most_by Truncated size few some = omega (arith, few)
 most_by Invalid size few some = absurd (omega (arith, some))
 most_by (Definite n octets) size few some = most_is n octets size (ltb 355 n) refl few some
 
-most_of : (o : Option ApduType) (bytes : List ℕ) → 0 < cond (is_some o) (missing_by (length_of bytes) (length bytes)) 0
-    → length bytes + cond (is_some o) (missing_by (length_of bytes) (length bytes)) 0 ≤ 358
+most_of : (o : Option ApduType) (bytes : List ℕ) → 0 < cond (is_some o) (missing_behind (length_of bytes) (length bytes)) 0
+    → length bytes + cond (is_some o) (missing_behind (length_of bytes) (length bytes)) 0 ≤ 358
 most_of None bytes some = absurd (omega (arith, some))
 most_of (Some apdu_type) bytes some = most_by (length_of bytes) (length bytes) (length_few bytes) some
 
 pub most_missing : (bytes : List ℕ) → 0 < missing_of bytes → length bytes + missing_of bytes ≤ 359
-unfolding missing_of
-most_missing [] some = omega arith
-most_missing (first ∷ bytes) some = omega (arith, most_of (type_with first) bytes some)
+most_missing [] some = omega (arith, missing_none)
+most_missing (first ∷ bytes) some = omega (arith, missing_is first bytes, most_of (type_with first) bytes (subst (λ (k : ℕ). 0 < k) (missing_is first bytes) some))
 
 -- ---- what was read, and a read of no more than is missing
 

@@ -1,8 +1,8 @@
 -- The short form: what is read is spelled so, what is spelled is read again, and what is short.
 use Rattle.ill_der.specs.Stream.{IfShort}
-use Rattle.std.proofs.Common.{◌≡◌, ℕ, ◌+◌, ◌≤◌, false, cond, eqb, ltb, List, [], ◌∷◌, ◌++◌, length, take, drop, Option, Some, None, Ok, Err, refl, sym, ap, subst, ◌∙◌, inl, inr, append_assoc, arith, Bool, true}
+use Rattle.std.proofs.Common.{◌≡◌, ℕ, ◌+◌, ◌-◌, ◌≤◌, false, cond, eqb, ltb, List, [], ◌∷◌, ◌++◌, length, take, drop, Option, Some, None, Result, Ok, Err, refl, sym, ap, subst, ◌∙◌, inl, inr, append_assoc, arith, Bool, true}
 use Rattle.std.specs.Prelude.{IfSome}
-use Rattle.std.proofs.lemmas.Bool.{ltb-true, ltb-false, le-ltb}
+use Rattle.std.proofs.lemmas.Bool.{cases_lt, ltb-true, ltb-false, lt-ltb, le-ltb}
 use Rattle.std.proofs.lemmas.List.{append-nil, take_at, drop_at, length-append, length-take, length-drop, take-append-drop, drop-drop, drop-append-le, take-append-le}
 use Rattle.ill_values.specs.declared.apdu.Apdu.{Apdu}
 use Rattle.ill_values.specs.declared.apdu.Body.{Body}
@@ -11,7 +11,7 @@ use Rattle.ill_values.specs.Apdu.{IsNumber, IsBody, IsApdu}
 use Rattle.ill_values.specs.Day.{Date, IsDate}
 use Rattle.ill_values.specs.Text.{IsQualifier, IsItem}
 use Rattle.ill_der.specs.declared.fault.DerFault.{DerFault}
-use Rattle.ill_der.specs.declared.fault.DerFault.TheVariants.{Short, Length, OutOfMemory}
+use Rattle.ill_der.specs.declared.fault.DerFault.TheVariants.{Short, Tag, Length, OutOfMemory}
 use Rattle.ill_der.specs.declared.apdu_type.ApduType.{ApduType}
 use Rattle.ill_der.specs.declared.apdu_type.ApduType.TheVariants as types
 use Rattle.ill_der.specs.declared.length.LengthForm.{LengthForm}
@@ -19,7 +19,7 @@ use Rattle.ill_der.specs.declared.length.LengthForm.TheVariants.{Truncated, Inva
 use Rattle.ill_der.specs.Contents.{version, number, qualifier, date, item, answer_result, yes_no}
 use Rattle.ill_der.specs.Format.{◌>>=◌, length_octets, length_of, IsFew, element, Cursor, cursor_at, begins_with, ended, required, optional, followed_by, where_yes, Format, one_octet_length, two_octet_length}
 use Rattle.ill_der.specs.Types.{identifier_of, all_types, type_with, type_of}
-use Rattle.ill_der.specs.ShortForm.{txn_id, head, request, due_date, answer, reply, wish, grant, spell_body, made_of, read_body, contents_of, spelling, Outer, outer_by, outer_of, outer_at, body_of, inside_of, apdu_at}
+use Rattle.ill_der.specs.ShortForm.{txn_id, head, request, due_date, answer, reply, wish, grant, spell_body, made_of, read_body, contents_of, spelling, Outer, header_by, header_of, header_at, outer_by, outer_at, body_of, inside_of, apdu_at}
 use Rattle.ill_der.proofs.Chains.{bind_ok, bind_err, went_on, chosen, done, ok_is, no_value, short_is, short_or_memory, IsInside, tag_inside, length_inside, fault_is}
 use Rattle.ill_der.specs.Laws.{IsBytes}
 use Rattle.ill_der.proofs.Bytes.{IsBytes-drop, IsBytes-take}
@@ -311,7 +311,52 @@ record IsOuter (bytes : List ℕ) (outer : Outer) : Type 0 where
 abbrev pub outer_with : ApduType → ℕ → ℕ → List ℕ → Outer
 outer_with apdu_type n octets bytes = record { apdu_type = apdu_type; inside = cursor_at (1 + octets) (take n (drop octets bytes)); size = 1 + (octets + n) }
 
-outer_by_takes : (first : ℕ) (apdu_type : ApduType) (form : LengthForm) (bytes : List ℕ) (outer : Outer) → IsBytes bytes → first ≡ identifier_of apdu_type → length_of bytes ≡ form → outer_by apdu_type form bytes ≡ Ok outer → IsOuter (first ∷ bytes) outer
+-- the header and the contents in one, of the bytes behind an identifier
+abbrev pub outer_behind : ApduType → LengthForm → List ℕ → Result Outer DerFault
+outer_behind apdu_type (Definite n octets) bytes =
+    cond (ltb 355 n) (Err (Length 1)) (cond (ltb (length bytes) (octets + n)) (Err (Short (length bytes + 1))) (Ok (outer_with apdu_type n octets bytes)))
+outer_behind apdu_type Truncated bytes = Err (Short (length bytes + 1))
+outer_behind apdu_type Invalid bytes = Err (Length 1)
+
+abbrev pub outer_of : Option ApduType → List ℕ → Result Outer DerFault
+outer_of None bytes = Err (Tag 0)
+outer_of (Some apdu_type) bytes = outer_behind apdu_type (length_of bytes) bytes
+
+outer_in : (first : ℕ) (apdu_type : ApduType) (n octets : ℕ) (large : Bool) (bytes : List ℕ)
+    → (cond large (Err (Length 1)) (Ok (record { apdu_type = apdu_type; start = 1 + octets; size = 1 + (octets + n) })) >>= λ header. outer_by header (first ∷ bytes))
+    ≡ cond large (Err (Length 1)) (cond (ltb (length bytes) (octets + n)) (Err (Short (length bytes + 1))) (Ok (outer_with apdu_type n octets bytes)))
+outer_in first apdu_type n octets true bytes = refl
+outer_in first apdu_type n octets false bytes =
+    let all = first ∷ bytes in
+    let count : length all ≡ length bytes + 1 = omega arith in
+    let fewer : ltb (length all) (1 + (octets + n)) ≡ ltb (length bytes) (octets + n) =
+    elim (cases_lt (length bytes) (octets + n)) [
+      | inl lt ↦ lt-ltb (length all) (1 + (octets + n)) (omega (arith, lt)) ∙ sym (lt-ltb (length bytes) (octets + n) lt)
+      | inr le ↦ le-ltb (length all) (1 + (octets + n)) (omega (arith, le)) ∙ sym (le-ltb (length bytes) (octets + n) le)
+    ] in
+    let behind : drop (1 + octets) all ≡ drop octets bytes = sym (drop-drop octets 1 all) in
+    let many : 1 + (octets + n) - (1 + octets) ≡ n = omega arith in
+    rw (fewer, count, behind, many) refl
+
+outer_cases : (first : ℕ) (apdu_type : ApduType) (form : LengthForm) (bytes : List ℕ)
+    → (header_by apdu_type form (length bytes + 1) >>= λ header. outer_by header (first ∷ bytes)) ≡ outer_behind apdu_type form bytes
+outer_cases first apdu_type Truncated bytes = refl
+outer_cases first apdu_type Invalid bytes = refl
+outer_cases first apdu_type (Definite n octets) bytes = outer_in first apdu_type n octets (ltb 355 n) bytes
+
+outer_from : (first : ℕ) (o : Option ApduType) (bytes : List ℕ) → (header_of o bytes >>= λ header. outer_by header (first ∷ bytes)) ≡ outer_of o bytes
+outer_from first None bytes = refl
+outer_from first (Some apdu_type) bytes = outer_cases first apdu_type (length_of bytes) bytes
+
+pub outer_is : (first : ℕ) (bytes : List ℕ) → outer_at (first ∷ bytes) ≡ outer_of (type_with first) bytes
+unfolding outer_at header_at
+outer_is first bytes = outer_from first (type_with first) bytes
+
+pub outer_none : outer_at [] ≡ Err (Short 0)
+unfolding outer_at header_at
+outer_none = refl
+
+outer_by_takes : (first : ℕ) (apdu_type : ApduType) (form : LengthForm) (bytes : List ℕ) (outer : Outer) → IsBytes bytes → first ≡ identifier_of apdu_type → length_of bytes ≡ form → outer_behind apdu_type form bytes ≡ Ok outer → IsOuter (first ∷ bytes) outer
 outer_by_takes first apdu_type Truncated bytes outer fits k f e = absurd cc
 outer_by_takes first apdu_type Invalid bytes outer fits k f e = absurd cc
 outer_by_takes first apdu_type (Definite n octets) bytes outer fits k f e =
@@ -334,16 +379,16 @@ outer_of_takes first None bytes outer fits k e = absurd cc
 outer_of_takes first (Some apdu_type) bytes outer fits k e = outer_by_takes first apdu_type (length_of bytes) bytes outer fits (identifier_with first apdu_type k) refl e
 
 outer_takes : (bytes : List ℕ) (outer : Outer) → IsBytes bytes → outer_at bytes ≡ Ok outer → IsOuter bytes outer
-unfolding outer_at
-outer_takes [] outer fits e = absurd cc
-outer_takes (first ∷ bytes) outer fits e = outer_of_takes first (type_with first) bytes outer (IsBytes-drop 1 (first ∷ bytes) fits) refl e
+outer_takes [] outer fits e = absurd (no_value (Short 0) outer (sym e ∙ outer_none))
+outer_takes (first ∷ bytes) outer fits e =
+    outer_of_takes first (type_with first) bytes outer (IsBytes-drop 1 (first ∷ bytes) fits) refl (sym (outer_is first bytes) ∙ e)
 
 abbrev OuterAgain : ApduType → List ℕ → List ℕ → Type 0
 OuterAgain apdu_type contents more =
     (at : ℕ) × (outer_at (element (identifier_of apdu_type) contents ++ more) ≡ Ok (record { apdu_type = apdu_type; inside = cursor_at at contents; size = length (element (identifier_of apdu_type) contents) }))
 
 outer_by_again : (apdu_type : ApduType) (octets contents more : List ℕ) → length contents ≤ 355
-    → outer_by apdu_type (Definite (length contents) (length octets)) (octets ++ (contents ++ more))
+    → outer_behind apdu_type (Definite (length contents) (length octets)) (octets ++ (contents ++ more))
     ≡ Ok (record { apdu_type = apdu_type; inside = cursor_at (1 + length octets) contents; size = 1 + (length octets + length contents) })
 outer_by_again apdu_type octets contents more small =
     let all = octets ++ (contents ++ more) in
@@ -355,15 +400,17 @@ outer_by_again apdu_type octets contents more small =
     rw (short, enough, inside) refl
 
 outer_again : (apdu_type : ApduType) (contents more : List ℕ) → length contents ≤ 355 → OuterAgain apdu_type contents more
-unfolding outer_at element
+unfolding element
 outer_again apdu_type contents more small =
     let octets = length_octets (length contents) in
-    let size : 1 + (length octets + length contents) ≡ length (identifier_of apdu_type ∷ (octets ++ contents)) = omega (arith, length-append octets contents) in (
-      1 + length octets,
-      rw (type_again apdu_type, append_assoc octets contents more, length_again (length contents) (contents ++ more) (omega arith)) (rw (← size) (outer_by_again apdu_type octets contents more small)),
-    )
+    let identifier = identifier_of apdu_type in
+    let behind = (octets ++ contents) ++ more in
+    let size : 1 + (length octets + length contents) ≡ length (identifier ∷ (octets ++ contents)) = omega (arith, length-append octets contents) in
+    let read : outer_of (type_with identifier) behind ≡ Ok (record { apdu_type = apdu_type; inside = cursor_at (1 + length octets) contents; size = length (identifier ∷ (octets ++ contents)) }) =
+    rw (type_again apdu_type, append_assoc octets contents more, length_again (length contents) (contents ++ more) (omega arith)) (rw (← size) (outer_by_again apdu_type octets contents more small)) in
+    (1 + length octets, outer_is identifier behind ∙ read)
 
-outer_by_short : (apdu_type : ApduType) (form : LengthForm) (bytes : List ℕ) (n : ℕ) → IsFew form (length bytes) → outer_by apdu_type form bytes ≡ Err (Short n) → (n ≡ length bytes + 1) × (length bytes ≤ 357)
+outer_by_short : (apdu_type : ApduType) (form : LengthForm) (bytes : List ℕ) (n : ℕ) → IsFew form (length bytes) → outer_behind apdu_type form bytes ≡ Err (Short n) → (n ≡ length bytes + 1) × (length bytes ≤ 357)
 outer_by_short apdu_type Truncated bytes n few e = (sym (short_is (length bytes + 1) n e), omega arith)
 outer_by_short apdu_type Invalid bytes n few e = absurd (length_inside 1 (Short n) e)
 outer_by_short apdu_type (Definite m octets) bytes n few e =
@@ -380,10 +427,9 @@ outer_of_short None bytes n e = absurd (tag_inside 0 (Short n) e)
 outer_of_short (Some apdu_type) bytes n e = outer_by_short apdu_type (length_of bytes) bytes n (length_few bytes) e
 
 outer_short : (bytes : List ℕ) (n : ℕ) → outer_at bytes ≡ Err (Short n) → (n ≡ length bytes) × (length bytes ≤ 358)
-unfolding outer_at
-outer_short [] n e = (sym (short_is 0 n e), omega arith)
+outer_short [] n e = (sym (short_is 0 n (sym outer_none ∙ e)), omega arith)
 outer_short (first ∷ bytes) n e =
-    let is = outer_of_short (type_with first) bytes n e in
+    let is = outer_of_short (type_with first) bytes n (sym (outer_is first bytes) ∙ e) in
     (omega (arith, is.0), omega (arith, is.1))
 
 -- ---- whole APDUs
@@ -429,7 +475,7 @@ apdu_short values bytes n e =
       ]
     ]
 
-outer_by_memory : (apdu_type : ApduType) (form : LengthForm) (bytes : List ℕ) → outer_by apdu_type form bytes ≡ Err OutOfMemory → ⊥
+outer_by_memory : (apdu_type : ApduType) (form : LengthForm) (bytes : List ℕ) → outer_behind apdu_type form bytes ≡ Err OutOfMemory → ⊥
 outer_by_memory apdu_type Truncated bytes e = short_or_memory (length bytes + 1) e
 outer_by_memory apdu_type Invalid bytes e = length_inside 1 OutOfMemory e
 outer_by_memory apdu_type (Definite m octets) bytes e =
@@ -446,9 +492,8 @@ outer_of_memory None bytes e = tag_inside 0 OutOfMemory e
 outer_of_memory (Some apdu_type) bytes e = outer_by_memory apdu_type (length_of bytes) bytes e
 
 outer_memory : (bytes : List ℕ) → outer_at bytes ≡ Err OutOfMemory → ⊥
-unfolding outer_at
-outer_memory [] e = short_or_memory 0 e
-outer_memory (first ∷ bytes) e = outer_of_memory (type_with first) bytes e
+outer_memory [] e = short_or_memory 0 (sym outer_none ∙ e)
+outer_memory (first ∷ bytes) e = outer_of_memory (type_with first) bytes (sym (outer_is first bytes) ∙ e)
 
 -- no bytes have want of memory as their fault
 pub apdu_memory : Values → (bytes : List ℕ) → apdu_at bytes ≡ Err OutOfMemory → ⊥
@@ -496,7 +541,7 @@ same_contents n octets bytes more enough =
     ap (take n) (drop-append-le octets bytes more (omega arith)) ∙ take-append-le n (drop octets bytes) more (omega (arith, length-drop octets bytes))
 
 -- an APDU that is all there stays so
-outer_by_more : (apdu_type : ApduType) (form : LengthForm) (bytes more : List ℕ) (outer : Outer) → outer_by apdu_type form bytes ≡ Ok outer → IsFinal form × (outer_by apdu_type form (bytes ++ more) ≡ Ok outer)
+outer_by_more : (apdu_type : ApduType) (form : LengthForm) (bytes more : List ℕ) (outer : Outer) → outer_behind apdu_type form bytes ≡ Ok outer → IsFinal form × (outer_behind apdu_type form (bytes ++ more) ≡ Ok outer)
 outer_by_more apdu_type Truncated bytes more outer e = absurd cc
 outer_by_more apdu_type Invalid bytes more outer e = absurd cc
 outer_by_more apdu_type (Definite n octets) bytes more outer e =
@@ -510,15 +555,14 @@ outer_of_more : (first : ℕ) (o : Option ApduType) (bytes more : List ℕ) (out
 outer_of_more first None bytes more outer e = absurd cc
 outer_of_more first (Some apdu_type) bytes more outer e =
     let is = outer_by_more apdu_type (length_of bytes) bytes more outer e in
-    ap (λ (form : LengthForm). outer_by apdu_type form (bytes ++ more)) (length_more bytes more is.0) ∙ is.1
+    ap (λ (form : LengthForm). outer_behind apdu_type form (bytes ++ more)) (length_more bytes more is.0) ∙ is.1
 
 outer_more : (bytes more : List ℕ) (outer : Outer) → outer_at bytes ≡ Ok outer → outer_at (bytes ++ more) ≡ Ok outer
-unfolding outer_at
-outer_more [] more outer e = absurd cc
-outer_more (first ∷ bytes) more outer e = outer_of_more first (type_with first) bytes more outer e
+outer_more [] more outer e = absurd (no_value (Short 0) outer (sym e ∙ outer_none))
+outer_more (first ∷ bytes) more outer e = outer_is first (bytes ++ more) ∙ outer_of_more first (type_with first) bytes more outer (sym (outer_is first bytes) ∙ e)
 
 -- a fault other than Short stays, whatever follows
-outer_by_stays : (apdu_type : ApduType) (form : LengthForm) (bytes more : List ℕ) (d : DerFault) → IfShort d ⊥ → outer_by apdu_type form bytes ≡ Err d → IsFinal form × (outer_by apdu_type form (bytes ++ more) ≡ Err d)
+outer_by_stays : (apdu_type : ApduType) (form : LengthForm) (bytes more : List ℕ) (d : DerFault) → IfShort d ⊥ → outer_behind apdu_type form bytes ≡ Err d → IsFinal form × (outer_behind apdu_type form (bytes ++ more) ≡ Err d)
 outer_by_stays apdu_type Truncated bytes more d other e = absurd (subst (λ (f : DerFault). IfShort f ⊥) (sym (fault_is (Short (length bytes + 1)) d e)) other)
 outer_by_stays apdu_type Invalid bytes more d other e = (tt, e)
 outer_by_stays apdu_type (Definite n octets) bytes more d other e =
@@ -534,12 +578,11 @@ outer_of_stays : (o : Option ApduType) (bytes more : List ℕ) (d : DerFault) �
 outer_of_stays None bytes more d other e = e
 outer_of_stays (Some apdu_type) bytes more d other e =
     let is = outer_by_stays apdu_type (length_of bytes) bytes more d other e in
-    ap (λ (form : LengthForm). outer_by apdu_type form (bytes ++ more)) (length_more bytes more is.0) ∙ is.1
+    ap (λ (form : LengthForm). outer_behind apdu_type form (bytes ++ more)) (length_more bytes more is.0) ∙ is.1
 
 outer_stays : (bytes more : List ℕ) (d : DerFault) → IfShort d ⊥ → outer_at bytes ≡ Err d → outer_at (bytes ++ more) ≡ Err d
-unfolding outer_at
-outer_stays [] more d other e = absurd (subst (λ (f : DerFault). IfShort f ⊥) (sym (fault_is (Short 0) d e)) other)
-outer_stays (first ∷ bytes) more d other e = outer_of_stays (type_with first) bytes more d other e
+outer_stays [] more d other e = absurd (subst (λ (f : DerFault). IfShort f ⊥) (sym (fault_is (Short 0) d (sym outer_none ∙ e))) other)
+outer_stays (first ∷ bytes) more d other e = outer_is first (bytes ++ more) ∙ outer_of_stays (type_with first) bytes more d other (sym (outer_is first bytes) ∙ e)
 
 pub fault_stays : (bytes more : List ℕ) (d : DerFault) → IfShort d ⊥ → apdu_at bytes ≡ Err d → apdu_at (bytes ++ more) ≡ Err d
 unfolding apdu_at

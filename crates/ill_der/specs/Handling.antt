@@ -1,9 +1,8 @@
 -- What is done with APDUs, one after another. What is done with one of them is a relation: of the
 -- state before, the APDU, whether it went well, and the state after.
-use Rattle.std.specs.Prelude.{◌≡◌, ℕ, ◌<◌, ◌≤◌, List, [], ◌∷◌, ◌++◌, length, drop, Option, Result, Ok, Err}
+use Rattle.std.specs.Prelude.{◌≡◌, ℕ, List, [], ◌∷◌, ◌++◌, Option, Result, Ok, Err}
 use Rattle.ill_values.specs.declared.apdu.Apdu.{Apdu}
 use Rattle.ill_der.specs.declared.fault.DerFault.{DerFault}
-use Rattle.ill_der.specs.ShortForm.{apdu_at}
 use Rattle.ill_der.specs.Feed.{Begins, Held, Feeds, fault_of}
 
 -- what is done with an APDU
@@ -22,26 +21,6 @@ FailsIn {S = S} handles bytes before fault after =
     (apdus : List Apdu) × (apdu : Apdu) × (rest : List ℕ) × (state : S)
     × Begins bytes (apdus ++ apdu ∷ []) rest × Handled handles before apdus state
     × handles state apdu (Err fault) after
-
--- The APDU at the front of the bytes was handled, and has this size; or the bytes are at fault; or
--- handling failed.
-abbrev pub HandlesFirst : {S F : Type 0} → Handles S F → List ℕ → S → Result (Result ℕ DerFault) F → S → Type 0
-HandlesFirst handles bytes before (Ok (Ok size)) after =
-    (0 < size) × (size ≤ length bytes)
-    × ((apdu : Apdu) × Begins bytes (apdu ∷ []) (drop size bytes) × handles before apdu (Ok tt) after)
-HandlesFirst handles bytes before (Ok (Err fault)) after =
-    (apdu_at bytes ≡ Err fault) × (after ≡ before)
-HandlesFirst handles bytes before (Err fault) after =
-    (apdu : Apdu) × (rest : List ℕ) × Begins bytes (apdu ∷ []) rest
-    × handles before apdu (Err fault) after
-
--- Each APDU at the front of the bytes was handled, up to a fault of the bytes from some place on; or
--- handling failed.
-abbrev pub HandlesAll : {S F : Type 0} → Handles S F → List ℕ → S → Result (ℕ × DerFault) F → S → Type 0
-HandlesAll handles bytes before (Ok (at, fault)) after =
-    (at ≤ length bytes) × (apdu_at (drop at bytes) ≡ Err fault)
-    × ((apdus : List Apdu) × Begins bytes apdus (drop at bytes) × Handled handles before apdus after)
-HandlesAll handles bytes before (Err fault) after = FailsIn handles bytes before fault after
 
 -- handling failed at one of the APDUs that a feed and a piece give; a closed feed gives none
 abbrev pub FailsAt : {S F : Type 0} → Handles S F → Held → List ℕ → S → F → S → Type 0

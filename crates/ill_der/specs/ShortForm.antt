@@ -1,5 +1,5 @@
 -- The short form of APDUs: the spelling of each, and the reading of bytes with the first fault.
-use Rattle.std.specs.Prelude.{◌≡◌, ℕ, Bool, ◌+◌, ◌≤◌, nat_lt, if◌then◌else◌, List, [], ◌∷◌, ◌++◌, length, take, drop, Option, Some, None, Result, Ok, Err, MatchResult}
+use Rattle.std.specs.Prelude.{◌≡◌, ℕ, Bool, ◌+◌, ◌-◌, ◌≤◌, nat_lt, if◌then◌else◌, List, [], ◌∷◌, ◌++◌, length, take, drop, Option, Some, None, Result, Ok, Err, MatchResult}
 use Rattle.ill_values.specs.declared.apdu.Apdu.{Apdu}
 use Rattle.ill_values.specs.declared.apdu.Body.{Body}
 use Rattle.ill_values.specs.declared.apdu.Body.TheVariants.{IllRequest, IllAnswer, ConditionalReply, Cancel, CancelReply, Shipped, Received, Recall, Returned, CheckedIn, Overdue, Renew, RenewAnswer, Expired}
@@ -11,6 +11,7 @@ use Rattle.ill_der.specs.declared.apdu_type.ApduType.{ApduType}
 use Rattle.ill_der.specs.declared.apdu_type.ApduType.TheVariants as types
 use Rattle.ill_der.specs.declared.length.LengthForm.{LengthForm}
 use Rattle.ill_der.specs.declared.length.LengthForm.TheVariants.{Truncated, Invalid, Definite}
+use Rattle.ill_der.specs.declared.header.Header.{Header}
 use Rattle.ill_der.specs.declared.decoding.Outer as decoding
 use Rattle.ill_der.specs.Types.{identifier_of, type_with, type_of}
 use Rattle.ill_der.specs.Contents.{version, number, qualifier, date, item, answer_result, yes_no}
@@ -105,34 +106,43 @@ contents_of apdu = head_of apdu ++ spell_body apdu.body
 unfoldable pub spelling : Apdu → List ℕ
 spelling apdu = element (identifier_of (type_of apdu.body)) (contents_of apdu)
 
+-- what the identifier and the length of an APDU say, of at most 355 octets of contents, of which so
+-- many bytes are there
+abbrev pub header_by : ApduType → LengthForm → ℕ → Result Header DerFault
+header_by apdu_type (Definite n octets) size =
+    if nat_lt 355 n then Err (Length 1)
+    else Ok (record { apdu_type = apdu_type; start = 1 + octets; size = 1 + (octets + n) })
+header_by apdu_type Truncated size = Err (Short size)
+header_by apdu_type Invalid size = Err (Length 1)
+
+abbrev pub header_of : Option ApduType → List ℕ → Result Header DerFault
+header_of None bytes = Err (Tag 0)
+header_of (Some apdu_type) bytes = header_by apdu_type (length_of bytes) (length bytes + 1)
+
+-- the identifier and the length at the front, or why they are not there
+unfoldable pub header_at : List ℕ → Result Header DerFault
+header_at [] = Err (Short 0)
+header_at (first ∷ bytes) = header_of (type_with first) bytes
+
 -- an APDU that is all there: its type, its contents, and the number of its bytes
 pub record Outer : Type 0 where
   pub apdu_type : ApduType
   pub inside : Cursor
   pub size : ℕ
 
--- The contents that a length calls for, of bytes behind an identifier. There are at most 355. Where
--- some are missing the fault has the number of all bytes.
-abbrev pub outer_by : ApduType → LengthForm → List ℕ → Result Outer DerFault
-outer_by apdu_type (Definite n octets) bytes =
-    if nat_lt 355 n then Err (Length 1)
-    else (if nat_lt (length bytes) (octets + n) then Err (Short (length bytes + 1))
+-- The contents that a header calls for. Where some are missing the fault has the number of all bytes.
+abbrev pub outer_by : Header → List ℕ → Result Outer DerFault
+outer_by header bytes =
+    if nat_lt (length bytes) header.size then Err (Short (length bytes))
     else Ok (record {
-      apdu_type = apdu_type;
-      inside = cursor_at (1 + octets) (take n (drop octets bytes));
-      size = 1 + (octets + n);
-    }))
-outer_by apdu_type Truncated bytes = Err (Short (length bytes + 1))
-outer_by apdu_type Invalid bytes = Err (Length 1)
-
-abbrev pub outer_of : Option ApduType → List ℕ → Result Outer DerFault
-outer_of None bytes = Err (Tag 0)
-outer_of (Some apdu_type) bytes = outer_by apdu_type (length_of bytes) bytes
+      apdu_type = header.apdu_type;
+      inside = cursor_at header.start (take (header.size - header.start) (drop header.start bytes));
+      size = header.size;
+    })
 
 -- the identifier, the length and the contents at the front, or why they are not there
 unfoldable pub outer_at : List ℕ → Result Outer DerFault
-outer_at [] = Err (Short 0)
-outer_at (first ∷ bytes) = outer_of (type_with first) bytes
+outer_at bytes = header_at bytes >>= λ header. outer_by header bytes
 
 -- the body that all of what is left spells
 unfoldable pub body_of : ApduType → Cursor → Result Body DerFault

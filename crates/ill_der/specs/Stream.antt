@@ -1,5 +1,5 @@
 -- Reading one APDU from a stream, and writing one.
-use Rattle.std.specs.Prelude.{◌≡◌, ℕ, ◌+◌, ◌-◌, ◌<◌, nat_lt, if◌then◌else◌, is_some, List, [], ◌∷◌, length, take, Option, Some, None, Result, Ok, Err}
+use Rattle.std.specs.Prelude.{◌≡◌, ℕ, ◌-◌, ◌<◌, List, [], length, take, Option, Some, None, Result, Ok, Err}
 use Rattle.std.specs.Io.KnownBytes.{Consumes, Appends, IsAtEnd}
 use Rattle.ill_values.specs.declared.apdu.Apdu.{Apdu}
 use Rattle.ill_der.specs.declared.fault.DerFault.{DerFault}
@@ -9,11 +9,8 @@ use Rattle.ill_der.specs.declared.fault.ReadFault.TheVariants as faults
 use Rattle.ill_der.specs.declared.fault.WriteFault.{WriteFault}
 use Rattle.ill_der.specs.declared.fault.WriteFault.TheVariants as writing
 use Rattle.ill_values.specs.Apdu.{IsApdu}
-use Rattle.ill_der.specs.declared.length.LengthForm.{LengthForm}
-use Rattle.ill_der.specs.declared.length.LengthForm.TheVariants.{Truncated, Invalid, Definite}
-use Rattle.ill_der.specs.Format.{length_of}
-use Rattle.ill_der.specs.Types.{type_with}
-use Rattle.ill_der.specs.ShortForm.{spelling, apdu_at}
+use Rattle.ill_der.specs.declared.header.Header.{Header}
+use Rattle.ill_der.specs.ShortForm.{spelling, header_at, apdu_at}
 
 -- the bytes are less than an APDU, and more may complete them
 abbrev pub IsUnfinished : List ℕ → Type 0
@@ -58,18 +55,15 @@ IsJudged bytes (Err (faults.Bytes fault)) = (apdu_at bytes ≡ Err fault) × IfS
 IsJudged bytes (Err faults.Read) = ⊥
 IsJudged bytes (Err faults.OutOfMemory) = SpellsOne bytes
 
--- how many more bytes are needed at least behind an identifier, by the length and the bytes there are
-abbrev pub missing_by : LengthForm → ℕ → ℕ
-missing_by Truncated size = 1
-missing_by Invalid size = 0
-missing_by (Definite n octets) size = if nat_lt 355 n then 0 else octets + n - size
+-- how many more bytes are needed at least, by the header and the bytes there are
+abbrev pub missing_by : Result Header DerFault → ℕ → ℕ
+missing_by (Ok header) size = header.size - size
+missing_by (Err (Short at)) size = 1
+missing_by (Err other) size = 0
 
 -- how many more bytes the APDU needs at least; 0 if it is complete or already invalid
 unfoldable pub missing_of : List ℕ → ℕ
-missing_of [] = 1
-missing_of (first ∷ bytes) =
-    if is_some (type_with first) then missing_by (length_of bytes) (length bytes)
-    else 0
+missing_of bytes = missing_by (header_at bytes) (length bytes)
 
 -- Bytes were written, from what a writer held to what it holds: all of them, a front where the writer
 -- failed, or none for want of memory.

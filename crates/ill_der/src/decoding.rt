@@ -1,22 +1,21 @@
 //! Viewing and decoding of one APDU at the front of bytes.
 
-ghost use Rattle.std.specs.Prelude.{◌+◌, ◌<◌, ◌≤◌, length, IfOk};
+ghost use Rattle.std.specs.Prelude.{◌≢◌, ◌<◌, ◌≤◌, length, IfOk, IfErr};
+ghost use Rattle.ill_der.specs.declared.fault.DerFault.TheVariants.{OutOfMemory};
 ghost use Rattle.ill_der.specs.Contents.{yes_no, date, number};
-ghost use Rattle.ill_der.specs.Format.{Reads, length_of, required, where_yes};
-ghost use Rattle.ill_der.specs.ShortForm.{outer_view, outer_at, outer_by, read_body, reply, body_of, inside_of, apdu_at, Finds, Views, Decodes};
+ghost use Rattle.ill_der.specs.Format.{Reads, required, where_yes};
+ghost use Rattle.ill_der.specs.ShortForm.{outer_view, outer_at, read_body, reply, body_of, inside_of, apdu_at, Finds, Views, Decodes};
 ghost use Rattle.ill_der.specs.View.{body_in, HasItem};
 
 use crate::apdu_type::ApduType;
 use crate::apdu_view::{ApduView, BodyView};
 use crate::cursor::Cursor;
 use crate::fault::DerFault;
-use crate::length::{LengthForm, length_of};
+use crate::header::header_at;
+use crate::laws::prefix_or_fault;
 use crate::tags;
 use ill_values::{Apdu, Day, Number};
 use std::alloc::Global;
-
-/// The largest number of contents octets of an APDU.
-pub const MAX_CONTENTS: u16 = 355;
 
 /// A complete APDU: its type, its contents, and its size in bytes.
 #[derive(Drop)]
@@ -52,7 +51,9 @@ pub fn view(bytes: &[u8]) -> Result<(ApduView<'_>, usize), DerFault>
     ensures read { Views bytes.now (apdu_at bytes.now) result }
     ensures some { IfOk result (λ found. 0 < found.1) }
     ensures most { IfOk result (λ found. found.1 ≤ 359) }
+    ensures memory { IfErr result (λ fault. fault ≢ OutOfMemory) }
 {
+    prefix_or_fault();
     match outer_at(bytes) {
         Ok(mut outer) => match inside_of(outer.apdu_type, &mut outer.inside) {
             Ok(apdu) => Ok((apdu, outer.size)),
@@ -70,41 +71,17 @@ fn outer_at(bytes: &[u8]) -> Result<Outer<'_>, DerFault>
     ensures some { IfOk result (λ outer. 0 < outer.size) }
     ensures most { IfOk result (λ outer. outer.size ≤ 359) }
 {
-    match bytes {
-        [] => Err(DerFault::Short(0)),
-        [identifier, behind @ ..] => match ApduType::with_identifier(*identifier) {
-            Some(apdu_type) => outer_by(apdu_type, behind),
-            None => Err(DerFault::Tag(0)),
-        },
+    let header = header_at(bytes)?;
+    let (start, end) = (header.start as usize, header.size as usize);
+    if bytes.len() < end {
+        return Err(DerFault::Short(bytes.len() as u16));
     }
-}
-
-/// The same, of the bytes behind the identifier of an APDU of this type.
-fn outer_by(apdu_type: ApduType, bytes: &[u8]) -> Result<Outer<'_>, DerFault>
-    ensures read { Finds outer_view result (outer_by apdu_type (length_of bytes.now) bytes.now) }
-    ensures size { IfOk result (λ outer. outer.size ≤ length bytes.now + 1) }
-    ensures some { IfOk result (λ outer. 0 < outer.size) }
-    ensures most { IfOk result (λ outer. outer.size ≤ 359) }
-{
-    match length_of(bytes) {
-        LengthForm::Truncated => Err(DerFault::Short(bytes.len() as u16 + 1)),
-        LengthForm::Invalid => Err(DerFault::Length(1)),
-        LengthForm::Definite(length, octets) => {
-            if length > MAX_CONTENTS {
-                return Err(DerFault::Length(1));
-            }
-            let (start, end) = (octets as usize, octets as usize + length as usize);
-            if bytes.len() < end {
-                return Err(DerFault::Short(bytes.len() as u16 + 1));
-            }
-            let inside = Cursor::new(1 + octets, &bytes[start..end]);
-            Ok(Outer {
-                apdu_type,
-                inside,
-                size: 1 + end,
-            })
-        }
-    }
+    let inside = Cursor::new(header.start, &bytes[start..end]);
+    Ok(Outer {
+        apdu_type: header.apdu_type,
+        inside,
+        size: end,
+    })
 }
 
 /// Views the contents of an APDU of this type, to their end.

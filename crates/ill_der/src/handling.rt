@@ -2,7 +2,7 @@
 
 ghost use Rattle.std.specs.Prelude.{◌≡◌, Result};
 ghost use Rattle.ill_values.specs.declared.apdu.Apdu.{Apdu};
-ghost use Rattle.ill_der.specs.Handling.{HandlesFirst, HandlesAll};
+ghost use Rattle.ill_der.specs.FeedView.{HandlesFirst, HandlesAll};
 
 use crate::apdu_view::ApduView;
 use crate::decoding::view;

@@ -10,6 +10,7 @@ mod encoding;
 mod fault;
 mod feed;
 mod handling;
+mod header;
 pub mod laws;
 mod length;
 mod reading;

@@ -1,14 +1,12 @@
 //! Reading of one APDU from a stream.
 
-ghost use Rattle.std.specs.Prelude.{◌≡◌, ◌+◌, ◌≤◌, length};
-ghost use Rattle.ill_der.specs.Format.{length_of};
-ghost use Rattle.ill_der.specs.Stream.{AreUnfinished, IsJudged, ReadsApdu, missing_by, missing_of};
+ghost use Rattle.std.specs.Prelude.{◌≡◌, ◌+◌, ◌≤◌};
+ghost use Rattle.ill_der.specs.Stream.{AreUnfinished, IsJudged, ReadsApdu, missing_of};
 
-use crate::apdu_type::ApduType;
 use crate::counted::CountedRead;
-use crate::decoding::{MAX_CONTENTS, decode};
+use crate::decoding::decode;
 use crate::fault::{DerFault, ReadFault};
-use crate::length::{LengthForm, length_of};
+use crate::header::header_at;
 use crate::steps::Steps;
 use ill_values::Apdu;
 use ill_values::laws::{date_texts, text_sizes};
@@ -89,26 +87,10 @@ fn read_counted<R: CountedRead, L: Ledger>(
 fn missing(bytes: &[u8]) -> usize
     ensures { result ≡ missing_of bytes.now }
 {
-    match bytes {
-        [] => 1,
-        [identifier, behind @ ..] => match ApduType::with_identifier(*identifier) {
-            Some(_) => missing_behind(behind),
-            None => 0,
-        },
-    }
-}
-
-/// The same, of the bytes behind an identifier.
-fn missing_behind(bytes: &[u8]) -> usize
-    ensures { result ≡ missing_by (length_of bytes.now) (length bytes.now) }
-{
-    match length_of(bytes) {
-        LengthForm::Truncated => 1,
-        LengthForm::Invalid => 0,
-        LengthForm::Definite(length, _) if length > MAX_CONTENTS => 0,
-        LengthForm::Definite(length, octets) => {
-            (octets as usize + length as usize).saturating_sub(bytes.len())
-        }
+    match header_at(bytes) {
+        Ok(header) => (header.size as usize).saturating_sub(bytes.len()),
+        Err(DerFault::Short(_)) => 1,
+        Err(_) => 0,
     }
 }
 

@@ -1,6 +1,6 @@
 use Rattle.std.proofs.Common.{Result, ℕ, Ok, length, ◌-◌, take, drop, subst}
 use Rattle.ill_der.specs.declared.fault.DerFault.{DerFault}
-use Rattle.ill_der.specs.Handling.{HandlesFirst}
+use Rattle.ill_der.specs.FeedView.{HandlesFirst}
 use Rattle.ill_der.proofs.FeedLemmas.{one_more_handled, fails_behind}
 use Rattle.ill_der.proofs.handling.handle_all.Goals as goal
 

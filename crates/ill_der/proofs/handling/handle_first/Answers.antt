@@ -1,4 +1,4 @@
-use Rattle.std.proofs.Common.{◌≡◌, Ok, subst, arith, rules}
+use Rattle.std.proofs.Common.{arith}
 use Rattle.ill_der.proofs.FeedLemmas.{begins_one}
 use Rattle.ill_der.proofs.handling.handle_first.Goals as goal
 

@@ -2,8 +2,8 @@ use Rattle.std.proofs.Common.{◌≡◌, ℕ, ◌-◌, length, take, drop, [], N
 use Rattle.ill_der.specs.declared.fault.DerFault.{DerFault}
 use Rattle.ill_der.specs.ShortForm.{apdu_at}
 use Rattle.ill_der.specs.Stream.{IfShort}
-use Rattle.ill_der.specs.Handling.{HandlesFirst, HandlesEach}
-use Rattle.ill_der.specs.FeedView.{held_of, GoesOn}
+use Rattle.ill_der.specs.Handling.{HandlesEach}
+use Rattle.ill_der.specs.FeedView.{held_of, HandlesFirst, GoesOn}
 use Rattle.ill_der.proofs.FeedLemmas.{closing_some, is_open, holds_front, holds_still, short_held, goes_on_from, goes_on_behind, goes_on_alone, all_left, fault_of_all, fails_first, still_held}
 use Rattle.ill_der.proofs.feed.Feed.complete.Goals as goal
 

@@ -1,0 +1,64 @@
+//! The identifier and the length of an APDU.
+
+ghost use Rattle.std.specs.Prelude.{◌≡◌, ◌+◌, ◌≤◌, length, IfOk};
+ghost use Rattle.ill_der.specs.Format.{length_of};
+ghost use Rattle.ill_der.specs.ShortForm.{header_at, header_by};
+
+use crate::apdu_type::ApduType;
+use crate::fault::DerFault;
+use crate::length::{LengthForm, length_of};
+
+/// The largest number of contents octets of an APDU.
+const MAX_CONTENTS: u16 = 355;
+
+/// What the identifier and the length of an APDU say.
+#[derive(Clone, Copy, Debug)]
+pub struct Header {
+    /// The type of the APDU.
+    pub apdu_type: ApduType,
+    /// Where the contents begin, in bytes from the first byte of the APDU.
+    pub start: u16,
+    /// How many bytes the APDU has: at most 359.
+    pub size: u16,
+}
+
+/// The identifier and the length at the front of the bytes, or the fault of them: `Short` if the bytes
+/// end within them.
+#[tactic(auto, unfolding(crate::specs::ShortForm::header_at))]
+pub fn header_at(bytes: &[u8]) -> Result<Header, DerFault>
+    ensures read { result ≡ header_at bytes.now }
+    ensures some { IfOk result (λ header. 1 ≤ header.start) }
+    ensures order { IfOk result (λ header. header.start ≤ header.size) }
+    ensures most { IfOk result (λ header. header.size ≤ 359) }
+{
+    match bytes {
+        [] => Err(DerFault::Short(0)),
+        [identifier, behind @ ..] => match ApduType::with_identifier(*identifier) {
+            Some(apdu_type) => header_by(apdu_type, behind),
+            None => Err(DerFault::Tag(0)),
+        },
+    }
+}
+
+/// The same, of the bytes behind the identifier of an APDU of this type.
+fn header_by(apdu_type: ApduType, bytes: &[u8]) -> Result<Header, DerFault>
+    ensures read { result ≡ header_by apdu_type (length_of bytes.now) (length bytes.now + 1) }
+    ensures some { IfOk result (λ header. 1 ≤ header.start) }
+    ensures order { IfOk result (λ header. header.start ≤ header.size) }
+    ensures most { IfOk result (λ header. header.size ≤ 359) }
+{
+    match length_of(bytes) {
+        LengthForm::Truncated => Err(DerFault::Short(bytes.len() as u16 + 1)),
+        LengthForm::Invalid => Err(DerFault::Length(1)),
+        LengthForm::Definite(length, octets) => {
+            if length > MAX_CONTENTS {
+                return Err(DerFault::Length(1));
+            }
+            Ok(Header {
+                apdu_type,
+                start: 1 + octets,
+                size: 1 + (octets + length),
+            })
+        }
+    }
+}

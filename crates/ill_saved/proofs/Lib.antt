@@ -7,3 +7,4 @@ pub mod Sides
 pub mod Desks
 pub mod Files
 pub mod Sizes
+pub mod Places

@@ -56,11 +56,11 @@ fault_kept f g (faults.Bad at) left next first then_read stays read = stays (Bad
 fault_kept f g faults.Inconsistent left next first then_read stays read = absurd read
 fault_kept f g faults.OutOfMemory left next first then_read stays read = tt
 
-spell_none : {V : Type 0} (spell : V → List ℕ) → spell_all spell [] ≡ []
+pub spell_none : {V : Type 0} (spell : V → List ℕ) → spell_all spell [] ≡ []
 unfolding spell_all
 spell_none spell = refl
 
-spell_more : {V : Type 0} (spell : V → List ℕ) (v : V) (values : List V) → spell_all spell (v ∷ values) ≡ spell v ++ spell_all spell values
+pub spell_more : {V : Type 0} (spell : V → List ℕ) (v : V) (values : List V) → spell_all spell (v ∷ values) ≡ spell v ++ spell_all spell values
 unfolding spell_all
 spell_more spell v values = refl
 

@@ -4,4 +4,5 @@ pub mod Records
 pub mod Ranges
 pub mod Store
 pub mod Faults
+pub mod Kept
 pub mod Desk

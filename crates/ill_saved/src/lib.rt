@@ -7,6 +7,7 @@ mod desk;
 mod encoding;
 mod fault;
 mod file_store;
+mod kept;
 pub mod laws;
 mod memory_store;
 mod side;

@@ -1,0 +1,78 @@
+-- The places of messages in a record.
+use Rattle.std.proofs.Common.{rules, arith, ◌≡◌, ℕ, ◌+◌, ◌-◌, ◌<◌, ◌≤◌, List, [], ◌∷◌, ◌++◌, length, map, take, drop, refl, ap, sym, ◌∙◌, length-append, append_assoc, append-nil}
+use Rattle.std.specs.List.{All}
+use Rattle.std.proofs.lemmas.List.{take_at, drop_at, drop-drop, take-append-le, drop-append-le, length-drop, map_push}
+use Rattle.std.proofs.lemmas.List.Elements.{All-head, All-tail, All-push, All-weaker}
+use Rattle.ill_values.specs.declared.apdu.Apdu.{Apdu}
+use Rattle.ill_der.specs.ShortForm.{spelling}
+use Rattle.ill_saved.specs.declared.kept.Place.{Place}
+use Rattle.ill_saved.specs.Layout.{spell_all}
+use Rattle.ill_saved.specs.Kept.{piece_at, IsWithin, EndsWith}
+use Rattle.ill_saved.proofs.Lists.{spell_none, spell_more}
+
+-- a place within the front is the same place in the whole
+piece_of_front : (front more : List ℕ) (place : Place) → IsWithin (length front) place → piece_at (front ++ more) place ≡ piece_at front place
+piece_of_front front more place within =
+    let start : place.start ≤ length front = omega (arith, within) in
+    let size : place.size ≤ length (drop place.start front) = omega (arith, within, length-drop place.start front) in
+    ap (take place.size) (drop-append-le place.start front more start) ∙ take-append-le place.size (drop place.start front) more size
+
+pieces_of_front : (front more : List ℕ) (places : List Place) → All (IsWithin (length front)) places → map (piece_at (front ++ more)) places ≡ map (piece_at front) places
+pieces_of_front front more [] within = refl
+pieces_of_front front more (place ∷ places) within =
+    let first = piece_of_front front more place (All-head (IsWithin (length front)) place places within) in
+    let others = pieces_of_front front more places (All-tail (IsWithin (length front)) place places within) in
+    cc
+
+-- Up to an end the messages have their places: those left are spelled behind it.
+pub record ArePlaced (whole : List ℕ) (end : ℕ) (places : List Place) (left : List Apdu) (all : List (List ℕ)) : Type 0 where
+  pub rest : drop end whole ≡ spell_all spelling left
+  pub reached : end ≤ length whole
+  pub within : All (IsWithin (length whole)) places
+  pub pieces : map (piece_at whole) places ++ map spelling left ≡ all
+
+-- those in front of the first have theirs
+pub first_placed : (messages : List ℕ) (pieces : List (List ℕ)) (places : List Place) (apdus : List Apdu) (end : ℕ) → end ≡ length messages → All (IsWithin (length messages)) places
+    → map (piece_at messages) places ≡ pieces → ArePlaced (messages ++ spell_all spelling apdus) end places apdus (pieces ++ map spelling apdus)
+first_placed messages pieces places apdus end e within are =
+    let longer : length (messages ++ spell_all spelling apdus) ≡ length messages + length (spell_all spelling apdus) = length-append messages (spell_all spelling apdus) in
+    record {
+      rest = drop_at messages (spell_all spelling apdus) end (sym e);
+      reached = omega (arith, e, longer);
+      within = All-weaker (IsWithin (length messages)) (IsWithin (length (messages ++ spell_all spelling apdus))) (λ place is. omega (arith, is, longer)) places within;
+      pieces = ap (λ pieces. pieces ++ map spelling apdus) (pieces_of_front messages (spell_all spelling apdus) places within ∙ are);
+    }
+
+-- one more has its place
+pub next_placed : (whole : List ℕ) (end : ℕ) (places : List Place) (a : Apdu) (left : List Apdu) (all : List (List ℕ)) → ArePlaced whole end places (a ∷ left) all
+    → ArePlaced whole (end + length (spelling a)) (places ++ record { start = end; size = length (spelling a) } ∷ []) left all
+next_placed whole end places a left all placed =
+    let rest : drop end whole ≡ spelling a ++ spell_all spelling left = placed.rest ∙ spell_more spelling a left in
+    let long : length whole - end ≡ length (spelling a) + length (spell_all spelling left) = sym (length-drop end whole) ∙ (ap length rest ∙ length-append (spelling a) (spell_all spelling left)) in
+    let piece : piece_at whole (record { start = end; size = length (spelling a) }) ≡ spelling a =
+    ap (take (length (spelling a))) rest ∙ take_at (spelling a) (spell_all spelling left) (length (spelling a)) refl in
+    let reached : end + length (spelling a) ≤ length whole = omega (arith, long, placed.reached) in
+    record {
+      rest = sym (drop-drop (length (spelling a)) end whole) ∙ (ap (drop (length (spelling a))) rest ∙ drop_at (spelling a) (spell_all spelling left) (length (spelling a)) refl);
+      reached = reached;
+      within = All-push (IsWithin (length whole)) places (record { start = end; size = length (spelling a) }) placed.within reached;
+      pieces = ap (λ pieces. pieces ++ map spelling left) (map_push (piece_at whole) places (record { start = end; size = length (spelling a) }))
+          ∙ (append_assoc (map (piece_at whole) places) (piece_at whole (record { start = end; size = length (spelling a) }) ∷ []) (map spelling left)
+          ∙ (ap (λ piece. map (piece_at whole) places ++ piece ∷ map spelling left) piece ∙ placed.pieces));
+    }
+
+-- where all have theirs, the end is the whole's
+pub end_reached : (whole : List ℕ) (end : ℕ) (places : List Place) (all : List (List ℕ)) → ArePlaced whole end places [] all → end ≡ length whole
+end_reached whole end places all placed = omega (arith, placed.reached, sym (length-drop end whole) ∙ ap length (placed.rest ∙ spell_none spelling))
+
+pub all_placed : (whole : List ℕ) (end : ℕ) (places : List Place) (all : List (List ℕ)) → ArePlaced whole end places [] all → map (piece_at whole) places ≡ all
+all_placed whole end places all placed = sym (append-nil (map (piece_at whole) places)) ∙ placed.pieces
+
+-- bytes that end with the whole
+pub ends_within : (end bytes : List ℕ) → EndsWith end bytes → length end ≤ length bytes
+ends_within end bytes ends = omega (arith, ap length ends.1 ∙ length-append ends.0 end)
+
+pub end_of : (end bytes : List ℕ) (at : ℕ) → EndsWith end bytes → at ≡ length bytes - length end → drop at bytes ≡ end
+end_of end bytes at ends e =
+    let front : length ends.0 ≡ at = omega (arith, e, ap length ends.1 ∙ length-append ends.0 end) in
+    ap (drop at) ends.1 ∙ drop_at ends.0 end at front

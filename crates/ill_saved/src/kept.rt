@@ -1,0 +1,115 @@
+//! The record that has landed, as a desk keeps it.
+
+ghost use Rattle.std.specs.Prelude.{◌≡◌, ◌++◌, ◌-◌, ◌≤◌, length, map, drop, Some, IfOk};
+ghost use Rattle.std.specs.List.{All, slice_get};
+ghost use Rattle.ill_der.specs.ShortForm.{spelling};
+ghost use Rattle.ill_saved.specs.Layout.{spell_all};
+ghost use Rattle.ill_saved.specs.Kept.{KeptBytes, none_kept, piece_at, IsWithin, EndsWith};
+
+use ill_der::size;
+use ill_values::{Apdu, Number, OutOfMemory};
+use std::alloc::Global;
+use std::marker::Model;
+
+/// Where a message stands among the messages of a record: the offset of its first byte from that of
+/// the first message, and how many bytes it has.
+#[derive(Clone, Copy, Debug)]
+pub struct Place {
+    start: usize,
+    size: usize,
+}
+
+/// The bytes of a record, and the place of each message in them. The messages are the record's last
+/// part.
+#[derive(Debug, Drop)]
+pub struct KeptRecord {
+    bytes: Vec<u8>,
+    first: usize,
+    places: Vec<Place>,
+}
+
+impl Model for KeptRecord {
+    ghost Value = { KeptBytes };
+
+    ghost view = { λ k. record {
+      bytes = k.bytes.items;
+      messages = drop k.first k.bytes.items;
+      pieces = map (piece_at (drop k.first k.bytes.items)) k.places.items;
+    } };
+
+    ghost invariant = { λ k. (k.first ≤ length k.bytes.items)
+        × All (IsWithin (length (drop k.first k.bytes.items))) k.places.items };
+}
+
+impl KeptRecord {
+    /// No record. It takes no memory.
+    pub fn none(alloc: Global) -> KeptRecord
+        ensures { result ≡ none_kept }
+    {
+        KeptRecord {
+            bytes: Vec::new(alloc),
+            first: 0,
+            places: Vec::new(alloc),
+        }
+    }
+
+    /// A record whose messages are those of this one and these behind them. Its bytes must end so.
+    pub fn followed_by(
+        &self,
+        alloc: Global,
+        bytes: Vec<u8>,
+        apdus: &[Apdu],
+    ) -> Result<KeptRecord, OutOfMemory>
+        requires ends { EndsWith (self.now.messages ++ spell_all spelling apdus.now) bytes.items }
+        ensures { IfOk result (λ kept. kept ≡ record {
+          bytes = bytes.items;
+          messages = self.now.messages ++ spell_all spelling apdus.now;
+          pieces = self.now.pieces ++ map spelling apdus.now;
+        }) }
+    {
+        let mut places = Vec::from_slice(alloc, &self.places)?;
+        let mut end = self.messages().len();
+        for apdu in apdus {
+            let size = size(apdu);
+            places.push(Place { start: end, size })?;
+            end += size;
+        }
+        let first = bytes.len() - end;
+        Ok(KeptRecord {
+            bytes,
+            first,
+            places,
+        })
+    }
+
+    /// The bytes of the record.
+    pub fn bytes(&self) -> &[u8]
+        ensures { result.now ≡ self.now.bytes }
+    {
+        &self.bytes
+    }
+
+    /// The part of the bytes that has the messages.
+    pub fn messages(&self) -> &[u8]
+        ensures { result.now ≡ self.now.messages }
+    {
+        &self.bytes[self.first..]
+    }
+
+    /// The bytes of the message with this number, which must be one of them.
+    pub fn message(&self, number: Number) -> &[u8]
+        requires { number ≤ length self.now.pieces }
+        ensures { slice_get self.now.pieces (number - 1) ≡ Some result.now }
+    {
+        let place = self.places[usize::from(number.get()) - 1];
+        piece(self.messages(), place)
+    }
+}
+
+/// The bytes at a place among these.
+fn piece(messages: &[u8], place: Place) -> &[u8]
+    requires { IsWithin (length messages.now) place }
+    ensures { result.now ≡ piece_at messages.now place }
+{
+    &messages[place.start..place.start + place.size]
+}

@@ -1,19 +1,22 @@
 -- A desk keeps its rules.
 use Rattle.std.proofs.Common.{rules, arith, ◌≡◌, ◌⊎◌, ℕ, ◌+◌, ◌≤◌, Bool, true, List, [], ◌∷◌, ◌++◌, length, Option, Some, None, Result, Ok, Err, refl, ap, sym, subst, ◌∙◌, inl, inr, length-append, append-nil, append_assoc, drop}
+use Rattle.std.specs.Prelude.{IfSome, option_map, nat_le, map, slice_get, zero, suc, ◌-◌}
+use Rattle.std.proofs.lemmas.Bool.{le-leb}
 use Rattle.ill_values.specs.Day.{Date}
 use Rattle.ill_values.specs.declared.apdu.Apdu.{Apdu}
+use Rattle.ill_values.specs.Apdu.{IsApdu}
 use Rattle.ill_core.specs.declared.refusal.Refusal.{Refusal}
 use Rattle.ill_core.specs.declared.refusal.Refusal.TheVariants as refusals
 use Rattle.ill_core.specs.declared.taking.Taking.{Taking}
 use Rattle.std.proofs.lemmas.List.{length-drop}
 use Rattle.ill_der.specs.declared.fault.DerFault.{DerFault}
 use Rattle.ill_der.specs.declared.fault.DerFault.TheVariants as der
-use Rattle.ill_der.specs.ShortForm.{Decodes}
+use Rattle.ill_der.specs.ShortForm.{Decodes, spelling}
 use Rattle.ill_der.specs.Laws.{BeginsWithOne}
 use Rattle.ill_core.specs.declared.requester.Wish.{Wish}
 use Rattle.ill_core.specs.declared.responder.Deed.{Deed}
 use Rattle.ill_values.specs.TxnId.{Qualifiers}
-use Rattle.ill_core.specs.Issued.{are_numbered, IssuesNext}
+use Rattle.ill_core.specs.Issued.{are_numbered, IssuesNext, message}
 use Rattle.ill_core.specs.Requester.{RequesterRecord}
 use Rattle.ill_core.specs.Responder.{ResponderRecord, rise_from, ships_first}
 use Rattle.ill_core.specs.ResponderFacts.{IssuesUnfilled}
@@ -33,9 +36,12 @@ use Rattle.ill_saved.specs.declared.store.NextCall.{NextCall}
 use Rattle.ill_saved.specs.declared.store.NextCall.TheVariants as plans
 use Rattle.ill_saved.specs.Side.{issued_of, IsConsistent, idle_of, done_by, acts, takes, Acts, Takes, IsRow, IsFrontOf, Grows, acted, took, Follows, same, further}
 use Rattle.ill_saved.specs.Records.{record_at, record_spelling}
-use Rattle.ill_saved.specs.Ranges.{IsSide}
+use Rattle.ill_saved.specs.Ranges.{Each, IsSide}
 use Rattle.ill_saved.specs.Store.{LandsAtSave, Allows}
-use Rattle.ill_saved.specs.Desk.{landed_side, IsBackedBy, IsBackedByRead, IsBacked, IsOneApdu, LoadsSide, IsFoundOrIdle}
+use Rattle.ill_saved.specs.declared.desk.Loaded.{Loaded}
+use Rattle.ill_saved.specs.Kept.{KeptBytes, none_kept, IsKept, Keeps}
+use Rattle.ill_saved.specs.Loading.{IsLoadedOrIdle}
+use Rattle.ill_saved.specs.Desk.{landed_side, IsBackedBy, IsBackedByRead, IsBacked, IsOneApdu, LoadsSide, IsFoundOrIdle, Sends}
 
 -- What the laws of ill_core say of rows: they keep the transaction, and issue one APDU or none.
 pub record CoreRows : Type 0 where
@@ -107,13 +113,14 @@ row_grows rows old new (took a e) = subst (Grows old) e (takes_grow rows old a)
 abbrev pub RowsGrow : Type 0
 RowsGrow = (old new : Side) → IsRow old new → Grows old new
 
+front_of_front : (old between new : List Apdu) → IsFrontOf old between → IsFrontOf between new → IsFrontOf old new
+front_of_front old between new before after = (before.0 ++ after.0, after.1 ∙ (ap (λ l. l ++ after.0) before.1 ∙ append_assoc old before.0 after.0))
+
 -- what a side has issued is the front of what a side that follows from it has issued
 pub follows_issues : RowsGrow → (old new : Side) → Follows old new → IsFrontOf (issued_of old) (issued_of new)
 follows_issues grows old _ same = none_more (issued_of old) (issued_of old) refl
 follows_issues grows old _ (further between new follows row) =
-    let before = follows_issues grows old between follows in
-    let after = (grows between new row).1 in
-    (before.0 ++ after.0, after.1 ∙ (ap (λ l. l ++ after.0) before.1 ∙ append_assoc (issued_of old) before.0 after.0))
+    front_of_front (issued_of old) (issued_of between) (issued_of new) (follows_issues grows old between follows) (grows between new row).1
 
 -- ---- what has landed backs the side after a row
 
@@ -127,27 +134,34 @@ row_backs grows None old new released row backed =
     subst (λ side. IsBackedByRead (Ok side) new released) (sym (grows old new row).0) (read_backs (Ok (idle_of old)) old new released row backed)
 row_backs grows (Some bytes) old new released row backed = read_backs (landed_side (Some bytes) old) old new released row backed
 
+-- what is kept stays released
+keeps_on : (kept : KeptBytes) (old new : Side) (released : ℕ) → IsFrontOf (issued_of old) (issued_of new) → Keeps kept old released → Keeps kept new released
+keeps_on kept old new released more (inl none) = inl none
+keeps_on kept old new released more (inr (side, is, of)) = inr (side, is, record { front = front_of_front (issued_of side) (issued_of old) (issued_of new) of.front more; all = of.all })
+
 -- the rules of a desk
-abbrev pub Kept : Bool → Option (List ℕ) → Side → ℕ → Type 0
-Kept honest landed live released = (released ≤ length (issued_of live)) × (honest ≡ true → IsBacked landed live released)
+abbrev pub Rules : Bool → Option (List ℕ) → KeptBytes → Side → ℕ → Type 0
+Rules honest landed kept live released = (released ≤ length (issued_of live)) × (honest ≡ true → IsBacked landed live released) × Keeps kept live released
 
-pub row_kept : RowsGrow → (honest : Bool) (landed : Option (List ℕ)) (old new : Side) (released : ℕ) → IsRow old new → Kept honest landed old released → Kept honest landed new released
-row_kept grows honest landed old new released row kept = (omega (arith, kept.0, no_less _ _ (grows old new row).1), λ is. row_backs grows landed old new released row (kept.1 is))
+pub row_rules : RowsGrow → (honest : Bool) (landed : Option (List ℕ)) (kept : KeptBytes) (old new : Side) (released : ℕ) → IsRow old new → Rules honest landed kept old released → Rules honest landed kept new released
+row_rules grows honest landed kept old new released row rules =
+    let more = (grows old new row).1 in
+    (omega (arith, rules.0, no_less _ _ more), λ is. row_backs grows landed old new released row (rules.1 is), keeps_on kept old new released more rules.2)
 
-same_kept : (honest : Bool) (landed : Option (List ℕ)) (old new : Side) (released : ℕ) → new ≡ old → Kept honest landed old released → Kept honest landed new released
-same_kept honest landed old new released e kept = subst (λ side. Kept honest landed side released) (sym e) kept
+same_rules : (honest : Bool) (landed : Option (List ℕ)) (kept : KeptBytes) (old new : Side) (released : ℕ) → new ≡ old → Rules honest landed kept old released → Rules honest landed kept new released
+same_rules honest landed kept old new released e rules = subst (λ side. Rules honest landed kept side released) (sym e) rules
 
-pub acts_kept : RowsGrow → (honest : Bool) (landed : Option (List ℕ)) (old new : Side) (released : ℕ) (action : Action) (answer : Result (Unit {0}) Refusal)
-    → Acts old action answer new → Kept honest landed old released → Kept honest landed new released
-acts_kept grows honest landed old new released action (Ok done) acts kept = row_kept grows honest landed old new released (acted action acts) kept
-acts_kept grows honest landed old new released action (Err refusals.OutOfMemory) acts kept = same_kept honest landed old new released acts.1 kept
-acts_kept grows honest landed old new released action (Err refusal) acts kept = same_kept honest landed old new released acts.1 kept
+pub acts_rules : RowsGrow → (honest : Bool) (landed : Option (List ℕ)) (kept : KeptBytes) (old new : Side) (released : ℕ) (action : Action) (answer : Result (Unit {0}) Refusal)
+    → Acts old action answer new → Rules honest landed kept old released → Rules honest landed kept new released
+acts_rules grows honest landed kept old new released action (Ok done) acts rules = row_rules grows honest landed kept old new released (acted action acts) rules
+acts_rules grows honest landed kept old new released action (Err refusals.OutOfMemory) acts rules = same_rules honest landed kept old new released acts.1 rules
+acts_rules grows honest landed kept old new released action (Err refusal) acts rules = same_rules honest landed kept old new released acts.1 rules
 
-pub takes_kept : RowsGrow → (honest : Bool) (landed : Option (List ℕ)) (old new : Side) (released : ℕ) (a : Apdu) (answer : Result Taking Refusal)
-    → Takes old a answer new → Kept honest landed old released → Kept honest landed new released
-takes_kept grows honest landed old new released a (Err refusals.OutOfMemory) takes kept = same_kept honest landed old new released takes.2 kept
-takes_kept grows honest landed old new released a answer takes kept =
-    row_kept grows honest landed old new released (took a (ap (λ (r : Result Taking Refusal × Side). r.1) takes)) kept
+pub takes_rules : RowsGrow → (honest : Bool) (landed : Option (List ℕ)) (kept : KeptBytes) (old new : Side) (released : ℕ) (a : Apdu) (answer : Result Taking Refusal)
+    → Takes old a answer new → Rules honest landed kept old released → Rules honest landed kept new released
+takes_rules grows honest landed kept old new released a (Err refusals.OutOfMemory) takes rules = same_rules honest landed kept old new released takes.2 rules
+takes_rules grows honest landed kept old new released a answer takes rules =
+    row_rules grows honest landed kept old new released (took a (ap (λ (r : Result Taking Refusal × Side). r.1) takes)) rules
 
 -- ---- one APDU
 
@@ -182,12 +196,17 @@ landed_backs : ReadsAgain → (bytes : List ℕ) (landed : Option (List ℕ)) (l
 landed_backs again bytes landed live released is spelled e few =
     subst (λ o. IsBacked o live released) (sym (e ∙ ap Some spelled)) (saved_backs again live released is few)
 
--- what was encoded has landed
-pub save_kept : ReadsAgain → (old_honest honest : Bool) (landed : Option (List ℕ)) (bytes : List ℕ) (live : Side) (count : ℕ) → honest ≡ old_honest → IsSide live → bytes ≡ record_spelling live
-    → (old_honest ≡ true → landed ≡ Some bytes) → count ≡ length (issued_of live) → Kept honest landed live count
-save_kept again old_honest honest landed bytes live count stays is spelled lands all = (
+-- a side whose record is kept, all of whose messages are released
+keeps_whole : (kept : KeptBytes) (side : Side) (count : ℕ) → IsKept kept side → count ≡ length (issued_of side) → Keeps kept side count
+keeps_whole kept side count is all = inr (side, is, record { front = none_more (issued_of side) (issued_of side) refl; all = all })
+
+-- what was encoded has landed, and is kept
+pub save_rules : ReadsAgain → (old_honest honest : Bool) (landed : Option (List ℕ)) (kept : KeptBytes) (bytes : List ℕ) (live : Side) (count : ℕ) → honest ≡ old_honest → IsKept kept live → bytes ≡ kept.bytes
+    → (old_honest ≡ true → landed ≡ Some bytes) → count ≡ length (issued_of live) → Rules honest landed kept live count
+save_rules again old_honest honest landed kept bytes live count stays is spelled lands all = (
   omega (arith, all),
-  λ now. landed_backs again bytes landed live count is spelled (lands (sym stays ∙ now)) (omega (arith, all)),
+  λ now. landed_backs again bytes landed live count is.0 (spelled ∙ ap (λ (k : KeptBytes). k.bytes) is.1) (lands (sym stays ∙ now)) (omega (arith, all)),
+  keeps_whole kept live count is all,
 )
 
 either_backs : ReadsAgain → (old new : Option (List ℕ)) (bytes : List ℕ) (live : Side) (released : ℕ) → IsSide live → bytes ≡ record_spelling live → released ≤ length (issued_of live)
@@ -204,13 +223,15 @@ old_or_new plan bytes stores.TooLarge old new lands = absurd lands
 old_or_new plan bytes stores.OutOfMemory old new lands = inl lands
 
 -- the old record or the new one has landed
-pub fault_kept : ReadsAgain → (old_honest honest : Bool) (plan : Option NextCall) (old new : Option (List ℕ)) (bytes : List ℕ) (live : Side) (released : ℕ) (fault : StoreFault) → honest ≡ old_honest
-    → IsSide live → bytes ≡ record_spelling live → (old_honest ≡ true → LandsAtSave plan bytes (Err fault) old new) → Kept old_honest old live released → Kept honest new live released
-fault_kept again old_honest honest plan old new bytes live released fault stays is spelled lands kept = (
-  kept.0,
+pub fault_rules : ReadsAgain → (old_honest honest : Bool) (plan : Option NextCall) (old new : Option (List ℕ)) (kept : KeptBytes) (bytes : List ℕ) (live : Side) (released : ℕ) (fault : StoreFault)
+    → honest ≡ old_honest → IsSide live → bytes ≡ record_spelling live → (old_honest ≡ true → LandsAtSave plan bytes (Err fault) old new) → Rules old_honest old kept live released
+    → Rules honest new kept live released
+fault_rules again old_honest honest plan old new kept bytes live released fault stays is spelled lands rules = (
+  rules.0,
   λ now.
       let was = sym stays ∙ now in
-      either_backs again old new bytes live released is spelled kept.0 (kept.1 was) (old_or_new plan bytes fault old new (lands was)),
+      either_backs again old new bytes live released is spelled rules.0 (rules.1 was) (old_or_new plan bytes fault old new (lands was)),
+  rules.2,
 )
 
 -- ---- loading
@@ -240,15 +261,33 @@ loaded_backs (Some bytes) plan (Some found) live side count loads is all =
 loaded_backs None plan (Some found) live side count loads is all = absurd loads
 loaded_backs (Some bytes) plan None live side count loads is all = absurd loads
 
--- the side that has landed is live
-pub loaded_kept : (old_honest honest : Bool) (old_landed landed : Option (List ℕ)) (plan : Option NextCall) (found : Option Side) (live side : Side) (count : ℕ) → honest ≡ old_honest
-    → (old_honest ≡ true → landed ≡ old_landed) → (old_honest ≡ true → LoadsSide old_landed plan (Ok found)) → IsFoundOrIdle found live side → count ≡ length (issued_of side)
-    → Kept honest landed side count
-loaded_kept old_honest honest old_landed landed plan found live side count stays keeps loads is all = (
+nothing_issued : (live : Side) → length (issued_of (idle_of live)) ≡ 0
+nothing_issued (sides.Requester x) = refl
+nothing_issued (sides.Responder y) = refl
+
+-- the side that was found, without its record
+abbrev pub side_found : Option Loaded → Option Side
+side_found found = option_map (λ l. l.side) found
+
+pub found_or_idle : (found : Option Loaded) (live : Side) (loaded : Loaded) → IsLoadedOrIdle found live loaded → IsFoundOrIdle (side_found found) live loaded.side
+found_or_idle None live loaded is = is.0
+found_or_idle (Some found) live loaded is = ap (λ (l : Loaded). l.side) is
+
+loaded_keeps : (found : Option Loaded) (live : Side) (loaded : Loaded) (count : ℕ) → IfSome found (λ l. IsKept l.kept l.side) → IsLoadedOrIdle found live loaded → count ≡ length (issued_of loaded.side)
+    → Keeps loaded.kept loaded.side count
+loaded_keeps None live loaded count kept is all = inl (is.1, all ∙ (ap (λ s. length (issued_of s)) is.0 ∙ nothing_issued live))
+loaded_keeps (Some found) live loaded count kept is all = keeps_whole loaded.kept loaded.side count (subst (λ (l : Loaded). IsKept l.kept l.side) (sym is) kept) all
+
+-- the side that has landed is live, and its record is kept
+pub loaded_rules : (old_honest honest : Bool) (old_landed landed : Option (List ℕ)) (plan : Option NextCall) (found : Option Loaded) (live : Side) (loaded : Loaded) (count : ℕ) → honest ≡ old_honest
+    → (old_honest ≡ true → landed ≡ old_landed) → (old_honest ≡ true → LoadsSide old_landed plan (Ok (side_found found))) → IfSome found (λ l. IsKept l.kept l.side) → IsLoadedOrIdle found live loaded
+    → count ≡ length (issued_of loaded.side) → Rules honest landed loaded.kept loaded.side count
+loaded_rules old_honest honest old_landed landed plan found live loaded count stays keeps loads kept is all = (
   omega (arith, all),
   λ now.
       let was = sym stays ∙ now in
-      subst (λ o. IsBacked o side count) (sym (keeps was)) (loaded_backs old_landed plan found live side count (loads was) is all),
+      subst (λ o. IsBacked o loaded.side count) (sym (keeps was)) (loaded_backs old_landed plan (side_found found) live loaded.side count (loads was) (found_or_idle found live loaded is) all),
+  loaded_keeps found live loaded count kept is all,
 )
 
 -- what a restart leads to
@@ -259,17 +298,41 @@ restarts_to (Some bytes) plan (Some found) live side loads is = (loads.0 ∙ ap 
 restarts_to None plan (Some found) live side loads is = absurd loads
 restarts_to (Some bytes) plan None live side loads is = absurd loads
 
-nothing_issued : (live : Side) → length (issued_of (idle_of live)) ≡ 0
-nothing_issued (sides.Requester x) = refl
-nothing_issued (sides.Responder y) = refl
-
 -- a side that begins
-pub create_kept : (old_honest honest : Bool) (old_landed landed : Option (List ℕ)) (first : Side) → honest ≡ old_honest → (old_honest ≡ true → landed ≡ old_landed)
-    → (old_honest ≡ true → None ≡ old_landed) → first ≡ idle_of first → Kept honest landed first 0
-create_kept old_honest honest old_landed landed first stays keeps none idle = (
+pub create_rules : (old_honest honest : Bool) (old_landed landed : Option (List ℕ)) (kept : KeptBytes) (first : Side) → honest ≡ old_honest → (old_honest ≡ true → landed ≡ old_landed)
+    → (old_honest ≡ true → None ≡ old_landed) → kept ≡ none_kept → first ≡ idle_of first → Rules honest landed kept first 0
+create_rules old_honest honest old_landed landed kept first stays keeps none empty idle = (
   omega arith,
   λ now.
       let was = sym stays ∙ now in
       let all : 0 ≡ length (issued_of first) = sym (ap (λ s. length (issued_of s)) idle ∙ nothing_issued first) in
       subst (λ o. IsBacked o first 0) (none was ∙ sym (keeps was)) (idle_backs first first 0 idle all),
+  inl (empty, refl),
 )
+
+-- ---- sending
+
+message_kept : (issued more : List Apdu) (n : ℕ) (bytes : List ℕ) → Each IsApdu issued → slice_get (map spelling issued) n ≡ Some bytes
+    → (a : Apdu) × (slice_get (issued ++ more) n ≡ Some a) × IsApdu a × (bytes ≡ spelling a)
+unfolding Each
+message_kept [] more n bytes are e = absurd cc
+message_kept (a ∷ issued) more zero bytes are e = (a, refl, are.0, cc)
+message_kept (a ∷ issued) more (suc n) bytes are e = message_kept issued more n bytes are.1 e
+
+-- what is kept of a message that is released
+pub message_released : (kept : KeptBytes) (live : Side) (released number : ℕ) (bytes : List ℕ) → Keeps kept live released → 1 ≤ number → slice_get kept.pieces (number - 1) ≡ Some bytes
+    → (a : Apdu) × (message (issued_of live) number ≡ Some a) × IsApdu a × (bytes ≡ spelling a)
+message_released kept live released zero bytes keeps first e = absurd (omega (arith, first))
+message_released kept live released (suc n) bytes (inl none) first e = absurd (subst (λ (k : KeptBytes). slice_get k.pieces (suc n - 1) ≡ Some bytes → ⊥) (sym none.0) (λ found. cc) e)
+message_released kept live released (suc n) bytes (inr (side, is, of)) first e =
+    let at : suc n - 1 ≡ n = omega arith in
+    let piece : slice_get (map spelling (issued_of side)) n ≡ Some bytes = ap (slice_get (map spelling (issued_of side))) (sym at) ∙ subst (λ (k : KeptBytes). slice_get k.pieces (suc n - 1) ≡ Some bytes) is.1 e in
+    let found = message_kept (issued_of side) of.front.0 n bytes is.0.1.issued piece in
+    (found.0, subst (λ apdus. slice_get apdus n ≡ Some found.0) (sym of.front.1) found.1, found.2, found.3)
+
+pub sends_released : {X : Type 0} (view : X → List ℕ) (value : X) (kept : KeptBytes) (live : Side) (released number : ℕ) (bytes : List ℕ) → Keeps kept live released → 1 ≤ number → number ≤ released
+    → slice_get kept.pieces (number - 1) ≡ Some bytes → view value ≡ bytes → Sends view (message (issued_of live) number) (nat_le number released) (Ok value)
+sends_released view value kept live released number bytes keeps first few e are =
+    let found = message_released kept live released number bytes keeps first e in
+    subst (λ m. Sends view m (nat_le number released) (Ok value)) (sym found.1)
+    (subst (λ b. Sends view (Some found.0) b (Ok value)) (sym (le-leb number released few)) (found.2, are ∙ found.3))

@@ -1,12 +1,16 @@
 -- The places of messages in a record.
-use Rattle.std.proofs.Common.{rules, arith, ◌≡◌, ℕ, ◌+◌, ◌-◌, ◌<◌, ◌≤◌, List, [], ◌∷◌, ◌++◌, length, map, take, drop, refl, ap, sym, ◌∙◌, length-append, append_assoc, append-nil}
+use Rattle.std.proofs.Common.{arith, ◌≡◌, ℕ, true, false, ◌+◌, ◌-◌, ◌≤◌, List, [], ◌∷◌, ◌++◌, length, map, take, drop, refl, ap, sym, ◌∙◌, length-append, append_assoc, append-nil}
 use Rattle.std.specs.List.{All}
 use Rattle.std.proofs.lemmas.List.{take_at, drop_at, drop-drop, take-append-le, drop-append-le, length-drop, map_push}
 use Rattle.std.proofs.lemmas.List.Elements.{All-head, All-tail, All-push, All-weaker}
 use Rattle.ill_values.specs.declared.apdu.Apdu.{Apdu}
 use Rattle.ill_der.specs.ShortForm.{spelling}
 use Rattle.ill_saved.specs.declared.kept.Place.{Place}
-use Rattle.ill_saved.specs.Layout.{spell_all}
+use Rattle.ill_saved.specs.declared.side.Side.{Side}
+use Rattle.ill_saved.specs.declared.side.Side.TheVariants as sides
+use Rattle.ill_saved.specs.Layout.{spell_all, apdu, ill_request, mark, marked, counted, optional_number}
+use Rattle.ill_saved.specs.Records.{due_octets, front, requester_states, responder_states, requester_rest, responder_rest, spell_start, record_spelling}
+use Rattle.ill_saved.specs.Side.{issued_of}
 use Rattle.ill_saved.specs.Kept.{piece_at, IsWithin, EndsWith}
 use Rattle.ill_saved.proofs.Lists.{spell_none, spell_more}
 
@@ -76,3 +80,31 @@ pub end_of : (end bytes : List ℕ) (at : ℕ) → EndsWith end bytes → at ≡
 end_of end bytes at ends e =
     let front : length ends.0 ≡ at = omega (arith, e, ap length ends.1 ∙ length-append ends.0 end) in
     ap (drop at) ends.1 ∙ drop_at ends.0 end at front
+
+-- ---- the messages are the last part of a record
+
+ends_behind : (front end bytes : List ℕ) → EndsWith end bytes → EndsWith end (front ++ bytes)
+ends_behind front end bytes ends = (front ++ ends.0, ap (λ t. front ++ t) ends.1 ∙ sym (append_assoc front ends.0 end))
+
+ends_counted : (apdus : List Apdu) → EndsWith (spell_all spelling apdus) ((counted apdu).spell apdus)
+ends_counted apdus = (length apdus ∷ [], refl)
+
+pub ends_with_messages : (side : Side) → EndsWith (spell_all spelling (issued_of side)) (record_spelling side)
+unfolding record_spelling
+ends_with_messages (sides.Requester x) =
+    let messages = spell_all spelling x.issued in
+    let due = (due_octets x.due) ++ (counted apdu).spell x.issued in
+    let rest = requester_rest.spell (x.held, (x.checked_in, (x.due, x.issued))) in
+    let head = (front requester_states).spell (x.state, (x.txn.group, x.txn.transaction)) in
+    let behind_due : EndsWith messages due = ends_behind (due_octets x.due) messages ((counted apdu).spell x.issued) (ends_counted x.issued) in
+    let behind_held : EndsWith messages rest = ends_behind (optional_number.spell x.held ++ mark.spell x.checked_in) messages due behind_due in
+    ends_behind (spell_start false) messages (head ++ rest) (ends_behind head messages rest behind_held)
+ends_with_messages (sides.Responder y) =
+    let messages = spell_all spelling y.issued in
+    let request = (marked ill_request).spell y.request ++ (counted apdu).spell y.issued in
+    let rest = responder_rest.spell (y.accepted, (y.last_cancel, (y.last_renew, (y.received, (y.request, y.issued))))) in
+    let head = (front responder_states).spell (y.state, (y.txn.group, y.txn.transaction)) in
+    let behind_request : EndsWith messages request = ends_behind ((marked ill_request).spell y.request) messages ((counted apdu).spell y.issued) (ends_counted y.issued) in
+    let behind_numbers : EndsWith messages rest =
+    ends_behind (optional_number.spell y.accepted ++ (optional_number.spell y.last_cancel ++ (optional_number.spell y.last_renew ++ mark.spell y.received))) messages request behind_request in
+    ends_behind (spell_start true) messages (head ++ rest) (ends_behind head messages rest behind_numbers)

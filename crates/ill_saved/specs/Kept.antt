@@ -26,17 +26,20 @@ kept_of side = record {
   pieces = map spelling (issued_of side);
 }
 
--- A side is kept that has issued just the messages released, which the live side begins with.
-pub record IsKeptSide (kept : KeptBytes) (live : Side) (released : ℕ) (side : Side) : Type 0 where
-  pub valid : IsSide side
-  pub same : kept ≡ kept_of side
+-- this side's record is kept
+abbrev pub IsKept : KeptBytes → Side → Type 0
+IsKept kept side = IsSide side × (kept ≡ kept_of side)
+
+-- the side whose record is kept has issued just the messages released, which the live side begins with
+pub record IsReleased (live : Side) (released : ℕ) (side : Side) : Type 0 where
   pub front : IsFrontOf (issued_of side) (issued_of live)
   pub all : released ≡ length (issued_of side)
 
--- what a desk keeps: nothing, where none of its messages is released, or such a side
+-- what a desk keeps: nothing, where none of its messages is released, or the record of such a side
 abbrev pub Keeps : KeptBytes → Side → ℕ → Type 0
 Keeps kept live released =
-    ((kept ≡ none_kept) × (released ≡ 0)) ⊎ ((side : Side) × IsKeptSide kept live released side)
+    ((kept ≡ none_kept) × (released ≡ 0))
+    ⊎ ((side : Side) × IsKept kept side × IsReleased live released side)
 
 -- the bytes at a place
 abbrev pub piece_at : List ℕ → Place → List ℕ

@@ -6,3 +6,4 @@ pub mod Store
 pub mod Faults
 pub mod Kept
 pub mod Desk
+pub mod Loading

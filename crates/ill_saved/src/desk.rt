@@ -1,23 +1,27 @@
 //! One side with its store.
 
-ghost use Rattle.std.specs.Prelude.{◌≡◌, ◌≤◌, true, length, nat_le, IfOk, IfErr};
+ghost use Rattle.std.specs.Prelude.{◌≡◌, ◌≤◌, true, length, nat_le, IfOk, IfErr, IfSome};
 ghost use Rattle.ill_core.specs.Issued.{message};
 ghost use Rattle.ill_saved.specs.Side.{issued_of, idle_of};
-ghost use Rattle.ill_saved.specs.Records.{record_spelling};
-ghost use Rattle.ill_saved.specs.Desk.{DeskOf, IsBacked, DeskActs, DeskTakes, DeskTakesApdu, IsOneApdu, Sends, released_after, SaveLands, PlanAfter, IsSaveFault, landed_side, LoadsSide, IsLoadFault, Restarts, RestartLeaves, IsFoundOrIdle, answer_of, store_of, Creates, IsCreateAnswer, Starts, IsStartAnswer, IsWhole, CountsDeskFailure, WasSpelled};
+ghost use Rattle.ill_saved.specs.Records.{record_spelling, record_at, begins_as_record, Decodes};
+ghost use Rattle.ill_saved.specs.Ranges.{IsSide};
+ghost use Rattle.ill_saved.specs.Desk.{DeskOf, IsBacked, DeskActs, DeskTakes, DeskTakesApdu, IsOneApdu, Sends, released_after, SaveLands, PlanAfter, IsSaveFault, landed_side, LoadsSide, IsLoadFault, Restarts, RestartLeaves, answer_of, store_of, Creates, IsCreateAnswer, Starts, IsStartAnswer, IsWhole, CountsDeskFailure, WasSpelled};
+ghost use Rattle.ill_saved.specs.Kept.{Keeps, IsKept};
+ghost use Rattle.ill_saved.specs.Loading.{IsLoadedOrIdle, side_loaded};
 ghost use Rattle.ill_saved.specs.Store.{spent};
 ghost use Rattle.ill_der.specs.ShortForm.{apdu_at};
 
 use crate::decoding::decode_record;
 use crate::encoding::encode_record;
-use crate::fault::DeskFault;
-use crate::laws::{read_again, rows_grow};
+use crate::fault::{DeskFault, RecordFault};
+use crate::kept::KeptRecord;
+use crate::laws::{read_again, rows_grow, spelled};
 use crate::memory_store::MemoryStore;
 use crate::side::{Action, Side};
 use crate::store::{NextCall, Store};
 use ill_core::Taking;
 use ill_der::laws::prefix_or_fault;
-use ill_der::{DerFault, decode, encode};
+use ill_der::{DerFault, decode};
 use ill_values::{Apdu, Number, OutOfMemory};
 use std::alloc::Global;
 use std::marker::Model;
@@ -28,6 +32,14 @@ pub struct Desk1<S: Store> {
     live: Side,
     store: S,
     released: u8,
+    kept: KeptRecord,
+}
+
+/// A side that was loaded, with its record.
+#[derive(Drop)]
+struct Loaded {
+    side: Side,
+    kept: KeptRecord,
 }
 
 impl<S: Store> Model for Desk1<S> {
@@ -36,7 +48,8 @@ impl<S: Store> Model for Desk1<S> {
     ghost view = { λ d. record { live = d.live; store = d.store; released = d.released } };
 
     ghost invariant = { λ d. (d.released ≤ length (issued_of d.live))
-        × (S.is_honest d.store ≡ true → IsBacked (S.landed d.store) d.live d.released) };
+        × (S.is_honest d.store ≡ true → IsBacked (S.landed d.store) d.live d.released)
+        × Keeps d.kept d.live d.released };
 }
 
 impl<S: Store> Desk1<S> {
@@ -60,6 +73,7 @@ impl<S: Store> Desk1<S> {
                 live: first,
                 store,
                 released: 0,
+                kept: KeptRecord::none(alloc),
             }),
             Ok(Some(_)) => Err((DeskFault::Exists, store)),
             Err(fault) => Err((DeskFault::from(fault), store)),
@@ -80,12 +94,13 @@ impl<S: Store> Desk1<S> {
     {
         let mut store = store;
         match load_side(&mut store, alloc) {
-            Ok(Some(live)) => {
+            Ok(Some(Loaded { side: live, kept })) => {
                 let released = live.issued_count();
                 Ok(Desk1 {
                     live,
                     store,
                     released,
+                    kept,
                 })
             }
             Ok(None) => Err((DeskFault::NoRecord, store)),
@@ -141,8 +156,10 @@ impl<S: Store> Desk1<S> {
     {
         read_again();
         let bytes = encode_record(alloc, &self.live)?;
-        self.store.save(alloc, &bytes)?;
+        let kept = KeptRecord::of(alloc, bytes, &self.live)?;
+        self.store.save(alloc, kept.bytes())?;
         self.released = self.live.issued_count();
+        self.kept = kept;
         Ok(())
     }
 
@@ -162,9 +179,10 @@ impl<S: Store> Desk1<S> {
         ensures honest { S.is_honest self.new.store ≡ S.is_honest self.old.store }
     {
         let found = load_side(&mut self.store, alloc)?;
-        let side = or_idle(alloc, found, &self.live)?;
+        let Loaded { side, kept } = or_idle(alloc, found, &self.live)?;
         self.released = side.issued_count();
         self.live = side;
+        self.kept = kept;
         Ok(())
     }
 
@@ -174,13 +192,13 @@ impl<S: Store> Desk1<S> {
         ensures { Sends (λ bytes. bytes.items) (message (issued_of self.now.live) number)
             (nat_le number self.now.released) result }
     {
-        let Some(apdu) = self.live.issued(number) else {
+        if self.live.issued(number).is_none() {
             return Err(DeskFault::NoSuchMessage);
-        };
+        }
         if number.get() > self.released {
             return Err(DeskFault::NotSaved);
         }
-        Ok(encode(alloc, apdu)?)
+        Ok(Vec::from_slice(alloc, self.kept.message(number))?)
     }
 
     /// The side, as it is in memory.
@@ -231,28 +249,43 @@ fn one_apdu(alloc: Global, bytes: &[u8]) -> Result<Apdu, DeskFault>
 }
 
 /// The side that has landed in a store, if any.
-fn load_side<S: Store>(store: &mut S, alloc: Global) -> Result<Option<Side>, DeskFault>
+fn load_side<S: Store>(store: &mut S, alloc: Global) -> Result<Option<Loaded>, DeskFault>
     ensures loads { S.is_honest store.old ≡ true →
-        LoadsSide (S.landed store.old) (S.plan store.old) result }
+        LoadsSide (S.landed store.old) (S.plan store.old) (side_loaded result) }
+    ensures kept { IfOk result (λ found. IfSome found (λ l. IsKept l.kept l.side)) }
     ensures faults { IfErr result IsLoadFault }
     ensures landed { S.is_honest store.old ≡ true → S.landed store.new ≡ S.landed store.old }
     ensures plan { S.plan store.new ≡ spent (S.plan store.old) }
     ensures counted { CountsDeskFailure result (S.failures store.old) (S.failures store.new) }
     ensures honest { S.is_honest store.new ≡ S.is_honest store.old }
 {
-    match store.load(alloc)? {
-        Some(bytes) => Ok(Some(decode_record(alloc, &bytes)?)),
-        None => Ok(None),
-    }
+    let Some(bytes) = store.load(alloc)? else {
+        return Ok(None);
+    };
+    let side = read_side(alloc, &bytes)?;
+    let kept = KeptRecord::of(alloc, bytes, &side)?;
+    Ok(Some(Loaded { side, kept }))
+}
+
+/// The side whose record these bytes are.
+fn read_side(alloc: Global, bytes: &[u8]) -> Result<Side, RecordFault>
+    ensures decodes { Decodes (record_at bytes.now) (begins_as_record bytes.now) result }
+    ensures spelled { IfOk result (λ side. IsSide side × (bytes.now ≡ record_spelling side)) }
+{
+    spelled();
+    decode_record(alloc, bytes)
 }
 
 /// The side that was found, or else the side of the same role and transaction before its first
-/// message.
-fn or_idle(alloc: Global, found: Option<Side>, live: &Side) -> Result<Side, OutOfMemory>
-    ensures { IfOk result (λ side. IsFoundOrIdle found live.now side) }
+/// message, of which no record is kept.
+fn or_idle(alloc: Global, found: Option<Loaded>, live: &Side) -> Result<Loaded, OutOfMemory>
+    ensures { IfOk result (λ l. IsLoadedOrIdle found live.now l) }
 {
     match found {
-        Some(side) => Ok(side),
-        None => live.idle_again(alloc),
+        Some(loaded) => Ok(loaded),
+        None => Ok(Loaded {
+            side: live.idle_again(alloc)?,
+            kept: KeptRecord::none(alloc),
+        }),
     }
 }

@@ -4,8 +4,10 @@ ghost use Rattle.std.specs.Prelude.{◌≡◌, ◌++◌, ◌-◌, ◌≤◌, len
 ghost use Rattle.std.specs.List.{All, slice_get};
 ghost use Rattle.ill_der.specs.ShortForm.{spelling};
 ghost use Rattle.ill_saved.specs.Layout.{spell_all};
-ghost use Rattle.ill_saved.specs.Kept.{KeptBytes, none_kept, piece_at, IsWithin, EndsWith};
+ghost use Rattle.ill_saved.specs.Records.{record_spelling};
+ghost use Rattle.ill_saved.specs.Kept.{KeptBytes, none_kept, kept_of, piece_at, IsWithin, EndsWith};
 
+use crate::side::Side;
 use ill_der::size;
 use ill_values::{Apdu, Number, OutOfMemory};
 use std::alloc::Global;
@@ -51,6 +53,14 @@ impl KeptRecord {
             first: 0,
             places: Vec::new(alloc),
         }
+    }
+
+    /// The record of a side. It takes memory for the places.
+    pub fn of(alloc: Global, bytes: Vec<u8>, side: &Side) -> Result<KeptRecord, OutOfMemory>
+        requires spelled { bytes.items ≡ record_spelling side.now }
+        ensures { IfOk result (λ kept. kept ≡ kept_of side.now) }
+    {
+        KeptRecord::none(alloc).followed_by(alloc, bytes, side.all_issued())
     }
 
     /// A record whose messages are those of this one and these behind them. Its bytes must end so.

@@ -1,11 +1,10 @@
-use Rattle.std.proofs.Common.{rules, arith, ◌≡◌, ◌+◌, ◌-◌, ◌<◌, ◌≤◌, ◌++◌, ◌∷◌, [], List, length, map, drop, subst, sym, ap, ◌∙◌, length-drop}
+use Rattle.std.proofs.Common.{rules, arith, ◌≡◌, ◌+◌, ◌-◌, ◌++◌, ◌∷◌, [], length, map, drop, subst, sym, ap, ◌∙◌}
 use Rattle.std.specs.List.{All}
 use Rattle.std.proofs.lemmas.List.{drop_more, drop_all}
-use Rattle.ill_values.specs.declared.apdu.Apdu.{Apdu}
 use Rattle.ill_der.specs.ShortForm.{spelling}
 use Rattle.ill_saved.specs.Layout.{spell_all}
 use Rattle.ill_saved.specs.Kept.{piece_at, IsWithin}
-use Rattle.ill_saved.proofs.Places.{ArePlaced, first_placed, next_placed, all_placed, end_reached, ends_within, end_of}
+use Rattle.ill_saved.proofs.Places.{ArePlaced, first_placed, next_placed, all_placed, end_reached, end_of}
 use Rattle.ill_saved.proofs.kept.KeptRecord.followed_by.Goals as goal
 
 pub loop-apdu-init : goal.loop-apdu-init

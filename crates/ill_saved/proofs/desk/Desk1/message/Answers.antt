@@ -1,0 +1,13 @@
+use Rattle.std.proofs.Common.{rules, ◌≡◌, ◌≤◌, Vec, Global, ℕ}
+use Rattle.ill_saved.proofs.Desks.{sends_released}
+use Rattle.ill_saved.proofs.desk.Desk1.message.Goals as goal
+
+pub returns : goal.returns
+returns g c =
+    let desk = c.self.inside in
+    let first : 1 ≤ c.args.number = search rules in
+    let few : c.args.number ≤ desk.released = search rules in
+    let same : c.in_ok-from_slice.field-0.items ≡ c.message.result.now = search rules in
+    let sends = sends_released (λ (bytes : Vec ℕ Global). bytes.items) c.in_ok-from_slice.field-0 desk.kept desk.live desk.released c.args.number c.message.result.now c.self.invariant.2 first few c.message.ensures same in
+    let is = c.self.view_is in
+    search (rules, sends)

@@ -19,8 +19,25 @@ use ill_values::{Apdu, Day, Number, OutOfMemory, TxnId};
 use std::alloc::Global;
 
 /// Encodes a side as a saved record: its one spelling.
-#[tactic(auto, unfolding(crate::specs::Records::record_spelling))]
 pub fn encode_record(alloc: Global, side: &Side) -> Result<Vec<u8>, OutOfMemory>
+    ensures bytes { IfOk result (λ bytes. bytes.items ≡ record_spelling side.now) }
+    ensures side { OnOk result (IsSide side.now) }
+{
+    encode_behind(alloc, side, &[], side.all_issued())
+}
+
+/// Encodes a side of which the first messages are spelled already. These are copied, and the others,
+/// which are given, are spelled behind them.
+#[tactic(auto, unfolding(crate::specs::Records::record_spelling))]
+pub fn encode_behind(
+    alloc: Global,
+    side: &Side,
+    known: &[u8],
+    others: &[Apdu],
+) -> Result<Vec<u8>, OutOfMemory>
+    requires spelled { known.now ++ spell_all spelling others.now ≡
+        spell_all spelling (issued_of side.now) }
+    requires range { Each IsApdu others.now → Each IsApdu (issued_of side.now) }
     ensures bytes { IfOk result (λ bytes. bytes.items ≡ record_spelling side.now) }
     ensures side { OnOk result (IsSide side.now) }
 {
@@ -29,7 +46,9 @@ pub fn encode_record(alloc: Global, side: &Side) -> Result<Vec<u8>, OutOfMemory>
         Side::Requester(requester) => push_requester(&mut bytes, requester)?,
         Side::Responder(responder) => push_responder(&mut bytes, responder)?,
     }
-    push_issued(&mut bytes, side.all_issued())?;
+    bytes.push(side.issued_count())?;
+    bytes.extend_from_slice(known)?;
+    push_apdus(&mut bytes, others)?;
     Ok(bytes)
 }
 
@@ -118,14 +137,12 @@ fn push_request(bytes: &mut Vec<u8>, request: Option<&Apdu>) -> Result<(), OutOf
     }
 }
 
-/// Adds the count of the messages issued, and these.
-fn push_issued(bytes: &mut Vec<u8>, apdus: &[Apdu]) -> Result<(), OutOfMemory>
-    requires few { length apdus.now ≤ 255 }
+/// Adds the spellings of these APDUs.
+fn push_apdus(bytes: &mut Vec<u8>, apdus: &[Apdu]) -> Result<(), OutOfMemory>
     ensures bytes { OnOk result (bytes.new.items ≡ bytes.old.items
-        ++ (counted apdu).spell apdus.now) }
+        ++ spell_all spelling apdus.now) }
     ensures range { OnOk result (Each IsApdu apdus.now) }
 {
-    bytes.push(apdus.len() as u8)?;
     for apdu in apdus {
         encode_onto(bytes, apdu)?;
     }

@@ -3,7 +3,7 @@ use Rattle.ill_values.specs.Apdu.{IsApdu}
 use Rattle.ill_der.specs.ShortForm.{spelling}
 use Rattle.ill_saved.specs.Layout.{spell_all}
 use Rattle.ill_saved.proofs.Lists.{one_spelled, all_spelled, one_each, none_each}
-use Rattle.ill_saved.proofs.encoding.push_issued.Goals as goal
+use Rattle.ill_saved.proofs.encoding.push_apdus.Goals as goal
 
 pub loop-apdu-preserved : goal.loop-apdu-preserved
 loop-apdu-preserved c =

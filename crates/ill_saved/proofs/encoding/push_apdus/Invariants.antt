@@ -1,13 +1,13 @@
 use Rattle.std.proofs.Common.{◌≡◌, ◌++◌, drop}
 use Rattle.ill_values.specs.Apdu.{IsApdu}
 use Rattle.ill_der.specs.ShortForm.{spelling}
-use Rattle.ill_saved.specs.Layout.{spell_all, counted, apdu}
+use Rattle.ill_saved.specs.Layout.{spell_all}
 use Rattle.ill_saved.specs.Ranges.{Each}
-use Rattle.ill_saved.proofs.encoding.push_issued.Given as goal
+use Rattle.ill_saved.proofs.encoding.push_apdus.Given as goal
 
 -- with what is left, all is there, and all are in range
 abbrev pub invariant-loop-apdu : goal.invariant-loop-apdu
 invariant-loop-apdu l = record {
-  bytes : l.bytes.items ++ spell_all spelling (drop l.apdu-index l.apdus) ≡ l.fn.bytes.items ++ (counted apdu).spell l.apdus;
+  bytes : l.bytes.items ++ spell_all spelling (drop l.apdu-index l.apdus) ≡ l.fn.bytes.items ++ spell_all spelling l.apdus;
   range : Each IsApdu (drop l.apdu-index l.apdus) → Each IsApdu l.apdus;
 }

@@ -88,3 +88,13 @@ one_each P values i v within there is others =
 pub none_each : {V : Type 0} (P : V → Type 0) (values : List V) (i : ℕ) → length values ≤ i → Each P (drop i values)
 unfolding Each
 none_each P values i all = subst (Each P) (sym (at_drop_all (λ xs. xs) values i all)) tt
+
+pub spell_both : {V : Type 0} (spell : V → List ℕ) (front rest : List V) → spell_all spell (front ++ rest) ≡ spell_all spell front ++ spell_all spell rest
+unfolding spell_all
+spell_both spell [] rest = refl
+spell_both spell (v ∷ front) rest = ap (λ t. spell v ++ t) (spell_both spell front rest) ∙ sym (append_assoc (spell v) (spell_all spell front) (spell_all spell rest))
+
+pub each_both : {V : Type 0} (P : V → Type 0) (front rest : List V) → Each P front → Each P rest → Each P (front ++ rest)
+unfolding Each
+each_both P [] rest of_front of_rest = of_rest
+each_both P (v ∷ front) rest of_front of_rest = (of_front.0, each_both P front rest of_front.1 of_rest)

@@ -1,7 +1,7 @@
 -- The places of messages in a record.
-use Rattle.std.proofs.Common.{arith, ◌≡◌, ℕ, true, false, ◌+◌, ◌-◌, ◌≤◌, List, [], ◌∷◌, ◌++◌, length, map, take, drop, refl, ap, sym, ◌∙◌, length-append, append_assoc, append-nil}
+use Rattle.std.proofs.Common.{arith, ◌≡◌, ℕ, true, false, ◌+◌, ◌-◌, ◌≤◌, List, [], ◌∷◌, ◌++◌, length, map, take, drop, Result, Ok, Err, refl, ap, sym, subst, inl, inr, ◌∙◌, length-append, append_assoc, append-nil}
 use Rattle.std.specs.List.{All}
-use Rattle.std.proofs.lemmas.List.{take_at, drop_at, drop-drop, take-append-le, drop-append-le, length-drop, map_push}
+use Rattle.std.proofs.lemmas.List.{map-append, take_at, drop_at, drop-drop, take-append-le, drop-append-le, length-drop, map_push}
 use Rattle.std.proofs.lemmas.List.Elements.{All-head, All-tail, All-push, All-weaker}
 use Rattle.ill_values.specs.declared.apdu.Apdu.{Apdu}
 use Rattle.ill_der.specs.ShortForm.{spelling}
@@ -11,8 +11,11 @@ use Rattle.ill_saved.specs.declared.side.Side.TheVariants as sides
 use Rattle.ill_saved.specs.Layout.{spell_all, apdu, ill_request, mark, marked, counted, optional_number}
 use Rattle.ill_saved.specs.Records.{due_octets, front, requester_states, responder_states, requester_rest, responder_rest, spell_start, record_spelling}
 use Rattle.ill_saved.specs.Side.{issued_of}
-use Rattle.ill_saved.specs.Kept.{piece_at, IsWithin, EndsWith}
-use Rattle.ill_saved.proofs.Lists.{spell_none, spell_more}
+use Rattle.ill_saved.specs.Kept.{KeptBytes, none_kept, IsKept, Keeps, piece_at, IsWithin, EndsWith}
+use Rattle.std.specs.Prelude.{IfOk}
+use Rattle.ill_saved.specs.Ranges.{Each, IsSide}
+use Rattle.ill_values.specs.Apdu.{IsApdu}
+use Rattle.ill_saved.proofs.Lists.{spell_none, spell_more, spell_both, each_both}
 
 -- a place within the front is the same place in the whole
 piece_of_front : (front more : List ℕ) (place : Place) → IsWithin (length front) place → piece_at (front ++ more) place ≡ piece_at front place
@@ -108,3 +111,42 @@ ends_with_messages (sides.Responder y) =
     let behind_numbers : EndsWith messages rest =
     ends_behind (optional_number.spell y.accepted ++ (optional_number.spell y.last_cancel ++ (optional_number.spell y.last_renew ++ mark.spell y.received))) messages request behind_request in
     ends_behind (spell_start true) messages (head ++ rest) (ends_behind head messages rest behind_numbers)
+
+-- ---- a side that begins with the messages kept
+
+-- the messages kept and the others are all that the side has issued
+pub record Continues (kept : KeptBytes) (issued others : List Apdu) : Type 0 where
+  pub messages : kept.messages ++ spell_all spelling others ≡ spell_all spelling issued
+  pub pieces : kept.pieces ++ map spelling others ≡ map spelling issued
+  pub range : Each IsApdu others → Each IsApdu issued
+
+continues_front : (kept : KeptBytes) (side : Side) (more : List Apdu) → IsKept kept side → Continues kept (issued_of side ++ more) more
+continues_front kept side more is = record {
+  messages = ap (λ (k : KeptBytes). k.messages ++ spell_all spelling more) is.1 ∙ sym (spell_both spelling (issued_of side) more);
+  pieces = ap (λ (k : KeptBytes). k.pieces ++ map spelling more) is.1 ∙ sym (map-append spelling (issued_of side) more);
+  range = λ others. each_both IsApdu (issued_of side) more is.0.1.issued others;
+}
+
+continues_none : (kept : KeptBytes) (issued : List Apdu) → kept ≡ none_kept → Continues kept issued issued
+continues_none kept issued none = record {
+  messages = ap (λ (k : KeptBytes). k.messages ++ spell_all spelling issued) none;
+  pieces = ap (λ (k : KeptBytes). k.pieces ++ map spelling issued) none;
+  range = λ all. all;
+}
+
+pub kept_continues : (kept : KeptBytes) (live : Side) (released : ℕ) (others : List Apdu) → Keeps kept live released → others ≡ drop released (issued_of live) → Continues kept (issued_of live) others
+kept_continues kept live released others (inl none) e =
+    subst (λ more. Continues kept (issued_of live) more) (sym (e ∙ ap (λ n. drop n (issued_of live)) none.1)) (continues_none kept (issued_of live) none.0)
+kept_continues kept live released others (inr (side, is, of)) e =
+    let same : others ≡ of.front.0 = e ∙ (ap (drop released) of.front.1 ∙ drop_at (issued_of side) of.front.0 released (sym of.all)) in
+    subst (λ more. Continues kept (issued_of live) more) (sym same) (subst (λ issued. Continues kept issued of.front.0) (sym of.front.1) (continues_front kept side of.front.0 is))
+
+-- the record that follows is that of the side
+pub next_kept : {E : Type 0} (result : Result KeptBytes E) (kept : KeptBytes) (side : Side) (others : List Apdu) (bytes : List ℕ) → Continues kept (issued_of side) others → IsSide side
+    → bytes ≡ record_spelling side → IfOk result (λ next. next ≡ record { bytes = bytes; messages = kept.messages ++ spell_all spelling others; pieces = kept.pieces ++ map spelling others })
+    → IfOk result (λ next. IsKept next side)
+next_kept (Ok next) kept side others bytes more is spelled e =
+    let messages = more.messages in
+    let pieces = more.pieces in
+    (is, cc)
+next_kept (Err fault) kept side others bytes more is spelled e = tt

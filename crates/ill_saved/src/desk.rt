@@ -12,7 +12,6 @@ ghost use Rattle.ill_saved.specs.Store.{spent};
 ghost use Rattle.ill_der.specs.ShortForm.{apdu_at};
 
 use crate::decoding::decode_record;
-use crate::encoding::encode_record;
 use crate::fault::{DeskFault, RecordFault};
 use crate::kept::KeptRecord;
 use crate::laws::{read_again, rows_grow, spelled};
@@ -155,11 +154,10 @@ impl<S: Store> Desk1<S> {
         ensures honest { S.is_honest self.new.store ≡ S.is_honest self.old.store }
     {
         read_again();
-        let bytes = encode_record(alloc, &self.live)?;
-        let kept = KeptRecord::of(alloc, bytes, &self.live)?;
-        self.store.save(alloc, kept.bytes())?;
+        let record = self.kept.next(alloc, &self.live, self.released)?;
+        self.store.save(alloc, record.bytes())?;
         self.released = self.live.issued_count();
-        self.kept = kept;
+        self.kept = record;
         Ok(())
     }
 

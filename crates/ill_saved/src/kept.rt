@@ -4,9 +4,11 @@ ghost use Rattle.std.specs.Prelude.{◌≡◌, ◌++◌, ◌-◌, ◌≤◌, len
 ghost use Rattle.std.specs.List.{All, slice_get};
 ghost use Rattle.ill_der.specs.ShortForm.{spelling};
 ghost use Rattle.ill_saved.specs.Layout.{spell_all};
+ghost use Rattle.ill_saved.specs.Side.{issued_of};
 ghost use Rattle.ill_saved.specs.Records.{record_spelling};
-ghost use Rattle.ill_saved.specs.Kept.{KeptBytes, none_kept, kept_of, piece_at, IsWithin, EndsWith};
+ghost use Rattle.ill_saved.specs.Kept.{KeptBytes, none_kept, kept_of, IsKept, Keeps, piece_at, IsWithin, EndsWith};
 
+use crate::encoding::encode_behind;
 use crate::side::Side;
 use ill_der::size;
 use ill_values::{Apdu, Number, OutOfMemory};
@@ -61,6 +63,22 @@ impl KeptRecord {
         ensures { IfOk result (λ kept. kept ≡ kept_of side.now) }
     {
         KeptRecord::none(alloc).followed_by(alloc, bytes, side.all_issued())
+    }
+
+    /// The record of a side that begins with the messages that are kept here, so many. They are copied,
+    /// and only the others are encoded.
+    pub fn next(
+        &self,
+        alloc: Global,
+        side: &Side,
+        released: u8,
+    ) -> Result<KeptRecord, OutOfMemory>
+        requires keeps { Keeps self.now side.now released }
+        ensures { IfOk result (λ kept. IsKept kept side.now) }
+    {
+        let others = issued_behind(side, released);
+        let bytes = encode_behind(alloc, side, self.messages(), others)?;
+        self.followed_by(alloc, bytes, others)
     }
 
     /// A record whose messages are those of this one and these behind them. Its bytes must end so.
@@ -122,4 +140,12 @@ fn piece(messages: &[u8], place: Place) -> &[u8]
     ensures { result.now ≡ piece_at messages.now place }
 {
     &messages[place.start..place.start + place.size]
+}
+
+/// The messages that a side has issued behind the first so many.
+fn issued_behind(side: &Side, count: u8) -> &[Apdu]
+    requires { count ≤ length (issued_of side.now) }
+    ensures { result.now ≡ drop count (issued_of side.now) }
+{
+    &side.all_issued()[usize::from(count)..]
 }

@@ -68,21 +68,28 @@ next_placed whole end places a left all placed =
           ∙ (ap (λ piece. map (piece_at whole) places ++ piece ∷ map spelling left) piece ∙ placed.pieces));
     }
 
--- where all have theirs, the end is the whole's
-pub end_reached : (whole : List ℕ) (end : ℕ) (places : List Place) (all : List (List ℕ)) → ArePlaced whole end places [] all → end ≡ length whole
-end_reached whole end places all placed = omega (arith, placed.reached, sym (length-drop end whole) ∙ ap length (placed.rest ∙ spell_none spelling))
+-- Behind their front, bytes have the messages, each at its place.
+pub record ArePlacedIn (bytes : List ℕ) (first : ℕ) (whole : List ℕ) (places : List Place) (all : List (List ℕ)) : Type 0 where
+  pub behind : first ≤ length bytes
+  pub messages : drop first bytes ≡ whole
+  pub within : All (IsWithin (length (drop first bytes))) places
+  pub pieces : map (piece_at (drop first bytes)) places ≡ all
 
-pub all_placed : (whole : List ℕ) (end : ℕ) (places : List Place) (all : List (List ℕ)) → ArePlaced whole end places [] all → map (piece_at whole) places ≡ all
-all_placed whole end places all placed = sym (append-nil (map (piece_at whole) places)) ∙ placed.pieces
-
--- bytes that end with the whole
-pub ends_within : (end bytes : List ℕ) → EndsWith end bytes → length end ≤ length bytes
-ends_within end bytes ends = omega (arith, ap length ends.1 ∙ length-append ends.0 end)
-
-pub end_of : (end bytes : List ℕ) (at : ℕ) → EndsWith end bytes → at ≡ length bytes - length end → drop at bytes ≡ end
-end_of end bytes at ends e =
-    let front : length ends.0 ≡ at = omega (arith, e, ap length ends.1 ∙ length-append ends.0 end) in
-    ap (drop at) ends.1 ∙ drop_at ends.0 end at front
+-- where all have their places, so have they in bytes that end with them
+pub all_placed : (bytes whole : List ℕ) (first end : ℕ) (places : List Place) (left : List Apdu) (all : List (List ℕ)) → left ≡ [] → ArePlaced whole end places left all → EndsWith whole bytes
+    → first ≡ length bytes - end → ArePlacedIn bytes first whole places all
+all_placed bytes whole first end places left all none placed ends e =
+    let rest : drop end whole ≡ [] = placed.rest ∙ (ap (spell_all spelling) none ∙ spell_none spelling) in
+    let reached : end ≡ length whole = omega (arith, placed.reached, sym (length-drop end whole) ∙ ap length rest) in
+    let behind : length ends.0 ≡ first = omega (arith, e, reached, ap length ends.1 ∙ length-append ends.0 whole) in
+    let messages : drop first bytes ≡ whole = ap (drop first) ends.1 ∙ drop_at ends.0 whole first behind in
+    let pieces : map (piece_at whole) places ≡ all = sym (append-nil (map (piece_at whole) places)) ∙ (ap (λ apdus. map (piece_at whole) places ++ map spelling apdus) (sym none) ∙ placed.pieces) in
+    record {
+      behind = omega (arith, e);
+      messages = messages;
+      within = subst (λ part. All (IsWithin (length part)) places) (sym messages) placed.within;
+      pieces = subst (λ part. map (piece_at part) places ≡ all) (sym messages) pieces;
+    }
 
 -- ---- the messages are the last part of a record
 

@@ -67,12 +67,7 @@ impl KeptRecord {
 
     /// The record of a side that begins with the messages that are kept here, so many. They are copied,
     /// and only the others are encoded.
-    pub fn next(
-        &self,
-        alloc: Global,
-        side: &Side,
-        released: u8,
-    ) -> Result<KeptRecord, OutOfMemory>
+    pub fn next(&self, alloc: Global, side: &Side, released: u8) -> Result<KeptRecord, OutOfMemory>
         requires keeps { Keeps self.now side.now released }
         ensures { IfOk result (λ kept. IsKept kept side.now) }
     {
@@ -82,7 +77,7 @@ impl KeptRecord {
     }
 
     /// A record whose messages are those of this one and these behind them. Its bytes must end so.
-    pub fn followed_by(
+    fn followed_by(
         &self,
         alloc: Global,
         bytes: Vec<u8>,
@@ -118,7 +113,7 @@ impl KeptRecord {
     }
 
     /// The part of the bytes that has the messages.
-    pub fn messages(&self) -> &[u8]
+    fn messages(&self) -> &[u8]
         ensures { result.now ≡ self.now.messages }
     {
         &self.bytes[self.first..]

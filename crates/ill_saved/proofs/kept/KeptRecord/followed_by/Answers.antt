@@ -4,7 +4,7 @@ use Rattle.std.proofs.lemmas.List.{drop_more, drop_all}
 use Rattle.ill_der.specs.ShortForm.{spelling}
 use Rattle.ill_saved.specs.Layout.{spell_all}
 use Rattle.ill_saved.specs.Kept.{piece_at, IsWithin}
-use Rattle.ill_saved.proofs.Places.{ArePlaced, first_placed, next_placed, all_placed, end_reached, end_of}
+use Rattle.ill_saved.proofs.Places.{ArePlaced, ArePlacedIn, first_placed, next_placed, all_placed}
 use Rattle.ill_saved.proofs.kept.KeptRecord.followed_by.Goals as goal
 
 pub loop-apdu-init : goal.loop-apdu-init
@@ -32,30 +32,24 @@ loop-apdu-preserved c =
     let next = next_placed whole c.loop-apdu.end c.loop-apdu.places.items a left all placed in
     record { placed = search (rules, next) }
 
+all_are_placed : (c : goal.After-len) → ArePlacedIn c.args.bytes.items (c.len.result - c.loop-apdu.end) (c.args.self.now.messages ++ spell_all spelling c.args.apdus.now) c.loop-apdu.places.items
+    (c.args.self.now.pieces ++ map spelling c.args.apdus.now)
+all_are_placed c =
+    let apdus = c.args.apdus.now in
+    let left = drop c.loop-apdu.apdu-index apdus in
+    let none : left ≡ [] = drop_all c.loop-apdu.apdu-index apdus (omega (arith, c.loop-apdu-test.false)) in
+    let size : c.len.result ≡ length c.args.bytes.items = search rules in
+    all_placed c.args.bytes.items (c.args.self.now.messages ++ spell_all spelling apdus) (c.len.result - c.loop-apdu.end) c.loop-apdu.end c.loop-apdu.places.items left (c.args.self.now.pieces ++ map spelling apdus)
+    none c.loop-apdu.invariant.placed c.requires.ends (ap (λ n. n - c.loop-apdu.end) size)
+
 pub invariant_of-result : goal.invariant_of-result
 invariant_of-result c =
-    let bytes = c.args.bytes.items in
-    let whole = c.args.self.now.messages ++ spell_all spelling c.args.apdus.now in
-    let all = c.args.self.now.pieces ++ map spelling c.args.apdus.now in
-    let none : drop c.loop-apdu.apdu-index c.args.apdus.now ≡ [] = drop_all c.loop-apdu.apdu-index c.args.apdus.now (omega (arith, c.loop-apdu-test.false)) in
-    let placed : ArePlaced whole c.loop-apdu.end c.loop-apdu.places.items [] all =
-    subst (λ rest. ArePlaced whole c.loop-apdu.end c.loop-apdu.places.items rest all) none c.loop-apdu.invariant.placed in
-    let end = end_reached whole c.loop-apdu.end c.loop-apdu.places.items all placed in
-    let size : c.len.result ≡ length bytes = search rules in
-    let is_end : drop (c.len.result - c.loop-apdu.end) bytes ≡ whole = end_of whole bytes (c.len.result - c.loop-apdu.end) c.requires.ends (omega (arith, end, size)) in
-    (omega (arith, size), subst (λ part. All (IsWithin (length part)) c.loop-apdu.places.items) (sym is_end) placed.within)
+    let placed = all_are_placed c in
+    (placed.behind, placed.within)
 
 pub returns : goal.returns
 returns c =
-    let bytes = c.args.bytes.items in
-    let whole = c.args.self.now.messages ++ spell_all spelling c.args.apdus.now in
-    let all = c.args.self.now.pieces ++ map spelling c.args.apdus.now in
-    let none : drop c.loop-apdu.apdu-index c.args.apdus.now ≡ [] = drop_all c.loop-apdu.apdu-index c.args.apdus.now (omega (arith, c.loop-apdu-test.false)) in
-    let placed : ArePlaced whole c.loop-apdu.end c.loop-apdu.places.items [] all =
-    subst (λ rest. ArePlaced whole c.loop-apdu.end c.loop-apdu.places.items rest all) none c.loop-apdu.invariant.placed in
-    let end = end_reached whole c.loop-apdu.end c.loop-apdu.places.items all placed in
-    let size : c.len.result ≡ length bytes = search rules in
-    let is_end : drop (c.len.result - c.loop-apdu.end) bytes ≡ whole = end_of whole bytes (c.len.result - c.loop-apdu.end) c.requires.ends (omega (arith, end, size)) in
-    let pieces = all_placed whole c.loop-apdu.end c.loop-apdu.places.items all placed in
-    let are : map (piece_at (drop (c.len.result - c.loop-apdu.end) bytes)) c.loop-apdu.places.items ≡ all = rw is_end pieces in
+    let placed = all_are_placed c in
+    let messages = placed.messages in
+    let pieces = placed.pieces in
     cc

@@ -10,13 +10,11 @@ ghost use Rattle.ill_der.specs.FeedView.{held_of, closing, Holds, Fills, GoesOn,
 use crate::apdu_view::ApduView;
 use crate::fault::DerFault;
 use crate::handling::{Handler, handle_all, handle_first};
+use crate::header::MAX_SIZE;
 use crate::laws::{read_again, short_has_the_size};
 use ill_values::{Apdu, OutOfMemory};
 use std::alloc::Global;
 use std::marker::Model;
-
-/// How many bytes the longest APDU has.
-const MAX_SIZE: usize = 359;
 
 /// Takes the bytes of APDUs, one behind another, in pieces cut anywhere.
 ///

@@ -10,7 +10,8 @@ use crate::fault::DerFault;
 use crate::laws::prefix_or_fault;
 use std::alloc::Global;
 
-/// What is done with each APDU of some bytes, in a context that the caller lends, such as a writer.
+/// What is done with each APDU of some bytes. Beside itself it has a context that the caller lends, such
+/// as a writer, or `()`.
 pub trait Handler<C> {
     /// Why an APDU was not handled.
     type Fault;

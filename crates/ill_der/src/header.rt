@@ -11,6 +11,9 @@ use crate::length::{LengthForm, length_of};
 /// The largest number of contents octets of an APDU.
 const MAX_CONTENTS: u16 = 355;
 
+/// How many bytes the longest APDU has.
+pub const MAX_SIZE: usize = 359;
+
 /// What the identifier and the length of an APDU say.
 #[derive(Clone, Copy, Debug)]
 pub struct Header {
@@ -18,7 +21,7 @@ pub struct Header {
     pub apdu_type: ApduType,
     /// Where the contents begin, in bytes from the first byte of the APDU.
     pub start: u16,
-    /// How many bytes the APDU has: at most 359.
+    /// How many bytes the APDU has: at most `MAX_SIZE`.
     pub size: u16,
 }
 

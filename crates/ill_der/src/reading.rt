@@ -6,7 +6,7 @@ ghost use Rattle.ill_der.specs.Stream.{AreUnfinished, IsJudged, ReadsApdu, missi
 use crate::counted::CountedRead;
 use crate::decoding::decode;
 use crate::fault::{DerFault, ReadFault};
-use crate::header::header_at;
+use crate::header::{MAX_SIZE, header_at};
 use crate::steps::Steps;
 use ill_values::Apdu;
 use ill_values::laws::{date_texts, text_sizes};
@@ -14,9 +14,6 @@ use std::alloc::Global;
 use std::io::Read;
 use std::marker::Brand;
 use std::sync::ledger::{Blank, Ledger};
-
-/// How many bytes the longest APDU has.
-const MAX_SIZE: usize = 359;
 
 /// A read for each byte, and one that finds the end.
 const READS: usize = MAX_SIZE + 1;

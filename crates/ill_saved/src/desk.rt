@@ -26,6 +26,9 @@ use std::alloc::Global;
 use std::marker::Model;
 
 /// One side of a transaction, in memory and in a store. A message may be sent only once it is saved.
+///
+/// The desk keeps the last record that its own `save`, `start` or `restart` knows to have landed: a
+/// message is sent from its bytes, and the next save copies the messages that it has.
 #[derive(Debug, Drop)]
 pub struct Desk1<S: Store> {
     live: Side,
@@ -138,7 +141,7 @@ impl<S: Store> Desk1<S> {
     }
 
     /// Saves the side, so that all its messages may be sent. After a fault the side, and which
-    /// messages may be sent, are as before.
+    /// messages may be sent, are as before. All the desk's memory is taken before the store is called.
     pub fn save(&mut self, alloc: Global) -> Result<(), DeskFault>
         ensures live { self.new.live ≡ self.old.live }
         ensures released { self.new.released ≡
@@ -184,8 +187,8 @@ impl<S: Store> Desk1<S> {
         Ok(())
     }
 
-    /// The bytes of the message with this number, to send it. It must have been issued (else
-    /// `NoSuchMessage`) and saved (else `NotSaved`).
+    /// The bytes of the message with this number, to send it: a copy of those in the record that has
+    /// landed. It must have been issued (else `NoSuchMessage`) and saved (else `NotSaved`).
     pub fn message(&self, alloc: Global, number: Number) -> Result<Vec<u8>, DeskFault>
         ensures { Sends (λ bytes. bytes.items) (message (issued_of self.now.live) number)
             (nat_le number self.now.released) result }

@@ -3,8 +3,9 @@
 ghost use Rattle.std.specs.Prelude.{◌<◌};
 
 use crate::agreement::{differing_at_apdu, differing_at_fault};
-use crate::buffer::Buffer;
+use crate::buffer::{Buffer, INDENT};
 use crate::cases::push_bytes;
+use crate::feeding::{push_halves, push_pieces, push_random, push_singly};
 use crate::words::push_apdu;
 use ill_der::{DerFault, decode, read_apdu};
 use std::alloc::Global;
@@ -16,27 +17,45 @@ pub fn push_case(alloc: Global, output: &mut Buffer, line: &str) {
     if !line.is_empty() && !line.starts_with("#") {
         let mut answers = Buffer::new(alloc);
         push_answers(alloc, &mut answers, line);
-        output.push_indented(&answers);
+        output.push_behind(INDENT.as_bytes(), &answers);
     }
 }
 
 /// Adds the answers to a case.
 fn push_answers(alloc: Global, output: &mut Buffer, line: &str) {
     let (form, words) = line.split_once(": ").unwrap_or(("", line));
+    if form == "in pieces" {
+        return push_pieces(alloc, output, words);
+    }
     let mut bytes = Buffer::new(alloc);
     push_bytes(&mut bytes, words);
-    if !bytes.is_whole() {
+    if bytes.is_whole() {
+        push_form(alloc, output, form, bytes.bytes());
+    } else {
         output.push(b"no case\n");
-        return;
     }
+}
+
+/// Adds the answers to bytes in a form.
+fn push_form(alloc: Global, output: &mut Buffer, form: &str, bytes: &[u8]) {
     match form {
-        "" => output.push_line(&answer_to(alloc, bytes.bytes())),
-        "each proper front" => push_fronts(alloc, output, bytes.bytes()),
-        "one after another" => push_stream(alloc, output, bytes.bytes()),
-        _ => match place_in(form) {
-            Some(place) => push_octets(alloc, output, place, bytes.bytes()),
-            None => output.push(b"no case\n"),
-        },
+        "" => output.push_line(&answer_to(alloc, bytes)),
+        "each proper front" => push_fronts(alloc, output, bytes),
+        "one after another" => push_stream(alloc, output, bytes),
+        "byte by byte" => push_singly(alloc, output, bytes),
+        "cut in two at each place" => push_halves(alloc, output, bytes),
+        _ => push_numbered_form(alloc, output, form, bytes),
+    }
+}
+
+/// Adds the answers to bytes in a form that has a number in it.
+fn push_numbered_form(alloc: Global, output: &mut Buffer, form: &str, bytes: &[u8]) {
+    if let Some(place) = place_in(form) {
+        push_octets(alloc, output, place, bytes);
+    } else if let Some((count, seed)) = draws_in(form) {
+        push_random(alloc, output, count, seed, bytes);
+    } else {
+        output.push(b"no case\n");
     }
 }
 
@@ -44,6 +63,15 @@ fn place_in(form: &str) -> Option<usize> {
     let digits = form.strip_prefix("each octet at ")?;
     let place = u8::from_str_radix(digits, 10).ok()?;
     Some(usize::from(place))
+}
+
+/// How often is cut at random, and from which seed.
+fn draws_in(form: &str) -> Option<(u32, u32)> {
+    let numbers = form.strip_prefix("cut at random, ")?;
+    let (count, seed) = numbers.split_once(" times from seed ")?;
+    let count = u32::from_str_radix(count, 10).ok()?;
+    let seed = u32::from_str_radix(seed, 10).ok()?;
+    Some((count, seed))
 }
 
 /// The answer of `decode`, and the first call that does not agree with it.

@@ -53,23 +53,36 @@ impl Buffer {
         }
     }
 
-    /// Adds a line, and its end.
-    pub fn push_line(&mut self, line: &Buffer) {
-        self.push(line.bytes());
-        self.push_octet(b'\n');
-        if !line.is_whole {
+    /// Adds all of another.
+    pub fn push_all(&mut self, other: &Buffer) {
+        self.push(other.bytes());
+        if !other.is_whole {
             self.lose();
         }
     }
 
-    /// Adds lines, each behind the indent.
-    pub fn push_indented(&mut self, lines: &Buffer) {
+    /// Adds a line, and its end.
+    pub fn push_line(&mut self, line: &Buffer) {
+        self.push_all(line);
+        self.push_octet(b'\n');
+    }
+
+    /// Adds lines, each behind this front.
+    pub fn push_behind(&mut self, front: &[u8], lines: &Buffer) {
         for line in lines.bytes().split_inclusive(|byte| *byte == b'\n') {
-            self.push(INDENT.as_bytes());
+            self.push(front);
             self.push(line);
         }
         if !lines.is_whole {
             self.lose();
+        }
+    }
+
+    /// Adds all that is here once more.
+    pub fn double(&mut self) {
+        match Vec::from_slice(self.alloc, &self.bytes) {
+            Ok(copy) => self.push(&copy),
+            Err(_) => self.lose(),
         }
     }
 

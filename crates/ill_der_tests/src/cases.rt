@@ -22,9 +22,11 @@ fn push_word(bytes: &mut Buffer, word: &str) {
     }
 }
 
-/// Adds an octet in hexadecimal, or ASCII in quotes.
+/// Adds an octet in hexadecimal, or ASCII in quotes, or once more all that stands before it.
 fn push_text(bytes: &mut Buffer, text: &str) {
-    if let Some(quoted) = text.strip_prefix("\"") {
+    if text == "again" {
+        bytes.double();
+    } else if let Some(quoted) = text.strip_prefix("\"") {
         match quoted.strip_suffix("\"") {
             Some(ascii) => bytes.push(ascii.as_bytes()),
             None => bytes.lose(),

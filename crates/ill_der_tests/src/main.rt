@@ -6,7 +6,8 @@
 //! nothing where all is right.
 //!
 //! The bytes of a case are words: an octet in hexadecimal, or ASCII in quotes that has no space and no
-//! star. `*N` behind either repeats it N times. A line is one of these:
+//! star and no bar. `again` is all of the bytes before it once more. `*N` behind each of these repeats it N
+//! times. A line is one of these:
 //!
 //! - `# ..`, or nothing: printed as it is.
 //! - `BYTES`: the answer of `decode`, an APDU in words and its size, or the fault. All other calls must
@@ -17,12 +18,25 @@
 //!   in a row that have the same, with the first of them.
 //! - `one after another: BYTES`: the answers of `read_apdu` to the end, which is read twice, and how many
 //!   bytes each took.
+//!
+//! And these of a `Feed`, where `each` must agree with `push`, and a fault that was given be given again:
+//!
+//! - `in pieces: BYTES | BYTES ..`: what each push gives, a line for each APDU and for the fault, and the
+//!   answer of `end`. A piece may be of no bytes.
+//! - `byte by byte: BYTES`: the same, each byte a piece.
+//! - `cut in two at each place: BYTES`: how many APDUs one push gives, and the answer of `end`; then the
+//!   places where a cut gives other APDUs, another fault or another end, and how many give the same.
+//! - `cut at random, N times from seed N: BYTES`: the same, but cut N times into pieces of 0 to 511 bytes
+//!   that numbers of that seed say; how many give the same.
 #![tactic(auto)]
 
 mod agreement;
 mod answers;
 mod buffer;
 mod cases;
+mod cuts;
+mod fed;
+mod feeding;
 mod words;
 
 use buffer::Buffer;

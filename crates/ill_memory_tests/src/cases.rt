@@ -33,6 +33,7 @@ fn call_outcome<R: Files>(
     let (subject, name) = call.split_once("::").unwrap_or((call, ""));
     match subject {
         "codec" => codec_outcome(alloc, name),
+        "Feed" => feed_outcome(alloc, name),
         "MemoryStore" => store_outcome(alloc, name, words),
         "FileStore" => folder.outcome(alloc, name),
         "Desk1" => desk_outcome(alloc, name, words),
@@ -66,6 +67,14 @@ fn codec_outcome(alloc: Global, call: &str) -> Option<Outcome> {
         "read_apdu" => codec::reads(alloc),
         "write_apdu" => codec::writes(alloc),
         "size" => codec::sizes(alloc),
+        _ => None,
+    }
+}
+
+fn feed_outcome(alloc: Global, call: &str) -> Option<Outcome> {
+    match call {
+        "push" => codec::pushes(alloc),
+        "each" => codec::hands_on(alloc),
         _ => None,
     }
 }

@@ -1,10 +1,13 @@
 //! The calls of the codec.
 
-use crate::judging::{Outcome, answered, judged, leaving, quiet};
+use crate::judging::{Outcome, answered, done_if, judged, leaving, quiet};
 use crate::marks::{begin, end};
 use crate::values::request;
-use ill_der::{DerFault, ReadFault, WriteFault, decode, encode, read_apdu, size, write_apdu};
-use ill_values::OutOfMemory;
+use ill_der::{
+    ApduView, DerFault, Feed, Handler, Pushed, ReadFault, WriteFault, decode, encode, read_apdu,
+    size, write_apdu,
+};
+use ill_values::{Apdu, OutOfMemory};
 use std::alloc::Global;
 
 /// The bytes of the ILL-Request for maps, number 1.
@@ -78,4 +81,85 @@ pub fn decodes_digits(alloc: Global, word: &str) -> Option<Outcome> {
         Some(fault) => Outcome::Fault(fault),
     };
     Some(judged(outcome, refused))
+}
+
+/// The bytes of two ILL-Requests, the first 5 alone.
+fn pieces(alloc: Global) -> Option<(&'static [u8], Vec<u8>)> {
+    let (front, behind) = REQUEST.split_at_checked(5)?;
+    let mut piece = Vec::from_slice(alloc, behind).ok()?;
+    piece.extend_from_slice(REQUEST).ok()?;
+    Some((front, piece))
+}
+
+/// `Feed::push` of a piece that completes two APDUs, the first of which began before. Without memory the
+/// feed is as it was: the same piece then gives both.
+pub fn pushes(alloc: Global) -> Option<Outcome> {
+    let (apdu, (front, piece)) = request(alloc).zip(pieces(alloc))?;
+    let mut feed = Feed::new(alloc);
+    feed.push(front).ok()?;
+    begin(alloc);
+    let pushed = feed.push(&piece);
+    let refused = end(alloc);
+    let outcome = match pushed {
+        Ok(pushed) => done_if(is_twice(&pushed, &apdu) && feed.end().is_ok()),
+        Err(_) => pushes_again(&mut feed, &piece, &apdu),
+    };
+    drop(apdu);
+    Some(judged(outcome, refused))
+}
+
+/// What comes of a push without memory, where the feed has to be as it was.
+fn pushes_again(feed: &mut Feed, piece: &[u8], apdu: &Apdu) -> Outcome {
+    let held = feed.end();
+    let is_right = match feed.push(piece) {
+        Ok(pushed) => held == Err(DerFault::Short(5)) && is_twice(&pushed, apdu),
+        Err(_) => false,
+    };
+    leaving(Outcome::Memory, is_right && feed.end().is_ok())
+}
+
+/// Whether a push gave this APDU twice, and no fault.
+fn is_twice(pushed: &Pushed, apdu: &Apdu) -> bool {
+    match pushed.apdus.as_slice() {
+        [first, second] => pushed.fault.is_none() && *first == *apdu && *second == *apdu,
+        _ => false,
+    }
+}
+
+/// Counts the APDUs that it is handed.
+#[derive(Drop)]
+struct Counter {
+    count: u8,
+}
+
+impl Handler<()> for Counter {
+    type Fault = ();
+
+    ghost handles = { λ old apdu result new. Unit {0} };
+
+    fn handle(
+        &mut self,
+        _alloc: Global,
+        _context: &mut (),
+        _apdu: &ApduView<'_>,
+    ) -> Result<(), ()> {
+        self.count = self.count.saturating_add(1);
+        Ok(())
+    }
+}
+
+/// `Feed::new`, `end`, `push` of what completes no APDU, and `each`, whose handler takes no memory.
+pub fn hands_on(alloc: Global) -> Option<Outcome> {
+    let (front, piece) = pieces(alloc)?;
+    let mut counter = Counter { count: 0 };
+    begin(alloc);
+    let mut feed = Feed::new(alloc);
+    let is_begun = feed.push(front).is_ok();
+    let held = feed.end();
+    let fault = feed.each(&piece, &mut (), &mut counter);
+    let is_ended = feed.end().is_ok();
+    let refused = end(alloc);
+    let is_handed = fault == Ok(None) && counter.count == 2;
+    let is_right = is_begun && held == Err(DerFault::Short(5)) && is_handed && is_ended;
+    Some(quiet(is_right, refused))
 }

@@ -1,74 +1,369 @@
--- Reading one APDU after another.
-use Rattle.std.proofs.Common.{◌≡◌, ℕ, ◌+◌, ◌≤◌, List, [], ◌∷◌, ◌++◌, length, Option, Some, Result, Ok, Err, refl, sym, ap, subst, ◌∙◌, arith}
+-- Reading one piece after another, and handling the APDUs in them.
+use Rattle.std.proofs.Common.{◌≡◌, inl, inr, ◌⊎◌, ℕ, Bool, if◌then◌else◌, ◌+◌, ◌*◌, ◌-◌, ◌<◌, ◌≤◌, List, [], ◌∷◌, ◌++◌, length, Option, Some, None, Result, Ok, Err, refl, sym, ap, subst, ◌∙◌, arith, append_assoc}
 use Rattle.std.specs.List.{flat_map, AllByRecursion}
-use Rattle.std.specs.Io.KnownBytes.{Consumes}
-use Rattle.std.proofs.KnownBytes.{Consumes-nil, Consumes-trans}
+use Rattle.std.specs.Io.KnownBytes.{Consumes, Keeps, IsAtEnd}
+use Rattle.std.proofs.KnownBytes.{Consumes-nil, Consumes-trans, Consumes-kept}
 use Rattle.std.proofs.lemmas.List.{append-nil, length-append}
+use Rattle.std.proofs.Math.Dec.{eqb-suc-zero}
 use Rattle.std.proofs.lemmas.Grind.{flat_map-append}
 use Rattle.ill_values.specs.declared.apdu.Apdu.{Apdu}
 use Rattle.ill_values.specs.Apdu.{IsApdu}
-use Rattle.ill_der.specs.declared.fault.ReadFault.{ReadFault}
-use Rattle.ill_der.specs.declared.fault.ReadFault.TheVariants as reading
-use Rattle.ill_der.specs.ShortForm.{spelling}
-use Rattle.ill_der.specs.Stream.{IsAnswer, ReadsApdu}
+use Rattle.ill_der.specs.declared.fault.DerFault.{DerFault}
+use Rattle.ill_der.specs.declared.fault.DerFault.TheVariants.{Short, Tag, Length, Field, OutOfMemory}
+use Rattle.ill_der.specs.ShortForm.{spelling, outer_at, apdu_at}
+use Rattle.ill_der.specs.Stream.{IsUnfinished, IfShort}
+use Rattle.ill_der.specs.Feed.{Begins, Held, Leaves, fault_of, end_of}
+use Rattle.ill_der.specs.Handling.{Handles, Handled, FailsAt, HandlesEach}
 use Rattle.ill_tool.specs.declared.fault.ToolFault.{ToolFault}
-use Rattle.ill_tool.specs.Input.{tool_fault, spellings, Takes, StopsReading, EndsReading}
+use Rattle.ill_tool.specs.declared.input.Counted.{Counted}
+use Rattle.ill_tool.specs.declared.fault.ToolFault.TheVariants.{Der, TooMany, Read}
+use Rattle.ill_tool.specs.Input.{spellings, Ends, ReadsApdus, ReadsInput, answer_at_end, CountsOn}
+
+-- ---- APDUs handled one after another
+
+-- handling, as it is seen from elsewhere
+pub handled_as : {S T F : Type 0} (handles : Handles S F) (seen : Handles T F) (view : S → T) → ((s t : S) (apdu : Apdu) (r : Result (Unit {0}) F) → handles s apdu r t → seen (view s) apdu r (view t))
+    → (before after : S) (apdus : List Apdu) → Handled handles before apdus after → Handled seen (view before) apdus (view after)
+handled_as handles seen view as_seen before after [] is = ap view is
+handled_as handles seen view as_seen before after (apdu ∷ apdus) is =
+    (view is.0, as_seen before is.0 apdu (Ok tt) is.1, handled_as handles seen view as_seen is.0 after apdus is.2)
+
+ends_as : {S T : Type 0} (handles : Handles S ToolFault) (seen : Handles T ToolFault) (view : S → T) → ((s t : S) (apdu : Apdu) (r : Result (Unit {0}) ToolFault) → handles s apdu r t → seen (view s) apdu r (view t))
+    → (result : Result ℕ ToolFault) (count : ℕ) (bytes : List ℕ) (ahead : List ℕ) (left : Option (List ℕ)) (before after : S)
+    → Ends handles result count bytes ahead left before after → Ends seen result count bytes ahead left (view before) (view after)
+ends_as handles seen view as_seen (Ok n) count bytes ahead left before after is = (is.0, is.1, is.2, ap view is.3)
+ends_as handles seen view as_seen (Err fault) count bytes ahead left before after is = elim is [
+      | inl stops ↦ inl (stops.0, ap view stops.1)
+      | inr fails ↦ inr (fails.0, fails.1, fails.2, fails.3, as_seen before after fails.0 (Err fault) fails.4)
+    ]
+
+pub reads_as : {S T : Type 0} (handles : Handles S ToolFault) (seen : Handles T ToolFault) (view : S → T) → ((s t : S) (apdu : Apdu) (r : Result (Unit {0}) ToolFault) → handles s apdu r t → seen (view s) apdu r (view t))
+    → (old new : Option (List ℕ)) (before after : S) (result : Result ℕ ToolFault) → ReadsInput handles old new before result after → ReadsInput seen old new (view before) result (view after)
+reads_as handles seen view as_seen old new before after result is = (
+  is.0,
+  is.1,
+  is.2,
+  view is.3,
+  record {
+    spelled = is.4.spelled;
+    most = is.4.most;
+    few = is.4.few;
+    read = is.4.read;
+    handled = handled_as handles seen view as_seen before is.3 is.0 is.4.handled;
+    ended = ends_as handles seen view as_seen result (length is.0) is.1 is.2 new is.3 after is.4.ended;
+  },
+)
+
+fails_as : {S T F : Type 0} (handles : Handles S F) (seen : Handles T F) (view : S → T) → ((s t : S) (apdu : Apdu) (r : Result (Unit {0}) F) → handles s apdu r t → seen (view s) apdu r (view t))
+    → (old : Held) (piece : List ℕ) (before after : S) (fault : F) → FailsAt handles old piece before fault after → FailsAt seen old piece (view before) fault (view after)
+fails_as handles seen view as_seen (Ok held) piece before after fault is =
+    (is.0, is.1, is.2, view is.3, is.4, handled_as handles seen view as_seen before is.3 is.0 is.5, as_seen is.3 after is.1 (Err fault) is.6)
+fails_as handles seen view as_seen (Err closed) piece before after fault is = absurd is
+
+pub each_as : {S T F : Type 0} (handles : Handles S F) (seen : Handles T F) (view : S → T) → ((s t : S) (apdu : Apdu) (r : Result (Unit {0}) F) → handles s apdu r t → seen (view s) apdu r (view t))
+    → (old : Held) (piece : List ℕ) (before : S) (result : Result (Option DerFault) F) (new : Held) (after : S) → HandlesEach handles old piece before result new after
+    → HandlesEach seen old piece (view before) result new (view after)
+each_as handles seen view as_seen old piece before (Ok fault) new after is = (is.0, (is.1.0, is.1.1, handled_as handles seen view as_seen before after is.1.0 is.1.2))
+each_as handles seen view as_seen old piece before (Err fault) new after is = (is.0, fails_as handles seen view as_seen old piece before after fault is.1)
+
+handled_join : {S F : Type 0} (handles : Handles S F) (before middle after : S) (front more : List Apdu) → Handled handles before front middle → Handled handles middle more after
+    → Handled handles before (front ++ more) after
+handled_join handles before middle after [] more first second = subst (λ s. Handled handles s more after) first second
+handled_join handles before middle after (apdu ∷ front) more first second = (first.0, first.1, handled_join handles first.0 middle after front more first.2 second)
+
+-- handling with the number of APDUs
+counted_on : {S : Type 0} (handles : Handles S ToolFault) (before after : ℕ × S) (apdus : List Apdu) → before.0 ≤ 100000 → Handled (CountsOn handles) before apdus after
+    → (after.0 ≡ before.0 + length apdus) × (after.0 ≤ 100000) × Handled handles before.1 apdus after.1
+counted_on handles before after [] few is =
+    let same : after.0 ≡ before.0 = ap (λ s. s.0) is in
+    (omega (arith, same), omega (arith, same, few), ap (λ s. s.1) is)
+counted_on handles before after (apdu ∷ apdus) few is =
+    let one = is.1 in
+    let on = counted_on handles is.0 after apdus (omega (arith, one.0, one.1)) is.2 in
+    (omega (arith, one.1, on.0), on.1, (is.0.1, one.2, on.2))
+
+-- a piece was pushed, and its APDUs were counted and handled
+abbrev pub HandlesCounted : {H C : Type 0} → Handles (H × C) ToolFault → Held → List ℕ → Counted H × C → Result (Option DerFault) ToolFault → Held → Counted H × C → Type 0
+HandlesCounted handles old piece before result new after =
+    HandlesEach (λ s apdu r t. CountsOn handles (s.0.count, (s.0.handler, s.1)) apdu r (t.0.count, (t.0.handler, t.1))) old piece before result new after
+
+each_counted : {H C : Type 0} (handles : Handles (H × C) ToolFault) (old feed : Held) (piece : List ℕ) (before : Counted H × C) (result : Result (Option DerFault) ToolFault) (new : Held) (after : Counted H × C)
+    → feed ≡ old → HandlesCounted handles feed piece before result new after
+    → HandlesEach (CountsOn handles) old piece (before.0.count, (before.0.handler, before.1)) result new (after.0.count, (after.0.handler, after.1))
+each_counted {H = H} {C = C} handles old feed piece before result new after same is =
+    each_as (λ (s : Counted H × C) apdu r t. CountsOn handles (s.0.count, (s.0.handler, s.1)) apdu r (t.0.count, (t.0.handler, t.1))) (CountsOn handles)
+    (λ s. (s.0.count, (s.0.handler, s.1))) (λ s t apdu r h. h) old piece before result new after
+    (subst (λ (f : Held). HandlesCounted handles f piece before result new after) same is)
+
+-- ---- lists of APDUs
+
+all_join : (front more : List Apdu) → AllByRecursion IsApdu front → AllByRecursion IsApdu more → AllByRecursion IsApdu (front ++ more)
+all_join [] more all others = others
+all_join (apdu ∷ front) more all others = (all.0, all_join front more all.1 others)
+
+-- the last of some APDUs
+last_of : (apdus : List Apdu) (apdu : Apdu) → AllByRecursion IsApdu (apdus ++ apdu ∷ []) → AllByRecursion IsApdu apdus × IsApdu apdu
+last_of [] apdu all = (tt, all.0)
+last_of (first ∷ apdus) apdu all = (let others = last_of apdus apdu all.1 in ((all.0, others.0), others.1))
+
+spelled_join : (front more : List Apdu) (rest : List ℕ) → spellings front ++ (spellings more ++ rest) ≡ spellings (front ++ more) ++ rest
+spelled_join front more rest = sym (append_assoc (spellings front) (spellings more) rest) ∙ ap (λ (x : List ℕ). x ++ rest) (sym (flat_map-append spelling front more))
 
 -- ---- the APDUs so far
 
--- these APDUs were read, so many
-pub record ReadSoFar (old new : Option (List ℕ)) (count : ℕ) (apdus : List Apdu) : Type 0 where
+-- The APDUs whose spellings were read have been handled, and these bytes behind them are held.
+pub record SoFar {S : Type 0} (handles : Handles S ToolFault) (old now : Option (List ℕ)) (before : S) (count : ℕ) (feed : Held) (after : S) (apdus : List Apdu) (held : List ℕ) : Type 0 where
   pub spelled : AllByRecursion IsApdu apdus
   pub counted : length apdus ≡ count
-  pub read : Consumes old new (spellings apdus)
+  pub few : count ≤ 100000
+  pub read : Consumes old now (spellings apdus ++ held)
+  pub handled : Handled handles before apdus after
+  pub opened : feed ≡ Ok held
+  pub unfinished : IsUnfinished held
 
-pub none_read : (old : Option (List ℕ)) → ReadSoFar old old 0 []
-none_read old = record { spelled = tt; counted = refl; read = Consumes-nil old }
+abbrev pub ReadSoFar : {S : Type 0} → Handles S ToolFault → Option (List ℕ) → Option (List ℕ) → S → ℕ → Held → S → Type 0
+ReadSoFar handles old now before count feed after = (apdus : List Apdu) × (held : List ℕ) × SoFar handles old now before count feed after apdus held
 
-all_with : (apdus : List Apdu) (apdu : Apdu) → AllByRecursion IsApdu apdus → IsApdu apdu → AllByRecursion IsApdu (apdus ++ apdu ∷ [])
-all_with [] apdu all is = (is, tt)
-all_with (first ∷ apdus) apdu all is = (all.0, all_with apdus apdu all.1 is)
+pub none_read : {S : Type 0} (handles : Handles S ToolFault) (old : Option (List ℕ)) (before : S) (count : ℕ) (feed : Held) → count ≡ 0 → feed ≡ Ok [] → ReadSoFar handles old old before count feed before
+unfolding apdu_at outer_at
+none_read handles old before count feed none empty =
+    ([], [], record { spelled = tt; counted = sym none; few = omega (arith, none); read = Consumes-nil old; handled = refl; opened = empty; unfinished = refl })
 
-pub one_flat : (f : Apdu → List ℕ) (apdus : List Apdu) (apdu : Apdu) → flat_map f (apdus ++ apdu ∷ []) ≡ flat_map f apdus ++ f apdu
-one_flat f apdus apdu = flat_map-append f apdus (apdu ∷ []) ∙ ap (λ (x : List ℕ). flat_map f apdus ++ x) (append-nil (f apdu))
+-- bytes that are short are few
+abbrev pub ShortLaw : Type 0
+ShortLaw = (bytes : List ℕ) (n : ℕ) → apdu_at bytes ≡ Err (Short n) → (n ≡ length bytes) × (n ≤ 358)
 
-pub one_more_read : (old middle new : Option (List ℕ)) (count : ℕ) (apdus : List Apdu) (apdu : Apdu) → ReadSoFar old middle count apdus → IsApdu apdu → Consumes middle new (spelling apdu)
-    → ReadSoFar old new (count + 1) (apdus ++ apdu ∷ [])
-one_more_read old middle new count apdus apdu so_far is read = record {
-  spelled = all_with apdus apdu so_far.spelled is;
-  counted = omega (arith, so_far.counted, length-append apdus (apdu ∷ []));
-  read = subst (Consumes old new) (sym (one_flat spelling apdus apdu)) (Consumes-trans old middle new (spellings apdus) (spelling apdu) so_far.read read);
-}
+few_held : ShortLaw → (held : List ℕ) → IsUnfinished held → length held ≤ 358
+few_held law held is = (law held (length held) is).1
 
--- ---- the end
+-- a piece was read behind what is held
+piece_read : (old now new : Option (List ℕ)) (apdus : List Apdu) (held piece : List ℕ) → Consumes old now (spellings apdus ++ held) → Consumes now new piece
+    → Consumes old new (spellings apdus ++ (held ++ piece))
+piece_read old now new apdus held piece read more =
+    subst (Consumes old new) (append_assoc (spellings apdus) held piece) (Consumes-trans old now new (spellings apdus ++ held) piece read more)
 
-pub taken_with : (old middle new : Option (List ℕ)) (count : ℕ) (apdus : List Apdu) (bytes : List ℕ) → count ≤ 100000 → ReadSoFar old middle count apdus → Consumes middle new bytes
-    → Takes old new apdus bytes
-taken_with old middle new count apdus bytes few so_far read = record {
-  spelled = so_far.spelled;
-  most = omega (arith, so_far.counted);
-  read = Consumes-trans old middle new (spellings apdus) bytes so_far.read read;
-}
+-- APDUs begin with what is held, and a rest is behind them
+apdus_read : (old now new : Option (List ℕ)) (apdus more : List Apdu) (held piece rest : List ℕ) → Consumes old now (spellings apdus ++ held) → Consumes now new piece → Begins (held ++ piece) more rest
+    → Consumes old new (spellings (apdus ++ more) ++ rest)
+apdus_read old now new apdus more held piece rest read piece_is begins =
+    subst (Consumes old new) (ap (λ (x : List ℕ). spellings apdus ++ x) begins.parts ∙ spelled_join apdus more rest) (piece_read old now new apdus held piece read piece_is)
 
--- reading failed, whatever the number of APDUs before
-pub stops_by : (bytes : List ℕ) (left : Option (List ℕ)) (count : ℕ) (fault : ReadFault) → IsAnswer bytes left (Err fault) → StopsReading (tool_fault fault) count bytes left
-stops_by bytes left count (reading.Bytes fault) is = is
-stops_by bytes left count reading.Read is = is
-stops_by bytes left count reading.OutOfMemory is = is
+-- ---- one piece further
 
--- the end, as it is seen with the number of APDUs
-pub ends_with : (bytes : List ℕ) (left : Option (List ℕ)) (count : ℕ) (result : Result ℕ ToolFault) → count ≡ 100000 → EndsReading result 100000 bytes left → EndsReading result count bytes left
-ends_with bytes left count result all ended = subst (λ (n : ℕ). EndsReading result n bytes left) (sym all) ended
+-- how many bytes may still come, at most
+abbrev pub room : ℕ → Held → ℕ
+room count (Ok held) = 35900359 - (count * 359 + length held)
+room count (Err fault) = 0
 
--- ---- counting
+-- what a feed holds after a push that did not close it
+still_open : (new : Held) → None ≡ fault_of new → (held : List ℕ) × (new ≡ Ok held)
+still_open (Ok held) e = (held, refl)
+still_open (Err fault) e = absurd cc
 
--- so many APDUs were read
-abbrev pub CountedSoFar : Option (List ℕ) → Option (List ℕ) → ℕ → Type 0
-CountedSoFar old new count = (apdus : List Apdu) × ReadSoFar old new count apdus
+more_room : (n k size more left m : ℕ) → ((k ≡ 0) × (left ≡ size + more)) ⊎ (0 < k) → m ≡ n + k → m ≤ 100000 → size ≤ 358 → left ≤ 358 → 0 < more
+    → 35900359 - (m * 359 + left) < 35900359 - (n * 359 + size)
+more_room n k size more left m grown is few held rest some = elim grown [
+      | inl none ↦ omega (arith, is, few, held, rest, none.0, none.1, some)
+      | inr handed ↦ omega (arith, is, few, held, rest, handed, some)
+    ]
 
-pub none_counted : (old : Option (List ℕ)) → CountedSoFar old old 0
-none_counted old = ([], none_read old)
+-- a piece makes what is held longer, or ends an APDU
+longer_or_handed : (more : List Apdu) (held piece rest : List ℕ) → held ++ piece ≡ spellings more ++ rest → ((length more ≡ 0) × (length rest ≡ length held + length piece)) ⊎ (0 < length more)
+longer_or_handed [] held piece rest e = inl (refl, omega (arith, ap length e, length-append held piece))
+longer_or_handed (apdu ∷ more) held piece rest e = inr (omega arith)
 
-pub one_more_counted : (old middle new : Option (List ℕ)) (count : ℕ) (apdu : Apdu) → CountedSoFar old middle count → ReadsApdu middle new (Ok (Some apdu)) → CountedSoFar old new (count + 1)
-one_more_counted old middle new count apdu so_far read =
-    (so_far.0 ++ apdu ∷ [], one_more_read old middle new count so_far.0 apdu so_far.1 read.2.0 (subst (Consumes middle new) read.2.1 read.1))
+-- a rest is no longer than what is held and the piece
+rest_within : (held piece text rest : List ℕ) → held ++ piece ≡ text ++ rest → length text + length rest ≡ length held + length piece
+rest_within held piece text rest e = omega (arith, ap length e, length-append held piece, length-append text rest)
+
+room_falls : ShortLaw → (count m : ℕ) (feed next : Held) (held now piece : List ℕ) (more : List Apdu) → feed ≡ Ok held → next ≡ Ok now → held ++ piece ≡ spellings more ++ now
+    → m ≡ count + length more → m ≤ 100000 → IsUnfinished held → IsUnfinished now → 0 < length piece → room m next < room count feed
+room_falls law count m feed next held now piece more was is parts counted few unfinished still some =
+    subst (λ (f : Held). room m next < room count f) (sym was)
+    (subst (λ (f : Held). room m f < room count (Ok held)) (sym is)
+    (more_room count (length more) (length held) (length piece) (length now) m (longer_or_handed more held piece now parts) counted few (few_held law held unfinished) (few_held law now still) some))
+
+-- a piece was pushed, and the feed is open
+pub one_piece_more : {H C : Type 0} (handles : Handles (H × C) ToolFault) → ShortLaw → (old now new : Option (List ℕ)) (before : H × C) (middle after : Counted H × C) (feed next : Held) (piece : List ℕ)
+    → ReadSoFar handles old now before middle.0.count feed (middle.0.handler, middle.1) → Consumes now new piece → 0 < length piece → (closed : Option DerFault) → closed ≡ None
+    → HandlesCounted handles feed piece middle (Ok closed) next after
+    → ReadSoFar handles old new before after.0.count next (after.0.handler, after.1) × (room after.0.count next < room middle.0.count feed)
+one_piece_more {H = H} {C = C} handles law old now new before middle after feed next piece so_far read some closed none each =
+    let apdus = so_far.0 in
+    let held = so_far.1 in
+    let is = so_far.2 in
+    let first : H × C = (middle.0.handler, middle.1) in
+    let pushed = each_counted handles (Ok held) feed piece middle (Ok closed) next after is.opened each in
+    let more = pushed.1.0 in
+    let rest = pushed.1.1.0 in
+    let begins = pushed.1.1.1 in
+    let on = counted_on handles (middle.0.count, first) (after.0.count, (after.0.handler, after.1)) more is.few pushed.1.2 in
+    let still = still_open next (sym none ∙ pushed.0) in
+    let leaves = subst (Leaves rest) still.1 pushed.1.1.2 in
+    let opened : next ≡ Ok rest = still.1 ∙ ap (λ (x : List ℕ). Ok x) leaves.0 in (
+      (
+        apdus ++ more,
+        rest,
+        record {
+          spelled = all_join apdus more is.spelled begins.spelled;
+          counted = omega (arith, length-append apdus more, is.counted, on.0);
+          few = on.1;
+          read = apdus_read old now new apdus more held piece rest is.read read begins;
+          handled = handled_join handles before first (after.0.handler, after.1) apdus more is.handled on.2;
+          opened = opened;
+          unfinished = leaves.1;
+        },
+      ),
+      room_falls law middle.0.count after.0.count feed next held rest piece more is.opened opened begins.parts on.0 on.1 is.unfinished leaves.1 some,
+    )
+
+-- ---- how the input ends
+
+-- the reader gave no more, or failed
+ends_held : {S : Type 0} (handles : Handles S ToolFault) → ShortLaw → (old new : Option (List ℕ)) (before after : S) (count : ℕ) (feed : Held) (result : Result ℕ ToolFault) (apdus : List Apdu) (held : List ℕ)
+    → SoFar handles old new before count feed after apdus held → Ends handles result count held [] new after after → ReadsInput handles old new before result after
+ends_held handles law old new before after count feed result apdus held is ended = (
+  apdus,
+  held,
+  [],
+  after,
+  record {
+    spelled = is.spelled;
+    most = omega (arith, is.counted, is.few);
+    few = omega (arith, few_held law held is.unfinished);
+    read = subst (λ (x : List ℕ). Consumes old new (spellings apdus ++ x)) (sym (append-nil held)) is.read;
+    handled = is.handled;
+    ended = subst (λ (n : ℕ). Ends handles result n held [] new after after) (sym is.counted) ended;
+  },
+)
+
+at_end : {S : Type 0} (handles : Handles S ToolFault) (count : ℕ) (held : List ℕ) (left : Option (List ℕ)) (after : S) → IsUnfinished held → IsAtEnd left
+    → Ends handles (answer_at_end (end_of (Ok held)) count) count held [] left after after
+at_end handles count [] left after unfinished end = (refl, refl, (refl, end), refl)
+at_end handles count (byte ∷ held) left after unfinished end =
+    let n = length (byte ∷ held) in
+    subst (λ (empty : Bool). Ends handles (answer_at_end (if empty then Ok tt else Err (Short n)) count) count (byte ∷ held) [] left after after) (sym (eqb-suc-zero (length held)))
+    (inl ((unfinished, (refl, end)), refl))
+
+pub ends_at_end : {S : Type 0} (handles : Handles S ToolFault) → ShortLaw → (old new : Option (List ℕ)) (before after : S) (count : ℕ) (feed : Held) → ReadSoFar handles old new before count feed after → IsAtEnd new
+    → ReadsInput handles old new before (answer_at_end (end_of feed) count) after
+ends_at_end handles law old new before after count feed so_far end =
+    let held = so_far.1 in
+    let is = so_far.2 in
+    ends_held handles law old new before after count feed (answer_at_end (end_of feed) count) so_far.0 held is
+    (subst (λ (f : Held). Ends handles (answer_at_end (end_of f) count) count held [] new after after) (sym is.opened) (at_end handles count held new after is.unfinished end))
+
+-- nothing more was read
+pub read_nothing : {S : Type 0} (handles : Handles S ToolFault) (old now new : Option (List ℕ)) (before after : S) (count : ℕ) (feed : Held) → ReadSoFar handles old now before count feed after
+    → Consumes now new [] → ReadSoFar handles old new before count feed after
+read_nothing handles old now new before after count feed so_far read =
+    let apdus = so_far.0 in
+    let held = so_far.1 in
+    let is = so_far.2 in (
+      apdus,
+      held,
+      record {
+        spelled = is.spelled;
+        counted = is.counted;
+        few = is.few;
+        read = subst (Consumes old new) (append-nil (spellings apdus ++ held)) (Consumes-trans old now new (spellings apdus ++ held) [] is.read read);
+        handled = is.handled;
+        opened = is.opened;
+        unfinished = is.unfinished;
+      },
+    )
+
+kept_nothing : (now new : Option (List ℕ)) → Keeps now new → Consumes now new []
+kept_nothing now new keeps = Consumes-kept now now new [] (Consumes-nil now) keeps
+
+pub ends_unread : {S : Type 0} (handles : Handles S ToolFault) → ShortLaw → (old now new : Option (List ℕ)) (before after : S) (count : ℕ) (feed : Held) → ReadSoFar handles old now before count feed after
+    → Keeps now new → ReadsInput handles old new before (Err Read) after
+ends_unread handles law old now new before after count feed so_far keeps =
+    let still = read_nothing handles old now new before after count feed so_far (kept_nothing now new keeps) in
+    ends_held handles law old new before after count feed (Err Read) still.0 still.1 still.2 (inl ((still.2.unfinished, refl), refl))
+
+-- what a feed is that a push closed
+closed_by : (new : Held) (fault : DerFault) → Some fault ≡ fault_of new → new ≡ Err fault
+closed_by (Ok held) fault e = absurd cc
+closed_by (Err closed) fault e = (let is : fault ≡ closed = cc in ap (λ (f : DerFault). Err f) (sym is))
+
+not_short : (fault : DerFault) (P : Type 0) → IfShort fault ⊥ → IfShort fault P
+not_short (Short at) P none = absurd none
+not_short (Tag at) P none = tt
+not_short (Length at) P none = tt
+not_short (Field at) P none = tt
+not_short OutOfMemory P none = tt
+
+-- a piece was pushed, and its bytes closed the feed
+pub ends_closed : {H C : Type 0} (handles : Handles (H × C) ToolFault) → ShortLaw → (old now new : Option (List ℕ)) (before : H × C) (middle after : Counted H × C) (feed next : Held) (piece : List ℕ) (fault : DerFault)
+    → ReadSoFar handles old now before middle.0.count feed (middle.0.handler, middle.1) → Consumes now new piece → length piece ≤ 4096 → (closed : Option DerFault) → closed ≡ Some fault
+    → HandlesCounted handles feed piece middle (Ok closed) next after → ReadsInput handles old new before (Err (Der fault)) (after.0.handler, after.1)
+ends_closed {H = H} {C = C} handles law old now new before middle after feed next piece fault so_far read small closed is_some each =
+    let apdus = so_far.0 in
+    let held = so_far.1 in
+    let is = so_far.2 in
+    let first : H × C = (middle.0.handler, middle.1) in
+    let pushed = each_counted handles (Ok held) feed piece middle (Ok closed) next after is.opened each in
+    let more = pushed.1.0 in
+    let rest = pushed.1.1.0 in
+    let begins = pushed.1.1.1 in
+    let on = counted_on handles (middle.0.count, first) (after.0.count, (after.0.handler, after.1)) more is.few pushed.1.2 in
+    let leaves = subst (Leaves rest) (closed_by next fault (sym is_some ∙ pushed.0)) pushed.1.1.2 in (
+      apdus ++ more,
+      rest,
+      [],
+      (after.0.handler, after.1),
+      record {
+        spelled = all_join apdus more is.spelled begins.spelled;
+        most = omega (arith, length-append apdus more, is.counted, on.0, on.1);
+        few = omega (arith, rest_within held piece (spellings more) rest begins.parts, few_held law held is.unfinished, small);
+        read = subst (λ (x : List ℕ). Consumes old new (spellings (apdus ++ more) ++ x)) (sym (append-nil rest)) (apdus_read old now new apdus more held piece rest is.read read begins);
+        handled = handled_join handles before first (after.0.handler, after.1) apdus more is.handled on.2;
+        ended = inl ((leaves.0, not_short fault _ leaves.1), refl);
+      },
+    )
+
+-- the APDU in hand is one too many, or handling it failed
+ends_in_hand : {S : Type 0} (handles : Handles S ToolFault) (state after : ℕ × S) (apdu : Apdu) (fault : ToolFault) (count : ℕ) (ahead : List ℕ) (left : Option (List ℕ)) → IsApdu apdu → count ≡ state.0
+    → state.0 ≤ 100000 → CountsOn handles state apdu (Err fault) after → Ends handles (Err fault) count (spelling apdu) ahead left state.1 after.1
+ends_in_hand handles state after apdu fault count ahead left is counted few on = elim on [
+      | inl many ↦
+          subst (λ (f : ToolFault). Ends handles (Err f) count (spelling apdu) ahead left state.1 after.1) (sym many.1)
+          (inl ((omega (arith, many.0, few, counted), (apdu, is, refl)), many.2))
+      | inr fails ↦ inr (apdu, is, refl, omega (arith, fails.0, counted), fails.1)
+    ]
+
+-- a piece was pushed, and one of its APDUs is one too many, or handling it failed
+pub ends_failing : {H C : Type 0} (handles : Handles (H × C) ToolFault) → ShortLaw → (old now new : Option (List ℕ)) (before : H × C) (middle after : Counted H × C) (feed next : Held) (piece : List ℕ) (fault : ToolFault)
+    → ReadSoFar handles old now before middle.0.count feed (middle.0.handler, middle.1) → Consumes now new piece → length piece ≤ 4096
+    → HandlesCounted handles feed piece middle (Err fault) next after → ReadsInput handles old new before (Err fault) (after.0.handler, after.1)
+ends_failing {H = H} {C = C} handles law old now new before middle after feed next piece fault so_far read small each =
+    let apdus = so_far.0 in
+    let held = so_far.1 in
+    let is = so_far.2 in
+    let first : H × C = (middle.0.handler, middle.1) in
+    let pushed = each_counted handles (Ok held) feed piece middle (Err fault) next after is.opened each in
+    let more = pushed.1.0 in
+    let apdu = pushed.1.1 in
+    let rest = pushed.1.2 in
+    let state = pushed.1.3 in
+    let begins = pushed.1.4 in
+    let text = spelling apdu in
+    let on = counted_on handles (middle.0.count, first) state more is.few pushed.1.5 in
+    let all = last_of more apdu begins.spelled in
+    let spelled : spellings (more ++ apdu ∷ []) ≡ spellings more ++ text = flat_map-append spelling more (apdu ∷ []) ∙ ap (λ (x : List ℕ). spellings more ++ x) (append-nil text) in
+    let parts : held ++ piece ≡ spellings more ++ (text ++ rest) = begins.parts ∙ ap (λ (x : List ℕ). x ++ rest) spelled ∙ append_assoc (spellings more) text rest in
+    let counted : length (apdus ++ more) ≡ state.0 = omega (arith, length-append apdus more, is.counted, on.0) in (
+      apdus ++ more,
+      text,
+      rest,
+      state.1,
+      record {
+        spelled = all_join apdus more is.spelled all.0;
+        most = omega (arith, counted, on.1);
+        few = omega (arith, rest_within held piece (spellings more) (text ++ rest) parts, length-append text rest, few_held law held is.unfinished, small);
+        read = apdus_read old now new apdus more held piece (text ++ rest) is.read read (record { spelled = all.0; parts = parts });
+        handled = handled_join handles before first state.1 apdus more is.handled on.2;
+        ended = ends_in_hand handles state (after.0.count, (after.0.handler, after.1)) apdu fault (length (apdus ++ more)) rest new all.1 counted on.1 pushed.1.6;
+      },
+    )

@@ -2,9 +2,18 @@
 use Rattle.std.specs.Prelude.{◌≡◌, ℕ, List, [], Option, Result, Ok, Err}
 use Rattle.std.specs.Io.KnownBytes.{Appends}
 use Rattle.ill_tool.specs.declared.fault.ToolFault.{ToolFault}
-use Rattle.ill_tool.specs.Input.{Counts}
+use Rattle.ill_der.specs.Handling.{Handles}
+use Rattle.ill_tool.specs.Input.{ReadsInput}
 use Rattle.ill_tool.specs.Output.{WritesText}
 use Rattle.ill_tool.specs.Lines.{count_line}
+
+-- nothing is done with an APDU, and that goes well
+abbrev pub passes : Handles (Unit {0}) ToolFault
+passes before apdu result after = result ≡ Ok tt
+
+-- counting the APDUs, from what the reader had left to what it has left
+abbrev pub Counts : Option (List ℕ) → Option (List ℕ) → Result ℕ ToolFault → Type 0
+Counts old new result = ReadsInput passes old new tt result tt
 
 -- The line of the number was written and the number answered; or a front of the line, where the
 -- writer failed; or nothing, without memory for the line.

@@ -1,58 +1,81 @@
--- Reading all APDUs of an input.
-use Rattle.std.specs.Prelude.{◌≡◌, ℕ, ◌≤◌, List, [], ◌++◌, length, Option, Result, Ok, Err}
+-- Reading all APDUs of an input, and what is done with each.
+use Rattle.std.specs.Prelude.{◌≡◌, ◌⊎◌, ℕ, ◌+◌, ◌<◌, ◌≤◌, List, [], ◌++◌, length, Option, Result, Ok, Err}
 use Rattle.std.specs.List.{flat_map, AllByRecursion}
 use Rattle.std.specs.Io.KnownBytes.{Consumes, IsAtEnd}
 use Rattle.ill_values.specs.declared.apdu.Apdu.{Apdu}
 use Rattle.ill_values.specs.Apdu.{IsApdu}
-use Rattle.ill_der.specs.declared.fault.ReadFault.{ReadFault}
-use Rattle.ill_der.specs.declared.fault.ReadFault.TheVariants as reading
+use Rattle.ill_der.specs.declared.fault.DerFault.{DerFault}
 use Rattle.ill_der.specs.ShortForm.{spelling, apdu_at}
-use Rattle.ill_der.specs.Stream.{IsUnfinished, AreUnfinished, SpellsOne, IfShort}
+use Rattle.ill_der.specs.Stream.{IsUnfinished, SpellsOne, IfShort}
+use Rattle.ill_der.specs.Handling.{Handles, Handled}
 use Rattle.ill_tool.specs.declared.fault.ToolFault.{ToolFault}
-use Rattle.ill_tool.specs.declared.fault.ToolFault.TheVariants.{Arguments, Der, TooMany, Script, Desk, Read, Write, OutOfMemory}
-
--- the fault of a command whose reading failed so
-abbrev pub tool_fault : ReadFault → ToolFault
-tool_fault (reading.Bytes fault) = Der fault
-tool_fault reading.Read = Read
-tool_fault reading.OutOfMemory = OutOfMemory
+use Rattle.ill_tool.specs.declared.fault.ToolFault.TheVariants.{Der, TooMany, Read}
 
 -- the bytes of APDUs, one behind another
 abbrev pub spellings : List Apdu → List ℕ
 spellings apdus = flat_map spelling apdus
 
--- What the reader gave: the spellings of these APDUs, of which there are not too many, and then
--- these bytes.
-pub record Takes (old new : Option (List ℕ)) (apdus : List Apdu) (bytes : List ℕ) : Type 0 where
+-- nothing is left of the input: nothing was read ahead, and the reader is at its end
+abbrev pub IsOver : List ℕ → Option (List ℕ) → Type 0
+IsOver ahead left = (ahead ≡ []) × IsAtEnd left
+
+-- What stopped the reading: of the number of APDUs, of the bytes that were read behind them, of those
+-- that were read ahead, behind these, and of what the reader has left.
+abbrev pub StopsReading : ToolFault → ℕ → List ℕ → List ℕ → Option (List ℕ) → Type 0
+StopsReading (Der fault) count bytes ahead left =
+    (apdu_at bytes ≡ Err fault) × IfShort fault (IsOver ahead left)
+StopsReading TooMany count bytes ahead left = (count ≡ 100000) × SpellsOne bytes
+StopsReading Read count bytes ahead left = IsUnfinished bytes × (ahead ≡ [])
+StopsReading other count bytes ahead left = ⊥
+
+-- the bytes are an APDU, one of those that an input may have, and handling it failed
+abbrev pub FailsInHand : {S : Type 0} → Handles S ToolFault → ToolFault → ℕ → List ℕ → S → S → Type 0
+FailsInHand handles fault count bytes before after =
+    (apdu : Apdu) × IsApdu apdu × (bytes ≡ spelling apdu) × (count < 100000)
+    × handles before apdu (Err fault) after
+
+-- How the input ended: at its end, with the number of APDUs; or the reading was stopped, and none was
+-- in hand; or the handling of the one in hand failed.
+abbrev pub Ends : {S : Type 0} → Handles S ToolFault → Result ℕ ToolFault → ℕ → List ℕ → List ℕ →
+    Option (List ℕ) → S → S → Type 0
+Ends handles (Ok n) count bytes ahead left before after =
+    (n ≡ count) × (bytes ≡ []) × IsOver ahead left × (after ≡ before)
+Ends handles (Err fault) count bytes ahead left before after =
+    (StopsReading fault count bytes ahead left × (after ≡ before))
+    ⊎ FailsInHand handles fault count bytes before after
+
+-- What was read is the spellings of these APDUs, of which there are not too many, these bytes, which the
+-- end is about, and what was read ahead, at which nothing looked: all in all less than an APDU and a piece
+-- of 4,096 bytes. The APDUs were handled, one after another, up to a state in which the input ended.
+pub record ReadsApdus {S : Type 0} (handles : Handles S ToolFault) (old new : Option (List ℕ)) (before : S)
+    (result : Result ℕ ToolFault) (after : S) (apdus : List Apdu) (bytes ahead : List ℕ) (last : S) : Type 0 where
   pub spelled : AllByRecursion IsApdu apdus
   pub most : length apdus ≤ 100000
-  pub read : Consumes old new (spellings apdus ++ bytes)
+  pub few : length bytes + length ahead < 359 + 4096
+  pub read : Consumes old new (spellings apdus ++ (bytes ++ ahead))
+  pub handled : Handled handles before apdus last
+  pub ended : Ends handles result (length apdus) bytes ahead new last after
 
--- What stopped the reading: of the number of APDUs, of the bytes that were read behind them, and of
--- what the reader has left.
-abbrev pub StopsReading : ToolFault → ℕ → List ℕ → Option (List ℕ) → Type 0
-StopsReading Arguments count bytes left = ⊥
-StopsReading (Der fault) count bytes left =
-    (apdu_at bytes ≡ Err fault) × AreUnfinished bytes × IfShort fault (IsAtEnd left)
-StopsReading TooMany count bytes left = (count ≡ 100000) × SpellsOne bytes
-StopsReading (Script line) count bytes left = ⊥
-StopsReading (Desk fault) count bytes left = ⊥
-StopsReading Read count bytes left = IsUnfinished bytes
-StopsReading Write count bytes left = ⊥
-StopsReading OutOfMemory count bytes left = SpellsOne bytes
+-- An input was read and its APDUs were handled, from what the reader had left to what it has left, and
+-- from a state to a state.
+abbrev pub ReadsInput : {S : Type 0} → Handles S ToolFault → Option (List ℕ) → Option (List ℕ) → S →
+    Result ℕ ToolFault → S → Type 0
+ReadsInput {S = S} handles old new before result after =
+    (apdus : List Apdu) × (bytes : List ℕ) × (ahead : List ℕ) × (last : S)
+    × ReadsApdus handles old new before result after apdus bytes ahead last
 
--- how the reading ended: at the end of the input, with the number of APDUs, or it was stopped
-abbrev pub EndsReading : Result ℕ ToolFault → ℕ → List ℕ → Option (List ℕ) → Type 0
-EndsReading (Ok n) count bytes left = (n ≡ count) × (bytes ≡ []) × IsAtEnd left
-EndsReading (Err fault) count bytes left = StopsReading fault count bytes left
+-- what is answered at the end of the input, where the bytes may end so, behind so many APDUs
+abbrev pub answer_at_end : Result (Unit {0}) DerFault → ℕ → Result ℕ ToolFault
+answer_at_end (Ok done) count = Ok count
+answer_at_end (Err fault) count = Err (Der fault)
 
--- Counting the APDUs, from what the reader had left to what it has left.
-abbrev pub Counts : Option (List ℕ) → Option (List ℕ) → Result ℕ ToolFault → Type 0
-Counts old new result =
-    (apdus : List Apdu) × (bytes : List ℕ) × Takes old new apdus bytes
-    × EndsReading result (length apdus) bytes new
+-- ---- as many APDUs as an input may have
 
--- the end was looked for behind as many APDUs as there may be
-abbrev pub EndsFull : Option (List ℕ) → Option (List ℕ) → Result ℕ ToolFault → Type 0
-EndsFull old new result =
-    (bytes : List ℕ) × Consumes old new bytes × EndsReading result 100000 bytes new
+-- An APDU was handled and counted; or it was one too many, and nothing was done; or handling failed.
+-- A state is the number of APDUs before, and the state of the handler.
+abbrev pub CountsOn : {S : Type 0} → Handles S ToolFault → Handles (ℕ × S) ToolFault
+CountsOn handles old apdu (Ok done) new =
+    (old.0 < 100000) × (new.0 ≡ old.0 + 1) × handles old.1 apdu (Ok done) new.1
+CountsOn handles old apdu (Err fault) new =
+    ((100000 ≤ old.0) × (fault ≡ TooMany) × (new.1 ≡ old.1))
+    ⊎ ((old.0 < 100000) × handles old.1 apdu (Err fault) new.1)

@@ -7,7 +7,6 @@ use Rattle.ill_values.specs.declared.apdu.Body.TheVariants.{IllRequest, IllAnswe
 use Rattle.ill_values.specs.declared.apdu.AnswerResult.{AnswerResult}
 use Rattle.ill_values.specs.declared.apdu.AnswerResult.TheVariants.{Conditional, Retry, Unfilled, LocationsProvided, WillSupply, HoldPlaced, Estimate}
 use Rattle.ill_values.specs.Day.{Date, date_text}
-use Rattle.ill_values.specs.TxnId.{Qualifiers}
 
 -- a line: a label, a space, a value and a line feed
 unfoldable pub line : List ℕ → List ℕ → List ℕ
@@ -81,14 +80,14 @@ field_lines (RenewAnswer answers granted) = grant_lines answers granted
 field_lines Expired = []
 
 -- the lines of a transaction id
-abbrev pub id_lines : Qualifiers → List ℕ
-id_lines id = line (codes "group") id.group ++ line (codes "transaction") id.transaction
+abbrev pub id_lines : List ℕ → List ℕ → List ℕ
+id_lines group transaction = line (codes "group") group ++ line (codes "transaction") transaction
 
 -- the lines of what each APDU has: its type, its transaction and its number
 abbrev pub head_lines : Apdu → List ℕ
 head_lines apdu =
     line (codes "apdu") (name_of apdu.body)
-    ++ (id_lines apdu.txn ++ number_line (codes "number") apdu.number)
+    ++ (id_lines apdu.txn.group apdu.txn.transaction ++ number_line (codes "number") apdu.number)
 
 -- the lines of an APDU
 unfoldable pub lines_of : Apdu → List ℕ

@@ -39,7 +39,7 @@ counts_text side released = decimal released ++ codes "/" ++ decimal (length (is
 -- the lines of a side
 unfoldable pub status_lines : Side → ℕ → List ℕ
 status_lines side released =
-    line (codes "role") (role_word side) ++ id_lines (txn_of side)
+    line (codes "role") (role_word side) ++ id_lines (txn_of side).group (txn_of side).transaction
     ++ line (codes "state") (state_name (state_of side)) ++ line (codes "due") (due_text (due_date_of side))
     ++ line (codes "messages") (counts_text side released)
     ++ line (codes "marks") (spaced_or_dash (marks_of side))

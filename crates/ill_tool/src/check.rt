@@ -1,18 +1,20 @@
 //! The command `check`.
 
-ghost use Rattle.ill_tool.specs.Check.{Checks, WritesCount};
+ghost use Rattle.std.specs.Prelude.{◌≡◌, Ok};
+ghost use Rattle.ill_tool.specs.Check.{Counts, Checks, WritesCount};
 
 use crate::fault::ToolFault;
-use crate::input::count_apdus;
+use crate::input::{Counted, handle_input};
 use crate::lines::push_count;
 use crate::output::write_whole;
+use ill_der::{ApduView, Handler};
 use std::alloc::Global;
 use std::io::{Read, Write};
 
 /// Checks the whole input, then writes how many APDUs it has, and answers that number.
 ///
-/// If an APDU is faulty, there are too many, the reader fails or memory runs out, nothing is written;
-/// if the writer fails, a front of the line.
+/// If an APDU is faulty, there are too many or the reader fails, nothing is written; nor if memory runs
+/// out, which is wanted for the line alone. If the writer fails, a front of the line is.
 pub fn run_check<R: Read, W: Write>(
     alloc: Global,
     reader: &mut R,
@@ -35,4 +37,30 @@ fn write_count<W: Write>(alloc: Global, writer: &mut W, count: u32) -> Result<u3
     push_count(&mut line, count)?;
     write_whole(writer, &line)?;
     Ok(count)
+}
+
+/// Counts the APDUs of the input, up to its end. It keeps none of them.
+fn count_apdus<R: Read>(alloc: Global, reader: &mut R) -> Result<u32, ToolFault>
+    ensures { Counts (R.remaining reader.old) (R.remaining reader.new) result }
+{
+    handle_input(alloc, reader, &mut (), &mut Counted::new(Passing))
+}
+
+/// Does nothing with an APDU.
+#[derive(Drop)]
+struct Passing;
+
+impl Handler<()> for Passing {
+    type Fault = ToolFault;
+
+    ghost handles = { λ old _ result new. (result ≡ Ok tt) × (new ≡ old) };
+
+    fn handle(
+        &mut self,
+        _alloc: Global,
+        _context: &mut (),
+        _apdu: &ApduView<'_>,
+    ) -> Result<(), ToolFault> {
+        Ok(())
+    }
 }

@@ -1,12 +1,11 @@
 //! Why a command stopped.
 
 ghost use Rattle.std.specs.Prelude.{◌≡◌};
-ghost use Rattle.ill_tool.specs.Input.{tool_fault};
 ghost use Rattle.ill_tool.specs.Simulate.{sim_fault};
 ghost use Rattle.ill_tool.specs.DeskView.{desk_fault};
 ghost use Rattle.ill_tool.specs.declared.fault.ToolFault.TheVariants.{OutOfMemory};
 
-use ill_der::{DerFault, ReadFault};
+use ill_der::DerFault;
 use ill_saved::DeskFault;
 use ill_world::SimFault;
 use std::alloc::AllocError;
@@ -42,18 +41,6 @@ pub enum ToolFault {
     /// Memory ran out.
     #[error("memory")]
     OutOfMemory,
-}
-
-impl From<ReadFault> for ToolFault {
-    ghost from_gives = { λ fault tool. tool ≡ tool_fault fault };
-
-    fn from(fault: ReadFault) -> ToolFault {
-        match fault {
-            ReadFault::Bytes(fault) => ToolFault::Der(fault),
-            ReadFault::Read => ToolFault::Read,
-            ReadFault::OutOfMemory => ToolFault::OutOfMemory,
-        }
-    }
 }
 
 impl From<SimFault> for ToolFault {

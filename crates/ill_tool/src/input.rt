@@ -1,39 +1,100 @@
 //! What the commands share that read all APDUs of an input.
 
-ghost use Rattle.ill_tool.specs.Input.{Counts, EndsFull};
+ghost use Rattle.std.specs.Prelude.{◌≡◌};
+ghost use Rattle.ill_der.specs.Feed.{end_of};
+ghost use Rattle.ill_tool.specs.Input.{answer_at_end, CountsOn, ReadsInput};
 
 use crate::fault::ToolFault;
-use ill_der::read_apdu;
+use ill_der::laws::short_has_the_size;
+use ill_der::{ApduView, Feed, Handler};
 use std::alloc::Global;
 use std::io::Read;
 
 /// The most APDUs of one input.
-pub const MAX_APDUS: u32 = 100_000;
+const MAX_APDUS: u32 = 100_000;
 
-/// Reads the input to its end, and answers how many APDUs there were. It keeps none of them.
-///
-/// The first fault is answered: of bytes, too many APDUs, a failing reader, or want of memory for
-/// the APDU that was read last.
-pub fn count_apdus<R: Read>(alloc: Global, reader: &mut R) -> Result<u32, ToolFault>
-    ensures { Counts (R.remaining reader.old) (R.remaining reader.new) result }
-{
-    for count in 0..MAX_APDUS {
-        match read_apdu(alloc, reader) {
-            Ok(Some(_)) => {}
-            Ok(None) => return Ok(count),
-            Err(fault) => return Err(fault.into()),
-        }
-    }
-    end(alloc, reader)
+/// The most bytes that are read at a time.
+const PIECE: usize = 4_096;
+
+/// A handler that is handed as many APDUs as an input may have, and how many it was handed.
+#[derive(Drop)]
+pub struct Counted<H> {
+    pub handler: H,
+    count: u32,
 }
 
-/// Finds the end of an input of which so many APDUs were read as it may have.
-pub fn end<R: Read>(alloc: Global, reader: &mut R) -> Result<u32, ToolFault>
-    ensures { EndsFull (R.remaining reader.old) (R.remaining reader.new) result }
+impl<H> Counted<H> {
+    /// The handler, which was handed none yet.
+    pub fn new(handler: H) -> Counted<H>
+        ensures handler { result.handler ≡ handler }
+        ensures none { result.count ≡ 0 }
+    {
+        Counted { handler, count: 0 }
+    }
+}
+
+impl<C, H: Handler<C, Fault = ToolFault>> Handler<C> for Counted<H> {
+    type Fault = ToolFault;
+
+    ghost handles = { λ old apdu result new. CountsOn H.handles (old.0.count, (old.0.handler, old.1)) apdu result
+        (new.0.count, (new.0.handler, new.1)) };
+
+    fn handle(
+        &mut self,
+        alloc: Global,
+        context: &mut C,
+        apdu: &ApduView<'_>,
+    ) -> Result<(), ToolFault> {
+        if self.count >= MAX_APDUS {
+            return Err(ToolFault::TooMany);
+        }
+        match self.handler.handle(alloc, context, apdu) {
+            Ok(()) => {
+                self.count += 1;
+                Ok(())
+            }
+            Err(fault) => Err(fault),
+        }
+    }
+}
+
+/// Hands each APDU of the input to the handler, one after another up to the end, and answers how many
+/// there were. It reads at most 4,096 bytes at a time, and takes no memory.
+///
+/// The first fault is answered: of bytes, too many APDUs, a failing reader, or the handler's own. The
+/// APDUs before it were handled; of what was read behind it, less than a piece, nothing was looked at.
+pub fn handle_input<R: Read, C, H: Handler<C, Fault = ToolFault>>(
+    alloc: Global,
+    reader: &mut R,
+    context: &mut C,
+    counted: &mut Counted<H>,
+) -> Result<u32, ToolFault>
+    requires { counted.old.count ≡ 0 }
+    ensures { ReadsInput H.handles (R.remaining reader.old) (R.remaining reader.new)
+        (counted.old.handler, context.old) result (counted.new.handler, context.new) }
 {
-    match read_apdu(alloc, reader) {
-        Ok(None) => Ok(MAX_APDUS),
-        Ok(Some(_)) => Err(ToolFault::TooMany),
-        Err(fault) => Err(fault.into()),
+    short_has_the_size();
+    let mut feed = Feed::new(alloc);
+    let mut piece = [0; PIECE];
+    loop {
+        match reader.read(&mut piece) {
+            Ok(0) => return end(&feed, counted.count),
+            Ok(size) => match feed.each(&piece[..size], context, counted) {
+                Ok(None) => {}
+                Ok(Some(fault)) => return Err(ToolFault::Der(fault)),
+                Err(fault) => return Err(fault),
+            },
+            Err(_) => return Err(ToolFault::Read),
+        }
+    }
+}
+
+/// Answers so many APDUs, where the input may end here.
+fn end(feed: &Feed, count: u32) -> Result<u32, ToolFault>
+    ensures { result ≡ answer_at_end (end_of feed.now) count }
+{
+    match feed.end() {
+        Ok(()) => Ok(count),
+        Err(fault) => Err(ToolFault::Der(fault)),
     }
 }

@@ -1,59 +1,65 @@
 //! The lines that the commands write.
 
 ghost use Rattle.std.specs.Prelude.{◌≡◌, ◌++◌, OnOk};
+ghost use Rattle.ill_der.specs.View.{body_in};
 ghost use Rattle.ill_tool.specs.Lines.{line, name_of, word_of, reply_word, number_line, date_line, optional_date_line, reply_lines, grant_lines, field_lines, id_lines, head_lines, lines_of, count_line};
 
-use ill_values::{AnswerResult, Apdu, Body, Day, Number, OutOfMemory, TxnId};
+use ill_der::{ApduView, BodyView};
+use ill_values::{AnswerResult, Day, Number, OutOfMemory};
 use itoa::Buffer;
 
 /// Adds the lines of an APDU.
 #[tactic(auto, unfolding(crate::specs::Lines::lines_of))]
-pub fn push_apdu(lines: &mut Vec<u8>, apdu: &Apdu) -> Result<(), OutOfMemory>
+pub fn push_apdu(lines: &mut Vec<u8>, apdu: &ApduView<'_>) -> Result<(), OutOfMemory>
     ensures { OnOk result (lines.new.items ≡ lines.old.items ++ lines_of apdu.now) }
 {
     push_head(lines, apdu)?;
-    push_fields(lines, &apdu.body)
+    push_fields(lines, apdu.body())
 }
 
 /// Adds the lines of what each APDU has.
-fn push_head(lines: &mut Vec<u8>, apdu: &Apdu) -> Result<(), OutOfMemory>
+fn push_head(lines: &mut Vec<u8>, apdu: &ApduView<'_>) -> Result<(), OutOfMemory>
     ensures { OnOk result (lines.new.items ≡ lines.old.items ++ head_lines apdu.now) }
 {
-    push_line(lines, "apdu", name(&apdu.body).as_bytes())?;
-    push_id(lines, &apdu.txn)?;
-    push_number(lines, "number", apdu.number)
+    push_line(lines, "apdu", name(apdu.body()).as_bytes())?;
+    push_id(lines, apdu.group(), apdu.transaction())?;
+    push_number(lines, "number", apdu.number())
 }
 
 /// Adds the lines of a transaction id.
-pub fn push_id(lines: &mut Vec<u8>, id: &TxnId) -> Result<(), OutOfMemory>
-    ensures { OnOk result (lines.new.items ≡ lines.old.items ++ id_lines id.now) }
+pub fn push_id(
+    lines: &mut Vec<u8>,
+    group: &[u8],
+    transaction: &[u8],
+) -> Result<(), OutOfMemory>
+    ensures { OnOk result (lines.new.items ≡ lines.old.items ++ id_lines group.now transaction.now) }
 {
-    push_line(lines, "group", id.group())?;
-    push_line(lines, "transaction", id.transaction())
+    push_line(lines, "group", group)?;
+    push_line(lines, "transaction", transaction)
 }
 
 /// Adds the lines of the further fields.
-fn push_fields(lines: &mut Vec<u8>, body: &Body) -> Result<(), OutOfMemory>
-    ensures { OnOk result (lines.new.items ≡ lines.old.items ++ field_lines body.now) }
+fn push_fields(lines: &mut Vec<u8>, body: &BodyView<'_>) -> Result<(), OutOfMemory>
+    ensures { OnOk result (lines.new.items ≡ lines.old.items ++ field_lines (body_in body.now)) }
 {
     match body {
-        Body::IllRequest { expiry, item } => {
+        BodyView::IllRequest { expiry, item } => {
             push_optional_date(lines, *expiry)?;
-            push_line(lines, "item", item.text())
+            push_line(lines, "item", item)
         }
-        Body::IllAnswer { result } => push_line(lines, "result", word(*result).as_bytes()),
-        Body::ConditionalReply { answers, yes } => push_reply(lines, *answers, *yes),
-        Body::CancelReply { answers, yes } => push_reply(lines, *answers, *yes),
-        Body::Shipped { due } => push_date(lines, *due),
-        Body::Overdue { due } => push_date(lines, *due),
-        Body::Renew { wished } => push_optional_date(lines, *wished),
-        Body::RenewAnswer { answers, granted } => push_grant(lines, *answers, *granted),
-        Body::Cancel
-        | Body::Received
-        | Body::Recall
-        | Body::Returned
-        | Body::CheckedIn
-        | Body::Expired => Ok(()),
+        BodyView::IllAnswer { result } => push_line(lines, "result", word(*result).as_bytes()),
+        BodyView::ConditionalReply { answers, yes } => push_reply(lines, *answers, *yes),
+        BodyView::CancelReply { answers, yes } => push_reply(lines, *answers, *yes),
+        BodyView::Shipped { due } => push_date(lines, *due),
+        BodyView::Overdue { due } => push_date(lines, *due),
+        BodyView::Renew { wished } => push_optional_date(lines, *wished),
+        BodyView::RenewAnswer { answers, granted } => push_grant(lines, *answers, *granted),
+        BodyView::Cancel
+        | BodyView::Received
+        | BodyView::Recall
+        | BodyView::Returned
+        | BodyView::CheckedIn
+        | BodyView::Expired => Ok(()),
     }
 }
 
@@ -117,24 +123,24 @@ pub fn push_line(lines: &mut Vec<u8>, label: &str, value: &[u8]) -> Result<(), O
 }
 
 /// The name of a type of APDU.
-fn name(body: &Body) -> &'static str
-    ensures { result.now ≡ name_of body.now }
+fn name(body: &BodyView<'_>) -> &'static str
+    ensures { result.now ≡ name_of (body_in body.now) }
 {
     match body {
-        Body::IllRequest { .. } => "ILL-Request",
-        Body::IllAnswer { .. } => "ILL-Answer",
-        Body::ConditionalReply { .. } => "Conditional-Reply",
-        Body::Cancel => "Cancel",
-        Body::CancelReply { .. } => "Cancel-Reply",
-        Body::Shipped { .. } => "Shipped",
-        Body::Received => "Received",
-        Body::Recall => "Recall",
-        Body::Returned => "Returned",
-        Body::CheckedIn => "Checked-In",
-        Body::Overdue { .. } => "Overdue",
-        Body::Renew { .. } => "Renew",
-        Body::RenewAnswer { .. } => "Renew-Answer",
-        Body::Expired => "Expired",
+        BodyView::IllRequest { .. } => "ILL-Request",
+        BodyView::IllAnswer { .. } => "ILL-Answer",
+        BodyView::ConditionalReply { .. } => "Conditional-Reply",
+        BodyView::Cancel => "Cancel",
+        BodyView::CancelReply { .. } => "Cancel-Reply",
+        BodyView::Shipped { .. } => "Shipped",
+        BodyView::Received => "Received",
+        BodyView::Recall => "Recall",
+        BodyView::Returned => "Returned",
+        BodyView::CheckedIn => "Checked-In",
+        BodyView::Overdue { .. } => "Overdue",
+        BodyView::Renew { .. } => "Renew",
+        BodyView::RenewAnswer { .. } => "Renew-Answer",
+        BodyView::Expired => "Expired",
     }
 }
 

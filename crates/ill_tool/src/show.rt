@@ -1,12 +1,12 @@
 //! The command `show`.
 
-ghost use Rattle.ill_tool.specs.Show.{Shows, ShowsNext};
+ghost use Rattle.ill_tool.specs.Show.{shows, Shows};
 
 use crate::fault::ToolFault;
-use crate::input::{MAX_APDUS, end};
+use crate::input::{Counted, handle_input};
 use crate::lines::push_apdu;
 use crate::output::write_whole;
-use ill_der::read_apdu;
+use ill_der::{ApduView, Handler};
 use std::alloc::Global;
 use std::io::{Read, Write};
 
@@ -23,35 +23,30 @@ pub fn run_show<R: Read, W: Write>(
     ensures { Shows (R.remaining reader.old) (R.remaining reader.new)
         (W.contents writer.old) (W.contents writer.new) result }
 {
-    let mut lines = Vec::new(alloc);
-    for count in 0..MAX_APDUS {
-        match show_next(alloc, reader, writer, &mut lines) {
-            Ok(true) => {}
-            Ok(false) => return Ok(count),
-            Err(fault) => return Err(fault),
-        }
-    }
-    end(alloc, reader)
+    let lines = Vec::new(alloc);
+    let mut shown = Counted::new(Showing { lines });
+    handle_input(alloc, reader, writer, &mut shown)
 }
 
-/// Shows the next APDU, by way of the buffer, and answers whether there was one.
-fn show_next<R: Read, W: Write>(
-    alloc: Global,
-    reader: &mut R,
-    writer: &mut W,
-    lines: &mut Vec<u8>,
-) -> Result<bool, ToolFault>
-    ensures { ShowsNext (R.remaining reader.old) (R.remaining reader.new)
-        (W.contents writer.old) (W.contents writer.new) result }
-{
-    match read_apdu(alloc, reader) {
-        Ok(None) => Ok(false),
-        Ok(Some(apdu)) => {
-            lines.clear();
-            push_apdu(lines, &apdu)?;
-            write_whole(writer, lines)?;
-            Ok(true)
-        }
-        Err(fault) => Err(fault.into()),
+/// Writes the lines of each APDU, by way of a buffer.
+#[derive(Drop)]
+struct Showing {
+    lines: Vec<u8>,
+}
+
+impl<W: Write> Handler<W> for Showing {
+    type Fault = ToolFault;
+
+    ghost handles = { λ old apdu result new. shows (W.contents old.1) apdu result (W.contents new.1) };
+
+    fn handle(
+        &mut self,
+        _alloc: Global,
+        writer: &mut W,
+        apdu: &ApduView<'_>,
+    ) -> Result<(), ToolFault> {
+        self.lines.clear();
+        push_apdu(&mut self.lines, apdu)?;
+        write_whole(writer, &self.lines)
     }
 }

@@ -37,7 +37,7 @@ fn push_status(lines: &mut Vec<u8>, side: &Side, released: u8) -> Result<(), Out
     ensures { OnOk result (lines.new.items ≡ lines.old.items ++ status_lines side.now released) }
 {
     push_line(lines, "role", role(side).as_bytes())?;
-    push_id(lines, side.txn())?;
+    push_id(lines, side.txn().group(), side.txn().transaction())?;
     push_state_and_due(lines, side)?;
     push_counts(lines, side, released)?;
     push_marks(lines, side)

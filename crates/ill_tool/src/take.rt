@@ -4,10 +4,10 @@ ghost use Rattle.ill_tool.specs.DeskView.{view_of, CountsToolFailure};
 ghost use Rattle.ill_tool.specs.Take.{RunsTake, TakesNext, TakesAndSaves};
 
 use crate::fault::ToolFault;
-use crate::input::{MAX_APDUS, end};
+use crate::input::{Counted, handle_input};
 use crate::side_line::report;
 use ill_core::Taking;
-use ill_der::read_apdu;
+use ill_der::{ApduView, Handler};
 use ill_saved::{Desk1, DeskFault, Store};
 use ill_values::Apdu;
 use ill_world::Outcome;
@@ -34,44 +34,39 @@ pub fn run_take<S: Store, R: Read, W: Write>(
     ensures counted { CountsToolFailure result (S.failures desk.old.store)
         (S.failures desk.new.store) }
 {
-    let mut all_fine = true;
-    for _ in 0..MAX_APDUS {
-        match take_next(alloc, desk, reader, writer) {
-            Ok(Some(fine)) => all_fine &= fine,
-            Ok(None) => return Ok(all_fine),
-            Err(fault) => return Err(fault),
-        }
-    }
-    match end(alloc, reader) {
-        Ok(_) => Ok(all_fine),
+    let mut taken = Counted::new(TakesEach {
+        desk,
+        all_fine: true,
+    });
+    match handle_input(alloc, reader, writer, &mut taken) {
+        Ok(_) => Ok(taken.handler.all_fine),
         Err(fault) => Err(fault),
     }
 }
 
-/// Takes the next APDU, and answers whether all went well with it, if there was one.
-fn take_next<S: Store, R: Read, W: Write>(
-    alloc: Global,
-    desk: &mut Desk1<S>,
-    reader: &mut R,
-    writer: &mut W,
-) -> Result<Option<bool>, ToolFault>
-    ensures takes { TakesNext (R.remaining reader.old) (R.remaining reader.new)
-        (W.contents writer.old) (W.contents writer.new)
-        (view_of S.is_honest S.landed desk.old) result
-        (view_of S.is_honest S.landed desk.new) }
-    ensures counted { CountsToolFailure result (S.failures desk.old.store)
-        (S.failures desk.new.store) }
-{
-    match read_apdu(alloc, reader) {
-        Ok(Some(apdu)) => match take_and_save(alloc, desk, &apdu) {
-            Ok(outcome) => match report(alloc, writer, outcome, desk) {
-                Ok(fine) => Ok(Some(fine)),
-                Err(fault) => Err(fault),
-            },
-            Err(fault) => Err(fault),
-        },
-        Ok(None) => Ok(None),
-        Err(fault) => Err(fault.into()),
+/// Takes each APDU, saves it if it was taken, and tells it.
+#[derive(Drop)]
+struct TakesEach<'a, S: Store> {
+    desk: &'a mut Desk1<S>,
+    all_fine: bool,
+}
+
+impl<S: Store, W: Write> Handler<W> for TakesEach<'_, S> {
+    type Fault = ToolFault;
+
+    ghost handles = { λ old apdu result new. TakesOn old apdu result new };
+
+    fn handle(
+        &mut self,
+        alloc: Global,
+        writer: &mut W,
+        apdu: &ApduView<'_>,
+    ) -> Result<(), ToolFault> {
+        let apdu = apdu.to_apdu(alloc)?;
+        let outcome = take_and_save(alloc, self.desk, &apdu)?;
+        let fine = report(alloc, writer, outcome, self.desk)?;
+        self.all_fine &= fine;
+        Ok(())
     }
 }
 

@@ -4,3 +4,4 @@ pub mod ActionLemmas
 pub mod ActLemmas
 pub mod StatusLemmas
 pub mod NewLemmas
+pub mod TakeLemmas

@@ -16,7 +16,7 @@ use Rattle.ill_tool.specs.declared.fault.ToolFault.{ToolFault}
 use Rattle.ill_tool.specs.declared.fault.ToolFault.TheVariants.{Arguments, Der, TooMany, Script, Desk, Read, Write, OutOfMemory}
 use Rattle.ill_der.specs.Handling.{Handles}
 use Rattle.ill_tool.specs.Input.{ReadsInput}
-use Rattle.ill_tool.specs.DeskView.{DeskView, becomes, saved, IsFaulted, is_fine, side_line, Reports}
+use Rattle.ill_tool.specs.DeskView.{DeskView, becomes, saved, IsFaulted, is_fine, side_line, Reports, CountsToolFailure}
 
 -- ---- one message
 
@@ -48,6 +48,9 @@ pub record Progress : Type 0 where
   pub written : Option (List ℕ)
   pub fine : Bool
 
+abbrev pub progress : DeskView → Option (List ℕ) → Bool → Progress
+progress view written fine = record { view = view; written = written; fine = fine }
+
 -- A message is taken: it was handed to the side, saved where it was taken, and told; or memory ran out
 -- to read it, and nothing changed; or it was performed as far as the fault let it, and told.
 abbrev pub takes_each : Handles Progress ToolFault
@@ -61,12 +64,20 @@ takes_each old a (Err fault) new =
     × TakesAndSaves old.view a performed new.view × Appends old.written new.written text
     × Reports performed new.view text (Err fault))
 
+-- what is answered, at the end of the input or before it
+abbrev pub answer_of : Result ℕ ToolFault → Bool → Result Bool ToolFault
+answer_of (Ok count) fine = Ok fine
+answer_of (Err fault) fine = Err fault
+
 -- Taking, from what the reader had left to what it has left, from what the writer held to what it
 -- holds, and from how the side stood to how it stands. At the end of the input it is answered whether
 -- all went well.
 abbrev pub RunsTake : Option (List ℕ) → Option (List ℕ) → Option (List ℕ) → Option (List ℕ) →
     DeskView → Result Bool ToolFault → DeskView → Type 0
 RunsTake old new before after from result to =
-    (ended : Result ℕ ToolFault) × (fine : Bool) × (result ≡ result_map (λ _. fine) ended)
-    × ReadsInput takes_each old new (record { view = from; written = before; fine = true }) ended
-    (record { view = to; written = after; fine = fine })
+    (ended : Result ℕ ToolFault) × (fine : Bool) × (result ≡ answer_of ended fine)
+    × ReadsInput takes_each old new (progress from before true) ended (progress to after fine)
+
+-- the same desk is lent, and its store's failures are counted
+abbrev pub KeepsDesk : {X N : Type 0} → Result X ToolFault → N → N → ℕ → ℕ → Type 0
+KeepsDesk result old new before after = (new ≡ old) × CountsToolFailure result before after

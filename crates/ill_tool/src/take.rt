@@ -1,7 +1,8 @@
 //! The command `take`.
 
+ghost use Rattle.std.specs.Prelude.{◌≡◌, true};
 ghost use Rattle.ill_tool.specs.DeskView.{view_of, CountsToolFailure};
-ghost use Rattle.ill_tool.specs.Take.{RunsTake, TakesNext, TakesAndSaves};
+ghost use Rattle.ill_tool.specs.Take.{RunsTake, TakesAndSaves, KeepsDesk, progress, takes_each};
 
 use crate::fault::ToolFault;
 use crate::input::{Counted, handle_input};
@@ -38,7 +39,27 @@ pub fn run_take<S: Store, R: Read, W: Write>(
         desk,
         all_fine: true,
     });
-    match handle_input(alloc, reader, writer, &mut taken) {
+    take_input(alloc, &mut taken, reader, writer)
+}
+
+/// Takes each APDU of the input, by way of the desk that is lent.
+fn take_input<S: Store, R: Read, W: Write>(
+    alloc: Global,
+    taken: &mut Counted<TakesEach<'_, S>>,
+    reader: &mut R,
+    writer: &mut W,
+) -> Result<bool, ToolFault>
+    requires none { taken.old.count ≡ 0 }
+    requires fine { taken.old.handler.all_fine ≡ true }
+    ensures runs { RunsTake (R.remaining reader.old) (R.remaining reader.new)
+        (W.contents writer.old) (W.contents writer.new)
+        (view_of S.is_honest S.landed taken.old.handler.desk.now) result
+        (view_of S.is_honest S.landed taken.new.handler.desk.now) }
+    ensures same_desk { taken.new.handler.desk.ghost_name ≡ taken.old.handler.desk.ghost_name }
+    ensures counted { CountsToolFailure result (S.failures taken.old.handler.desk.now.store)
+        (S.failures taken.new.handler.desk.now.store) }
+{
+    match handle_input(alloc, reader, writer, taken) {
         Ok(_) => Ok(taken.handler.all_fine),
         Err(fault) => Err(fault),
     }
@@ -51,10 +72,42 @@ struct TakesEach<'a, S: Store> {
     all_fine: bool,
 }
 
+impl<S: Store> TakesEach<'_, S> {
+    fn take_and_tell<W: Write>(
+        &mut self,
+        alloc: Global,
+        writer: &mut W,
+        apdu: &Apdu,
+    ) -> Result<(), ToolFault>
+        ensures takes { takes_each
+            (progress (view_of S.is_honest S.landed self.old.desk.now) (W.contents writer.old) self.old.all_fine)
+            apdu.now result
+            (progress (view_of S.is_honest S.landed self.new.desk.now) (W.contents writer.new) self.new.all_fine) }
+        ensures keeps { KeepsDesk result self.old.desk.ghost_name self.new.desk.ghost_name
+            (S.failures self.old.desk.now.store) (S.failures self.new.desk.now.store) }
+    {
+        match take_and_save(alloc, self.desk, apdu) {
+            Ok(outcome) => match report(alloc, writer, outcome, self.desk) {
+                Ok(fine) => {
+                    self.all_fine &= fine;
+                    Ok(())
+                }
+                Err(fault) => Err(fault),
+            },
+            Err(fault) => Err(fault),
+        }
+    }
+}
+
 impl<S: Store, W: Write> Handler<W> for TakesEach<'_, S> {
     type Fault = ToolFault;
 
-    ghost handles = { λ old apdu result new. TakesOn old apdu result new };
+    ghost handles = { λ old apdu result new. takes_each
+        (progress (view_of S.is_honest S.landed old.0.desk.now) (W.contents old.1) old.0.all_fine)
+        apdu result
+        (progress (view_of S.is_honest S.landed new.0.desk.now) (W.contents new.1) new.0.all_fine)
+        × KeepsDesk result old.0.desk.ghost_name new.0.desk.ghost_name
+        (S.failures old.0.desk.now.store) (S.failures new.0.desk.now.store) };
 
     fn handle(
         &mut self,
@@ -62,11 +115,10 @@ impl<S: Store, W: Write> Handler<W> for TakesEach<'_, S> {
         writer: &mut W,
         apdu: &ApduView<'_>,
     ) -> Result<(), ToolFault> {
-        let apdu = apdu.to_apdu(alloc)?;
-        let outcome = take_and_save(alloc, self.desk, &apdu)?;
-        let fine = report(alloc, writer, outcome, self.desk)?;
-        self.all_fine &= fine;
-        Ok(())
+        match apdu.to_apdu(alloc) {
+            Ok(apdu) => self.take_and_tell(alloc, writer, &apdu),
+            Err(_) => Err(ToolFault::OutOfMemory),
+        }
     }
 }
 

@@ -1,0 +1,78 @@
+-- Taking one APDU after another.
+use Rattle.std.proofs.Common.{◌≡◌, ◌⊎◌, inl, inr, ℕ, ◌<◌, ◌≤◌, Bool, true, List, [], ◌∷◌, Option, Result, Ok, Err, refl, ap, subst, ◌∙◌, arith}
+use Rattle.ill_values.specs.declared.apdu.Apdu.{Apdu}
+use Rattle.ill_der.specs.Handling.{Handles, Handled}
+use Rattle.ill_saved.specs.declared.fault.DeskFault.TheVariants as desks
+use Rattle.ill_saved.specs.declared.store.StoreFault.TheVariants as stores
+use Rattle.ill_saved.specs.Store.{HasRisen}
+use Rattle.ill_tool.specs.declared.fault.ToolFault.{ToolFault}
+use Rattle.ill_tool.specs.declared.fault.ToolFault.TheVariants.{Arguments, Der, TooMany, Script, Desk, Read, Write, OutOfMemory}
+use Rattle.ill_tool.specs.Input.{StopsReading, ReadsInput}
+use Rattle.ill_tool.specs.declared.take.TakesEach.{TakesEach}
+use Rattle.ill_tool.specs.DeskView.{view_of, ToolFailsCounted, CountsToolFailure}
+use Rattle.ill_tool.specs.Take.{KeepsDesk, Progress, progress, takes_each, answer_of, RunsTake}
+use Rattle.ill_tool.proofs.InputLemmas.{reads_as}
+
+-- ---- what each message keeps, an input keeps
+
+risen_from : (before last after : ℕ) → before ≤ last → HasRisen last after → HasRisen before after
+risen_from before last after le is = elim is [
+      | inl lt ↦ inl (omega (arith, le, lt))
+      | inr most ↦ inr most
+    ]
+
+fails_from : (fault : ToolFault) (before last after : ℕ) → before ≤ last → ToolFailsCounted {X = Unit {0}} (Err fault) last after → ToolFailsCounted {X = ℕ} (Err fault) before after
+fails_from (Desk (desks.Store stores.Failed)) before last after le is = risen_from before last after le is
+fails_from other before last after le is = tt
+
+-- reading that stopped is no failure of a store
+unfailing : (fault : ToolFault) (count : ℕ) (bytes ahead : List ℕ) (left : Option (List ℕ)) (before after : ℕ) → StopsReading fault count bytes ahead left → ToolFailsCounted {X = ℕ} (Err fault) before after
+unfailing (Desk fault) count bytes ahead left before after stops = absurd stops
+unfailing other count bytes ahead left before after stops = tt
+
+-- the desk that is lent, and the count of its store's failures
+module _ {S N : Type 0} (handles : Handles S ToolFault) (name : S → N) (failures : S → ℕ)
+    (keeps : (s t : S) (apdu : Apdu) (r : Result (Unit {0}) ToolFault) → handles s apdu r t → KeepsDesk r (name s) (name t) (failures s) (failures t)) where
+  handled_keeps : (before after : S) (apdus : List Apdu) → Handled handles before apdus after → (name after ≡ name before) × (failures before ≤ failures after)
+  handled_keeps before after [] is = (ap name is, omega (arith, ap failures is))
+  handled_keeps before after (apdu ∷ apdus) is =
+      let one = keeps before is.0 apdu (Ok tt) is.1 in
+      let on = handled_keeps is.0 after apdus is.2 in
+      (on.0 ∙ one.0, omega (arith, one.1.0, on.1))
+
+  pub input_keeps : (old new : Option (List ℕ)) (before after : S) (result : Result ℕ ToolFault) → ReadsInput handles old new before result after → KeepsDesk result (name before) (name after) (failures before) (failures after)
+  input_keeps old new before after (Ok n) is =
+      let so_far = handled_keeps before is.3 is.0 is.4.handled in
+      let same = is.4.ended.3 in
+      (ap name same ∙ so_far.0, (omega (arith, so_far.1, ap failures same), tt))
+  input_keeps old new before after (Err fault) is =
+      let so_far = handled_keeps before is.3 is.0 is.4.handled in elim is.4.ended [
+        | inl stops ↦ (
+          ap name stops.1 ∙ so_far.0,
+          (omega (arith, so_far.1, ap failures stops.1), unfailing fault _ is.1 is.2 new (failures before) (failures after) stops.0),
+        )
+        | inr hand ↦
+            let one = keeps is.3 after hand.0 (Err fault) hand.4 in
+            (one.0 ∙ so_far.0, (omega (arith, so_far.1, one.1.0), fails_from fault (failures before) (failures is.3) (failures after) so_far.1 one.1.1))
+      ]
+
+-- ---- the command
+
+-- an input whose messages are taken on a desk that is lent
+module _ {S W : Type 0} (is_honest : S → Bool) (landed : S → Option (List ℕ)) (failures : S → ℕ) (contents : W → Option (List ℕ)) where
+  abbrev how_far : TakesEach S × W → Progress
+  how_far s = progress (view_of is_honest landed s.0.desk.now) (contents s.1) s.0.all_fine
+
+  -- what is done with each
+  abbrev pub TakesOn : Handles (TakesEach S × W) ToolFault
+  TakesOn s apdu r t = takes_each (how_far s) apdu r (how_far t) × KeepsDesk r s.0.desk.ghost_name t.0.desk.ghost_name (failures s.0.desk.now.store) (failures t.0.desk.now.store)
+
+  pub input_taken : (old new : Option (List ℕ)) (before after : TakesEach S × W) (result : Result ℕ ToolFault) → before.0.all_fine ≡ true → ReadsInput TakesOn old new before result after
+      → RunsTake old new (contents before.1) (contents after.1) (view_of is_honest landed before.0.desk.now) (answer_of result after.0.all_fine) (view_of is_honest landed after.0.desk.now)
+      × KeepsDesk result before.0.desk.ghost_name after.0.desk.ghost_name (failures before.0.desk.now.store) (failures after.0.desk.now.store)
+  input_taken old new before after result fine is =
+      let taken = reads_as TakesOn takes_each how_far (λ s t apdu r h. h.0) old new before after result is in
+      let first = progress (view_of is_honest landed before.0.desk.now) (contents before.1) in (
+        (result, after.0.all_fine, refl, subst (λ (b : Bool). ReadsInput takes_each old new (first b) result (how_far after)) fine taken),
+        input_keeps TakesOn (λ s. s.0.desk.ghost_name) (λ s. failures s.0.desk.now.store) (λ s t apdu r h. h.1) old new before after result is,
+      )

@@ -1,7 +1,6 @@
 //! The command `check`.
 
-ghost use Rattle.std.specs.Prelude.{◌≡◌, Ok};
-ghost use Rattle.ill_tool.specs.Check.{Counts, Checks, WritesCount};
+ghost use Rattle.ill_tool.specs.Check.{passes, Counts, Checks, WritesCount};
 
 use crate::fault::ToolFault;
 use crate::input::{Counted, handle_input};
@@ -53,7 +52,7 @@ struct Passing;
 impl Handler<()> for Passing {
     type Fault = ToolFault;
 
-    ghost handles = { λ old _ result new. (result ≡ Ok tt) × (new ≡ old) };
+    ghost handles = { λ _ apdu result _. passes tt apdu result tt };
 
     fn handle(
         &mut self,

@@ -1,6 +1,6 @@
 -- Reading one piece after another, and handling the APDUs in them.
 use Rattle.std.proofs.Common.{◌≡◌, inl, inr, ◌⊎◌, ℕ, Bool, if◌then◌else◌, ◌+◌, ◌*◌, ◌-◌, ◌<◌, ◌≤◌, List, [], ◌∷◌, ◌++◌, length, Option, Some, None, Result, Ok, Err, refl, sym, ap, subst, ◌∙◌, arith, append_assoc}
-use Rattle.std.specs.List.{flat_map, AllByRecursion}
+use Rattle.std.specs.List.{AllByRecursion}
 use Rattle.std.specs.Io.KnownBytes.{Consumes, Keeps, IsAtEnd}
 use Rattle.std.proofs.KnownBytes.{Consumes-nil, Consumes-trans, Consumes-kept}
 use Rattle.std.proofs.lemmas.List.{append-nil, length-append}
@@ -16,8 +16,8 @@ use Rattle.ill_der.specs.Feed.{Begins, Held, Leaves, fault_of, end_of}
 use Rattle.ill_der.specs.Handling.{Handles, Handled, FailsAt, HandlesEach}
 use Rattle.ill_tool.specs.declared.fault.ToolFault.{ToolFault}
 use Rattle.ill_tool.specs.declared.input.Counted.{Counted}
-use Rattle.ill_tool.specs.declared.fault.ToolFault.TheVariants.{Der, TooMany, Read}
-use Rattle.ill_tool.specs.Input.{spellings, Ends, ReadsApdus, ReadsInput, answer_at_end, CountsOn}
+use Rattle.ill_tool.specs.declared.fault.ToolFault.TheVariants.{Der, Read}
+use Rattle.ill_tool.specs.Input.{spellings, Ends, ReadsInput, answer_at_end, CountsOn}
 
 -- ---- APDUs handled one after another
 
@@ -33,9 +33,9 @@ ends_as : {S T : Type 0} (handles : Handles S ToolFault) (seen : Handles T ToolF
     → Ends handles result count bytes ahead left before after → Ends seen result count bytes ahead left (view before) (view after)
 ends_as handles seen view as_seen (Ok n) count bytes ahead left before after is = (is.0, is.1, is.2, ap view is.3)
 ends_as handles seen view as_seen (Err fault) count bytes ahead left before after is = elim is [
-      | inl stops ↦ inl (stops.0, ap view stops.1)
-      | inr fails ↦ inr (fails.0, fails.1, fails.2, fails.3, as_seen before after fails.0 (Err fault) fails.4)
-    ]
+  | inl stops ↦ inl (stops.0, ap view stops.1)
+  | inr fails ↦ inr (fails.0, fails.1, fails.2, fails.3, as_seen before after fails.0 (Err fault) fails.4)
+]
 
 pub reads_as : {S T : Type 0} (handles : Handles S ToolFault) (seen : Handles T ToolFault) (view : S → T) → ((s t : S) (apdu : Apdu) (r : Result (Unit {0}) ToolFault) → handles s apdu r t → seen (view s) apdu r (view t))
     → (old new : Option (List ℕ)) (before after : S) (result : Result ℕ ToolFault) → ReadsInput handles old new before result after → ReadsInput seen old new (view before) result (view after)
@@ -163,9 +163,9 @@ still_open (Err fault) e = absurd cc
 more_room : (n k size more left m : ℕ) → ((k ≡ 0) × (left ≡ size + more)) ⊎ (0 < k) → m ≡ n + k → m ≤ 100000 → size ≤ 358 → left ≤ 358 → 0 < more
     → 35900359 - (m * 359 + left) < 35900359 - (n * 359 + size)
 more_room n k size more left m grown is few held rest some = elim grown [
-      | inl none ↦ omega (arith, is, few, held, rest, none.0, none.1, some)
-      | inr handed ↦ omega (arith, is, few, held, rest, handed, some)
-    ]
+  | inl none ↦ omega (arith, is, few, held, rest, none.0, none.1, some)
+  | inr handed ↦ omega (arith, is, few, held, rest, handed, some)
+]
 
 -- a piece makes what is held longer, or ends an APDU
 longer_or_handed : (more : List Apdu) (held piece rest : List ℕ) → held ++ piece ≡ spellings more ++ rest → ((length more ≡ 0) × (length rest ≡ length held + length piece)) ⊎ (0 < length more)
@@ -327,11 +327,11 @@ ends_closed {H = H} {C = C} handles law old now new before middle after feed nex
 ends_in_hand : {S : Type 0} (handles : Handles S ToolFault) (state after : ℕ × S) (apdu : Apdu) (fault : ToolFault) (count : ℕ) (ahead : List ℕ) (left : Option (List ℕ)) → IsApdu apdu → count ≡ state.0
     → state.0 ≤ 100000 → CountsOn handles state apdu (Err fault) after → Ends handles (Err fault) count (spelling apdu) ahead left state.1 after.1
 ends_in_hand handles state after apdu fault count ahead left is counted few on = elim on [
-      | inl many ↦
-          subst (λ (f : ToolFault). Ends handles (Err f) count (spelling apdu) ahead left state.1 after.1) (sym many.1)
-          (inl ((omega (arith, many.0, few, counted), (apdu, is, refl)), many.2))
-      | inr fails ↦ inr (apdu, is, refl, omega (arith, fails.0, counted), fails.1)
-    ]
+  | inl many ↦
+      subst (λ (f : ToolFault). Ends handles (Err f) count (spelling apdu) ahead left state.1 after.1) (sym many.1)
+      (inl ((omega (arith, many.0, few, counted), (apdu, is, refl)), many.2))
+  | inr fails ↦ inr (apdu, is, refl, omega (arith, fails.0, counted), fails.1)
+]
 
 -- a piece was pushed, and one of its APDUs is one too many, or handling it failed
 pub ends_failing : {H C : Type 0} (handles : Handles (H × C) ToolFault) → ShortLaw → (old now new : Option (List ℕ)) (before : H × C) (middle after : Counted H × C) (feed next : Held) (piece : List ℕ) (fault : ToolFault)

@@ -1,15 +1,15 @@
 -- Taking one APDU after another.
-use Rattle.std.proofs.Common.{◌≡◌, ◌⊎◌, inl, inr, ℕ, ◌<◌, ◌≤◌, Bool, true, List, [], ◌∷◌, Option, Result, Ok, Err, refl, ap, subst, ◌∙◌, arith}
+use Rattle.std.proofs.Common.{◌≡◌, inl, inr, ℕ, ◌≤◌, Bool, true, List, [], ◌∷◌, Option, Result, Ok, Err, refl, ap, subst, ◌∙◌, arith}
 use Rattle.ill_values.specs.declared.apdu.Apdu.{Apdu}
 use Rattle.ill_der.specs.Handling.{Handles, Handled}
 use Rattle.ill_saved.specs.declared.fault.DeskFault.TheVariants as desks
 use Rattle.ill_saved.specs.declared.store.StoreFault.TheVariants as stores
 use Rattle.ill_saved.specs.Store.{HasRisen}
 use Rattle.ill_tool.specs.declared.fault.ToolFault.{ToolFault}
-use Rattle.ill_tool.specs.declared.fault.ToolFault.TheVariants.{Arguments, Der, TooMany, Script, Desk, Read, Write, OutOfMemory}
+use Rattle.ill_tool.specs.declared.fault.ToolFault.TheVariants.{Desk}
 use Rattle.ill_tool.specs.Input.{StopsReading, ReadsInput}
 use Rattle.ill_tool.specs.declared.take.TakesEach.{TakesEach}
-use Rattle.ill_tool.specs.DeskView.{view_of, ToolFailsCounted, CountsToolFailure}
+use Rattle.ill_tool.specs.DeskView.{view_of, ToolFailsCounted}
 use Rattle.ill_tool.specs.Take.{KeepsDesk, Progress, progress, takes_each, answer_of, RunsTake}
 use Rattle.ill_tool.proofs.InputLemmas.{reads_as}
 
@@ -17,9 +17,9 @@ use Rattle.ill_tool.proofs.InputLemmas.{reads_as}
 
 risen_from : (before last after : ℕ) → before ≤ last → HasRisen last after → HasRisen before after
 risen_from before last after le is = elim is [
-      | inl lt ↦ inl (omega (arith, le, lt))
-      | inr most ↦ inr most
-    ]
+  | inl lt ↦ inl (omega (arith, le, lt))
+  | inr most ↦ inr most
+]
 
 fails_from : (fault : ToolFault) (before last after : ℕ) → before ≤ last → ToolFailsCounted {X = Unit {0}} (Err fault) last after → ToolFailsCounted {X = ℕ} (Err fault) before after
 fails_from (Desk (desks.Store stores.Failed)) before last after le is = risen_from before last after le is

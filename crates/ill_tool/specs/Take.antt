@@ -1,9 +1,7 @@
 -- The command `take`: each APDU of an input is handed to a side, and saved where it was taken.
-use Rattle.std.specs.Prelude.{◌≡◌, ◌⊎◌, ℕ, Bool, true, ◌&&◌, fold, List, [], ◌++◌, length, Option, Some, None, Result, Ok, Err}
-use Rattle.std.specs.Io.KnownBytes.{Consumes, Appends, IsAtEnd}
+use Rattle.std.specs.Prelude.{◌≡◌, ◌⊎◌, ℕ, Bool, true, ◌&&◌, List, Option, Result, Ok, Err}
+use Rattle.std.specs.Io.KnownBytes.{Appends}
 use Rattle.ill_values.specs.declared.apdu.Apdu.{Apdu}
-use Rattle.ill_values.specs.Apdu.{IsApdu}
-use Rattle.ill_der.specs.ShortForm.{spelling}
 use Rattle.ill_core.specs.declared.refusal.Refusal.{Refusal}
 use Rattle.ill_core.specs.declared.taking.Taking.{Taking}
 use Rattle.ill_core.specs.declared.taking.Taking.TheVariants.{Taken}
@@ -13,7 +11,7 @@ use Rattle.ill_saved.specs.Side.{takes, takes_memory}
 use Rattle.ill_world.specs.declared.event.Outcome.{Outcome}
 use Rattle.ill_world.specs.World.{answer_to}
 use Rattle.ill_tool.specs.declared.fault.ToolFault.{ToolFault}
-use Rattle.ill_tool.specs.declared.fault.ToolFault.TheVariants.{Arguments, Der, TooMany, Script, Desk, Read, Write, OutOfMemory}
+use Rattle.ill_tool.specs.declared.fault.ToolFault.TheVariants.{Desk, OutOfMemory}
 use Rattle.ill_der.specs.Handling.{Handles}
 use Rattle.ill_tool.specs.Input.{ReadsInput}
 use Rattle.ill_tool.specs.DeskView.{DeskView, becomes, saved, IsFaulted, is_fine, side_line, Reports, CountsToolFailure}

@@ -19,6 +19,7 @@ const PIECE: usize = 4_096;
 /// A handler that is handed as many APDUs as an input may have, and how many it was handed.
 #[derive(Drop)]
 pub struct Counted<H> {
+    /// What is handed the APDUs.
     pub handler: H,
     count: u32,
 }

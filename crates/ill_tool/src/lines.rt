@@ -27,11 +27,7 @@ fn push_head(lines: &mut Vec<u8>, apdu: &ApduView<'_>) -> Result<(), OutOfMemory
 }
 
 /// Adds the lines of a transaction id.
-pub fn push_id(
-    lines: &mut Vec<u8>,
-    group: &[u8],
-    transaction: &[u8],
-) -> Result<(), OutOfMemory>
+pub fn push_id(lines: &mut Vec<u8>, group: &[u8], transaction: &[u8]) -> Result<(), OutOfMemory>
     ensures { OnOk result (lines.new.items ≡ lines.old.items ++ id_lines group.now transaction.now) }
 {
     push_line(lines, "group", group)?;

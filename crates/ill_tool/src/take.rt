@@ -42,7 +42,7 @@ pub fn run_take<S: Store, R: Read, W: Write>(
     take_input(alloc, &mut taken, reader, writer)
 }
 
-/// Takes each APDU of the input, by way of the desk that is lent.
+/// The same, on a desk that is lent, before the first APDU.
 fn take_input<S: Store, R: Read, W: Write>(
     alloc: Global,
     taken: &mut Counted<TakesEach<'_, S>>,
@@ -65,7 +65,7 @@ fn take_input<S: Store, R: Read, W: Write>(
     }
 }
 
-/// Takes each APDU, saves it if it was taken, and tells it.
+/// Takes each APDU on the desk that is lent, and keeps in mind whether all went well.
 #[derive(Drop)]
 struct TakesEach<'a, S: Store> {
     desk: &'a mut Desk1<S>,
@@ -73,6 +73,7 @@ struct TakesEach<'a, S: Store> {
 }
 
 impl<S: Store> TakesEach<'_, S> {
+    /// Takes an APDU, saves it if it was taken, and writes the line of it.
     fn take_and_tell<W: Write>(
         &mut self,
         alloc: Global,

@@ -10,7 +10,7 @@ use Rattle.ill_values.specs.declared.apdu.Apdu.{Apdu}
 use Rattle.ill_values.specs.Apdu.{IsApdu}
 use Rattle.ill_der.specs.declared.fault.DerFault.{DerFault}
 use Rattle.ill_der.specs.declared.fault.DerFault.TheVariants.{Short, Tag, Length, Field, OutOfMemory}
-use Rattle.ill_der.specs.ShortForm.{spelling, outer_at, apdu_at}
+use Rattle.ill_der.specs.ShortForm.{spelling, header_at, outer_at, apdu_at}
 use Rattle.ill_der.specs.Stream.{IsUnfinished, IfShort}
 use Rattle.ill_der.specs.Feed.{Begins, Held, Leaves, fault_of, end_of}
 use Rattle.ill_der.specs.Handling.{Handles, Handled, FailsAt, HandlesEach}
@@ -125,7 +125,7 @@ abbrev pub ReadSoFar : {S : Type 0} → Handles S ToolFault → Option (List ℕ
 ReadSoFar handles old now before count feed after = (apdus : List Apdu) × (held : List ℕ) × SoFar handles old now before count feed after apdus held
 
 pub none_read : {S : Type 0} (handles : Handles S ToolFault) (old : Option (List ℕ)) (before : S) (count : ℕ) (feed : Held) → count ≡ 0 → feed ≡ Ok [] → ReadSoFar handles old old before count feed before
-unfolding apdu_at outer_at
+unfolding apdu_at outer_at header_at
 none_read handles old before count feed none empty =
     ([], [], record { spelled = tt; counted = sym none; few = omega (arith, none); read = Consumes-nil old; handled = refl; opened = empty; unfinished = refl })
 

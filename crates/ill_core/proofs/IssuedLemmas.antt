@@ -1,5 +1,5 @@
 -- What one more APDU changes in a list of issued ones.
-use Rattle.std.proofs.Common.{rules, arith, ◌≡◌, ◌⊎◌, inl, inr, ℕ, zero, suc, ◌+◌, ◌<◌, ◌≤◌, Bool, true, false, not, ◌&&◌, ◌||◌, nat_eq, List, [], ◌∷◌, ◌++◌, length, drop, Option, Some, None, Ok, Err, nat_lt, if◌then◌else◌, refl, ap, append-nil, length-append, eq-eqb, subst, sym, ◌∙◌}
+use Rattle.std.proofs.Common.{rules, arith, ◌≡◌, ◌⊎◌, inl, inr, ℕ, zero, suc, ◌+◌, ◌<◌, ◌≤◌, Bool, true, false, not, ◌&&◌, ◌||◌, nat_eq, List, [], ◌∷◌, ◌++◌, length, take, drop, Option, Some, None, Ok, Err, nat_lt, if◌then◌else◌, refl, ap, append-nil, length-append, eq-eqb, subst, sym, ◌∙◌}
 use Rattle.std.proofs.lemmas.Bool.{and_parts, and_from, or_from}
 use Rattle.std.proofs.Math.Bool.{or-false}
 use Rattle.std.specs.List.{list_all, filter_map, cons_option, last_or}
@@ -62,6 +62,15 @@ numbered_next txn number (b ∷ apdus) a numbered same next =
     let parts = and_parts _ _ numbered in
     and_from _ _ parts.0 (numbered_next txn (number + 1) apdus a parts.1 same (omega (arith, next)))
 
+-- a front keeps the numbering
+pub numbered_front : (txn : Qualifiers) (number count : ℕ) (apdus : List Apdu) → are_numbered txn number apdus ≡ true → are_numbered txn number (take count apdus) ≡ true
+unfolding are_numbered
+numbered_front txn number zero apdus numbered = refl
+numbered_front txn number (suc count) [] numbered = refl
+numbered_front txn number (suc count) (a ∷ apdus) numbered =
+    let parts = and_parts _ _ numbered in
+    and_from _ _ parts.0 (numbered_front txn (number + 1) count apdus parts.1)
+
 pub not_true : (b : Bool) → not b ≡ true → b ≡ false
 not_true b h = search rules
 
@@ -116,6 +125,15 @@ found_none f apdus a none =
 pub found_more : {X : Type 0} (f : Apdu → Option X) (apdus : List Apdu) (a : Apdu) (x : X) → f a ≡ Some x
     → filter_map f (apdus ++ a ∷ []) ≡ filter_map f apdus ++ x ∷ []
 found_more f apdus a x there = filter_map-append f apdus (a ∷ []) ∙ ap (λ o. filter_map f apdus ++ cons_option o []) there
+
+last_behind : {X : Type 0} (o : Option X) (xs : List X) (found : Option X) → last_or o (xs ++ cons_option found []) ≡ option_or found (last_or o xs)
+last_behind o [] None = refl
+last_behind o [] (Some x) = refl
+last_behind o (y ∷ xs) found = last_behind (Some y) xs found
+
+-- what is found in one more APDU goes before what was found last
+pub last_of_next : {X : Type 0} (f : Apdu → Option X) (apdus : List Apdu) (a : Apdu) → last_of f (apdus ++ a ∷ []) ≡ option_or (f a) (last_of f apdus)
+last_of_next f apdus a = ap (last_or None) (filter_map-append f apdus (a ∷ [])) ∙ last_behind None (filter_map f apdus) (f a)
 
 -- what is found in the APDU issued last is the last
 pub last_of_more : {X : Type 0} (f : Apdu → Option X) (apdus : List Apdu) (a : Apdu) (x : X) → f a ≡ Some x → last_of f (apdus ++ a ∷ []) ≡ Some x

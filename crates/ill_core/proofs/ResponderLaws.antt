@@ -20,7 +20,7 @@ use Rattle.ill_core.specs.Issued.{has, with_next, next_apdu, IssuesNext}
 use Rattle.ill_core.specs.Responder.{ResponderRecord, IsResponder}
 use Rattle.ill_core.specs.ResponderActions.{acts, issues_to}
 use Rattle.ill_core.specs.ResponderDeliveries.{takes}
-use Rattle.ill_core.specs.ResponderFacts.{Fact, Shows, Tells, Requested, Accepted, CancelAsked, Arrived, SentBack, cancels, IssuesUnfilled, StaysLater, Ends, EntersByEnd, EndsOnce, is_unsupplied, is_cancelled, is_end, ended, ends_in, Question, MayCancel, MayRenew, answered_number, last_asked, waits, answers_to, AnswersLast, KeepsLast, TakesNew, AnsweredOnce, AnswersOnce}
+use Rattle.ill_core.specs.ResponderFacts.{Fact, Shows, Tells, Requested, Accepted, CancelAsked, Arrived, SentBack, cancels, KeepsRequest, IssuesUnfilled, StaysLater, Ends, EntersByEnd, EndsOnce, is_unsupplied, is_cancelled, is_end, ended, ends_in, Question, MayCancel, MayRenew, answered_number, last_asked, waits, answers_to, AnswersLast, KeepsLast, TakesNew, AnsweredOnce, AnswersOnce}
 use Rattle.ill_core.proofs.IssuedLemmas.{issued_body, not_longer, has_more, found_none, found_more}
 use Rattle.ill_core.proofs.ResponderLists.{count_more}
 use Rattle.ill_core.proofs.ResponderKept.{line_kept}
@@ -38,6 +38,12 @@ acts_txn y new deed today = of_acts (λ r. r.txn ≡ y.txn) y new deed today (λ
 
 pub takes_txn : (y : ResponderRecord) (a : Apdu) → (takes y a).1.txn ≡ y.txn
 takes_txn y a = of_takes (λ r. r.txn ≡ y.txn) y a (λ how. how.txn) (λ said how. refl)
+
+pub acts_request : (y new : ResponderRecord) (deed : Deed) (today : Date) → acts y deed today ≡ Ok new → KeepsRequest y new
+acts_request y new deed today = of_acts (KeepsRequest y) y new deed today (λ line there how begun. (how.on, refl))
+
+pub takes_request : (y : ResponderRecord) (a : Apdu) → KeepsRequest y (takes y a).1
+takes_request y a = of_takes (KeepsRequest y) y a (λ how. how.request) (λ said how begun. (how.on, refl))
 
 pub acts_kept : (y new : ResponderRecord) (deed : Deed) (today : Date) → acts y deed today ≡ Ok new → IsResponder y → IsResponder new
 acts_kept y new deed today = of_acts (λ r. IsResponder y → IsResponder r) y new deed today (λ line is how h. line_kept y line h is)

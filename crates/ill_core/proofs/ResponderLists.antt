@@ -10,10 +10,14 @@ use Rattle.ill_values.specs.Day.{Date}
 use Rattle.ill_values.specs.declared.apdu.Apdu.{Apdu}
 use Rattle.ill_values.specs.declared.apdu.Body.{Body}
 use Rattle.ill_values.specs.declared.apdu.Body.TheVariants as types
+use Rattle.ill_values.specs.TxnId.{Qualifiers}
+use Rattle.ill_core.specs.declared.state.State.{State}
+use Rattle.ill_core.specs.declared.state.State.TheVariants.{Idle}
+use Rattle.ill_core.specs.State.{is_among}
 use Rattle.ill_core.specs.Dates.{is_after_due}
 use Rattle.ill_core.specs.Bodies.{is_shipped, is_renewal, names_conditions, grant_in}
 use Rattle.ill_core.specs.Issued.{was, granted_day, last_of}
-use Rattle.ill_core.specs.Responder.{rises, rise_from, ships_first, ends_with_conditions, is_named}
+use Rattle.ill_core.specs.Responder.{rises, rise_from, ships_first, ends_with_conditions, is_named, is_request_of, request_in}
 use Rattle.ill_core.proofs.IssuedLemmas.{not_true}
 
 -- one more APDU may count
@@ -159,3 +163,11 @@ due_there [] there = search rules
 due_there (b ∷ apdus) there =
     last_first (granted_day b) (filter_map granted_day apdus)
     (one_there (is_shipped b.body) (count_by (λ c. is_shipped c.body) apdus) (subst (λ n. 1 ≤ n) (count_first b apdus) there) (grants_some b.body) (due_there apdus))
+
+unless_idle : (txn : Qualifiers) (is_idle : Bool) (request : Option Apdu) → is_request_of txn request ≡ true → is_request_of txn (if is_idle then None else request) ≡ true
+unless_idle txn true request is = refl
+unless_idle txn false request is = is
+
+-- the request of a state is of the transaction
+pub request_in_is : (txn : Qualifiers) (state : State) (request : Option Apdu) → is_request_of txn request ≡ true → is_request_of txn (request_in state request) ≡ true
+request_in_is txn state request is = unless_idle txn (is_among (Idle ∷ []) state) request is

@@ -22,7 +22,7 @@ use Rattle.ill_core.specs.Responder.{ResponderRecord, responder_of, later, outst
 use Rattle.ill_core.specs.Answers.{unless_refused}
 use Rattle.ill_core.specs.ResponderActions.{Line, line_of, acts, acts_by, issues_to, record_after}
 use Rattle.ill_core.specs.ResponderDeliveries.{takes, take_message, answers_no}
-use Rattle.ill_core.specs.ResponderFacts.{Tells, Requested, Accepted, CancelAsked, Arrived, SentBack, Question, KeepsLast, TakesNew, answered_number, last_asked, waits, is_unsupplied, is_cancelled, is_end, ended, ends_in}
+use Rattle.ill_core.specs.ResponderFacts.{Tells, Requested, Accepted, CancelAsked, Arrived, SentBack, Question, KeepsRequest, KeepsLast, TakesNew, answered_number, last_asked, waits, is_unsupplied, is_cancelled, is_end, ended, ends_in}
 use Rattle.ill_core.proofs.ResponderLines.{IsLine, is_line, answers, allows_cancel, refuses_cancel, ships, renews, refuses_renewal, refuses_late, reminds, reminds_renewing, recalls, checks_in, expires}
 
 -- a line that issues this, and leads to this state
@@ -36,6 +36,7 @@ pub record Issues (y : ResponderRecord) (body : Body) (state : State) : Type 0 w
   pub ends : is_end body ≡ true → (is_among (InProcess ∷ Conditional ∷ CancelPending ∷ []) y.state ≡ true) × (ends_in body state ≡ true)
   pub enters : is_among ended state ≡ true → (is_among ended y.state ≡ true) ⊎ (ends_in body state ≡ true)
   pub sent_back : is_among (Returned ∷ CheckedIn ∷ []) state ≡ is_among (Returned ∷ CheckedIn ∷ []) y.state
+  pub on : is_among (Idle ∷ []) state ≡ false
   pub asked : (question : Question) → waits question state ≡ true → waits question y.state ≡ true
   pub replies : (question : Question) (n : ℕ) → answered_number question body ≡ Some n
       → (waits question y.state ≡ true) × (waits question state ≡ false) × (n ≡ unwrap_or (last_asked question y) 0)
@@ -44,6 +45,7 @@ pub record Issues (y : ResponderRecord) (body : Body) (state : State) : Type 0 w
 pub record Moves (y : ResponderRecord) (number : ℕ) (body : Body) (new : ResponderRecord) : Type 0 where
   pub txn : new.txn ≡ y.txn
   pub issued : new.issued ≡ y.issued
+  pub request : KeepsRequest y new
   pub final : is_among (NotSupplied ∷ Cancelled ∷ CheckedIn ∷ []) y.state ≡ true → new.state ≡ y.state
   pub unsupplied : is_among (NotSupplied ∷ []) y.state ≡ is_among (NotSupplied ∷ []) new.state
   pub cancelled : is_among (Cancelled ∷ []) y.state ≡ is_among (Cancelled ∷ []) new.state

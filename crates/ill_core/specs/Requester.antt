@@ -1,11 +1,12 @@
 -- The record of a requester in a transaction (this profile's own).
-use Rattle.std.specs.Prelude.{◌≡◌, ℕ, Bool, true, false, not, ◌&&◌, List, [], ◌∷◌, Option, is_some}
+use Rattle.std.specs.Prelude.{◌≡◌, ℕ, Bool, true, false, not, ◌&&◌, List, [], ◌∷◌, take, Option, is_some}
 use Rattle.std.specs.List.{list_all}
 use Rattle.ill_values.specs.Day.{Date}
 use Rattle.ill_values.specs.TxnId.{Qualifiers}
 use Rattle.ill_values.specs.declared.apdu.Apdu.{Apdu}
 use Rattle.ill_core.specs.declared.state.State.{State}
 use Rattle.ill_core.specs.declared.state.State.TheVariants.{Idle, Pending, InProcess, Conditional, CancelPending, Cancelled, Shipped, Received, RenewPending, Overdue, RenewOverdue, NotReceivedOverdue, Recall, Returned, CheckedIn}
+use Rattle.ill_core.specs.declared.requester.standing.Standing.{Standing}
 use Rattle.ill_core.specs.State.{is_among}
 use Rattle.ill_core.specs.Rules.{implies}
 use Rattle.ill_core.specs.Bodies.{declines, is_requesters, is_ill_request, is_cancel, is_received, is_renew, is_returned}
@@ -31,6 +32,14 @@ requester_of txn state held checked_in due issued =
       due = due;
       issued = issued;
     }
+
+-- where a requester stands
+abbrev pub standing_of : RequesterRecord → Standing
+standing_of x = record { state = x.state; held = x.held; checked_in = x.checked_in; due = x.due }
+
+-- the requester where it stood so, and had issued the first so many of its messages
+abbrev pub back_to : Standing → ℕ → RequesterRecord → RequesterRecord
+back_to s count x = requester_of x.txn s.state s.held s.checked_in s.due (take count x.issued)
 
 -- the number answered by the last Conditional-Reply yes
 abbrev pub accepted_number : RequesterRecord → Option ℕ

@@ -1,11 +1,12 @@
 -- The record of a responder in a transaction (this profile's own).
-use Rattle.std.specs.Prelude.{◌≡◌, ℕ, Bool, true, false, not, ◌&&◌, ◌||◌, List, [], ◌∷◌, length, Option, Some, None, is_some, if◌then◌else◌}
+use Rattle.std.specs.Prelude.{◌≡◌, ℕ, Bool, true, false, not, ◌&&◌, ◌||◌, List, [], ◌∷◌, length, take, Option, Some, None, is_some, if◌then◌else◌}
 use Rattle.std.specs.List.{list_all, filter_map, count_by}
 use Rattle.ill_values.specs.Day.{Date}
 use Rattle.ill_values.specs.TxnId.{Qualifiers}
 use Rattle.ill_values.specs.declared.apdu.Apdu.{Apdu}
 use Rattle.ill_core.specs.declared.state.State.{State}
 use Rattle.ill_core.specs.declared.state.State.TheVariants.{Idle, Pending, Conditional, CancelPending, Cancelled, Shipped, Received, RenewPending, Overdue, RenewOverdue, NotReceivedOverdue, Recall, Returned, CheckedIn}
+use Rattle.ill_core.specs.declared.responder.standing.Standing.{Standing}
 use Rattle.ill_core.specs.State.{is_among}
 use Rattle.ill_core.specs.Dates.{is_after_due}
 use Rattle.ill_core.specs.Rules.{implies}
@@ -36,6 +37,27 @@ responder_of txn state accepted last_cancel last_renew received request issued =
       request = request;
       issued = issued;
     }
+
+-- where a responder stands
+abbrev pub standing_of : ResponderRecord → Standing
+standing_of y =
+    record {
+      state = y.state;
+      accepted = y.accepted;
+      last_cancel = y.last_cancel;
+      last_renew = y.last_renew;
+      received = y.received;
+    }
+
+-- in IDLE no request was taken yet
+abbrev pub request_in : State → Option Apdu → Option Apdu
+request_in state request = if is_among (Idle ∷ []) state then None else request
+
+-- the responder where it stood so, and had issued the first so many of its messages
+abbrev pub back_to : Standing → ℕ → ResponderRecord → ResponderRecord
+back_to s count y =
+    responder_of y.txn s.state s.accepted s.last_cancel s.last_renew s.received
+    (request_in s.state y.request) (take count y.issued)
 
 -- the date of the last Shipped or Renew-Answer yes
 abbrev pub due_of : ResponderRecord → Option Date

@@ -48,6 +48,12 @@ Tells number types.Received Arrived = Unit {0}
 Tells number types.Returned SentBack = Unit {0}
 Tells number other fact = ⊥
 
+-- past IDLE the request stays, and so does being past it
+abbrev pub KeepsRequest : ResponderRecord → ResponderRecord → Type 0
+KeepsRequest y new =
+    is_among (Idle ∷ []) y.state ≡ false →
+    (is_among (Idle ∷ []) new.state ≡ false) × (new.request ≡ y.request)
+
 -- An APDU issues one ILL-Answer unfilled, where it is a Conditional-Reply no, or none.
 abbrev pub IssuesUnfilled : ResponderRecord → Body → ResponderRecord → Type 0
 IssuesUnfilled y body new =

@@ -1,6 +1,6 @@
 //! What a side has issued, with what both roles do alike.
 
-ghost use Rattle.std.specs.Prelude.{◌≡◌, ◌≤◌, ◌<◌, ◌==◌, ◌&&◌, true, length, [], Ok, Some, is_some, IfOk, IfErr, IfSome, OnOk, OnErr, option_map};
+ghost use Rattle.std.specs.Prelude.{◌≡◌, ◌≤◌, ◌<◌, ◌==◌, ◌&&◌, true, length, take, [], Ok, Some, is_some, IfOk, IfErr, IfSome, OnOk, OnErr, option_map};
 ghost use Rattle.ill_core.specs.declared.refusal.Refusal.TheVariants as refusals;
 ghost use Rattle.ill_core.specs.Issued.{IssuedList, is_same_txn, are_numbered, message, next_number, with_next, first_refusal, Admits, last_of, sought_number, granted_day, has};
 ghost use Rattle.ill_core.specs.Bodies.{is_ill_request, is_received, is_cancel, is_renew, is_returned, is_checked_in, declines};
@@ -16,6 +16,8 @@ use std::marker::Model;
 pub struct Issued {
     txn: TxnId,
     apdus: Vec<Apdu>,
+    /// The date of the last Shipped or Renew-Answer yes.
+    granted: Option<Day>,
 }
 
 /// What is looked for among the APDUs: the last number of this kind.
@@ -37,7 +39,8 @@ impl Model for Issued {
     ghost view = { λ i. record { txn = i.txn; apdus = i.apdus.items } };
 
     ghost invariant = { λ i. (are_numbered i.txn 1 i.apdus.items ≡ true)
-        × (length i.apdus.items ≤ 255) };
+        × (length i.apdus.items ≤ 255)
+        × (i.granted ≡ last_of granted_day i.apdus.items) };
 }
 
 impl Sought {
@@ -63,6 +66,7 @@ impl Issued {
         Issued {
             txn,
             apdus: Vec::new(alloc),
+            granted: None,
         }
     }
 
@@ -72,7 +76,12 @@ impl Issued {
         requires few { length apdus.items ≤ 255 }
         ensures { result ≡ record { txn = txn; apdus = apdus.items } }
     {
-        Issued { txn, apdus }
+        let granted = last_granted(&apdus);
+        Issued {
+            txn,
+            apdus,
+            granted,
+        }
     }
 
     /// The transaction.
@@ -118,15 +127,28 @@ impl Issued {
     }
 
     /// The date of the last Shipped or Renew-Answer yes.
-    #[tactic(auto, using(crate::proofs::IssuedLemmas::last_at))]
     pub fn last_granted(&self) -> Option<Day>
         ensures { result ≡ last_of granted_day self.now.apdus }
     {
-        let mut last = None;
-        for apdu in &self.apdus {
-            last = grant_in(&apdu.body).or(last);
-        }
-        last
+        self.granted
+    }
+
+    /// The first so many APDUs, or all.
+    pub fn front(&self, count: u8) -> &[Apdu]
+        ensures { result.now ≡ take count self.now.apdus }
+    {
+        let count = usize::from(count).min(self.apdus.len());
+        &self.apdus[..count]
+    }
+
+    /// Goes back to the first so many APDUs: the others are let go.
+    #[tactic(auto, using(crate::proofs::IssuedLemmas::numbered_front))]
+    pub fn go_back(&mut self, count: u8)
+        ensures txn { self.new.txn ≡ self.old.txn }
+        ensures front { self.new.apdus ≡ take count self.old.apdus }
+    {
+        self.apdus.truncate(usize::from(count));
+        self.granted = last_granted(&self.apdus);
     }
 
     /// The number of the next APDU.
@@ -140,7 +162,7 @@ impl Issued {
     }
 
     /// Issues the next APDU, or changes nothing.
-    #[tactic(auto, using(crate::proofs::IssuedLemmas::numbered_issue))]
+    #[tactic(auto, using(crate::proofs::IssuedLemmas::numbered_issue, crate::proofs::IssuedLemmas::last_of_next))]
     pub fn issue(&mut self, alloc: Global, number: Number, body: Body) -> Result<(), Refusal>
         requires next { next_number self.old.apdus ≡ Ok number }
         ensures txn { self.new.txn ≡ self.old.txn }
@@ -149,7 +171,9 @@ impl Issued {
         ensures memory { IfErr result (λ refusal. refusal ≡ refusals.OutOfMemory) }
     {
         let txn = self.txn.copy(alloc)?;
+        let granted = grant_in(&body).or(self.granted);
         self.apdus.push(Apdu { txn, number, body })?;
+        self.granted = granted;
         Ok(())
     }
 
@@ -165,6 +189,18 @@ impl Issued {
             Ok(())
         }
     }
+}
+
+/// The date of the last Shipped or Renew-Answer yes among the APDUs.
+#[tactic(auto, using(crate::proofs::IssuedLemmas::last_at))]
+fn last_granted(apdus: &[Apdu]) -> Option<Day>
+    ensures { result ≡ last_of granted_day apdus.now }
+{
+    let mut last = None;
+    for apdu in apdus {
+        last = grant_in(&apdu.body).or(last);
+    }
+    last
 }
 
 /// Whether each APDU is of the transaction, and the n-th has number n.

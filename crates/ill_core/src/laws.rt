@@ -13,6 +13,6 @@ pub use requester::{
 pub use responder::{
     responder_answers_last, responder_answers_once, responder_ends, responder_ends_once,
     responder_enters_by_end, responder_follows, responder_is_final, responder_is_quiet,
-    responder_issues, responder_keeps_last, responder_keeps_rules, responder_keeps_txn,
-    responder_shows, responder_stays_later,
+    responder_issues, responder_keeps_last, responder_keeps_request, responder_keeps_rules,
+    responder_keeps_txn, responder_shows, responder_stays_later,
 };

@@ -18,7 +18,9 @@ mod table;
 mod taking;
 
 pub use refusal::Refusal;
+pub use requester::standing::Standing as RequesterStanding;
 pub use requester::{Requester, Wish};
+pub use responder::standing::Standing as ResponderStanding;
 pub use responder::{Deed, Responder};
 pub use state::State;
 pub use taking::Taking;

@@ -3,14 +3,14 @@
 mod actions;
 mod deliveries;
 mod rules;
-mod standing;
+pub(crate) mod standing;
 
-ghost use Rattle.std.specs.Prelude.{◌≡◌, ◌≤◌, ◌↔◌, [], None, Err, false, length, IsSome, IfSome, option_map};
+ghost use Rattle.std.specs.Prelude.{◌≡◌, ◌≤◌, ◌↔◌, [], None, Err, true, false, length, if◌then◌else◌, IsSome, IfSome, option_map};
 ghost use Rattle.ill_core.specs.declared.state.State.TheVariants as State;
 ghost use Rattle.ill_core.specs.declared.refusal.Refusal.TheVariants as refusals;
 ghost use Rattle.ill_core.specs.State.{is_among};
 ghost use Rattle.ill_core.specs.Issued.{message};
-ghost use Rattle.ill_core.specs.Requester.{RequesterRecord, requester_of, IsRequester, accepted_number, is_declined, is_received_by, later};
+ghost use Rattle.ill_core.specs.Requester.{RequesterRecord, requester_of, standing_of, back_to, IsRequester, accepted_number, is_declined, is_received_by, later};
 ghost use Rattle.ill_core.specs.RequesterActions.{Acts};
 ghost use Rattle.ill_core.specs.RequesterDeliveries.{Takes};
 
@@ -100,24 +100,44 @@ impl Requester {
         ensures value { IfSome result
             (λ r. r ≡ requester_of txn state held checked_in due issued.items) }
     {
+        let standing = Standing {
+            state,
+            held,
+            checked_in,
+            due,
+        };
         if !are_numbered(&txn, &issued) {
             return None;
         }
-        if !rules::parts_fit(state, held.is_some(), due.is_some(), checked_in) {
-            return None;
-        }
-        if !rules::are_kept(state, &issued) {
+        if !rules::fits(&standing, &issued) {
             return None;
         }
         Some(Requester {
-            standing: Standing {
-                state,
-                held,
-                checked_in,
-                due,
-            },
+            standing,
             issued: Issued::of_numbered(txn, issued),
         })
+    }
+
+    /// Goes back to where it stood so and had issued the first so many of its messages, if these parts
+    /// fit together. Otherwise it answers `false`, and nothing changes.
+    pub fn go_back(&mut self, standing: Standing, count: u8) -> bool
+        ensures fits { (result ≡ true) ↔ IsRequester (back_to standing count self.old) }
+        ensures back { self.new ≡ (if result then back_to standing count self.old else self.old) }
+    {
+        if !self.could_stand(&standing, count) {
+            return false;
+        }
+        self.issued.go_back(count);
+        self.standing = standing;
+        true
+    }
+
+    /// Whether it could stand so behind the first so many of its messages.
+    #[tactic(auto, using(crate::proofs::IssuedLemmas::numbered_front))]
+    fn could_stand(&self, standing: &Standing, count: u8) -> bool
+        ensures { (result ≡ true) ↔ IsRequester (back_to standing.now count self.now) }
+    {
+        rules::fits(standing, self.issued.front(count))
     }
 
     /// Does what the library decides, and issues the message that tells the responder.
@@ -153,6 +173,14 @@ impl Requester {
         ensures { result.now ≡ self.now.txn }
     {
         self.issued.txn()
+    }
+
+    /// Where the requester stands.
+    pub fn standing(&self) -> Standing
+        ensures value { result ≡ standing_of self.now }
+        ensures requester { IsRequester self.now }
+    {
+        self.standing
     }
 
     /// The present state.

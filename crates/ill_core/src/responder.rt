@@ -3,13 +3,13 @@
 mod actions;
 mod deliveries;
 mod rules;
-mod standing;
+pub(crate) mod standing;
 
-ghost use Rattle.std.specs.Prelude.{◌≡◌, ◌≤◌, ◌↔◌, [], None, false, length, IsSome, IfSome, option_map};
+ghost use Rattle.std.specs.Prelude.{◌≡◌, ◌≤◌, ◌↔◌, [], None, true, false, length, if◌then◌else◌, is_some, IsSome, IfSome, option_map};
 ghost use Rattle.ill_core.specs.declared.state.State.TheVariants as State;
 ghost use Rattle.ill_core.specs.State.{is_among};
 ghost use Rattle.ill_core.specs.Issued.{message};
-ghost use Rattle.ill_core.specs.Responder.{ResponderRecord, responder_of, IsResponder, due_of, outstanding_number, end_number, later};
+ghost use Rattle.ill_core.specs.Responder.{ResponderRecord, responder_of, standing_of, back_to, request_in, IsResponder, due_of, outstanding_number, end_number, later};
 ghost use Rattle.ill_core.specs.ResponderActions.{Acts};
 ghost use Rattle.ill_core.specs.ResponderDeliveries.{Takes};
 
@@ -110,13 +110,12 @@ impl Responder {
             (λ r. r ≡ responder_of txn state accepted last_cancel last_renew received request
             issued.items) }
     {
-        let present = rules::Present {
-            request: request.is_some(),
-            accepted: accepted.is_some(),
-            last_cancel: last_cancel.is_some(),
-            last_renew: last_renew.is_some(),
+        let standing = Standing {
+            state,
+            accepted,
+            last_cancel,
+            last_renew,
             received,
-            nothing_issued: issued.is_empty(),
         };
         if !are_numbered(&txn, &issued) {
             return None;
@@ -124,23 +123,38 @@ impl Responder {
         if !rules::is_request_of(&txn, &request) {
             return None;
         }
-        if !rules::parts_fit(state, present) {
-            return None;
-        }
-        if !rules::are_kept(state, &accepted, &issued) {
+        if !rules::fits(&standing, request.is_some(), &issued) {
             return None;
         }
         Some(Responder {
-            standing: Standing {
-                state,
-                accepted,
-                last_cancel,
-                last_renew,
-                received,
-            },
+            standing,
             request,
             issued: Issued::of_numbered(txn, issued),
         })
+    }
+
+    /// Goes back to where it stood so and had issued the first so many of its messages, if these parts
+    /// fit together. Otherwise it answers `false`, and nothing changes. In IDLE it has no request.
+    pub fn go_back(&mut self, standing: Standing, count: u8) -> bool
+        ensures fits { (result ≡ true) ↔ IsResponder (back_to standing count self.old) }
+        ensures back { self.new ≡ (if result then back_to standing count self.old else self.old) }
+    {
+        if !self.could_stand(&standing, count) {
+            return false;
+        }
+        keep_request(standing.state, &mut self.request);
+        self.issued.go_back(count);
+        self.standing = standing;
+        true
+    }
+
+    /// Whether it could stand so behind the first so many of its messages.
+    #[tactic(auto, using(crate::proofs::IssuedLemmas::numbered_front, crate::proofs::ResponderLists::request_in_is))]
+    fn could_stand(&self, standing: &Standing, count: u8) -> bool
+        ensures { (result ≡ true) ↔ IsResponder (back_to standing.now count self.now) }
+    {
+        let is_asked = is_asked_in(standing.state, &self.request);
+        rules::fits(standing, is_asked, self.issued.front(count))
     }
 
     /// Does what the library decides on this day, and issues the message that tells the requester.
@@ -178,6 +192,14 @@ impl Responder {
         ensures { result.now ≡ self.now.txn }
     {
         self.issued.txn()
+    }
+
+    /// Where the responder stands.
+    pub fn standing(&self) -> Standing
+        ensures value { result ≡ standing_of self.now }
+        ensures responder { IsResponder self.now }
+    {
+        self.standing
     }
 
     /// The present state.
@@ -270,6 +292,22 @@ impl Responder {
         ensures { option_map (λ a. a.now) result ≡ self.now.request }
     {
         self.request.as_ref()
+    }
+}
+
+/// Whether there is a request in this state: in IDLE there is none.
+fn is_asked_in(state: State, request: &Option<Apdu>) -> bool
+    ensures { result ≡ is_some (request_in state request.now) }
+{
+    state != State::Idle && request.is_some()
+}
+
+/// Keeps the request in this state: in IDLE it is let go.
+fn keep_request(state: State, request: &mut Option<Apdu>)
+    ensures { request.new ≡ request_in state request.old }
+{
+    if state == State::Idle {
+        *request = None;
     }
 }
 

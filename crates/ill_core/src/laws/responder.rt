@@ -13,7 +13,7 @@ ghost use Rattle.ill_core.specs.Issued.{is_same_txn, IssuesNext};
 ghost use Rattle.ill_core.specs.Responder.{ResponderRecord, IsResponder, later};
 ghost use Rattle.ill_core.specs.ResponderActions.{acts};
 ghost use Rattle.ill_core.specs.ResponderDeliveries.{takes};
-ghost use Rattle.ill_core.specs.ResponderFacts.{Fact, Shows, Tells, IssuesUnfilled, StaysLater, Ends, EntersByEnd, EndsOnce, Question, MayCancel, waits, last_asked, AnswersLast, KeepsLast, TakesNew, AnswersOnce, LeadsTo};
+ghost use Rattle.ill_core.specs.ResponderFacts.{Fact, Shows, Tells, KeepsRequest, IssuesUnfilled, StaysLater, Ends, EntersByEnd, EndsOnce, Question, MayCancel, waits, last_asked, AnswersLast, KeepsLast, TakesNew, AnswersOnce, LeadsTo};
 
 /// A deed issues exactly one APDU, with the next number; a message none, or to a Conditional-Reply no
 /// one ILL-Answer unfilled.
@@ -28,6 +28,13 @@ pub fn responder_keeps_txn()
     ensures acts { (y new : ResponderRecord) (deed : Deed) (today : Date) →
         acts y deed today ≡ Ok new → new.txn ≡ y.txn }
     ensures takes { (y : ResponderRecord) (a : Apdu) → (takes y a).1.txn ≡ y.txn }
+{}
+
+/// Once it was asked, the request stays, and no row leads back to IDLE.
+pub fn responder_keeps_request()
+    ensures acts { (y new : ResponderRecord) (deed : Deed) (today : Date) →
+        acts y deed today ≡ Ok new → KeepsRequest y new }
+    ensures takes { (y : ResponderRecord) (a : Apdu) → KeepsRequest y (takes y a).1 }
 {}
 
 /// A record that keeps the rules of a responder keeps them.

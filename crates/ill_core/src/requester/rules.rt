@@ -1,13 +1,13 @@
 //! Which parts make a requester.
 
-ghost use Rattle.std.specs.Prelude.{◌≡◌, ◌↔◌, true, false, [], ◌∷◌};
+ghost use Rattle.std.specs.Prelude.{◌≡◌, ◌↔◌, true, false, [], ◌∷◌, is_some};
 ghost use Rattle.std.specs.List.{list_all};
 ghost use Rattle.ill_core.specs.declared.state.State.TheVariants as states;
 ghost use Rattle.ill_core.specs.State.{is_among};
 ghost use Rattle.ill_core.specs.Bodies.{is_requesters};
 ghost use Rattle.ill_core.specs.Requester.{PartsFit, IssuedFits, IssuedKeepsRules, begins_with_request};
 
-use super::is_later;
+use super::{Standing, is_later};
 use crate::body::{is_ill_request, is_requesters};
 use crate::issued::{
     has_cancel, has_declined, has_ill_request, has_received, has_renew, has_returned,
@@ -15,8 +15,26 @@ use crate::issued::{
 use crate::state::State;
 use ill_values::Apdu;
 
+/// Whether these parts fit together, and with what was issued.
+pub fn fits(standing: &Standing, apdus: &[Apdu]) -> bool
+    ensures { (result ≡ true) ↔ (PartsFit standing.now.state (is_some standing.now.held)
+        (is_some standing.now.due) standing.now.checked_in
+        × IssuedKeepsRules standing.now.state apdus.now) }
+{
+    let state = standing.state;
+    if !parts_fit(
+        state,
+        standing.held.is_some(),
+        standing.due.is_some(),
+        standing.checked_in,
+    ) {
+        return false;
+    }
+    are_kept(state, apdus)
+}
+
 /// Whether what was issued keeps the rules of a requester in this state.
-pub fn are_kept(state: State, apdus: &[Apdu]) -> bool
+fn are_kept(state: State, apdus: &[Apdu]) -> bool
     requires role { is_among (states.InProcess ∷ states.CheckedIn ∷ []) state ≡ false }
     ensures { (result ≡ true) ↔ IssuedKeepsRules state apdus.now }
 {
@@ -47,7 +65,7 @@ fn begins_with_request(apdus: &[Apdu]) -> bool
 }
 
 /// Whether the state has the conditions, the due date and the mark that it wants, and no more.
-pub fn parts_fit(state: State, held: bool, due: bool, checked_in: bool) -> bool
+fn parts_fit(state: State, held: bool, due: bool, checked_in: bool) -> bool
     ensures { (result ≡ true) ↔ PartsFit state held due checked_in }
 {
     match state {

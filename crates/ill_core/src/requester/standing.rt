@@ -18,12 +18,16 @@ pub const DUE: u16 = 1 << 2; // the due date is d
 
 pub const MARK: u16 = 1 << 3; // a Checked-In was taken
 
-/// Where a requester stands.
+/// Where a requester stands: its record but for the transaction and the messages issued.
 #[derive(Clone, Copy, Debug)]
 pub struct Standing {
+    /// The present state.
     pub state: State,
+    /// The number of the ILL-Answer whose conditions stand.
     pub held: Option<Number>,
+    /// Whether the responder has said that the item is back.
     pub checked_in: bool,
+    /// The day on which the item is due.
     pub due: Option<Day>,
 }
 

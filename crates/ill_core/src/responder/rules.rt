@@ -1,12 +1,12 @@
 //! Which parts make a responder.
 
-ghost use Rattle.std.specs.Prelude.{◌≡◌, ◌↔◌, true, false, not, ◌&&◌};
+ghost use Rattle.std.specs.Prelude.{◌≡◌, ◌↔◌, true, false, not, ◌&&◌, is_some};
 ghost use Rattle.std.specs.List.{list_all, filter_map, count_by};
 ghost use Rattle.ill_core.specs.Bodies.{is_requesters, is_shipped};
-ghost use Rattle.ill_core.specs.Issued.{granted_day};
+ghost use Rattle.ill_core.specs.Issued.{granted_day, is_none};
 ghost use Rattle.ill_core.specs.Responder.{rises, PartsFit, IssuedFits, IssuedKeepsRules, is_request_of, is_named, are_rising, ships_first, ends_with_conditions};
 
-use super::is_later;
+use super::{Standing, is_later};
 use crate::body::{
     grant_in, is_ill_request, is_renewal, is_requesters, is_shipped, names_conditions,
 };
@@ -14,8 +14,29 @@ use crate::issued::has_checked_in;
 use crate::state::State;
 use ill_values::{Apdu, Day, Number, TxnId};
 
+/// Whether these parts fit together, with the request and with what was issued.
+pub fn fits(standing: &Standing, is_asked: bool, apdus: &[Apdu]) -> bool
+    ensures { (result ≡ true) ↔ (PartsFit standing.now.state is_asked
+        (is_some standing.now.accepted) (is_some standing.now.last_cancel)
+        (is_some standing.now.last_renew) standing.now.received (is_none apdus.now)
+        × IssuedKeepsRules standing.now.state standing.now.accepted apdus.now) }
+{
+    let present = Present {
+        request: is_asked,
+        accepted: standing.accepted.is_some(),
+        last_cancel: standing.last_cancel.is_some(),
+        last_renew: standing.last_renew.is_some(),
+        received: standing.received,
+        nothing_issued: apdus.is_empty(),
+    };
+    if !parts_fit(standing.state, present) {
+        return false;
+    }
+    are_kept(standing.state, &standing.accepted, apdus)
+}
+
 /// Whether what was issued keeps the rules of a responder in this state.
-pub fn are_kept(state: State, accepted: &Option<Number>, apdus: &[Apdu]) -> bool
+fn are_kept(state: State, accepted: &Option<Number>, apdus: &[Apdu]) -> bool
     ensures { (result ≡ true) ↔ IssuedKeepsRules state accepted.now apdus.now }
 {
     if !is_role(apdus) {
@@ -52,23 +73,23 @@ pub fn is_role(apdus: &[Apdu]) -> bool
 
 /// Which parts of a responder are there.
 #[derive(Clone, Copy)]
-pub struct Present {
+struct Present {
     /// The ILL-Request.
-    pub request: bool,
+    request: bool,
     /// The number of the conditions accepted last.
-    pub accepted: bool,
+    accepted: bool,
     /// The number of the last Cancel.
-    pub last_cancel: bool,
+    last_cancel: bool,
     /// The number of the last Renew.
-    pub last_renew: bool,
+    last_renew: bool,
     /// Whether a Received was taken.
-    pub received: bool,
+    received: bool,
     /// Whether no message was issued.
-    pub nothing_issued: bool,
+    nothing_issued: bool,
 }
 
 /// Whether the state has the parts that it wants.
-pub fn parts_fit(state: State, present: Present) -> bool
+fn parts_fit(state: State, present: Present) -> bool
     ensures { (result ≡ true) ↔ PartsFit state present.request present.accepted present.last_cancel
         present.last_renew present.received present.nothing_issued }
 {

@@ -22,13 +22,18 @@ pub const KEEPS: u16 = 1 << 4; // the ILL-Request is kept
 
 pub const ENDS: u16 = 1 << 5; // an ILL-Answer unfilled is issued
 
-/// Where a responder stands.
+/// Where a responder stands: its record but for the transaction, the request and the messages issued.
 #[derive(Clone, Copy, Debug)]
 pub struct Standing {
+    /// The present state.
     pub state: State,
+    /// The number of the conditions that were accepted last.
     pub accepted: Option<Number>,
+    /// The number of the last Cancel that was taken.
     pub last_cancel: Option<Number>,
+    /// The number of the last Renew that was taken.
     pub last_renew: Option<Number>,
+    /// Whether a Received was taken.
     pub received: bool,
 }
 

@@ -1,9 +1,9 @@
 use Rattle.std.proofs.Common.{◌≡◌, None, drop}
 use Rattle.std.specs.List.{filter_map, last_or}
 use Rattle.ill_core.specs.Issued.{granted_day}
-use Rattle.ill_core.proofs.issued.Issued.last_granted.Given as goal
+use Rattle.ill_core.proofs.issued.last_granted.Given as goal
 
 -- what is left decides
 abbrev pub invariant-loop-apdu : goal.invariant-loop-apdu
 invariant-loop-apdu l =
-    last_or None (filter_map granted_day l.self.apdus) ≡ last_or l.last (filter_map granted_day (drop l.apdu-index l.apdu-items))
+    last_or None (filter_map granted_day l.apdus) ≡ last_or l.last (filter_map granted_day (drop l.apdu-index l.apdus))

@@ -1,6 +1,6 @@
 -- A desk keeps its rules.
 use Rattle.std.proofs.Common.{rules, arith, ◌≡◌, ◌⊎◌, ℕ, ◌+◌, ◌≤◌, Bool, true, List, [], ◌∷◌, ◌++◌, length, Option, Some, None, Result, Ok, Err, refl, ap, sym, subst, ◌∙◌, inl, inr, length-append, append-nil, append_assoc, drop}
-use Rattle.std.specs.Prelude.{IfSome, option_map, nat_le, map, slice_get, zero, suc, ◌-◌}
+use Rattle.std.specs.Prelude.{nat_le, map, slice_get, zero, suc, ◌-◌, is_some, if◌then◌else◌, not, false, take}
 use Rattle.std.proofs.lemmas.Bool.{le-leb}
 use Rattle.ill_values.specs.Day.{Date}
 use Rattle.ill_values.specs.declared.apdu.Apdu.{Apdu}
@@ -8,40 +8,53 @@ use Rattle.ill_values.specs.Apdu.{IsApdu}
 use Rattle.ill_core.specs.declared.refusal.Refusal.{Refusal}
 use Rattle.ill_core.specs.declared.refusal.Refusal.TheVariants as refusals
 use Rattle.ill_core.specs.declared.taking.Taking.{Taking}
-use Rattle.std.proofs.lemmas.List.{length-drop}
+use Rattle.std.proofs.lemmas.List.{length-drop, take-append-le, take_all}
 use Rattle.ill_der.specs.declared.fault.DerFault.{DerFault}
 use Rattle.ill_der.specs.declared.fault.DerFault.TheVariants as der
-use Rattle.ill_der.specs.ShortForm.{Decodes, spelling}
+use Rattle.ill_der.specs.ShortForm as short_form
+use Rattle.ill_der.specs.ShortForm.{spelling}
 use Rattle.ill_der.specs.Laws.{BeginsWithOne}
 use Rattle.ill_core.specs.declared.requester.Wish.{Wish}
 use Rattle.ill_core.specs.declared.responder.Deed.{Deed}
 use Rattle.ill_values.specs.TxnId.{Qualifiers}
 use Rattle.ill_core.specs.Issued.{are_numbered, IssuesNext, message}
-use Rattle.ill_core.specs.Requester.{RequesterRecord}
-use Rattle.ill_core.specs.Responder.{ResponderRecord, rise_from, ships_first}
+use Rattle.ill_core.specs.declared.state.State.TheVariants.{Idle}
+use Rattle.ill_core.specs.declared.requester.standing.Standing.{Standing as RequesterStanding}
+use Rattle.ill_core.specs.declared.responder.standing.Standing.{Standing as ResponderStanding}
+use Rattle.ill_core.specs.State.{is_among}
+use Rattle.ill_core.specs.Requester as requesters
+use Rattle.ill_core.specs.Requester.{RequesterRecord, requester_of}
+use Rattle.ill_core.specs.Responder as responders
+use Rattle.ill_core.specs.Responder.{ResponderRecord, responder_of, request_in, rise_from, ships_first}
+use Rattle.ill_core.specs.ResponderFacts as responder_facts
 use Rattle.ill_core.specs.ResponderFacts.{IssuesUnfilled}
 use Rattle.ill_core.specs.RequesterActions as requester_actions
 use Rattle.ill_core.specs.RequesterDeliveries as requester_deliveries
 use Rattle.ill_core.specs.ResponderActions as responder_actions
 use Rattle.ill_core.specs.ResponderDeliveries as responder_deliveries
+use Rattle.ill_saved.specs.declared.fault.DeskFault.{DeskFault}
 use Rattle.ill_saved.specs.declared.fault.DeskFault.TheVariants as faults
+use Rattle.ill_saved.specs.declared.fault.RecordFault.{RecordFault}
+use Rattle.ill_saved.specs.declared.fault.RecordFault.TheVariants as records
 use Rattle.ill_saved.specs.declared.fault.LayoutFault.{LayoutFault}
 use Rattle.ill_saved.specs.declared.side.Side.{Side}
 use Rattle.ill_saved.specs.declared.side.Side.TheVariants as sides
+use Rattle.ill_saved.specs.declared.side.Standing.{Standing}
+use Rattle.ill_saved.specs.declared.side.Standing.TheVariants as standings
 use Rattle.ill_saved.specs.declared.side.Action.{Action}
 use Rattle.ill_saved.specs.declared.side.Action.TheVariants as actions
 use Rattle.ill_saved.specs.declared.store.StoreFault.{StoreFault}
 use Rattle.ill_saved.specs.declared.store.StoreFault.TheVariants as stores
 use Rattle.ill_saved.specs.declared.store.NextCall.{NextCall}
 use Rattle.ill_saved.specs.declared.store.NextCall.TheVariants as plans
-use Rattle.ill_saved.specs.Side.{issued_of, IsConsistent, idle_of, done_by, acts, takes, Acts, Takes, IsRow, IsFrontOf, Grows, acted, took, Follows, same, further}
-use Rattle.ill_saved.specs.Records.{record_at, record_spelling}
+use Rattle.ill_saved.specs.Side.{issued_of, txn_of, standing_of, back_to, GoesBack, is_asked, KeepsRequest, IsConsistent, idle_of, done_by, acts, takes, Acts, Takes, IsRow, IsFrontOf, Grows, acted, took, Follows, same, further}
+use Rattle.ill_saved.specs.Records.{record_at, record_spelling, begins_as_record, Decodes}
 use Rattle.ill_saved.specs.Ranges.{Each, IsSide}
 use Rattle.ill_saved.specs.Store.{LandsAtSave, Allows}
 use Rattle.ill_saved.specs.declared.desk.Loaded.{Loaded}
-use Rattle.ill_saved.specs.Kept.{KeptBytes, none_kept, IsKept, Keeps}
-use Rattle.ill_saved.specs.Loading.{IsLoadedOrIdle}
-use Rattle.ill_saved.specs.Desk.{landed_side, IsBackedBy, IsBackedByRead, IsBacked, IsOneApdu, LoadsSide, IsFoundOrIdle, Sends}
+use Rattle.ill_saved.specs.Kept.{KeptBytes, none_kept, IsKept, Keeps, GoesBackTo}
+use Rattle.ill_saved.specs.Loading.{LoadsOrIdle}
+use Rattle.ill_saved.specs.Desk.{landed_side, IsBackedBy, IsBackedByRead, IsBacked, IsOneApdu, LoadsSide, IsLoadFault, Restarts, Sends}
 
 -- What the laws of ill_core say of rows: they keep the transaction, and issue one APDU or none.
 pub record CoreRows : Type 0 where
@@ -109,9 +122,44 @@ pub row_grows : CoreRows → (old new : Side) → IsRow old new → Grows old ne
 row_grows rows old new (acted action e) = acts_grow rows old new action e
 row_grows rows old new (took a e) = subst (Grows old) e (takes_grow rows old a)
 
+-- What the laws of ill_core say of a responder's request.
+pub record RequestRows : Type 0 where
+  pub deed : (y new : ResponderRecord) (deed : Deed) (today : Date) → responder_actions.acts y deed today ≡ Ok new → responder_facts.KeepsRequest y new
+  pub message : (y : ResponderRecord) (a : Apdu) → responder_facts.KeepsRequest y (responder_deliveries.takes y a).1
+
+not_true : (b : Bool) → not b ≡ true → b ≡ false
+not_true b h = search rules
+
+keeps_request : (y new : ResponderRecord) → responder_facts.KeepsRequest y new → KeepsRequest (sides.Responder y) (sides.Responder new)
+keeps_request y new keeps asked =
+    let kept = keeps (not_true _ asked) in
+    (ap not kept.0, kept.1)
+
+never_asked : (x : RequesterRecord) (new : Side) → KeepsRequest (sides.Requester x) new
+never_asked x new asked = absurd cc
+
+acts_keep_request : RequestRows → (old new : Side) (action : Action) → acts old action ≡ Ok new → KeepsRequest old new
+acts_keep_request rows (sides.Responder y) new (actions.Deed deed today) e =
+    let is = done_is sides.Responder (responder_actions.acts y deed today) new e in
+    subst (KeepsRequest (sides.Responder y)) is.2 (keeps_request y is.0 (rows.deed y is.0 deed today is.1))
+acts_keep_request rows (sides.Responder y) new (actions.Wish wish) e = search rules
+acts_keep_request rows (sides.Requester x) new action e = never_asked x new
+
+takes_keep_request : RequestRows → (old : Side) (a : Apdu) → KeepsRequest old (takes old a).1
+takes_keep_request rows (sides.Responder y) a = keeps_request y (responder_deliveries.takes y a).1 (rows.message y a)
+takes_keep_request rows (sides.Requester x) a = never_asked x (takes (sides.Requester x) a).1
+
+pub row_keeps_request : RequestRows → (old new : Side) → IsRow old new → KeepsRequest old new
+row_keeps_request rows old new (acted action e) = acts_keep_request rows old new action e
+row_keeps_request rows old new (took a e) = subst (KeepsRequest old) e (takes_keep_request rows old a)
+
 -- every row grows, as the law says
 abbrev pub RowsGrow : Type 0
 RowsGrow = (old new : Side) → IsRow old new → Grows old new
+
+-- and keeps the request
+abbrev pub RowsKeepRequest : Type 0
+RowsKeepRequest = (old new : Side) → IsRow old new → KeepsRequest old new
 
 front_of_front : (old between new : List Apdu) → IsFrontOf old between → IsFrontOf between new → IsFrontOf old new
 front_of_front old between new before after = (before.0 ++ after.0, after.1 ∙ (ap (λ l. l ++ after.0) before.1 ∙ append_assoc old before.0 after.0))
@@ -134,41 +182,87 @@ row_backs grows None old new released row backed =
     subst (λ side. IsBackedByRead (Ok side) new released) (sym (grows old new row).0) (read_backs (Ok (idle_of old)) old new released row backed)
 row_backs grows (Some bytes) old new released row backed = read_backs (landed_side (Some bytes) old) old new released row backed
 
+requester_back : (s : RequesterStanding) (count : ℕ) (x new : RequesterRecord) → new.txn ≡ x.txn → IsFrontOf x.issued new.issued → count ≤ length x.issued
+    → requesters.back_to s count new ≡ requesters.back_to s count x
+requester_back s count x new txn more few =
+    let issued : take count new.issued ≡ take count x.issued = ap (take count) more.1 ∙ take-append-le count x.issued more.0 few in
+    ap (λ t. requester_of t s.state s.held s.checked_in s.due (take count new.issued)) txn ∙ ap (requester_of x.txn s.state s.held s.checked_in s.due) issued
+
+request_stays : (is_idle : Bool) (old new : Option Apdu) → (is_idle ≡ false → new ≡ old) → (if is_idle then None else new) ≡ (if is_idle then None else old)
+request_stays true old new stays = refl
+request_stays false old new stays = stays refl
+
+responder_back : (s : ResponderStanding) (count : ℕ) (y new : ResponderRecord) → new.txn ≡ y.txn → IsFrontOf y.issued new.issued → count ≤ length y.issued
+    → (is_among (Idle ∷ []) s.state ≡ false → new.request ≡ y.request) → responders.back_to s count new ≡ responders.back_to s count y
+responder_back s count y new txn more few stays =
+    let issued : take count new.issued ≡ take count y.issued = ap (take count) more.1 ∙ take-append-le count y.issued more.0 few in
+    let request : request_in s.state new.request ≡ request_in s.state y.request = request_stays (is_among (Idle ∷ []) s.state) y.request new.request stays in
+    ap (λ t. responder_of t s.state s.accepted s.last_cancel s.last_renew s.received (request_in s.state new.request) (take count new.issued)) txn
+    ∙ (ap (λ r. responder_of y.txn s.state s.accepted s.last_cancel s.last_renew s.received r (take count new.issued)) request
+    ∙ ap (responder_of y.txn s.state s.accepted s.last_cancel s.last_renew s.received (request_in s.state y.request)) issued)
+
+some_is : (s t : Side) → ◌≡◌ {A = Option Side} (Some s) (Some t) → s ≡ t
+some_is s t e = search rules
+
+-- the side that a row leads to goes back where the one before it does
+back_on : (s : Standing) (count : ℕ) (old new side : Side) → Grows old new → KeepsRequest old new → count ≤ length (issued_of old) → (is_asked side ≡ true → is_asked old ≡ true)
+    → back_to s count old ≡ Some side → back_to s count new ≡ Some side
+back_on (standings.Requester s) count (sides.Requester x) (sides.Requester new) side grows keeps few asked e =
+    ap (λ r. Some (sides.Requester r)) (requester_back s count x new (ap txn_of grows.0) grows.1 few) ∙ e
+back_on (standings.Responder s) count (sides.Responder y) (sides.Responder new) side grows keeps few asked e =
+    let is : is_asked side ≡ not (is_among (Idle ∷ []) s.state) = sym (ap is_asked (some_is _ side e)) in
+    let stays : is_among (Idle ∷ []) s.state ≡ false → new.request ≡ y.request = λ begun. (keeps (asked (is ∙ ap not begun))).1 in
+    ap (λ r. Some (sides.Responder r)) (responder_back s count y new (ap txn_of grows.0) grows.1 few stays) ∙ e
+back_on (standings.Requester s) count (sides.Responder y) new side grows keeps few asked e = absurd cc
+back_on (standings.Responder s) count (sides.Requester x) new side grows keeps few asked e = absurd cc
+back_on (standings.Requester s) count (sides.Requester x) (sides.Responder new) side grows keeps few asked e = absurd cc
+back_on (standings.Responder s) count (sides.Responder y) (sides.Requester new) side grows keeps few asked e = absurd cc
+
 -- what is kept stays released
-keeps_on : (kept : KeptBytes) (old new : Side) (released : ℕ) → IsFrontOf (issued_of old) (issued_of new) → Keeps kept old released → Keeps kept new released
-keeps_on kept old new released more (inl none) = inl none
-keeps_on kept old new released more (inr (side, is, of)) = inr (side, is, record { front = front_of_front (issued_of side) (issued_of old) (issued_of new) of.front more; all = of.all })
+keeps_on : (kept : KeptBytes) (old new : Side) (released : ℕ) → released ≤ length (issued_of old) → Grows old new → KeepsRequest old new → Keeps kept old released → Keeps kept new released
+keeps_on kept old new released few grows keeps (inl none) = inl none
+keeps_on kept old new released few grows keeps (inr (side, is, of)) =
+    inr (
+      side,
+      is,
+      record {
+        front = front_of_front (issued_of side) (issued_of old) (issued_of new) of.front grows.1;
+        all = of.all;
+        back = back_on (standing_of side) released old new side grows keeps few of.asked of.back;
+        asked = λ asked. (keeps (of.asked asked)).0;
+      },
+    )
 
 -- the rules of a desk
 abbrev pub Rules : Bool → Option (List ℕ) → KeptBytes → Side → ℕ → Type 0
 Rules honest landed kept live released = (released ≤ length (issued_of live)) × (honest ≡ true → IsBacked landed live released) × Keeps kept live released
 
-pub row_rules : RowsGrow → (honest : Bool) (landed : Option (List ℕ)) (kept : KeptBytes) (old new : Side) (released : ℕ) → IsRow old new → Rules honest landed kept old released → Rules honest landed kept new released
-row_rules grows honest landed kept old new released row rules =
-    let more = (grows old new row).1 in
-    (omega (arith, rules.0, no_less _ _ more), λ is. row_backs grows landed old new released row (rules.1 is), keeps_on kept old new released more rules.2)
+pub row_rules : RowsGrow → RowsKeepRequest → (honest : Bool) (landed : Option (List ℕ)) (kept : KeptBytes) (old new : Side) (released : ℕ) → IsRow old new → Rules honest landed kept old released → Rules honest landed kept new released
+row_rules grows keeps honest landed kept old new released row rules =
+    let more = grows old new row in
+    (omega (arith, rules.0, no_less _ _ more.1), λ is. row_backs grows landed old new released row (rules.1 is), keeps_on kept old new released rules.0 more (keeps old new row) rules.2)
 
 same_rules : (honest : Bool) (landed : Option (List ℕ)) (kept : KeptBytes) (old new : Side) (released : ℕ) → new ≡ old → Rules honest landed kept old released → Rules honest landed kept new released
 same_rules honest landed kept old new released e rules = subst (λ side. Rules honest landed kept side released) (sym e) rules
 
-pub acts_rules : RowsGrow → (honest : Bool) (landed : Option (List ℕ)) (kept : KeptBytes) (old new : Side) (released : ℕ) (action : Action) (answer : Result (Unit {0}) Refusal)
+pub acts_rules : RowsGrow → RowsKeepRequest → (honest : Bool) (landed : Option (List ℕ)) (kept : KeptBytes) (old new : Side) (released : ℕ) (action : Action) (answer : Result (Unit {0}) Refusal)
     → Acts old action answer new → Rules honest landed kept old released → Rules honest landed kept new released
-acts_rules grows honest landed kept old new released action (Ok done) acts rules = row_rules grows honest landed kept old new released (acted action acts) rules
-acts_rules grows honest landed kept old new released action (Err refusals.OutOfMemory) acts rules = same_rules honest landed kept old new released acts.1 rules
-acts_rules grows honest landed kept old new released action (Err refusal) acts rules = same_rules honest landed kept old new released acts.1 rules
+acts_rules grows keeps honest landed kept old new released action (Ok done) acts rules = row_rules grows keeps honest landed kept old new released (acted action acts) rules
+acts_rules grows keeps honest landed kept old new released action (Err refusals.OutOfMemory) acts rules = same_rules honest landed kept old new released acts.1 rules
+acts_rules grows keeps honest landed kept old new released action (Err refusal) acts rules = same_rules honest landed kept old new released acts.1 rules
 
-pub takes_rules : RowsGrow → (honest : Bool) (landed : Option (List ℕ)) (kept : KeptBytes) (old new : Side) (released : ℕ) (a : Apdu) (answer : Result Taking Refusal)
+pub takes_rules : RowsGrow → RowsKeepRequest → (honest : Bool) (landed : Option (List ℕ)) (kept : KeptBytes) (old new : Side) (released : ℕ) (a : Apdu) (answer : Result Taking Refusal)
     → Takes old a answer new → Rules honest landed kept old released → Rules honest landed kept new released
-takes_rules grows honest landed kept old new released a (Err refusals.OutOfMemory) takes rules = same_rules honest landed kept old new released takes.2 rules
-takes_rules grows honest landed kept old new released a answer takes rules =
-    row_rules grows honest landed kept old new released (took a (ap (λ (r : Result Taking Refusal × Side). r.1) takes)) rules
+takes_rules grows keeps honest landed kept old new released a (Err refusals.OutOfMemory) takes rules = same_rules honest landed kept old new released takes.2 rules
+takes_rules grows keeps honest landed kept old new released a answer takes rules =
+    row_rules grows keeps honest landed kept old new released (took a (ap (λ (r : Result Taking Refusal × Side). r.1) takes)) rules
 
 -- ---- one APDU
 
 memory_is : (fault : DerFault) → ◌≡◌ {A = Result (Apdu × ℕ) DerFault} (Err der.OutOfMemory) (Err fault) → fault ≡ der.OutOfMemory
 memory_is fault e = search rules
 
-pub memory_alone : (bytes : List ℕ) (read : Result (Apdu × List ℕ) DerFault) → BeginsWithOne bytes read → Decodes bytes read (Err der.OutOfMemory) → IsOneApdu read (Err faults.OutOfMemory)
+pub memory_alone : (bytes : List ℕ) (read : Result (Apdu × List ℕ) DerFault) → BeginsWithOne bytes read → short_form.Decodes bytes read (Err der.OutOfMemory) → IsOneApdu read (Err faults.OutOfMemory)
 memory_alone bytes (Ok found) begins decodes = tt
 memory_alone bytes (Err fault) begins decodes = absurd (begins.0 (memory_is fault decodes))
 
@@ -176,7 +270,7 @@ behind_one : (a : Apdu) (rest : List ℕ) → 1 ≤ length rest → IsOneApdu (O
 behind_one a [] more = absurd (omega (arith, more))
 behind_one a (byte ∷ rest) more = tt
 
-pub trailing_alone : (bytes : List ℕ) (read : Result (Apdu × List ℕ) DerFault) (found : Apdu × ℕ) → found.1 + 1 ≤ length bytes → Decodes bytes read (Ok found) → IsOneApdu read (Err faults.Trailing)
+pub trailing_alone : (bytes : List ℕ) (read : Result (Apdu × List ℕ) DerFault) (found : Apdu × ℕ) → found.1 + 1 ≤ length bytes → short_form.Decodes bytes read (Ok found) → IsOneApdu read (Err faults.Trailing)
 trailing_alone bytes (Ok apdu) found less decodes =
     subst (λ r. IsOneApdu (Ok r) (Err faults.Trailing)) (sym decodes.1) (behind_one found.0 (drop found.1 bytes) (omega (arith, length-drop found.1 bytes, less)))
 trailing_alone bytes (Err fault) found less decodes = search rules
@@ -196,9 +290,24 @@ landed_backs : ReadsAgain → (bytes : List ℕ) (landed : Option (List ℕ)) (l
 landed_backs again bytes landed live released is spelled e few =
     subst (λ o. IsBacked o live released) (sym (e ∙ ap Some spelled)) (saved_backs again live released is few)
 
+unless_idle : (is_idle : Bool) (request : Option Apdu) → is_some request ≡ not is_idle → (if is_idle then None else request) ≡ request
+unless_idle true None is = refl
+unless_idle true (Some a) is = absurd cc
+unless_idle false request is = refl
+
+-- a side goes back to itself
+back_to_itself : (side : Side) (count : ℕ) → IsConsistent side → count ≡ length (issued_of side) → back_to (standing_of side) count side ≡ Some side
+back_to_itself (sides.Requester x) count is all =
+    ap (λ l. Some (sides.Requester (requester_of x.txn x.state x.held x.checked_in x.due l))) (take_all count x.issued (omega (arith, all)))
+back_to_itself (sides.Responder y) count is all =
+    let request : request_in y.state y.request ≡ y.request = unless_idle (is_among (Idle ∷ []) y.state) y.request is.parts.idle in
+    ap (λ r. Some (sides.Responder (responder_of y.txn y.state y.accepted y.last_cancel y.last_renew y.received r (take count y.issued)))) request
+    ∙ ap (λ l. Some (sides.Responder (responder_of y.txn y.state y.accepted y.last_cancel y.last_renew y.received y.request l))) (take_all count y.issued (omega (arith, all)))
+
 -- a side whose record is kept, all of whose messages are released
 keeps_whole : (kept : KeptBytes) (side : Side) (count : ℕ) → IsKept kept side → count ≡ length (issued_of side) → Keeps kept side count
-keeps_whole kept side count is all = inr (side, is, record { front = none_more (issued_of side) (issued_of side) refl; all = all })
+keeps_whole kept side count is all =
+    inr (side, is, record { front = none_more (issued_of side) (issued_of side) refl; all = all; back = back_to_itself side count is.0.0 all; asked = λ asked. asked })
 
 -- what was encoded has landed, and is kept
 pub save_rules : ReadsAgain → (old_honest honest : Bool) (landed : Option (List ℕ)) (kept : KeptBytes) (bytes : List ℕ) (live : Side) (count : ℕ) → honest ≡ old_honest → IsKept kept live → bytes ≡ kept.bytes
@@ -253,50 +362,122 @@ idle_backs live side count e all =
     subst (λ s. count ≡ length (issued_of s) → IsBacked None s count) (sym e)
     (λ every. subst (λ s. IsBackedBy s (idle_of live) count) (sym (idle_twice live)) (itself_backs (idle_of live) count (idle_consistent live) every)) all
 
-loaded_backs : (landed : Option (List ℕ)) (plan : Option NextCall) (found : Option Side) (live side : Side) (count : ℕ) → LoadsSide landed plan (Ok found) → IsFoundOrIdle found live side
-    → count ≡ length (issued_of side) → IsBacked landed side count
-loaded_backs None plan None live side count loads is all = idle_backs live side count is all
-loaded_backs (Some bytes) plan (Some found) live side count loads is all =
-    subst (λ read. IsBackedByRead read side count) (sym (loads.0 ∙ ap Ok (sym is))) (itself_backs side count (subst IsConsistent (sym is) loads.1) all)
-loaded_backs None plan (Some found) live side count loads is all = absurd loads
-loaded_backs (Some bytes) plan None live side count loads is all = absurd loads
+-- the side that has landed backs itself
+whole_backs : (landed : Option (List ℕ)) (live side : Side) (count : ℕ) → landed_side landed live ≡ Ok side → IsConsistent side → count ≡ length (issued_of side) → IsBacked landed side count
+whole_backs None live side count is consistent all =
+    let same : side ≡ idle_of live = search rules in
+    idle_backs live side count same all
+whole_backs (Some bytes) live side count is consistent all = subst (λ read. IsBackedByRead read side count) (sym is) (itself_backs side count consistent all)
 
 nothing_issued : (live : Side) → length (issued_of (idle_of live)) ≡ 0
 nothing_issued (sides.Requester x) = refl
 nothing_issued (sides.Responder y) = refl
 
--- the side that was found, without its record
-abbrev pub side_found : Option Loaded → Option Side
-side_found found = option_map (λ l. l.side) found
+loaded_is : (bytes : Option (List ℕ)) (live : Side) (loaded : Loaded) → LoadsOrIdle bytes live (Ok loaded) → landed_side bytes live ≡ Ok loaded.side
+loaded_is (Some bytes) live loaded loads = loads.0
+loaded_is None live loaded loads = ap Ok (sym loads.0)
 
-pub found_or_idle : (found : Option Loaded) (live : Side) (loaded : Loaded) → IsLoadedOrIdle found live loaded → IsFoundOrIdle (side_found found) live loaded.side
-found_or_idle None live loaded is = is.0
-found_or_idle (Some found) live loaded is = ap (λ (l : Loaded). l.side) is
+loaded_consistent : (bytes : Option (List ℕ)) (live : Side) (loaded : Loaded) → LoadsOrIdle bytes live (Ok loaded) → IsConsistent loaded.side
+loaded_consistent (Some bytes) live loaded loads = loads.1.0.0
+loaded_consistent None live loaded loads = subst IsConsistent (sym loads.0) (idle_consistent live)
 
-loaded_keeps : (found : Option Loaded) (live : Side) (loaded : Loaded) (count : ℕ) → IfSome found (λ l. IsKept l.kept l.side) → IsLoadedOrIdle found live loaded → count ≡ length (issued_of loaded.side)
-    → Keeps loaded.kept loaded.side count
-loaded_keeps None live loaded count kept is all = inl (is.1, all ∙ (ap (λ s. length (issued_of s)) is.0 ∙ nothing_issued live))
-loaded_keeps (Some found) live loaded count kept is all = keeps_whole loaded.kept loaded.side count (subst (λ (l : Loaded). IsKept l.kept l.side) (sym is) kept) all
+loaded_keeps : (bytes : Option (List ℕ)) (live : Side) (loaded : Loaded) (count : ℕ) → LoadsOrIdle bytes live (Ok loaded) → count ≡ length (issued_of loaded.side) → Keeps loaded.kept loaded.side count
+loaded_keeps (Some bytes) live loaded count loads all = keeps_whole loaded.kept loaded.side count loads.1 all
+loaded_keeps None live loaded count loads all = inl (loads.1, all ∙ (ap (λ s. length (issued_of s)) loads.0 ∙ nothing_issued live))
 
--- the side that has landed is live, and its record is kept
-pub loaded_rules : (old_honest honest : Bool) (old_landed landed : Option (List ℕ)) (plan : Option NextCall) (found : Option Loaded) (live : Side) (loaded : Loaded) (count : ℕ) → honest ≡ old_honest
-    → (old_honest ≡ true → landed ≡ old_landed) → (old_honest ≡ true → LoadsSide old_landed plan (Ok (side_found found))) → IfSome found (λ l. IsKept l.kept l.side) → IsLoadedOrIdle found live loaded
-    → count ≡ length (issued_of loaded.side) → Rules honest landed loaded.kept loaded.side count
-loaded_rules old_honest honest old_landed landed plan found live loaded count stays keeps loads kept is all = (
+-- a side all of whose messages are released is the one that has landed
+whole_rules : (old_honest honest : Bool) (old_landed landed bytes : Option (List ℕ)) (kept : KeptBytes) (live side : Side) (count : ℕ) → honest ≡ old_honest → (old_honest ≡ true → landed ≡ old_landed)
+    → (old_honest ≡ true → bytes ≡ old_landed) → landed_side bytes live ≡ Ok side → IsConsistent side → Keeps kept side count → count ≡ length (issued_of side) → Rules honest landed kept side count
+whole_rules old_honest honest old_landed landed bytes kept live side count stays lands loaded is consistent keeps all = (
   omega (arith, all),
   λ now.
       let was = sym stays ∙ now in
-      subst (λ o. IsBacked o loaded.side count) (sym (keeps was)) (loaded_backs old_landed plan (side_found found) live loaded.side count (loads was) (found_or_idle found live loaded is) all),
-  loaded_keeps found live loaded count kept is all,
+      subst (λ o. IsBacked o side count) (loaded was ∙ sym (lands was)) (whole_backs bytes live side count is consistent all),
+  keeps,
 )
 
+-- the side that has landed is live, and its record is kept
+pub restart_rules : (old_honest honest : Bool) (old_landed landed bytes : Option (List ℕ)) (live : Side) (loaded : Loaded) (count : ℕ) → honest ≡ old_honest → (old_honest ≡ true → landed ≡ old_landed)
+    → (old_honest ≡ true → bytes ≡ old_landed) → LoadsOrIdle bytes live (Ok loaded) → count ≡ length (issued_of loaded.side) → Rules honest landed loaded.kept loaded.side count
+restart_rules old_honest honest old_landed landed bytes live loaded count stays lands load loads all =
+    whole_rules old_honest honest old_landed landed bytes loaded.kept live loaded.side count stays lands load (loaded_is bytes live loaded loads) (loaded_consistent bytes live loaded loads)
+    (loaded_keeps bytes live loaded count loads all) all
+
 -- what a restart leads to
-pub restarts_to : (landed : Option (List ℕ)) (plan : Option NextCall) (found : Option Side) (live side : Side) → LoadsSide landed plan (Ok found) → IsFoundOrIdle found live side
-    → (landed_side landed live ≡ Ok side) × Allows {X = Unit {0}} plan (Ok tt)
-restarts_to None plan None live side loads is = (ap Ok (sym is), loads)
-restarts_to (Some bytes) plan (Some found) live side loads is = (loads.0 ∙ ap Ok (sym is), loads.2)
-restarts_to None plan (Some found) live side loads is = absurd loads
-restarts_to (Some bytes) plan None live side loads is = absurd loads
+pub restarts_to : (landed bytes : Option (List ℕ)) (live : Side) (loaded : Loaded) → bytes ≡ landed → LoadsOrIdle bytes live (Ok loaded) → landed_side landed live ≡ Ok loaded.side
+restarts_to landed bytes live loaded lands loads = ap (λ o. landed_side o live) (sym lands) ∙ loaded_is bytes live loaded loads
+
+-- the side to which the live one went back has landed
+back_is : ReadsAgain → (kept : KeptBytes) (released : ℕ) (bytes : Option (List ℕ)) (old new : Side) → GoesBackTo kept released bytes true old new → landed_side bytes old ≡ Ok new
+back_is again kept released bytes old new (spelled, is, of) =
+    ap (λ o. landed_side o old) (spelled ∙ ap (λ (k : KeptBytes). Some k.bytes) is.1) ∙ again new is.0
+
+pub back_to_landed : ReadsAgain → (kept : KeptBytes) (released : ℕ) (landed bytes : Option (List ℕ)) (old new : Side) → bytes ≡ landed → GoesBackTo kept released bytes true old new → landed_side landed old ≡ Ok new
+back_to_landed again kept released landed bytes old new lands back = ap (λ o. landed_side o old) (sym lands) ∙ back_is again kept released bytes old new back
+
+pub back_rules : ReadsAgain → (old_honest honest : Bool) (old_landed landed bytes : Option (List ℕ)) (kept : KeptBytes) (old new : Side) (released : ℕ) → honest ≡ old_honest
+    → (old_honest ≡ true → landed ≡ old_landed) → (old_honest ≡ true → bytes ≡ old_landed) → GoesBackTo kept released bytes true old new → Rules honest landed kept new released
+back_rules again old_honest honest old_landed landed bytes kept old new released stays lands load (spelled, is, of) =
+    whole_rules old_honest honest old_landed landed bytes kept old new released stays lands load (back_is again kept released bytes old new (spelled, is, of)) is.0.0 (keeps_whole kept new released is of.all) of.all
+
+standing_is : (s t : Standing) → ◌≡◌ {A = Option Standing} (Some s) (Some t) → s ≡ t
+standing_is s t e = search rules
+
+-- the bytes kept take the live side back to the one that they spell
+pub goes_back : (kept : KeptBytes) (s : Standing) (released : ℕ) (bytes : List ℕ) (old new : Side) (went : Bool) → Keeps kept old released → kept.standing ≡ Some s → bytes ≡ kept.bytes
+    → GoesBack (back_to s released old) went old new → GoesBackTo kept released (Some bytes) went old new
+goes_back kept s released bytes old new went (inl none) there lands back = absurd (subst (λ (k : KeptBytes). k.standing ≡ Some s → ⊥) (sym none.0) (λ found. cc) there)
+goes_back kept s released bytes old new true (inr (side, is, of)) there lands back =
+    let stood : s ≡ standing_of side = standing_is s (standing_of side) (sym there ∙ ap (λ (k : KeptBytes). k.standing) is.1) in
+    let went : GoesBack (Some side) true old new = subst (λ b. GoesBack b true old new) (ap (λ t. back_to t released old) stood ∙ of.back) back in
+    subst (λ side. GoesBackTo kept released (Some bytes) true old side) (sym went.1) (ap Some lands, is, of)
+goes_back kept s released bytes old new false (inr (side, is, of)) there lands back =
+    let stood : s ≡ standing_of side = standing_is s (standing_of side) (sym there ∙ ap (λ (k : KeptBytes). k.standing) is.1) in
+    let stayed : GoesBack (Some side) false old new = subst (λ b. GoesBack b false old new) (ap (λ t. back_to t released old) stood ∙ of.back) back in
+    stayed.1
+
+started_is : (landed : Option (List ℕ)) (plan : Option NextCall) (side : Side) → LoadsSide landed plan (Ok (Some side)) → landed_side landed side ≡ Ok side
+started_is (Some bytes) plan side loads = loads.0
+started_is None plan side loads = absurd loads
+
+-- no fault is found in a record that backs a side
+no_fault : (read : Result Side LayoutFault) (begins : Bool) (fault : RecordFault) (live : Side) (released : ℕ) → IsBackedByRead read live released → Decodes read begins (Err fault) → IsLoadFault (faults.Saved fault) → ⊥
+no_fault (Ok side) begins records.Short live released backed decodes is = absurd cc
+no_fault (Ok side) begins (records.Bad at) live released backed decodes is = absurd cc
+no_fault (Ok side) begins records.Inconsistent live released backed decodes is = decodes backed.consistent
+no_fault (Ok side) begins records.OutOfMemory live released backed decodes is = is
+no_fault (Err fault) begins found live released backed decodes is = backed
+
+-- where an honest store backs the side, memory alone is wanted to load what has landed
+load_fails : (bytes : Option (List ℕ)) (live new : Side) (released : ℕ) (plan : Option NextCall) (fault : DeskFault) → IsBacked bytes live released → LoadsOrIdle bytes live (Err fault) → IsLoadFault fault
+    → Restarts (landed_side bytes live) plan (Err fault) new
+load_fails (Some bytes) live new released plan (faults.Saved fault) backed loads is = absurd (no_fault (record_at bytes) (begins_as_record bytes) fault live released backed loads is)
+load_fails (Some bytes) live new released plan faults.OutOfMemory backed loads is = tt
+load_fails (Some bytes) live new released plan fault backed loads is = absurd loads
+load_fails None live new released plan fault backed loads is = subst (λ f. Restarts (Ok (idle_of live)) plan (Err f) new) (sym loads) tt
+
+pub restart_fails : (landed bytes : Option (List ℕ)) (live new : Side) (released : ℕ) (plan : Option NextCall) (fault : DeskFault) → bytes ≡ landed → IsBacked landed live released → LoadsOrIdle bytes live (Err fault)
+    → IsLoadFault fault → Restarts (landed_side landed live) plan (Err fault) new
+restart_fails landed bytes live new released plan fault lands backed loads is =
+    subst (λ o. IsBacked o live released → Restarts (landed_side o live) plan (Err fault) new) lands (λ backs. load_fails bytes live new released plan fault backs loads is) backed
+
+-- a plan that lets a call answer something lets it be done
+pub allows_done : {X : Type 0} (plan : Option NextCall) (value : X) → Allows plan (Ok value) → Allows {X = Unit {0}} plan (Ok tt)
+allows_done None value allows = tt
+allows_done (Some plans.Works) value allows = tt
+allows_done (Some plans.FailsOld) value allows = allows
+allows_done (Some plans.FailsNew) value allows = allows
+
+-- the side that a desk starts with has landed
+pub start_rules : (old_honest honest : Bool) (old_landed landed : Option (List ℕ)) (plan : Option NextCall) (kept : KeptBytes) (side : Side) (count : ℕ) → honest ≡ old_honest
+    → (old_honest ≡ true → landed ≡ old_landed) → (old_honest ≡ true → LoadsSide old_landed plan (Ok (Some side))) → IsKept kept side → count ≡ length (issued_of side) → Rules honest landed kept side count
+start_rules old_honest honest old_landed landed plan kept side count stays lands loads is all = (
+  omega (arith, all),
+  λ now.
+      let was = sym stays ∙ now in
+      subst (λ o. IsBacked o side count) (sym (lands was)) (whole_backs old_landed side side count (started_is old_landed plan side (loads was)) is.0.0 all),
+  keeps_whole kept side count is all,
+)
 
 -- a side that begins
 pub create_rules : (old_honest honest : Bool) (old_landed landed : Option (List ℕ)) (kept : KeptBytes) (first : Side) → honest ≡ old_honest → (old_honest ≡ true → landed ≡ old_landed)

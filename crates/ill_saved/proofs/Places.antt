@@ -1,5 +1,5 @@
 -- The places of messages in a record.
-use Rattle.std.proofs.Common.{arith, ◌≡◌, ℕ, true, false, ◌+◌, ◌-◌, ◌≤◌, List, [], ◌∷◌, ◌++◌, length, map, take, drop, Result, Ok, Err, refl, ap, sym, subst, inl, inr, ◌∙◌, length-append, append_assoc, append-nil}
+use Rattle.std.proofs.Common.{arith, ◌≡◌, ℕ, true, false, ◌+◌, ◌-◌, ◌≤◌, List, [], ◌∷◌, ◌++◌, length, map, take, drop, Result, Ok, Err, Some, refl, ap, sym, subst, inl, inr, ◌∙◌, length-append, append_assoc, append-nil}
 use Rattle.std.specs.List.{All}
 use Rattle.std.proofs.lemmas.List.{map-append, take_at, drop_at, drop-drop, take-append-le, drop-append-le, length-drop, map_push}
 use Rattle.std.proofs.lemmas.List.Elements.{All-head, All-tail, All-push, All-weaker}
@@ -10,7 +10,8 @@ use Rattle.ill_saved.specs.declared.side.Side.{Side}
 use Rattle.ill_saved.specs.declared.side.Side.TheVariants as sides
 use Rattle.ill_saved.specs.Layout.{spell_all, apdu, ill_request, mark, marked, counted, optional_number}
 use Rattle.ill_saved.specs.Records.{due_octets, front, requester_states, responder_states, requester_rest, responder_rest, spell_start, record_spelling}
-use Rattle.ill_saved.specs.Side.{issued_of}
+use Rattle.ill_saved.specs.declared.side.Standing.{Standing}
+use Rattle.ill_saved.specs.Side.{issued_of, standing_of}
 use Rattle.ill_saved.specs.Kept.{KeptBytes, none_kept, IsKept, Keeps, piece_at, IsWithin, EndsWith}
 use Rattle.std.specs.Prelude.{IfOk}
 use Rattle.ill_saved.specs.Ranges.{Each, IsSide}
@@ -149,11 +150,11 @@ kept_continues kept live released others (inr (side, is, of)) e =
     subst (λ more. Continues kept (issued_of live) more) (sym same) (subst (λ issued. Continues kept issued of.front.0) (sym of.front.1) (continues_front kept side of.front.0 is))
 
 -- the record that follows is that of the side
-pub next_kept : {E : Type 0} (result : Result KeptBytes E) (kept : KeptBytes) (side : Side) (others : List Apdu) (bytes : List ℕ) → Continues kept (issued_of side) others → IsSide side
-    → bytes ≡ record_spelling side → IfOk result (λ next. next ≡ record { bytes = bytes; messages = kept.messages ++ spell_all spelling others; pieces = kept.pieces ++ map spelling others })
+pub next_kept : {E : Type 0} (result : Result KeptBytes E) (kept : KeptBytes) (side : Side) (standing : Standing) (others : List Apdu) (bytes : List ℕ) → Continues kept (issued_of side) others → IsSide side
+    → standing ≡ standing_of side → bytes ≡ record_spelling side → IfOk result (λ next. next ≡ record { standing = Some standing; bytes = bytes; messages = kept.messages ++ spell_all spelling others; pieces = kept.pieces ++ map spelling others })
     → IfOk result (λ next. IsKept next side)
-next_kept (Ok next) kept side others bytes more is spelled e =
+next_kept (Ok next) kept side standing others bytes more is stands spelled e =
     let messages = more.messages in
     let pieces = more.pieces in
     (is, cc)
-next_kept (Err fault) kept side others bytes more is spelled e = tt
+next_kept (Err fault) kept side standing others bytes more is stands spelled e = tt

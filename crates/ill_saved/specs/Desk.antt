@@ -131,11 +131,6 @@ LoadsSide (Some bytes) plan (Err (Saved fault)) =
 LoadsSide landed plan (Err OutOfMemory) = Unit {0}
 LoadsSide landed plan answer = ⊥
 
--- the side that was found, or else the idle one
-abbrev pub IsFoundOrIdle : Option Side → Side → Side → Type 0
-IsFoundOrIdle None live side = side ≡ idle_of live
-IsFoundOrIdle (Some found) live side = side ≡ found
-
 -- the only faults of loading
 abbrev pub IsLoadFault : DeskFault → Type 0
 IsLoadFault (Store stores.Failed) = Unit {0}

@@ -1,18 +1,29 @@
 -- A side that a desk loads, with the record that it keeps of it (this profile's own).
-use Rattle.std.specs.Prelude.{◌≡◌, Option, Some, None, option_map, Result, Ok, Err}
+use Rattle.std.specs.Prelude.{◌≡◌, ℕ, List, Option, Some, None, option_map, Result, Ok, Err}
 use Rattle.ill_saved.specs.declared.desk.Loaded.{Loaded}
 use Rattle.ill_saved.specs.declared.fault.DeskFault.{DeskFault}
+use Rattle.ill_saved.specs.declared.fault.DeskFault.TheVariants.{Saved, OutOfMemory}
 use Rattle.ill_saved.specs.declared.side.Side.{Side}
-use Rattle.ill_saved.specs.Desk.{IsFoundOrIdle}
-use Rattle.ill_saved.specs.Kept.{none_kept}
+use Rattle.ill_saved.specs.Side.{idle_of}
+use Rattle.ill_saved.specs.Records.{record_at, begins_as_record, Decodes}
+use Rattle.ill_saved.specs.Kept.{none_kept, IsKept}
 
 -- the side that a desk's store gave
 abbrev pub side_loaded : Result (Option Loaded) DeskFault → Result (Option Side) DeskFault
 side_loaded (Ok found) = Ok (option_map (λ l. l.side) found)
 side_loaded (Err fault) = Err fault
 
--- the side that was found with its record, or else the idle one, of which none is kept
-abbrev pub IsLoadedOrIdle : Option Loaded → Side → Loaded → Type 0
-IsLoadedOrIdle None live loaded =
-    IsFoundOrIdle None live loaded.side × (loaded.kept ≡ none_kept)
-IsLoadedOrIdle (Some found) live loaded = loaded ≡ found
+-- The side that bytes spell, with its record, or their fault. Memory may be wanted for it.
+abbrev pub LoadsRecord : List ℕ → Result Loaded DeskFault → Type 0
+LoadsRecord bytes (Ok loaded) =
+    (record_at bytes ≡ Ok loaded.side) × IsKept loaded.kept loaded.side
+LoadsRecord bytes (Err (Saved fault)) =
+    Decodes (record_at bytes) (begins_as_record bytes) (Err fault)
+LoadsRecord bytes (Err OutOfMemory) = Unit {0}
+LoadsRecord bytes (Err other) = ⊥
+
+-- where there are no bytes, the idle side, of which no record is kept
+abbrev pub LoadsOrIdle : Option (List ℕ) → Side → Result Loaded DeskFault → Type 0
+LoadsOrIdle (Some bytes) live result = LoadsRecord bytes result
+LoadsOrIdle None live (Ok loaded) = (loaded.side ≡ idle_of live) × (loaded.kept ≡ none_kept)
+LoadsOrIdle None live (Err fault) = fault ≡ OutOfMemory

@@ -1,6 +1,6 @@
 -- One side of a transaction, whichever its role: what a library decides and what a message do to it
 -- (this profile's own). Here, and nowhere above, the roles are told apart.
-use Rattle.std.specs.Prelude.{◌≡◌, Bool, List, [], ◌++◌, Option, None, true, false, is_ok, Result, Ok, Err}
+use Rattle.std.specs.Prelude.{◌≡◌, ◌↔◌, ℕ, Bool, not, if◌then◌else◌, List, [], ◌∷◌, ◌++◌, Option, Some, None, true, false, is_ok, Result, Ok, Err}
 use Rattle.ill_values.specs.declared.apdu.Apdu.{Apdu}
 use Rattle.ill_values.specs.Day.{Date}
 use Rattle.ill_values.specs.TxnId.{Qualifiers}
@@ -10,14 +10,19 @@ use Rattle.ill_core.specs.declared.refusal.Refusal.{Refusal}
 use Rattle.ill_core.specs.declared.refusal.Refusal.TheVariants as refusals
 use Rattle.ill_core.specs.declared.taking.Taking.{Taking}
 use Rattle.ill_core.specs.declared.taking.Taking.TheVariants.{Taken}
+use Rattle.ill_core.specs.State.{is_among}
+use Rattle.ill_core.specs.Requester as requesters
 use Rattle.ill_core.specs.Requester.{requester_of, IsRequester}
 use Rattle.ill_core.specs.RequesterActions as requester_actions
 use Rattle.ill_core.specs.RequesterDeliveries as requester_deliveries
+use Rattle.ill_core.specs.Responder as responders
 use Rattle.ill_core.specs.Responder.{responder_of, IsResponder, due_of}
 use Rattle.ill_core.specs.ResponderActions as responder_actions
 use Rattle.ill_core.specs.ResponderDeliveries as responder_deliveries
 use Rattle.ill_saved.specs.declared.side.Side.{Side}
 use Rattle.ill_saved.specs.declared.side.Side.TheVariants as sides
+use Rattle.ill_saved.specs.declared.side.Standing.{Standing}
+use Rattle.ill_saved.specs.declared.side.Standing.TheVariants as standings
 use Rattle.ill_saved.specs.declared.side.Action.{Action}
 use Rattle.ill_saved.specs.declared.side.Action.TheVariants as actions
 
@@ -42,6 +47,41 @@ due_date_of (sides.Responder y) = due_of y
 abbrev pub IsConsistent : Side → Type 0
 IsConsistent (sides.Requester x) = IsRequester x
 IsConsistent (sides.Responder y) = IsResponder y
+
+-- where a side stands
+abbrev pub standing_of : Side → Standing
+standing_of (sides.Requester x) = standings.Requester (requesters.standing_of x)
+standing_of (sides.Responder y) = standings.Responder (responders.standing_of y)
+
+-- The side where it stood so, and had issued the first so many of its messages. No side stands as one of
+-- the other role.
+abbrev pub back_to : Standing → ℕ → Side → Option Side
+back_to (standings.Requester s) count (sides.Requester x) =
+    Some (sides.Requester (requesters.back_to s count x))
+back_to (standings.Responder s) count (sides.Responder y) =
+    Some (sides.Responder (responders.back_to s count y))
+back_to standing count side = None
+
+-- A side goes back where it can, which makes it a consistent one, or nothing changes.
+abbrev pub GoesBack : Option Side → Bool → Side → Side → Type 0
+GoesBack None went old new = (went ≡ false) × (new ≡ old)
+GoesBack (Some back) went old new =
+    ((went ≡ true) ↔ IsConsistent back) × (new ≡ (if went then back else old))
+
+-- a responder that was asked
+abbrev pub is_asked : Side → Bool
+is_asked (sides.Requester x) = false
+is_asked (sides.Responder y) = not (is_among (Idle ∷ []) y.state)
+
+-- the ILL-Request that a responder was asked by
+abbrev pub request_of : Side → Option Apdu
+request_of (sides.Requester x) = None
+request_of (sides.Responder y) = y.request
+
+-- a side that was asked stays so, and keeps its request
+abbrev pub KeepsRequest : Side → Side → Type 0
+KeepsRequest old new =
+    is_asked old ≡ true → (is_asked new ≡ true) × (request_of new ≡ request_of old)
 
 -- the side of the same role and transaction before its first message
 abbrev pub idle_of : Side → Side

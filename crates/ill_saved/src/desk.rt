@@ -1,20 +1,20 @@
 //! One side with its store.
 
-ghost use Rattle.std.specs.Prelude.{◌≡◌, ◌≤◌, true, length, nat_le, IfOk, IfErr, IfSome};
+ghost use Rattle.std.specs.Prelude.{◌≡◌, ◌≤◌, true, length, nat_le, option_map, IfOk, IfErr, IfSome};
 ghost use Rattle.ill_core.specs.Issued.{message};
 ghost use Rattle.ill_saved.specs.Side.{issued_of, idle_of};
 ghost use Rattle.ill_saved.specs.Records.{record_spelling, record_at, begins_as_record, Decodes};
 ghost use Rattle.ill_saved.specs.Ranges.{IsSide};
 ghost use Rattle.ill_saved.specs.Desk.{DeskOf, IsBacked, DeskActs, DeskTakes, DeskTakesApdu, IsOneApdu, Sends, released_after, SaveLands, PlanAfter, IsSaveFault, landed_side, LoadsSide, IsLoadFault, Restarts, RestartLeaves, answer_of, store_of, Creates, IsCreateAnswer, Starts, IsStartAnswer, IsWhole, CountsDeskFailure, WasSpelled};
 ghost use Rattle.ill_saved.specs.Kept.{Keeps, IsKept};
-ghost use Rattle.ill_saved.specs.Loading.{IsLoadedOrIdle, side_loaded};
+ghost use Rattle.ill_saved.specs.Loading.{LoadsRecord, LoadsOrIdle, side_loaded};
 ghost use Rattle.ill_saved.specs.Store.{spent};
 ghost use Rattle.ill_der.specs.ShortForm.{apdu_at};
 
 use crate::decoding::decode_record;
 use crate::fault::{DeskFault, RecordFault};
 use crate::kept::KeptRecord;
-use crate::laws::{read_again, rows_grow, spelled};
+use crate::laws::{read_again, rows_grow, rows_keep_request, spelled};
 use crate::memory_store::MemoryStore;
 use crate::side::{Action, Side};
 use crate::store::{NextCall, Store};
@@ -117,6 +117,7 @@ impl<S: Store> Desk1<S> {
         ensures released { self.new.released ≡ self.old.released }
     {
         rows_grow();
+        rows_keep_request();
         Ok(self.live.act(alloc, action)?)
     }
 
@@ -137,6 +138,7 @@ impl<S: Store> Desk1<S> {
         ensures released { self.new.released ≡ self.old.released }
     {
         rows_grow();
+        rows_keep_request();
         Ok(self.live.take(alloc, apdu)?)
     }
 
@@ -179,8 +181,12 @@ impl<S: Store> Desk1<S> {
             (S.failures self.new.store) }
         ensures honest { S.is_honest self.new.store ≡ S.is_honest self.old.store }
     {
-        let found = load_side(&mut self.store, alloc)?;
-        let Loaded { side, kept } = or_idle(alloc, found, &self.live)?;
+        read_again();
+        let bytes = self.store.load(alloc)?;
+        if self.kept.take_back(&bytes, self.released, &mut self.live) {
+            return Ok(());
+        }
+        let Loaded { side, kept } = load_or_idle(alloc, bytes, &self.live)?;
         self.released = side.issued_count();
         self.live = side;
         self.kept = kept;
@@ -260,12 +266,20 @@ fn load_side<S: Store>(store: &mut S, alloc: Global) -> Result<Option<Loaded>, D
     ensures counted { CountsDeskFailure result (S.failures store.old) (S.failures store.new) }
     ensures honest { S.is_honest store.new ≡ S.is_honest store.old }
 {
-    let Some(bytes) = store.load(alloc)? else {
-        return Ok(None);
-    };
+    match store.load(alloc)? {
+        Some(bytes) => Ok(Some(load_record(alloc, bytes)?)),
+        None => Ok(None),
+    }
+}
+
+/// The side whose record these bytes are, with its record.
+fn load_record(alloc: Global, bytes: Vec<u8>) -> Result<Loaded, DeskFault>
+    ensures loads { LoadsRecord bytes.items result }
+    ensures faults { IfErr result IsLoadFault }
+{
     let side = read_side(alloc, &bytes)?;
     let kept = KeptRecord::of(alloc, bytes, &side)?;
-    Ok(Some(Loaded { side, kept }))
+    Ok(Loaded { side, kept })
 }
 
 /// The side whose record these bytes are.
@@ -277,13 +291,14 @@ fn read_side(alloc: Global, bytes: &[u8]) -> Result<Side, RecordFault>
     decode_record(alloc, bytes)
 }
 
-/// The side that was found, or else the side of the same role and transaction before its first
-/// message, of which no record is kept.
-fn or_idle(alloc: Global, found: Option<Loaded>, live: &Side) -> Result<Loaded, OutOfMemory>
-    ensures { IfOk result (λ l. IsLoadedOrIdle found live.now l) }
+/// The side whose record these bytes are, if any, or else the side of the same role and transaction
+/// before its first message, of which no record is kept.
+fn load_or_idle(alloc: Global, bytes: Option<Vec<u8>>, live: &Side) -> Result<Loaded, DeskFault>
+    ensures loads { LoadsOrIdle (option_map (λ b. b.items) bytes) live.now result }
+    ensures faults { IfErr result IsLoadFault }
 {
-    match found {
-        Some(loaded) => Ok(loaded),
+    match bytes {
+        Some(bytes) => load_record(alloc, bytes),
         None => Ok(Loaded {
             side: live.idle_again(alloc)?,
             kept: KeptRecord::none(alloc),

@@ -1,15 +1,15 @@
 //! The record that has landed, as a desk keeps it.
 
-ghost use Rattle.std.specs.Prelude.{◌≡◌, ◌++◌, ◌-◌, ◌≤◌, length, map, drop, Some, IfOk};
+ghost use Rattle.std.specs.Prelude.{◌≡◌, ◌++◌, ◌-◌, ◌≤◌, length, map, drop, Some, option_map, IfOk};
 ghost use Rattle.std.specs.List.{All, slice_get};
 ghost use Rattle.ill_der.specs.ShortForm.{spelling};
 ghost use Rattle.ill_saved.specs.Layout.{spell_all};
 ghost use Rattle.ill_saved.specs.Side.{issued_of};
 ghost use Rattle.ill_saved.specs.Records.{record_spelling};
-ghost use Rattle.ill_saved.specs.Kept.{KeptBytes, none_kept, kept_of, IsKept, Keeps, piece_at, IsWithin, EndsWith};
+ghost use Rattle.ill_saved.specs.Kept.{KeptBytes, none_kept, kept_of, IsKept, Keeps, GoesBackTo, piece_at, IsWithin, EndsWith};
 
 use crate::encoding::encode_behind;
-use crate::side::Side;
+use crate::side::{Side, Standing};
 use ill_der::size;
 use ill_values::{Apdu, Number, OutOfMemory};
 use std::alloc::Global;
@@ -23,10 +23,11 @@ pub struct Place {
     size: usize,
 }
 
-/// The bytes of a record, and the place of each message in them. The messages are the record's last
-/// part.
+/// The bytes of a record, the place of each message in them, and where its side stood. The messages are
+/// the record's last part.
 #[derive(Debug, Drop)]
 pub struct KeptRecord {
+    standing: Option<Standing>,
     bytes: Vec<u8>,
     first: usize,
     places: Vec<Place>,
@@ -36,6 +37,7 @@ impl Model for KeptRecord {
     ghost Value = { KeptBytes };
 
     ghost view = { λ k. record {
+      standing = k.standing;
       bytes = k.bytes.items;
       messages = drop k.first k.bytes.items;
       pieces = map (piece_at (drop k.first k.bytes.items)) k.places.items;
@@ -51,6 +53,7 @@ impl KeptRecord {
         ensures { result ≡ none_kept }
     {
         KeptRecord {
+            standing: None,
             bytes: Vec::new(alloc),
             first: 0,
             places: Vec::new(alloc),
@@ -62,7 +65,7 @@ impl KeptRecord {
         requires spelled { bytes.items ≡ record_spelling side.now }
         ensures { IfOk result (λ kept. kept ≡ kept_of side.now) }
     {
-        KeptRecord::none(alloc).followed_by(alloc, bytes, side.all_issued())
+        KeptRecord::none(alloc).followed_by(alloc, side.standing(), bytes, side.all_issued())
     }
 
     /// The record of a side that begins with the messages that are kept here, so many. They are copied,
@@ -73,18 +76,20 @@ impl KeptRecord {
     {
         let others = issued_behind(side, released);
         let bytes = encode_behind(alloc, side, self.messages(), others)?;
-        self.followed_by(alloc, bytes, others)
+        self.followed_by(alloc, side.standing(), bytes, others)
     }
 
     /// A record whose messages are those of this one and these behind them. Its bytes must end so.
     fn followed_by(
         &self,
         alloc: Global,
+        standing: Standing,
         bytes: Vec<u8>,
         apdus: &[Apdu],
     ) -> Result<KeptRecord, OutOfMemory>
         requires ends { EndsWith (self.now.messages ++ spell_all spelling apdus.now) bytes.items }
         ensures { IfOk result (λ kept. kept ≡ record {
+          standing = Some standing;
           bytes = bytes.items;
           messages = self.now.messages ++ spell_all spelling apdus.now;
           pieces = self.now.pieces ++ map spelling apdus.now;
@@ -99,10 +104,26 @@ impl KeptRecord {
         }
         let first = bytes.len() - end;
         Ok(KeptRecord {
+            standing: Some(standing),
             bytes,
             first,
             places,
         })
+    }
+
+    /// Takes the live side back to the one whose record is kept, where these are its bytes, and answers
+    /// whether it did. So many messages are released. It takes no memory.
+    pub fn take_back(&self, bytes: &Option<Vec<u8>>, released: u8, live: &mut Side) -> bool
+        requires keeps { Keeps self.now live.old released }
+        ensures { GoesBackTo self.now released (option_map (λ b. b.items) bytes.now) result
+            live.old live.new }
+    {
+        match (bytes, &self.standing) {
+            (Some(bytes), Some(standing)) if *bytes == self.bytes => {
+                live.go_back(standing, released)
+            }
+            _ => false,
+        }
     }
 
     /// The bytes of the record.

@@ -3,7 +3,7 @@
 ghost use Rattle.std.specs.Prelude.{◌≡◌, ℕ, ◌≤◌, List, length, Ok};
 ghost use Rattle.ill_der.specs.Laws.{IsBytes};
 ghost use Rattle.ill_saved.specs.declared.side.Side.{Side};
-ghost use Rattle.ill_saved.specs.Side.{issued_of, IsRow, Grows, Follows, IsFrontOf};
+ghost use Rattle.ill_saved.specs.Side.{issued_of, IsRow, Grows, KeepsRequest, Follows, IsFrontOf};
 ghost use Rattle.ill_saved.specs.Records.{record_at, record_spelling};
 ghost use Rattle.ill_saved.specs.Ranges.{IsInRange, IsSide};
 
@@ -54,6 +54,13 @@ pub fn rows_grow()
     ill_core::laws::requester_keeps_txn();
     ill_core::laws::responder_issues();
     ill_core::laws::responder_keeps_txn();
+}
+
+/// An action or a message keeps the request of a responder that was asked, and leaves it asked.
+pub fn rows_keep_request()
+    ensures { (old new : Side) → IsRow old new → KeepsRequest old new }
+{
+    ill_core::laws::responder_keeps_request();
 }
 
 /// What a side has issued is the front of what a side that follows from it has issued.

@@ -2,9 +2,11 @@
 
 ghost use Rattle.std.specs.Prelude.{◌≡◌, ◌≤◌, length, option_map, IfOk};
 ghost use Rattle.ill_core.specs.Issued.{message};
-ghost use Rattle.ill_saved.specs.Side.{Acts, Takes, issued_of, idle_of, txn_of, state_of, due_date_of};
+ghost use Rattle.ill_saved.specs.Side.{Acts, Takes, IsConsistent, issued_of, standing_of, back_to, GoesBack, idle_of, txn_of, state_of, due_date_of};
 
-use ill_core::{Deed, Refusal, Requester, Responder, State, Taking, Wish};
+use ill_core::{
+    Deed, Refusal, Requester, RequesterStanding, Responder, ResponderStanding, State, Taking, Wish,
+};
 use ill_values::{Apdu, Day, Number, OutOfMemory, TxnId};
 use std::alloc::Global;
 
@@ -15,6 +17,15 @@ pub enum Side {
     Requester(Requester),
     /// The side that is asked for it.
     Responder(Responder),
+}
+
+/// Where a side stands, as its role says it: its record but for the transaction and the messages.
+#[derive(Clone, Copy, Debug)]
+pub enum Standing {
+    /// Where a requester stands.
+    Requester(RequesterStanding),
+    /// Where a responder stands.
+    Responder(ResponderStanding),
 }
 
 /// What a library may decide to do: a requester's wish, or a responder's deed on a day.
@@ -111,6 +122,33 @@ impl Side {
         match self {
             Side::Requester(requester) => requester.issued(number),
             Side::Responder(responder) => responder.issued(number),
+        }
+    }
+
+    /// Where this side stands.
+    pub fn standing(&self) -> Standing
+        ensures value { result ≡ standing_of self.now }
+        ensures consistent { IsConsistent self.now }
+    {
+        match self {
+            Side::Requester(requester) => Standing::Requester(requester.standing()),
+            Side::Responder(responder) => Standing::Responder(responder.standing()),
+        }
+    }
+
+    /// Goes back to where it stood so and had issued the first so many of its messages, if these parts
+    /// fit together. Otherwise it answers `false`, and nothing changes.
+    pub fn go_back(&mut self, standing: &Standing, count: u8) -> bool
+        ensures { GoesBack (back_to standing.now count self.old) result self.old self.new }
+    {
+        match (self, standing) {
+            (Side::Requester(requester), Standing::Requester(standing)) => {
+                requester.go_back(*standing, count)
+            }
+            (Side::Responder(responder), Standing::Responder(standing)) => {
+                responder.go_back(*standing, count)
+            }
+            _ => false,
         }
     }
 

@@ -1,9 +1,9 @@
-use Rattle.std.proofs.Common.{refl, Some, Ok, subst}
+use Rattle.std.proofs.Common.{Ok, subst}
 use Rattle.std.specs.Prelude.{IfSome}
 use Rattle.ill_saved.specs.Desk.{LoadsSide}
 use Rattle.ill_saved.specs.Kept.{IsKept}
 use Rattle.ill_saved.specs.Loading.{side_loaded}
-use Rattle.ill_saved.proofs.Desks.{loaded_rules}
+use Rattle.ill_saved.proofs.Desks.{start_rules}
 use Rattle.ill_saved.proofs.desk.Desk1.start.Goals as goal
 
 pub invariant_of-result : goal.invariant_of-result
@@ -13,7 +13,6 @@ invariant_of-result g c =
     let landed = g.S.Store.landed store in
     let plan = g.S.Store.plan store in
     let found = c.in-Ok-Some.field-0-is in
-    loaded_rules (g.S.Store.is_honest store) (g.S.Store.is_honest c.load_side.new.store) landed (g.S.Store.landed c.load_side.new.store) plan (Some loaded) loaded.side loaded
-    c.issued_count-released.result c.load_side.ensures.honest c.load_side.ensures.landed
-    (λ honest. subst (λ f. LoadsSide landed plan (side_loaded (Ok f))) found (c.in-Ok-Some.ensures.loads honest)) (subst (λ f. IfSome f (λ l. IsKept l.kept l.side)) found c.in-Ok-Some.ensures.kept) refl
-    c.issued_count-released.ensures
+    start_rules (g.S.Store.is_honest store) (g.S.Store.is_honest c.load_side.new.store) landed (g.S.Store.landed c.load_side.new.store) plan loaded.kept loaded.side c.issued_count-released.result
+    c.load_side.ensures.honest c.load_side.ensures.landed (λ honest. subst (λ f. LoadsSide landed plan (side_loaded (Ok f))) found (c.in-Ok-Some.ensures.loads honest))
+    (subst (λ f. IfSome f (λ l. IsKept l.kept l.side)) found c.in-Ok-Some.ensures.kept) c.issued_count-released.ensures

@@ -25,4 +25,4 @@ pub returns : goal.returns
 returns c =
     let others = c.issued_behind-others.result.now in
     let more = kept_continues c.args.self.now c.args.side.now c.args.released others c.requires.keeps c.issued_behind-others.ensures in
-    next_kept c.followed_by.result c.args.self.now c.args.side.now others c.in_ok-bytes.bytes.items more c.in_ok-bytes.ensures.side c.in_ok-bytes.ensures.bytes c.followed_by.ensures
+    next_kept c.followed_by.result c.args.self.now c.args.side.now c.standing.result others c.in_ok-bytes.bytes.items more c.in_ok-bytes.ensures.side c.standing.ensures.value c.in_ok-bytes.ensures.bytes c.followed_by.ensures

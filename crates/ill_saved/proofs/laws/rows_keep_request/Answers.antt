@@ -1,0 +1,8 @@
+use Rattle.ill_saved.proofs.Desks.{row_keeps_request}
+use Rattle.ill_saved.proofs.laws.rows_keep_request.Goals as goal
+
+pub returns : goal.returns
+returns c = row_keeps_request (record {
+  deed = c.responder_keeps_request.ensures.acts;
+  message = c.responder_keeps_request.ensures.takes;
+})

@@ -43,10 +43,15 @@ pub fn check_item(text: &[u8]) -> Result<(), TextFault>
     }
 }
 
+/// Whether each byte is a printing character. It looks at all of them, so that many are compared at once.
 fn is_printable_text(text: &[u8]) -> bool
     ensures { result ≡ list_all is_printable text.now }
 {
-    text.iter().all(|byte| *byte >= 0x20 && *byte <= 0x7E)
+    let mut are = true;
+    for byte in text {
+        are &= *byte >= 0x20 && *byte <= 0x7E;
+    }
+    are
 }
 
 fn is_item(text: &[u8]) -> bool
@@ -55,8 +60,13 @@ fn is_item(text: &[u8]) -> bool
     has_no_control(text) && str::from_utf8(text).is_ok()
 }
 
+/// Whether no byte is a control character. It looks at all of them, as above.
 fn has_no_control(text: &[u8]) -> bool
     ensures { result ≡ list_all is_no_control text.now }
 {
-    text.iter().all(|byte| *byte >= 0x20 && *byte != 0x7F)
+    let mut are = true;
+    for byte in text {
+        are &= *byte >= 0x20 && *byte != 0x7F;
+    }
+    are
 }

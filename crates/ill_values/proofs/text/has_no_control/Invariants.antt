@@ -1,0 +1,8 @@
+use Rattle.std.proofs.Common.{◌≡◌, ◌&&◌, drop}
+use Rattle.std.specs.List.{list_all}
+use Rattle.ill_values.specs.Text.{is_no_control}
+use Rattle.ill_values.proofs.text.has_no_control.Given as goal
+
+-- the bytes so far are, and those left decide
+abbrev pub invariant-loop-byte : goal.invariant-loop-byte
+invariant-loop-byte l = list_all is_no_control l.text ≡ (l.are && list_all is_no_control (drop l.byte-index l.text))

@@ -1,7 +1,7 @@
 -- One line of a script in a simulation.
-use Rattle.std.proofs.Common.{arith, ◌≡◌, ℕ, ◌+◌, ◌≤◌, Bool, List, [], ◌∷◌, ◌++◌, length, take, drop, Option, Some, Result, Ok, Err, refl, sym, ap, ◌∙◌, subst, append_assoc, append-nil}
+use Rattle.std.proofs.Common.{rules, arith, ◌≡◌, ℕ, ◌+◌, ◌≤◌, Bool, List, [], ◌∷◌, ◌++◌, length, take, drop, Option, Some, None, Result, Ok, Err, refl, sym, ap, ◌∙◌, subst, append_assoc, append-nil}
 use Rattle.std.specs.Prelude.{IsErrAnd}
-use Rattle.std.specs.Io.KnownBytes.{Consumes, Appends, IsAtEnd}
+use Rattle.std.specs.Io.KnownBytes.{Consumes, Appends, IsAtEnd, prepend_known}
 use Rattle.std.proofs.KnownBytes.{Appends-nil, Consumes-nil}
 use Rattle.std.proofs.Math.ListN.{take-append-drop}
 use Rattle.ill_values.specs.TxnId.{Qualifiers}
@@ -13,8 +13,8 @@ use Rattle.ill_world.specs.declared.fault.SimFault.{SimFault}
 use Rattle.ill_world.specs.declared.fault.SimFault.TheVariants.{Script, Read, Write, OutOfMemory}
 use Rattle.ill_world.specs.World.{Parties, first_world, happens}
 use Rattle.ill_world.specs.Script.{meaning}
-use Rattle.ill_world.specs.Simulation.{Said, says_nothing, line_at, then_says, ends, breaks_off, says_from, trace_from, IsFront, script, Simulates}
-use Rattle.ill_world.specs.Simulating.{IsLine, ReadsLine, shown_line, PerformsLine, says_on, AnswersFrom, SimulatesFrom, StepsLine, FindsEnd}
+use Rattle.ill_world.specs.Simulation.{Said, says_nothing, line_at, then_says, ends, breaks_off, says_from, trace_from, trace_of, IsFront, OfAll, script, Answers, Simulates}
+use Rattle.ill_world.specs.Simulating.{IsLine, ReadsLine, shown_line, PerformsLine, says_on, AnswersFrom, SimulatesFrom, StepsLine, IsBeforeEnd, FindsEnd, IsUsed}
 use Rattle.ill_world.proofs.Scripts.{within, line_within, says_line, says_rest, ends_line, breaks_nothing, says_too_long, says_too_many}
 use Rattle.ill_world.proofs.Simulations.{trace_of_none, trace_next, trace_of_one}
 
@@ -170,19 +170,22 @@ too_long_stops n w count old new before bytes read = (
 
 -- ---- the end
 
+too_many_follow : (text : List ℕ) → 1 ≤ length text → says_on ends 100001 text ≡ record { events = []; bad = Some 100001 }
+too_many_follow [] some = absurd (omega (arith, some))
+too_many_follow (byte ∷ text) some = says_too_many 100001 byte text (omega arith)
+
 end_found : (w : Parties) (count : ℕ) (old new before : Option (List ℕ)) (result : Result ℕ SimFault) → FindsEnd count old new result → SimulatesFrom 100001 w count old new before before result
 unfolding says_from
 end_found w count old new before (Ok total) finds = ([], [], finds.1, Appends-nil before, (finds.2, refl, sym (trace_of_none (count + 1) w), omega (arith, finds.0)))
-end_found w count old new before (Err (Script n)) finds =
-    let byte = finds.1.0 in (
-      byte ∷ [],
-      [],
-      finds.1.1,
-      Appends-nil before,
-      λ more e.
-          let said = says_too_many 100001 byte more (omega arith) in
-          (ap (λ (s : Said). s.bad) said ∙ ap Some (sym finds.0), sym (trace_of_none (count + 1) w) ∙ ap (λ (s : Said). trace_from (count + 1) w s.events) (sym said)),
-    )
+end_found w count old new before (Err (Script n)) finds = (
+  [],
+  [],
+  finds.1,
+  Appends-nil before,
+  λ more e.
+      let said = too_many_follow more (subst IsBeforeEnd e finds.2) in
+      (ap (λ (s : Said). s.bad) said ∙ ap Some (sym finds.0), sym (trace_of_none (count + 1) w) ∙ ap (λ (s : Said). trace_from (count + 1) w s.events) (sym said)),
+)
 end_found w count old new before (Err Read) finds = ([], [], finds, Appends-nil before, (refl, sym (trace_of_none (count + 1) w)))
 end_found w count old new before (Err Write) finds = absurd finds
 end_found w count old new before (Err OutOfMemory) finds = absurd finds
@@ -191,6 +194,63 @@ end_found w count old new before (Err OutOfMemory) finds = absurd finds
 pub finds_end : (n : ℕ) (w : Parties) (count : ℕ) (old new before : Option (List ℕ)) (result : Result ℕ SimFault) → n ≡ 100001 → FindsEnd count old new result
     → SimulatesFrom n w count old new before before result
 finds_end n w count old new before result all finds = subst (λ m. SimulatesFrom m w count old new before before result) (sym all) (end_found w count old new before result finds)
+
+-- ---- what was read ahead
+
+-- a line that was read whole is not performed by reading
+pub performed_without_reading : (says : Line) (n : ℕ) (w next : Parties) (count next_count : ℕ) (before after : Option (List ℕ)) (result : Result Bool SimFault) (fault : SimFault) (ahead : List ℕ)
+    → IsErrAnd result (λ f. f ≡ fault) → PerformsLine says n w count before after (Err fault) next next_count → IsUsed ahead result
+performed_without_reading says n w next count next_count before after (Ok more) fault ahead is performs = tt
+performed_without_reading says n w next count next_count before after (Err f) fault ahead is performs =
+    subst (λ f. IsUsed {X = Bool} ahead (Err f)) (sym is) (go says fault performs)
+  where
+    go : (says : Line) (fault : SimFault) → PerformsLine says n w count before after (Err fault) next next_count → IsUsed {X = Bool} ahead (Err fault)
+    go says OutOfMemory performs = tt
+    go says Write performs = tt
+    go says (Script m) performs = tt
+    go lines.Skipped Read performs = absurd performs
+    go (lines.Event event) Read performs = absurd performs
+    go lines.Bad Read performs = absurd performs
+
+read_of_all : (text ahead rest : List ℕ) (P : List ℕ → Type 0) → OfAll text (Some (ahead ++ rest)) P → OfAll (text ++ ahead) (Some rest) P
+read_of_all text ahead rest P of_all = λ more e. subst P (sym (append_assoc text ahead more)) (of_all (ahead ++ more) (ap (λ left. prepend_known ahead left) e))
+
+none_ahead : (ahead rest : List ℕ) → ahead ++ rest ≡ [] → (ahead ≡ []) × (rest ≡ [])
+none_ahead [] rest none = (refl, none)
+none_ahead (byte ∷ ahead) rest none = search rules
+
+read_whole : (txn : Qualifiers) (text ahead rest trace : List ℕ) (result : Result ℕ SimFault) → ahead ≡ [] → Answers txn result text (Some rest) trace → Answers txn result (text ++ ahead) (Some rest) trace
+read_whole txn text ahead rest trace result none answers =
+    subst (λ t. Answers txn result t (Some rest) trace) (sym (ap (λ l. text ++ l) none ∙ append-nil text)) answers
+
+answers_of_all : (txn : Qualifiers) (text ahead rest trace : List ℕ) (result : Result ℕ SimFault) → IsUsed ahead result → Answers txn result text (Some (ahead ++ rest)) trace
+    → Answers txn result (text ++ ahead) (Some rest) trace
+answers_of_all txn text ahead rest trace (Ok count) used answers =
+    let none = none_ahead ahead rest answers.0 in read_whole txn text ahead rest trace (Ok count) none.0 (none.1, answers.1, answers.2, answers.3)
+answers_of_all txn text ahead rest trace (Err (Script n)) used answers = read_of_all text ahead rest (λ t. ((script t).bad ≡ Some n) × (trace ≡ trace_of txn (script t).events)) answers
+answers_of_all txn text ahead rest trace (Err Read) used answers = read_whole txn text ahead rest trace (Err Read) used answers
+answers_of_all txn text ahead rest trace (Err Write) used answers = read_of_all text ahead rest (λ t. IsFront trace (trace_of txn (script t).events)) answers
+answers_of_all txn text ahead rest trace (Err OutOfMemory) used answers =
+    read_of_all text ahead rest (λ t. (events : List Event) × IsFront events (script t).events × (trace ≡ trace_of txn events)) answers
+
+consumes_ahead : (old : Option (List ℕ)) (text ahead rest : List ℕ) → Consumes (prepend_known [] old) (Some (ahead ++ rest)) text → Consumes old (Some rest) (text ++ ahead)
+consumes_ahead None text ahead rest read = tt
+consumes_ahead (Some bytes) text ahead rest read = read ∙ sym (append_assoc text ahead rest)
+
+all_read : (txn : Qualifiers) (ahead : List ℕ) (old new before after : Option (List ℕ)) (result : Result ℕ SimFault) → IsUsed ahead result
+    → Simulates txn (prepend_known [] old) (prepend_known ahead new) before after result → Simulates txn old new before after result
+all_read txn ahead None None before after result used simulates = simulates
+all_read txn ahead (Some bytes) None before after result used simulates = absurd simulates.2
+all_read txn ahead old (Some rest) before after result used simulates =
+    let text = simulates.0 in
+    let trace = simulates.1 in
+    (text ++ ahead, trace, consumes_ahead old text ahead rest simulates.2, simulates.3, answers_of_all txn text ahead rest trace result used simulates.4)
+
+-- Nothing was ahead, and what is ahead now was read too.
+pub counts_as_read : (txn : Qualifiers) (first ahead : List ℕ) (old new before after : Option (List ℕ)) (result : Result ℕ SimFault) → first ≡ [] → IsUsed ahead result
+    → Simulates txn (prepend_known first old) (prepend_known ahead new) before after result → Simulates txn old new before after result
+counts_as_read txn first ahead old new before after result none used simulates =
+    all_read txn ahead old new before after result used (subst (λ l. Simulates txn (prepend_known l old) (prepend_known ahead new) before after result) none simulates)
 
 -- ---- the answers of a simulation
 

@@ -1,37 +1,81 @@
 -- The bytes of lines.
-use Rattle.std.proofs.Common.{rules, ◌≡◌, ℕ, Bool, true, false, ◌||◌, ◌==◌, cond, List, [], ◌∷◌, ◌++◌, Option, Some, Result, Ok, Err, refl, sym, ap, ◌∙◌, subst}
-use Rattle.std.specs.Prelude.{IsErrAnd}
-use Rattle.std.specs.List.{onto_first}
-use Rattle.std.specs.Io.KnownBytes.{Consumes}
-use Rattle.std.proofs.KnownBytes.{Consumes-trans}
-use Rattle.std.proofs.lemmas.Bool.{ne_eqb}
-use Rattle.std.proofs.lemmas.List.Folds.{list_any-append}
-use Rattle.ill_world.specs.declared.lines.Found.{Found}
-use Rattle.ill_world.specs.declared.fault.SimFault.{SimFault}
-use Rattle.ill_world.specs.declared.fault.SimFault.TheVariants.{OutOfMemory}
+use Rattle.std.proofs.Common.{rules, arith, ◌≡◌, ℕ, suc, ◌+◌, ◌-◌, ◌<◌, ◌≤◌, min, Bool, true, false, ◌||◌, ◌==◌, cond, List, [], ◌∷◌, ◌++◌, length, take, drop, Option, Some, None, Ok, refl, sym, ap, ◌∙◌, subst, add-one, eqb-true, take_all, take-append-drop, drop_of_length-le, length-append, length-take}
+use Rattle.std.specs.List.{onto_first, position_from}
+use Rattle.ill_world.specs.declared.lines.Found.TheVariants as found
 use Rattle.ill_world.specs.Simulation.{lines_in}
-use Rattle.ill_world.specs.Simulating.{has_lf, ReadsByte, ReadsLine}
+use Rattle.ill_world.specs.Simulating.{has_lf, lf_place, TakesPart}
 
--- ---- reading a line
+-- ---- the first LF
 
-pub consumes_byte : (old new : Option (List ℕ)) (found : Option ℕ) (byte : ℕ) → found ≡ Some byte → ReadsByte old new (Ok found) → Consumes old new (byte ∷ [])
-consumes_byte old new found byte is read = subst (λ f. ReadsByte old new (Ok f)) is read
+-- Where the first LF stands, if there is one, of bytes from this place on, and what stands behind it.
+abbrev FirstLf : List ℕ → List ℕ → ℕ → Option ℕ → Type 0
+FirstLf bytes rest from None = has_lf bytes ≡ false
+FirstLf bytes rest from (Some at) =
+    (k : ℕ) × (at ≡ from + k) × (k < length bytes) × (has_lf (take k bytes) ≡ false) × (bytes ++ rest ≡ take k bytes ++ 10 ∷ drop (suc k) (bytes ++ rest))
 
--- a reader that gave bytes and one more
-pub consumes_one_more : (old middle new : Option (List ℕ)) (bytes : List ℕ) (found : Option ℕ) (byte : ℕ) → Consumes old middle bytes → found ≡ Some byte → ReadsByte middle new (Ok found)
-    → Consumes old new (bytes ++ byte ∷ [])
-consumes_one_more old middle new bytes found byte before is read = Consumes-trans old middle new bytes (byte ∷ []) before (consumes_byte middle new found byte is read)
+lf_stands : (bytes rest : List ℕ) (from : ℕ) (place : Option ℕ) → position_from (λ b. b == 10) from bytes ≡ place → FirstLf bytes rest from place
+lf_stands [] rest from None is = refl
+lf_stands [] rest from (Some at) is = search rules
+lf_stands (byte ∷ bytes) rest from place is = go (byte == 10) place refl is (lf_stands bytes rest (from + 1))
+  where
+    go : (is_lf : Bool) (place : Option ℕ) → (byte == 10) ≡ is_lf → cond is_lf (Some from) (position_from (λ b. b == 10) (from + 1) bytes) ≡ place
+        → ((later : Option ℕ) → position_from (λ b. b == 10) (from + 1) bytes ≡ later → FirstLf bytes rest (from + 1) later) → FirstLf (byte ∷ bytes) rest from place
+    go true None is_lf is behind = search rules
+    go true (Some at) is_lf is behind =
+        let here : at ≡ from + 0 = search (arith, rules) in
+        (0, here, omega arith, refl, ap (λ b. b ∷ (bytes ++ rest)) (eqb-true byte 10 is_lf))
+    go false None no_lf is behind = ap (λ (b : Bool). b || has_lf bytes) no_lf ∙ behind None is
+    go false (Some at) no_lf is behind =
+        let stands = behind (Some at) is in (
+          suc stands.0,
+          omega (arith, stands.1),
+          omega (arith, stands.2),
+          ap (λ (b : Bool). b || has_lf (take stands.0 bytes)) no_lf ∙ stands.3,
+          ap (λ l. byte ∷ l) stands.4,
+        )
 
--- memory ran out for a byte
-pub cut_off : (old new : Option (List ℕ)) (bytes kept : List ℕ) (result : Result Found SimFault) → Consumes old new bytes → IsErrAnd result (λ fault. fault ≡ OutOfMemory)
-    → ReadsLine old new kept result
-cut_off old new bytes kept (Ok found) read failed = absurd failed
-cut_off old new bytes kept (Err fault) read failed = subst (λ f. ReadsLine old new kept (Err f)) (sym failed) (bytes, read)
+first_lf : (bytes rest : List ℕ) (at : ℕ) → lf_place bytes ≡ Some at → (at < length bytes) × (has_lf (take at bytes) ≡ false) × (bytes ++ rest ≡ take at bytes ++ 10 ∷ drop (at + 1) (bytes ++ rest))
+first_lf bytes rest at is =
+    let stands = lf_stands bytes rest 0 (Some at) is in
+    let k = stands.0 in
+    let same : k ≡ at = omega (arith, stands.1) in
+    subst (λ (n : ℕ). (n < length bytes) × (has_lf (take n bytes) ≡ false) × (bytes ++ rest ≡ take n bytes ++ 10 ∷ drop (n + 1) (bytes ++ rest))) same
+    (stands.2, stands.3, subst (λ (n : ℕ). bytes ++ rest ≡ take k bytes ++ 10 ∷ drop n (bytes ++ rest)) (sym (add-one k)) stands.4)
 
--- one more byte that is no LF
-pub no_lf_more : (bytes : List ℕ) (byte : ℕ) → has_lf bytes ≡ false → (byte ≡ 10 → ⊥) → has_lf (bytes ++ byte ∷ []) ≡ false
-no_lf_more bytes byte none other =
-    list_any-append (λ b. b == 10) bytes (byte ∷ []) ∙ ap (λ (b : Bool). b || ((byte == 10) || false)) none ∙ ap (λ (b : Bool). b || false) (ne_eqb byte 10 other)
+no_lf : (bytes : List ℕ) → lf_place bytes ≡ None → has_lf bytes ≡ false
+no_lf bytes is = lf_stands bytes [] 0 None is
+
+-- ---- a part of a line
+
+-- up to its LF
+pub takes_line : (before ahead front line : List ℕ) (most at : ℕ) → length front ≤ 1024 → most ≤ 1025 - length front → lf_place (take most before) ≡ Some at
+    → line ≡ front ++ take at (take most before) → ahead ≡ drop (at + 1) before → TakesPart before ahead front line (Ok (Some found.Line))
+takes_line before ahead front line most at few within is line_is ahead_is =
+    let part = take most before in
+    let first = first_lf part (drop most before) at is in
+    let whole : part ++ drop most before ≡ before = take-append-drop most before in
+    let bytes = take at part in
+    let parts = subst (λ l. l ≡ bytes ++ 10 ∷ drop (at + 1) l) whole first.2 in
+    let size : length (front ++ bytes) ≤ 1024 = omega (arith, length-append front bytes, length-take at part, length-take most before, first.0, few, within) in
+    (bytes, parts ∙ ap (λ l. bytes ++ 10 ∷ l) (sym ahead_is), first.1, line_is, subst (λ l. length l ≤ 1024) (sym line_is) size)
+
+-- more bytes than a line may have
+pub takes_too_long : (before ahead front line : List ℕ) (most : ℕ) → length front ≤ 1024 → most ≡ min (length before) (1024 - length front + 1) → 1024 - length front < most
+    → lf_place (take most before) ≡ None → ahead ≡ drop most before → TakesPart before ahead front line (Ok (Some found.TooLong))
+takes_too_long before ahead front line most few most_is long is ahead_is =
+    let bytes = take most before in
+    let size : length (front ++ bytes) ≡ 1025 = omega (arith, length-append front bytes, length-take most before, few, most_is, long) in
+    (bytes, sym (take-append-drop most before) ∙ ap (λ l. bytes ++ l) (sym ahead_is), no_lf bytes is, size)
+
+-- all, of a line that goes on
+pub takes_all : (before ahead front line : List ℕ) (most : ℕ) → length front ≤ 1024 → most ≡ min (length before) (1024 - length front + 1) → most ≤ 1024 - length front
+    → lf_place (take most before) ≡ None → line ≡ front ++ take most before → ahead ≡ drop most before → TakesPart before ahead front line (Ok None)
+takes_all before ahead front line most few most_is short is line_is ahead_is =
+    let all : length before ≤ most = omega (arith, most_is, short) in
+    let same : take most before ≡ before = take_all most before all in
+    let line_all : line ≡ front ++ before = line_is ∙ ap (λ l. front ++ l) same in
+    let size : length (front ++ before) ≤ 1024 = omega (arith, length-append front before, few, all, short) in
+    (ahead_is ∙ drop_of_length-le before all, ap has_lf (sym same) ∙ no_lf (take most before) is, line_all, subst (λ l. length l ≤ 1024) (sym line_all) size)
 
 -- ---- the lines of a text
 

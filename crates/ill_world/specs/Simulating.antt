@@ -1,7 +1,8 @@
 -- A simulation in the midst of a script: from its next line on.
-use Rattle.std.specs.Prelude.{◌≡◌, ℕ, ◌+◌, ◌≤◌, Bool, true, false, ◌==◌, List, [], ◌∷◌, ◌++◌, length, take, Option, Some, None, Result, Ok, Err}
-use Rattle.std.specs.List.{list_any}
-use Rattle.std.specs.Io.KnownBytes.{Consumes, Appends, IsAtEnd}
+use Rattle.std.specs.Prelude.{◌≡◌, ℕ, ◌+◌, ◌≤◌, Bool, true, false, ◌==◌, List, [], ◌∷◌, ◌++◌, length, take, ⊤, Option, Some, None, Result, Ok, Err}
+use Rattle.std.specs.List.{list_any, position_from}
+use Rattle.std.specs.Io.KnownBytes.{Consumes, Appends, IsAtEnd, prepend_known}
+use Rattle.std.specs.declared.alloc.AllocError.{AllocError}
 use Rattle.ill_world.specs.declared.event.Event.{Event}
 use Rattle.ill_world.specs.declared.script.Line.{Line}
 use Rattle.ill_world.specs.declared.script.Line.TheVariants as lines
@@ -13,21 +14,50 @@ use Rattle.ill_world.specs.World.{Parties, happens}
 use Rattle.ill_world.specs.Trace.{line}
 use Rattle.ill_world.specs.Simulation.{Said, says_from, ends, breaks_off, lines_in, line_at, trace_from, IsFront, OfAll}
 
--- ---- reading one line
+-- ---- reading ahead
 
--- a byte was read, or the end was found
-abbrev pub ReadsByte : Option (List ℕ) → Option (List ℕ) → Result (Option ℕ) SimFault → Type 0
-ReadsByte old new (Ok (Some byte)) = Consumes old new (byte ∷ [])
-ReadsByte old new (Ok None) = Consumes old new [] × IsAtEnd new
-ReadsByte old new (Err fault) = (fault ≡ Read) × Consumes old new []
+-- A reader was read where nothing was ahead: something is ahead now, or the text has ended.
+abbrev pub Fills : List ℕ → List ℕ → Option (List ℕ) → Option (List ℕ) → Result Bool SimFault → Type 0
+Fills before ahead old new (Ok true) =
+    Consumes (prepend_known before old) (prepend_known ahead new) [] × (1 ≤ length ahead)
+Fills before ahead old new (Ok false) =
+    Consumes (prepend_known before old) (prepend_known ahead new) [] × IsAtEnd (prepend_known ahead new)
+Fills before ahead old new (Err fault) =
+    (fault ≡ Read) × Consumes (prepend_known before old) (prepend_known ahead new) [] × (ahead ≡ [])
+
+-- where the reader failed, all that was read ahead is used
+abbrev pub IsUsed : {X : Type 0} → List ℕ → Result X SimFault → Type 0
+IsUsed ahead (Ok done) = ⊤
+IsUsed ahead (Err Read) = ahead ≡ []
+IsUsed ahead (Err other) = ⊤
+
+-- ---- reading one line
 
 -- there is an LF among the bytes
 abbrev pub has_lf : List ℕ → Bool
 has_lf bytes = list_any (λ byte. byte == 10) bytes
 
+-- the place of the first LF
+abbrev pub lf_place : List ℕ → Option ℕ
+lf_place bytes = position_from (λ byte. byte == 10) 0 bytes
+
 -- these bytes have no LF, and a line may have so many
 abbrev pub IsLine : List ℕ → Type 0
 IsLine bytes = (has_lf bytes ≡ false) × (length bytes ≤ 1024)
+
+-- What is ahead was taken behind the front of a line: up to its LF, which is dropped; more bytes than a
+-- line may have; all, of a line that goes on; or none, for want of memory.
+abbrev pub TakesPart : List ℕ → List ℕ → List ℕ → List ℕ → Result (Option Found) AllocError → Type 0
+TakesPart before ahead front line (Ok (Some found.Line)) =
+    (bytes : List ℕ) × (before ≡ bytes ++ 10 ∷ ahead) × (has_lf bytes ≡ false)
+    × (line ≡ front ++ bytes) × (length line ≤ 1024)
+TakesPart before ahead front line (Ok (Some found.Rest)) = ⊥
+TakesPart before ahead front line (Ok (Some found.TooLong)) =
+    (bytes : List ℕ) × (before ≡ bytes ++ ahead) × (has_lf bytes ≡ false)
+    × (length (front ++ bytes) ≡ 1025)
+TakesPart before ahead front line (Ok None) =
+    (ahead ≡ []) × (has_lf before ≡ false) × (line ≡ front ++ before) × (length line ≤ 1024)
+TakesPart before ahead front line (Err fault) = ahead ≡ before
 
 -- What was found, and read: a line and its LF; what follows the last LF; more bytes than a line may
 -- have; a line that a reader or want of memory cut off.
@@ -111,9 +141,14 @@ StepsLine n w count old new before after (Ok false) next next_count =
 StepsLine n w count old new before after (Err fault) next next_count =
     SimulatesFrom n w count old new before after (Err fault)
 
+-- a byte is left
+abbrev pub IsBeforeEnd : Option (List ℕ) → Type 0
+IsBeforeEnd None = ⊤
+IsBeforeEnd (Some bytes) = 1 ≤ length bytes
+
 -- The end was looked for behind as many lines as there may be.
 abbrev pub FindsEnd : ℕ → Option (List ℕ) → Option (List ℕ) → Result ℕ SimFault → Type 0
 FindsEnd count old new (Ok total) = (total ≡ count) × Consumes old new [] × IsAtEnd new
-FindsEnd count old new (Err (Script n)) = (n ≡ 100001) × ((byte : ℕ) × Consumes old new (byte ∷ []))
+FindsEnd count old new (Err (Script n)) = (n ≡ 100001) × Consumes old new [] × IsBeforeEnd new
 FindsEnd count old new (Err Read) = Consumes old new []
 FindsEnd count old new (Err other) = ⊥

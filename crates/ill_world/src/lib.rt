@@ -2,6 +2,7 @@
 //! list of events or a script says.
 #![tactic(auto)]
 
+mod ahead;
 mod bytes;
 mod event;
 mod fault;

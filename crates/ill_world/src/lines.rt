@@ -1,8 +1,12 @@
 //! The lines of a text, one after another.
 
-ghost use Rattle.ill_world.specs.Simulating.{ReadsByte, ReadsLine};
+ghost use Rattle.std.specs.Prelude.{◌≡◌, ◌<◌, ◌≤◌, length, IfSome};
+ghost use Rattle.std.specs.Io.KnownBytes.{prepend_known};
+ghost use Rattle.ill_world.specs.Simulating.{IsUsed, lf_place, TakesPart, ReadsLine};
 
+use crate::ahead::Ahead;
 use crate::fault::SimFault;
+use ill_values::OutOfMemory;
 use std::io::Read;
 
 /// The most bytes of a line, without its LF.
@@ -22,34 +26,58 @@ pub enum Found {
     TooLong,
 }
 
-/// Reads one line into the buffer, without its LF. It reads one byte behind the most that a line may
-/// have, and no further.
-pub fn next_line<R: Read>(reader: &mut R, line: &mut Vec<u8>) -> Result<Found, SimFault>
-    ensures { ReadsLine (R.remaining reader.old) (R.remaining reader.new) line.new.items result }
+/// Reads one line into the buffer, without its LF. It reads on only where nothing is ahead, and looks at
+/// one byte behind the most that a line may have, and no further.
+pub fn next_line<R: Read>(
+    reader: &mut R,
+    ahead: &mut Ahead,
+    line: &mut Vec<u8>,
+) -> Result<Found, SimFault>
+    ensures line { ReadsLine (prepend_known ahead.old (R.remaining reader.old))
+        (prepend_known ahead.new (R.remaining reader.new)) line.new.items result }
+    ensures used { IsUsed ahead.new result }
 {
     line.clear();
-    for _ in 0..MAX_LINE {
-        match next_byte(reader)? {
-            Some(LF) => return Ok(Found::Line),
-            Some(byte) => line.push(byte)?,
-            None => return Ok(Found::Rest),
+    while ahead.fill(reader)? {
+        if let Some(found) = take_part(ahead, line)? {
+            return Ok(found);
         }
     }
-    match next_byte(reader)? {
-        Some(LF) => Ok(Found::Line),
-        Some(_) => Ok(Found::TooLong),
-        None => Ok(Found::Rest),
+    Ok(Found::Rest)
+}
+
+/// Takes what is ahead of the line that begins so: up to its LF, which is dropped, or all of it. It
+/// answers what was found, if the line has ended.
+fn take_part(ahead: &mut Ahead, line: &mut Vec<u8>) -> Result<Option<Found>, OutOfMemory>
+    requires { length line.old.items ≤ 1024 }
+    ensures { TakesPart ahead.old ahead.new line.old.items line.new.items result }
+{
+    let room = MAX_LINE - line.len();
+    let bytes = ahead.bytes();
+    let most = bytes.len().min(room + 1);
+    let front = &bytes[..most];
+    match find_lf(front) {
+        Some(at) => {
+            line.extend_from_slice(&front[..at])?;
+            ahead.skip(at + 1);
+            Ok(Some(Found::Line))
+        }
+        None if most > room => {
+            ahead.skip(most);
+            Ok(Some(Found::TooLong))
+        }
+        None => {
+            line.extend_from_slice(front)?;
+            ahead.skip(most);
+            Ok(None)
+        }
     }
 }
 
-/// The next byte, or `None` at the end.
-pub fn next_byte<R: Read>(reader: &mut R) -> Result<Option<u8>, SimFault>
-    ensures { ReadsByte (R.remaining reader.old) (R.remaining reader.new) result }
+/// The place of the first LF.
+fn find_lf(bytes: &[u8]) -> Option<usize>
+    ensures place { result ≡ lf_place bytes.now }
+    ensures within { IfSome result (λ at. at < length bytes.now) }
 {
-    let mut byte = [0];
-    match reader.read(&mut byte) {
-        Ok(0) => Ok(None),
-        Ok(_) => Ok(Some(byte[0])),
-        Err(_) => Err(SimFault::Read),
-    }
+    bytes.iter().position(|byte| *byte == LF)
 }

@@ -1,6 +1,7 @@
 //! A whole script, performed line by line.
 
-ghost use Rattle.std.specs.Prelude.{◌≡◌, ◌≤◌, ◌+◌, List, IfOk};
+ghost use Rattle.std.specs.Prelude.{◌≡◌, ◌≤◌, ◌+◌, List, [], IfOk};
+ghost use Rattle.std.specs.Io.KnownBytes.{prepend_known};
 ghost use Rattle.ill_values.specs.TxnId.{Qualifiers};
 ghost use Rattle.ill_world.specs.declared.event.Event.{Event};
 ghost use Rattle.ill_world.specs.World.{first_world};
@@ -8,12 +9,13 @@ ghost use Rattle.ill_world.specs.Safety.{IsSafeRun};
 ghost use Rattle.ill_world.specs.Agreement.{IsAgreeingRun};
 ghost use Rattle.ill_world.specs.Simulation.{Simulates, line_at};
 ghost use Rattle.ill_world.specs.Script.{meaning};
-ghost use Rattle.ill_world.specs.Simulating.{Performs, PerformsLine, StepsLine, FindsEnd};
+ghost use Rattle.ill_world.specs.Simulating.{Performs, PerformsLine, StepsLine, FindsEnd, IsUsed};
 
+use crate::ahead::Ahead;
 use crate::event::Event;
 use crate::fault::SimFault;
 use crate::laws::{every_run_agrees, every_run_is_safe};
-use crate::lines::{Found, next_byte, next_line};
+use crate::lines::{Found, next_line};
 use crate::script::{Line, read_line};
 use crate::world::World;
 use ill_der::write_bytes;
@@ -25,7 +27,8 @@ use std::io::{Read, Write};
 const MAX_LINES: u32 = 100_000;
 
 /// Performs a script from two idle sides on, and writes a line for each event, with both sides after
-/// it. It answers the number of events.
+/// it. It answers the number of events. It reads at most 4,096 bytes at a time, and only where it has no
+/// whole line.
 ///
 /// At a bad line, and where the reader fails, the lines of all events before are written. If memory
 /// runs out, those of some of the first events are, and if the writer fails, a front of that text.
@@ -60,18 +63,21 @@ struct Simulation {
     count: u32,
     /// The line of the script that was read last.
     line: Vec<u8>,
+    /// What was read of the script behind that line.
+    ahead: Ahead,
     /// The line of the trace that was written last.
     shown: Vec<u8>,
 }
 
 impl Simulation {
     fn new(alloc: Global, txn: &TxnId) -> Result<Simulation, OutOfMemory>
-        ensures { IfOk result (λ s. (s.world ≡ first_world txn.now) × (s.count ≡ 0)) }
+        ensures { IfOk result (λ s. (s.world ≡ first_world txn.now) × (s.count ≡ 0) × (s.ahead ≡ [])) }
     {
         Ok(Simulation {
             world: World::new(alloc, txn)?,
             count: 0,
             line: Vec::new(alloc),
+            ahead: Ahead::new(),
             shown: Vec::new(alloc),
         })
     }
@@ -84,6 +90,7 @@ impl Simulation {
         writer: &mut W,
     ) -> Result<u32, SimFault>
         requires begins { self.old.count ≡ 0 }
+        requires unread { self.old.ahead ≡ [] }
         ensures { (txn : Qualifiers) → self.old.world ≡ first_world txn →
             Simulates txn (R.remaining reader.old) (R.remaining reader.new)
             (W.contents writer.old) (W.contents writer.new) result }
@@ -109,11 +116,13 @@ impl Simulation {
         requires few { self.old.count + 1 ≤ number }
         requires number { number ≤ 100000 }
         ensures steps { StepsLine number self.old.world self.old.count
-            (R.remaining reader.old) (R.remaining reader.new)
+            (prepend_known self.old.ahead (R.remaining reader.old))
+            (prepend_known self.new.ahead (R.remaining reader.new))
             (W.contents writer.old) (W.contents writer.new) result self.new.world self.new.count }
+        ensures used { IsUsed self.new.ahead result }
         ensures few { self.new.count ≤ self.old.count + 1 }
     {
-        match next_line(reader, &mut self.line)? {
+        match next_line(reader, &mut self.ahead, &mut self.line)? {
             Found::Line => {
                 self.perform_line(alloc, writer, number)?;
                 Ok(true)
@@ -138,6 +147,7 @@ impl Simulation {
         ensures performs { PerformsLine (meaning self.old.line.items) number
             self.old.world self.old.count (W.contents writer.old) (W.contents writer.new)
             result self.new.world self.new.count }
+        ensures ahead { self.new.ahead ≡ self.old.ahead }
         ensures few { self.new.count ≤ self.old.count + 1 }
     {
         match read_line(alloc, &self.line)? {
@@ -157,6 +167,7 @@ impl Simulation {
         requires few { self.old.count ≤ 100000 }
         ensures performs { Performs self.old.world self.old.count event.now
             (W.contents writer.old) (W.contents writer.new) result self.new.world self.new.count }
+        ensures ahead { self.new.ahead ≡ self.old.ahead }
         ensures few { self.new.count ≤ self.old.count + 1 }
     {
         let outcome = self.world.step(alloc, event)?;
@@ -170,12 +181,16 @@ impl Simulation {
     }
 
     /// Finds the end of a script that has as many lines as it may have.
-    fn end<R: Read>(&self, reader: &mut R) -> Result<u32, SimFault>
-        ensures { FindsEnd self.now.count (R.remaining reader.old) (R.remaining reader.new) result }
+    fn end<R: Read>(&mut self, reader: &mut R) -> Result<u32, SimFault>
+        ensures end { FindsEnd self.old.count
+            (prepend_known self.old.ahead (R.remaining reader.old))
+            (prepend_known self.new.ahead (R.remaining reader.new)) result }
+        ensures used { IsUsed self.new.ahead result }
     {
-        match next_byte(reader)? {
-            None => Ok(self.count),
-            Some(_) => Err(SimFault::Script(MAX_LINES + 1)),
+        match self.ahead.fill(reader) {
+            Ok(true) => Err(SimFault::Script(MAX_LINES + 1)),
+            Ok(false) => Ok(self.count),
+            Err(fault) => Err(fault),
         }
     }
 }

@@ -1,10 +1,14 @@
-use Rattle.std.proofs.Common.{◌≡◌, false, length}
-use Rattle.std.specs.Io.KnownBytes.{Consumes}
-use Rattle.ill_world.specs.Simulating.{has_lf}
+use Rattle.std.proofs.Common.{◌-◌, length}
+use Rattle.std.specs.Io.KnownBytes.{Consumes, prepend_known}
+use Rattle.ill_world.specs.Simulating.{IsLine}
 use Rattle.ill_world.proofs.lines.next_line.Given as goal
 
--- the bytes that were read have no LF
-abbrev pub invariant-loop : goal.invariant-loop
-invariant-loop g l =
-    (has_lf l.line.items ≡ false) × (length l.line.items ≡ l.counter)
-    × Consumes (g.R.Read.remaining l.initial.reader) (g.R.Read.remaining l.reader) l.line.items
+-- what was read is the front of a line
+abbrev pub invariant-loop-ahead : goal.invariant-loop-ahead
+invariant-loop-ahead g l =
+    IsLine l.line.items
+    × Consumes (prepend_known l.initial.ahead (g.R.Read.remaining l.initial.reader)) (prepend_known l.ahead (g.R.Read.remaining l.reader)) l.line.items
+
+-- how many bytes may still come
+abbrev pub decreases-loop-ahead : goal.decreases-loop-ahead
+decreases-loop-ahead g l = 1025 - length l.line.items

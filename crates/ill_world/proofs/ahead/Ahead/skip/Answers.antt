@@ -1,0 +1,17 @@
+use Rattle.std.proofs.Common.{arith, ◌≡◌, ◌≤◌, ◌+◌, ◌-◌, ℕ, List, length, take, drop, slice_range, sym, ap, ◌∙◌, subst, length-take, drop-drop}
+use Rattle.std.proofs.lemmas.List.{drop-take}
+use Rattle.ill_world.proofs.ahead.Ahead.skip.Goals as goal
+
+-- fewer of a range are left
+fewer : (xs : List ℕ) (start end count : ℕ) → count ≤ length (slice_range xs start end) → slice_range xs (start + count) end ≡ drop count (slice_range xs start end)
+fewer xs start end count there =
+    let within : count + (end - (start + count)) ≡ end - start = omega (arith, there, length-take (end - start) (drop start xs)) in
+    ap (take (end - (start + count))) (sym (drop-drop count start xs))
+    ∙ sym (drop-take count (end - (start + count)) (drop start xs))
+    ∙ ap (λ k. drop count (take k (drop start xs))) within
+
+pub returns : goal.returns
+returns c =
+    let old = c.self.inside in
+    let there = subst (λ (bytes : List ℕ). c.args.count ≤ length bytes) (sym c.self.view_is) c.requires in
+    fewer old.piece old.start old.end c.args.count there ∙ ap (drop c.args.count) c.self.view_is

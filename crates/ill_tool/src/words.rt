@@ -12,7 +12,7 @@ use crate::simulate::run_simulate;
 use clap::error::ErrorKind;
 use ill_saved::DeskFault;
 use std::alloc::Global;
-use std::io::{BufReader, BufWriter, Cursor, Read, Write};
+use std::io::{BufWriter, Cursor, Read, Write};
 use std::rt::Files;
 
 /// Performs one command line, whose first word is the program's name, and answers the exit status.
@@ -33,7 +33,8 @@ pub fn run_words<T: Files, R: Read, W: Write, E: Write>(
     }
 }
 
-/// Performs a command, with a buffer round either stream, and answers whether all went well.
+/// Performs a command, with a buffer round the writer, and answers whether all went well. The commands
+/// read pieces themselves.
 fn perform<T: Files, R: Read, W: Write>(
     rt: &T,
     alloc: Global,
@@ -41,9 +42,8 @@ fn perform<T: Files, R: Read, W: Write>(
     reader: &mut R,
     writer: &mut W,
 ) -> Result<bool, ToolFault> {
-    let mut reader = BufReader::new(alloc, reader).map_err(|_| ToolFault::OutOfMemory)?;
     let mut writer = BufWriter::new(alloc, writer).map_err(|_| ToolFault::OutOfMemory)?;
-    let done = run(rt, alloc, request, &mut reader, &mut writer);
+    let done = run(rt, alloc, request, reader, &mut writer);
     finish_writing(writer, done)
 }
 

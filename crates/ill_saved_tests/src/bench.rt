@@ -11,7 +11,6 @@ use crate::words::{write_fault, write_loaded, write_saved};
 use ill_core::State;
 use ill_saved::{Desk1, DeskFault, MemoryStore, NextCall, Store};
 use std::alloc::Global;
-use std::rt::Files;
 
 /// What answers calls. Nothing is answered where the words are none, or what is called lies not there.
 pub trait Answers {
@@ -27,14 +26,14 @@ pub trait Answers {
 
 /// A store, or a desk; and a folder.
 #[derive(Drop)]
-pub struct Bench<'a, R: Files> {
+pub struct Bench<'a> {
     alloc: Global,
     store: Option<MemoryStore>,
     desk: Option<Desk1<MemoryStore>>,
-    folder: Folder<'a, R>,
+    folder: Folder<'a>,
 }
 
-impl<'a, R: Files> Answers for Bench<'a, R> {
+impl<'a> Answers for Bench<'a> {
     fn call(&mut self, line: &mut Line, call: WordsCall, words: &str) -> Option<()> {
         match call {
             WordsCall::Store => self.lay_store(line),
@@ -61,9 +60,9 @@ impl<'a, R: Files> Answers for Bench<'a, R> {
     }
 }
 
-impl<'a, R: Files> Bench<'a, R> {
+impl<'a> Bench<'a> {
     /// A bench with nothing on it but this folder.
-    pub fn new(alloc: Global, folder: Folder<'a, R>) -> Bench<'a, R> {
+    pub fn new(alloc: Global, folder: Folder<'a>) -> Bench<'a> {
         Bench {
             alloc,
             store: None,

@@ -2,7 +2,7 @@
 
 use std::alloc::{AllocError, Allocator, Global};
 use std::cell::Cell;
-use std::fs::{Metadata, OpenFile, OpenOptions, Permissions};
+use std::fs::{File, Metadata, OpenFile, OpenOptions, Permissions};
 use std::io;
 use std::io::{Error, ErrorKind, Read, Seek, SeekFrom, Write};
 use std::os::unix::fs::MetadataExt;
@@ -11,16 +11,16 @@ use std::rt::Files;
 
 /// Files whose calls are counted. The call before which so many are made fails, and does nothing.
 #[derive(Drop)]
-pub struct Failing<'a, R: Files> {
-    rt: &'a R,
+pub struct Failing<'a> {
+    rt: &'a HostRuntime,
     left: Left,
     made: Cell<u32>,
 }
 
 /// One of these files, which is open.
 #[derive(Drop)]
-pub struct FailingFile<F: Drop> {
-    file: F,
+pub struct FailingFile {
+    file: File,
     left: Left,
 }
 
@@ -31,14 +31,14 @@ struct Left {
     fault: ErrorKind,
 }
 
-impl<'a, R: Files> Failing<'a, R> {
+impl<'a> Failing<'a> {
     /// These files, whose call fails with this fault before which so many are made.
     pub fn after(
-        rt: &'a R,
+        rt: &'a HostRuntime,
         alloc: Global,
         calls: u32,
         fault: ErrorKind,
-    ) -> Result<Failing<'a, R>, AllocError> {
+    ) -> Result<Failing<'a>, AllocError> {
         let calls = Rc::new(alloc, Cell::new(calls))?;
         Ok(Failing {
             rt,
@@ -74,12 +74,12 @@ impl Left {
     }
 }
 
-impl<'a, R: Files> Files for Failing<'a, R> {
-    type File = FailingFile<R::File>;
+impl<'a> Files for Failing<'a> {
+    type File = FailingFile;
 
-    type Dir = R::Dir;
+    type Dir = <HostRuntime as Files>::Dir;
 
-    fn open_file(&self, how: &OpenOptions, path: &str) -> io::Result<FailingFile<R::File>> {
+    fn open_file(&self, how: &OpenOptions, path: &str) -> io::Result<FailingFile> {
         self.left.pass()?;
         let file = self.rt.open_file(how, path)?;
         if how.asks_create_new() {
@@ -91,7 +91,7 @@ impl<'a, R: Files> Files for Failing<'a, R> {
         })
     }
 
-    fn open_dir(&self, path: &str) -> io::Result<R::Dir> {
+    fn open_dir(&self, path: &str) -> io::Result<Self::Dir> {
         self.rt.open_dir(path)
     }
 
@@ -136,7 +136,7 @@ impl<'a, R: Files> Files for Failing<'a, R> {
     }
 }
 
-impl<F: OpenFile + Drop> OpenFile for FailingFile<F> {
+impl OpenFile for FailingFile {
     fn metadata(&self) -> io::Result<Metadata> {
         self.file.metadata()
     }
@@ -160,14 +160,14 @@ impl<F: OpenFile + Drop> OpenFile for FailingFile<F> {
     }
 }
 
-impl<F: Read + Drop> Read for FailingFile<F> {
+impl Read for FailingFile {
     fn read(&mut self, buf: &mut [u8]) -> io::Result<usize> {
         self.left.pass()?;
         self.file.read(buf)
     }
 }
 
-impl<F: Write + Drop> Write for FailingFile<F> {
+impl Write for FailingFile {
     fn write(&mut self, buf: &[u8]) -> io::Result<usize> {
         self.left.pass()?;
         self.file.write(buf)
@@ -178,7 +178,7 @@ impl<F: Write + Drop> Write for FailingFile<F> {
     }
 }
 
-impl<F: Seek + Drop> Seek for FailingFile<F> {
+impl Seek for FailingFile {
     fn seek(&mut self, to: SeekFrom) -> io::Result<u64> {
         self.file.seek(to)
     }

@@ -20,16 +20,16 @@ use std::{fs, io};
 
 /// A folder, and the store that was laid in one of its files.
 #[derive(Drop)]
-pub struct Folder<'a, R: Files> {
-    rt: &'a R,
+pub struct Folder<'a> {
+    rt: &'a HostRuntime,
     alloc: Global,
     path: &'a str,
-    store: Option<FileStore<'a, R>>,
+    store: Option<FileStore<'a, HostRuntime>>,
 }
 
-impl<'a, R: Files> Folder<'a, R> {
+impl<'a> Folder<'a> {
     /// The folder at this path, in which no store was laid.
-    pub fn new(rt: &'a R, alloc: Global, path: &'a str) -> Folder<'a, R> {
+    pub fn new(rt: &'a HostRuntime, alloc: Global, path: &'a str) -> Folder<'a> {
         Folder {
             rt,
             alloc,
@@ -128,7 +128,7 @@ impl<'a, R: Files> Folder<'a, R> {
         self.call_failing(line, names, &files, path, words)
     }
 
-    fn failing_files(&self, calls: u32, fault: ErrorKind) -> Option<Failing<'a, R>> {
+    fn failing_files(&self, calls: u32, fault: ErrorKind) -> Option<Failing<'a>> {
         Failing::after(self.rt, self.alloc, calls, fault).ok()
     }
 
@@ -137,7 +137,7 @@ impl<'a, R: Files> Folder<'a, R> {
         &self,
         line: &mut Line,
         names: &Names,
-        files: &Failing<'a, R>,
+        files: &Failing<'a>,
         path: &str,
         words: &str,
     ) -> Option<()> {

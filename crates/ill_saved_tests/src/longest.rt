@@ -8,14 +8,13 @@ use ill_core::{Responder, State};
 use ill_saved::{Desk1, FileStore, Side, Store, encode_record};
 use ill_values::{Apdu, Body, Day, Item, Number, TxnId};
 use std::alloc::Global;
-use std::rt::Files;
 
 /// The most bytes of a record that a file of the commands has.
 const LIMIT: u32 = 65_535;
 
 /// Saves the longest record in a file, and writes its size, what a desk gives that begins from there, and
 /// what a store answers whose limit is one byte too low.
-pub fn write<R: Files>(rt: &R, alloc: Global, line: &mut Line, path: &str) -> Option<()> {
+pub fn write(rt: &HostRuntime, alloc: Global, line: &mut Line, path: &str) -> Option<()> {
     let size = save(&mut store(rt, alloc, path, LIMIT)?, alloc)?;
     line.show(&size);
     line.text(" bytes; started");
@@ -26,12 +25,12 @@ pub fn write<R: Files>(rt: &R, alloc: Global, line: &mut Line, path: &str) -> Op
     Some(())
 }
 
-fn store<'a, R: Files>(
-    rt: &'a R,
+fn store<'a>(
+    rt: &'a HostRuntime,
     alloc: Global,
     path: &str,
     limit: u32,
-) -> Option<FileStore<'a, R>> {
+) -> Option<FileStore<'a, HostRuntime>> {
     FileStore::at(rt, alloc, path, limit).ok()
 }
 
@@ -46,7 +45,7 @@ fn record(alloc: Global) -> Option<Vec<u8>> {
     encode_record(alloc, &longest(alloc)?).ok()
 }
 
-fn write_started<R: Files>(rt: &R, alloc: Global, line: &mut Line, path: &str) -> Option<()> {
+fn write_started(rt: &HostRuntime, alloc: Global, line: &mut Line, path: &str) -> Option<()> {
     let desk = Desk1::start(alloc, store(rt, alloc, path, LIMIT)?).ok()?;
     let written = write_desk(alloc, line, &desk);
     drop(desk);

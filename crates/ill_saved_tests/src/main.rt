@@ -33,7 +33,6 @@ use files::Folder;
 use session::Session;
 use std::alloc::Global;
 use std::io::{Error, ErrorKind};
-use std::rt::{Env, Files};
 use std::{env, fs, io};
 
 fn main(rt: HostRuntime) -> io::Result<()> {
@@ -54,7 +53,7 @@ fn print_answers(rt: &HostRuntime, alloc: Global, path: &str) -> io::Result<()> 
 }
 
 /// Makes a folder that was not there.
-fn make_folder<R: Files + Env + AllocGlobal>(rt: &R, alloc: Global) -> io::Result<String> {
+fn make_folder(rt: &HostRuntime, alloc: Global) -> io::Result<String> {
     let below = env::temp_dir(rt)?;
     for number in 0..u16::MAX {
         let path = format!(in alloc; "{}/ill_saved_tests.{number}", below.as_str())?;

@@ -55,7 +55,12 @@ fn write_responder(line: &mut Line, side: &Responder) {
     write_number(line, " renew ", side.last_renew());
     write_day(line, " due ", side.due());
     write_mark(line, " received", side.is_received());
-    if let Some(request) = side.request() {
+    write_request(line, side.request());
+}
+
+/// Writes the number of an ILL-Request and what it says, if there is one.
+fn write_request(line: &mut Line, request: Option<&Apdu>) {
+    if let Some(request) = request {
         write_number(line, " request ", Some(request.number));
         line.text(" ");
         write_body(line, &request.body);

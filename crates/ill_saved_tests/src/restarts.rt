@@ -8,7 +8,6 @@ use crate::line::Line;
 use ill_saved::{Desk1, DeskFault, FileStore};
 use ill_values::Number;
 use std::alloc::Global;
-use std::rt::Files;
 use std::{fs, io};
 
 /// The side that each desk begins with.
@@ -27,16 +26,16 @@ pub enum Damage {
 
 /// A file for a record, with a limit.
 #[derive(Drop)]
-pub struct Restarts<'a, R: Files> {
-    rt: &'a R,
+pub struct Restarts<'a> {
+    rt: &'a HostRuntime,
     alloc: Global,
     path: &'a str,
     limit: u32,
 }
 
-impl<'a, R: Files> Restarts<'a, R> {
+impl<'a> Restarts<'a> {
     /// The file at this path.
-    pub fn new(rt: &'a R, alloc: Global, path: &'a str, limit: u32) -> Restarts<'a, R> {
+    pub fn new(rt: &'a HostRuntime, alloc: Global, path: &'a str, limit: u32) -> Restarts<'a> {
         Restarts {
             rt,
             alloc,
@@ -66,12 +65,16 @@ impl<'a, R: Files> Restarts<'a, R> {
         shown
     }
 
-    fn store(&self) -> Option<FileStore<'a, R>> {
+    fn store(&self) -> Option<FileStore<'a, HostRuntime>> {
         FileStore::at(self.rt, self.alloc, self.path, self.limit).ok()
     }
 
     /// A desk that begins with the first side.
-    fn create(&self) -> Option<Result<Desk1<FileStore<'a, R>>, (DeskFault, FileStore<'a, R>)>> {
+    fn create(
+        &self,
+    ) -> Option<
+        Result<Desk1<FileStore<'a, HostRuntime>>, (DeskFault, FileStore<'a, HostRuntime>)>,
+    > {
         let store = self.store()?;
         let first = idle(self.alloc, FIRST)?;
         Some(Desk1::create(self.alloc, store, first))
@@ -86,16 +89,16 @@ impl<'a, R: Files> Restarts<'a, R> {
     }
 
     /// Has the desk ask, and saves that.
-    fn ask(&self, desk: &mut Desk1<FileStore<'a, R>>) -> Option<()> {
+    fn ask(&self, desk: &mut Desk1<FileStore<'a, HostRuntime>>) -> Option<()> {
         self.act(desk, "request none Maps")?;
         desk.save(self.alloc).ok()
     }
 
-    fn act(&self, desk: &mut Desk1<FileStore<'a, R>>, words: &str) -> Option<()> {
+    fn act(&self, desk: &mut Desk1<FileStore<'a, HostRuntime>>, words: &str) -> Option<()> {
         desk.act(self.alloc, &action(self.alloc, words)?).ok()
     }
 
-    fn show(&self, line: &mut Line, desk: &Desk1<FileStore<'a, R>>) -> Option<()> {
+    fn show(&self, line: &mut Line, desk: &Desk1<FileStore<'a, HostRuntime>>) -> Option<()> {
         DeskView::of(self.alloc, desk)?.write(line);
         line.text(", ");
         line.octets(&self.first_message(desk)?);
@@ -113,7 +116,7 @@ impl<'a, R: Files> Restarts<'a, R> {
     fn damage(
         &self,
         line: &mut Line,
-        desk: &mut Desk1<FileStore<'a, R>>,
+        desk: &mut Desk1<FileStore<'a, HostRuntime>>,
         damage: &Damage,
     ) -> Option<()> {
         self.ask(desk)?;
@@ -137,16 +140,23 @@ impl<'a, R: Files> Restarts<'a, R> {
 
     /// Writes what `restart` answers, and where the desk stands then. After a fault that is as before,
     /// and its first message has the bytes that it had.
-    fn restart(&self, line: &mut Line, desk: &mut Desk1<FileStore<'a, R>>) -> Option<()> {
+    fn restart(&self, line: &mut Line, desk: &mut Desk1<FileStore<'a, HostRuntime>>) -> Option<()> {
         let message = self.first_message(desk)?;
         let is_done = restart(self.alloc, line, desk, "done")?;
-        if !is_done && self.first_message(desk)?.as_slice() != message.as_slice() {
+        if !is_done && !self.has_first_message(desk, &message) {
             line.text(" ANOTHER MESSAGE");
         }
         Some(())
     }
 
-    fn first_message(&self, desk: &Desk1<FileStore<'a, R>>) -> Option<Vec<u8>> {
+    fn has_first_message(&self, desk: &Desk1<FileStore<'a, HostRuntime>>, bytes: &[u8]) -> bool {
+        match self.first_message(desk) {
+            Some(message) => message.as_slice() == bytes,
+            None => false,
+        }
+    }
+
+    fn first_message(&self, desk: &Desk1<FileStore<'a, HostRuntime>>) -> Option<Vec<u8>> {
         desk.message(self.alloc, Number::new(1)?).ok()
     }
 }

@@ -5,14 +5,9 @@ use crate::judging::Outcome;
 use crate::words::Words;
 use crate::{codec, desks, records, sides, starts, stores, tool, values, worlds};
 use std::alloc::Global;
-use std::rt::Files;
 
 /// What comes of the case of these words, or `None` where they are none.
-pub fn outcome<R: Files>(
-    alloc: Global,
-    folder: &Folder<'_, R>,
-    words: &mut Words<'_>,
-) -> Option<Outcome> {
+pub fn outcome(alloc: Global, folder: &Folder<'_>, words: &mut Words<'_>) -> Option<Outcome> {
     let _memory = words.word()?;
     match words.word()? {
         "requester" => sides::requester(alloc, words),
@@ -24,9 +19,9 @@ pub fn outcome<R: Files>(
 }
 
 /// What comes of this call of a library.
-fn call_outcome<R: Files>(
+fn call_outcome(
     alloc: Global,
-    folder: &Folder<'_, R>,
+    folder: &Folder<'_>,
     call: &str,
     words: &mut Words<'_>,
 ) -> Option<Outcome> {

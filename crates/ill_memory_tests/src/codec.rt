@@ -1,13 +1,13 @@
 //! The calls of the codec.
 
-use crate::judging::{Outcome, answered, done_if, judged, leaving, quiet};
+use crate::judging::{Outcome, answered, done_if, encoded, judged, leaving, quiet};
 use crate::marks::{begin, end};
 use crate::values::request;
 use ill_der::{
     ApduView, DerFault, Feed, Handler, Pushed, ReadFault, WriteFault, decode, encode, read_apdu,
     size, write_apdu,
 };
-use ill_values::{Apdu, OutOfMemory};
+use ill_values::Apdu;
 use std::alloc::Global;
 
 /// The bytes of the ILL-Request for maps, number 1.
@@ -19,12 +19,12 @@ const REQUEST_AND_MORE: &[u8] =
     b"\x61\x16\x80\x01\x01\xA1\x08\x81\x02G1\x82\x02T1\x82\x01\x01\x86\x04Maps\x61\x16";
 
 pub fn encodes(alloc: Global) -> Option<Outcome> {
-    let (apdu, ample) = request(alloc).zip(Vec::from_slice(alloc, REQUEST).ok())?;
+    let apdu = request(alloc)?;
     begin(alloc);
     let bytes = encode(alloc, &apdu);
     let refused = end(alloc);
     drop(apdu);
-    Some(answered(bytes, ample, OutOfMemory, refused))
+    Some(encoded(&bytes, REQUEST, refused))
 }
 
 pub fn decodes(alloc: Global) -> Option<Outcome> {
@@ -72,15 +72,22 @@ pub fn sizes(alloc: Global) -> Option<Outcome> {
 pub fn decodes_digits(alloc: Global, word: &str) -> Option<Outcome> {
     let digits = if word == "-" { "" } else { word };
     let bytes = hex::decode(alloc, digits).ok()?;
+    Some(decodes_nothing(alloc, &bytes))
+}
+
+fn decodes_nothing(alloc: Global, bytes: &[u8]) -> Outcome {
     begin(alloc);
-    let fault = decode(alloc, &bytes).err();
+    let fault = decode(alloc, bytes).err();
     let refused = end(alloc);
-    let outcome = match fault {
+    judged(fault_outcome(fault), refused)
+}
+
+fn fault_outcome(fault: Option<DerFault>) -> Outcome {
+    match fault {
         None => Outcome::Wrong,
         Some(DerFault::OutOfMemory) => Outcome::Memory,
         Some(fault) => Outcome::Fault(fault),
-    };
-    Some(judged(outcome, refused))
+    }
 }
 
 /// The bytes of two ILL-Requests, the first 5 alone.

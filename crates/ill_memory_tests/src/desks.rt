@@ -38,7 +38,7 @@ enum Call {
     Message,
 }
 
-const CALLS: [(&str, Call); 7] = [
+static CALLS: [(&str, Call); 7] = [
     ("act", Call::Act),
     ("act-of-other-role", Call::Act),
     ("take_bytes", Call::TakeBytes),
@@ -74,20 +74,51 @@ type Ample<'a> = (Option<DeskFault>, &'a [u8]);
 pub fn outcome(alloc: Global, name: &str, words: &mut Words<'_>) -> Option<Outcome> {
     let role = Role::read(words)?;
     let plan = words.plan().unwrap_or(NextCall::Works);
-    let mut desk = desk(alloc, role)?;
-    let outcome = called(alloc, &mut desk, name, role, plan, role.record());
+    let mut desk = started_desk(alloc, role)?;
+    let outcome = acts_and_calls(alloc, &mut desk, name, role, plan);
     drop(desk);
     outcome
+}
+
+/// The outcome of the call of this name behind an action, which is not saved.
+fn acts_and_calls(
+    alloc: Global,
+    desk: &mut Desk1<MemoryStore>,
+    name: &str,
+    role: Role,
+    plan: NextCall,
+) -> Option<Outcome> {
+    if !acts(alloc, desk, first_action(role)) {
+        return None;
+    }
+    called(alloc, desk, name, role, plan, role.record())
 }
 
 /// `restart` of a desk that has begun and saved nothing.
 pub fn restarts_idle(alloc: Global, words: &mut Words<'_>) -> Option<Outcome> {
     let role = Role::read(words)?;
-    let mut desk = unsaved_desk(alloc, role)?;
-    let works = NextCall::Works;
-    let outcome = called(alloc, &mut desk, "restart", role, works, role.idle_record());
+    let first = idle_side(alloc, role)?;
+    let mut desk = Desk1::create(alloc, MemoryStore::new(alloc), first).ok()?;
+    let outcome = begins_and_restarts(alloc, &mut desk, role);
     drop(desk);
     outcome
+}
+
+/// The outcome of `restart` behind the first message, which is not saved.
+fn begins_and_restarts(
+    alloc: Global,
+    desk: &mut Desk1<MemoryStore>,
+    role: Role,
+) -> Option<Outcome> {
+    let has_begun = match role {
+        Role::Requester => acts(alloc, desk, wish(alloc, "Request")),
+        Role::Responder => desk.take_bytes(alloc, REQUEST).is_ok(),
+    };
+    if !has_begun {
+        return None;
+    }
+    let works = NextCall::Works;
+    called(alloc, desk, "restart", role, works, role.idle_record())
 }
 
 /// The outcome of the call of this name, under a plan of the store, in which this has landed. A name of no
@@ -232,22 +263,9 @@ fn shows(alloc: Global, desk: &mut Desk1<MemoryStore>) -> Outcome {
     quiet(is_planned && is_restarted, refused)
 }
 
-/// A desk of this role whose side has issued one message more than its store has.
-fn desk(alloc: Global, role: Role) -> Option<Desk1<MemoryStore>> {
-    let store = store(alloc, role.record())?;
-    let mut desk = Desk1::start(alloc, store).ok()?;
-    acts(alloc, &mut desk, first_action(role)).then_some(desk)
-}
-
-/// A desk of this role that has begun and saved nothing.
-fn unsaved_desk(alloc: Global, role: Role) -> Option<Desk1<MemoryStore>> {
-    let first = idle_side(alloc, role)?;
-    let mut desk = Desk1::create(alloc, MemoryStore::new(alloc), first).ok()?;
-    let has_begun = match role {
-        Role::Requester => acts(alloc, &mut desk, wish(alloc, "Request")),
-        Role::Responder => desk.take_bytes(alloc, REQUEST).is_ok(),
-    };
-    has_begun.then_some(desk)
+/// A desk that starts from the record of this role.
+pub fn started_desk(alloc: Global, role: Role) -> Option<Desk1<MemoryStore>> {
+    Desk1::start(alloc, store(alloc, role.record())?).ok()
 }
 
 /// Whether the desk does this.

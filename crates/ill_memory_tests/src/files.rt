@@ -8,7 +8,6 @@ use ill_saved::{FileStore, Store, StoreFault};
 use ill_values::OutOfMemory;
 use std::alloc::Global;
 use std::fs;
-use std::rt::Files;
 
 /// The most bytes that a store loads here.
 const LIMIT: u32 = 100;
@@ -16,7 +15,7 @@ const LIMIT: u32 = 100;
 /// A call of `load`: the name of the file, the limit, and what it answers with ample memory.
 type Load = (&'static str, u32, Result<Option<&'static [u8]>, StoreFault>);
 
-const LOADS: [(&str, Load); 4] = [
+static LOADS: [(&str, Load); 4] = [
     ("load", ("record", LIMIT, Ok(Some(OLD)))),
     ("load-nothing", ("nothing", LIMIT, Ok(None))),
     ("load-too-large", ("record", 1, Err(StoreFault::TooLarge))),
@@ -29,7 +28,7 @@ const LOADS: [(&str, Load); 4] = [
 /// A call of `save`: the name of the file, what it answers with ample memory, and the record after it.
 type Save = (&'static str, Result<(), StoreFault>, &'static [u8]);
 
-const SAVES: [(&str, Save); 2] = [
+static SAVES: [(&str, Save); 2] = [
     ("save", ("record", Ok(()), NEW)),
     (
         "save-failed",
@@ -39,14 +38,14 @@ const SAVES: [(&str, Save); 2] = [
 
 /// A folder, and the system that it is in.
 #[derive(Drop)]
-pub struct Folder<'a, R: Files> {
-    rt: &'a R,
+pub struct Folder<'a> {
+    rt: &'a HostRuntime,
     path: String,
 }
 
-impl<'a, R: Files> Folder<'a, R> {
+impl<'a> Folder<'a> {
     /// The folder at this path.
-    pub fn new(rt: &'a R, path: String) -> Folder<'a, R> {
+    pub fn new(rt: &'a HostRuntime, path: String) -> Folder<'a> {
         Folder { rt, path }
     }
 
@@ -72,7 +71,7 @@ impl<'a, R: Files> Folder<'a, R> {
     }
 
     /// The store in the file with this name, which loads so many bytes at most.
-    fn store(&self, alloc: Global, name: &str, limit: u32) -> Option<FileStore<'a, R>> {
+    fn store(&self, alloc: Global, name: &str, limit: u32) -> Option<FileStore<'a, HostRuntime>> {
         let path = self.path(alloc, name)?;
         FileStore::at(self.rt, alloc, path.as_str(), limit).ok()
     }

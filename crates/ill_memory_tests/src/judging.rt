@@ -3,6 +3,7 @@
 use crate::shown::{RequesterShown, ResponderShown};
 use ill_core::{Refusal, State, Taking};
 use ill_der::DerFault;
+use ill_values::OutOfMemory;
 
 /// What came of a case.
 #[derive(Debug, Drop)]
@@ -59,6 +60,15 @@ pub fn answered<T: PartialEq + Drop, F: PartialEq + Drop>(
         Ok(value) => done_if(*value == ample),
         Err(fault) if *fault == memory => Outcome::Memory,
         Err(_) => Outcome::Wrong,
+    };
+    judged(outcome, refused)
+}
+
+/// The outcome of a call that has to give these bytes with ample memory.
+pub fn encoded(bytes: &Result<Vec<u8>, OutOfMemory>, ample: &[u8], refused: bool) -> Outcome {
+    let outcome = match bytes {
+        Ok(bytes) => done_if(bytes.as_slice() == ample),
+        Err(OutOfMemory) => Outcome::Memory,
     };
     judged(outcome, refused)
 }

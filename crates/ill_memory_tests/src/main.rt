@@ -33,7 +33,6 @@ use files::Folder;
 use judging::Outcome;
 use std::alloc::Global;
 use std::io::{Error, ErrorKind};
-use std::rt::{Env, Files};
 use std::{env, fs, io};
 use words::Words;
 
@@ -47,7 +46,7 @@ fn main(rt: HostRuntime) -> io::Result<()> {
 }
 
 /// Makes a folder that was not there.
-fn make_folder<R: Files + Env + AllocGlobal>(rt: &R, alloc: Global) -> io::Result<String> {
+fn make_folder(rt: &HostRuntime, alloc: Global) -> io::Result<String> {
     let below = env::temp_dir(rt)?;
     for number in 0..u16::MAX {
         let path = format!(in alloc; "{}/ill_memory_tests.{number}", below.as_str())?;
@@ -59,18 +58,14 @@ fn make_folder<R: Files + Env + AllocGlobal>(rt: &R, alloc: Global) -> io::Resul
 }
 
 /// Makes a folder, and tells whether it was not there.
-fn is_made<R: Files>(rt: &R, path: &str) -> io::Result<bool> {
+fn is_made(rt: &HostRuntime, path: &str) -> io::Result<bool> {
     match fs::create_dir(rt, path) {
         Err(error) if error.kind() == ErrorKind::AlreadyExists => Ok(false),
         made => made.and(Ok(true)),
     }
 }
 
-fn perform_lines<R: Files>(
-    rt: &(impl Input + Print),
-    alloc: Global,
-    folder: &Folder<'_, R>,
-) -> io::Result<()> {
+fn perform_lines(rt: &(impl Input + Print), alloc: Global, folder: &Folder<'_>) -> io::Result<()> {
     let text = io::read_to_string(alloc, rt.reader())?;
     for line in text.as_str().lines() {
         perform_line(rt, alloc, folder, line)?;
@@ -78,12 +73,7 @@ fn perform_lines<R: Files>(
     Ok(())
 }
 
-fn perform_line<R: Files>(
-    rt: &impl Print,
-    alloc: Global,
-    folder: &Folder<'_, R>,
-    line: &str,
-) -> io::Result<()> {
+fn perform_line(rt: &impl Print, alloc: Global, folder: &Folder<'_>, line: &str) -> io::Result<()> {
     if line.starts_with('#') {
         return println!(rt; "{line}");
     }

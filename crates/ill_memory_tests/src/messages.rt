@@ -117,16 +117,18 @@ fn item(alloc: Global) -> Option<Item> {
     Item::new(alloc, b"Maps").ok()
 }
 
+static RESULTS: [(&str, AnswerResult); 7] = [
+    ("Conditional", AnswerResult::Conditional),
+    ("Retry", AnswerResult::Retry),
+    ("Unfilled", AnswerResult::Unfilled),
+    ("LocationsProvided", AnswerResult::LocationsProvided),
+    ("WillSupply", AnswerResult::WillSupply),
+    ("HoldPlaced", AnswerResult::HoldPlaced),
+    ("Estimate", AnswerResult::Estimate),
+];
+
 fn result(words: &mut Words<'_>) -> Option<AnswerResult> {
-    words.named(&[
-        ("Conditional", AnswerResult::Conditional),
-        ("Retry", AnswerResult::Retry),
-        ("Unfilled", AnswerResult::Unfilled),
-        ("LocationsProvided", AnswerResult::LocationsProvided),
-        ("WillSupply", AnswerResult::WillSupply),
-        ("HoldPlaced", AnswerResult::HoldPlaced),
-        ("Estimate", AnswerResult::Estimate),
-    ])
+    words.named(&RESULTS)
 }
 
 /// What the library of a requester decides.
@@ -151,14 +153,18 @@ pub fn wish(alloc: Global, word: &str) -> Option<Action> {
 pub fn deed(words: &mut Words<'_>) -> Option<Action> {
     let today = words.day()?;
     let mut fields = Words::new(words.word()?, ':');
-    let deed = match fields.word()? {
-        "Overdue" => Deed::Overdue,
-        "Recall" => Deed::Recall,
-        "CheckIn" => Deed::CheckIn,
-        "Expire" => Deed::Expire,
-        name => deed_with_fields(name, &mut fields)?,
-    };
+    let deed = deed_of(&mut fields)?;
     Some(Action::Deed(deed, today))
+}
+
+fn deed_of(fields: &mut Words<'_>) -> Option<Deed> {
+    match fields.word()? {
+        "Overdue" => Some(Deed::Overdue),
+        "Recall" => Some(Deed::Recall),
+        "CheckIn" => Some(Deed::CheckIn),
+        "Expire" => Some(Deed::Expire),
+        name => deed_with_fields(name, fields),
+    }
 }
 
 fn deed_with_fields(name: &str, fields: &mut Words<'_>) -> Option<Deed> {

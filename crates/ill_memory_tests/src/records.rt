@@ -1,6 +1,6 @@
 //! Saved records of both roles.
 
-use crate::judging::{Outcome, answered, done_if, judged};
+use crate::judging::{Outcome, done_if, encoded, judged};
 use crate::marks::{begin, end};
 use crate::words::Words;
 use ill_saved::{RecordFault, Side, decode_record, encode_record};
@@ -29,13 +29,15 @@ pub enum Role {
     Responder,
 }
 
+static ROLES: [(&str, Role); 2] = [
+    ("requester", Role::Requester),
+    ("responder", Role::Responder),
+];
+
 impl Role {
     /// The role that the next word names.
     pub fn read(words: &mut Words<'_>) -> Option<Role> {
-        words.named(&[
-            ("requester", Role::Requester),
-            ("responder", Role::Responder),
-        ])
+        words.named(&ROLES)
     }
 
     /// The record of a side of this role.
@@ -65,16 +67,15 @@ pub fn encodes(alloc: Global, words: &mut Words<'_>) -> Option<Outcome> {
     let side = role.side(alloc)?;
     let outcome = encodes_side(alloc, &side, role.record());
     drop(side);
-    outcome
+    Some(outcome)
 }
 
 /// `encode_record` of the side that has this record.
-fn encodes_side(alloc: Global, side: &Side, record: &[u8]) -> Option<Outcome> {
-    let ample = Vec::from_slice(alloc, record).ok()?;
+fn encodes_side(alloc: Global, side: &Side, record: &[u8]) -> Outcome {
     begin(alloc);
     let bytes = encode_record(alloc, side);
     let refused = end(alloc);
-    Some(answered(bytes, ample, OutOfMemory, refused))
+    encoded(&bytes, record, refused)
 }
 
 /// `decode_record`, whose side is the one that has this record.
@@ -83,13 +84,17 @@ pub fn decodes(alloc: Global, words: &mut Words<'_>) -> Option<Outcome> {
     begin(alloc);
     let decoded = decode_record(alloc, role.record());
     let refused = end(alloc);
-    let outcome = match &decoded {
-        Ok(side) => done_if(spells(alloc, side, role.record())),
-        Err(RecordFault::OutOfMemory) => Outcome::Memory,
-        Err(_) => Outcome::Wrong,
-    };
+    let outcome = decoded_outcome(alloc, &decoded, role.record());
     drop(decoded);
     Some(judged(outcome, refused))
+}
+
+fn decoded_outcome(alloc: Global, decoded: &Result<Side, RecordFault>, record: &[u8]) -> Outcome {
+    match decoded {
+        Ok(side) => done_if(spells(alloc, side, record)),
+        Err(RecordFault::OutOfMemory) => Outcome::Memory,
+        Err(_) => Outcome::Wrong,
+    }
 }
 
 /// Whether this is the record of the side.

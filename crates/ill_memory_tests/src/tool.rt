@@ -1,11 +1,10 @@
 //! The commands of one side: what each writes, and what it leaves in memory and in its store.
 
 use crate::codec::REQUEST;
-use crate::desks::{CONDITIONS, NO, SHIPPED};
+use crate::desks::{CONDITIONS, NO, SHIPPED, started_desk};
 use crate::judging::{Outcome, done_if, judged, leaving};
 use crate::marks::{begin, end};
 use crate::records::Role;
-use crate::stores::store;
 use crate::words::{Words, named};
 use ill_core::State;
 use ill_saved::{Desk1, MemoryStore};
@@ -44,7 +43,7 @@ const ROOM: usize = 512;
 pub fn outcome(alloc: Global, command: &str, words: &mut Words<'_>) -> Option<Outcome> {
     let role = Role::read(words)?;
     let case = case_of(command, role)?;
-    let mut desk = Desk1::start(alloc, store(alloc, role.record())?).ok()?;
+    let mut desk = started_desk(alloc, role)?;
     let outcome = performed(alloc, &mut desk, case);
     drop(desk);
     outcome
@@ -115,7 +114,7 @@ fn case_of(command: &str, role: Role) -> Option<Case> {
 }
 
 /// The commands on a requester in CONDITIONAL, which has issued its request.
-const ON_REQUESTER: [(&str, Case); 4] = [
+static ON_REQUESTER: [(&str, Case); 4] = [
     (
         "run_act",
         Case {
@@ -151,7 +150,7 @@ const ON_REQUESTER: [(&str, Case); 4] = [
 ];
 
 /// The commands on a responder in IN-PROCESS, which has issued two messages.
-const ON_RESPONDER: [(&str, Case); 4] = [
+static ON_RESPONDER: [(&str, Case); 4] = [
     (
         "run_act",
         Case {

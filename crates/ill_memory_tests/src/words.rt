@@ -4,13 +4,17 @@ use ill_core::State;
 use ill_saved::NextCall;
 use ill_values::{Day, Number};
 
-const PLANS: [(&str, NextCall); 3] = [
+static PLANS: [(&str, NextCall); 3] = [
     ("Works", NextCall::Works),
     ("FailsOld", NextCall::FailsOld),
     ("FailsNew", NextCall::FailsNew),
 ];
 
-const STATES: [(&str, State); 16] = [
+static ANSWERS: [(&str, bool); 2] = [("yes", true), ("no", false)];
+
+static MARKS: [(&str, bool); 3] = [("-", false), ("checked-in", true), ("received", true)];
+
+static STATES: [(&str, State); 16] = [
     ("Idle", State::Idle),
     ("Pending", State::Pending),
     ("InProcess", State::InProcess),
@@ -91,12 +95,12 @@ impl<'a> Words<'a> {
 
     /// `yes` or `no`.
     pub fn yes(&mut self) -> Option<bool> {
-        self.named(&[("yes", true), ("no", false)])
+        self.named(&ANSWERS)
     }
 
     /// A mark by its name, or `-` where it is not there.
     pub fn mark(&mut self) -> Option<bool> {
-        self.named(&[("-", false), ("checked-in", true), ("received", true)])
+        self.named(&MARKS)
     }
 
     /// What a store does next.

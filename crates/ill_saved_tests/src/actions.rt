@@ -1,5 +1,6 @@
 //! Actions, from their words.
 
+use crate::calls::named;
 use ill_core::{Deed, Wish};
 use ill_saved::Action;
 use ill_values::{AnswerResult, Day, Item};
@@ -9,8 +10,8 @@ use std::alloc::Global;
 pub fn action(alloc: Global, words: &str) -> Option<Action> {
     let (first, others) = words.split_once(' ').unwrap_or((words, ""));
     match day(first) {
-        Some(today) => deed(others).map(|deed| Action::Deed(deed, today)),
-        None => wish(alloc, words).map(Action::Wish),
+        Some(today) => Some(Action::Deed(deed(others)?, today)),
+        None => Some(Action::Wish(wish(alloc, words)?)),
     }
 }
 
@@ -47,15 +48,12 @@ const DEEDS: [(&str, Deed); 9] = [
 ];
 
 fn deed(words: &str) -> Option<Deed> {
-    match DEEDS.iter().find(|(name, _)| *name == words) {
-        Some((_, deed)) => Some(*deed),
-        None => dated_deed(words),
-    }
+    named(&DEEDS, words).or(dated_deed(words))
 }
 
 fn dated_deed(words: &str) -> Option<Deed> {
     if let Some(digits) = words.strip_prefix("ship ") {
-        return day(digits).map(|due| Deed::Ship { due });
+        return Some(Deed::Ship { due: day(digits)? });
     }
     let granted = Some(day(words.strip_prefix("renew-answer yes ")?)?);
     Some(Deed::RenewAnswer { granted })

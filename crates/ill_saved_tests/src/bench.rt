@@ -1,6 +1,6 @@
 //! What lies on the bench: nothing at first, then a store, or a desk with its store.
 
-use crate::calls::{BytesCall, WordsCall};
+use crate::calls::{BytesCall, WordsCall, named};
 use crate::desk_view::DeskView;
 use crate::desks;
 use crate::files::Folder;
@@ -87,7 +87,7 @@ impl<'a> Bench<'a> {
 
     /// `next PLAN`
     fn plan(&mut self, line: &mut Line, words: &str) -> Option<()> {
-        let next = next_call(words)?;
+        let next = named(&PLANS, words)?;
         match &mut self.store {
             Some(store) => store.set_next(next),
             None => self.desk.as_mut()?.set_next(next),
@@ -100,14 +100,16 @@ impl<'a> Bench<'a> {
     fn create(&mut self, line: &mut Line, words: &str) -> Option<()> {
         let store = self.store.take()?;
         let answer = Desk1::create(self.alloc, store, idle(self.alloc, words)?);
-        self.begin(line, answer)
+        self.begin(line, answer);
+        Some(())
     }
 
     /// `start`, over the store that lies there.
     fn start(&mut self, line: &mut Line) -> Option<()> {
         let store = self.store.take()?;
         let answer = Desk1::start(self.alloc, store);
-        self.begin(line, answer)
+        self.begin(line, answer);
+        Some(())
     }
 
     /// Lays the new desk there, or the store that was handed back.
@@ -115,27 +117,22 @@ impl<'a> Bench<'a> {
         &mut self,
         line: &mut Line,
         answer: Result<Desk1<MemoryStore>, (DeskFault, MemoryStore)>,
-    ) -> Option<()> {
+    ) {
         match answer {
             Ok(desk) => {
                 line.text("done");
-                let desk = self.desk.insert(desk);
-                DeskView::of(self.alloc, desk)?.write(line);
+                DeskView::of(self.alloc, self.desk.insert(desk)).write(line);
             }
             Err((fault, store)) => {
                 write_fault(line, fault, State::Idle);
                 drop(self.store.replace(store));
             }
         }
-        Some(())
     }
 }
 
-fn next_call(word: &str) -> Option<NextCall> {
-    match word {
-        "works" => Some(NextCall::Works),
-        "fails-old" => Some(NextCall::FailsOld),
-        "fails-new" => Some(NextCall::FailsNew),
-        _ => None,
-    }
-}
+static PLANS: [(&str, NextCall); 3] = [
+    ("works", NextCall::Works),
+    ("fails-old", NextCall::FailsOld),
+    ("fails-new", NextCall::FailsNew),
+];

@@ -51,7 +51,7 @@ pub enum WordsCall {
     Restart,
 }
 
-const CALLS: [(&str, Call); 20] = [
+static CALLS: [(&str, Call); 20] = [
     ("", Call::Note),
     ("#", Call::Note),
     ("let", Call::Let),
@@ -76,6 +76,15 @@ const CALLS: [(&str, Call); 20] = [
 
 /// What this word says.
 pub fn call_of(word: &str) -> Option<Call> {
-    let found = CALLS.iter().find(|(name, _)| *name == word);
-    found.map(|(_, call)| *call)
+    named(&CALLS, word)
+}
+
+/// What this word names, of these names with what they stand for.
+pub fn named<T: Copy>(names: &[(&str, T)], word: &str) -> Option<T> {
+    for (name, value) in names {
+        if *name == word {
+            return Some(*value);
+        }
+    }
+    None
 }

@@ -9,20 +9,21 @@ use std::alloc::Global;
 /// the side are the record's.
 #[derive(Drop)]
 pub struct DeskView {
-    record: Vec<u8>,
+    /// None where memory was wanted for it.
+    record: Option<Vec<u8>>,
     released: u8,
     pub side: Facts,
 }
 
 impl DeskView {
     /// What is seen of this desk.
-    pub fn of<S: Store>(alloc: Global, desk: &Desk1<S>) -> Option<DeskView> {
+    pub fn of<S: Store>(alloc: Global, desk: &Desk1<S>) -> DeskView {
         let side = desk.side();
-        Some(DeskView {
-            record: encode_record(alloc, side).ok()?,
+        DeskView {
+            record: encode_record(alloc, side).ok(),
             released: desk.released(),
             side: side_facts(side),
-        })
+        }
     }
 
     /// Writes the state and the due date, and how many messages are released and issued.
@@ -39,8 +40,16 @@ impl DeskView {
     /// Writes the same after an answer that changes nothing, and whether anything has changed.
     pub fn write_after(&self, line: &mut Line, before: &DeskView) {
         self.write(line);
-        if self.record.as_slice() != before.record.as_slice() || self.released != before.released {
+        if !self.is_as(before) {
             line.text(" CHANGED");
+        }
+    }
+
+    /// Whether nothing has changed, and that is known.
+    fn is_as(&self, before: &DeskView) -> bool {
+        match (&self.record, &before.record) {
+            (Some(record), Some(old)) => record == old && self.released == before.released,
+            _ => false,
         }
     }
 }

@@ -9,7 +9,7 @@ use crate::words::{taking_word, write_fault};
 use ill_core::{State, Taking};
 use ill_der::decode;
 use ill_saved::{Desk1, DeskFault, MemoryStore, Store};
-use ill_values::Number;
+use ill_values::{Apdu, Number};
 use std::alloc::Global;
 
 /// Writes the answer of a call: this word, or a fault.
@@ -32,6 +32,12 @@ fn write_answer(
     }
 }
 
+/// Writes why a desk that stands so did nothing.
+fn write_refusal(line: &mut Line, fault: DeskFault, view: &DeskView) {
+    write_fault(line, fault, view.side.state);
+    view.write(line);
+}
+
 /// Writes whether a desk was begun, or why not.
 pub fn write_begun<D: Drop, S: Drop>(line: &mut Line, begun: Result<D, (DeskFault, S)>) {
     match begun {
@@ -51,7 +57,10 @@ pub fn call(
     match call {
         WordsCall::Act => act(alloc, line, desk, words),
         WordsCall::Message => message(alloc, line, desk, words),
-        WordsCall::Restart => restart(alloc, line, desk, "restarted").map(drop),
+        WordsCall::Restart => {
+            restart(alloc, line, desk, "restarted");
+            Some(())
+        }
         _ => None,
     }
 }
@@ -65,63 +74,59 @@ pub fn call_with(
     bytes: &[u8],
 ) -> Option<()> {
     match call {
+        BytesCall::Hand => return hand(alloc, line, desk, bytes),
+        BytesCall::Messages => return messages(alloc, line, desk, bytes),
         BytesCall::Save => save(alloc, line, desk),
         BytesCall::Take => take(alloc, line, desk, bytes),
-        BytesCall::Hand => hand(alloc, line, desk, bytes),
-        BytesCall::Live => live(alloc, line, desk, bytes),
-        BytesCall::Messages => messages(alloc, line, desk, bytes),
+        // what the live side is, and whether its record has these bytes
+        BytesCall::Live => write_side(alloc, line, desk.side(), bytes),
     }
+    Some(())
 }
 
 /// `act WORDS`
 fn act(alloc: Global, line: &mut Line, desk: &mut Desk1<MemoryStore>, words: &str) -> Option<()> {
     let action = action(alloc, words)?;
-    let before = DeskView::of(alloc, desk)?;
+    let before = DeskView::of(alloc, desk);
     let answer = desk.act(alloc, &action);
-    let after = DeskView::of(alloc, desk)?;
-    write_answer(line, "done", answer, &before, &after);
+    write_answer(line, "done", answer, &before, &DeskView::of(alloc, desk));
     Some(())
 }
 
 /// `save`
-fn save(alloc: Global, line: &mut Line, desk: &mut Desk1<MemoryStore>) -> Option<()> {
-    let before = DeskView::of(alloc, desk)?;
+fn save(alloc: Global, line: &mut Line, desk: &mut Desk1<MemoryStore>) {
+    let before = DeskView::of(alloc, desk);
     let answer = desk.save(alloc);
-    let after = DeskView::of(alloc, desk)?;
-    write_answer(line, "saved", answer, &before, &after);
-    Some(())
+    write_answer(line, "saved", answer, &before, &DeskView::of(alloc, desk));
 }
 
 /// `restart`: this word, or why not; and whether it was done.
-pub fn restart<S: Store>(
-    alloc: Global,
-    line: &mut Line,
-    desk: &mut Desk1<S>,
-    word: &str,
-) -> Option<bool> {
-    let before = DeskView::of(alloc, desk)?;
+pub fn restart<S: Store>(alloc: Global, line: &mut Line, desk: &mut Desk1<S>, word: &str) -> bool {
+    let before = DeskView::of(alloc, desk);
     let answer = desk.restart(alloc);
     let is_done = answer.is_ok();
-    let after = DeskView::of(alloc, desk)?;
-    write_answer(line, word, answer, &before, &after);
-    Some(is_done)
+    write_answer(line, word, answer, &before, &DeskView::of(alloc, desk));
+    is_done
 }
 
 /// `take BYTES`
-fn take(alloc: Global, line: &mut Line, desk: &mut Desk1<MemoryStore>, bytes: &[u8]) -> Option<()> {
-    let before = DeskView::of(alloc, desk)?;
+fn take(alloc: Global, line: &mut Line, desk: &mut Desk1<MemoryStore>, bytes: &[u8]) {
+    let before = DeskView::of(alloc, desk);
     let answer = desk.take_bytes(alloc, bytes);
-    write_taking(line, answer, &before, &DeskView::of(alloc, desk)?);
-    Some(())
+    write_taking(line, answer, &before, &DeskView::of(alloc, desk));
 }
 
 /// `hand BYTES`: a message is read from them, and the desk takes it.
 fn hand(alloc: Global, line: &mut Line, desk: &mut Desk1<MemoryStore>, bytes: &[u8]) -> Option<()> {
-    let before = DeskView::of(alloc, desk)?;
     let (apdu, _) = decode(alloc, bytes).ok()?;
-    let answer = desk.take(alloc, &apdu);
-    write_taking(line, answer, &before, &DeskView::of(alloc, desk)?);
+    hand_over(alloc, line, desk, &apdu);
     Some(())
+}
+
+fn hand_over(alloc: Global, line: &mut Line, desk: &mut Desk1<MemoryStore>, apdu: &Apdu) {
+    let before = DeskView::of(alloc, desk);
+    let answer = desk.take(alloc, apdu);
+    write_taking(line, answer, &before, &DeskView::of(alloc, desk));
 }
 
 /// Writes what a message did, or a fault.
@@ -144,23 +149,18 @@ fn write_taking(
 /// `message NUMBER`: its octets, or why there are none.
 fn message(alloc: Global, line: &mut Line, desk: &Desk1<MemoryStore>, words: &str) -> Option<()> {
     let number = Number::new(words.parse::<u8>().ok()?)?;
-    let view = DeskView::of(alloc, desk)?;
     match desk.message(alloc, number) {
         Ok(bytes) => line.octets(&bytes),
-        Err(fault) => write_answer(line, "", Err(fault), &view, &view),
+        Err(fault) => write_refusal(line, fault, &DeskView::of(alloc, desk)),
     }
     Some(())
 }
 
 /// `messages BYTES`: whether these bytes are all released messages, one behind another.
 fn messages(alloc: Global, line: &mut Line, desk: &Desk1<MemoryStore>, bytes: &[u8]) -> Option<()> {
-    let view = DeskView::of(alloc, desk)?;
-    line.text(if released(alloc, desk)?.as_slice() == bytes {
-        "the same"
-    } else {
-        "OTHER BYTES"
-    });
-    view.write(line);
+    let is_same = released(alloc, desk)?.as_slice() == bytes;
+    line.text(if is_same { "the same" } else { "OTHER BYTES" });
+    DeskView::of(alloc, desk).write(line);
     Some(())
 }
 
@@ -172,10 +172,4 @@ fn released(alloc: Global, desk: &Desk1<MemoryStore>) -> Option<Vec<u8>> {
         joined.extend_from_slice(&bytes).ok()?;
     }
     Some(joined)
-}
-
-/// `live BYTES`: what the live side is, and whether its record has these bytes.
-fn live(alloc: Global, line: &mut Line, desk: &Desk1<MemoryStore>, bytes: &[u8]) -> Option<()> {
-    write_side(alloc, line, desk.side(), bytes);
-    Some(())
 }

@@ -4,6 +4,7 @@ ghost use Rattle.std.specs.Prelude.{◌≡◌, IfErr};
 ghost use Rattle.ill_saved.specs.declared.store.StoreFault.TheVariants.{Failed};
 ghost use Rattle.ill_saved.specs.Store.{failed_file};
 
+use crate::calls::named;
 use crate::failing::Failing;
 use crate::line::Line;
 use crate::longest;
@@ -42,8 +43,7 @@ impl<'a> Folder<'a> {
     pub fn call(&mut self, line: &mut Line, names: &Names, words: &str) -> Option<()> {
         let (call, words) = words.split_once(' ').unwrap_or((words, ""));
         match call {
-            "load" => self.load(line),
-            "save" => self.save(line, names, words),
+            "load" | "save" => self.call_laid(line, call, &names.bytes(words, 0)?),
             _ => self.call_of_file(line, names, call, words),
         }
     }
@@ -58,14 +58,26 @@ impl<'a> Folder<'a> {
     ) -> Option<()> {
         let (name, words) = words.split_once(' ').unwrap_or((words, ""));
         let path = self.path(name)?;
+        self.call_at(line, names, call, path.as_str(), words)
+    }
+
+    /// Performs a call with the file at this path.
+    fn call_at(
+        &mut self,
+        line: &mut Line,
+        names: &Names,
+        call: &str,
+        path: &str,
+        words: &str,
+    ) -> Option<()> {
         match call {
-            "at" => self.lay(line, path.as_str(), words),
-            "failing" => self.failing(line, names, path.as_str(), words),
-            "desk" => self.desk(line, path.as_str()),
-            "making" => self.making(line, names, path.as_str(), words),
-            "damaged" => self.damaged(line, names, path.as_str(), words),
-            "longest" => longest::write(self.rt, self.alloc, line, path.as_str()),
-            _ => self.call_system(line, names, call, path.as_str(), words),
+            "at" => self.lay(line, path, words),
+            "failing" => self.failing(line, names, path, words),
+            "desk" => self.desk(line, path),
+            "making" => self.making(line, names, path, words),
+            "damaged" => self.damaged(line, names, path, words),
+            "longest" => longest::write(self.rt, self.alloc, line, path),
+            _ => self.call_system(line, names, call, path, words),
         }
     }
 
@@ -106,17 +118,9 @@ impl<'a> Folder<'a> {
         Some(())
     }
 
-    /// `load`
-    fn load(&mut self, line: &mut Line) -> Option<()> {
-        write_loaded(line, load(self.store.as_mut()?, self.alloc));
-        Some(())
-    }
-
-    /// `save BYTES`
-    fn save(&mut self, line: &mut Line, names: &Names, words: &str) -> Option<()> {
-        let store = self.store.as_mut()?;
-        write_saved(line, save(store, self.alloc, &names.bytes(words, 0)?));
-        Some(())
+    /// `load` or `save BYTES`, with the store that was laid.
+    fn call_laid(&mut self, line: &mut Line, call: &str, bytes: &[u8]) -> Option<()> {
+        call_store(self.alloc, line, self.store.as_mut()?, call, bytes)
     }
 
     /// `failing NAME COUNT FAULT load`, or `save BYTES` in place of `load`: with a store of its own, whose
@@ -124,32 +128,27 @@ impl<'a> Folder<'a> {
     fn failing(&self, line: &mut Line, names: &Names, path: &str, words: &str) -> Option<()> {
         let (count, words) = words.split_once(' ')?;
         let (fault, words) = words.split_once(' ')?;
-        let files = self.failing_files(count.parse::<u32>().ok()?, fault_of(fault)?)?;
-        self.call_failing(line, names, &files, path, words)
+        let (call, bytes) = words.split_once(' ').unwrap_or((words, ""));
+        let files = self.failing_files(count, fault)?;
+        self.call_failing(line, &files, path, call, &names.bytes(bytes, 0)?)
     }
 
-    fn failing_files(&self, calls: u32, fault: ErrorKind) -> Option<Failing<'a>> {
-        Failing::after(self.rt, self.alloc, calls, fault).ok()
+    fn failing_files(&self, count: &str, fault: &str) -> Option<Failing<'a>> {
+        let (count, fault) = (count.parse::<u32>().ok()?, named(&FAULTS, fault)?);
+        Failing::after(self.rt, self.alloc, count, fault).ok()
     }
 
-    /// `load` or `save BYTES`, over these files.
+    /// `load`, or `save` of these bytes, with a store over these files.
     fn call_failing(
         &self,
         line: &mut Line,
-        names: &Names,
         files: &Failing<'a>,
         path: &str,
-        words: &str,
+        call: &str,
+        bytes: &[u8],
     ) -> Option<()> {
-        let (call, bytes) = words.split_once(' ').unwrap_or((words, ""));
-        let bytes = names.bytes(bytes, 0)?;
         let mut store = FileStore::at(files, self.alloc, path, 100).ok()?;
-        match call {
-            "load" => write_loaded(line, load(&mut store, self.alloc)),
-            "save" => write_saved(line, save(&mut store, self.alloc, &bytes)),
-            _ => return None,
-        }
-        Some(())
+        call_store(self.alloc, line, &mut store, call, bytes)
     }
 
     /// `desk NAME`: a requester that asks is saved there, and another desk starts from its record.
@@ -199,10 +198,8 @@ impl<'a> Folder<'a> {
 
     /// `making NAME BYTES`: a save, and who may read and write the new file from its making on.
     fn making(&self, line: &mut Line, names: &Names, path: &str, words: &str) -> Option<()> {
-        let bytes = names.bytes(words, 0)?;
-        let files = self.failing_files(u32::MAX, ErrorKind::Other)?;
-        let mut store = FileStore::at(&files, self.alloc, path, 100).ok()?;
-        write_saved(line, save(&mut store, self.alloc, &bytes));
+        let files = Failing::after(self.rt, self.alloc, u32::MAX, ErrorKind::Other).ok()?;
+        self.call_failing(line, &files, path, "save", &names.bytes(words, 0)?)?;
         line.text(", made ");
         line.octal(files.made());
         Some(())
@@ -217,24 +214,37 @@ impl<'a> Folder<'a> {
     }
 }
 
-fn fault_of(word: &str) -> Option<ErrorKind> {
-    match word {
-        "fault" => Some(ErrorKind::Other),
-        "not-found" => Some(ErrorKind::NotFound),
-        "memory" => Some(ErrorKind::OutOfMemory),
-        "denied" => Some(ErrorKind::PermissionDenied),
-        "unsupported" => Some(ErrorKind::Unsupported),
-        "invalid" => Some(ErrorKind::InvalidInput),
-        _ => None,
-    }
-}
+static FAULTS: [(&str, ErrorKind); 6] = [
+    ("fault", ErrorKind::Other),
+    ("not-found", ErrorKind::NotFound),
+    ("memory", ErrorKind::OutOfMemory),
+    ("denied", ErrorKind::PermissionDenied),
+    ("unsupported", ErrorKind::Unsupported),
+    ("invalid", ErrorKind::InvalidInput),
+];
 
 fn damage_of(names: &Names, words: &str) -> Option<Damage> {
     match words {
         "folder" => Some(Damage::Folder),
         "nothing" => Some(Damage::Nothing),
-        bytes => names.bytes(bytes, 0).map(Damage::Bytes),
+        bytes => Some(Damage::Bytes(names.bytes(bytes, 0)?)),
     }
+}
+
+/// `load`, or `save` of these bytes.
+fn call_store<R: Files>(
+    alloc: Global,
+    line: &mut Line,
+    store: &mut FileStore<'_, R>,
+    call: &str,
+    bytes: &[u8],
+) -> Option<()> {
+    match call {
+        "load" => write_loaded(line, load(store, alloc)),
+        "save" => write_saved(line, save(store, alloc, bytes)),
+        _ => return None,
+    }
+    Some(())
 }
 
 /// Loads. That a failure is counted, and changes nothing else, is proved.

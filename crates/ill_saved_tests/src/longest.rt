@@ -20,9 +20,13 @@ pub fn write(rt: &HostRuntime, alloc: Global, line: &mut Line, path: &str) -> Op
     line.text(" bytes; started");
     write_started(rt, alloc, line, path)?;
     line.text("; a byte less ");
-    let lower = store(rt, alloc, path, size.checked_sub(1)?)?;
-    write_begun(line, Desk1::start(alloc, lower));
+    write_start(alloc, line, store(rt, alloc, path, size.checked_sub(1)?)?);
     Some(())
+}
+
+/// Writes whether a desk starts from this store.
+fn write_start<S: Store + Drop>(alloc: Global, line: &mut Line, store: S) {
+    write_begun(line, Desk1::start(alloc, store));
 }
 
 fn store<'a>(
@@ -54,7 +58,7 @@ fn write_started(rt: &HostRuntime, alloc: Global, line: &mut Line, path: &str) -
 
 /// Writes where a desk stands, and the size of its last message.
 fn write_desk<S: Store>(alloc: Global, line: &mut Line, desk: &Desk1<S>) -> Option<()> {
-    DeskView::of(alloc, desk)?.write(line);
+    DeskView::of(alloc, desk).write(line);
     written_and_read(alloc, desk.side()).map(drop).ok()?;
     let message = desk.message(alloc, Number::new(255)?).ok()?;
     line.text(", the last message ");

@@ -68,7 +68,7 @@ fn make_folder(rt: &HostRuntime, alloc: Global) -> io::Result<String> {
 fn is_made(answer: io::Result<()>) -> io::Result<bool> {
     match answer {
         Err(error) if error.kind() == ErrorKind::AlreadyExists => Ok(false),
-        answer => answer.map(|()| true),
+        answer => answer.and(Ok(true)),
     }
 }
 

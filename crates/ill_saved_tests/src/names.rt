@@ -115,7 +115,11 @@ impl Names {
 
     /// The values of a name, or none where it is no name.
     fn find(&self, word: &str) -> &[Vec<u8>] {
-        let found = self.names.iter().find(|name| name.word.as_str() == word);
-        found.map_or(&[], |name| name.values.as_slice())
+        for name in &self.names {
+            if name.word.as_str() == word {
+                return name.values.as_slice();
+            }
+        }
+        &[]
     }
 }

@@ -99,7 +99,7 @@ impl<'a> Restarts<'a> {
     }
 
     fn show(&self, line: &mut Line, desk: &Desk1<FileStore<'a, HostRuntime>>) -> Option<()> {
-        DeskView::of(self.alloc, desk)?.write(line);
+        DeskView::of(self.alloc, desk).write(line);
         line.text(", ");
         line.octets(&self.first_message(desk)?);
         Some(())
@@ -142,7 +142,7 @@ impl<'a> Restarts<'a> {
     /// and its first message has the bytes that it had.
     fn restart(&self, line: &mut Line, desk: &mut Desk1<FileStore<'a, HostRuntime>>) -> Option<()> {
         let message = self.first_message(desk)?;
-        let is_done = restart(self.alloc, line, desk, "done")?;
+        let is_done = restart(self.alloc, line, desk, "done");
         if !is_done && !self.has_first_message(desk, &message) {
             line.text(" ANOTHER MESSAGE");
         }

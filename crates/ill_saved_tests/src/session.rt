@@ -37,30 +37,22 @@ impl<B: Answers> Session<B> {
     /// below a family, is left out.
     pub fn perform(&mut self, text: &str) -> Line {
         let mut line = Line::new(self.alloc, None);
-        if text.starts_with(BELOW) {
-            return line;
-        }
-        let text = without_answer(text);
-        let (word, words) = text.split_once(' ').unwrap_or((text, ""));
-        match call_of(word) {
-            Some(Call::Note) => {
-                line.text(text);
-                line.text("\n");
-            }
-            Some(Call::Let) => {
-                line.text(text);
-                line.text("\n");
-                self.give_name(&mut line, words);
-            }
-            Some(Call::Case(call)) => {
-                line.text(text);
-                line.text(":");
-                self.cases(&mut line, call, words);
-                line.text("\n");
-            }
-            None => line.text(NOT_UNDERSTOOD),
+        if !text.starts_with(BELOW) {
+            self.write(&mut line, without_answer(text));
         }
         line
+    }
+
+    fn write(&mut self, line: &mut Line, text: &str) {
+        let (word, words) = text.split_once(' ').unwrap_or((text, ""));
+        line.text(text);
+        match call_of(word) {
+            Some(Call::Note) => {}
+            Some(Call::Let) => self.give_name(line, words),
+            Some(Call::Case(call)) => self.cases(line, call, words),
+            None => line.text(NOT_UNDERSTOOD),
+        }
+        line.text("\n");
     }
 
     fn give_name(&mut self, line: &mut Line, words: &str) {
@@ -71,6 +63,7 @@ impl<B: Answers> Session<B> {
 
     /// Writes the answer of a line, or of each case of a family behind its number, from 0.
     fn cases(&mut self, line: &mut Line, call: CaseCall, words: &str) {
+        line.text(":");
         let count = self.count(call, words);
         if count > 1 {
             return self.family(line, call, words, count);
@@ -129,7 +122,7 @@ fn without_answer(text: &str) -> &str {
     if text.starts_with('#') {
         return text;
     }
-    let case = text.split_once(": ").map_or(text, |(case, _)| case);
+    let (case, _) = text.split_once(": ").unwrap_or((text, ""));
     case.strip_suffix(':').unwrap_or(case)
 }
 

@@ -102,16 +102,21 @@ fn pieces(alloc: Global) -> Option<(&'static [u8], Vec<u8>)> {
 /// feed is as it was: the same piece then gives both.
 pub fn pushes(alloc: Global) -> Option<Outcome> {
     let (apdu, (front, piece)) = request(alloc).zip(pieces(alloc))?;
+    let outcome = pushes_twice(alloc, front, &piece, &apdu);
+    drop(apdu);
+    outcome
+}
+
+fn pushes_twice(alloc: Global, front: &[u8], piece: &[u8], apdu: &Apdu) -> Option<Outcome> {
     let mut feed = Feed::new(alloc);
     feed.push(front).ok()?;
     begin(alloc);
-    let pushed = feed.push(&piece);
+    let pushed = feed.push(piece);
     let refused = end(alloc);
     let outcome = match pushed {
-        Ok(pushed) => done_if(is_twice(&pushed, &apdu) && feed.end().is_ok()),
-        Err(_) => pushes_again(&mut feed, &piece, &apdu),
+        Ok(pushed) => done_if(is_twice(&pushed, apdu) && feed.end().is_ok()),
+        Err(_) => pushes_again(&mut feed, piece, apdu),
     };
-    drop(apdu);
     Some(judged(outcome, refused))
 }
 

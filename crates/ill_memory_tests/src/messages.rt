@@ -84,6 +84,13 @@ fn body_with_fields(alloc: Global, name: &str, fields: &mut Words<'_>) -> Option
         "IllAnswer" => Some(Body::IllAnswer {
             result: result(fields)?,
         }),
+        _ => dated_body(name, fields),
+    }
+}
+
+/// What a message says that names a day.
+fn dated_body(name: &str, fields: &mut Words<'_>) -> Option<Body> {
+    match name {
         "Shipped" => Some(Body::Shipped { due: fields.day()? }),
         "Overdue" => Some(Body::Overdue { due: fields.day()? }),
         "Renew" => Some(Body::Renew {

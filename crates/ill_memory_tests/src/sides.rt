@@ -28,35 +28,50 @@ pub fn requester(alloc: Global, words: &mut Words<'_>) -> Option<Outcome> {
 /// The case of a responder: its state, the conditions that were accepted, the last Cancel and the last
 /// Renew, its mark, the ILL-Request, what it has issued, and the call.
 pub fn responder(alloc: Global, words: &mut Words<'_>) -> Option<Outcome> {
-    let state = words.state()?;
-    let numbers = words.three_numbers()?;
-    let received = words.mark()?;
+    let facts = ResponderFacts::read(words)?;
     let (requested, listed) = (words.word()?, words.word()?);
     let messages = request(alloc, requested).zip(issued(alloc, listed));
     let ((request, issued), txn) = messages.zip(txn(alloc, "T1"))?;
-    let (made, refused) = responder_of(alloc, txn, state, numbers, received, request, issued);
+    let (made, refused) = responder_of(alloc, txn, facts, request, issued);
     case(alloc, made, refused, words)
+}
+
+/// What a responder keeps beside its transaction and messages.
+#[derive(Clone, Copy)]
+struct ResponderFacts {
+    state: State,
+    /// The conditions that were accepted, the last Cancel and the last Renew.
+    numbers: [Option<Number>; 3],
+    received: bool,
+}
+
+impl ResponderFacts {
+    fn read(words: &mut Words<'_>) -> Option<ResponderFacts> {
+        Some(ResponderFacts {
+            state: words.state()?,
+            numbers: words.three_numbers()?,
+            received: words.mark()?,
+        })
+    }
 }
 
 /// The side that `of_parts` gives, and whether an allocation was refused meanwhile.
 fn responder_of(
     alloc: Global,
     txn: TxnId,
-    state: State,
-    numbers: [Option<Number>; 3],
-    received: bool,
+    facts: ResponderFacts,
     request: Option<Apdu>,
     issued: Vec<Apdu>,
 ) -> (Option<Side>, bool) {
-    let [accepted, last_cancel, last_renew] = numbers;
+    let [accepted, last_cancel, last_renew] = facts.numbers;
     begin(alloc);
     let made = Responder::of_parts(
         txn,
-        state,
+        facts.state,
         accepted,
         last_cancel,
         last_renew,
-        received,
+        facts.received,
         request,
         issued,
     );
@@ -87,19 +102,25 @@ fn case(
 fn called(alloc: Global, side: &mut Side, words: &mut Words<'_>) -> Option<Outcome> {
     match words.word()? {
         "shows" => shows(alloc, side),
-        "takes" => Some(takes(alloc, side, apdu(alloc, words)?)),
-        "wishes" => Some(acts(alloc, side, wish(alloc, words.word()?)?)),
-        "does" => Some(acts(alloc, side, deed(words)?)),
+        "takes" => takes(alloc, side, words),
+        "wishes" => acts(alloc, side, wish(alloc, words.word()?)),
+        "does" => acts(alloc, side, deed(words)),
         _ => None,
     }
 }
 
-fn takes(alloc: Global, side: &mut Side, apdu: Apdu) -> Outcome {
+fn takes(alloc: Global, side: &mut Side, words: &mut Words<'_>) -> Option<Outcome> {
+    let apdu = apdu(alloc, words)?;
+    let outcome = takes_message(alloc, side, &apdu);
+    drop(apdu);
+    Some(outcome)
+}
+
+fn takes_message(alloc: Global, side: &mut Side, apdu: &Apdu) -> Outcome {
     let before = encode_record(alloc, side);
     begin(alloc);
-    let answer = side.take(alloc, &apdu);
+    let answer = side.take(alloc, apdu);
     let refused = end(alloc);
-    drop(apdu);
     let is_same = has_record(alloc, side, before);
     let state = side.state();
     match answer {
@@ -109,12 +130,19 @@ fn takes(alloc: Global, side: &mut Side, apdu: Apdu) -> Outcome {
     }
 }
 
-fn acts(alloc: Global, side: &mut Side, action: Action) -> Outcome {
+/// The outcome of an action, if there is one.
+fn acts(alloc: Global, side: &mut Side, action: Option<Action>) -> Option<Outcome> {
+    let action = action?;
+    let outcome = does(alloc, side, &action);
+    drop(action);
+    Some(outcome)
+}
+
+fn does(alloc: Global, side: &mut Side, action: &Action) -> Outcome {
     let before = encode_record(alloc, side);
     begin(alloc);
-    let answer = side.act(alloc, &action);
+    let answer = side.act(alloc, action);
     let refused = end(alloc);
-    drop(action);
     let is_same = has_record(alloc, side, before);
     let state = side.state();
     match answer {

@@ -58,19 +58,22 @@ fn performed(alloc: Global, desk: &mut Desk1<MemoryStore>, case: Case) -> Option
     let live = side_view(desk);
     let is_restarted = desk.restart(alloc).is_ok();
     let landed = side_view(desk);
+    let is_stated = is_stated(before, case.after, live, landed);
+    let is_done = output.as_slice() == case.output && live == case.after && landed == case.after;
     let outcome = match answer {
-        Ok(true) => {
-            let is_written = output.as_slice() == case.output;
-            done_if(is_written && live == case.after && landed == case.after)
-        }
-        Err(ToolFault::OutOfMemory) => {
-            let is_side_right = is_stated(before, case.after, live, landed);
-            let is_right = output.is_empty() && is_side_right;
-            leaving(judged(Outcome::Memory, refused), is_right)
-        }
-        _ => Outcome::Wrong,
+        Ok(true) => done_if(is_done),
+        Err(fault) => faulted(fault, refused, output.is_empty() && is_stated),
+        Ok(false) => Outcome::Wrong,
     };
     Some(leaving(outcome, is_restarted))
+}
+
+/// The outcome of a command that did not end, where it is known whether what it leaves is right.
+fn faulted(fault: ToolFault, refused: bool, is_right: bool) -> Outcome {
+    match fault {
+        ToolFault::OutOfMemory => leaving(judged(Outcome::Memory, refused), is_right),
+        _ => Outcome::Wrong,
+    }
 }
 
 /// Whether a side that stood so before, and would stand so after, may stand so in memory and in its store.

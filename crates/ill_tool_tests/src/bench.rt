@@ -102,11 +102,7 @@ impl<'a, R: Files> Bench<'a, R> {
                 let desk = self.desk.as_mut()?;
                 desk.perform(self.alloc, page, names, kind, &mut call)
             }
-            Kind::New => {
-                let before = self.desk.take();
-                self.desk = begin(self.alloc, page, names, before, &mut call)?;
-                Some(())
-            }
+            Kind::New => begin(self.alloc, page, names, &mut self.desk, &mut call),
             _ => None,
         }
     }
@@ -114,7 +110,7 @@ impl<'a, R: Files> Bench<'a, R> {
 
 impl<'a, R: Files> Performs for Bench<'a, R> {
     fn begin(&mut self) -> Option<()> {
-        self.desk = None;
+        drop(self.desk.take());
         self.folder.clear()
     }
 
@@ -123,7 +119,7 @@ impl<'a, R: Files> Performs for Bench<'a, R> {
         match kind_of(first.text.as_str())? {
             Kind::File(kind) => self.folder.perform(page, names, kind, others),
             Kind::Desk => {
-                self.desk = Some(Desk::begin(self.alloc, others)?);
+                drop(self.desk.replace(Desk::begin(self.alloc, others)?));
                 Some(())
             }
             Kind::Next => self.desk.as_mut()?.plan(others),

@@ -90,9 +90,13 @@ impl Block {
 
 impl Variable {
     fn add(&mut self, alloc: Global, value: &str) -> Option<()> {
-        let Some((first, last)) = range(value) else {
-            return self.values.push(String::from_str(alloc, value).ok()?).ok();
-        };
+        match range(value) {
+            Some((first, last)) => self.add_numbers(alloc, first, last),
+            None => self.values.push(String::from_str(alloc, value).ok()?).ok(),
+        }
+    }
+
+    fn add_numbers(&mut self, alloc: Global, first: u32, last: u32) -> Option<()> {
         for number in first..=last {
             self.values.push(number.to_string(alloc).ok()?).ok()?;
         }

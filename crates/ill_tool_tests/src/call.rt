@@ -18,18 +18,45 @@ pub struct Call<'a> {
     pub errors: Sink,
 }
 
-impl<'a> Call<'a> {
-    /// The call of `WORDS [< READER] [> WRITER] [2> WRITER]`.
-    pub fn of(alloc: Global, names: &Names, words: &'a [Word]) -> Option<Call<'a>> {
+/// The words of a call, and those of its streams.
+#[derive(Clone, Copy)]
+struct Parts<'a> {
+    words: &'a [Word],
+    input: Option<&'a [Word]>,
+    output: Option<&'a [Word]>,
+    errors: Option<&'a [Word]>,
+}
+
+impl<'a> Parts<'a> {
+    fn of(words: &'a [Word]) -> Parts<'a> {
         let (words, errors) = cut(words, "2>");
         let (words, output) = cut(words, ">");
         let (words, input) = cut(words, "<");
-        Some(Call {
+        Parts {
             words,
-            source: Source::of(names, input.unwrap_or(&[]))?,
-            output: Sink::of(alloc, names, output)?,
-            errors: Sink::of(alloc, names, errors)?,
-        })
+            input,
+            output,
+            errors,
+        }
+    }
+}
+
+impl<'a> Call<'a> {
+    /// The call of `WORDS [< READER] [> WRITER] [2> WRITER]`.
+    pub fn of(alloc: Global, names: &Names, words: &'a [Word]) -> Option<Call<'a>> {
+        let parts = Parts::of(words);
+        let source = Source::of(names, parts.input.unwrap_or(&[]));
+        let output = Sink::of(alloc, names, parts.output);
+        let errors = Sink::of(alloc, names, parts.errors);
+        match (source, output, errors) {
+            (Some(source), Some(output), Some(errors)) => Some(Call {
+                words: parts.words,
+                source,
+                output,
+                errors,
+            }),
+            _ => None,
+        }
     }
 
     /// Tells what it has written, and what it has left.

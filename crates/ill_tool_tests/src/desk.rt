@@ -37,10 +37,13 @@ impl Desk {
     /// The side that `ROLE [lasting SAVES]` says, before its first message. It is not saved.
     pub fn begin(alloc: Global, words: &[Word]) -> Option<Desk> {
         let (role, others) = words.split_first()?;
-        let first = first_side(alloc, role.text.as_str())?;
+        let role = role.text.as_str();
         match others {
-            [] => planned(alloc, first),
-            [word, saves] if word.is("lasting") => limited(alloc, first, saves),
+            [] => planned(alloc, first_side(alloc, role)?),
+            [word, saves] if word.is("lasting") => {
+                let saves = saves.text.parse::<u32>().ok()?;
+                limited(alloc, first_side(alloc, role)?, saves)
+            }
             _ => None,
         }
     }
@@ -53,13 +56,9 @@ impl Desk {
         }
     }
 
-    /// Plans the next call of the store: `fails-old` or `fails-new`.
+    /// Plans the next call of the store.
     pub fn plan(&mut self, words: &[Word]) -> Option<()> {
-        let next = match words.first()?.text.as_str() {
-            "fails-old" => NextCall::FailsOld,
-            "fails-new" => NextCall::FailsNew,
-            _ => return None,
-        };
+        let next = next_call(words.first()?)?;
         match self {
             Desk::Planned(desk) => {
                 desk.set_next(next);
@@ -85,6 +84,16 @@ impl Desk {
     }
 }
 
+/// What is planned for the next call of a store: it `works`, `fails-old` or `fails-new`.
+pub fn next_call(word: &Word) -> Option<NextCall> {
+    match word.text.as_str() {
+        "works" => Some(NextCall::Works),
+        "fails-old" => Some(NextCall::FailsOld),
+        "fails-new" => Some(NextCall::FailsNew),
+        _ => None,
+    }
+}
+
 /// The side of a role before its first message.
 fn first_side(alloc: Global, role: &str) -> Option<Side>
     ensures { IfSome result (λ side. side ≡ idle_of side) }
@@ -106,10 +115,9 @@ fn planned(alloc: Global, first: Side) -> Option<Desk>
     }
 }
 
-fn limited(alloc: Global, first: Side, saves: &Word) -> Option<Desk>
+fn limited(alloc: Global, first: Side, saves: u32) -> Option<Desk>
     requires { first ≡ idle_of first }
 {
-    let saves = saves.text.parse::<u32>().ok()?;
     match Desk1::create(alloc, LimitedStore::new(alloc, saves), first) {
         Ok(desk) => Some(Desk::Limited(desk)),
         Err(_) => None,
@@ -125,21 +133,34 @@ fn perform_on<S: Store>(
     call: &mut Call<'_>,
 ) -> Option<()> {
     let before = DeskView::of(alloc, desk)?;
+    answer(alloc, page, names, desk, kind, call)?;
+    tell_view(alloc, page, desk, &before)
+}
+
+/// Performs a call, and tells its answer.
+fn answer<S: Store>(
+    alloc: Global,
+    page: &mut Page,
+    names: &Names,
+    desk: &mut Desk1<S>,
+    kind: DeskCall,
+    call: &mut Call<'_>,
+) -> Option<()> {
     match kind {
         DeskCall::Save => call.tell_answer(page, names, &desk.save(alloc)),
         DeskCall::Restart => call.tell_answer(page, names, &desk.restart(alloc)),
-        DeskCall::Act => act(alloc, page, names, desk, call)?,
+        DeskCall::Act => return act(alloc, page, names, desk, call),
         DeskCall::Take => {
             let answer = run_take(alloc, desk, &mut call.source, &mut call.output);
             call.tell_answer(page, names, &answer);
         }
-        DeskCall::Send => send(alloc, page, names, desk, call)?,
+        DeskCall::Send => return send(alloc, page, names, desk, call),
         DeskCall::Status => {
             let answer = run_status(alloc, desk, &mut call.output);
             call.tell_answer(page, names, &answer);
         }
     }
-    tell_view(alloc, page, desk, &before)
+    Some(())
 }
 
 /// `act [--today DAY] WORDS`

@@ -46,14 +46,13 @@ pub fn perform(
 
 /// `simulate GROUP TRANSACTION`
 fn simulate(alloc: Global, page: &mut Page, names: &Names, call: &mut Call<'_>) -> Option<()> {
-    let (group, transaction) = match call.words {
-        [group, transaction] => (group.text.as_str(), transaction.text.as_str()),
-        _ => return None,
+    let [group, transaction] = call.words else {
+        return None;
     };
     let answer = run_simulate(
         alloc,
-        group,
-        transaction,
+        group.text.as_str(),
+        transaction.text.as_str(),
         &mut call.source,
         &mut call.output,
     );

@@ -1,9 +1,9 @@
 //! A folder for the files of a case, and the command lines that are performed on them.
 
-use crate::call::Call;
+use crate::call::{Call, tell_value};
 use crate::names::Names;
 use crate::page::Page;
-use crate::telling::{begin, tell_bytes, tell_line, tell_whether};
+use crate::telling::{tell_bytes, tell_line, tell_whether};
 use crate::words::Word;
 use ill_tool::run_words;
 use std::alloc::Global;
@@ -38,10 +38,8 @@ impl<'a, R: Files> Folder<'a, R> {
         let below = env::temp_dir(rt)?;
         for number in 0..u16::MAX {
             let path = format!(in alloc; "{}/ill_tool_tests.{number}", below.as_str())?;
-            match fs::create_dir(rt, path.as_str()) {
-                Ok(()) => return Ok(Folder { rt, alloc, path }),
-                Err(error) if error.kind() == ErrorKind::AlreadyExists => {}
-                Err(error) => return Err(error),
+            if is_made(fs::create_dir(rt, path.as_str()))? {
+                return Ok(Folder { rt, alloc, path });
             }
         }
         Err(io::Error::from(ErrorKind::AlreadyExists))
@@ -82,48 +80,44 @@ impl<'a, R: Files> Folder<'a, R> {
         }
     }
 
-    /// Tells the bytes of a file, or that there is none; behind `is BYTES` whether it has just these.
+    /// Tells the bytes of a file, or that there is none.
     fn show(&self, page: &mut Page, names: &Names, path: &str, words: &[Word]) -> Option<()> {
-        let bytes = match fs::read(&(self.rt, self.alloc), path) {
-            Ok(bytes) => bytes,
+        match fs::read(&(self.rt, self.alloc), path) {
+            Ok(bytes) => tell_file(page, names, &bytes, words),
             Err(error) if error.kind() == ErrorKind::NotFound => {
                 tell_line(page, "=", "no file");
-                return Some(());
+                Some(())
             }
-            Err(_) => return None,
-        };
-        match words {
-            [word, wanted @ ..] if word.is("is") => {
-                tell_whether(page, names, "=", &bytes, &names.bytes(wanted)?);
-            }
-            _ => tell_bytes(page, names, "=", &bytes),
+            Err(_) => None,
         }
-        Some(())
     }
 
     /// Performs a command line, and tells what it leaves.
     pub fn command(&self, page: &mut Page, names: &Names, call: &mut Call<'_>) -> Option<()> {
-        let words = self.command_line(call.words)?;
-        let words: Vec<&str> = words
+        let line = self.command_line(call.words)?;
+        let status = self.run(&line, call)?;
+        call.tell(page, names);
+        if status != 0 || call.has_written_nothing() {
+            tell_value(page, &status);
+        }
+        Some(())
+    }
+
+    /// Performs these words, and answers the exit status.
+    fn run(&self, line: &[String], call: &mut Call<'_>) -> Option<u8> {
+        let words: Vec<&str> = line
             .iter()
             .map(|word| word.as_str())
             .collect(self.alloc)
             .ok()?;
-        let status = run_words(
+        Some(run_words(
             self.rt,
             self.alloc,
             &words,
             &mut call.source,
             &mut call.output,
             &mut call.errors,
-        );
-        call.tell(page, names);
-        if status != 0 || call.has_written_nothing() {
-            begin(page, "=");
-            page.show(&status);
-            page.text("\n");
-        }
-        Some(())
+        ))
     }
 
     /// The words of a command line: the program's name, and the paths of files in place of their names.
@@ -144,4 +138,23 @@ impl<'a, R: Files> Folder<'a, R> {
             _ => String::from_str(self.alloc, text).ok(),
         }
     }
+}
+
+/// Whether a folder was made, and was not there before.
+fn is_made(answer: io::Result<()>) -> io::Result<bool> {
+    match answer {
+        Err(error) if error.kind() == ErrorKind::AlreadyExists => Ok(false),
+        answer => answer.map(|()| true),
+    }
+}
+
+/// Tells the bytes of a file; behind `is BYTES` whether it has just these.
+fn tell_file(page: &mut Page, names: &Names, bytes: &[u8], words: &[Word]) -> Option<()> {
+    match words {
+        [word, wanted @ ..] if word.is("is") => {
+            tell_whether(page, names, "=", bytes, &names.bytes(wanted)?);
+        }
+        _ => tell_bytes(page, names, "=", bytes),
+    }
+    Some(())
 }

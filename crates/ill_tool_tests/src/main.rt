@@ -33,7 +33,7 @@ mod telling;
 mod texts;
 mod words;
 
-use bench::Bench;
+use bench::{Bench, Performs};
 use folder::Folder;
 use session::Session;
 use std::io::{ErrorKind, Write};
@@ -43,14 +43,30 @@ fn main(rt: HostRuntime) -> io::Result<()> {
     let alloc = rt.alloc();
     let arguments: Vec<String> = env::args(&rt)?.collect(alloc)?;
     let text = io::read_to_string(alloc, rt.stdin())?;
-    let folder = Folder::new(&rt, alloc)?;
     let wanted = arguments.get(1).map(|name| name.as_str());
+    perform(&rt, text.as_str(), wanted)
+}
+
+/// Performs the lines of a text, and prints what they answer. Where a case is wanted, it is performed alone.
+fn perform(rt: &HostRuntime, text: &str, wanted: Option<&str>) -> io::Result<()> {
+    let alloc = rt.alloc();
+    let folder = Folder::new(rt, alloc)?;
     let mut session = Session::new(alloc, Bench::new(alloc, folder), wanted);
+    let printed = print_answers(&mut rt.stdout(), &mut session, text);
+    drop(session);
+    printed
+}
+
+fn print_answers<W: Write, B: Performs>(
+    output: &mut W,
+    session: &mut Session<'_, B>,
+    text: &str,
+) -> io::Result<()> {
     for line in text.lines() {
         session.read(line);
     }
     match session.finish() {
-        Some(bytes) => rt.stdout().write_all(bytes),
+        Some(bytes) => output.write_all(bytes),
         None => Err(io::Error::from(ErrorKind::OutOfMemory)),
     }
 }

@@ -4,7 +4,7 @@ use crate::bench::Performs;
 use crate::block::Block;
 use crate::names::Names;
 use crate::page::Page;
-use crate::words::words_of;
+use crate::words::{Word, words_of};
 use std::alloc::Global;
 
 /// What a line of an answer begins with.
@@ -103,26 +103,37 @@ impl<'a, B: Performs> Session<'a, B> {
 
     /// Begins a block, or adds values to the one that has begun.
     fn each(&mut self, words: &str) -> Option<()> {
-        let mut block = self.block.take().unwrap_or(Block::new(self.alloc));
-        block.add_values(words)?;
-        self.block = Some(block);
-        Some(())
+        if self.block.is_none() {
+            drop(self.block.replace(Block::new(self.alloc)));
+        }
+        self.block.as_mut()?.add_values(words)
     }
 
-    /// Ends a block: writes it with the answers in its first case, and behind it each case in which they
-    /// are others.
+    /// Ends a block, and performs it.
     fn end(&mut self) -> Option<()> {
         let block = self.block.take()?;
-        let first = self.lines.perform_block(&block, 0)?;
+        self.perform_block(&block)
+    }
+
+    /// Writes a block with the answers in its first case, and behind it each case in which they are
+    /// others.
+    fn perform_block(&mut self, block: &Block) -> Option<()> {
+        let first = self.lines.perform_block(block, 0)?;
         self.page.page(&first);
         self.page.line("end");
         for case in 1..block.cases() {
-            let page = self.lines.perform_block(&block, case)?;
-            if page.bytes() != first.bytes() {
-                self.page.text("  BUT WITH");
-                self.page.line(block.values(case)?.as_str());
-                self.page.page(&page);
-            }
+            self.perform_again(block, case, &first)?;
+        }
+        Some(())
+    }
+
+    /// Performs a block in a further case, and writes that where its answers are others than in the first.
+    fn perform_again(&mut self, block: &Block, case: usize, first: &Page) -> Option<()> {
+        let page = self.lines.perform_block(block, case)?;
+        if page.bytes() != first.bytes() {
+            self.page.text("  BUT WITH");
+            self.page.line(block.values(case)?.as_str());
+            self.page.page(&page);
         }
         Some(())
     }
@@ -152,6 +163,10 @@ impl<B: Performs> Lines<B> {
             return Some(());
         }
         let words = words_of(self.alloc, line)?;
+        self.call(page, &words)
+    }
+
+    fn call(&mut self, page: &mut Page, words: &[Word]) -> Option<()> {
         let (first, others) = words.split_first()?;
         match first.text.as_str() {
             "case" => {
@@ -160,7 +175,7 @@ impl<B: Performs> Lines<B> {
             }
             "fresh" => self.bench.begin(),
             "let" => self.names.add(others),
-            _ => self.bench.perform(page, &self.names, &words),
+            _ => self.bench.perform(page, &self.names, words),
         }
     }
 }

@@ -73,16 +73,21 @@ impl Sink {
         let (text, failure) = cut(words, "then");
         self.room = room;
         self.refusal = Failure::of(failure?)?;
-        if let [word, text @ ..] = text {
-            let mut front = if word.is("of") {
-                names.bytes(text)?
-            } else {
-                return None
-            };
-            front.truncate(room);
-            self.telling = Telling::Just(front);
+        match text {
+            [] => Some(()),
+            [word, text @ ..] if word.is("of") => {
+                self.tell_just(names.bytes(text)?, room);
+                Some(())
+            }
+            _ => None,
         }
-        Some(())
+    }
+
+    /// It is told whether it took just the first of these bytes.
+    fn tell_just(&mut self, bytes: Vec<u8>, count: usize) {
+        let mut front = bytes;
+        front.truncate(count);
+        drop(std::mem::replace(&mut self.telling, Telling::Just(front)));
     }
 
     /// How many bytes it takes at most at once.

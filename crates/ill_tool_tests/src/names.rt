@@ -53,10 +53,16 @@ impl Names {
     /// The bytes of these words.
     pub fn bytes(&self, words: &[Word]) -> Option<Vec<u8>> {
         let mut bytes = Vec::new(self.alloc);
-        for word in words {
-            self.push_word(&mut bytes, word)?;
-        }
+        self.push(&mut bytes, words)?;
         Some(bytes)
+    }
+
+    /// Adds the bytes of these words.
+    pub fn push(&self, bytes: &mut Vec<u8>, words: &[Word]) -> Option<()> {
+        for word in words {
+            self.push_word(bytes, word)?;
+        }
+        Some(())
     }
 
     fn push_word(&self, bytes: &mut Vec<u8>, word: &Word) -> Option<()> {

@@ -33,6 +33,9 @@ pub fn run_words<T: Files, R: Read, W: Write, E: Write>(
     }
 }
 
+/// How many bytes the buffer has that stands between a command and its output.
+const BUFFER: usize = 65_536;
+
 /// Performs a command, with a buffer round the writer, and answers whether all went well. The commands
 /// read pieces themselves.
 fn perform<T: Files, R: Read, W: Write>(
@@ -42,7 +45,9 @@ fn perform<T: Files, R: Read, W: Write>(
     reader: &mut R,
     writer: &mut W,
 ) -> Result<bool, ToolFault> {
-    let mut writer = BufWriter::new(alloc, writer).map_err(|_| ToolFault::OutOfMemory)?;
+    let mut writer = BufWriter::with_capacity(alloc, BUFFER, writer).map_err(
+        |_| ToolFault::OutOfMemory,
+    )?;
     let done = run(rt, alloc, request, reader, &mut writer);
     finish_writing(writer, done)
 }

@@ -1,5 +1,5 @@
 -- What a store of one record promises (this profile's own).
-use Rattle.std.specs.Prelude.{◌≡◌, ◌⊎◌, ℕ, ◌+◌, ◌<◌, ◌≤◌, nat_lt, if◌then◌else◌, true, List, [], length, codes, Option, Some, None, is_some, option_map, Result, Ok, Err}
+use Rattle.std.specs.Prelude.{◌≡◌, ◌⊎◌, ℕ, ◌+◌, ◌<◌, ◌≤◌, min, nat_lt, if◌then◌else◌, Bool, true, List, [], length, codes, Option, Some, None, is_some, option_map, Result, Ok, Err, IfOk}
 use Rattle.std.specs.Path.{path_parent}
 use Rattle.ill_saved.specs.declared.store.StoreFault.{StoreFault}
 use Rattle.ill_saved.specs.declared.store.StoreFault.TheVariants.{Failed, TooLarge, OutOfMemory}
@@ -57,6 +57,52 @@ CountsFailure answer old new = (old ≤ new) × FailsCounted answer old new
 abbrev pub IsNotTooLarge : Result (Unit {0}) StoreFault → Type 0
 IsNotTooLarge (Err TooLarge) = ⊥
 IsNotTooLarge answer = Unit {0}
+
+-- ---- a store that fails from a call on
+
+-- the store that its calls are passed on to, how many still are, and how many have failed here
+pub record FuseOf (S : Type 0) : Type 0 where
+  pub inner : S
+  pub calls : ℕ
+  pub failures : ℕ
+
+-- the failures counted here and there, up to the most
+abbrev pub failures_together : ℕ → ℕ → ℕ
+failures_together here there = min most_failures (here + there)
+
+-- What a load of the inner store answers and leaves, by what a store promises.
+pub record InnerLoads {S X : Type 0} (bytes_of : X → List ℕ) (landed : S → Option (List ℕ)) (failures : S → ℕ)
+    (is_honest : S → Bool) (plan : S → Option NextCall) (old : S) (answer : Result (Option X) StoreFault) (new : S)
+    : Type 0 where
+  pub loaded : is_honest old ≡ true → IfOk answer (λ found. option_map bytes_of found ≡ landed old)
+  pub planned : is_honest old ≡ true → Allows (plan old) answer
+  pub stays : is_honest old ≡ true → landed new ≡ landed old
+  pub counted : CountsFailure answer (failures old) (failures new)
+  pub honest : is_honest new ≡ is_honest old
+  pub spent : plan new ≡ spent (plan old)
+
+-- What a save of the inner store answers and leaves.
+pub record InnerSaves {S : Type 0} (bytes : List ℕ) (landed : S → Option (List ℕ)) (failures : S → ℕ)
+    (is_honest : S → Bool) (plan : S → Option NextCall) (old : S) (answer : Result (Unit {0}) StoreFault) (new : S)
+    : Type 0 where
+  pub planned : is_honest old ≡ true → Allows (plan old) answer
+  pub lands : is_honest old ≡ true → LandsAtSave (plan old) bytes answer (landed old) (landed new)
+  pub large : IsNotTooLarge answer
+  pub counted : CountsFailure answer (failures old) (failures new)
+  pub honest : is_honest new ≡ is_honest old
+  pub spent : plan new ≡ spent (plan old)
+
+-- A call has failed here, and is counted.
+abbrev pub blown : {S : Type 0} → FuseOf S → FuseOf S
+blown fuse = record fuse { failures = one_more fuse.failures }
+
+-- A call that is passed on answers and leaves what the inner store answers and leaves, and one call less
+-- is left; where none is left it fails, and the inner store is as it was.
+abbrev pub FuseCalls : {S A : Type 0} → (S → Result A StoreFault → S → Type 0) → FuseOf S → Result A StoreFault →
+    FuseOf S → Type 0
+FuseCalls calls old answer new =
+    ((old.calls ≡ 0) × (answer ≡ Err Failed) × (new ≡ blown old))
+    ⊎ ((old.calls ≡ new.calls + 1) × (new.failures ≡ old.failures) × calls old.inner answer new.inner)
 
 -- ---- a store in memory
 

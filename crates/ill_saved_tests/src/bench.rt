@@ -4,6 +4,7 @@ use crate::calls::{BytesCall, WordsCall, named};
 use crate::desk_view::DeskView;
 use crate::desks;
 use crate::files::Folder;
+use crate::fuses::fuse;
 use crate::idle::idle;
 use crate::line::Line;
 use crate::names::Names;
@@ -37,6 +38,7 @@ impl<'a> Answers for Bench<'a> {
     fn call(&mut self, line: &mut Line, call: WordsCall, words: &str) -> Option<()> {
         match call {
             WordsCall::Store => self.lay_store(line),
+            WordsCall::Fuse => fuse(self.alloc, line, words),
             WordsCall::Load => self.load(line),
             WordsCall::Next => self.plan(line, words),
             WordsCall::Create => self.create(line, words),

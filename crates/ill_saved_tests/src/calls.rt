@@ -42,6 +42,7 @@ pub enum BytesCall {
 #[derive(Clone, Copy)]
 pub enum WordsCall {
     Store,
+    Fuse,
     Load,
     Next,
     Create,
@@ -51,7 +52,7 @@ pub enum WordsCall {
     Restart,
 }
 
-static CALLS: [(&str, Call); 20] = [
+static CALLS: [(&str, Call); 21] = [
     ("", Call::Note),
     ("#", Call::Note),
     ("let", Call::Let),
@@ -64,6 +65,7 @@ static CALLS: [(&str, Call); 20] = [
     ("live", Call::Case(CaseCall::Bytes(BytesCall::Live))),
     ("messages", Call::Case(CaseCall::Bytes(BytesCall::Messages))),
     ("store", Call::Case(CaseCall::Words(WordsCall::Store))),
+    ("fuse", Call::Case(CaseCall::Words(WordsCall::Fuse))),
     ("load", Call::Case(CaseCall::Words(WordsCall::Load))),
     ("next", Call::Case(CaseCall::Words(WordsCall::Next))),
     ("create", Call::Case(CaseCall::Words(WordsCall::Create))),

@@ -85,7 +85,12 @@ pub fn call_with(
 }
 
 /// `act WORDS`
-fn act(alloc: Global, line: &mut Line, desk: &mut Desk1<MemoryStore>, words: &str) -> Option<()> {
+pub fn act<S: Store>(
+    alloc: Global,
+    line: &mut Line,
+    desk: &mut Desk1<S>,
+    words: &str,
+) -> Option<()> {
     let action = action(alloc, words)?;
     let before = DeskView::of(alloc, desk);
     let answer = desk.act(alloc, &action);
@@ -94,7 +99,7 @@ fn act(alloc: Global, line: &mut Line, desk: &mut Desk1<MemoryStore>, words: &st
 }
 
 /// `save`
-fn save(alloc: Global, line: &mut Line, desk: &mut Desk1<MemoryStore>) {
+pub fn save<S: Store>(alloc: Global, line: &mut Line, desk: &mut Desk1<S>) {
     let before = DeskView::of(alloc, desk);
     let answer = desk.save(alloc);
     write_answer(line, "saved", answer, &before, &DeskView::of(alloc, desk));

@@ -18,6 +18,7 @@ mod desk_view;
 mod desks;
 mod failing;
 mod files;
+mod fuses;
 mod idle;
 mod line;
 mod longest;

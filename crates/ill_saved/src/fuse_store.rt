@@ -1,0 +1,87 @@
+//! A store that fails from a call on.
+
+ghost use Rattle.std.specs.Prelude.{◌≡◌, None};
+ghost use Rattle.ill_saved.specs.declared.store.StoreFault.TheVariants.{Failed};
+ghost use Rattle.ill_saved.specs.Store.{FuseOf, failures_together, InnerLoads, InnerSaves, blown, FuseCalls};
+
+use crate::store::{Store, StoreFault};
+use std::alloc::Global;
+use std::marker::Model;
+
+/// A store that passes so many calls of `load` and `save` on to another one. Each call behind them
+/// fails, and never reaches it.
+#[derive(Debug, Drop)]
+pub struct FuseStore<S: Store> {
+    inner: S,
+    calls: u32,
+    failures: u64,
+}
+
+impl<S: Store> Model for FuseStore<S> {
+    ghost Value = { FuseOf S };
+
+    ghost view = { λ f. record { inner = f.inner; calls = f.calls; failures = f.failures } };
+}
+
+impl<S: Store> FuseStore<S> {
+    /// A store that passes so many calls on to the inner one. It takes no memory.
+    pub fn new(inner: S, calls: u32) -> FuseStore<S>
+        ensures { result ≡ record { inner = inner; calls = calls; failures = 0 } }
+    {
+        FuseStore {
+            inner,
+            calls,
+            failures: 0,
+        }
+    }
+
+    /// The inner store, as it stands.
+    pub fn open(self) -> S
+        ensures { result ≡ self.inner }
+    {
+        self.inner
+    }
+
+    /// Fails this call, and counts that.
+    fn fail(&mut self) -> StoreFault
+        ensures fault { result ≡ Failed }
+        ensures counted { self.new ≡ blown self.old }
+    {
+        self.failures = self.failures.saturating_add(1);
+        StoreFault::Failed
+    }
+}
+
+/// What has landed, and whether the store is honest, are the inner store's. Its failures are those that
+/// it has counted and the inner store's together. It names no plan.
+impl<S: Store> Store for FuseStore<S> {
+    ghost landed = { λ f. S.landed f.inner };
+
+    ghost failures = { λ f. failures_together f.failures (S.failures f.inner) };
+
+    ghost is_honest = { λ f. S.is_honest f.inner };
+
+    ghost plan = { λ _. None };
+
+    fn load(&mut self, alloc: Global) -> Result<Option<Vec<u8>>, StoreFault>
+        ensures { FuseCalls (InnerLoads (λ b. b.items) S.landed S.failures S.is_honest S.plan)
+            self.old result self.new }
+    {
+        if self.calls == 0 {
+            return Err(self.fail());
+        }
+        self.calls -= 1;
+        self.inner.load(alloc)
+    }
+
+    fn save(&mut self, alloc: Global, bytes: &[u8]) -> Result<(), StoreFault>
+        ensures { FuseCalls (InnerSaves bytes.now S.landed S.failures S.is_honest S.plan)
+            self.old result self.new }
+    {
+        if self.calls == 0 {
+            return Err(self.fail());
+        }
+        self.calls -= 1;
+        self.inner.save(alloc, bytes)
+    }
+}

@@ -49,7 +49,7 @@ standing_of y =
       received = y.received;
     }
 
--- in IDLE no request was taken yet
+-- the request of a responder in this state: none in IDLE
 abbrev pub request_in : State → Option Apdu → Option Apdu
 request_in state request = if is_among (Idle ∷ []) state then None else request
 

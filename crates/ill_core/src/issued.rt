@@ -127,7 +127,7 @@ impl Issued {
     }
 
     /// The date of the last Shipped or Renew-Answer yes.
-    pub fn last_granted(&self) -> Option<Day>
+    pub fn granted(&self) -> Option<Day>
         ensures { result ≡ last_of granted_day self.now.apdus }
     {
         self.granted

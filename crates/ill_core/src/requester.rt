@@ -109,7 +109,7 @@ impl Requester {
         if !are_numbered(&txn, &issued) {
             return None;
         }
-        if !rules::fits(&standing, &issued) {
+        if !rules::fit_together(&standing, &issued) {
             return None;
         }
         Some(Requester {
@@ -137,7 +137,7 @@ impl Requester {
     fn could_stand(&self, standing: &Standing, count: u8) -> bool
         ensures { (result ≡ true) ↔ IsRequester (back_to standing.now count self.now) }
     {
-        rules::fits(standing, self.issued.front(count))
+        rules::fit_together(standing, self.issued.front(count))
     }
 
     /// Does what the library decides, and issues the message that tells the responder.

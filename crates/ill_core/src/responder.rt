@@ -123,7 +123,7 @@ impl Responder {
         if !rules::is_request_of(&txn, &request) {
             return None;
         }
-        if !rules::fits(&standing, request.is_some(), &issued) {
+        if !rules::fit_together(&standing, request.is_some(), &issued) {
             return None;
         }
         Some(Responder {
@@ -142,7 +142,7 @@ impl Responder {
         if !self.could_stand(&standing, count) {
             return false;
         }
-        keep_request(standing.state, &mut self.request);
+        drop_in_idle(standing.state, &mut self.request);
         self.issued.go_back(count);
         self.standing = standing;
         true
@@ -154,7 +154,7 @@ impl Responder {
         ensures { (result ≡ true) ↔ IsResponder (back_to standing.now count self.now) }
     {
         let is_asked = is_asked_in(standing.state, &self.request);
-        rules::fits(standing, is_asked, self.issued.front(count))
+        rules::fit_together(standing, is_asked, self.issued.front(count))
     }
 
     /// Does what the library decides on this day, and issues the message that tells the requester.
@@ -215,7 +215,7 @@ impl Responder {
     pub fn due(&self) -> Option<Day>
         ensures { result ≡ due_of self.now }
     {
-        self.issued.last_granted()
+        self.issued.granted()
     }
 
     /// How many messages the responder has issued: 0 to 255.
@@ -302,8 +302,8 @@ fn is_asked_in(state: State, request: &Option<Apdu>) -> bool
     state != State::Idle && request.is_some()
 }
 
-/// Keeps the request in this state: in IDLE it is let go.
-fn keep_request(state: State, request: &mut Option<Apdu>)
+/// Drops the request where the state is IDLE.
+fn drop_in_idle(state: State, request: &mut Option<Apdu>)
     ensures { request.new ≡ request_in state request.old }
 {
     if state == State::Idle {

@@ -47,7 +47,7 @@ use Rattle.ill_saved.specs.declared.store.StoreFault.{StoreFault}
 use Rattle.ill_saved.specs.declared.store.StoreFault.TheVariants as stores
 use Rattle.ill_saved.specs.declared.store.NextCall.{NextCall}
 use Rattle.ill_saved.specs.declared.store.NextCall.TheVariants as plans
-use Rattle.ill_saved.specs.Side.{issued_of, txn_of, standing_of, back_to, GoesBack, is_asked, KeepsRequest, IsConsistent, idle_of, done_by, acts, takes, Acts, Takes, IsRow, IsFrontOf, Grows, acted, took, Follows, same, further}
+use Rattle.ill_saved.specs.Side.{issued_of, txn_of, standing_of, back_to, is_asked, KeepsRequest, IsConsistent, idle_of, done_by, acts, takes, Acts, Takes, IsRow, IsFrontOf, Grows, acted, took, Follows, same, further}
 use Rattle.ill_saved.specs.Records.{record_at, record_spelling, begins_as_record, Decodes}
 use Rattle.ill_saved.specs.Ranges.{Each, IsSide}
 use Rattle.ill_saved.specs.Store.{LandsAtSave, Allows}
@@ -420,26 +420,6 @@ pub back_rules : ReadsAgain → (old_honest honest : Bool) (old_landed landed by
 back_rules again old_honest honest old_landed landed bytes kept old new released stays lands load (spelled, is, of) =
     whole_rules old_honest honest old_landed landed bytes kept old new released stays lands load (back_is again kept released bytes old new (spelled, is, of)) is.0.0 (keeps_whole kept new released is of.all) of.all
 
-standing_is : (s t : Standing) → ◌≡◌ {A = Option Standing} (Some s) (Some t) → s ≡ t
-standing_is s t e = search rules
-
--- the bytes kept take the live side back to the one that they spell
-pub goes_back : (kept : KeptBytes) (s : Standing) (released : ℕ) (bytes : List ℕ) (old new : Side) (went : Bool) → Keeps kept old released → kept.standing ≡ Some s → bytes ≡ kept.bytes
-    → GoesBack (back_to s released old) went old new → GoesBackTo kept released (Some bytes) went old new
-goes_back kept s released bytes old new went (inl none) there lands back = absurd (subst (λ (k : KeptBytes). k.standing ≡ Some s → ⊥) (sym none.0) (λ found. cc) there)
-goes_back kept s released bytes old new true (inr (side, is, of)) there lands back =
-    let stood : s ≡ standing_of side = standing_is s (standing_of side) (sym there ∙ ap (λ (k : KeptBytes). k.standing) is.1) in
-    let went : GoesBack (Some side) true old new = subst (λ b. GoesBack b true old new) (ap (λ t. back_to t released old) stood ∙ of.back) back in
-    subst (λ side. GoesBackTo kept released (Some bytes) true old side) (sym went.1) (ap Some lands, is, of)
-goes_back kept s released bytes old new false (inr (side, is, of)) there lands back =
-    let stood : s ≡ standing_of side = standing_is s (standing_of side) (sym there ∙ ap (λ (k : KeptBytes). k.standing) is.1) in
-    let stayed : GoesBack (Some side) false old new = subst (λ b. GoesBack b false old new) (ap (λ t. back_to t released old) stood ∙ of.back) back in
-    stayed.1
-
-started_is : (landed : Option (List ℕ)) (plan : Option NextCall) (side : Side) → LoadsSide landed plan (Ok (Some side)) → landed_side landed side ≡ Ok side
-started_is (Some bytes) plan side loads = loads.0
-started_is None plan side loads = absurd loads
-
 -- no fault is found in a record that backs a side
 no_fault : (read : Result Side LayoutFault) (begins : Bool) (fault : RecordFault) (live : Side) (released : ℕ) → IsBackedByRead read live released → Decodes read begins (Err fault) → IsLoadFault (faults.Saved fault) → ⊥
 no_fault (Ok side) begins records.Short live released backed decodes is = absurd cc
@@ -467,6 +447,10 @@ allows_done None value allows = tt
 allows_done (Some plans.Works) value allows = tt
 allows_done (Some plans.FailsOld) value allows = allows
 allows_done (Some plans.FailsNew) value allows = allows
+
+started_is : (landed : Option (List ℕ)) (plan : Option NextCall) (side : Side) → LoadsSide landed plan (Ok (Some side)) → landed_side landed side ≡ Ok side
+started_is (Some bytes) plan side loads = loads.0
+started_is None plan side loads = absurd loads
 
 -- the side that a desk starts with has landed
 pub start_rules : (old_honest honest : Bool) (old_landed landed : Option (List ℕ)) (plan : Option NextCall) (kept : KeptBytes) (side : Side) (count : ℕ) → honest ≡ old_honest

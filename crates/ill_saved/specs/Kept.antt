@@ -2,11 +2,11 @@
 use Rattle.std.specs.Prelude.{◌≡◌, ◌⊎◌, ℕ, ◌+◌, ◌≤◌, Bool, true, false, List, [], ◌++◌, length, take, drop, map, Option, Some, None}
 use Rattle.ill_der.specs.ShortForm.{spelling}
 use Rattle.ill_saved.specs.declared.side.Side.{Side}
+use Rattle.ill_saved.specs.declared.side.Standing.{Standing}
 use Rattle.ill_saved.specs.declared.kept.Place.{Place}
 use Rattle.ill_saved.specs.Layout.{spell_all}
 use Rattle.ill_saved.specs.Records.{record_spelling}
 use Rattle.ill_saved.specs.Ranges.{IsSide}
-use Rattle.ill_saved.specs.declared.side.Standing.{Standing}
 use Rattle.ill_saved.specs.Side.{issued_of, standing_of, back_to, is_asked, IsFrontOf}
 
 -- where the side stood whose record is kept, the bytes of the record, the part of them that has the

@@ -62,7 +62,7 @@ back_to (standings.Responder s) count (sides.Responder y) =
     Some (sides.Responder (responders.back_to s count y))
 back_to standing count side = None
 
--- A side goes back where it can, which makes it a consistent one, or nothing changes.
+-- A side goes back exactly where it becomes a consistent one so; else nothing changes.
 abbrev pub GoesBack : Option Side → Bool → Side → Side → Type 0
 GoesBack None went old new = (went ≡ false) × (new ≡ old)
 GoesBack (Some back) went old new =

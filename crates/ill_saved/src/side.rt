@@ -126,7 +126,7 @@ impl Side {
     }
 
     /// Where this side stands.
-    pub fn standing(&self) -> Standing
+    pub(crate) fn standing(&self) -> Standing
         ensures value { result ≡ standing_of self.now }
         ensures consistent { IsConsistent self.now }
     {
@@ -138,7 +138,7 @@ impl Side {
 
     /// Goes back to where it stood so and had issued the first so many of its messages, if these parts
     /// fit together. Otherwise it answers `false`, and nothing changes.
-    pub fn go_back(&mut self, standing: &Standing, count: u8) -> bool
+    pub(crate) fn go_back(&mut self, standing: &Standing, count: u8) -> bool
         ensures { GoesBack (back_to standing.now count self.old) result self.old self.new }
     {
         match (self, standing) {

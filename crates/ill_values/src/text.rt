@@ -47,11 +47,11 @@ pub fn check_item(text: &[u8]) -> Result<(), TextFault>
 fn is_printable_text(text: &[u8]) -> bool
     ensures { result ≡ list_all is_printable text.now }
 {
-    let mut are = true;
+    let mut so_far = true;
     for byte in text {
-        are &= *byte >= 0x20 && *byte <= 0x7E;
+        so_far &= *byte >= 0x20 && *byte <= 0x7E;
     }
-    are
+    so_far
 }
 
 fn is_item(text: &[u8]) -> bool
@@ -60,13 +60,13 @@ fn is_item(text: &[u8]) -> bool
     has_no_control(text) && str::from_utf8(text).is_ok()
 }
 
-/// Whether no byte is a control character. It looks at all of them, as above.
+/// Whether no byte is a control character. It looks at all of them, so that many are compared at once.
 fn has_no_control(text: &[u8]) -> bool
     ensures { result ≡ list_all is_no_control text.now }
 {
-    let mut are = true;
+    let mut so_far = true;
     for byte in text {
-        are &= *byte >= 0x20 && *byte != 0x7F;
+        so_far &= *byte >= 0x20 && *byte != 0x7F;
     }
-    are
+    so_far
 }

@@ -14,7 +14,7 @@ use Rattle.ill_world.specs.declared.fault.SimFault.TheVariants.{Script, Read, Wr
 use Rattle.ill_world.specs.World.{Parties, first_world, happens}
 use Rattle.ill_world.specs.Script.{meaning}
 use Rattle.ill_world.specs.Simulation.{Said, says_nothing, line_at, then_says, ends, breaks_off, says_from, trace_from, trace_of, IsFront, OfAll, script, Answers, Simulates}
-use Rattle.ill_world.specs.Simulating.{IsLine, ReadsLine, shown_line, PerformsLine, says_on, AnswersFrom, SimulatesFrom, StepsLine, IsBeforeEnd, FindsEnd, IsUsed}
+use Rattle.ill_world.specs.Simulating.{IsLine, ReadsLine, shown_line, PerformsLine, says_on, AnswersFrom, SimulatesFrom, StepsLine, IsBeforeEnd, FindsEnd, IsUsedUp}
 use Rattle.ill_world.proofs.Scripts.{within, line_within, says_line, says_rest, ends_line, breaks_nothing, says_too_long, says_too_many}
 use Rattle.ill_world.proofs.Simulations.{trace_of_none, trace_next, trace_of_one}
 
@@ -197,21 +197,6 @@ finds_end n w count old new before result all finds = subst (λ m. SimulatesFrom
 
 -- ---- what was read ahead
 
--- a line that was read whole is not performed by reading
-pub performed_without_reading : (says : Line) (n : ℕ) (w next : Parties) (count next_count : ℕ) (before after : Option (List ℕ)) (result : Result Bool SimFault) (fault : SimFault) (ahead : List ℕ)
-    → IsErrAnd result (λ f. f ≡ fault) → PerformsLine says n w count before after (Err fault) next next_count → IsUsed ahead result
-performed_without_reading says n w next count next_count before after (Ok more) fault ahead is performs = tt
-performed_without_reading says n w next count next_count before after (Err f) fault ahead is performs =
-    subst (λ f. IsUsed {X = Bool} ahead (Err f)) (sym is) (go says fault performs)
-  where
-    go : (says : Line) (fault : SimFault) → PerformsLine says n w count before after (Err fault) next next_count → IsUsed {X = Bool} ahead (Err fault)
-    go says OutOfMemory performs = tt
-    go says Write performs = tt
-    go says (Script m) performs = tt
-    go lines.Skipped Read performs = absurd performs
-    go (lines.Event event) Read performs = absurd performs
-    go lines.Bad Read performs = absurd performs
-
 read_of_all : (text ahead rest : List ℕ) (P : List ℕ → Type 0) → OfAll text (Some (ahead ++ rest)) P → OfAll (text ++ ahead) (Some rest) P
 read_of_all text ahead rest P of_all = λ more e. subst P (sym (append_assoc text ahead more)) (of_all (ahead ++ more) (ap (λ left. prepend_known ahead left) e))
 
@@ -223,7 +208,7 @@ read_whole : (txn : Qualifiers) (text ahead rest trace : List ℕ) (result : Res
 read_whole txn text ahead rest trace result none answers =
     subst (λ t. Answers txn result t (Some rest) trace) (sym (ap (λ l. text ++ l) none ∙ append-nil text)) answers
 
-answers_of_all : (txn : Qualifiers) (text ahead rest trace : List ℕ) (result : Result ℕ SimFault) → IsUsed ahead result → Answers txn result text (Some (ahead ++ rest)) trace
+answers_of_all : (txn : Qualifiers) (text ahead rest trace : List ℕ) (result : Result ℕ SimFault) → IsUsedUp ahead result → Answers txn result text (Some (ahead ++ rest)) trace
     → Answers txn result (text ++ ahead) (Some rest) trace
 answers_of_all txn text ahead rest trace (Ok count) used answers =
     let none = none_ahead ahead rest answers.0 in read_whole txn text ahead rest trace (Ok count) none.0 (none.1, answers.1, answers.2, answers.3)
@@ -237,7 +222,7 @@ consumes_ahead : (old : Option (List ℕ)) (text ahead rest : List ℕ) → Cons
 consumes_ahead None text ahead rest read = tt
 consumes_ahead (Some bytes) text ahead rest read = read ∙ sym (append_assoc text ahead rest)
 
-all_read : (txn : Qualifiers) (ahead : List ℕ) (old new before after : Option (List ℕ)) (result : Result ℕ SimFault) → IsUsed ahead result
+all_read : (txn : Qualifiers) (ahead : List ℕ) (old new before after : Option (List ℕ)) (result : Result ℕ SimFault) → IsUsedUp ahead result
     → Simulates txn (prepend_known [] old) (prepend_known ahead new) before after result → Simulates txn old new before after result
 all_read txn ahead None None before after result used simulates = simulates
 all_read txn ahead (Some bytes) None before after result used simulates = absurd simulates.2
@@ -247,7 +232,7 @@ all_read txn ahead old (Some rest) before after result used simulates =
     (text ++ ahead, trace, consumes_ahead old text ahead rest simulates.2, simulates.3, answers_of_all txn text ahead rest trace result used simulates.4)
 
 -- Nothing was ahead, and what is ahead now was read too.
-pub counts_as_read : (txn : Qualifiers) (first ahead : List ℕ) (old new before after : Option (List ℕ)) (result : Result ℕ SimFault) → first ≡ [] → IsUsed ahead result
+pub counts_as_read : (txn : Qualifiers) (first ahead : List ℕ) (old new before after : Option (List ℕ)) (result : Result ℕ SimFault) → first ≡ [] → IsUsedUp ahead result
     → Simulates txn (prepend_known first old) (prepend_known ahead new) before after result → Simulates txn old new before after result
 counts_as_read txn first ahead old new before after result none used simulates =
     all_read txn ahead old new before after result used (subst (λ l. Simulates txn (prepend_known l old) (prepend_known ahead new) before after result) none simulates)

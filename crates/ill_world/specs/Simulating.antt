@@ -1,5 +1,5 @@
 -- A simulation in the midst of a script: from its next line on.
-use Rattle.std.specs.Prelude.{◌≡◌, ℕ, ◌+◌, ◌≤◌, Bool, true, false, ◌==◌, List, [], ◌∷◌, ◌++◌, length, take, ⊤, Option, Some, None, Result, Ok, Err}
+use Rattle.std.specs.Prelude.{◌≡◌, ℕ, ◌+◌, ◌≤◌, Bool, true, false, ◌==◌, List, [], ◌∷◌, ◌++◌, length, take, Option, Some, None, Result, Ok, Err}
 use Rattle.std.specs.List.{list_any, position_from}
 use Rattle.std.specs.Io.KnownBytes.{Consumes, Appends, IsAtEnd, prepend_known}
 use Rattle.std.specs.declared.alloc.AllocError.{AllocError}
@@ -26,10 +26,10 @@ Fills before ahead old new (Err fault) =
     (fault ≡ Read) × Consumes (prepend_known before old) (prepend_known ahead new) [] × (ahead ≡ [])
 
 -- where the reader failed, all that was read ahead is used
-abbrev pub IsUsed : {X : Type 0} → List ℕ → Result X SimFault → Type 0
-IsUsed ahead (Ok done) = ⊤
-IsUsed ahead (Err Read) = ahead ≡ []
-IsUsed ahead (Err other) = ⊤
+abbrev pub IsUsedUp : {X : Type 0} → List ℕ → Result X SimFault → Type 0
+IsUsedUp ahead (Ok done) = Unit {0}
+IsUsedUp ahead (Err Read) = ahead ≡ []
+IsUsedUp ahead (Err other) = Unit {0}
 
 -- ---- reading one line
 
@@ -141,9 +141,9 @@ StepsLine n w count old new before after (Ok false) next next_count =
 StepsLine n w count old new before after (Err fault) next next_count =
     SimulatesFrom n w count old new before after (Err fault)
 
--- a byte is left
+-- a byte is left, if that is known
 abbrev pub IsBeforeEnd : Option (List ℕ) → Type 0
-IsBeforeEnd None = ⊤
+IsBeforeEnd None = Unit {0}
 IsBeforeEnd (Some bytes) = 1 ≤ length bytes
 
 -- The end was looked for behind as many lines as there may be.

@@ -2,7 +2,7 @@
 
 ghost use Rattle.std.specs.Prelude.{◌≡◌, ◌<◌, ◌≤◌, length, IfSome};
 ghost use Rattle.std.specs.Io.KnownBytes.{prepend_known};
-ghost use Rattle.ill_world.specs.Simulating.{IsUsed, lf_place, TakesPart, ReadsLine};
+ghost use Rattle.ill_world.specs.Simulating.{IsUsedUp, lf_place, TakesPart, ReadsLine};
 
 use crate::ahead::Ahead;
 use crate::fault::SimFault;
@@ -35,7 +35,7 @@ pub fn next_line<R: Read>(
 ) -> Result<Found, SimFault>
     ensures line { ReadsLine (prepend_known ahead.old (R.remaining reader.old))
         (prepend_known ahead.new (R.remaining reader.new)) line.new.items result }
-    ensures used { IsUsed ahead.new result }
+    ensures used { IsUsedUp ahead.new result }
 {
     line.clear();
     while ahead.fill(reader)? {

@@ -9,7 +9,7 @@ ghost use Rattle.ill_world.specs.Safety.{IsSafeRun};
 ghost use Rattle.ill_world.specs.Agreement.{IsAgreeingRun};
 ghost use Rattle.ill_world.specs.Simulation.{Simulates, line_at};
 ghost use Rattle.ill_world.specs.Script.{meaning};
-ghost use Rattle.ill_world.specs.Simulating.{Performs, PerformsLine, StepsLine, FindsEnd, IsUsed};
+ghost use Rattle.ill_world.specs.Simulating.{Performs, PerformsLine, StepsLine, FindsEnd, IsUsedUp};
 
 use crate::ahead::Ahead;
 use crate::event::Event;
@@ -119,7 +119,7 @@ impl Simulation {
             (prepend_known self.old.ahead (R.remaining reader.old))
             (prepend_known self.new.ahead (R.remaining reader.new))
             (W.contents writer.old) (W.contents writer.new) result self.new.world self.new.count }
-        ensures used { IsUsed self.new.ahead result }
+        ensures used { IsUsedUp self.new.ahead result }
         ensures few { self.new.count ≤ self.old.count + 1 }
     {
         match next_line(reader, &mut self.ahead, &mut self.line)? {
@@ -185,7 +185,7 @@ impl Simulation {
         ensures end { FindsEnd self.old.count
             (prepend_known self.old.ahead (R.remaining reader.old))
             (prepend_known self.new.ahead (R.remaining reader.new)) result }
-        ensures used { IsUsed self.new.ahead result }
+        ensures used { IsUsedUp self.new.ahead result }
     {
         match self.ahead.fill(reader) {
             Ok(true) => Err(SimFault::Script(MAX_LINES + 1)),

@@ -30,7 +30,7 @@ pub fn responder_keeps_txn()
     ensures takes { (y : ResponderRecord) (a : Apdu) → (takes y a).1.txn ≡ y.txn }
 {}
 
-/// Once it was asked, the request stays, and no row leads back to IDLE.
+/// Once a responder was asked, its request stays, and no line leads back to IDLE.
 pub fn responder_keeps_request()
     ensures acts { (y new : ResponderRecord) (deed : Deed) (today : Date) →
         acts y deed today ≡ Ok new → KeepsRequest y new }

@@ -16,7 +16,7 @@ use crate::state::State;
 use ill_values::Apdu;
 
 /// Whether these parts fit together, and with what was issued.
-pub fn fits(standing: &Standing, apdus: &[Apdu]) -> bool
+pub fn fit_together(standing: &Standing, apdus: &[Apdu]) -> bool
     ensures { (result ≡ true) ↔ (PartsFit standing.now.state (is_some standing.now.held)
         (is_some standing.now.due) standing.now.checked_in
         × IssuedKeepsRules standing.now.state apdus.now) }

@@ -15,7 +15,7 @@ use crate::state::State;
 use ill_values::{Apdu, Day, Number, TxnId};
 
 /// Whether these parts fit together, with the request and with what was issued.
-pub fn fits(standing: &Standing, is_asked: bool, apdus: &[Apdu]) -> bool
+pub fn fit_together(standing: &Standing, is_asked: bool, apdus: &[Apdu]) -> bool
     ensures { (result ≡ true) ↔ (PartsFit standing.now.state is_asked
         (is_some standing.now.accepted) (is_some standing.now.last_cancel)
         (is_some standing.now.last_renew) standing.now.received (is_none apdus.now)

@@ -5,4 +5,4 @@ use Rattle.ill_values.proofs.text.has_no_control.Given as goal
 
 -- the bytes so far are, and those left decide
 abbrev pub invariant-loop-byte : goal.invariant-loop-byte
-invariant-loop-byte l = list_all is_no_control l.text ≡ (l.are && list_all is_no_control (drop l.byte-index l.text))
+invariant-loop-byte l = list_all is_no_control l.text ≡ (l.so_far && list_all is_no_control (drop l.byte-index l.text))

@@ -5,4 +5,4 @@ use Rattle.ill_values.proofs.text.is_printable_text.Given as goal
 
 -- the bytes so far are, and those left decide
 abbrev pub invariant-loop-byte : goal.invariant-loop-byte
-invariant-loop-byte l = list_all is_printable l.text ≡ (l.are && list_all is_printable (drop l.byte-index l.text))
+invariant-loop-byte l = list_all is_printable l.text ≡ (l.so_far && list_all is_printable (drop l.byte-index l.text))

@@ -1,6 +1,6 @@
-use Rattle.std.proofs.Common.{rules, ◌≡◌, true, false, Vec, Global, Option, List, ℕ, Ok, Err, subst, sym, ap, ◌∙◌}
+use Rattle.std.proofs.Common.{rules, ◌≡◌, true, false, Vec, Global, Option, List, ℕ, Ok, Err, subst}
 use Rattle.std.specs.Prelude.{option_map}
-use Rattle.ill_saved.specs.Desk.{landed_side, IsBacked, Restarts}
+use Rattle.ill_saved.specs.Desk.{landed_side, Restarts}
 use Rattle.ill_saved.specs.Store.{Allows}
 use Rattle.ill_saved.specs.Kept.{GoesBackTo}
 use Rattle.ill_saved.specs.Loading.{LoadsOrIdle}

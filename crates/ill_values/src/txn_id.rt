@@ -1,8 +1,9 @@
 //! Transaction ids.
 
-ghost use Rattle.std.specs.Prelude.{◌≡◌, ◌≤◌, ◌&&◌, length, is_ok, IfOk};
+ghost use Rattle.std.specs.Prelude.{◌≡◌, ◌≤◌, ◌&&◌, ◌++◌, length, is_ok, IfOk};
 ghost use Rattle.std.specs.Str.{bytes_eq};
-ghost use Rattle.std.specs.Cmp.Rules.{comparing};
+ghost use Rattle.std.specs.Hash as fed;
+ghost use Rattle.std.specs.Cmp.Rules.{comparing, hashing};
 ghost use Rattle.std.proofs.Common.{rules};
 ghost use Rattle.ill_values.specs.Text.{qualifier_check, Gives};
 ghost use Rattle.ill_values.specs.TxnId.{Qualifiers, AreQualifiers, txn_id_of};
@@ -10,10 +11,12 @@ ghost use Rattle.ill_values.specs.TxnId.{Qualifiers, AreQualifiers, txn_id_of};
 use crate::fault::TextFault;
 use crate::text::check_qualifier;
 use std::alloc::{AllocError as OutOfMemory, Global};
+use std::hash::{Hash, Hasher};
 use std::marker::Model;
 
 /// The id of a transaction: a transaction group qualifier and a transaction qualifier, each of 1 to
-/// 64 bytes, 0x20 to 0x7E (this profile's own).
+/// 64 bytes, 0x20 to 0x7E (this profile's own). Two ids are equal, and hashed alike, where both of their
+/// qualifiers are.
 #[derive(Debug, Drop)]
 pub struct TxnId {
     group: Vec<u8>,
@@ -41,6 +44,17 @@ impl PartialEq for TxnId {
 
 impl Eq for TxnId {
     ghost laws = { Prim.search (comparing, rules) };
+}
+
+impl Hash for TxnId {
+    ghost hash_input = { λ id. fed.slice fed.u8 id.group ++ fed.slice fed.u8 id.transaction };
+
+    ghost respects_eq = { Prim.search (hashing, rules) };
+
+    fn hash<H: Hasher>(&self, state: &mut H) {
+        self.group.hash(state);
+        self.transaction.hash(state);
+    }
 }
 
 impl TxnId {

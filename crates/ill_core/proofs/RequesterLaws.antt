@@ -1,7 +1,7 @@
 -- The laws of a requester's single rows.
-use Rattle.std.proofs.Common.{◌≡◌, ◌⊎◌, [], ◌∷◌, is_some, true, Ok, refl, ◌∙◌}
+use Rattle.std.proofs.Common.{◌≡◌, ◌⊎◌, [], ◌∷◌, is_some, true, false, Ok, refl, ◌∙◌}
 use Rattle.ill_values.specs.declared.apdu.Apdu.{Apdu}
-use Rattle.ill_core.specs.declared.state.State.TheVariants.{Conditional, Cancelled, NotSupplied, Returned}
+use Rattle.ill_core.specs.declared.state.State.TheVariants.{Idle, Conditional, Cancelled, NotSupplied, Returned}
 use Rattle.ill_core.specs.declared.requester.Wish.{Wish}
 use Rattle.ill_core.specs.declared.taking.Taking.TheVariants.{Taken}
 use Rattle.ill_core.specs.State.{is_among}
@@ -27,6 +27,9 @@ acts_txn x new wish = of_acts (λ r. r.txn ≡ x.txn) x new wish (λ row there h
 pub acts_kept : (x new : RequesterRecord) (wish : Wish) → acts x wish ≡ Ok new → IsRequester x → IsRequester new
 acts_kept x new wish = of_acts (λ r. IsRequester x → IsRequester r) x new wish (λ row there how h.
     row_kept x row x.txn (with_next x.txn x.issued row.body) h (fits x.txn x.state x.held x.checked_in x.due x.issued wish row h there) refl refl)
+
+pub acts_begun : (x new : RequesterRecord) (wish : Wish) → acts x wish ≡ Ok new → is_among (Idle ∷ []) new.state ≡ false
+acts_begun x new wish = of_acts (λ r. is_among (Idle ∷ []) r.state ≡ false) x new wish (λ row there how. how.begun)
 
 pub acts_final : (x new : RequesterRecord) (wish : Wish) → acts x wish ≡ Ok new → is_among (Cancelled ∷ NotSupplied ∷ Returned ∷ []) x.state ≡ true → new.state ≡ x.state
 acts_final x new wish = of_acts (λ r. is_among (Cancelled ∷ NotSupplied ∷ Returned ∷ []) x.state ≡ true → r.state ≡ x.state) x new wish (λ row there how. how.final)
@@ -60,6 +63,9 @@ takes_kept x a = (delivery_row x a).kept
 
 pub takes_quiet : (x : RequesterRecord) (a : Apdu) → ((takes x a).0 ≡ Ok Taken) ⊎ ((takes x a).1 ≡ x)
 takes_quiet x a = (delivery_row x a).quiet
+
+pub takes_begun : (x : RequesterRecord) (a : Apdu) → is_among (Idle ∷ []) x.state ≡ false → is_among (Idle ∷ []) (takes x a).1.state ≡ false
+takes_begun x a = (delivery_row x a).begun
 
 pub takes_final : (x : RequesterRecord) (a : Apdu) → is_among (Cancelled ∷ NotSupplied ∷ Returned ∷ []) x.state ≡ true → (takes x a).1.state ≡ x.state
 takes_final x a = (delivery_row x a).final

@@ -40,6 +40,7 @@ pub record Moves (x : RequesterRecord) (k : ℕ) (body : Body) (answer : Result 
   pub issued : answer.1.issued ≡ x.issued
   pub kept : IsRequester x → IsRequester answer.1
   pub quiet : (answer.0 ≡ Ok takings.Taken) ⊎ (answer.1 ≡ x)
+  pub begun : is_among (Idle ∷ []) x.state ≡ false → is_among (Idle ∷ []) answer.1.state ≡ false
   pub final : is_among (Cancelled ∷ NotSupplied ∷ Returned ∷ []) x.state ≡ true → answer.1.state ≡ x.state
   pub stays : is_among later x.state ≡ true → is_among later answer.1.state ≡ true
   pub due : is_some x.due ≡ is_among later x.state → KeepsDue x.due answer.1.due
@@ -158,6 +159,7 @@ delivery_row x a = admitted x a.number a.body (first_refusal x.txn (is_requester
 
 -- a row that issues an APDU
 pub record Issues (x : RequesterRecord) (row : Line) : Type 0 where
+  pub begun : is_among (Idle ∷ []) row.next ≡ false
   pub final : is_among (Cancelled ∷ NotSupplied ∷ Returned ∷ []) x.state ≡ true → row.next ≡ x.state
   pub stays : is_among later x.state ≡ true → is_among later row.next ≡ true
   pub shows : (fact : Fact) → Shows (record_after x row) fact → Shows x fact
@@ -165,8 +167,12 @@ pub record Issues (x : RequesterRecord) (row : Line) : Type 0 where
       → (is_among (Conditional ∷ []) x.state ≡ true) × (has declines x.issued ≡ false) × (n ≡ unwrap_or x.held 0)
   pub once : is_some x.held ≡ is_among (Conditional ∷ []) x.state → AnswersOnce x → AnswersOnce (record_after x row)
 
--- no wish leads to CANCELLED or NOT-SUPPLIED
-goes_on : (x : RequesterRecord) (row : Line) → is_among (Cancelled ∷ NotSupplied ∷ []) row.next ≡ false
+no_more_idle : (next : State) → is_among (Idle ∷ Cancelled ∷ NotSupplied ∷ []) next ≡ false → is_among (Idle ∷ []) next ≡ false
+no_more_idle Idle on = search rules
+no_more_idle next on = refl
+
+-- no wish leads to IDLE, CANCELLED or NOT-SUPPLIED
+goes_on : (x : RequesterRecord) (row : Line) → is_among (Idle ∷ Cancelled ∷ NotSupplied ∷ []) row.next ≡ false
     → ((c : ℕ) → ShowsRefused (record_after x row) c → ShowsRefused x c) → (fact : Fact) → Shows (record_after x row) fact → Shows x fact
 goes_on x row away refused facts.Cancelled shown = search rules
 goes_on x row away refused facts.Ended shown = search rules
@@ -179,12 +185,13 @@ no_reply body n is_yes silent is = search rules
 
 -- a row that answers no conditions
 silent_row : (x : RequesterRecord) (next : State) (body : Body) → replied_number body ≡ None → accepts body ≡ None → declines body ≡ false
-    → is_among (Conditional ∷ []) next ≡ false → is_among (Cancelled ∷ NotSupplied ∷ []) next ≡ false → is_among (Cancelled ∷ NotSupplied ∷ Returned ∷ []) x.state ≡ false
+    → is_among (Conditional ∷ []) next ≡ false → is_among (Idle ∷ Cancelled ∷ NotSupplied ∷ []) next ≡ false → is_among (Cancelled ∷ NotSupplied ∷ Returned ∷ []) x.state ≡ false
     → (is_among later x.state ≡ true → is_among later next ≡ true)
     → ((c : ℕ) → ShowsRefused (record_after x (record { next = next; body = body; held = x.held })) c → ShowsRefused x c)
     → Issues x (record { next = next; body = body; held = x.held })
 silent_row x next body silent accepts_none declines_not held_no_more on settled_not stays refused =
     record {
+      begun = no_more_idle next on;
       final = λ is. not_both _ settled_not is;
       stays = stays;
       shows = goes_on x (record { next = next; body = body; held = x.held }) on refused;
@@ -209,13 +216,14 @@ cancel_refused_before x c is shown =
       search (rules, is),
     )
 
-answer_goes_on : (is_yes : Bool) → is_among (Cancelled ∷ NotSupplied ∷ []) (if is_yes then Pending else Conditional) ≡ false
+answer_goes_on : (is_yes : Bool) → is_among (Idle ∷ Cancelled ∷ NotSupplied ∷ []) (if is_yes then Pending else Conditional) ≡ false
 answer_goes_on true = refl
 answer_goes_on false = refl
 
 answers_held : (x : RequesterRecord) (is_yes : Bool) → is_among (Conditional ∷ []) x.state ≡ true → has declines x.issued ≡ false → Issues x (answer_held x is_yes)
 answers_held x is_yes here undeclined =
     record {
+      begun = no_more_idle (answer_held x is_yes).next (answer_goes_on is_yes);
       final = λ is. search rules;
       stays = λ is. search rules;
       shows = goes_on x (answer_held x is_yes) (answer_goes_on is_yes) (λ c shown. (still_cancel x.issued _ c refl shown.0, search (rules, here), search (rules, here)));

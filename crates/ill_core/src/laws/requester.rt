@@ -38,6 +38,14 @@ pub fn requester_keeps_rules()
     ensures takes { (x : RequesterRecord) (a : Apdu) → IsRequester x → IsRequester (takes x a).1 }
 {}
 
+/// A wish leads out of IDLE, and nothing leads back there.
+pub fn requester_has_begun()
+    ensures acts { (x new : RequesterRecord) (wish : Wish) → acts x wish ≡ Ok new →
+        is_among (states.Idle ∷ []) new.state ≡ false }
+    ensures takes { (x : RequesterRecord) (a : Apdu) → is_among (states.Idle ∷ []) x.state ≡ false →
+        is_among (states.Idle ∷ []) (takes x a).1.state ≡ false }
+{}
+
 /// A message that is not taken changes nothing.
 pub fn requester_is_quiet()
     ensures { (x : RequesterRecord) (a : Apdu) → ((takes x a).0 ≡ Ok Taken) ⊎ ((takes x a).1 ≡ x) }

@@ -1,6 +1,6 @@
 //! The responder's rows.
 
-ghost use Rattle.std.specs.Prelude.{◌≡◌, ◌⊎◌, ℕ, [], ◌∷◌, is_some, true, Ok};
+ghost use Rattle.std.specs.Prelude.{◌≡◌, ◌⊎◌, ℕ, [], ◌∷◌, is_some, true, false, Ok};
 ghost use Rattle.ill_values.specs.Day.{Date};
 ghost use Rattle.ill_values.specs.declared.apdu.Apdu.{Apdu};
 ghost use Rattle.ill_values.specs.declared.apdu.Body.TheVariants as types;
@@ -35,6 +35,12 @@ pub fn responder_keeps_request()
     ensures acts { (y new : ResponderRecord) (deed : Deed) (today : Date) →
         acts y deed today ≡ Ok new → KeepsRequest y new }
     ensures takes { (y : ResponderRecord) (a : Apdu) → KeepsRequest y (takes y a).1 }
+{}
+
+/// A deed leaves no responder in IDLE.
+pub fn responder_has_begun()
+    ensures { (y new : ResponderRecord) (deed : Deed) (today : Date) → acts y deed today ≡ Ok new →
+        is_among (states.Idle ∷ []) new.state ≡ false }
 {}
 
 /// A record that keeps the rules of a responder keeps them.

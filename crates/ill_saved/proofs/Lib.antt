@@ -3,7 +3,7 @@ pub mod Records
 pub mod Steps
 pub mod Fields
 pub mod RecordLaws
-pub mod Sides
+pub mod Roles
 pub mod Desks
 pub mod Files
 pub mod Sizes

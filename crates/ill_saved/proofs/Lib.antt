@@ -4,6 +4,7 @@ pub mod Steps
 pub mod Fields
 pub mod RecordLaws
 pub mod Roles
+pub mod Held
 pub mod Desks
 pub mod Files
 pub mod Sizes

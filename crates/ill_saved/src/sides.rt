@@ -2,6 +2,7 @@
 
 ghost use Rattle.std.specs.Prelude.{◌≡◌, ◌≤◌, ◌++◌, [], ◌∷◌, length, slice_get, option_copied, None, Some, true, OnOk, OnErr, IfErr};
 ghost use Rattle.indexmap.specs.IndexMap.{get, keys, values};
+ghost use Rattle.ill_core.specs.Issued.{is_same_txn};
 ghost use Rattle.ill_saved.specs.Sides.{SidesOf, AreFiled, most_sides, side_with, may_be_held, put_refusal, Puts};
 
 use crate::fault::SidesFault;
@@ -115,7 +116,7 @@ impl Sides {
 /// Puts a value behind those of the map, under a key that it has not. Where memory ran out the value is
 /// handed back, and the map is unchanged.
 fn insert_new<V: Drop>(map: &mut IndexMap<TxnId, V>, key: TxnId, value: V) -> Result<(), V>
-    requires new { get TxnId.eq map.old key ≡ None }
+    requires new { get is_same_txn map.old key ≡ None }
     ensures done { OnOk result (map.new.entries ≡ map.old.entries ++ (key, value) ∷ []) }
     ensures refused { IfErr result (λ back. back ≡ value) }
     ensures unchanged { OnErr result (map.new.entries ≡ map.old.entries) }

@@ -1,6 +1,6 @@
 -- Sides that are filed by their transactions.
-use Rattle.std.proofs.Common.{◌≡◌, ℕ, suc, ◌+◌, ◌<◌, ◌≤◌, nat_lt, length, drop, map, Bool, true, false, cond, if◌then◌else◌, not, ◌&&◌, List, [], ◌∷◌, ◌++◌, Option, Some, None, Result, Ok, Err, is_some, is_none, refl, ap, sym, subst, ◌∙◌, true≢false, rules, arith, length-append}
-use Rattle.std.specs.List.{list_all, find}
+use Rattle.std.proofs.Common.{◌≡◌, ℕ, ◌<◌, nat_lt, length, drop, map, Bool, true, false, cond, if◌then◌else◌, not, List, [], ◌∷◌, ◌++◌, Option, Some, None, Err, is_some, is_none, refl, ap, sym, subst, ◌∙◌, true≢false, rules, arith, length-append}
+use Rattle.std.specs.List.{list_all}
 use Rattle.std.specs.Map.{keys_of, values_of, lookup}
 use Rattle.std.proofs.Math.ListN.{get_or}
 use Rattle.std.proofs.lemmas.Bool.{and_parts, and_from}
@@ -14,7 +14,7 @@ use Rattle.ill_saved.specs.declared.side.Side.{Side}
 use Rattle.ill_saved.specs.declared.fault.SidesFault.{SidesFault}
 use Rattle.ill_saved.specs.declared.fault.SidesFault.TheVariants as faults
 use Rattle.ill_saved.specs.Side.{role_of, txn_of, is_idle}
-use Rattle.ill_saved.specs.Sides.{SidesOf, AreFiled, side_with, is_same_role, may_stand, are_apart, may_be_held, most_sides, put_refusal, Puts}
+use Rattle.ill_saved.specs.Sides.{SidesOf, AreFiled, side_with, is_same_role, may_stand, are_apart, most_sides, put_refusal, Puts}
 
 -- two ids are the same exactly where their qualifiers are
 pub same_is : (a b : Qualifiers) → is_same_txn a b ≡ true → a ≡ b

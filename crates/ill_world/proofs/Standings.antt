@@ -22,10 +22,10 @@ use Rattle.ill_saved.specs.declared.side.Side.{Side}
 use Rattle.ill_saved.specs.declared.side.Side.TheVariants as sides
 use Rattle.ill_saved.specs.declared.side.Action.{Action}
 use Rattle.ill_saved.specs.declared.side.Action.TheVariants as actions
-use Rattle.ill_saved.specs.Side.{done_by, acts, takes, issued_of}
-use Rattle.ill_world.specs.World.{Parties, first_party, first_world, with_party, party, other, who_of, happens, happens_to, sent_message}
-use Rattle.ill_world.specs.declared.event.Who.{Who}
-use Rattle.ill_world.specs.declared.event.Who.TheVariants as who
+use Rattle.ill_saved.specs.Side.{done_by, acts, takes, issued_of, other}
+use Rattle.ill_world.specs.World.{Parties, first_party, first_world, with_party, party, who_of, happens, happens_to, sent_message}
+use Rattle.ill_saved.specs.declared.role.Role.{Role as Who}
+use Rattle.ill_saved.specs.declared.role.Role.TheVariants as who
 use Rattle.ill_world.specs.declared.event.Event.{Event}
 use Rattle.ill_world.specs.Invariant.{WasSent, RequesterStands, ResponderStands, RequesterSideStands, ResponderSideStands, PartyStands, Stands}
 use Rattle.ill_world.proofs.DueDates.{RowsKeepDue, due_after}

@@ -40,6 +40,7 @@ pub fn requester_stands()
 {
     requester_keeps_txn();
     requester_keeps_rules();
+    requester_rules();
     requester_answers_once();
     requester_shows();
 }
@@ -55,6 +56,7 @@ pub fn responder_stands()
 {
     responder_keeps_txn();
     responder_keeps_rules();
+    responder_rules();
     responder_ends_once();
     responder_answers_once();
     responder_shows();

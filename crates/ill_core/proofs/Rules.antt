@@ -1,11 +1,18 @@
 -- The tests of the rules of a record say what the rules say, one by one.
-use Rattle.std.proofs.Common.{rules, ◌≡◌, Bool, true, false, not, ◌&&◌, is_some, refl, if◌then◌else◌}
+use Rattle.std.proofs.Common.{rules, ◌≡◌, ℕ, Bool, true, false, not, ◌&&◌, is_some, take, refl, if◌then◌else◌}
 use Rattle.std.specs.List.{list_all, filter_map, count_by}
 use Rattle.std.proofs.lemmas.Bool.{and_from, and_parts, eqb-true, eq-eqb, not-true}
 use Rattle.ill_core.specs.Rules.{are_alike}
+use Rattle.ill_core.specs.declared.requester.standing.Standing as requesters
+use Rattle.ill_core.specs.declared.responder.standing.Standing as responders
+use Rattle.ill_core.specs.Issued.{is_none}
+use Rattle.ill_core.specs.Requester as requester
 use Rattle.ill_core.specs.Requester.{RequesterRecord, IsRequester}
 use Rattle.ill_core.specs.RequesterRules.{RequesterRules}
+use Rattle.ill_core.specs.Responder as responder
 use Rattle.ill_core.specs.Responder.{ResponderRecord, IsResponder}
+use Rattle.ill_core.proofs.IssuedLemmas.{numbered_front}
+use Rattle.ill_core.proofs.ResponderLists.{request_in_is}
 use Rattle.ill_core.specs.ResponderRules.{ResponderRules}
 
 alike : (a b : Bool) → are_alike a b ≡ true → a ≡ b
@@ -23,6 +30,7 @@ not_from true h = search rules
 not_from false h = refl
 
 pub requester_rules : (x : RequesterRecord) → IsRequester x → RequesterRules x
+unfolding requester.keeps_rules
 requester_rules x h =
     let numbered = and_parts _ _ h in
     let fits = and_parts _ _ numbered.1 in
@@ -59,6 +67,7 @@ requester_rules x h =
     }
 
 pub is_requester : (x : RequesterRecord) → RequesterRules x → IsRequester x
+unfolding requester.keeps_rules
 is_requester x h =
     let p = h.parts in
     let i = h.issued in
@@ -69,6 +78,7 @@ is_requester x h =
     and_from _ _ i.cancel (and_from _ _ i.renew (and_from _ _ (alike_from _ _ i.returned) i.declined))))))))
 
 pub responder_rules : (y : ResponderRecord) → IsResponder y → ResponderRules y
+unfolding responder.keeps_rules
 responder_rules y h =
     let numbered = and_parts _ _ h in
     let request = and_parts _ _ numbered.1 in
@@ -107,6 +117,7 @@ responder_rules y h =
     }
 
 pub is_responder : (y : ResponderRecord) → ResponderRules y → IsResponder y
+unfolding responder.keeps_rules
 is_responder y h =
     let p = h.parts in
     let i = h.issued in
@@ -116,3 +127,31 @@ is_responder y h =
     and_from _ _ h.role (
     and_from _ _ (and_from _ _ (eq-eqb _ _ i.shipped) (and_from _ _ (alike_from _ _ i.checked_in) i.conditions)) (
     and_from _ _ h.accepted (and_from _ _ h.rising h.ships_first))))))
+
+-- a requester could stand so exactly where the parts fit together with the front of what it issued
+pub requester_back : (x : RequesterRecord) (s : requesters.Standing) (count : ℕ) → IsRequester x
+    → (requester.parts_fit s.state (is_some s.held) (is_some s.due) s.checked_in && requester.issued_keeps_rules s.state (take count x.issued)) ≡ true
+    → IsRequester (requester.back_to s count x)
+unfolding requester.keeps_rules
+requester_back x s count h fits = and_from _ _ (numbered_front x.txn 1 count x.issued (and_parts _ _ h).0) fits
+
+pub requester_back_fits : (x : RequesterRecord) (s : requesters.Standing) (count : ℕ) → IsRequester (requester.back_to s count x)
+    → (requester.parts_fit s.state (is_some s.held) (is_some s.due) s.checked_in && requester.issued_keeps_rules s.state (take count x.issued)) ≡ true
+unfolding requester.keeps_rules
+requester_back_fits x s count h = (and_parts _ _ h).1
+
+pub responder_back : (y : ResponderRecord) (s : responders.Standing) (count : ℕ) → IsResponder y
+    → (responder.parts_fit s.state (is_some (responder.request_in s.state y.request)) (is_some s.accepted) (is_some s.last_cancel) (is_some s.last_renew) s.received (is_none (take count y.issued))
+    && responder.issued_keeps_rules s.state s.accepted (take count y.issued)) ≡ true
+    → IsResponder (responder.back_to s count y)
+unfolding responder.keeps_rules
+responder_back y s count h fits =
+    let numbered = and_parts _ _ h in
+    and_from _ _ (numbered_front y.txn 1 count y.issued numbered.0) (
+    and_from _ _ (request_in_is y.txn s.state y.request (and_parts _ _ numbered.1).0) fits)
+
+pub responder_back_fits : (y : ResponderRecord) (s : responders.Standing) (count : ℕ) → IsResponder (responder.back_to s count y)
+    → (responder.parts_fit s.state (is_some (responder.request_in s.state y.request)) (is_some s.accepted) (is_some s.last_cancel) (is_some s.last_renew) s.received (is_none (take count y.issued))
+    && responder.issued_keeps_rules s.state s.accepted (take count y.issued)) ≡ true
+unfolding responder.keeps_rules
+responder_back_fits y s count h = (and_parts _ _ (and_parts _ _ h).1).1

@@ -121,7 +121,7 @@ issued_keeps_rules state issued =
 
 -- Whether a record keeps the rules of a requester: its messages are numbered from 1 on, its parts fit
 -- its state, and so does what it issued.
-abbrev pub keeps_rules : RequesterRecord → Bool
+unfoldable pub keeps_rules : RequesterRecord → Bool
 keeps_rules x =
     are_numbered x.txn 1 x.issued
     && (parts_fit x.state (is_some x.held) (is_some x.due) x.checked_in

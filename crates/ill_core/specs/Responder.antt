@@ -147,7 +147,7 @@ issued_keeps_rules state accepted apdus =
 
 -- Whether a record keeps the rules of a responder: its messages are numbered from 1 on, its request is
 -- one of the transaction, its parts fit its state, and so does what it issued.
-abbrev pub keeps_rules : ResponderRecord → Bool
+unfoldable pub keeps_rules : ResponderRecord → Bool
 keeps_rules y =
     are_numbered y.txn 1 y.issued
     && (is_request_of y.txn y.request

@@ -351,7 +351,7 @@ idle_twice (sides.Requester x) = refl
 idle_twice (sides.Responder y) = refl
 
 pub idle_consistent : (live : Side) → IsConsistent (idle_of live)
-unfolding are_numbered rise_from ships_first
+unfolding are_numbered rise_from ships_first requesters.keeps_rules responders.keeps_rules
 idle_consistent (sides.Requester x) = search rules
 idle_consistent (sides.Responder y) = search rules
 

@@ -17,7 +17,11 @@ requester_state x is = not-true _ (and_parts _ _ (and_parts _ _ (and_parts _ _ i
 
 pub requester_request : (x : RequesterRecord) → IsRequester x → begins_with_request x.issued ≡ true
 unfolding requester.keeps_rules
-requester_request x is = (and_parts _ _ (and_parts _ _ (and_parts _ _ (and_parts _ _ is).1).1).1).0
+requester_request x is =
+    let numbered = and_parts _ _ is in
+    let fits = and_parts _ _ numbered.1 in
+    let types = and_parts _ _ fits.1 in
+    (and_parts _ _ types.1).0
 
 pub responder_request : (y : ResponderRecord) → IsResponder y → is_request_of y.txn y.request ≡ true
 unfolding responder.keeps_rules
@@ -34,8 +38,18 @@ alike a false is = not-true a is
 -- a responder has a request unless it is in IDLE
 pub responder_asked : (y : ResponderRecord) → IsResponder y → is_some y.request ≡ not (is_among (Idle ∷ []) y.state)
 unfolding responder.keeps_rules
-responder_asked y is = alike _ _ (and_parts _ _ (and_parts _ _ (and_parts _ _ (and_parts _ _ (and_parts _ _ is).1).1).0).1).0
+responder_asked y is =
+    let numbered = and_parts _ _ is in
+    let request = and_parts _ _ numbered.1 in
+    let fits = and_parts _ _ request.1 in
+    let state = and_parts _ _ fits.0 in
+    let asked = and_parts _ _ state.1 in
+    alike _ _ asked.0
 
 pub responder_types : (y : ResponderRecord) → IsResponder y → list_all (λ a. not (is_requesters a.body)) y.issued ≡ true
 unfolding responder.keeps_rules
-responder_types y is = (and_parts _ _ (and_parts _ _ (and_parts _ _ (and_parts _ _ is).1).1).1).0
+responder_types y is =
+    let numbered = and_parts _ _ is in
+    let request = and_parts _ _ numbered.1 in
+    let fits = and_parts _ _ request.1 in
+    (and_parts _ _ fits.1).0

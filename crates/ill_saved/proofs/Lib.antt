@@ -1,5 +1,6 @@
 pub mod Lists
 pub mod Records
+pub mod Rules
 pub mod Steps
 pub mod Fields
 pub mod RecordLaws

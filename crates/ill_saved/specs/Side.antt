@@ -12,11 +12,11 @@ use Rattle.ill_core.specs.declared.taking.Taking.{Taking}
 use Rattle.ill_core.specs.declared.taking.Taking.TheVariants.{Taken}
 use Rattle.ill_core.specs.State.{is_among}
 use Rattle.ill_core.specs.Requester as requesters
-use Rattle.ill_core.specs.Requester.{requester_of, IsRequester}
+use Rattle.ill_core.specs.Requester.{requester_of}
 use Rattle.ill_core.specs.RequesterActions as requester_actions
 use Rattle.ill_core.specs.RequesterDeliveries as requester_deliveries
 use Rattle.ill_core.specs.Responder as responders
-use Rattle.ill_core.specs.Responder.{responder_of, IsResponder, due_of}
+use Rattle.ill_core.specs.Responder.{responder_of, due_of}
 use Rattle.ill_core.specs.ResponderActions as responder_actions
 use Rattle.ill_core.specs.ResponderDeliveries as responder_deliveries
 use Rattle.ill_saved.specs.declared.role.Role.{Role}
@@ -57,10 +57,13 @@ abbrev pub due_date_of : Side → Option Date
 due_date_of (sides.Requester x) = x.due
 due_date_of (sides.Responder y) = due_of y
 
--- the side keeps the rules of its role
+-- whether the side keeps the rules of its role
+abbrev pub keeps_rules : Side → Bool
+keeps_rules (sides.Requester x) = requesters.keeps_rules x
+keeps_rules (sides.Responder y) = responders.keeps_rules y
+
 abbrev pub IsConsistent : Side → Type 0
-IsConsistent (sides.Requester x) = IsRequester x
-IsConsistent (sides.Responder y) = IsResponder y
+IsConsistent side = keeps_rules side ≡ true
 
 -- where a side stands
 abbrev pub standing_of : Side → Standing

@@ -1,16 +1,17 @@
-//! What lies on the bench: nothing at first, then a store, or a desk with its store.
+//! What lies on the bench: nothing at first, then a store, or a desk with its store; and the sides of one
+//! library.
 
 use crate::calls::{BytesCall, WordsCall, named};
 use crate::desk_view::DeskView;
-use crate::desks;
 use crate::files::Folder;
 use crate::fuses::fuse;
 use crate::idle::idle;
 use crate::line::Line;
 use crate::names::Names;
 use crate::words::{write_fault, write_loaded, write_saved};
+use crate::{desks, held};
 use ill_core::State;
-use ill_saved::{Desk1, DeskFault, MemoryStore, NextCall, Store};
+use ill_saved::{Desk1, DeskFault, MemoryStore, NextCall, Sides, Store};
 use std::alloc::Global;
 
 /// What answers calls. Nothing is answered where the words are none, or what is called lies not there.
@@ -25,12 +26,13 @@ pub trait Answers {
     fn call_files(&mut self, line: &mut Line, names: &Names, words: &str) -> Option<()>;
 }
 
-/// A store, or a desk; and a folder.
+/// A store, or a desk; sides; and a folder.
 #[derive(Drop)]
 pub struct Bench<'a> {
     alloc: Global,
     store: Option<MemoryStore>,
     desk: Option<Desk1<MemoryStore>>,
+    sides: Option<Sides>,
     folder: Folder<'a>,
 }
 
@@ -44,12 +46,14 @@ impl<'a> Answers for Bench<'a> {
             WordsCall::Create => self.create(line, words),
             WordsCall::Start => self.start(line),
             WordsCall::Close => self.close(line),
+            WordsCall::Sides(call) => held::call(self.alloc, line, &mut self.sides, call, words),
             call => desks::call(self.alloc, line, self.desk.as_mut()?, call, words),
         }
     }
 
     fn call_with(&mut self, line: &mut Line, call: BytesCall, bytes: &[u8]) -> Option<()> {
         match (call, &mut self.store) {
+            (BytesCall::Put, _) => held::put(self.alloc, line, self.sides.as_mut()?, bytes),
             (BytesCall::Save, Some(store)) => {
                 write_saved(line, store.save(self.alloc, bytes));
                 Some(())
@@ -70,6 +74,7 @@ impl<'a> Bench<'a> {
             alloc,
             store: None,
             desk: None,
+            sides: None,
             folder,
         }
     }

@@ -36,6 +36,7 @@ pub enum BytesCall {
     Hand,
     Live,
     Messages,
+    Put,
 }
 
 /// A call of a desk, or of a store, with words or nothing.
@@ -51,9 +52,19 @@ pub enum WordsCall {
     Act,
     Message,
     Restart,
+    Sides(SidesCall),
 }
 
-static CALLS: [(&str, Call); 22] = [
+/// A call of the sides of one library.
+#[derive(Clone, Copy)]
+pub enum SidesCall {
+    Lay,
+    Fill,
+    Get,
+    At,
+}
+
+static CALLS: [(&str, Call); 27] = [
     ("", Call::Note),
     ("#", Call::Note),
     ("let", Call::Let),
@@ -65,6 +76,23 @@ static CALLS: [(&str, Call); 22] = [
     ("hand", Call::Case(CaseCall::Bytes(BytesCall::Hand))),
     ("live", Call::Case(CaseCall::Bytes(BytesCall::Live))),
     ("messages", Call::Case(CaseCall::Bytes(BytesCall::Messages))),
+    ("put", Call::Case(CaseCall::Bytes(BytesCall::Put))),
+    (
+        "sides",
+        Call::Case(CaseCall::Words(WordsCall::Sides(SidesCall::Lay))),
+    ),
+    (
+        "fill",
+        Call::Case(CaseCall::Words(WordsCall::Sides(SidesCall::Fill))),
+    ),
+    (
+        "get",
+        Call::Case(CaseCall::Words(WordsCall::Sides(SidesCall::Get))),
+    ),
+    (
+        "at",
+        Call::Case(CaseCall::Words(WordsCall::Sides(SidesCall::At))),
+    ),
     ("store", Call::Case(CaseCall::Words(WordsCall::Store))),
     ("fuse", Call::Case(CaseCall::Words(WordsCall::Fuse))),
     ("load", Call::Case(CaseCall::Words(WordsCall::Load))),

@@ -80,6 +80,7 @@ pub fn call_with(
         BytesCall::Take => take(alloc, line, desk, bytes),
         // what the live side is, and whether its record has these bytes
         BytesCall::Live => write_side(alloc, line, desk.side(), bytes),
+        BytesCall::Put => return None,
     }
     Some(())
 }

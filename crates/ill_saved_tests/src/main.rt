@@ -19,6 +19,7 @@ mod desks;
 mod failing;
 mod files;
 mod fuses;
+mod held;
 mod idle;
 mod line;
 mod longest;

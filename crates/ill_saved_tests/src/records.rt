@@ -67,7 +67,8 @@ fn write_request(line: &mut Line, request: Option<&Apdu>) {
     }
 }
 
-fn write_head(line: &mut Line, state: State, txn: &TxnId) {
+/// Writes a state, and the transaction.
+pub fn write_head(line: &mut Line, state: State, txn: &TxnId) {
     line.show(&state);
     line.qualifier(txn.group());
     line.qualifier(txn.transaction());

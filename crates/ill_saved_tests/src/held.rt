@@ -1,0 +1,116 @@
+//! The sides of one library, which are put one after another.
+
+use crate::calls::{SidesCall, named};
+use crate::line::Line;
+use crate::records::write_head;
+use ill_core::Wish;
+use ill_saved::{Action, Role, Side, Sides, SidesFault, decode_record};
+use ill_values::{Item, TxnId};
+use std::alloc::Global;
+
+/// Performs a call with words on the sides that lie there, and writes its answer.
+pub fn call(
+    alloc: Global,
+    line: &mut Line,
+    sides: &mut Option<Sides>,
+    call: SidesCall,
+    words: &str,
+) -> Option<()> {
+    match call {
+        SidesCall::Lay => lay(alloc, line, sides, words),
+        SidesCall::Fill => fill(alloc, line, sides.as_mut()?, words),
+        SidesCall::Get => get(alloc, line, sides.as_ref()?, words),
+        SidesCall::At => at(line, sides.as_ref()?, words),
+    }
+}
+
+/// `sides ROLE`: none is held yet.
+fn lay(alloc: Global, line: &mut Line, sides: &mut Option<Sides>, words: &str) -> Option<()> {
+    let none = Sides::new(alloc, named(&ROLES, words)?).ok()?;
+    write_held(line, sides.insert(none));
+    Some(())
+}
+
+/// `fill COUNT`: requesters that have asked are put, of the transactions 0 to COUNT - 1 of the group G1.
+fn fill(alloc: Global, line: &mut Line, sides: &mut Sides, words: &str) -> Option<()> {
+    for number in 0..words.parse::<u16>().ok()? {
+        let side = asking(alloc, number)?;
+        if sides.put(alloc, side).is_err() {
+            return None;
+        }
+    }
+    write_held(line, sides);
+    Some(())
+}
+
+/// A requester that has asked, in the transaction that this number names.
+fn asking(alloc: Global, number: u16) -> Option<Side> {
+    let transaction = format!(in alloc; "{number}").ok()?;
+    let txn = TxnId::new(alloc, b"G1", transaction.as_bytes()).ok()?;
+    let item = Item::new(alloc, b"Maps").ok()?;
+    let request = Action::Wish(Wish::Request { expiry: None, item });
+    let mut side = Side::idle(alloc, Role::Requester, txn);
+    side.act(alloc, &request).ok()?;
+    Some(side)
+}
+
+/// `put RECORD`: the side of this record is put.
+pub fn put(alloc: Global, line: &mut Line, sides: &mut Sides, record: &[u8]) -> Option<()> {
+    let side = decode_record(alloc, record).ok()?;
+    match sides.put(alloc, side) {
+        Ok(()) => line.text("done"),
+        Err((fault, side)) => {
+            line.text(fault_word(fault));
+            line.text(", back ");
+            write_head(line, side.state(), side.txn());
+        }
+    }
+    line.text("; ");
+    write_held(line, sides);
+    Some(())
+}
+
+fn fault_word(fault: SidesFault) -> &'static str {
+    match fault {
+        SidesFault::OtherRole => "other-role",
+        SidesFault::Idle => "idle",
+        SidesFault::Twice => "twice",
+        SidesFault::Full => "full",
+        SidesFault::OutOfMemory => "memory",
+    }
+}
+
+/// `get GROUP TRANSACTION`: the side of this transaction.
+fn get(alloc: Global, line: &mut Line, sides: &Sides, words: &str) -> Option<()> {
+    let (group, transaction) = words.split_once(' ')?;
+    let txn = TxnId::new(alloc, group.as_bytes(), transaction.as_bytes()).ok()?;
+    write_found(line, sides.get(&txn));
+    Some(())
+}
+
+/// `at PLACE`: the side at this place.
+fn at(line: &mut Line, sides: &Sides, words: &str) -> Option<()> {
+    write_found(line, sides.at(words.parse::<usize>().ok()?));
+    Some(())
+}
+
+fn write_found(line: &mut Line, side: Option<&Side>) {
+    match side {
+        Some(side) => write_head(line, side.state(), side.txn()),
+        None => line.text("none"),
+    }
+}
+
+/// Writes how many sides are held, and the role of all.
+fn write_held(line: &mut Line, sides: &Sides) {
+    line.show(&sides.len());
+    line.text(match sides.role() {
+        Role::Requester => " requester",
+        Role::Responder => " responder",
+    });
+}
+
+static ROLES: [(&str, Role); 2] = [
+    ("requester", Role::Requester),
+    ("responder", Role::Responder),
+];

@@ -3,7 +3,7 @@
 use crate::files::Folder;
 use crate::judging::Outcome;
 use crate::words::Words;
-use crate::{codec, desks, records, scripts, sides, starts, stores, tool, values, worlds};
+use crate::{codec, desks, held, records, scripts, sides, starts, stores, tool, values, worlds};
 use std::alloc::Global;
 
 /// What comes of the case of these words, or `None` where they are none.
@@ -33,6 +33,7 @@ fn call_outcome(
         "Feed" => feed_outcome(alloc, name),
         "MemoryStore" => store_outcome(alloc, name, words),
         "FileStore" => folder.outcome(alloc, name),
+        "Sides" => held::outcome(alloc, name),
         "Desk1" => desk_outcome(alloc, name, words),
         "record" => record_outcome(alloc, name, words),
         "World" => world_outcome(alloc, name, words),

@@ -16,6 +16,7 @@ mod cases;
 mod codec;
 mod desks;
 mod files;
+mod held;
 mod judging;
 mod marks;
 mod messages;

@@ -1,6 +1,6 @@
 /* Refuses allocations of the process that it is preloaded into. REFUSE is the number of the one to
-   refuse, from 1 on, or `all`. Where REFUSE_MARKED is set, only what lies between two marks counts, from
-   1 on behind each first mark. A mark is an allocation of a size that nothing else has; the second mark
+   refuse, from 1 on, or `all`; where REFUSE_REST is set, all that follow it are refused too. Where
+   REFUSE_MARKED is set, only what lies between two marks counts, from 1 on behind each first mark. A mark is an allocation of a size that nothing else has; the second mark
    is refused too where something was since the first. REFUSE_SEEN names a file that is made where an
    allocation other than a mark is refused. */
 #define _GNU_SOURCE
@@ -13,7 +13,7 @@
 
 enum { BEGIN = 54321, END = 54323 };
 
-static int is_ready, is_marked, is_open;
+static int is_ready, is_marked, is_open, goes_on;
 static long nth; /* 0 is none, -1 is all */
 static long count, refusals;
 
@@ -21,6 +21,7 @@ static void get_ready(void) {
   const char *text = getenv("REFUSE");
   nth = !text ? 0 : !strcmp(text, "all") ? -1 : atol(text);
   is_marked = getenv("REFUSE_MARKED") != NULL;
+  goes_on = getenv("REFUSE_REST") != NULL;
   is_open = !is_marked;
   is_ready = 1;
 }
@@ -46,7 +47,10 @@ static int refuses_mark(size_t size) {
 
 /* Counts an allocation that is no mark, and tells whether it is refused. */
 static int refuses(void) {
-  if (!is_open || (++count != nth && nth != -1))
+  if (!is_open)
+    return 0;
+  count++;
+  if (nth != -1 && count != nth && !(goes_on && nth > 0 && count > nth))
     return 0;
   refusals++;
   tell();

@@ -2,6 +2,7 @@ pub mod IssuedLemmas
 pub mod NumberLemmas
 pub mod LineLemmas
 pub mod TableLemmas
+pub mod Rules
 pub mod RequesterKept
 pub mod RequesterAnswers
 pub mod RequesterRows

@@ -13,7 +13,8 @@ use Rattle.ill_core.specs.State.{is_among}
 use Rattle.ill_core.specs.Rules.{implies}
 use Rattle.ill_core.specs.Bodies.{declines, is_requesters, is_ill_request, is_cancel, is_received, is_renew, is_returned}
 use Rattle.ill_core.specs.Issued.{has, is_none, with_next, next_apdu}
-use Rattle.ill_core.specs.Requester.{RequesterRecord, requester_of, IsRequester, PartsFit, IssuedFit}
+use Rattle.ill_core.specs.Requester.{RequesterRecord, requester_of}
+use Rattle.ill_core.specs.RequesterRules.{RequesterRules, PartsFit, IssuedFit}
 use Rattle.ill_core.specs.RequesterActions.{Line, answer_held, line_of}
 use Rattle.ill_core.proofs.LineLemmas.{at_line, is_this, no_more}
 use Rattle.ill_core.proofs.IssuedLemmas.{numbered_next, not_true, same_txn, has_more, all_more, none_more, begins_more}
@@ -27,8 +28,8 @@ FitsWith state held x body =
     × (is_requesters body ≡ true) × (is_ill_request body ≡ is_none x.issued)
 
 -- the record with one more APDU and a state that fits is a requester's
-kept : (x : RequesterRecord) (body : Body) (state : State) (held : Option ℕ) → IsRequester x → FitsWith state held x body
-    → IsRequester (requester_of x.txn state held x.checked_in x.due (with_next x.txn x.issued body))
+kept : (x : RequesterRecord) (body : Body) (state : State) (held : Option ℕ) → RequesterRules x → FitsWith state held x body
+    → RequesterRules (requester_of x.txn state held x.checked_in x.due (with_next x.txn x.issued body))
 kept x body state held h fits =
     let a : Apdu = next_apdu x.txn x.issued body in
     let received = has_more is_received x.issued a in
@@ -49,24 +50,24 @@ kept x body state held h fits =
     }
 
 reply_fits : (txn : Qualifiers) (held : Option ℕ) (checked_in : Bool) (due : Option Date) (issued : List Apdu) (is_yes : Bool)
-    → IsRequester (requester_of txn Conditional held checked_in due issued) → has declines issued ≡ false
+    → RequesterRules (requester_of txn Conditional held checked_in due issued) → has declines issued ≡ false
     → (let x : RequesterRecord = requester_of txn Conditional held checked_in due issued in FitsWith (answer_held x is_yes).next (answer_held x is_yes).held x (answer_held x is_yes).body)
 reply_fits txn held checked_in due issued true h undeclined = search rules
 reply_fits txn held checked_in due issued false h undeclined = search rules
 
 receive_fits : (txn : Qualifiers) (held : Option ℕ) (checked_in : Bool) (due : Option Date) (issued : List Apdu)
-    → IsRequester (requester_of txn Recall held checked_in due issued) → has is_received issued ≡ false
+    → RequesterRules (requester_of txn Recall held checked_in due issued) → has is_received issued ≡ false
     → FitsWith Recall held (requester_of txn Recall held checked_in due issued) types.Received
 receive_fits txn held checked_in due issued h unreceived = search rules
 
 return_fits : (txn : Qualifiers) (held : Option ℕ) (checked_in : Bool) (due : Option Date) (issued : List Apdu)
-    → IsRequester (requester_of txn Recall held checked_in due issued) → has is_received issued ≡ true
+    → RequesterRules (requester_of txn Recall held checked_in due issued) → has is_received issued ≡ true
     → FitsWith Returned held (requester_of txn Recall held checked_in due issued) types.Returned
 return_fits txn held checked_in due issued h received = search rules
 
 -- where a wish leads fits
 pub fits : (txn : Qualifiers) (state : State) (held : Option ℕ) (checked_in : Bool) (due : Option Date) (issued : List Apdu) (wish : Wish) (row : Line)
-    → IsRequester (requester_of txn state held checked_in due issued) → line_of (requester_of txn state held checked_in due issued) wish ≡ Ok row
+    → RequesterRules (requester_of txn state held checked_in due issued) → line_of (requester_of txn state held checked_in due issued) wish ≡ Ok row
     → FitsWith row.next row.held (requester_of txn state held checked_in due issued) row.body
 fits txn Idle held checked_in due issued (wishes.Request expiry item) row h leads = search rules
 fits txn Conditional held checked_in due issued (wishes.Reply is_yes) row h leads =
@@ -87,9 +88,9 @@ fits txn Recall held checked_in due issued wishes.Return row h leads =
 fits txn state held checked_in due issued wish row h leads = search rules
 
 -- The record after a row that fits is a requester's.
-pub row_kept : (x : RequesterRecord) (row : Line) (txn : Qualifiers) (issued : List Apdu) → IsRequester x → FitsWith row.next row.held x row.body
-    → txn ≡ x.txn → issued ≡ with_next x.txn x.issued row.body → IsRequester (requester_of txn row.next row.held x.checked_in x.due issued)
+pub row_kept : (x : RequesterRecord) (row : Line) (txn : Qualifiers) (issued : List Apdu) → RequesterRules x → FitsWith row.next row.held x row.body
+    → txn ≡ x.txn → issued ≡ with_next x.txn x.issued row.body → RequesterRules (requester_of txn row.next row.held x.checked_in x.due issued)
 row_kept x row txn issued h fits same more =
     let parts : (txn, issued) ≡ (x.txn, with_next x.txn x.issued row.body) = cc in
-    subst (λ (p : Qualifiers × List Apdu). IsRequester (requester_of p.0 row.next row.held x.checked_in x.due p.1)) (sym parts)
+    subst (λ (p : Qualifiers × List Apdu). RequesterRules (requester_of p.0 row.next row.held x.checked_in x.due p.1)) (sym parts)
     (kept x row.body row.next row.held h fits)

@@ -12,6 +12,7 @@ use Rattle.ill_core.specs.RequesterDeliveries.{takes}
 use Rattle.ill_core.specs.RequesterFacts.{Fact, Shows, Tells, KeepsDue, Holds, Replies, AnswersOnce}
 use Rattle.ill_core.specs.RequesterFacts as facts
 use Rattle.ill_core.proofs.IssuedLemmas.{issued_body}
+use Rattle.ill_core.proofs.Rules.{requester_rules, is_requester}
 use Rattle.ill_core.proofs.RequesterKept.{row_kept, fits}
 use Rattle.ill_core.proofs.RequesterAnswers.{still_once}
 use Rattle.ill_core.proofs.RequesterRows.{delivery_row, of_acts}
@@ -26,7 +27,8 @@ acts_txn x new wish = of_acts (λ r. r.txn ≡ x.txn) x new wish (λ row there h
 
 pub acts_kept : (x new : RequesterRecord) (wish : Wish) → acts x wish ≡ Ok new → IsRequester x → IsRequester new
 acts_kept x new wish = of_acts (λ r. IsRequester x → IsRequester r) x new wish (λ row there how h.
-    row_kept x row x.txn (with_next x.txn x.issued row.body) h (fits x.txn x.state x.held x.checked_in x.due x.issued wish row h there) refl refl)
+    let rules = requester_rules x h in
+    is_requester _ (row_kept x row x.txn (with_next x.txn x.issued row.body) rules (fits x.txn x.state x.held x.checked_in x.due x.issued wish row rules there) refl refl))
 
 pub acts_begun : (x new : RequesterRecord) (wish : Wish) → acts x wish ≡ Ok new → is_among (Idle ∷ []) new.state ≡ false
 acts_begun x new wish = of_acts (λ r. is_among (Idle ∷ []) r.state ≡ false) x new wish (λ row there how. how.begun)
@@ -59,7 +61,7 @@ pub takes_txn : (x : RequesterRecord) (a : Apdu) → (takes x a).1.txn ≡ x.txn
 takes_txn x a = (delivery_row x a).txn
 
 pub takes_kept : (x : RequesterRecord) (a : Apdu) → IsRequester x → IsRequester (takes x a).1
-takes_kept x a = (delivery_row x a).kept
+takes_kept x a h = is_requester _ ((delivery_row x a).kept (requester_rules x h))
 
 pub takes_quiet : (x : RequesterRecord) (a : Apdu) → ((takes x a).0 ≡ Ok Taken) ⊎ ((takes x a).1 ≡ x)
 takes_quiet x a = (delivery_row x a).quiet

@@ -17,7 +17,8 @@ use Rattle.ill_core.specs.State.{is_among}
 use Rattle.ill_core.specs.Numbers.{is_at_most, is_the}
 use Rattle.ill_core.specs.Bodies.{is_requesters, is_cancel, is_renew, declines, accepts}
 use Rattle.ill_core.specs.Issued.{first_refusal, was, has, next_number, next_apdu, number_of_cancel, last_of}
-use Rattle.ill_core.specs.Requester.{RequesterRecord, IsRequester, later, accepted_number, is_declined, is_received_by, last_cancel, last_renew}
+use Rattle.ill_core.specs.RequesterRules.{RequesterRules}
+use Rattle.ill_core.specs.Requester.{RequesterRecord, later, accepted_number, is_declined, is_received_by, last_cancel, last_renew}
 use Rattle.ill_core.specs.RequesterActions.{Line, acts, acts_by, line_of, record_after, answer_held}
 use Rattle.ill_core.specs.Answers.{taken, unless_refused}
 use Rattle.ill_core.specs.RequesterDeliveries.{take_message, takes, take_end, take_cancel_reply, take_renew_answer, take_renewal}
@@ -38,7 +39,7 @@ not_both b is_false is_true = search rules
 pub record Moves (x : RequesterRecord) (k : ℕ) (body : Body) (answer : Result Taking Refusal × RequesterRecord) : Type 0 where
   pub txn : answer.1.txn ≡ x.txn
   pub issued : answer.1.issued ≡ x.issued
-  pub kept : IsRequester x → IsRequester answer.1
+  pub kept : RequesterRules x → RequesterRules answer.1
   pub quiet : (answer.0 ≡ Ok takings.Taken) ⊎ (answer.1 ≡ x)
   pub begun : is_among (Idle ∷ []) x.state ≡ false → is_among (Idle ∷ []) answer.1.state ≡ false
   pub final : is_among (Cancelled ∷ NotSupplied ∷ Returned ∷ []) x.state ≡ true → answer.1.state ≡ x.state

@@ -31,6 +31,7 @@ use Rattle.ill_core.specs.RequesterDeliveries.{take_message}
 use Rattle.ill_core.specs.RequesterActions.{Line, line_of, record_after, acts_by, acts, Acts}
 use Rattle.ill_core.proofs.TableLemmas.{answer_of, lines, found_lines}
 use Rattle.ill_core.proofs.RequesterRows.{message_row}
+use Rattle.ill_core.proofs.Rules.{requester_rules, is_requester}
 use Rattle.ill_core.proofs.RequesterLaws.{acts_kept}
 
 -- what a row answers
@@ -94,7 +95,7 @@ takes_none x a is = ap (answer_of (hit x a a.body) (conflict x.state x)) (sym is
 -- A row leads to a requester's record.
 pub takes_kept : (x : RequesterRecord) (a : Apdu) (row : Row ResponderKind) → IsRequester x → delivery_row x a ≡ Some row
     → IsRequester (after x row (number_in a a.body) (date_in a.body))
-takes_kept x a row h is = subst (λ answer. IsRequester answer.1) (sym (takes_this x a row is)) ((message_row x a a.body).kept h)
+takes_kept x a row h is = subst (λ answer. IsRequester answer.1) (sym (takes_this x a row is)) (is_requester _ ((message_row x a a.body).kept (requester_rules x h)))
 
 -- the record after a row, by its parts
 pub after_is : (x : RequesterRecord) (row : Row ResponderKind) (k : ℕ) (date : Option Date) (state : State) (held : Option ℕ) (checked_in : Bool) (due : Option Date)

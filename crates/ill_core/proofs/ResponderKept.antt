@@ -16,7 +16,9 @@ use Rattle.ill_core.specs.Rules.{implies}
 use Rattle.ill_core.specs.Numbers.{is_the, is_at_most}
 use Rattle.ill_core.specs.Bodies.{is_ill_request, is_requesters, is_shipped, is_checked_in, names_conditions, is_renewal, grant_in}
 use Rattle.ill_core.specs.Issued.{next_number, was, is_same_txn, next_apdu, granted_day}
-use Rattle.ill_core.specs.Responder.{ResponderRecord, responder_of, outstanding_number, is_named, IsResponder, IssuedFits, PartsFit, later, are_rising, ships_first, due_of}
+use Rattle.ill_core.specs.ResponderRules.{ResponderRules, IssuedFits, PartsFit}
+use Rattle.ill_core.proofs.Rules.{responder_rules, is_responder}
+use Rattle.ill_core.specs.Responder.{ResponderRecord, IsResponder, responder_of, outstanding_number, is_named, later, are_rising, ships_first, due_of}
 use Rattle.ill_core.specs.ResponderActions.{Line, issues_to, record_after}
 use Rattle.ill_core.specs.declared.refusal.Refusal.{Refusal}
 use Rattle.ill_core.specs.declared.refusal.Refusal.TheVariants.{OtherTransaction, WrongRole}
@@ -50,7 +52,7 @@ or_right : (a b : Bool) → b ≡ true → a || b ≡ true
 or_right true b h = refl
 or_right false b h = h
 
-rising_next : (y : ResponderRecord) (a : Apdu) → IsResponder y → Grants y a.body → are_rising (filter_map granted_day (y.issued ++ a ∷ [])) ≡ true
+rising_next : (y : ResponderRecord) (a : Apdu) → ResponderRules y → Grants y a.body → are_rising (filter_map granted_day (y.issued ++ a ∷ [])) ≡ true
 rising_next y a h (no_grant silent _) = ap are_rising (found_none granted_day y.issued a silent) ∙ h.rising
 rising_next y a h (first_grant d is away) =
     let nothing = no_grants y.issued h.ships_first (h.issued.shipped ∙ ap (λ b. if b then 1 else 0) away) in
@@ -59,14 +61,14 @@ rising_next y a h (first_grant d is away) =
 rising_next y a h (later_grant d is here after) =
     ap are_rising (found_more granted_day y.issued a d is) ∙ rise_more None (filter_map granted_day y.issued) d h.rising (or_right _ _ after)
 
-ships_next : (y : ResponderRecord) (a : Apdu) → IsResponder y → Grants y a.body → ships_first (y.issued ++ a ∷ []) ≡ true
+ships_next : (y : ResponderRecord) (a : Apdu) → ResponderRules y → Grants y a.body → ships_first (y.issued ++ a ∷ []) ≡ true
 ships_next y a h (no_grant _ no_renewal) = ships_more y.issued a h.ships_first no_renewal
 ships_next y a h (first_grant d is away) = ships_more y.issued a h.ships_first (ap is_renewal is)
 ships_next y a h (later_grant d is here after) =
     ships_renewed y.issued a h.ships_first (omega (arith, h.issued.shipped ∙ ap (λ b. if b then 1 else 0) here))
 
 -- the record with one more APDU, in a state that fits, is a responder's
-next_kept : (y : ResponderRecord) (body : Body) (state : State) → IsResponder y → FitsNext y body state → Grants y body → IsResponder (issues_to y body state)
+next_kept : (y : ResponderRecord) (body : Body) (state : State) → ResponderRules y → FitsNext y body state → Grants y body → ResponderRules (issues_to y body state)
 next_kept y body state h fits grants =
     let a : Apdu = next_apdu y.txn y.issued body in
     record {
@@ -86,7 +88,7 @@ next_kept y body state h fits grants =
 
 -- a line of the table of actions fits
 line_fits : (txn : Qualifiers) (state : State) (accepted last_cancel last_renew : Option ℕ) (received : Bool) (request : Option Apdu) (issued : List Apdu) (line : Line)
-    → IsResponder (responder_of txn state accepted last_cancel last_renew received request issued) → IsLine (responder_of txn state accepted last_cancel last_renew received request issued) line
+    → ResponderRules (responder_of txn state accepted last_cancel last_renew received request issued) → IsLine (responder_of txn state accepted last_cancel last_renew received request issued) line
     → FitsNext (responder_of txn state accepted last_cancel last_renew received request issued) line.body line.next
 line_fits txn InProcess accepted last_cancel last_renew received request issued _ h (answers results.Conditional is) = search rules
 line_fits txn InProcess accepted last_cancel last_renew received request issued _ h (answers answer is) = search rules
@@ -133,26 +135,26 @@ line_grants y _ (checks_in is) = no_grant refl refl
 line_grants y _ (expires is) = no_grant refl refl
 
 -- A line leads to a responder's record.
-pub line_kept : (y : ResponderRecord) (line : Line) → IsResponder y → IsLine y line → IsResponder (record_after y line)
+pub line_kept : (y : ResponderRecord) (line : Line) → ResponderRules y → IsLine y line → ResponderRules (record_after y line)
 line_kept y line h is =
     next_kept y line.body line.next h (line_fits y.txn y.state y.accepted y.last_cancel y.last_renew y.received y.request y.issued line h is) (line_grants y line is)
 
 no_fits : (txn : Qualifiers) (state : State) (accepted last_cancel last_renew : Option ℕ) (received : Bool) (request : Option Apdu) (issued : List Apdu)
-    → IsResponder (responder_of txn state accepted last_cancel last_renew received request issued) → is_among (InProcess ∷ Conditional ∷ []) state ≡ true
+    → ResponderRules (responder_of txn state accepted last_cancel last_renew received request issued) → is_among (InProcess ∷ Conditional ∷ []) state ≡ true
     → FitsNext (responder_of txn state accepted last_cancel last_renew received request issued) (types.IllAnswer results.Unfilled) NotSupplied
 no_fits txn InProcess accepted last_cancel last_renew received request issued h waits = search rules
 no_fits txn state accepted last_cancel last_renew received request issued h waits = search rules
 
 -- a no is answered
-no_kept : (y : ResponderRecord) → IsResponder y → is_among (InProcess ∷ Conditional ∷ []) y.state ≡ true
-    → IsResponder (issues_to y (types.IllAnswer results.Unfilled) NotSupplied)
+no_kept : (y : ResponderRecord) → ResponderRules y → is_among (InProcess ∷ Conditional ∷ []) y.state ≡ true
+    → ResponderRules (issues_to y (types.IllAnswer results.Unfilled) NotSupplied)
 no_kept y h waits =
     next_kept y (types.IllAnswer results.Unfilled) NotSupplied h
     (no_fits y.txn y.state y.accepted y.last_cancel y.last_renew y.received y.request y.issued h waits) (no_grant refl refl)
 
 -- the outstanding conditions are the last message
 outstanding_named : (txn : Qualifiers) (state : State) (accepted last_cancel last_renew : Option ℕ) (received : Bool) (request : Option Apdu) (issued : List Apdu) (c : ℕ)
-    → IsResponder (responder_of txn state accepted last_cancel last_renew received request issued) → is_the c (outstanding_number (responder_of txn state accepted last_cancel last_renew received request issued)) ≡ true
+    → ResponderRules (responder_of txn state accepted last_cancel last_renew received request issued) → is_the c (outstanding_number (responder_of txn state accepted last_cancel last_renew received request issued)) ≡ true
     → (is_among (Conditional ∷ []) state ≡ true) × (is_named (Some c) issued ≡ true)
 outstanding_named txn Conditional accepted last_cancel last_renew received request [] c h is = search rules
 outstanding_named txn Conditional accepted last_cancel last_renew received request (a ∷ issued) c h is =
@@ -180,8 +182,8 @@ first_of_two : (state : State) → is_among (Idle ∷ []) state ≡ true → is_
 first_of_two state is = search rules
 
 -- conditions are accepted
-yes_kept : (y : ResponderRecord) (c : ℕ) → IsResponder y → is_the c (outstanding_number y) ≡ true
-    → IsResponder (record y { state = InProcess; accepted = Some c })
+yes_kept : (y : ResponderRecord) (c : ℕ) → ResponderRules y → is_the c (outstanding_number y) ≡ true
+    → ResponderRules (record y { state = InProcess; accepted = Some c })
 yes_kept y c h is =
     let named = outstanding_named y.txn y.state y.accepted y.last_cancel y.last_renew y.received y.request y.issued c h is in
     record {
@@ -196,8 +198,8 @@ yes_kept y c h is =
     }
 
 -- a request is kept
-request_kept : (y : ResponderRecord) (a : Apdu) → IsResponder y → is_among (Idle ∷ []) y.state ≡ true → is_same_txn a.txn y.txn ≡ true → is_ill_request a.body ≡ true
-    → IsResponder (record y { state = InProcess; request = Some a })
+request_kept : (y : ResponderRecord) (a : Apdu) → ResponderRules y → is_among (Idle ∷ []) y.state ≡ true → is_same_txn a.txn y.txn ≡ true → is_ill_request a.body ≡ true
+    → ResponderRules (record y { state = InProcess; request = Some a })
 request_kept y a h idle same is =
     record {
       numbered = h.numbered;
@@ -224,37 +226,37 @@ takes_admitted y new a answer admitted comes =
 -- ---- a delivery keeps the rules
 
 cancel_asked_kept : (txn : Qualifiers) (state : State) (accepted last_cancel last_renew : Option ℕ) (received : Bool) (request : Option Apdu) (issued : List Apdu) (number : ℕ)
-    → IsResponder (responder_of txn state accepted last_cancel last_renew received request issued) → is_among (InProcess ∷ Conditional ∷ []) state ≡ true
-    → IsResponder (responder_of txn CancelPending accepted (Some number) last_renew received request issued)
+    → ResponderRules (responder_of txn state accepted last_cancel last_renew received request issued) → is_among (InProcess ∷ Conditional ∷ []) state ≡ true
+    → ResponderRules (responder_of txn CancelPending accepted (Some number) last_renew received request issued)
 cancel_asked_kept txn InProcess accepted last_cancel last_renew received request issued number h is = search rules
 cancel_asked_kept txn state accepted last_cancel last_renew received request issued number h is = search rules
 
-arrived_kept : (y : ResponderRecord) → IsResponder y → is_among later y.state && not y.received ≡ true → IsResponder (record y { received = true })
+arrived_kept : (y : ResponderRecord) → ResponderRules y → is_among later y.state && not y.received ≡ true → ResponderRules (record y { received = true })
 arrived_kept y h is = search rules
 
 renew_asked_kept : (txn : Qualifiers) (state next : State) (accepted last_cancel last_renew : Option ℕ) (received : Bool) (request : Option Apdu) (issued : List Apdu) (number : ℕ)
-    → IsResponder (responder_of txn state accepted last_cancel last_renew received request issued) → is_among (Shipped ∷ Overdue ∷ []) state ≡ true
-    → is_among (RenewPending ∷ RenewOverdue ∷ []) next ≡ true → IsResponder (responder_of txn next accepted last_cancel (Some number) received request issued)
+    → ResponderRules (responder_of txn state accepted last_cancel last_renew received request issued) → is_among (Shipped ∷ Overdue ∷ []) state ≡ true
+    → is_among (RenewPending ∷ RenewOverdue ∷ []) next ≡ true → ResponderRules (responder_of txn next accepted last_cancel (Some number) received request issued)
 renew_asked_kept txn Shipped RenewPending accepted last_cancel last_renew received request issued number h is there = search rules
 renew_asked_kept txn state next accepted last_cancel last_renew received request issued number h is there = search rules
 
 sent_back_kept : (txn : Qualifiers) (state : State) (accepted last_cancel last_renew : Option ℕ) (received : Bool) (request : Option Apdu) (issued : List Apdu)
-    → IsResponder (responder_of txn state accepted last_cancel last_renew received request issued)
+    → ResponderRules (responder_of txn state accepted last_cancel last_renew received request issued)
     → is_among (Shipped ∷ RenewPending ∷ Overdue ∷ RenewOverdue ∷ Recall ∷ []) state ≡ true
-    → IsResponder (responder_of txn Returned accepted last_cancel last_renew received request issued)
+    → ResponderRules (responder_of txn Returned accepted last_cancel last_renew received request issued)
 sent_back_kept txn Shipped accepted last_cancel last_renew received request issued h is = search rules
 sent_back_kept txn state accepted last_cancel last_renew received request issued h is = search rules
 
 -- the first line that fits decides
-line : (fits : Bool) (here others : Result Taking Refusal × ResponderRecord) → (fits ≡ true → IsResponder here.1) → (fits ≡ false → IsResponder others.1)
-    → IsResponder (if fits then here else others).1
-line fits here others = cond_both fits here others (λ r. IsResponder r.1)
+line : (fits : Bool) (here others : Result Taking Refusal × ResponderRecord) → (fits ≡ true → ResponderRules here.1) → (fits ≡ false → ResponderRules others.1)
+    → ResponderRules (if fits then here else others).1
+line fits here others = cond_both fits here others (λ r. ResponderRules r.1)
 
-answer_kept : (y : ResponderRecord) (next : Result ℕ Refusal) → IsResponder y → is_among (InProcess ∷ Conditional ∷ []) y.state ≡ true → IsResponder (answers_no y next).1
+answer_kept : (y : ResponderRecord) (next : Result ℕ Refusal) → ResponderRules y → is_among (InProcess ∷ Conditional ∷ []) y.state ≡ true → ResponderRules (answers_no y next).1
 answer_kept y (Ok number) h waits = no_kept y h waits
 answer_kept y (Err refusal) h waits = h
 
-pub message_kept : (y : ResponderRecord) (a : Apdu) (body : Body) → IsResponder y → is_same_txn a.txn y.txn ≡ true → is_ill_request a.body ≡ is_ill_request body → IsResponder (take_message y a body).1
+pub message_kept : (y : ResponderRecord) (a : Apdu) (body : Body) → ResponderRules y → is_same_txn a.txn y.txn ≡ true → is_ill_request a.body ≡ is_ill_request body → ResponderRules (take_message y a body).1
 message_kept y a (types.IllRequest expiry item) h same is =
     line (is_among (Idle ∷ []) y.state) _ _ (λ idle. request_kept y a h idle same is) (λ _. h)
 message_kept y a (types.ConditionalReply c true) h same is =
@@ -289,13 +291,14 @@ admitted_same : (same is_own : Bool) → (if same then (if is_own then Some Wron
 admitted_same true is_own h = refl
 admitted_same false is_own h = search rules
 
-unless_kept : (refused : Option Refusal) (y : ResponderRecord) (answer : Result Taking Refusal × ResponderRecord) → IsResponder y → (refused ≡ None → IsResponder answer.1)
-    → IsResponder (unless_refused refused y answer).1
+unless_kept : (refused : Option Refusal) (y : ResponderRecord) (answer : Result Taking Refusal × ResponderRecord) → ResponderRules y → (refused ≡ None → ResponderRules answer.1)
+    → ResponderRules (unless_refused refused y answer).1
 unless_kept (Some refusal) y answer h admitted = h
 unless_kept None y answer h admitted = admitted refl
 
 -- A delivery leads to a responder's record.
 pub takes_kept : (y : ResponderRecord) (a : Apdu) → IsResponder y → IsResponder (takes y a).1
 takes_kept y a h =
-    unless_kept (first_refusal y.txn (not (is_requesters a.body)) a) y (take_message y a a.body) h
-    (λ admitted. message_kept y a a.body h (admitted_same (is_same_txn a.txn y.txn) (not (is_requesters a.body)) admitted) refl)
+    let rules = responder_rules y h in
+    is_responder _ (unless_kept (first_refusal y.txn (not (is_requesters a.body)) a) y (take_message y a a.body) rules
+    (λ admitted. message_kept y a a.body rules (admitted_same (is_same_txn a.txn y.txn) (not (is_requesters a.body)) admitted) refl))

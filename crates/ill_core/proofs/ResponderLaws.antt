@@ -1,5 +1,5 @@
 -- The laws of a responder's single rows.
-use Rattle.std.proofs.Common.{rules, ◌≡◌, ◌⊎◌, inl, inr, ℕ, ◌+◌, Bool, true, false, ◌||◌, List, [], ◌∷◌, ◌++◌, Option, Some, None, is_some, Ok, if◌then◌else◌, refl, ap, sym, subst, ◌∙◌}
+use Rattle.std.proofs.Common.{rules, ◌≡◌, ◌⊎◌, inl, inr, ℕ, ◌+◌, Bool, true, false, not, ◌||◌, List, [], ◌∷◌, ◌++◌, Option, Some, None, is_some, Result, Ok, Err, if◌then◌else◌, refl, ap, sym, subst, ◌∙◌}
 use Rattle.std.specs.List.{count_by}
 use Rattle.std.specs.Option.{unwrap_or}
 use Rattle.std.proofs.lemmas.Bool.{and_from, eqb-true}
@@ -15,14 +15,19 @@ use Rattle.ill_core.specs.declared.responder.Deed.{Deed}
 use Rattle.ill_core.specs.State.{is_among}
 use Rattle.ill_core.specs.Rules.{implies}
 use Rattle.ill_core.specs.Numbers.{is_at_most, is_below}
-use Rattle.ill_core.specs.Bodies.{is_shipped}
-use Rattle.ill_core.specs.Issued.{has, with_next, next_apdu, IssuesNext}
+use Rattle.ill_core.specs.Bodies.{is_shipped, is_ill_request, is_requesters}
+use Rattle.ill_core.specs.Issued.{has, first_refusal, with_next, next_apdu, IssuesNext}
 use Rattle.ill_core.specs.Responder.{ResponderRecord, IsResponder}
 use Rattle.ill_core.specs.ResponderActions.{acts, issues_to}
-use Rattle.ill_core.specs.ResponderDeliveries.{takes}
+use Rattle.ill_core.specs.ResponderDeliveries.{takes, take_message}
+use Rattle.ill_core.specs.Answers.{taken, repeat, unless_refused}
+use Rattle.ill_core.specs.declared.refusal.Refusal.{Refusal}
+use Rattle.ill_core.specs.declared.taking.Taking.{Taking}
+use Rattle.ill_core.specs.declared.taking.Taking.TheVariants.{Taken}
 use Rattle.ill_core.specs.ResponderFacts.{Fact, Shows, Tells, Requested, Accepted, CancelAsked, Arrived, SentBack, cancels, KeepsRequest, IssuesUnfilled, StaysLater, Ends, EntersByEnd, EndsOnce, is_unsupplied, is_cancelled, is_end, ended, ends_in, Question, MayCancel, MayRenew, answered_number, last_asked, waits, answers_to, AnswersLast, KeepsLast, TakesNew, AnsweredOnce, AnswersOnce}
 use Rattle.ill_core.proofs.IssuedLemmas.{issued_body, not_longer, has_more, found_none, found_more}
 use Rattle.ill_core.proofs.ResponderLists.{count_more}
+use Rattle.ill_core.proofs.Rules.{responder_rules, is_responder}
 use Rattle.ill_core.proofs.ResponderKept.{line_kept}
 use Rattle.ill_core.proofs.ResponderRows.{Issues, Moves, of_takes, of_acts}
 use Rattle.ill_core.proofs.NumberLemmas.{all_weaker, below_new, at_most_below, distinct_more}
@@ -42,6 +47,25 @@ takes_txn y a = of_takes (λ r. r.txn ≡ y.txn) y a (λ how. how.txn) (λ said 
 pub acts_begun : (y new : ResponderRecord) (deed : Deed) (today : Date) → acts y deed today ≡ Ok new → is_among (Idle ∷ []) new.state ≡ false
 acts_begun y new deed today = of_acts (λ r. is_among (Idle ∷ []) r.state ≡ false) y new deed today (λ line there how. how.on)
 
+-- an ILL-Request that is taken was taken in IDLE
+asked_begins : (y : ResponderRecord) (a : Apdu) (here : Bool) → (if here then taken (record y { state = InProcess; request = Some a }) else repeat y).0 ≡ Ok Taken
+    → is_among (Idle ∷ []) (if here then taken (record y { state = InProcess; request = Some a }) else repeat y).1.state ≡ false
+asked_begins y a true is = refl
+asked_begins y a false is = search rules
+
+message_begins : (y : ResponderRecord) (a : Apdu) (body : Body) → is_ill_request body ≡ true → (take_message y a body).0 ≡ Ok Taken → is_among (Idle ∷ []) (take_message y a body).1.state ≡ false
+message_begins y a (types.IllRequest expiry item) asks is = asked_begins y a (is_among (Idle ∷ []) y.state) is
+message_begins y a body asks is = search rules
+
+unless_begins : (refused : Option Refusal) (y : ResponderRecord) (answer : Result Taking Refusal × ResponderRecord) → (answer.0 ≡ Ok Taken → is_among (Idle ∷ []) answer.1.state ≡ false)
+    → (unless_refused refused y answer).0 ≡ Ok Taken → is_among (Idle ∷ []) (unless_refused refused y answer).1.state ≡ false
+unless_begins (Some refusal) y answer begins is = search rules
+unless_begins None y answer begins is = begins is
+
+pub request_begins : (y : ResponderRecord) (a : Apdu) → is_ill_request a.body ≡ true → (takes y a).0 ≡ Ok Taken → is_among (Idle ∷ []) (takes y a).1.state ≡ false
+request_begins y a asks is =
+    unless_begins (first_refusal y.txn (not (is_requesters a.body)) a) y (take_message y a a.body) (message_begins y a a.body asks) is
+
 pub acts_request : (y new : ResponderRecord) (deed : Deed) (today : Date) → acts y deed today ≡ Ok new → KeepsRequest y new
 acts_request y new deed today = of_acts (KeepsRequest y) y new deed today (λ line there how begun. (how.on, refl))
 
@@ -49,7 +73,7 @@ pub takes_request : (y : ResponderRecord) (a : Apdu) → KeepsRequest y (takes y
 takes_request y a = of_takes (KeepsRequest y) y a (λ how. how.request) (λ said how begun. (how.on, refl))
 
 pub acts_kept : (y new : ResponderRecord) (deed : Deed) (today : Date) → acts y deed today ≡ Ok new → IsResponder y → IsResponder new
-acts_kept y new deed today = of_acts (λ r. IsResponder y → IsResponder r) y new deed today (λ line is how h. line_kept y line h is)
+acts_kept y new deed today = of_acts (λ r. IsResponder y → IsResponder r) y new deed today (λ line is how h. is_responder _ (line_kept y line (responder_rules y h) is))
 
 not_both : {P : Type 0} (b : Bool) → b ≡ false → b ≡ true → P
 not_both b is_false is_true = search rules

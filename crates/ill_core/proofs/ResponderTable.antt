@@ -35,6 +35,7 @@ use Rattle.ill_core.specs.Dates.{is_before, is_after_due}
 use Rattle.ill_core.specs.ResponderTables.{deed_row, check, check_date, deed_body, after_deed, number_after, request_after, issued_after, after_delivery, grows, IsRefused, number_refusal, refusal_of, delivery_facts, delivery_rows, delivery_row, delivery_row_of}
 use Rattle.ill_core.specs.ResponderDeliveries.{MayWantMemory, answers_no, take_message, takes_memory}
 use Rattle.ill_core.specs.ResponderActions.{Line, leads_to, issues_to, if_allowed, no_date, expiry_of, line_of, acts, acts_by, Acts}
+use Rattle.ill_core.proofs.Rules.{responder_rules, is_responder}
 use Rattle.ill_core.proofs.ResponderKept.{message_kept, line_kept}
 use Rattle.ill_core.proofs.ResponderRows.{of_acts}
 use Rattle.ill_core.proofs.TableLemmas.{answer_of, lines, found_lines, lines_true}
@@ -99,7 +100,7 @@ takes_numbered y a row is left =
 -- A row leads to a responder's record.
 pub delivery_kept : (y : ResponderRecord) (a : Apdu) (row : Row RequesterKind) → IsResponder y → is_same_txn a.txn y.txn ≡ true → delivery_row y a ≡ Some row
     → number_refusal row.4 y.issued ≡ None → IsResponder (after_delivery y a row (number_in a a.body))
-delivery_kept y a row h same is left = subst (λ answer. IsResponder answer.1) (sym (takes_numbered y a row is left)) (message_kept y a a.body h same refl)
+delivery_kept y a row h same is left = subst (λ answer. IsResponder answer.1) (sym (takes_numbered y a row is left)) (is_responder _ (message_kept y a a.body (responder_rules y h) same refl))
 
 -- the record after a row, by its parts
 pub after_is : (y : ResponderRecord) (a : Apdu) (row : Row RequesterKind) (k : ℕ) (txn : Qualifiers) (state : State) (accepted last_cancel last_renew : Option ℕ) (received : Bool) (request : Option Apdu) (issued : List Apdu)
@@ -303,7 +304,7 @@ acts_wanting y deed today row number is date next = (subst IsOk (sym (acts_this 
 
 -- A deed leads to a responder's record.
 pub deed_kept : (y new : ResponderRecord) (deed : Deed) (today : Date) → IsResponder y → acts y deed today ≡ Ok new → IsResponder new
-deed_kept y new deed today h done = of_acts IsResponder y new deed today (λ line is how. line_kept y line h is) done
+deed_kept y new deed today h done = of_acts IsResponder y new deed today (λ line is how. is_responder _ (line_kept y line (responder_rules y h) is)) done
 
 -- the record after a deed, by its parts
 pub deed_is : (y : ResponderRecord) (row : Row ResponderKind) (k : ℕ) (body : Body) (txn : Qualifiers) (state : State) (accepted last_cancel last_renew : Option ℕ) (received : Bool) (issued : List Apdu)

@@ -8,11 +8,13 @@ pub mod Numbers
 pub mod Bodies
 pub mod Issued
 pub mod Requester
+pub mod RequesterRules
 pub mod RequesterTables
 pub mod RequesterActions
 pub mod RequesterDeliveries
 pub mod RequesterFacts
 pub mod Responder
+pub mod ResponderRules
 pub mod ResponderActions
 pub mod ResponderTables
 pub mod ResponderDeliveries

@@ -8,7 +8,7 @@ use Rattle.ill_core.specs.declared.state.State.{State}
 use Rattle.ill_core.specs.declared.state.State.TheVariants.{Idle, Pending, InProcess, Conditional, CancelPending, Cancelled, Shipped, Received, RenewPending, Overdue, RenewOverdue, NotReceivedOverdue, Recall, Returned, CheckedIn}
 use Rattle.ill_core.specs.declared.requester.standing.Standing.{Standing}
 use Rattle.ill_core.specs.State.{is_among}
-use Rattle.ill_core.specs.Rules.{implies}
+use Rattle.ill_core.specs.Rules.{implies, are_alike}
 use Rattle.ill_core.specs.Bodies.{declines, is_requesters, is_ill_request, is_cancel, is_received, is_renew, is_returned}
 use Rattle.ill_core.specs.Issued.{is_none, are_numbered, has, last_of, number_of_cancel, number_of_renew, accepted_in}
 
@@ -70,47 +70,63 @@ abbrev pub begins_with_request : List Apdu → Bool
 begins_with_request [] = true
 begins_with_request (a ∷ apdus) = is_ill_request a.body && not (has is_ill_request apdus)
 
--- A state has the parts that it wants, and no others: whether conditions are held, a due date is
--- there and the item was checked in.
-pub record PartsFit (state : State) (is_held is_due is_marked : Bool) : Type 0 where
-  pub role : is_among (InProcess ∷ CheckedIn ∷ []) state ≡ false
-  pub held : is_held ≡ is_among (Conditional ∷ []) state
-  pub due : is_due ≡ is_among later state
-  pub checked_in : implies is_marked (is_among (Returned ∷ []) state) ≡ true
+-- A state is a requester's and has the parts that it wants, and no others: conditions are held in
+-- CONDITIONAL and a due date is there in SHIPPED or later, and nowhere else, and the item was checked
+-- in only in RETURNED.
+abbrev pub parts_fit : State → Bool → Bool → Bool → Bool
+parts_fit state is_held is_due is_marked =
+    not (is_among (InProcess ∷ CheckedIn ∷ []) state)
+    && (are_alike is_held (is_among (Conditional ∷ []) state)
+    && (are_alike is_due (is_among later state)
+    && implies is_marked (is_among (Returned ∷ []) state)))
 
--- What was issued fits a state: whether nothing was, and whether a Received, a Cancel, a Renew, a
--- Returned and a Conditional-Reply no were.
-pub record IssuedFit (state : State) (none has_received has_cancel has_renew has_returned has_no : Bool)
-    : Type 0 where
-  pub idle : none ≡ is_among (Idle ∷ []) state
-  pub received : implies
-      (is_among (Received ∷ RenewPending ∷ Overdue ∷ RenewOverdue ∷ Returned ∷ []) state)
-      has_received ≡ true
-  pub not_received : implies has_received
-      (is_among (Received ∷ RenewPending ∷ Overdue ∷ RenewOverdue ∷ Recall ∷ Returned ∷ []) state)
-      ≡ true
-  pub cancel : implies (is_among (CancelPending ∷ Cancelled ∷ []) state) has_cancel ≡ true
-  pub renew : implies (is_among (RenewPending ∷ RenewOverdue ∷ []) state) has_renew ≡ true
-  pub returned : has_returned ≡ is_among (Returned ∷ []) state
-  pub declined : implies has_no
-      (not (is_among (Pending ∷ CancelPending ∷ Cancelled ∷ []) state)) ≡ true
+-- a Received was issued in the states that want one, and in no state that has none
+abbrev pub received_fits : State → Bool → Bool
+received_fits state has_received =
+    implies (is_among (Received ∷ RenewPending ∷ Overdue ∷ RenewOverdue ∷ Returned ∷ []) state)
+    has_received
+    && implies has_received
+    (is_among (Received ∷ RenewPending ∷ Overdue ∷ RenewOverdue ∷ Recall ∷ Returned ∷ []) state)
 
-abbrev pub IssuedFits : State → List Apdu → Type 0
-IssuedFits state issued =
-    IssuedFit state (is_none issued) (has is_received issued) (has is_cancel issued)
-    (has is_renew issued) (has is_returned issued) (has declines issued)
+-- a Cancel was issued where one waits or was agreed to
+abbrev pub cancel_fits : State → Bool → Bool
+cancel_fits state has_cancel = implies (is_among (CancelPending ∷ Cancelled ∷ []) state) has_cancel
+
+-- a Renew was issued where one waits
+abbrev pub renew_fits : State → Bool → Bool
+renew_fits state has_renew = implies (is_among (RenewPending ∷ RenewOverdue ∷ []) state) has_renew
+
+-- no conditions were declined where the request goes on without them, or a Cancel went instead
+abbrev pub declined_fits : State → Bool → Bool
+declined_fits state has_no =
+    implies has_no (not (is_among (Pending ∷ CancelPending ∷ Cancelled ∷ []) state))
+
+-- What was issued fits a state: nothing in IDLE and something elsewhere, a Returned in RETURNED and
+-- nowhere else, and a Received, a Cancel, a Renew and a Conditional-Reply no as they fit.
+abbrev pub issued_fits : State → List Apdu → Bool
+issued_fits state issued =
+    are_alike (is_none issued) (is_among (Idle ∷ []) state)
+    && (received_fits state (has is_received issued)
+    && (cancel_fits state (has is_cancel issued)
+    && (renew_fits state (has is_renew issued)
+    && (are_alike (has is_returned issued) (is_among (Returned ∷ []) state)
+    && declined_fits state (has declines issued)))))
 
 -- What was issued keeps the rules of a requester: it issues each of these types, the first and no
 -- other is an ILL-Request, and they fit its state.
-abbrev pub IssuedKeepsRules : State → List Apdu → Type 0
-IssuedKeepsRules state issued =
-    (list_all (λ a. is_requesters a.body) issued ≡ true) × (begins_with_request issued ≡ true)
-    × IssuedFits state issued
+abbrev pub issued_keeps_rules : State → List Apdu → Bool
+issued_keeps_rules state issued =
+    list_all (λ a. is_requesters a.body) issued
+    && (begins_with_request issued && issued_fits state issued)
 
--- A record is a requester's where it keeps these rules.
-pub record IsRequester (x : RequesterRecord) : Type 0 where
-  pub numbered : are_numbered x.txn 1 x.issued ≡ true
-  pub role : list_all (λ a. is_requesters a.body) x.issued ≡ true
-  pub request : begins_with_request x.issued ≡ true
-  pub parts : PartsFit x.state (is_some x.held) (is_some x.due) x.checked_in
-  pub issued : IssuedFits x.state x.issued
+-- Whether a record keeps the rules of a requester: its messages are numbered from 1 on, its parts fit
+-- its state, and so does what it issued.
+unfoldable pub keeps_rules : RequesterRecord → Bool
+keeps_rules x =
+    are_numbered x.txn 1 x.issued
+    && (parts_fit x.state (is_some x.held) (is_some x.due) x.checked_in
+    && issued_keeps_rules x.state x.issued)
+
+-- a record is a requester's where it keeps these rules
+abbrev pub IsRequester : RequesterRecord → Type 0
+IsRequester x = keeps_rules x ≡ true

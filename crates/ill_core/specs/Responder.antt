@@ -1,5 +1,5 @@
 -- The record of a responder in a transaction (this profile's own).
-use Rattle.std.specs.Prelude.{◌≡◌, ℕ, Bool, true, false, not, ◌&&◌, ◌||◌, List, [], ◌∷◌, length, take, Option, Some, None, is_some, if◌then◌else◌}
+use Rattle.std.specs.Prelude.{◌≡◌, ℕ, Bool, true, false, not, ◌&&◌, ◌||◌, ◌==◌, List, [], ◌∷◌, length, take, Option, Some, None, is_some, if◌then◌else◌}
 use Rattle.std.specs.List.{list_all, filter_map, count_by}
 use Rattle.ill_values.specs.Day.{Date}
 use Rattle.ill_values.specs.TxnId.{Qualifiers}
@@ -9,7 +9,7 @@ use Rattle.ill_core.specs.declared.state.State.TheVariants.{Idle, Pending, Condi
 use Rattle.ill_core.specs.declared.responder.standing.Standing.{Standing}
 use Rattle.ill_core.specs.State.{is_among}
 use Rattle.ill_core.specs.Dates.{is_after_due}
-use Rattle.ill_core.specs.Rules.{implies}
+use Rattle.ill_core.specs.Rules.{implies, are_alike}
 use Rattle.ill_core.specs.Bodies.{is_requesters, is_ill_request, is_shipped, is_checked_in, names_conditions, is_renewal}
 use Rattle.ill_core.specs.Issued.{are_numbered, is_same_txn, has, was, last_of, is_none, granted_day, number_of_end}
 
@@ -111,41 +111,50 @@ abbrev pub is_request_of : Qualifiers → Option Apdu → Bool
 is_request_of txn None = true
 is_request_of txn (Some a) = is_same_txn a.txn txn && is_ill_request a.body
 
--- A state has the numbers and the mark that it wants, and in IDLE none: whether a request is there,
--- a number of each kind, the mark, and whether nothing was issued.
-pub record PartsFit (state : State) (has_request has_accepted has_cancel has_renew is_marked none : Bool)
-    : Type 0 where
-  pub role : is_among (Pending ∷ Received ∷ NotReceivedOverdue ∷ []) state ≡ false
-  pub idle : has_request ≡ not (is_among (Idle ∷ []) state)
-  pub empty : implies (is_among (Idle ∷ []) state)
-      (not has_accepted && (not has_cancel && (not has_renew && (not is_marked && none)))) ≡ true
-  pub marked : implies is_marked (is_among later state) ≡ true
-  pub cancel : implies (is_among (CancelPending ∷ Cancelled ∷ []) state) has_cancel ≡ true
-  pub renew : implies (is_among (RenewPending ∷ RenewOverdue ∷ []) state) has_renew ≡ true
+-- in IDLE a responder has no number, no mark and no message
+abbrev pub idle_fits : State → Bool → Bool → Bool → Bool → Bool → Bool
+idle_fits state has_accepted has_cancel has_renew is_marked none =
+    implies (is_among (Idle ∷ []) state)
+    (not has_accepted && (not has_cancel && (not has_renew && (not is_marked && none))))
+
+-- A state is a responder's and has the parts that it wants: a request everywhere but in IDLE, the mark
+-- in SHIPPED or later alone, and a Cancel and a Renew where one waits or, of a Cancel, was agreed to.
+abbrev pub parts_fit : State → Bool → Bool → Bool → Bool → Bool → Bool → Bool
+parts_fit state has_request has_accepted has_cancel has_renew is_marked none =
+    not (is_among (Pending ∷ Received ∷ NotReceivedOverdue ∷ []) state)
+    && (are_alike has_request (not (is_among (Idle ∷ []) state))
+    && (idle_fits state has_accepted has_cancel has_renew is_marked none
+    && (implies is_marked (is_among later state)
+    && (implies (is_among (CancelPending ∷ Cancelled ∷ []) state) has_cancel
+    && implies (is_among (RenewPending ∷ RenewOverdue ∷ []) state) has_renew))))
 
 -- What was issued fits the state: one Shipped in SHIPPED or later and none elsewhere, a Checked-In
 -- in CHECKED-IN, and conditions last in CONDITIONAL.
-pub record IssuedFits (state : State) (apdus : List Apdu) : Type 0 where
-  pub shipped : count_by (λ a. is_shipped a.body) apdus ≡ (if is_among later state then 1 else 0)
-  pub checked_in : has is_checked_in apdus ≡ is_among (CheckedIn ∷ []) state
-  pub conditions : implies (is_among (Conditional ∷ []) state) (ends_with_conditions apdus) ≡ true
+abbrev pub issued_fits : State → List Apdu → Bool
+issued_fits state apdus =
+    (count_by (λ a. is_shipped a.body) apdus == (if is_among later state then 1 else 0))
+    && (are_alike (has is_checked_in apdus) (is_among (CheckedIn ∷ []) state)
+    && implies (is_among (Conditional ∷ []) state) (ends_with_conditions apdus))
 
 -- What was issued keeps the rules of a responder: it issues each of these types, they fit its
 -- state, the conditions accepted are among them, and the due dates rise from that of a Shipped on.
-abbrev pub IssuedKeepsRules : State → Option ℕ → List Apdu → Type 0
-IssuedKeepsRules state accepted apdus =
-    (list_all (λ a. not (is_requesters a.body)) apdus ≡ true) × IssuedFits state apdus
-    × (is_named accepted apdus ≡ true)
-    × (are_rising (filter_map granted_day apdus) ≡ true) × (ships_first apdus ≡ true)
+abbrev pub issued_keeps_rules : State → Option ℕ → List Apdu → Bool
+issued_keeps_rules state accepted apdus =
+    list_all (λ a. not (is_requesters a.body)) apdus
+    && (issued_fits state apdus
+    && (is_named accepted apdus
+    && (are_rising (filter_map granted_day apdus) && ships_first apdus)))
 
--- A record is a responder's where it keeps these rules.
-pub record IsResponder (y : ResponderRecord) : Type 0 where
-  pub numbered : are_numbered y.txn 1 y.issued ≡ true
-  pub role : list_all (λ a. not (is_requesters a.body)) y.issued ≡ true
-  pub request : is_request_of y.txn y.request ≡ true
-  pub parts : PartsFit y.state (is_some y.request) (is_some y.accepted) (is_some y.last_cancel)
-      (is_some y.last_renew) y.received (is_none y.issued)
-  pub issued : IssuedFits y.state y.issued
-  pub accepted : is_named y.accepted y.issued ≡ true
-  pub rising : are_rising (filter_map granted_day y.issued) ≡ true
-  pub ships_first : ships_first y.issued ≡ true
+-- Whether a record keeps the rules of a responder: its messages are numbered from 1 on, its request is
+-- one of the transaction, its parts fit its state, and so does what it issued.
+unfoldable pub keeps_rules : ResponderRecord → Bool
+keeps_rules y =
+    are_numbered y.txn 1 y.issued
+    && (is_request_of y.txn y.request
+    && (parts_fit y.state (is_some y.request) (is_some y.accepted) (is_some y.last_cancel)
+    (is_some y.last_renew) y.received (is_none y.issued)
+    && issued_keeps_rules y.state y.accepted y.issued))
+
+-- a record is a responder's where it keeps these rules
+abbrev pub IsResponder : ResponderRecord → Type 0
+IsResponder y = keeps_rules y ≡ true

@@ -72,6 +72,7 @@ impl Model for Requester {
 
 impl Requester {
     /// A requester that has issued and taken nothing. `alloc` is kept for later.
+    #[tactic(auto, unfolding(crate::specs::Issued::are_numbered, crate::specs::Requester::keeps_rules))]
     pub fn idle(alloc: Global, txn: TxnId) -> Requester
         ensures { result ≡ requester_of txn State.Idle None false None [] }
     {
@@ -87,6 +88,7 @@ impl Requester {
     }
 
     /// The requester with these parts, or `None` if the parts do not fit together.
+    #[tactic(auto, unfolding(crate::specs::Requester::keeps_rules))]
     pub fn of_parts(
         txn: TxnId,
         state: State,
@@ -133,7 +135,7 @@ impl Requester {
     }
 
     /// Whether it could stand so behind the first so many of its messages.
-    #[tactic(auto, using(crate::proofs::IssuedLemmas::numbered_front))]
+    #[tactic(auto, using(crate::proofs::Rules::requester_back, crate::proofs::Rules::requester_back_fits))]
     fn could_stand(&self, standing: &Standing, count: u8) -> bool
         ensures { (result ≡ true) ↔ IsRequester (back_to standing.now count self.now) }
     {

@@ -75,7 +75,7 @@ impl Model for Responder {
 
 impl Responder {
     /// A responder that has issued and taken nothing. `alloc` is kept for later.
-    #[tactic(auto, unfolding(crate::specs::Issued::are_numbered, crate::specs::Responder::rise_from, crate::specs::Responder::ships_first))]
+    #[tactic(auto, unfolding(crate::specs::Issued::are_numbered, crate::specs::Responder::rise_from, crate::specs::Responder::ships_first, crate::specs::Responder::keeps_rules))]
     pub fn idle(alloc: Global, txn: TxnId) -> Responder
         ensures { result ≡ responder_of txn State.Idle None None None false None [] }
     {
@@ -93,6 +93,7 @@ impl Responder {
     }
 
     /// The responder with these parts, or `None` if the parts do not fit together.
+    #[tactic(auto, unfolding(crate::specs::Responder::keeps_rules))]
     pub fn of_parts(
         txn: TxnId,
         state: State,
@@ -149,7 +150,7 @@ impl Responder {
     }
 
     /// Whether it could stand so behind the first so many of its messages.
-    #[tactic(auto, using(crate::proofs::IssuedLemmas::numbered_front, crate::proofs::ResponderLists::request_in_is))]
+    #[tactic(auto, using(crate::proofs::Rules::responder_back, crate::proofs::Rules::responder_back_fits))]
     fn could_stand(&self, standing: &Standing, count: u8) -> bool
         ensures { (result ≡ true) ↔ IsResponder (back_to standing.now count self.now) }
     {

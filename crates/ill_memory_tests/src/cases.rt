@@ -3,7 +3,7 @@
 use crate::files::Folder;
 use crate::judging::Outcome;
 use crate::words::Words;
-use crate::{codec, desks, records, sides, starts, stores, tool, values, worlds};
+use crate::{codec, desks, records, scripts, sides, starts, stores, tool, values, worlds};
 use std::alloc::Global;
 
 /// What comes of the case of these words, or `None` where they are none.
@@ -13,6 +13,8 @@ pub fn outcome(alloc: Global, folder: &Folder<'_>, words: &mut Words<'_>) -> Opt
         "requester" => sides::requester(alloc, words),
         "responder" => sides::responder(alloc, words),
         "idle" => sides::idle(alloc),
+        "loan" => tool::loan(alloc, words),
+        "simulate" => scripts::simulates(alloc),
         "decode" => codec::decodes_digits(alloc, words.word()?),
         call => call_outcome(alloc, folder, call, words),
     }

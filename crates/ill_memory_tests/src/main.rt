@@ -20,6 +20,7 @@ mod judging;
 mod marks;
 mod messages;
 mod records;
+mod scripts;
 mod shown;
 mod sides;
 mod starts;

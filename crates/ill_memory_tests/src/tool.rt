@@ -5,9 +5,10 @@ use crate::desks::{CONDITIONS, NO, SHIPPED, started_desk};
 use crate::judging::{Outcome, done_if, judged, leaving};
 use crate::marks::{begin, end};
 use crate::records::Role;
+use crate::stores::store;
 use crate::words::{Words, named};
 use ill_core::State;
-use ill_saved::{Desk1, MemoryStore};
+use ill_saved::{Desk1, DeskFault, MemoryStore, NextCall, StoreFault};
 use ill_tool::{ToolFault, run_act, run_send, run_status, run_take};
 use ill_values::{Day, Number};
 use std::alloc::Global;
@@ -19,20 +20,26 @@ enum Command {
     Act(&'static [&'static str]),
     /// It takes these bytes.
     Take(&'static [u8]),
-    /// It sends the first message.
-    Send,
+    /// It sends the message with this number.
+    Send(u8),
     Status,
+    /// What has landed is loaded again. No engine does so but the desk.
+    Restart,
 }
 
 /// How a side stands: its state, and how many messages it has issued.
 type SideView = (State, u8);
 
-/// A command, and with ample memory what it writes and how the side stands behind it.
+/// A command, the plan of the store, and with ample memory what it answers and writes, and how the side
+/// stands behind it, in memory and in its store.
 #[derive(Clone, Copy)]
 struct Case {
     command: Command,
+    plan: NextCall,
+    answer: Result<bool, ToolFault>,
     output: &'static [u8],
     after: SideView,
+    landed: SideView,
 }
 
 /// More bytes than any of these commands writes.
@@ -49,38 +56,57 @@ pub fn outcome(alloc: Global, command: &str, words: &mut Words<'_>) -> Option<Ou
     outcome
 }
 
+/// The case of a step of the loan, from 1 on, behind the steps before it.
+pub fn loan(alloc: Global, words: &mut Words<'_>) -> Option<Outcome> {
+    let number = usize::from(words.number()?.get());
+    let (case, before) = LOAN.get(..number)?.split_last()?;
+    let store = store(alloc, Role::Requester.idle_record())?;
+    let mut desk = Desk1::start(alloc, store).ok()?;
+    let outcome = behind(alloc, &mut desk, before, *case);
+    drop(desk);
+    outcome
+}
+
+/// The outcome of a case behind others, which are performed with ample memory.
+fn behind(
+    alloc: Global,
+    desk: &mut Desk1<MemoryStore>,
+    before: &[Case],
+    case: Case,
+) -> Option<Outcome> {
+    for step in before {
+        let mut output = Vec::with_capacity(alloc, ROOM).ok()?;
+        if run(alloc, desk, *step, &mut output) != step.answer {
+            return None;
+        }
+    }
+    performed(alloc, desk, case)
+}
+
 fn performed(alloc: Global, desk: &mut Desk1<MemoryStore>, case: Case) -> Option<Outcome> {
     let before = side_view(desk);
+    let released = desk.released();
     let mut output = Vec::with_capacity(alloc, ROOM).ok()?;
     begin(alloc);
-    let answer = run(alloc, desk, case.command, &mut output);
+    let answer = run(alloc, desk, case, &mut output);
     let refused = end(alloc);
     let live = side_view(desk);
+    let is_kept = desk.released() == released;
+    let is_released = desk.released() == live.1;
+    desk.set_next(NextCall::Works);
     let is_restarted = desk.restart(alloc).is_ok();
     let landed = side_view(desk);
-    let is_stated = is_stated(before, case.after, live, landed);
-    let is_done = output.as_slice() == case.output && live == case.after && landed == case.after;
-    let outcome = match answer {
-        Ok(true) => done_if(is_done),
-        Err(fault) => faulted(fault, refused, output.is_empty() && is_stated),
-        Ok(false) => Outcome::Wrong,
+    let outcome = if answer == Err(ToolFault::OutOfMemory) {
+        let is_one = live == before || live == case.after;
+        let is_stated = is_one && (is_kept || is_released && landed == live);
+        let is_landed = landed == before || landed == live || landed == case.landed;
+        let is_right = output.is_empty() && is_stated && is_landed;
+        leaving(judged(Outcome::Memory, refused), is_right)
+    } else {
+        let is_told = answer == case.answer && output.as_slice() == case.output;
+        done_if(is_told && live == case.after && landed == case.landed)
     };
     Some(leaving(outcome, is_restarted))
-}
-
-/// The outcome of a command that did not end, where it is known whether what it leaves is right.
-fn faulted(fault: ToolFault, refused: bool, is_right: bool) -> Outcome {
-    match fault {
-        ToolFault::OutOfMemory => leaving(judged(Outcome::Memory, refused), is_right),
-        _ => Outcome::Wrong,
-    }
-}
-
-/// Whether a side that stood so before, and would stand so after, may stand so in memory and in its store.
-/// What has landed was done in memory.
-fn is_stated(before: SideView, after: SideView, live: SideView, landed: SideView) -> bool {
-    let is_one = live == before || live == after;
-    is_one && (landed == before || landed == live)
 }
 
 fn side_view(desk: &Desk1<MemoryStore>) -> SideView {
@@ -91,19 +117,21 @@ fn side_view(desk: &Desk1<MemoryStore>) -> SideView {
 fn run(
     alloc: Global,
     desk: &mut Desk1<MemoryStore>,
-    command: Command,
+    case: Case,
     output: &mut Vec<u8>,
 ) -> Result<bool, ToolFault> {
-    match command {
+    desk.set_next(case.plan);
+    match case.command {
         Command::Act(words) => run_act(alloc, desk, Day::new(2025, 3, 1).ok(), words, output),
         Command::Take(bytes) => {
             let mut reader = bytes;
             run_take(alloc, desk, &mut reader, output)
         }
-        Command::Send => match Number::new(1) {
-            Some(first) => run_send(alloc, desk, first, output).and(Ok(true)),
+        Command::Send(number) => match Number::new(number) {
+            Some(number) => run_send(alloc, desk, number, output).and(Ok(true)),
             None => Ok(false),
         },
+        Command::Restart => Ok(desk.restart(alloc).and(Ok(true))?),
         Command::Status => run_status(alloc, desk, output).and(Ok(true)),
     }
 }
@@ -122,32 +150,44 @@ static ON_REQUESTER: [(&str, Case); 4] = [
         "run_act",
         Case {
             command: Command::Act(&["reply", "yes"]),
+            plan: NextCall::Works,
+            answer: Ok(true),
             output: b"done PENDING - 2/2\n",
             after: (State::Pending, 2),
+            landed: (State::Pending, 2),
         },
     ),
     (
         "run_take",
         Case {
             command: Command::Take(SHIPPED),
+            plan: NextCall::Works,
+            answer: Ok(true),
             output: b"taken SHIPPED 20250315 1/1\n",
             after: (State::Shipped, 1),
+            landed: (State::Shipped, 1),
         },
     ),
     (
         "run_send",
         Case {
-            command: Command::Send,
+            command: Command::Send(1),
+            plan: NextCall::Works,
+            answer: Ok(true),
             output: REQUEST,
             after: (State::Conditional, 1),
+            landed: (State::Conditional, 1),
         },
     ),
     (
         "run_status",
         Case {
             command: Command::Status,
+            plan: NextCall::Works,
+            answer: Ok(true),
             output: b"role requester\ngroup G1\ntransaction T1\nstate CONDITIONAL\ndue -\nmessages 1/1\nmarks -\n",
             after: (State::Conditional, 1),
+            landed: (State::Conditional, 1),
         },
     ),
 ];
@@ -158,32 +198,136 @@ static ON_RESPONDER: [(&str, Case); 4] = [
         "run_act",
         Case {
             command: Command::Act(&["ship", "+14"]),
+            plan: NextCall::Works,
+            answer: Ok(true),
             output: b"done SHIPPED 20250315 3/3\n",
             after: (State::Shipped, 3),
+            landed: (State::Shipped, 3),
         },
     ),
     (
         "run_take",
         Case {
             command: Command::Take(NO),
+            plan: NextCall::Works,
+            answer: Ok(true),
             output: b"taken NOT-SUPPLIED - 3/3\n",
             after: (State::NotSupplied, 3),
+            landed: (State::NotSupplied, 3),
         },
     ),
     (
         "run_send",
         Case {
-            command: Command::Send,
+            command: Command::Send(1),
+            plan: NextCall::Works,
+            answer: Ok(true),
             output: CONDITIONS,
             after: (State::InProcess, 2),
+            landed: (State::InProcess, 2),
         },
     ),
     (
         "run_status",
         Case {
             command: Command::Status,
+            plan: NextCall::Works,
+            answer: Ok(true),
             output: b"role responder\ngroup G1\ntransaction T1\nstate IN-PROCESS\ndue -\nmessages 2/2\nmarks -\n",
             after: (State::InProcess, 2),
+            landed: (State::InProcess, 2),
         },
     ),
+];
+
+/// A loan, from its request to a save that fails and a restart.
+static LOAN: [Case; 11] = [
+    Case {
+        command: Command::Act(&["request", "none", "Maps"]),
+        plan: NextCall::Works,
+        answer: Ok(true),
+        output: b"done PENDING - 1/1\n",
+        after: (State::Pending, 1),
+        landed: (State::Pending, 1),
+    },
+    Case {
+        command: Command::Send(1),
+        plan: NextCall::Works,
+        answer: Ok(true),
+        output: REQUEST,
+        after: (State::Pending, 1),
+        landed: (State::Pending, 1),
+    },
+    Case {
+        command: Command::Status,
+        plan: NextCall::Works,
+        answer: Ok(true),
+        output: b"role requester\ngroup G1\ntransaction T1\nstate PENDING\ndue -\nmessages 1/1\nmarks -\n",
+        after: (State::Pending, 1),
+        landed: (State::Pending, 1),
+    },
+    Case {
+        command: Command::Act(&["cancel"]),
+        plan: NextCall::Works,
+        answer: Ok(true),
+        output: b"done CANCEL-PENDING - 2/2\n",
+        after: (State::CancelPending, 2),
+        landed: (State::CancelPending, 2),
+    },
+    Case {
+        command: Command::Act(&["cancel"]),
+        plan: NextCall::Works,
+        answer: Ok(false),
+        output: b"not-now CANCEL-PENDING - 2/2\n",
+        after: (State::CancelPending, 2),
+        landed: (State::CancelPending, 2),
+    },
+    Case {
+        command: Command::Take(SHIPPED),
+        plan: NextCall::Works,
+        answer: Ok(true),
+        output: b"taken SHIPPED 20250315 2/2\n",
+        after: (State::Shipped, 2),
+        landed: (State::Shipped, 2),
+    },
+    Case {
+        command: Command::Take(SHIPPED),
+        plan: NextCall::Works,
+        answer: Ok(true),
+        output: b"repeat SHIPPED 20250315 2/2\n",
+        after: (State::Shipped, 2),
+        landed: (State::Shipped, 2),
+    },
+    Case {
+        command: Command::Send(3),
+        plan: NextCall::Works,
+        answer: Err(ToolFault::Desk(DeskFault::NoSuchMessage)),
+        output: b"",
+        after: (State::Shipped, 2),
+        landed: (State::Shipped, 2),
+    },
+    Case {
+        command: Command::Act(&["receive"]),
+        plan: NextCall::FailsOld,
+        answer: Err(ToolFault::Desk(DeskFault::Store(StoreFault::Failed))),
+        output: b"",
+        after: (State::Received, 3),
+        landed: (State::Shipped, 2),
+    },
+    Case {
+        command: Command::Send(3),
+        plan: NextCall::Works,
+        answer: Err(ToolFault::Desk(DeskFault::NotSaved)),
+        output: b"",
+        after: (State::Received, 3),
+        landed: (State::Shipped, 2),
+    },
+    Case {
+        command: Command::Restart,
+        plan: NextCall::Works,
+        answer: Ok(true),
+        output: b"",
+        after: (State::Shipped, 2),
+        landed: (State::Shipped, 2),
+    },
 ];

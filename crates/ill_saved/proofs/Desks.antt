@@ -55,6 +55,7 @@ use Rattle.ill_saved.specs.declared.desk.Loaded.{Loaded}
 use Rattle.ill_saved.specs.Kept.{KeptBytes, none_kept, IsKept, Keeps, GoesBackTo}
 use Rattle.ill_saved.specs.Loading.{LoadsOrIdle}
 use Rattle.ill_saved.specs.Desk.{landed_side, IsBackedBy, IsBackedByRead, IsBacked, IsOneApdu, LoadsSide, IsLoadFault, Restarts, Sends}
+use Rattle.ill_saved.proofs.Rules.{responder_asked}
 
 -- What the laws of ill_core say of rows: they keep the transaction, and issue one APDU or none.
 pub record CoreRows : Type 0 where
@@ -300,7 +301,7 @@ back_to_itself : (side : Side) (count : ℕ) → IsConsistent side → count ≡
 back_to_itself (sides.Requester x) count is all =
     ap (λ l. Some (sides.Requester (requester_of x.txn x.state x.held x.checked_in x.due l))) (take_all count x.issued (omega (arith, all)))
 back_to_itself (sides.Responder y) count is all =
-    let request : request_in y.state y.request ≡ y.request = unless_idle (is_among (Idle ∷ []) y.state) y.request is.parts.idle in
+    let request : request_in y.state y.request ≡ y.request = unless_idle (is_among (Idle ∷ []) y.state) y.request (responder_asked y is) in
     ap (λ r. Some (sides.Responder (responder_of y.txn y.state y.accepted y.last_cancel y.last_renew y.received r (take count y.issued)))) request
     ∙ ap (λ l. Some (sides.Responder (responder_of y.txn y.state y.accepted y.last_cancel y.last_renew y.received y.request l))) (take_all count y.issued (omega (arith, all)))
 
@@ -350,7 +351,7 @@ idle_twice (sides.Requester x) = refl
 idle_twice (sides.Responder y) = refl
 
 pub idle_consistent : (live : Side) → IsConsistent (idle_of live)
-unfolding are_numbered rise_from ships_first
+unfolding are_numbered rise_from ships_first requesters.keeps_rules responders.keeps_rules
 idle_consistent (sides.Requester x) = search rules
 idle_consistent (sides.Responder y) = search rules
 

@@ -1,9 +1,11 @@
 pub mod Lists
 pub mod Records
+pub mod Rules
 pub mod Steps
 pub mod Fields
 pub mod RecordLaws
-pub mod Sides
+pub mod Roles
+pub mod Held
 pub mod Desks
 pub mod Files
 pub mod Sizes

@@ -29,6 +29,7 @@ use Rattle.ill_saved.specs.Records.{no_date, due_octets, due_from, found_date, d
 use Rattle.ill_saved.specs.Ranges.{IsInRange, IsSide}
 use Rattle.ill_saved.proofs.Steps.{bind_ok, chosen, passed, ok_is}
 use Rattle.ill_saved.proofs.Fields.{Below, IsField, Any, Both, Counted, IsAmong, IsRequest, rest_fits, sized_is, constant_is, optional_number_is, mark_is, state_is, followed_is, counted_text_is, apdu_is, ill_request_is, marked_is, counted_is}
+use Rattle.ill_saved.proofs.Rules.{requester_state, responder_state, responder_request}
 
 -- ---- due dates
 
@@ -199,14 +200,14 @@ fields_again : Below → (side : Side) (at : ℕ) (more : List ℕ) → IsSide s
 fields_again below (sides.Requester x) at more is =
     let range = is.1 in
     let read = (requester_fields_is below).again ((x.state, (x.txn.group, x.txn.transaction)), (x.held, (x.checked_in, (x.due, x.issued)))) at more
-    ((requester_state_is x.state is.0.parts.role, (range.parts.txn.group, range.parts.txn.transaction)), (range.parts.held, (tt, (range.parts.due, (range.issued, omega (arith, range.few)))))) in
+    ((requester_state_is x.state (requester_state x is.0), (range.parts.txn.group, range.parts.txn.transaction)), (range.parts.held, (tt, (range.parts.due, (range.issued, omega (arith, range.few)))))) in
     (read.0, rw read.1 refl)
 fields_again below (sides.Responder y) at more is =
     let range = is.1 in
     let read = (responder_fields_is below).again
     ((y.state, (y.txn.group, y.txn.transaction)), (y.accepted, (y.last_cancel, (y.last_renew, (y.received, (y.request, y.issued)))))) at more (
-      (responder_state_is y.state is.0.parts.role, (range.parts.txn.group, range.parts.txn.transaction)),
-      (range.parts.accepted, (range.parts.last_cancel, (range.parts.last_renew, (tt, (request_is y.txn y.request is.0.request range.parts.request, (range.issued, omega (arith, range.few))))))),
+      (responder_state_is y.state (responder_state y is.0), (range.parts.txn.group, range.parts.txn.transaction)),
+      (range.parts.accepted, (range.parts.last_cancel, (range.parts.last_renew, (tt, (request_is y.txn y.request (responder_request y is.0) range.parts.request, (range.issued, omega (arith, range.few))))))),
     ) in
     (read.0, rw read.1 refl)
 

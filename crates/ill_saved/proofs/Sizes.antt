@@ -21,6 +21,7 @@ use Rattle.ill_saved.specs.declared.side.Side.TheVariants as sides
 use Rattle.ill_saved.specs.Layout.{apdu, ill_request, marked, counted, spell_all}
 use Rattle.ill_saved.specs.Records.{due_octets, front, requester_states, responder_states, requester_rest, responder_rest, record_spelling}
 use Rattle.ill_saved.specs.Ranges.{Each, IsSide}
+use Rattle.ill_saved.proofs.Rules.{requester_request, responder_types}
 
 -- What the laws of the crates below say: how long a qualifier is, an APDU, and one that is no request.
 pub record Bounds : Type 0 where
@@ -92,7 +93,7 @@ record_bound bounds (sides.Requester x) is =
       length-append head (requester_rest.spell (x.held, (x.checked_in, (x.due, x.issued)))),
       length-append (due_octets x.due) ((counted apdu).spell x.issued),
       due_length x.due,
-      requester_issued_bound bounds x.issued is.1.issued is.0.request,
+      requester_issued_bound bounds x.issued is.1.issued (requester_request x is.0),
       is.1.few,
     )
 record_bound bounds (sides.Responder y) is =
@@ -105,6 +106,6 @@ record_bound bounds (sides.Responder y) is =
       length-append head (responder_rest.spell (y.accepted, (y.last_cancel, (y.last_renew, (y.received, (y.request, y.issued)))))),
       length-append request ((counted apdu).spell y.issued),
       request_bound bounds y.request is.1.parts.request,
-      others_bound bounds y.issued is.1.issued (none_requested y.issued is.0.role),
+      others_bound bounds y.issued is.1.issued (none_requested y.issued (responder_types y is.0)),
       is.1.few,
     )

@@ -12,19 +12,29 @@ use Rattle.ill_core.specs.declared.taking.Taking.{Taking}
 use Rattle.ill_core.specs.declared.taking.Taking.TheVariants.{Taken}
 use Rattle.ill_core.specs.State.{is_among}
 use Rattle.ill_core.specs.Requester as requesters
-use Rattle.ill_core.specs.Requester.{requester_of, IsRequester}
+use Rattle.ill_core.specs.Requester.{requester_of}
 use Rattle.ill_core.specs.RequesterActions as requester_actions
 use Rattle.ill_core.specs.RequesterDeliveries as requester_deliveries
 use Rattle.ill_core.specs.Responder as responders
-use Rattle.ill_core.specs.Responder.{responder_of, IsResponder, due_of}
+use Rattle.ill_core.specs.Responder.{responder_of, due_of}
 use Rattle.ill_core.specs.ResponderActions as responder_actions
 use Rattle.ill_core.specs.ResponderDeliveries as responder_deliveries
+use Rattle.ill_saved.specs.declared.role.Role.{Role}
+use Rattle.ill_saved.specs.declared.role.Role.TheVariants as roles
 use Rattle.ill_saved.specs.declared.side.Side.{Side}
 use Rattle.ill_saved.specs.declared.side.Side.TheVariants as sides
 use Rattle.ill_saved.specs.declared.side.Standing.{Standing}
 use Rattle.ill_saved.specs.declared.side.Standing.TheVariants as standings
 use Rattle.ill_saved.specs.declared.side.Action.{Action}
 use Rattle.ill_saved.specs.declared.side.Action.TheVariants as actions
+
+abbrev pub other : Role → Role
+other roles.Requester = roles.Responder
+other roles.Responder = roles.Requester
+
+abbrev pub role_of : Side → Role
+role_of (sides.Requester x) = roles.Requester
+role_of (sides.Responder y) = roles.Responder
 
 -- the APDUs that a side has issued
 abbrev pub issued_of : Side → List Apdu
@@ -39,14 +49,21 @@ abbrev pub state_of : Side → State
 state_of (sides.Requester x) = x.state
 state_of (sides.Responder y) = y.state
 
+-- it has issued and taken nothing
+abbrev pub is_idle : Side → Bool
+is_idle side = is_among (Idle ∷ []) (state_of side)
+
 abbrev pub due_date_of : Side → Option Date
 due_date_of (sides.Requester x) = x.due
 due_date_of (sides.Responder y) = due_of y
 
--- the side keeps the rules of its role
+-- whether the side keeps the rules of its role
+abbrev pub keeps_rules : Side → Bool
+keeps_rules (sides.Requester x) = requesters.keeps_rules x
+keeps_rules (sides.Responder y) = responders.keeps_rules y
+
 abbrev pub IsConsistent : Side → Type 0
-IsConsistent (sides.Requester x) = IsRequester x
-IsConsistent (sides.Responder y) = IsResponder y
+IsConsistent side = keeps_rules side ≡ true
 
 -- where a side stands
 abbrev pub standing_of : Side → Standing
@@ -83,10 +100,14 @@ abbrev pub KeepsRequest : Side → Side → Type 0
 KeepsRequest old new =
     is_asked old ≡ true → (is_asked new ≡ true) × (request_of new ≡ request_of old)
 
--- the side of the same role and transaction before its first message
+-- the side of this role and transaction before its first message
+abbrev pub idle_side : Role → Qualifiers → Side
+idle_side roles.Requester txn = sides.Requester (requester_of txn Idle None false None [])
+idle_side roles.Responder txn = sides.Responder (responder_of txn Idle None None None false None [])
+
+-- what it was before its first message
 abbrev pub idle_of : Side → Side
-idle_of (sides.Requester x) = sides.Requester (requester_of x.txn Idle None false None [])
-idle_of (sides.Responder y) = sides.Responder (responder_of y.txn Idle None None None false None [])
+idle_of side = idle_side (role_of side) (txn_of side)
 
 abbrev pub done_by : {R : Type 0} → (R → Side) → Result R Refusal → Result Side Refusal
 done_by make (Ok new) = Ok (make new)

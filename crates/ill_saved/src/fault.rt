@@ -65,6 +65,26 @@ impl<T: Drop> From<AllocFailed<T>> for RecordFault {
     }
 }
 
+/// Why a side was not put among others. They are judged in this order.
+#[derive(Clone, Copy, Debug, PartialEq, Eq, Hash, Error)]
+pub enum SidesFault {
+    /// It is of the other role.
+    #[error("other-role")]
+    OtherRole,
+    /// It is idle: nothing has begun in its transaction.
+    #[error("idle")]
+    Idle,
+    /// Its transaction is held already.
+    #[error("twice")]
+    Twice,
+    /// 1,000 sides are held already.
+    #[error("full")]
+    Full,
+    /// Memory ran out.
+    #[error("memory")]
+    OutOfMemory,
+}
+
 /// Why a desk did not do what it was asked.
 #[derive(Clone, Copy, Debug, PartialEq, Eq, Hash, Error)]
 pub enum DeskFault {

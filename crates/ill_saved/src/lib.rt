@@ -1,4 +1,5 @@
-//! Saved records of the sides of an interlibrary loan, stores for them, and one side with its store.
+//! Saved records of the sides of an interlibrary loan, stores for them, one side with its store, and the
+//! many sides of one library.
 #![tactic(auto)]
 
 mod cursor;
@@ -11,15 +12,19 @@ mod fuse_store;
 mod kept;
 pub mod laws;
 mod memory_store;
+mod role;
 mod side;
+mod sides;
 mod store;
 
 pub use decoding::decode_record;
 pub use desk::Desk1;
 pub use encoding::encode_record;
-pub use fault::{DeskFault, RecordFault};
+pub use fault::{DeskFault, RecordFault, SidesFault};
 pub use file_store::FileStore;
 pub use fuse_store::FuseStore;
 pub use memory_store::MemoryStore;
+pub use role::Role;
 pub use side::{Action, Side};
+pub use sides::Sides;
 pub use store::{NextCall, Store, StoreFault};

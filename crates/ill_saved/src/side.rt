@@ -2,8 +2,9 @@
 
 ghost use Rattle.std.specs.Prelude.{◌≡◌, ◌≤◌, length, option_map, IfOk};
 ghost use Rattle.ill_core.specs.Issued.{message};
-ghost use Rattle.ill_saved.specs.Side.{Acts, Takes, IsConsistent, issued_of, standing_of, back_to, GoesBack, idle_of, txn_of, state_of, due_date_of};
+ghost use Rattle.ill_saved.specs.Side.{Acts, Takes, IsConsistent, issued_of, standing_of, back_to, GoesBack, idle_of, idle_side, is_idle, role_of, txn_of, state_of, due_date_of};
 
+use crate::role::Role;
 use ill_core::{
     Deed, Refusal, Requester, RequesterStanding, Responder, ResponderStanding, State, Taking, Wish,
 };
@@ -38,6 +39,16 @@ pub enum Action {
 }
 
 impl Side {
+    /// The side of this role and transaction that has issued and taken nothing. It takes no memory.
+    pub fn idle(alloc: Global, role: Role, txn: TxnId) -> Side
+        ensures { result ≡ idle_side role txn }
+    {
+        match role {
+            Role::Requester => Side::Requester(Requester::idle(alloc, txn)),
+            Role::Responder => Side::Responder(Responder::idle(alloc, txn)),
+        }
+    }
+
     /// Does what the library decides, and issues the message that tells the other side. A wish of a
     /// responder, or a deed of a requester, is `WrongRole`. A refusal changes nothing.
     pub fn act(&mut self, alloc: Global, action: &Action) -> Result<(), Refusal>
@@ -62,6 +73,23 @@ impl Side {
             Side::Requester(requester) => requester.take(apdu),
             Side::Responder(responder) => responder.take(alloc, apdu),
         }
+    }
+
+    /// The role of this side.
+    pub fn role(&self) -> Role
+        ensures { result ≡ role_of self.now }
+    {
+        match self {
+            Side::Requester(_) => Role::Requester,
+            Side::Responder(_) => Role::Responder,
+        }
+    }
+
+    /// Whether it is in IDLE: it has issued and taken nothing.
+    pub fn is_idle(&self) -> bool
+        ensures { result ≡ is_idle self.now }
+    {
+        self.state() == State::Idle
     }
 
     /// The id of the transaction.
@@ -156,10 +184,6 @@ impl Side {
     pub fn idle_again(&self, alloc: Global) -> Result<Side, OutOfMemory>
         ensures { IfOk result (λ idle. idle ≡ idle_of self.now) }
     {
-        let txn = self.txn().copy(alloc)?;
-        Ok(match self {
-            Side::Requester(_) => Side::Requester(Requester::idle(alloc, txn)),
-            Side::Responder(_) => Side::Responder(Responder::idle(alloc, txn)),
-        })
+        Ok(Side::idle(alloc, self.role(), self.txn().copy(alloc)?))
     }
 }

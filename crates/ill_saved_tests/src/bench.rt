@@ -43,6 +43,7 @@ impl<'a> Answers for Bench<'a> {
             WordsCall::Next => self.plan(line, words),
             WordsCall::Create => self.create(line, words),
             WordsCall::Start => self.start(line),
+            WordsCall::Close => self.close(line),
             call => desks::call(self.alloc, line, self.desk.as_mut()?, call, words),
         }
     }
@@ -111,6 +112,14 @@ impl<'a> Bench<'a> {
         let store = self.store.take()?;
         let answer = Desk1::start(self.alloc, store);
         self.begin(line, answer);
+        Some(())
+    }
+
+    /// `close`: lays the store of the desk there, with what has landed in it.
+    fn close(&mut self, line: &mut Line) -> Option<()> {
+        let store = self.desk.take()?.close();
+        drop(self.store.replace(store));
+        line.text("closed");
         Some(())
     }
 

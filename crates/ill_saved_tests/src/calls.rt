@@ -47,12 +47,13 @@ pub enum WordsCall {
     Next,
     Create,
     Start,
+    Close,
     Act,
     Message,
     Restart,
 }
 
-static CALLS: [(&str, Call); 21] = [
+static CALLS: [(&str, Call); 22] = [
     ("", Call::Note),
     ("#", Call::Note),
     ("let", Call::Let),
@@ -70,6 +71,7 @@ static CALLS: [(&str, Call); 21] = [
     ("next", Call::Case(CaseCall::Words(WordsCall::Next))),
     ("create", Call::Case(CaseCall::Words(WordsCall::Create))),
     ("start", Call::Case(CaseCall::Words(WordsCall::Start))),
+    ("close", Call::Case(CaseCall::Words(WordsCall::Close))),
     ("act", Call::Case(CaseCall::Words(WordsCall::Act))),
     ("message", Call::Case(CaseCall::Words(WordsCall::Message))),
     ("restart", Call::Case(CaseCall::Words(WordsCall::Restart))),

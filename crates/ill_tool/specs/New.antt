@@ -2,27 +2,16 @@
 use Rattle.std.specs.Prelude.{◌≡◌, ◌⊎◌, ℕ, false, List, [], take, Option, None, Some, Result, Ok, Err}
 use Rattle.std.specs.Io.KnownBytes.{Appends}
 use Rattle.ill_values.specs.TxnId.{Qualifiers}
-use Rattle.ill_core.specs.declared.state.State.TheVariants.{Idle}
-use Rattle.ill_core.specs.Requester.{requester_of}
-use Rattle.ill_core.specs.Responder.{responder_of}
 use Rattle.ill_saved.specs.declared.side.Side.{Side}
-use Rattle.ill_saved.specs.declared.side.Side.TheVariants as sides
 use Rattle.ill_saved.specs.declared.fault.DeskFault.TheVariants.{Exists, Store}
 use Rattle.ill_saved.specs.declared.store.StoreFault.TheVariants.{Failed}
 use Rattle.ill_saved.specs.declared.store.NextCall.{NextCall}
 use Rattle.ill_saved.specs.Records.{record_spelling}
 use Rattle.ill_saved.specs.Store.{Allows, LandsAtFailure}
-use Rattle.ill_world.specs.declared.event.Who.{Who}
-use Rattle.ill_world.specs.declared.event.Who.TheVariants.{Requester, Responder}
 use Rattle.ill_world.specs.declared.event.Outcome.TheVariants.{Done}
 use Rattle.ill_tool.specs.declared.fault.ToolFault.{ToolFault}
 use Rattle.ill_tool.specs.declared.fault.ToolFault.TheVariants.{Desk, Write, OutOfMemory}
 use Rattle.ill_tool.specs.DeskView.{side_line}
-
--- the side of a role before its first message
-abbrev pub first_side : Who → Qualifiers → Side
-first_side Requester txn = sides.Requester (requester_of txn Idle None false None [])
-first_side Responder txn = sides.Responder (responder_of txn Idle None None None false None [])
 
 -- the line of a side that was saved before its first message
 abbrev pub first_line : Side → List ℕ

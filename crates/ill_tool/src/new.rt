@@ -1,16 +1,15 @@
 //! The command `new`.
 
 ghost use Rattle.std.specs.Prelude.{◌≡◌, ◌⊎◌, true, IfOk};
-ghost use Rattle.ill_saved.specs.Side.{idle_of};
+ghost use Rattle.ill_saved.specs.Side.{idle_of, idle_side};
 ghost use Rattle.ill_saved.specs.Records.{record_spelling};
 ghost use Rattle.ill_saved.specs.Store.{spent};
 ghost use Rattle.ill_saved.specs.Desk.{answer_of, store_of};
 ghost use Rattle.ill_tool.specs.DeskView.{CountsToolFailure};
-ghost use Rattle.ill_tool.specs.New.{first_side, RunsNew, LandsFirst, BeginsOver};
+ghost use Rattle.ill_tool.specs.New.{RunsNew, LandsFirst, BeginsOver};
 
 use crate::fault::ToolFault;
 use crate::side_line::report;
-use ill_core::{Requester, Responder};
 use ill_saved::{Desk1, Side, Store};
 use ill_values::TxnId;
 use ill_world::{Outcome, Who};
@@ -29,35 +28,24 @@ pub fn run_new<S: Store, W: Write>(
     txn: TxnId,
     writer: &mut W,
 ) -> Result<Desk1<S>, (ToolFault, S)>
-    ensures runs { RunsNew (first_side role txn)
+    ensures runs { RunsNew (idle_side role txn)
         (W.contents writer.old) (W.contents writer.new) (answer_of result) }
     ensures begins { IfOk result (λ desk.
-        (desk.live ≡ first_side role txn) × (desk.released ≡ 0)) }
+        (desk.live ≡ idle_side role txn) × (desk.released ≡ 0)) }
     ensures lands { S.is_honest store ≡ true →
-        BeginsOver (first_side role txn) (S.plan store) (S.landed store) (answer_of result)
+        BeginsOver (idle_side role txn) (S.plan store) (S.landed store) (answer_of result)
         (S.landed (store_of result)) }
     ensures plan { S.plan (store_of result) ≡ spent (S.plan store) }
     ensures counted { CountsToolFailure (answer_of result) (S.failures store)
         (S.failures (store_of result)) }
     ensures honest { S.is_honest (store_of result) ≡ S.is_honest store }
 {
-    match Desk1::create(alloc, store, first_side(alloc, role, txn)) {
+    match Desk1::create(alloc, store, Side::idle(alloc, role, txn)) {
         Ok(mut desk) => match begin(alloc, &mut desk, writer) {
             Ok(()) => Ok(desk),
             Err(fault) => Err((fault, desk.close())),
         },
         Err((fault, store)) => Err((fault.into(), store)),
-    }
-}
-
-/// The side of a role before its first message.
-fn first_side(alloc: Global, role: Who, txn: TxnId) -> Side
-    ensures value { result ≡ first_side role txn }
-    ensures idle { result ≡ idle_of result }
-{
-    match role {
-        Who::Requester => Side::Requester(Requester::idle(alloc, txn)),
-        Who::Responder => Side::Responder(Responder::idle(alloc, txn)),
     }
 }
 

@@ -12,14 +12,14 @@ use Rattle.ill_core.specs.ResponderDeliveries as responder_deliveries
 use Rattle.ill_saved.specs.declared.side.Side.{Side}
 use Rattle.ill_saved.specs.declared.side.Side.TheVariants as sides
 use Rattle.ill_saved.specs.declared.side.Action.TheVariants as actions
-use Rattle.ill_saved.specs.Side.{acts, takes}
-use Rattle.ill_world.specs.declared.event.Who.{Who}
-use Rattle.ill_world.specs.declared.event.Who.TheVariants as who
+use Rattle.ill_saved.specs.Side.{acts, takes, other}
+use Rattle.ill_saved.specs.declared.role.Role.{Role as Who}
+use Rattle.ill_saved.specs.declared.role.Role.TheVariants as who
 use Rattle.ill_world.specs.declared.event.Event.{Event}
 use Rattle.ill_world.specs.declared.event.Event.TheVariants as events
 use Rattle.ill_world.specs.declared.event.Outcome.{Outcome}
 use Rattle.ill_world.specs.declared.event.Outcome.TheVariants.{Done, Saved, Faulted, Sent, Answered, Restarted}
-use Rattle.ill_world.specs.World.{Party, Parties, party, other, with_party, who_of, sent_message, decides, sends, answer_to, receives, hears, happens_to, happens, run_of}
+use Rattle.ill_world.specs.World.{Party, Parties, party, with_party, who_of, sent_message, decides, sends, answer_to, receives, hears, happens_to, happens, run_of}
 use Rattle.ill_world.specs.Changes.{OnlyLands, OnlyLandedChanges, MayChange, KeepsSent}
 use Rattle.ill_world.specs.Invariant.{SendsSaved, Stands}
 use Rattle.ill_world.proofs.Kept.{stays_sent}

@@ -10,11 +10,13 @@ use Rattle.ill_core.specs.declared.requester.Wish.{Wish}
 use Rattle.ill_core.specs.declared.responder.Deed.{Deed}
 use Rattle.ill_core.specs.Issued.{are_numbered}
 use Rattle.ill_core.specs.Numbers.{are_distinct}
-use Rattle.ill_core.specs.Requester.{RequesterRecord, IsRequester, requester_of}
+use Rattle.ill_core.specs.Requester.{RequesterRecord, requester_of}
+use Rattle.ill_core.specs.RequesterRules.{RequesterRules}
 use Rattle.ill_core.specs.RequesterActions as requester_actions
 use Rattle.ill_core.specs.RequesterDeliveries as requester_deliveries
 use Rattle.ill_core.specs.RequesterFacts as requester
-use Rattle.ill_core.specs.Responder.{ResponderRecord, IsResponder, responder_of, rise_from, ships_first}
+use Rattle.ill_core.specs.ResponderRules.{ResponderRules}
+use Rattle.ill_core.specs.Responder.{ResponderRecord, responder_of, rise_from, ships_first}
 use Rattle.ill_core.specs.ResponderActions as responder_actions
 use Rattle.ill_core.specs.ResponderDeliveries as responder_deliveries
 use Rattle.ill_core.specs.ResponderFacts as responder
@@ -22,10 +24,10 @@ use Rattle.ill_saved.specs.declared.side.Side.{Side}
 use Rattle.ill_saved.specs.declared.side.Side.TheVariants as sides
 use Rattle.ill_saved.specs.declared.side.Action.{Action}
 use Rattle.ill_saved.specs.declared.side.Action.TheVariants as actions
-use Rattle.ill_saved.specs.Side.{done_by, acts, takes, issued_of}
-use Rattle.ill_world.specs.World.{Parties, first_party, first_world, with_party, party, other, who_of, happens, happens_to, sent_message}
-use Rattle.ill_world.specs.declared.event.Who.{Who}
-use Rattle.ill_world.specs.declared.event.Who.TheVariants as who
+use Rattle.ill_saved.specs.Side.{done_by, acts, takes, issued_of, other}
+use Rattle.ill_world.specs.World.{Parties, first_party, first_world, with_party, party, who_of, happens, happens_to, sent_message}
+use Rattle.ill_saved.specs.declared.role.Role.{Role as Who}
+use Rattle.ill_saved.specs.declared.role.Role.TheVariants as who
 use Rattle.ill_world.specs.declared.event.Event.{Event}
 use Rattle.ill_world.specs.Invariant.{WasSent, RequesterStands, ResponderStands, RequesterSideStands, ResponderSideStands, PartyStands, Stands}
 use Rattle.ill_world.proofs.DueDates.{RowsKeepDue, due_after}
@@ -61,11 +63,11 @@ responder_shows_nothing txn (responder.CancelAsked cancel) shows = search rules
 responder_shows_nothing txn responder.Arrived shows = search rules
 responder_shows_nothing txn responder.SentBack shows = search rules
 
-requester_rules : (txn : Qualifiers) → IsRequester (requester_of txn Idle None false None [])
+requester_rules : (txn : Qualifiers) → RequesterRules (requester_of txn Idle None false None [])
 unfolding are_numbered
 requester_rules txn = search rules
 
-responder_rules : (txn : Qualifiers) → IsResponder (responder_of txn Idle None None None false None [])
+responder_rules : (txn : Qualifiers) → ResponderRules (responder_of txn Idle None None None false None [])
 unfolding are_numbered rise_from ships_first
 responder_rules txn = search rules
 

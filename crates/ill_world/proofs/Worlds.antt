@@ -1,34 +1,27 @@
 -- The first world, and one event of a world.
-use Rattle.std.proofs.Common.{◌≡◌, inl, inr, None, false, [], Result, Ok, Err, refl, sym, ap, ◌∙◌, subst}
+use Rattle.std.proofs.Common.{◌≡◌, inl, inr, Result, Ok, Err, refl, sym, ap, ◌∙◌, subst}
 use Rattle.ill_values.specs.TxnId.{Qualifiers}
-use Rattle.ill_core.specs.declared.state.State.TheVariants.{Idle}
-use Rattle.ill_core.specs.Requester.{RequesterRecord, requester_of}
-use Rattle.ill_core.specs.Responder.{ResponderRecord, responder_of}
-use Rattle.ill_saved.specs.declared.side.Side.TheVariants as sides
-use Rattle.ill_world.specs.declared.event.Who.{Who}
-use Rattle.ill_world.specs.declared.event.Who.TheVariants as who
+use Rattle.ill_saved.specs.declared.side.Side.{Side}
+use Rattle.ill_saved.specs.declared.role.Role.{Role as Who}
+use Rattle.ill_saved.specs.declared.role.Role.TheVariants as who
 use Rattle.ill_world.specs.declared.event.Event.{Event}
 use Rattle.ill_world.specs.declared.event.Event.TheVariants as events
 use Rattle.ill_world.specs.declared.event.Outcome.{Outcome}
-use Rattle.ill_world.specs.World.{Party, Parties, first_party, first_world, party, with_party, other, who_of, happens_to, happens}
+use Rattle.ill_world.specs.World.{Party, Parties, first_party, first_world, party, with_party, who_of, happens_to, happens}
+use Rattle.ill_saved.specs.Side.{idle_side, other}
 use Rattle.ill_world.specs.PartyView.{Gives}
 use Rattle.ill_world.specs.Invariant.{Stands}
 use Rattle.ill_world.specs.Agreement.{KeepsDates}
 
-first_requester : (txn t : Qualifiers) (x : RequesterRecord) (p : Party) → t ≡ txn → x ≡ requester_of t Idle None false None [] → p ≡ first_party (sides.Requester x)
-    → p ≡ (first_world txn).requester
-first_requester txn t x p copied idle new = new ∙ ap (λ x. first_party (sides.Requester x)) (idle ∙ ap (λ t. requester_of t Idle None false None []) copied)
+first_side : (role : Who) (txn t : Qualifiers) (side : Side) (p : Party) → t ≡ txn → side ≡ idle_side role t → p ≡ first_party side → p ≡ party (first_world txn) role
+first_side who.Requester txn t side p copied idle new = new ∙ ap first_party (idle ∙ ap (idle_side who.Requester) copied)
+first_side who.Responder txn t side p copied idle new = new ∙ ap first_party (idle ∙ ap (idle_side who.Responder) copied)
 
-first_responder : (txn t : Qualifiers) (y : ResponderRecord) (p : Party) → t ≡ txn → y ≡ responder_of t Idle None None None false None [] → p ≡ first_party (sides.Responder y)
-    → p ≡ (first_world txn).responder
-first_responder txn t y p copied idle new = new ∙ ap (λ y. first_party (sides.Responder y)) (idle ∙ ap (λ t. responder_of t Idle None None None false None []) copied)
-
-pub first_is : (txn t u : Qualifiers) (x : RequesterRecord) (y : ResponderRecord) (p q : Party) → t ≡ txn → u ≡ txn → x ≡ requester_of t Idle None false None []
-    → y ≡ responder_of u Idle None None None false None [] → p ≡ first_party (sides.Requester x) → q ≡ first_party (sides.Responder y)
-    → ◌≡◌ {A = Parties} (record { requester = p; responder = q }) (first_world txn)
+pub first_is : (txn t u : Qualifiers) (x y : Side) (p q : Party) → t ≡ txn → u ≡ txn → x ≡ idle_side who.Requester t → y ≡ idle_side who.Responder u
+    → p ≡ first_party x → q ≡ first_party y → ◌≡◌ {A = Parties} (record { requester = p; responder = q }) (first_world txn)
 first_is txn t u x y p q copied again idle_x idle_y new_x new_y =
-    ap (λ p. record { requester = p; responder = q }) (first_requester txn t x p copied idle_x new_x)
-    ∙ ap (λ q. record { requester = (first_world txn).requester; responder = q }) (first_responder txn u y q again idle_y new_y)
+    ap (λ p. record { requester = p; responder = q }) (first_side who.Requester txn t x p copied idle_x new_x)
+    ∙ ap (λ q. record { requester = (first_world txn).requester; responder = q }) (first_side who.Responder txn u y q again idle_y new_y)
 
 -- ---- one event of the world, by one of a party
 

@@ -19,7 +19,7 @@ use Rattle.ill_core.specs.Responder.{ResponderRecord, due_of}
 use Rattle.ill_saved.specs.declared.side.Side.{Side}
 use Rattle.ill_saved.specs.declared.side.Side.TheVariants as sides
 use Rattle.ill_saved.specs.Side.{state_of, due_date_of, issued_of}
-use Rattle.ill_world.specs.declared.event.Who.TheVariants.{Requester, Responder}
+use Rattle.ill_saved.specs.declared.role.Role.TheVariants.{Requester, Responder}
 use Rattle.ill_world.specs.declared.event.Event.{Event}
 use Rattle.ill_world.specs.declared.event.Event.TheVariants.{Deliver, Restart}
 use Rattle.ill_world.specs.declared.event.Outcome.{Outcome}

@@ -4,8 +4,10 @@ use Rattle.std.specs.Prelude.{◌≡◌, ℕ, ◌≤◌, List, length, Option, S
 use Rattle.ill_values.specs.TxnId.{Qualifiers}
 use Rattle.ill_values.specs.declared.apdu.Apdu.{Apdu}
 use Rattle.ill_core.specs.Issued.{message}
-use Rattle.ill_core.specs.Requester.{RequesterRecord, IsRequester}
-use Rattle.ill_core.specs.Responder.{ResponderRecord, IsResponder}
+use Rattle.ill_core.specs.Requester.{RequesterRecord}
+use Rattle.ill_core.specs.RequesterRules.{RequesterRules}
+use Rattle.ill_core.specs.Responder.{ResponderRecord}
+use Rattle.ill_core.specs.ResponderRules.{ResponderRules}
 use Rattle.ill_core.specs.RequesterFacts as requester
 use Rattle.ill_core.specs.RequesterFacts.{KeepsDue}
 use Rattle.ill_core.specs.ResponderFacts as responder
@@ -32,7 +34,7 @@ ResponderKnows y sent =
 -- A requester's record keeps its rules, answers conditions once, and shows what was sent to it.
 pub record RequesterStands (txn : Qualifiers) (x : RequesterRecord) (sent : List (Option Apdu)) : Type 0 where
   pub same_txn : x.txn ≡ txn
-  pub rules : IsRequester x
+  pub rules : RequesterRules x
   pub replies : requester.AnswersOnce x
   pub knows : RequesterKnows x sent
 
@@ -40,7 +42,7 @@ pub record RequesterStands (txn : Qualifiers) (x : RequesterRecord) (sent : List
 -- what was sent to it.
 pub record ResponderStands (txn : Qualifiers) (y : ResponderRecord) (sent : List (Option Apdu)) : Type 0 where
   pub same_txn : y.txn ≡ txn
-  pub rules : IsResponder y
+  pub rules : ResponderRules y
   pub ends : responder.EndsOnce y
   pub cancels : responder.AnswersOnce responder.MayCancel y
   pub renewals : responder.AnswersOnce responder.MayRenew y

@@ -1,7 +1,7 @@
 -- What a line of a script says (this profile's own).
 use Rattle.std.specs.Prelude.{ℕ, Bool, false, not, ◌==◌, if◌then◌else◌, List, [], ◌∷◌, length, bytes_eq, codes, Option, Some, None, option_map}
 use Rattle.std.specs.List.{slice_split, filter}
-use Rattle.ill_world.specs.declared.event.Who.{Who}
+use Rattle.ill_saved.specs.declared.role.Role.{Role as Who}
 use Rattle.ill_world.specs.declared.event.Event.{Event}
 use Rattle.ill_world.specs.declared.event.Event.TheVariants.{Wish, Deed, Save, SaveFault, Send, Deliver, Noise, Restart}
 use Rattle.ill_world.specs.declared.script.Line.{Line}

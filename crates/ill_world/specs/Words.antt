@@ -13,8 +13,8 @@ use Rattle.ill_core.specs.declared.requester.Wish.{Wish}
 use Rattle.ill_core.specs.declared.requester.Wish.TheVariants.{Request, Cancel, Reply, Receive, Renew, Return}
 use Rattle.ill_core.specs.declared.responder.Deed.{Deed}
 use Rattle.ill_core.specs.declared.responder.Deed.TheVariants.{Answer, CancelReply, Ship, RenewAnswer, Overdue, Recall, CheckIn, Expire}
-use Rattle.ill_world.specs.declared.event.Who.{Who}
-use Rattle.ill_world.specs.declared.event.Who.TheVariants.{Requester, Responder}
+use Rattle.ill_saved.specs.declared.role.Role.{Role as Who}
+use Rattle.ill_saved.specs.declared.role.Role.TheVariants.{Requester, Responder}
 
 -- one step after another, as long as each gives a value
 infixl 10 ◌>>=◌

@@ -7,19 +7,15 @@ use Rattle.ill_values.specs.declared.apdu.Apdu.{Apdu}
 use Rattle.ill_values.specs.TxnId.{Qualifiers}
 use Rattle.ill_der.specs.declared.fault.DerFault.{DerFault}
 use Rattle.ill_der.specs.ShortForm.{apdu_at}
-use Rattle.ill_core.specs.declared.state.State.TheVariants.{Idle}
 use Rattle.ill_core.specs.declared.refusal.Refusal.{Refusal}
 use Rattle.ill_core.specs.declared.refusal.Refusal.TheVariants.{OtherTransaction}
 use Rattle.ill_core.specs.declared.taking.Taking.{Taking}
 use Rattle.ill_core.specs.Issued.{message, is_same_txn}
-use Rattle.ill_core.specs.Requester.{requester_of}
-use Rattle.ill_core.specs.Responder.{responder_of}
 use Rattle.ill_saved.specs.declared.side.Side.{Side}
-use Rattle.ill_saved.specs.declared.side.Side.TheVariants as sides
 use Rattle.ill_saved.specs.declared.side.Action.TheVariants as actions
-use Rattle.ill_saved.specs.Side.{issued_of, txn_of, acts, takes}
-use Rattle.ill_world.specs.declared.event.Who.{Who}
-use Rattle.ill_world.specs.declared.event.Who.TheVariants.{Requester, Responder}
+use Rattle.ill_saved.specs.Side.{issued_of, txn_of, idle_side, other, acts, takes}
+use Rattle.ill_saved.specs.declared.role.Role.{Role as Who}
+use Rattle.ill_saved.specs.declared.role.Role.TheVariants.{Requester, Responder}
 use Rattle.ill_world.specs.declared.event.Event.{Event}
 use Rattle.ill_world.specs.declared.event.Event.TheVariants.{Wish, Deed, Save, SaveFault, Send, Deliver, Noise, Restart}
 use Rattle.ill_world.specs.declared.event.Outcome.{Outcome}
@@ -47,13 +43,9 @@ first_party idle = record { live = idle; landed = idle; released = 0; sent = rep
 -- the two idle sides of a transaction
 abbrev pub first_world : Qualifiers → Parties
 first_world txn = record {
-  requester = first_party (sides.Requester (requester_of txn Idle None false None []));
-  responder = first_party (sides.Responder (responder_of txn Idle None None None false None []));
+  requester = first_party (idle_side Requester txn);
+  responder = first_party (idle_side Responder txn);
 }
-
-abbrev pub other : Who → Who
-other Requester = Responder
-other Responder = Requester
 
 abbrev pub party : Parties → Who → Party
 party w Requester = w.requester

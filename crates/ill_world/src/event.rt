@@ -1,33 +1,15 @@
 //! What may happen to two sides, and what is seen of it.
 
 ghost use Rattle.std.specs.Prelude.{◌≡◌};
-ghost use Rattle.ill_world.specs.World.{who_of, other};
+ghost use Rattle.ill_world.specs.World.{who_of};
 ghost use Rattle.ill_world.specs.Trace.{outcome_word, taking_word, refusal_word};
 
 use crate::bytes::Bytes;
 use ill_core::{Deed, Refusal, Taking, Wish};
 use ill_values::{Day, Number};
 
-/// One of the two sides.
-#[derive(Clone, Copy, Debug, PartialEq, Eq, Hash)]
-pub enum Who {
-    /// The side that asks for an item.
-    Requester,
-    /// The side that is asked for it.
-    Responder,
-}
-
-impl Who {
-    /// The other side.
-    pub fn other(self) -> Who
-        ensures { result ≡ other self }
-    {
-        match self {
-            Who::Requester => Who::Responder,
-            Who::Responder => Who::Requester,
-        }
-    }
-}
+/// To whom an event happens: each side is named by its role.
+pub use ill_saved::Role as Who;
 
 /// What may happen to one of the two sides.
 #[derive(Debug, PartialEq, Eq, Drop)]

@@ -23,9 +23,9 @@ ghost use Rattle.ill_world.specs.Invariant.{WasSent, RequesterStands, ResponderS
 
 use ill_core::laws::{
     requester_answers_once, requester_follows, requester_is_quiet, requester_keeps_due,
-    requester_keeps_rules, requester_keeps_txn, requester_shows, responder_answers_once,
-    responder_ends_once, responder_follows, responder_is_quiet, responder_keeps_rules,
-    responder_keeps_txn, responder_shows,
+    requester_keeps_rules, requester_keeps_txn, requester_rules, requester_shows,
+    responder_answers_once, responder_ends_once, responder_follows, responder_is_quiet,
+    responder_keeps_rules, responder_keeps_txn, responder_rules, responder_shows,
 };
 use ill_saved::laws::rows_grow;
 
@@ -40,6 +40,7 @@ pub fn requester_stands()
 {
     requester_keeps_txn();
     requester_keeps_rules();
+    requester_rules();
     requester_answers_once();
     requester_shows();
 }
@@ -55,6 +56,7 @@ pub fn responder_stands()
 {
     responder_keeps_txn();
     responder_keeps_rules();
+    responder_rules();
     responder_ends_once();
     responder_answers_once();
     responder_shows();

@@ -46,11 +46,11 @@ impl World {
         ensures { IfOk result (λ world. world ≡ model.first_world txn.now) }
     {
         world_stands();
-        let requester = Requester::idle(alloc, txn.copy(alloc)?);
-        let responder = Responder::idle(alloc, txn.copy(alloc)?);
+        let requester = Side::idle(alloc, Who::Requester, txn.copy(alloc)?);
+        let responder = Side::idle(alloc, Who::Responder, txn.copy(alloc)?);
         Ok(World {
-            requester: Party::new(alloc, Side::Requester(requester))?,
-            responder: Party::new(alloc, Side::Responder(responder))?,
+            requester: Party::new(alloc, requester)?,
+            responder: Party::new(alloc, responder)?,
         })
     }
 

@@ -1,6 +1,6 @@
 //! The requester's rows.
 
-ghost use Rattle.std.specs.Prelude.{◌≡◌, ◌⊎◌, ◌+◌, ◌&&◌, ℕ, List, [], ◌∷◌, ◌++◌, length, Option, Some, is_some, true, false, Ok};
+ghost use Rattle.std.specs.Prelude.{◌≡◌, ◌↔◌, ◌⊎◌, ◌+◌, ◌&&◌, ℕ, List, [], ◌∷◌, ◌++◌, length, Option, Some, is_some, true, false, Ok};
 ghost use Rattle.ill_values.specs.Day.{Date};
 ghost use Rattle.ill_values.specs.declared.apdu.Apdu.{Apdu};
 ghost use Rattle.ill_values.specs.declared.apdu.Body.{Body};
@@ -12,6 +12,7 @@ ghost use Rattle.ill_core.specs.State.{is_among};
 ghost use Rattle.ill_core.specs.Numbers.{is_the};
 ghost use Rattle.ill_core.specs.Issued.{is_same_txn, IssuesNext};
 ghost use Rattle.ill_core.specs.Requester.{RequesterRecord, IsRequester, later, last_cancel};
+ghost use Rattle.ill_core.specs.RequesterRules.{RequesterRules};
 ghost use Rattle.ill_core.specs.RequesterActions.{acts};
 ghost use Rattle.ill_core.specs.RequesterDeliveries.{takes};
 ghost use Rattle.ill_core.specs.RequesterFacts.{Fact, Shows, Tells, KeepsDue, Holds, Replies, LeadsTo, AnswersOnce};
@@ -36,6 +37,11 @@ pub fn requester_keeps_rules()
     ensures acts { (x new : RequesterRecord) (wish : Wish) → acts x wish ≡ Ok new →
         IsRequester x → IsRequester new }
     ensures takes { (x : RequesterRecord) (a : Apdu) → IsRequester x → IsRequester (takes x a).1 }
+{}
+
+/// The rules that such a record keeps, one by one.
+pub fn requester_rules()
+    ensures { (x : RequesterRecord) → IsRequester x ↔ RequesterRules x }
 {}
 
 /// A wish leads out of IDLE, and nothing leads back there.

@@ -1,6 +1,6 @@
 //! The responder's rows.
 
-ghost use Rattle.std.specs.Prelude.{◌≡◌, ◌⊎◌, ℕ, [], ◌∷◌, is_some, true, false, Ok};
+ghost use Rattle.std.specs.Prelude.{◌≡◌, ◌↔◌, ◌⊎◌, ℕ, [], ◌∷◌, is_some, true, false, Ok};
 ghost use Rattle.ill_values.specs.Day.{Date};
 ghost use Rattle.ill_values.specs.declared.apdu.Apdu.{Apdu};
 ghost use Rattle.ill_values.specs.declared.apdu.Body.TheVariants as types;
@@ -9,8 +9,10 @@ ghost use Rattle.ill_core.specs.declared.state.State.TheVariants as states;
 ghost use Rattle.ill_core.specs.declared.taking.Taking.TheVariants.{Taken};
 ghost use Rattle.ill_core.specs.State.{is_among};
 ghost use Rattle.ill_core.specs.Rules.{implies};
+ghost use Rattle.ill_core.specs.Bodies.{is_ill_request};
 ghost use Rattle.ill_core.specs.Issued.{is_same_txn, IssuesNext};
 ghost use Rattle.ill_core.specs.Responder.{ResponderRecord, IsResponder, later};
+ghost use Rattle.ill_core.specs.ResponderRules.{ResponderRules};
 ghost use Rattle.ill_core.specs.ResponderActions.{acts};
 ghost use Rattle.ill_core.specs.ResponderDeliveries.{takes};
 ghost use Rattle.ill_core.specs.ResponderFacts.{Fact, Shows, Tells, KeepsRequest, IssuesUnfilled, StaysLater, Ends, EntersByEnd, EndsOnce, Question, MayCancel, waits, last_asked, AnswersLast, KeepsLast, TakesNew, AnswersOnce, LeadsTo};
@@ -37,10 +39,12 @@ pub fn responder_keeps_request()
     ensures takes { (y : ResponderRecord) (a : Apdu) → KeepsRequest y (takes y a).1 }
 {}
 
-/// A deed leaves no responder in IDLE.
+/// A deed leaves no responder in IDLE, and neither does an ILL-Request that is taken.
 pub fn responder_has_begun()
-    ensures { (y new : ResponderRecord) (deed : Deed) (today : Date) → acts y deed today ≡ Ok new →
-        is_among (states.Idle ∷ []) new.state ≡ false }
+    ensures acts { (y new : ResponderRecord) (deed : Deed) (today : Date) →
+        acts y deed today ≡ Ok new → is_among (states.Idle ∷ []) new.state ≡ false }
+    ensures takes { (y : ResponderRecord) (a : Apdu) → is_ill_request a.body ≡ true →
+        (takes y a).0 ≡ Ok Taken → is_among (states.Idle ∷ []) (takes y a).1.state ≡ false }
 {}
 
 /// A record that keeps the rules of a responder keeps them.
@@ -48,6 +52,11 @@ pub fn responder_keeps_rules()
     ensures acts { (y new : ResponderRecord) (deed : Deed) (today : Date) →
         acts y deed today ≡ Ok new → IsResponder y → IsResponder new }
     ensures takes { (y : ResponderRecord) (a : Apdu) → IsResponder y → IsResponder (takes y a).1 }
+{}
+
+/// The rules that such a record keeps, one by one.
+pub fn responder_rules()
+    ensures { (y : ResponderRecord) → IsResponder y ↔ ResponderRules y }
 {}
 
 /// A message that is not taken changes nothing.

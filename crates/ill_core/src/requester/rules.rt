@@ -1,11 +1,11 @@
 //! Which parts make a requester.
 
-ghost use Rattle.std.specs.Prelude.{◌≡◌, ◌↔◌, true, false, [], ◌∷◌, is_some};
+ghost use Rattle.std.specs.Prelude.{◌≡◌, ◌&&◌, false, [], ◌∷◌, is_some};
 ghost use Rattle.std.specs.List.{list_all};
 ghost use Rattle.ill_core.specs.declared.state.State.TheVariants as states;
 ghost use Rattle.ill_core.specs.State.{is_among};
 ghost use Rattle.ill_core.specs.Bodies.{is_requesters};
-ghost use Rattle.ill_core.specs.Requester.{PartsFit, IssuedFits, IssuedKeepsRules, begins_with_request};
+ghost use Rattle.ill_core.specs.Requester.{parts_fit, issued_fits, issued_keeps_rules, begins_with_request};
 
 use super::{Standing, is_later};
 use crate::body::{is_ill_request, is_requesters};
@@ -17,9 +17,9 @@ use ill_values::Apdu;
 
 /// Whether these parts fit together, and with what was issued.
 pub fn fit_together(standing: &Standing, apdus: &[Apdu]) -> bool
-    ensures { (result ≡ true) ↔ (PartsFit standing.now.state (is_some standing.now.held)
+    ensures { result ≡ (parts_fit standing.now.state (is_some standing.now.held)
         (is_some standing.now.due) standing.now.checked_in
-        × IssuedKeepsRules standing.now.state apdus.now) }
+        && issued_keeps_rules standing.now.state apdus.now) }
 {
     let state = standing.state;
     if !parts_fit(
@@ -36,7 +36,7 @@ pub fn fit_together(standing: &Standing, apdus: &[Apdu]) -> bool
 /// Whether what was issued keeps the rules of a requester in this state.
 fn are_kept(state: State, apdus: &[Apdu]) -> bool
     requires role { is_among (states.InProcess ∷ states.CheckedIn ∷ []) state ≡ false }
-    ensures { (result ≡ true) ↔ IssuedKeepsRules state apdus.now }
+    ensures { result ≡ issued_keeps_rules state apdus.now }
 {
     if !is_role(apdus) {
         return false;
@@ -66,7 +66,7 @@ fn begins_with_request(apdus: &[Apdu]) -> bool
 
 /// Whether the state has the conditions, the due date and the mark that it wants, and no more.
 fn parts_fit(state: State, held: bool, due: bool, checked_in: bool) -> bool
-    ensures { (result ≡ true) ↔ PartsFit state held due checked_in }
+    ensures { result ≡ parts_fit state held due checked_in }
 {
     match state {
         State::InProcess | State::CheckedIn => false,
@@ -79,7 +79,7 @@ fn parts_fit(state: State, held: bool, due: bool, checked_in: bool) -> bool
 /// Whether what was issued fits the state.
 fn issued_fits(state: State, apdus: &[Apdu]) -> bool
     requires role { is_among (states.InProcess ∷ states.CheckedIn ∷ []) state ≡ false }
-    ensures { (result ≡ true) ↔ IssuedFits state apdus.now }
+    ensures { result ≡ issued_fits state apdus.now }
 {
     let received = has_received(apdus);
     let returned = has_returned(apdus);

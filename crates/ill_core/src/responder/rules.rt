@@ -1,10 +1,10 @@
 //! Which parts make a responder.
 
-ghost use Rattle.std.specs.Prelude.{◌≡◌, ◌↔◌, true, false, not, ◌&&◌, is_some};
+ghost use Rattle.std.specs.Prelude.{◌≡◌, false, not, ◌&&◌, is_some};
 ghost use Rattle.std.specs.List.{list_all, filter_map, count_by};
 ghost use Rattle.ill_core.specs.Bodies.{is_requesters, is_shipped};
 ghost use Rattle.ill_core.specs.Issued.{granted_day, is_none};
-ghost use Rattle.ill_core.specs.Responder.{rises, PartsFit, IssuedFits, IssuedKeepsRules, is_request_of, is_named, are_rising, ships_first, ends_with_conditions};
+ghost use Rattle.ill_core.specs.Responder.{rises, parts_fit, issued_fits, issued_keeps_rules, is_request_of, is_named, are_rising, ships_first, ends_with_conditions};
 
 use super::{Standing, is_later};
 use crate::body::{
@@ -16,10 +16,10 @@ use ill_values::{Apdu, Day, Number, TxnId};
 
 /// Whether these parts fit together, with the request and with what was issued.
 pub fn fit_together(standing: &Standing, is_asked: bool, apdus: &[Apdu]) -> bool
-    ensures { (result ≡ true) ↔ (PartsFit standing.now.state is_asked
+    ensures { result ≡ (parts_fit standing.now.state is_asked
         (is_some standing.now.accepted) (is_some standing.now.last_cancel)
         (is_some standing.now.last_renew) standing.now.received (is_none apdus.now)
-        × IssuedKeepsRules standing.now.state standing.now.accepted apdus.now) }
+        && issued_keeps_rules standing.now.state standing.now.accepted apdus.now) }
 {
     let present = Present {
         request: is_asked,
@@ -37,7 +37,7 @@ pub fn fit_together(standing: &Standing, is_asked: bool, apdus: &[Apdu]) -> bool
 
 /// Whether what was issued keeps the rules of a responder in this state.
 fn are_kept(state: State, accepted: &Option<Number>, apdus: &[Apdu]) -> bool
-    ensures { (result ≡ true) ↔ IssuedKeepsRules state accepted.now apdus.now }
+    ensures { result ≡ issued_keeps_rules state accepted.now apdus.now }
 {
     if !is_role(apdus) {
         return false;
@@ -90,7 +90,7 @@ struct Present {
 
 /// Whether the state has the parts that it wants.
 fn parts_fit(state: State, present: Present) -> bool
-    ensures { (result ≡ true) ↔ PartsFit state present.request present.accepted present.last_cancel
+    ensures { result ≡ parts_fit state present.request present.accepted present.last_cancel
         present.last_renew present.received present.nothing_issued }
 {
     match state {
@@ -130,7 +130,7 @@ pub fn is_named(accepted: &Option<Number>, apdus: &[Apdu]) -> bool
 
 /// Whether what was issued fits the state.
 pub fn issued_fits(state: State, apdus: &[Apdu]) -> bool
-    ensures { (result ≡ true) ↔ IssuedFits state apdus.now }
+    ensures { result ≡ issued_fits state apdus.now }
 {
     if shipped_count(apdus) != usize::from(is_later(state)) {
         return false;

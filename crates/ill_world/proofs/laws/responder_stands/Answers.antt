@@ -7,7 +7,7 @@ pub returns-clause-acts : goal.returns-clause-acts
 returns-clause-acts c =
     λ txn y new deed today sent done stands. record {
       same_txn = c.responder_keeps_txn.ensures.acts y new deed today done ∙ stands.same_txn;
-      rules = c.responder_keeps_rules.ensures.acts y new deed today done stands.rules;
+      rules = (c.responder_rules.ensures new).0 (c.responder_keeps_rules.ensures.acts y new deed today done ((c.responder_rules.ensures y).1 stands.rules));
       ends = c.responder_ends_once.ensures.acts y new deed today done stands.ends;
       cancels = c.responder_answers_once.ensures.acts MayCancel y new deed today done (cancel_is_there y.state _ stands.rules.parts.cancel) stands.cancels;
       renewals = c.responder_answers_once.ensures.acts MayRenew y new deed today done stands.rules.parts.renew stands.renewals;
@@ -18,7 +18,7 @@ pub returns-clause-takes : goal.returns-clause-takes
 returns-clause-takes c =
     λ txn y a sent was stands. record {
       same_txn = c.responder_keeps_txn.ensures.takes y a ∙ stands.same_txn;
-      rules = c.responder_keeps_rules.ensures.takes y a stands.rules;
+      rules = (c.responder_rules.ensures _).0 (c.responder_keeps_rules.ensures.takes y a ((c.responder_rules.ensures y).1 stands.rules));
       ends = c.responder_ends_once.ensures.takes y a stands.ends;
       cancels = c.responder_answers_once.ensures.takes MayCancel y a stands.cancels;
       renewals = c.responder_answers_once.ensures.takes MayRenew y a stands.renewals;

@@ -1,5 +1,8 @@
-use Rattle.ill_core.proofs.ResponderLaws.{acts_begun}
+use Rattle.ill_core.proofs.ResponderLaws.{acts_begun, request_begins}
 use Rattle.ill_core.proofs.laws.responder.responder_has_begun.Goals as goal
 
-pub returns : goal.returns
-returns c = acts_begun
+pub returns-clause-acts : goal.returns-clause-acts
+returns-clause-acts c = acts_begun
+
+pub returns-clause-takes : goal.returns-clause-takes
+returns-clause-takes c = request_begins

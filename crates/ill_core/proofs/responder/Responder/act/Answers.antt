@@ -4,6 +4,7 @@ use Rattle.ill_core.specs.Responder.{ResponderRecord, responder_of, IsResponder}
 use Rattle.ill_core.specs.ResponderActions.{acts}
 use Rattle.ill_core.specs.ResponderTables.{deed_row, check_date, deed_body, after_deed}
 use Rattle.ill_core.proofs.ResponderTable.{acts_this, acts_forbidden, acts_numberless, acts_wanting, deed_kept, deed_is}
+use Rattle.ill_core.proofs.Rules.{responder_rules}
 use Rattle.ill_core.proofs.responder.Responder.act.Goals as goal
 
 pub returns-in_err-check_date : goal.returns-in_err-check_date
@@ -29,6 +30,12 @@ returns-in_err-issue c =
     let date : check_date y c.args.deed.now c.args.today ≡ Ok tt = search rules in
     let next : next_number y.issued ≡ Ok c.in_ok-number.number = search rules in
     search (rules, acts_wanting y c.args.deed.now c.args.today row c.in_ok-number.number has date next)
+
+pub body_of-body-requires : goal.body_of-body-requires
+body_of-body-requires c =
+    let r = c.self.inside in
+    let y : ResponderRecord = responder_of r.issued.txn r.standing.state r.standing.accepted r.standing.last_cancel r.standing.last_renew r.standing.received r.request r.issued.apdus in
+    search (rules, responder_rules y c.self.invariant)
 
 pub invariant_of-self-2 : goal.invariant_of-self-2
 invariant_of-self-2 c =

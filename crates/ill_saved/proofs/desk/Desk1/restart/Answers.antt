@@ -1,4 +1,4 @@
-use Rattle.std.proofs.Common.{rules, ◌≡◌, true, false, Vec, Global, Option, List, ℕ, Ok, Err, subst}
+use Rattle.std.proofs.Common.{rules, ◌≡◌, true, Vec, Global, Option, List, ℕ, Ok, Err, subst}
 use Rattle.std.specs.Prelude.{option_map}
 use Rattle.ill_saved.specs.Desk.{landed_side, Restarts}
 use Rattle.ill_saved.specs.Store.{Allows}

@@ -1,7 +1,7 @@
 use Rattle.std.proofs.Common.{sym, subst}
 use Rattle.ill_saved.specs.declared.side.Side.TheVariants as sides
 use Rattle.ill_saved.specs.Side.{Takes}
-use Rattle.ill_saved.proofs.Sides.{requester_takes}
+use Rattle.ill_saved.proofs.Roles.{requester_takes}
 use Rattle.ill_saved.proofs.side.Side.take.Goals as goal
 
 pub returns-in-Requester : goal.returns-in-Requester

@@ -1,5 +1,5 @@
 use Rattle.std.proofs.Common.{sym, ◌∙◌, subst}
-use Rattle.ill_world.specs.declared.event.Who.TheVariants as who
+use Rattle.ill_saved.specs.declared.role.Role.TheVariants as who
 use Rattle.ill_world.specs.World.{Parties, happens}
 use Rattle.ill_world.specs.Agreement.{KeepsDates, Arrives}
 use Rattle.ill_world.specs.PartyView.{Gives}

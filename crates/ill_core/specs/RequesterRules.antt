@@ -1,0 +1,48 @@
+-- The rules of a requester's record one by one, as what is known of a record that keeps them.
+use Rattle.std.specs.Prelude.{◌≡◌, Bool, true, false, not, List, [], ◌∷◌, is_some}
+use Rattle.std.specs.List.{list_all}
+use Rattle.ill_values.specs.declared.apdu.Apdu.{Apdu}
+use Rattle.ill_core.specs.declared.state.State.{State}
+use Rattle.ill_core.specs.declared.state.State.TheVariants.{Idle, Pending, InProcess, Conditional, CancelPending, Cancelled, Received, RenewPending, Overdue, RenewOverdue, Recall, Returned, CheckedIn}
+use Rattle.ill_core.specs.State.{is_among}
+use Rattle.ill_core.specs.Rules.{implies}
+use Rattle.ill_core.specs.Bodies.{declines, is_requesters, is_cancel, is_received, is_renew, is_returned}
+use Rattle.ill_core.specs.Issued.{is_none, are_numbered, has}
+use Rattle.ill_core.specs.Requester.{RequesterRecord, later, begins_with_request}
+
+-- A state has the parts that it wants, and no others: whether conditions are held, a due date is
+-- there and the item was checked in.
+pub record PartsFit (state : State) (is_held is_due is_marked : Bool) : Type 0 where
+  pub role : is_among (InProcess ∷ CheckedIn ∷ []) state ≡ false
+  pub held : is_held ≡ is_among (Conditional ∷ []) state
+  pub due : is_due ≡ is_among later state
+  pub checked_in : implies is_marked (is_among (Returned ∷ []) state) ≡ true
+
+-- What was issued fits a state: whether nothing was, and whether a Received, a Cancel, a Renew, a
+-- Returned and a Conditional-Reply no were.
+pub record IssuedFit (state : State) (none has_received has_cancel has_renew has_returned has_no : Bool)
+    : Type 0 where
+  pub idle : none ≡ is_among (Idle ∷ []) state
+  pub received : implies
+      (is_among (Received ∷ RenewPending ∷ Overdue ∷ RenewOverdue ∷ Returned ∷ []) state)
+      has_received ≡ true
+  pub not_received : implies has_received
+      (is_among (Received ∷ RenewPending ∷ Overdue ∷ RenewOverdue ∷ Recall ∷ Returned ∷ []) state)
+      ≡ true
+  pub cancel : implies (is_among (CancelPending ∷ Cancelled ∷ []) state) has_cancel ≡ true
+  pub renew : implies (is_among (RenewPending ∷ RenewOverdue ∷ []) state) has_renew ≡ true
+  pub returned : has_returned ≡ is_among (Returned ∷ []) state
+  pub declined : implies has_no
+      (not (is_among (Pending ∷ CancelPending ∷ Cancelled ∷ []) state)) ≡ true
+
+abbrev pub IssuedFits : State → List Apdu → Type 0
+IssuedFits state issued =
+    IssuedFit state (is_none issued) (has is_received issued) (has is_cancel issued)
+    (has is_renew issued) (has is_returned issued) (has declines issued)
+
+pub record RequesterRules (x : RequesterRecord) : Type 0 where
+  pub numbered : are_numbered x.txn 1 x.issued ≡ true
+  pub role : list_all (λ a. is_requesters a.body) x.issued ≡ true
+  pub request : begins_with_request x.issued ≡ true
+  pub parts : PartsFit x.state (is_some x.held) (is_some x.due) x.checked_in
+  pub issued : IssuedFits x.state x.issued

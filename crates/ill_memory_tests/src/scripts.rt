@@ -1,0 +1,36 @@
+//! A script in which a Cancel and a Shipped cross.
+
+use crate::judging::{Outcome, done_if, judged, leaving};
+use crate::marks::{begin, end};
+use crate::messages::txn;
+use ill_world::{SimFault, simulate};
+use std::alloc::Global;
+
+const SCRIPT: &[u8] =
+    b"requester request none Maps\nsave requester\nsend requester 1\ndeliver responder 1\nresponder 20250301 ship 20250315\nsave responder\nsend responder 1\nrequester cancel\nsave requester\nsend requester 2\ndeliver requester 1\ndeliver responder 2\n";
+
+const TRACE: &[u8] =
+    b"1 done requester PENDING - 0/1 responder IDLE - 0/0\n2 saved requester PENDING - 1/1 responder IDLE - 0/0\n3 sent requester PENDING - 1/1 responder IDLE - 0/0\n4 taken requester PENDING - 1/1 responder IN-PROCESS - 0/0\n5 done requester PENDING - 1/1 responder SHIPPED 20250315 0/1\n6 saved requester PENDING - 1/1 responder SHIPPED 20250315 1/1\n7 sent requester PENDING - 1/1 responder SHIPPED 20250315 1/1\n8 done requester CANCEL-PENDING - 1/2 responder SHIPPED 20250315 1/1\n9 saved requester CANCEL-PENDING - 2/2 responder SHIPPED 20250315 1/1\n10 sent requester CANCEL-PENDING - 2/2 responder SHIPPED 20250315 1/1\n11 taken requester SHIPPED 20250315 2/2 responder SHIPPED 20250315 1/1\n12 conflict requester SHIPPED 20250315 2/2 responder SHIPPED 20250315 1/1\n";
+
+/// How many events the script has.
+const EVENTS: u32 = 12;
+
+/// `simulate`, which writes whole lines from the front of the trace without memory.
+pub fn simulates(alloc: Global) -> Option<Outcome> {
+    let txn = txn(alloc, "T1")?;
+    let mut output = Vec::with_capacity(alloc, TRACE.len()).ok()?;
+    let mut reader = SCRIPT;
+    begin(alloc);
+    let answer = simulate(alloc, &txn, &mut reader, &mut output);
+    let refused = end(alloc);
+    Some(match answer {
+        Ok(events) => done_if(events == EVENTS && output.as_slice() == TRACE),
+        Err(SimFault::OutOfMemory) => leaving(judged(Outcome::Memory, refused), is_front(&output)),
+        Err(_) => Outcome::Wrong,
+    })
+}
+
+/// Whether these bytes are whole lines from the front of the trace.
+fn is_front(bytes: &[u8]) -> bool {
+    TRACE.starts_with(bytes) && (bytes.is_empty() || bytes.ends_with(b"\n"))
+}

@@ -1,0 +1,10 @@
+use Rattle.std.proofs.Common.{ap, ◌∙◌}
+use Rattle.ill_saved.specs.Sides.{side_with}
+use Rattle.ill_saved.proofs.Held.{filed_with}
+use Rattle.ill_saved.proofs.sides.Sides.get.Goals as goal
+
+-- src/sides.rt:85:5
+pub returns : goal.returns
+returns c =
+    c.get.ensures.value ∙ filed_with c.args.txn.now c.self.inside.map.entries c.self.invariant.keys
+    ∙ ap (λ held. side_with c.args.txn.now held.sides) c.self.view_is

@@ -1,0 +1,128 @@
+//! The sides of one library: one in each of many transactions, all of one role.
+
+ghost use Rattle.std.specs.Prelude.{◌≡◌, ◌≤◌, ◌++◌, [], ◌∷◌, length, slice_get, option_copied, None, Some, true, OnOk, OnErr, IfErr};
+ghost use Rattle.indexmap.specs.IndexMap.{get, keys, values};
+ghost use Rattle.ill_core.specs.Issued.{is_same_txn};
+ghost use Rattle.ill_saved.specs.Sides.{SidesOf, AreFiled, most_sides, side_with, may_be_held, put_refusal, Puts};
+
+use crate::fault::SidesFault;
+use crate::role::Role;
+use crate::side::Side;
+use ill_values::{OutOfMemory, TxnId};
+use indexmap::IndexMap;
+use std::alloc::Global;
+use std::marker::Model;
+
+/// The most sides that are held.
+const MOST_SIDES: usize = 1000;
+
+/// The sides of one library, all of one role, in the order in which they were put: none is idle, no two
+/// are of one transaction, and they are 1,000 at most.
+#[derive(Drop)]
+pub struct Sides {
+    role: Role,
+    map: IndexMap<TxnId, Side>,
+}
+
+impl Model for Sides {
+    ghost Value = { SidesOf };
+
+    ghost view = { λ held. record { role = held.role; sides = values held.map } };
+
+    ghost invariant = { λ held. AreFiled (keys held.map)
+        (record { role = held.role; sides = values held.map }) };
+}
+
+impl Sides {
+    /// No side yet, of this role. It takes no memory, and so never answers want of it.
+    pub fn new(alloc: Global, role: Role) -> Result<Sides, OutOfMemory>
+        ensures { result ≡ Ok (record { role = role; sides = [] }) }
+    {
+        Ok(Sides {
+            role,
+            map: IndexMap::new(alloc),
+        })
+    }
+
+    /// Puts a side behind the others, or hands it back with the first fault, which leaves these sides
+    /// unchanged: one of the other role, an idle one, one whose transaction is held, one more than 1,000,
+    /// then want of memory.
+    pub fn put(&mut self, alloc: Global, side: Side) -> Result<(), (SidesFault, Side)>
+        ensures { Puts self.old side result self.new }
+    {
+        if let Some(fault) = self.refusal(&side) {
+            return Err((fault, side));
+        }
+        let Ok(txn) = side.txn().copy(alloc) else {
+            return Err((SidesFault::OutOfMemory, side));
+        };
+        match insert_new(&mut self.map, txn, side) {
+            Ok(()) => Ok(()),
+            Err(side) => Err((SidesFault::OutOfMemory, side)),
+        }
+    }
+
+    /// Why the side would not be put, memory aside.
+    fn refusal(&self, side: &Side) -> Option<SidesFault>
+        ensures { result ≡ put_refusal self.now side.now }
+    {
+        if side.role() != self.role {
+            return Some(SidesFault::OtherRole);
+        }
+        if side.is_idle() {
+            return Some(SidesFault::Idle);
+        }
+        if self.get(side.txn()).is_some() {
+            return Some(SidesFault::Twice);
+        }
+        if self.len() < MOST_SIDES {
+            None
+        } else {
+            Some(SidesFault::Full)
+        }
+    }
+
+    /// The side of this transaction, which is found by both qualifiers.
+    pub fn get(&self, txn: &TxnId) -> Option<&Side>
+        ensures { option_copied result ≡ side_with txn.now self.now.sides }
+    {
+        self.map.get(txn)
+    }
+
+    /// The side at this place, from 0 on: the order is that in which they were put.
+    pub fn at(&self, place: usize) -> Option<&Side>
+        ensures { option_copied result ≡ slice_get self.now.sides place }
+    {
+        self.map.get_index(place).map(|(_, side)| side)
+    }
+
+    /// How many sides there are: 1,000 at most.
+    pub fn len(&self) -> usize
+        ensures value { result ≡ length self.now.sides }
+        ensures most { length self.now.sides ≤ most_sides }
+        ensures held { may_be_held self.now ≡ true }
+    {
+        self.map.len()
+    }
+
+    /// The role of all.
+    pub fn role(&self) -> Role
+        ensures { result ≡ self.now.role }
+    {
+        self.role
+    }
+}
+
+/// Puts a value behind those of the map, under a key that it has not. Where memory ran out the value is
+/// handed back, and the map is unchanged.
+fn insert_new<V: Drop>(map: &mut IndexMap<TxnId, V>, key: TxnId, value: V) -> Result<(), V>
+    requires new { get is_same_txn map.old key ≡ None }
+    ensures done { OnOk result (map.new.entries ≡ map.old.entries ++ (key, value) ∷ []) }
+    ensures refused { IfErr result (λ back. back ≡ value) }
+    ensures unchanged { OnErr result (map.new.entries ≡ map.old.entries) }
+{
+    match map.insert(key, value) {
+        Ok(_) => Ok(()),
+        Err(failed) => Err(failed.value.1),
+    }
+}

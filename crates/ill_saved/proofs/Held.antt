@@ -126,7 +126,7 @@ module _ (role : Role) (entries : List (Qualifiers × Side)) (side : Side)
       let held = and_parts _ _ filed.held in
       let values : values_of new ≡ values_of entries ++ side ∷ [] = ap values_of put ∙ map-append (λ e. e.1) entries ((txn_of side, side) ∷ []) in
       let keys : keys_of new ≡ map txn_of (values_of entries ++ side ∷ []) =
-          ap keys_of put ∙ map-append (λ e. e.0) entries ((txn_of side, side) ∷ []) ∙ ap (λ ids. ids ++ txn_of side ∷ []) filed.keys ∙ sym (map-append txn_of (values_of entries) (side ∷ [])) in
+      ap keys_of put ∙ map-append (λ e. e.0) entries ((txn_of side, side) ∷ []) ∙ ap (λ ids. ids ++ txn_of side ∷ []) filed.keys ∙ sym (map-append txn_of (values_of entries) (side ∷ [])) in
       let stands : may_stand role side ≡ true = and_from _ _ may.0 (ap not may.1) in
       let all : list_all (may_stand role) (values_of entries ++ side ∷ []) ≡ true = list_all-append (may_stand role) (values_of entries) (side ∷ []) ∙ and_from _ _ held.0 (and_from _ _ stands refl) in
       let small = below (length (values_of entries)) most_sides may.3 in

@@ -12,8 +12,10 @@ returns-in-Some c = handed_back c.args.self.now c.args.side c.in-Some.fault (sym
 pub insert_new-requires : goal.insert_new-requires
 insert_new-requires c =
     let none : put_refusal c.args.self.now c.args.side ≡ None = sym c.refusal.ensures ∙ no_fault c.refusal.result c.in_default.not-Some in
-    record { new = is_new c.self.inside.role c.self.inside.map.entries c.args.side c.self.invariant
-        (ap (λ held. put_refusal held c.args.side) c.self.view_is ∙ none) c.in-Ok.txn (c.in-Ok.ensures ∙ c.txn.ensures) }
+    record {
+      new = is_new c.self.inside.role c.self.inside.map.entries c.args.side c.self.invariant
+          (ap (λ held. put_refusal held c.args.side) c.self.view_is ∙ none) c.in-Ok.txn (c.in-Ok.ensures ∙ c.txn.ensures);
+    }
 
 -- src/sides.rt:50:5
 pub invariant_of-self : goal.invariant_of-self

@@ -1,6 +1,5 @@
 -- The tests of the rules of a record say what the rules say, one by one.
-use Rattle.std.proofs.Common.{rules, ◌≡◌, ℕ, Bool, true, false, not, ◌&&◌, is_some, take, refl, if◌then◌else◌}
-use Rattle.std.specs.List.{list_all, filter_map, count_by}
+use Rattle.std.proofs.Common.{rules, ◌≡◌, ℕ, Bool, true, false, not, ◌&&◌, is_some, take, refl}
 use Rattle.std.proofs.lemmas.Bool.{and_from, and_parts, eqb-true, eq-eqb, not-true}
 use Rattle.ill_core.specs.Rules.{are_alike}
 use Rattle.ill_core.specs.declared.requester.standing.Standing as requesters

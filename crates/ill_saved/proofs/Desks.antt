@@ -36,7 +36,6 @@ use Rattle.ill_saved.specs.declared.fault.DeskFault.{DeskFault}
 use Rattle.ill_saved.specs.declared.fault.DeskFault.TheVariants as faults
 use Rattle.ill_saved.specs.declared.fault.RecordFault.{RecordFault}
 use Rattle.ill_saved.specs.declared.fault.RecordFault.TheVariants as records
-use Rattle.ill_saved.specs.declared.fault.LayoutFault.{LayoutFault}
 use Rattle.ill_saved.specs.declared.side.Side.{Side}
 use Rattle.ill_saved.specs.declared.side.Side.TheVariants as sides
 use Rattle.ill_saved.specs.declared.side.Standing.{Standing}
@@ -173,7 +172,7 @@ follows_issues grows old _ (further between new follows row) =
 
 -- ---- what has landed backs the side after a row
 
-read_backs : (read : Result Side LayoutFault) (old new : Side) (released : ℕ) → IsRow old new → IsBackedByRead read old released → IsBackedByRead read new released
+read_backs : (read : Result Side RecordFault) (old new : Side) (released : ℕ) → IsRow old new → IsBackedByRead read old released → IsBackedByRead read new released
 read_backs (Ok side) old new released row backed =
     record { consistent = backed.consistent; follows = further old new backed.follows row; has-released = backed.has-released }
 read_backs (Err fault) old new released row backed = backed
@@ -422,12 +421,11 @@ back_rules again old_honest honest old_landed landed bytes kept old new released
     whole_rules old_honest honest old_landed landed bytes kept old new released stays lands load (back_is again kept released bytes old new (spelled, is, of)) is.0.0 (keeps_whole kept new released is of.all) of.all
 
 -- no fault is found in a record that backs a side
-no_fault : (read : Result Side LayoutFault) (begins : Bool) (fault : RecordFault) (live : Side) (released : ℕ) → IsBackedByRead read live released → Decodes read begins (Err fault) → IsLoadFault (faults.Saved fault) → ⊥
-no_fault (Ok side) begins records.Short live released backed decodes is = absurd cc
-no_fault (Ok side) begins (records.Bad at) live released backed decodes is = absurd cc
-no_fault (Ok side) begins records.Inconsistent live released backed decodes is = decodes backed.consistent
-no_fault (Ok side) begins records.OutOfMemory live released backed decodes is = is
-no_fault (Err fault) begins found live released backed decodes is = backed
+no_fault : (read : Result Side RecordFault) (begins : Bool) (fault : RecordFault) (live : Side) (released : ℕ) → IsBackedByRead read live released → Decodes read begins (Err fault) → IsLoadFault (faults.Saved fault) → ⊥
+no_fault read begins records.Short live released backed decodes is = subst (λ r. IsBackedByRead r live released) (sym decodes) backed
+no_fault read begins (records.Bad at) live released backed decodes is = subst (λ r. IsBackedByRead r live released) (sym decodes) backed
+no_fault read begins records.Inconsistent live released backed decodes is = subst (λ r. IsBackedByRead r live released) (sym decodes) backed
+no_fault read begins records.OutOfMemory live released backed decodes is = is
 
 -- where an honest store backs the side, memory alone is wanted to load what has landed
 load_fails : (bytes : Option (List ℕ)) (live new : Side) (released : ℕ) (plan : Option NextCall) (fault : DeskFault) → IsBacked bytes live released → LoadsOrIdle bytes live (Err fault) → IsLoadFault fault

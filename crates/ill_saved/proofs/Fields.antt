@@ -20,8 +20,10 @@ use Rattle.ill_core.specs.declared.state.State.{State}
 use Rattle.ill_core.specs.Bodies.{is_ill_request}
 use Rattle.ill_saved.specs.declared.fault.LayoutFault.{LayoutFault}
 use Rattle.ill_saved.specs.declared.fault.LayoutFault.TheVariants.{Short, Bad}
+use Rattle.ill_saved.specs.declared.role.Role.{Role}
+use Rattle.ill_saved.specs.declared.role.Role.TheVariants as roles
 use Rattle.ill_saved.specs.Layout.{Field, bytes_at, value_at, sized, one_octet, octet, followed_by, constant, count, number_octet, optional_number, mark, text_size, counted_text, apdu_by, apdu, ill_request, marked, spell_all, read_all, counted}
-use Rattle.ill_saved.specs.Records.{state_code, state_with, state_in}
+use Rattle.ill_saved.specs.Records.{state_code, state_with, state_in, role_octet, role_with, role}
 use Rattle.ill_saved.specs.Ranges.{Each}
 use Rattle.ill_saved.proofs.Steps.{bind_ok, passed, went_on, chosen, ok_is, found_with, IsBytes-take, IsBytes-rest}
 
@@ -137,6 +139,22 @@ mark_again false p = refl
 
 pub mark_is : IsField Any mark
 mark_is = octet_is Any (λ b. cond b 1 0) (λ n. cond (eqb n 0) (Some false) (cond (eqb n 1) (Some true) None)) mark_takes mark_again
+
+role_takes : (n : ℕ) (r : Role) → n < 256 → role_with n ≡ Some r → (n ≡ role_octet r) × Any r
+role_takes n r small e =
+    elim (chosen (eqb n 0) (Some roles.Requester) (cond (eqb n 1) (Some roles.Responder) None) (Some r) e) [
+      | inl h ↦ subst (λ (x : Role). (n ≡ role_octet x) × Any x) (same_Some roles.Requester r h.1) (eqb-true n 0 h.0, tt)
+      | inr h ↦
+          let is = cond_some (eqb n 1) roles.Responder r h.1 in
+          subst (λ (x : Role). (n ≡ role_octet x) × Any x) is.1 (eqb-true n 1 is.0, tt)
+    ]
+
+role_again : (r : Role) → Any r → role_with (role_octet r) ≡ Some r
+role_again roles.Requester p = refl
+role_again roles.Responder p = refl
+
+pub role_is : IsField Any role
+role_is = octet_is Any role_octet role_with role_takes role_again
 
 abbrev pub IsTextSize : ℕ → Type 0
 IsTextSize n = (1 ≤ n) × (n ≤ 64)

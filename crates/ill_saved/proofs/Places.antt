@@ -6,6 +6,7 @@ use Rattle.std.proofs.lemmas.List.Elements.{All-head, All-tail, All-push, All-we
 use Rattle.ill_values.specs.declared.apdu.Apdu.{Apdu}
 use Rattle.ill_der.specs.ShortForm.{spelling}
 use Rattle.ill_saved.specs.declared.kept.Place.{Place}
+use Rattle.ill_saved.specs.declared.role.Role.TheVariants as roles
 use Rattle.ill_saved.specs.declared.side.Side.{Side}
 use Rattle.ill_saved.specs.declared.side.Side.TheVariants as sides
 use Rattle.ill_saved.specs.Layout.{spell_all, apdu, ill_request, mark, marked, counted, optional_number}
@@ -109,7 +110,7 @@ ends_with_messages (sides.Requester x) =
     let head = (front requester_states).spell (x.state, (x.txn.group, x.txn.transaction)) in
     let behind_due : EndsWith messages due = ends_behind (due_octets x.due) messages ((counted apdu).spell x.issued) (ends_counted x.issued) in
     let behind_held : EndsWith messages rest = ends_behind (optional_number.spell x.held ++ mark.spell x.checked_in) messages due behind_due in
-    ends_behind (spell_start false) messages (head ++ rest) (ends_behind head messages rest behind_held)
+    ends_behind (spell_start roles.Requester) messages (head ++ rest) (ends_behind head messages rest behind_held)
 ends_with_messages (sides.Responder y) =
     let messages = spell_all spelling y.issued in
     let request = (marked ill_request).spell y.request ++ (counted apdu).spell y.issued in
@@ -118,7 +119,7 @@ ends_with_messages (sides.Responder y) =
     let behind_request : EndsWith messages request = ends_behind ((marked ill_request).spell y.request) messages ((counted apdu).spell y.issued) (ends_counted y.issued) in
     let behind_numbers : EndsWith messages rest =
     ends_behind (optional_number.spell y.accepted ++ (optional_number.spell y.last_cancel ++ (optional_number.spell y.last_renew ++ mark.spell y.received))) messages request behind_request in
-    ends_behind (spell_start true) messages (head ++ rest) (ends_behind head messages rest behind_numbers)
+    ends_behind (spell_start roles.Responder) messages (head ++ rest) (ends_behind head messages rest behind_numbers)
 
 -- ---- a side that begins with the messages kept
 

@@ -22,14 +22,18 @@ use Rattle.ill_core.specs.Bodies.{is_ill_request}
 use Rattle.ill_core.specs.Issued.{is_same_txn}
 use Rattle.ill_core.specs.Responder.{is_request_of}
 use Rattle.ill_saved.specs.declared.fault.LayoutFault.TheVariants.{Bad}
+use Rattle.ill_saved.specs.declared.role.Role.{Role}
+use Rattle.ill_saved.specs.declared.role.Role.TheVariants as roles
 use Rattle.ill_saved.specs.declared.side.Side.{Side}
 use Rattle.ill_saved.specs.declared.side.Side.TheVariants as sides
+use Rattle.ill_saved.specs.Side.{role_of}
 use Rattle.ill_saved.specs.Layout.{ended, apdu, ill_request, marked, counted, counted_text, optional_number, mark, constant, followed_by}
-use Rattle.ill_saved.specs.Records.{no_date, due_octets, due_from, found_date, due, front, requester_states, responder_states, requester_rest, responder_rest, requester_fields, responder_fields, version, start, spell_start, is_responder, spell_fields, record_spelling, read_requester, read_responder, read_fields, side_at, record_at, state_in}
+use Rattle.ill_saved.specs.Records.{no_date, due_octets, due_from, found_date, due, front, requester_states, responder_states, requester_rest, responder_rest, requester_fields, responder_fields, version, role, start, spell_start, spell_fields, record_spelling, read_requester, read_responder, read_fields, side_at, side_spelled, record_at, state_in}
 use Rattle.ill_saved.specs.Ranges.{IsInRange, IsSide}
 use Rattle.ill_saved.proofs.Steps.{bind_ok, chosen, passed, ok_is}
-use Rattle.ill_saved.proofs.Fields.{Below, IsField, Any, Both, Counted, IsAmong, IsRequest, rest_fits, sized_is, constant_is, optional_number_is, mark_is, state_is, followed_is, counted_text_is, apdu_is, ill_request_is, marked_is, counted_is}
+use Rattle.ill_saved.proofs.Fields.{Below, IsField, Any, Both, Counted, IsAmong, IsRequest, rest_fits, sized_is, constant_is, optional_number_is, mark_is, role_is, state_is, followed_is, counted_text_is, apdu_is, ill_request_is, marked_is, counted_is}
 use Rattle.ill_saved.proofs.Rules.{requester_state, responder_state, responder_request}
+use Rattle.ill_saved.proofs.Records.{judged_ok, judged_is}
 
 -- ---- due dates
 
@@ -111,7 +115,7 @@ version_is =
     (followed_is Any _ (constant 76) _ (constant_is 76) (followed_is Any Any (constant 76) (constant 49) (constant_is 76) (constant_is 49)))
 
 start_is : IsField (Both (Both Any (Both Any (Both Any Any))) Any) start
-start_is = followed_is _ Any version mark version_is mark_is
+start_is = followed_is _ Any version role version_is role_is
 
 request_in_range : (o : Option Apdu) → IfSome o IsRequest → IfSome o IsApdu
 request_in_range None p = tt
@@ -122,15 +126,15 @@ request_is txn None of p = tt
 request_is txn (Some a) of p = (p, (and_parts (is_same_txn a.txn txn) (is_ill_request a.body) of).1)
 
 -- what was read of a side
-abbrev ReadsSide : Bool → Cursor → Side → Cursor → Type 0
-ReadsSide b left side rest = (is_responder side ≡ b) × (left.bytes ≡ spell_fields side ++ rest.bytes) × IsInRange side
+abbrev ReadsSide : Role → Cursor → Side → Cursor → Type 0
+ReadsSide r left side rest = (role_of side ≡ r) × (left.bytes ≡ spell_fields side ++ rest.bytes) × IsInRange side
 
-requester_takes : Below → (left : Cursor) (side : Side) (rest : Cursor) → IsBytes left.bytes → read_requester left ≡ Ok (side, rest) → ReadsSide false left side rest
+requester_takes : Below → (left : Cursor) (side : Side) (rest : Cursor) → IsBytes left.bytes → read_requester left ≡ Ok (side, rest) → ReadsSide roles.Requester left side rest
 requester_takes below left side rest fits e =
     let fields = bind_ok (requester_fields.read left) _ (side, rest) e in
     let both = ok_is _ (side, rest) fields.2 in
     let is = (requester_fields_is below).takes left fields.0.0 fields.0.1 fits fields.1 in
-    subst (λ (x : Side × Cursor). ReadsSide false left x.0 x.1) both (
+    subst (λ (x : Side × Cursor). ReadsSide roles.Requester left x.0 x.1) both (
       refl,
       is.0,
       record {
@@ -144,12 +148,12 @@ requester_takes below left side rest fits e =
       },
     )
 
-responder_takes : Below → (left : Cursor) (side : Side) (rest : Cursor) → IsBytes left.bytes → read_responder left ≡ Ok (side, rest) → ReadsSide true left side rest
+responder_takes : Below → (left : Cursor) (side : Side) (rest : Cursor) → IsBytes left.bytes → read_responder left ≡ Ok (side, rest) → ReadsSide roles.Responder left side rest
 responder_takes below left side rest fits e =
     let fields = bind_ok (responder_fields.read left) _ (side, rest) e in
     let both = ok_is _ (side, rest) fields.2 in
     let is = (responder_fields_is below).takes left fields.0.0 fields.0.1 fits fields.1 in
-    subst (λ (x : Side × Cursor). ReadsSide true left x.0 x.1) both (
+    subst (λ (x : Side × Cursor). ReadsSide roles.Responder left x.0 x.1) both (
       refl,
       is.0,
       record {
@@ -165,15 +169,15 @@ responder_takes below left side rest fits e =
       },
     )
 
-fields_take : Below → (b : Bool) (left : Cursor) (side : Side) (rest : Cursor) → IsBytes left.bytes → read_fields b left ≡ Ok (side, rest) → ReadsSide b left side rest
-fields_take below true left side rest fits e = responder_takes below left side rest fits e
-fields_take below false left side rest fits e = requester_takes below left side rest fits e
+fields_take : Below → (r : Role) (left : Cursor) (side : Side) (rest : Cursor) → IsBytes left.bytes → read_fields r left ≡ Ok (side, rest) → ReadsSide r left side rest
+fields_take below roles.Requester left side rest fits e = requester_takes below left side rest fits e
+fields_take below roles.Responder left side rest fits e = responder_takes below left side rest fits e
 
 ends : (left : Cursor) (x : Unit {0}) → ended left ≡ Ok x → left.bytes ≡ []
 ends left x e = nil_from_length left.bytes (eqb-true (length left.bytes) 0 (passed (eqb (length left.bytes) 0) (Ok tt) (Bad left.at) x e).0)
 
-pub side_takes : Below → (bytes : List ℕ) (side : Side) → IsBytes bytes → record_at bytes ≡ Ok side → (bytes ≡ record_spelling side) × IsInRange side
-unfolding record_at record_spelling
+pub side_takes : Below → (bytes : List ℕ) (side : Side) → IsBytes bytes → side_spelled bytes ≡ Ok side → (bytes ≡ record_spelling side) × IsInRange side
+unfolding side_spelled record_spelling
 side_takes below bytes side fits e =
     let begun = bind_ok (start.read (cursor_at 0 bytes)) (λ start. side_at start.0.1 start.1) side e in
     let first = start_is.takes (cursor_at 0 bytes) begun.0.0 begun.0.1 fits begun.1 in
@@ -182,10 +186,10 @@ side_takes below bytes side fits e =
     let last = bind_ok (ended found.0.1) (λ _. Ok found.0.0) side found.2 in
     let same : found.0.0 ≡ side = ok_is found.0.0 side last.2 in
     let fields = fields_take below begun.0.0.1 begun.0.1 found.0.0 found.0.1 behind_fits found.1 in
-    let parts : bytes ≡ spell_start (is_responder found.0.0) ++ spell_fields found.0.0 =
-    first.0 ∙ ap (λ (b : Bool). spell_start b ++ begun.0.1.bytes) (sym fields.0)
-    ∙ ap (λ (x : List ℕ). spell_start (is_responder found.0.0) ++ x) (fields.1 ∙ ap (λ (x : List ℕ). spell_fields found.0.0 ++ x) (ends found.0.1 last.0 last.1) ∙ append-nil (spell_fields found.0.0)) in
-    subst (λ (x : Side). (bytes ≡ spell_start (is_responder x) ++ spell_fields x) × IsInRange x) same (parts, fields.2)
+    let parts : bytes ≡ spell_start (role_of found.0.0) ++ spell_fields found.0.0 =
+    first.0 ∙ ap (λ (r : Role). spell_start r ++ begun.0.1.bytes) (sym fields.0)
+    ∙ ap (λ (x : List ℕ). spell_start (role_of found.0.0) ++ x) (fields.1 ∙ ap (λ (x : List ℕ). spell_fields found.0.0 ++ x) (ends found.0.1 last.0 last.1) ∙ append-nil (spell_fields found.0.0)) in
+    subst (λ (x : Side). (bytes ≡ spell_start (role_of x) ++ spell_fields x) × IsInRange x) same (parts, fields.2)
 
 requester_state_is : (state : State) → is_among (InProcess ∷ CheckedIn ∷ []) state ≡ false → IsAmong requester_states state
 requester_state_is Idle role = refl
@@ -196,7 +200,7 @@ responder_state_is Idle role = refl
 responder_state_is state role = search rules
 
 -- the fields of a side are read again
-fields_again : Below → (side : Side) (at : ℕ) (more : List ℕ) → IsSide side → (after : ℕ) × (read_fields (is_responder side) (cursor_at at (spell_fields side ++ more)) ≡ Ok (side, cursor_at after more))
+fields_again : Below → (side : Side) (at : ℕ) (more : List ℕ) → IsSide side → (after : ℕ) × (read_fields (role_of side) (cursor_at at (spell_fields side ++ more)) ≡ Ok (side, cursor_at after more))
 fields_again below (sides.Requester x) at more is =
     let range = is.1 in
     let read = (requester_fields_is below).again ((x.state, (x.txn.group, x.txn.transaction)), (x.held, (x.checked_in, (x.due, x.issued)))) at more
@@ -211,14 +215,26 @@ fields_again below (sides.Responder y) at more is =
     ) in
     (read.0, rw read.1 refl)
 
-pub side_again : Below → (side : Side) → IsSide side → record_at (record_spelling side) ≡ Ok side
-unfolding record_at record_spelling
+side_again : Below → (side : Side) → IsSide side → side_spelled (record_spelling side) ≡ Ok side
+unfolding side_spelled record_spelling
 side_again below side is =
-    let begun = start_is.again ((tt, (tt, (tt, tt))), is_responder side) 0 (spell_fields side) ((tt, (tt, (tt, tt))), tt) in
+    let begun = start_is.again ((tt, (tt, (tt, tt))), role_of side) 0 (spell_fields side) ((tt, (tt, (tt, tt))), tt) in
     let fields = fields_again below side begun.0 [] is in
-    let whole : read_fields (is_responder side) (cursor_at begun.0 (spell_fields side)) ≡ Ok (side, cursor_at fields.0 []) =
-    ap (λ (x : List ℕ). read_fields (is_responder side) (cursor_at begun.0 x)) (sym (append-nil (spell_fields side))) ∙ fields.1 in
+    let whole : read_fields (role_of side) (cursor_at begun.0 (spell_fields side)) ≡ Ok (side, cursor_at fields.0 []) =
+    ap (λ (x : List ℕ). read_fields (role_of side) (cursor_at begun.0 x)) (sym (append-nil (spell_fields side))) ∙ fields.1 in
     rw (begun.1, whole) refl
+
+-- what is read of bytes is consistent, and all of them spell it
+pub record_takes : Below → (bytes : List ℕ) (side : Side) → IsBytes bytes → record_at bytes ≡ Ok side → (bytes ≡ record_spelling side) × IsSide side
+unfolding record_at
+record_takes below bytes side fits e =
+    let read = judged_ok (side_spelled bytes) side e in
+    let is = side_takes below bytes side fits read.0 in
+    (is.0, (read.1, is.1))
+
+pub record_again : Below → (side : Side) → IsSide side → record_at (record_spelling side) ≡ Ok side
+unfolding record_at
+record_again below side is = judged_is (side_spelled (record_spelling side)) side (side_again below side is) is.0
 
 pub one_side : ((side : Side) → IsSide side → record_at (record_spelling side) ≡ Ok side)
     → (s t : Side) → IsSide s → IsSide t → record_spelling s ≡ record_spelling t → s ≡ t

@@ -1,24 +1,54 @@
--- A record is read behind its version and its role.
-use Rattle.std.proofs.Common.{◌≡◌, ℕ, Bool, List, Result, Ok, Err, ap, sym, subst}
+-- A record is read behind its version and its role, and a side that was read is judged.
+use Rattle.std.proofs.Common.{◌≡◌, ℕ, Bool, true, false, cond, List, Result, Ok, Err, refl, ap, sym, subst, ◌∙◌, rules}
 use Rattle.std.specs.Prelude.{IfOk}
 use Rattle.ill_der.specs.Format.{◌>>=◌, Cursor, cursor_at}
+use Rattle.ill_saved.specs.declared.fault.LayoutFault.{LayoutFault}
 use Rattle.ill_saved.specs.declared.fault.RecordFault.{RecordFault}
+use Rattle.ill_saved.specs.declared.fault.RecordFault.TheVariants as faults
+use Rattle.ill_saved.specs.declared.role.Role.{Role}
 use Rattle.ill_saved.specs.declared.side.Side.{Side}
-use Rattle.ill_saved.specs.Records.{start, side_at, record_at, has_front, has_front_behind, begins_as_record, Decodes, record_spelling}
-use Rattle.ill_saved.specs.Ranges.{IsInRange, IsSide}
+use Rattle.ill_saved.specs.Side.{keeps_rules, IsConsistent}
+use Rattle.ill_saved.specs.Records.{start, side_at, side_spelled, judged, record_at, has_front, has_front_behind, begins_as_record, Decodes, record_spelling}
+use Rattle.ill_saved.specs.Ranges.{IsSide}
+use Rattle.ill_saved.proofs.Steps.{ok_is}
 
-pub decodes_behind : (bytes : List ℕ) (is_responder : Bool) (left : Cursor) (result : Result Side RecordFault) → start.read (cursor_at 0 bytes) ≡ Ok (((tt, (tt, (tt, tt))), is_responder), left)
-    → Decodes (side_at is_responder left) (has_front is_responder left) result → Decodes (record_at bytes) (begins_as_record bytes) result
-unfolding record_at begins_as_record
-decodes_behind bytes is_responder left result read decodes =
-    let same : record_at bytes ≡ side_at is_responder left = ap (λ r. r >>= λ start. side_at start.0.1 start.1) read in
-    let begins : begins_as_record bytes ≡ has_front is_responder left = ap has_front_behind read in
-    subst (λ r. Decodes r (begins_as_record bytes) result) (sym same) (subst (λ b. Decodes (side_at is_responder left) b result) (sym begins) decodes)
+pub decodes_behind : (bytes : List ℕ) (role : Role) (left : Cursor) (result : Result Side RecordFault) → start.read (cursor_at 0 bytes) ≡ Ok (((tt, (tt, (tt, tt))), role), left)
+    → Decodes (judged (side_at role left)) (has_front role left) result → Decodes (record_at bytes) (begins_as_record bytes) result
+unfolding record_at side_spelled begins_as_record
+decodes_behind bytes role left result read decodes =
+    let same : record_at bytes ≡ judged (side_at role left) = ap (λ r. judged (r >>= λ start. side_at start.0.1 start.1)) read in
+    let begins : begins_as_record bytes ≡ has_front role left = ap has_front_behind read in
+    subst (λ r. Decodes r (begins_as_record bytes) result) (sym same) (subst (λ b. Decodes (judged (side_at role left)) b result) (sym begins) decodes)
 
 -- what decodes is the spelling of its side, as the law says
-pub decodes_spelled : (bytes : List ℕ) (begins : Bool) (result : Result Side RecordFault) → ((side : Side) → record_at bytes ≡ Ok side → (bytes ≡ record_spelling side) × IsInRange side)
+pub decodes_spelled : (bytes : List ℕ) (begins : Bool) (result : Result Side RecordFault) → ((side : Side) → record_at bytes ≡ Ok side → (bytes ≡ record_spelling side) × IsSide side)
     → Decodes (record_at bytes) begins result → IfOk result (λ side. IsSide side × (bytes ≡ record_spelling side))
 decodes_spelled bytes begins (Ok side) spelled decodes =
-    let is = spelled side decodes.0 in
-    ((decodes.1, is.1), is.0)
+    let is = spelled side (sym decodes) in
+    (is.1, is.0)
 decodes_spelled bytes begins (Err fault) spelled decodes = tt
+
+-- ---- judging
+
+judged_by : (keeps : Bool) (read side : Side) → cond keeps (Ok read) (Err faults.Inconsistent) ≡ Ok side → (keeps ≡ true) × (read ≡ side)
+judged_by true read side is = (refl, ok_is read side is)
+judged_by false read side is = absurd cc
+
+-- what stood is consistent, and was read
+pub judged_ok : (read : Result Side LayoutFault) (side : Side) → judged read ≡ Ok side → (read ≡ Ok side) × IsConsistent side
+judged_ok (Ok found) side is =
+    let both = judged_by (keeps_rules found) found side is in
+    (ap Ok both.1, subst IsConsistent both.1 both.0)
+judged_ok (Err fault) side is = absurd cc
+
+-- what is consistent stands
+pub judged_is : (read : Result Side LayoutFault) (side : Side) → read ≡ Ok side → IsConsistent side → judged read ≡ Ok side
+judged_is read side is consistent = ap judged is ∙ ap (λ keeps. cond keeps (Ok side) (Err faults.Inconsistent)) consistent
+
+not_kept : (keeps : Bool) (side : Side) → (keeps ≡ true → ⊥) → cond keeps (Ok side) (Err faults.Inconsistent) ≡ Err faults.Inconsistent
+not_kept true side breaks = absurd (breaks refl)
+not_kept false side breaks = refl
+
+-- what breaks a rule does not
+pub judged_not : (read : Result Side LayoutFault) (side : Side) → read ≡ Ok side → (IsConsistent side → ⊥) → judged read ≡ Err faults.Inconsistent
+judged_not read side is breaks = ap judged is ∙ not_kept (keeps_rules side) side breaks

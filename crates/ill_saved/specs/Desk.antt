@@ -6,7 +6,7 @@ use Rattle.ill_der.specs.declared.fault.DerFault.{DerFault}
 use Rattle.ill_der.specs.ShortForm.{spelling}
 use Rattle.ill_core.specs.declared.taking.Taking.{Taking}
 use Rattle.ill_saved.specs.declared.fault.RecordFault.TheVariants as records
-use Rattle.ill_saved.specs.declared.fault.LayoutFault.{LayoutFault}
+use Rattle.ill_saved.specs.declared.fault.RecordFault.{RecordFault}
 use Rattle.ill_saved.specs.declared.side.Side.{Side}
 use Rattle.ill_saved.specs.declared.side.Action.{Action}
 use Rattle.ill_saved.specs.declared.store.StoreFault.TheVariants as stores
@@ -27,7 +27,7 @@ pub record DeskOf (S : Type 0) : Type 0 where
 -- ---- what a desk keeps
 
 -- the side that landed bytes stand for: nothing for the idle side
-abbrev pub landed_side : Option (List ℕ) → Side → Result Side LayoutFault
+abbrev pub landed_side : Option (List ℕ) → Side → Result Side RecordFault
 landed_side None live = Ok (idle_of live)
 landed_side (Some bytes) live = record_at bytes
 
@@ -37,7 +37,7 @@ pub record IsBackedBy (side live : Side) (released : ℕ) : Type 0 where
   pub follows : Follows side live
   pub has-released : released ≤ length (issued_of side)
 
-abbrev pub IsBackedByRead : Result Side LayoutFault → Side → ℕ → Type 0
+abbrev pub IsBackedByRead : Result Side RecordFault → Side → ℕ → Type 0
 IsBackedByRead (Ok side) live released = IsBackedBy side live released
 IsBackedByRead (Err fault) live released = ⊥
 
@@ -142,7 +142,7 @@ IsLoadFault OutOfMemory = Unit {0}
 IsLoadFault other = ⊥
 
 -- What a restart answers, of an honest store: the side that has landed, or a fault of the store.
-abbrev pub Restarts : Result Side LayoutFault → Option NextCall → Result (Unit {0}) DeskFault → Side →
+abbrev pub Restarts : Result Side RecordFault → Option NextCall → Result (Unit {0}) DeskFault → Side →
     Type 0
 Restarts landed plan (Ok done) new = (landed ≡ Ok new) × Allows {X = Unit {0}} plan (Ok tt)
 Restarts landed plan (Err (Store fault)) new = Allows {X = Unit {0}} plan (Err fault)

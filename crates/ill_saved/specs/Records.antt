@@ -13,10 +13,12 @@ use Rattle.ill_saved.specs.declared.fault.LayoutFault.{LayoutFault}
 use Rattle.ill_saved.specs.declared.fault.LayoutFault.TheVariants.{Short, Bad}
 use Rattle.ill_saved.specs.declared.fault.RecordFault.{RecordFault}
 use Rattle.ill_saved.specs.declared.fault.RecordFault.TheVariants as faults
+use Rattle.ill_saved.specs.declared.role.Role.{Role}
+use Rattle.ill_saved.specs.declared.role.Role.TheVariants as roles
 use Rattle.ill_saved.specs.declared.side.Side.{Side}
-use Rattle.ill_saved.specs.Side.{IsConsistent}
 use Rattle.ill_saved.specs.declared.side.Side.TheVariants as sides
-use Rattle.ill_saved.specs.Layout.{Field, sized, octet, followed_by, constant, optional_number, mark, counted_text, apdu, ill_request, marked, counted, ended}
+use Rattle.ill_saved.specs.Side.{role_of, keeps_rules}
+use Rattle.ill_saved.specs.Layout.{Field, sized, octet, followed_by, constant, optional_number, mark, counted_text, apdu, ill_request, marked, counted, ended, record_fault}
 
 -- the octet of a state
 abbrev pub state_code : State → ℕ
@@ -89,17 +91,29 @@ responder_rest =
     (followed_by optional_number (followed_by optional_number
     (followed_by mark (followed_by (marked ill_request) (counted apdu)))))
 
+-- the octet of a role
+abbrev pub role_octet : Role → ℕ
+role_octet roles.Requester = 0
+role_octet roles.Responder = 1
+
+abbrev pub role_with : ℕ → Option Role
+role_with n =
+    if n == 0 then Some roles.Requester else (if n == 1 then Some roles.Responder else None)
+
+abbrev pub role : Field Role
+role = octet role_octet role_with
+
 -- the four octets `ILL1`
 abbrev pub version : Field (Unit {0} × (Unit {0} × (Unit {0} × Unit {0})))
 version =
     followed_by (constant 73) (followed_by (constant 76) (followed_by (constant 76) (constant 49)))
 
--- the version and the role: whether it is a responder
-abbrev pub start : Field ((Unit {0} × (Unit {0} × (Unit {0} × Unit {0}))) × Bool)
-start = followed_by version mark
+-- the version and the role
+abbrev pub start : Field ((Unit {0} × (Unit {0} × (Unit {0} × Unit {0}))) × Role)
+start = followed_by version role
 
-abbrev pub spell_start : Bool → List ℕ
-spell_start is_responder = start.spell ((tt, (tt, (tt, tt))), is_responder)
+abbrev pub spell_start : Role → List ℕ
+spell_start role = start.spell ((tt, (tt, (tt, tt))), role)
 
 abbrev pub requester_fields : Field ((State × (List ℕ × List ℕ))
     × (Option ℕ × (Bool × (Option Date × List Apdu))))
@@ -124,16 +138,12 @@ spell_responder y =
       (y.accepted, (y.last_cancel, (y.last_renew, (y.received, (y.request, y.issued))))),
     )
 
-abbrev pub is_responder : Side → Bool
-is_responder (sides.Requester x) = false
-is_responder (sides.Responder y) = true
-
 abbrev pub spell_fields : Side → List ℕ
 spell_fields (sides.Requester x) = spell_requester x
 spell_fields (sides.Responder y) = spell_responder y
 
 unfoldable pub record_spelling : Side → List ℕ
-record_spelling side = spell_start (is_responder side) ++ spell_fields side
+record_spelling side = spell_start (role_of side) ++ spell_fields side
 
 -- the record of the fields that were read
 abbrev pub read_requester : Cursor → Result (Side × Cursor) LayoutFault
@@ -158,27 +168,41 @@ read_responder left =
       found.1,
     )
 
-abbrev pub read_fields : Bool → Cursor → Result (Side × Cursor) LayoutFault
-read_fields is_responder left = if is_responder then read_responder left else read_requester left
+abbrev pub read_fields : Role → Cursor → Result (Side × Cursor) LayoutFault
+read_fields roles.Requester left = read_requester left
+read_fields roles.Responder left = read_responder left
 
 -- all of what is left
 abbrev pub all_of : Result (Side × Cursor) LayoutFault → Result Side LayoutFault
 all_of read = read >>= λ found. ended found.1 >>= λ _. Ok found.0
 
--- The side that all of the bytes spell, or the first fault. Whether it keeps the rules of its role
--- is another question.
-abbrev pub side_at : Bool → Cursor → Result Side LayoutFault
-side_at is_responder left = all_of (read_fields is_responder left)
+-- the side of a role that all of what is left spells, or the first fault
+abbrev pub side_at : Role → Cursor → Result Side LayoutFault
+side_at role left = all_of (read_fields role left)
 
-unfoldable pub record_at : List ℕ → Result Side LayoutFault
-record_at bytes = start.read (cursor_at 0 bytes) >>= λ start. side_at start.0.1 start.1
+-- The side that all of the bytes spell, or the first fault. Whether it keeps the rules of its role is
+-- another question.
+unfoldable pub side_spelled : List ℕ → Result Side LayoutFault
+side_spelled bytes = start.read (cursor_at 0 bytes) >>= λ start. side_at start.0.1 start.1
+
+-- a side that was read, where it keeps the rules
+abbrev pub judged : Result Side LayoutFault → Result Side RecordFault
+judged (Ok side) = if keeps_rules side then Ok side else Err faults.Inconsistent
+judged (Err fault) = Err (record_fault fault)
+
+-- the consistent side that all of the bytes spell, or the first fault
+unfoldable pub record_at : List ℕ → Result Side RecordFault
+record_at bytes = judged (side_spelled bytes)
 
 -- whether the bytes begin as a record, up to its qualifiers, for which the first memory is taken
-abbrev pub has_front : Bool → Cursor → Bool
-has_front is_responder left =
-    is_ok ((front (if is_responder then responder_states else requester_states)).read left)
+abbrev pub states_of : Role → List State
+states_of roles.Requester = requester_states
+states_of roles.Responder = responder_states
 
-abbrev pub has_front_behind : Result (((Unit {0} × (Unit {0} × (Unit {0} × Unit {0}))) × Bool) × Cursor)
+abbrev pub has_front : Role → Cursor → Bool
+has_front role left = is_ok ((front (states_of role)).read left)
+
+abbrev pub has_front_behind : Result (((Unit {0} × (Unit {0} × (Unit {0} × Unit {0}))) × Role) × Cursor)
     LayoutFault → Bool
 has_front_behind (Ok start) = has_front start.0.1 start.1
 has_front_behind (Err fault) = false
@@ -186,16 +210,8 @@ has_front_behind (Err fault) = false
 unfoldable pub begins_as_record : List ℕ → Bool
 begins_as_record bytes = has_front_behind (start.read (cursor_at 0 bytes))
 
--- a side was read, and it breaks a rule
-abbrev pub IsInconsistent : Result Side LayoutFault → Type 0
-IsInconsistent (Ok side) = IsConsistent side → ⊥
-IsInconsistent (Err fault) = ⊥
-
--- What decoding answers: the consistent side that was read, that the side is inconsistent, or the
--- first fault; and want of memory only of bytes that begin as a record.
-abbrev pub Decodes : Result Side LayoutFault → Bool → Result Side RecordFault → Type 0
-Decodes read begins (Ok side) = (read ≡ Ok side) × IsConsistent side
-Decodes read begins (Err faults.Short) = read ≡ Err Short
-Decodes read begins (Err (faults.Bad at)) = read ≡ Err (Bad at)
-Decodes read begins (Err faults.Inconsistent) = IsInconsistent read
+-- What decoding answers: what reading gives, or want of memory, and that only of bytes that begin so that
+-- memory is taken.
+abbrev pub Decodes : {X : Type 0} → Result X RecordFault → Bool → Result X RecordFault → Type 0
 Decodes read begins (Err faults.OutOfMemory) = begins ≡ true
+Decodes read begins answer = answer ≡ read

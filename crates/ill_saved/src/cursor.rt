@@ -6,9 +6,10 @@ ghost use Rattle.ill_der.specs.Contents.{qualifier};
 ghost use Rattle.ill_der.specs.Format as model;
 ghost use Rattle.ill_der.specs.Format.{cursor_at};
 ghost use Rattle.ill_saved.specs.Layout.{Reads, ReadsInMemory, bytes_at, sized, constant, count, optional_number, mark, text_size, counted_text, apdu, ill_request, marked, counted, ended};
-ghost use Rattle.ill_saved.specs.Records.{state_in, requester_states, responder_states, due};
+ghost use Rattle.ill_saved.specs.Records.{state_in, requester_states, responder_states, due, role};
 
 use crate::fault::{LayoutFault, RecordFault};
+use crate::role::Role;
 use ill_core::State;
 use ill_der::{DerFault, decode};
 use ill_values::{Apdu, Body, Day, Number, TxnId};
@@ -103,6 +104,20 @@ impl<'a> Cursor<'a> {
         match self.octet()? {
             0 => Ok(false),
             1 => Ok(true),
+            _ => Err(LayoutFault::Bad(at)),
+        }
+    }
+
+    /// Reads a role.
+    pub fn role(&mut self) -> Result<Role, LayoutFault>
+        requires room { self.old.at ≤ 2000000 }
+        ensures read { Reads (λ r. r) result self.new (role.read self.old) }
+        ensures near { OnOk result (self.new.at ≡ self.old.at + 1) }
+    {
+        let at = self.at;
+        match self.octet()? {
+            0 => Ok(Role::Requester),
+            1 => Ok(Role::Responder),
             _ => Err(LayoutFault::Bad(at)),
         }
     }

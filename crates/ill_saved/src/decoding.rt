@@ -3,10 +3,11 @@
 ghost use Rattle.std.specs.Prelude.{◌≡◌, ◌+◌, ◌≤◌, true, is_ok, Err, OnOk};
 ghost use Rattle.ill_saved.specs.declared.fault.RecordFault.TheVariants as faults;
 ghost use Rattle.ill_saved.specs.Layout.{Reads, ReadsInMemory, followed_by, counted_text, counted, apdu, read_all};
-ghost use Rattle.ill_saved.specs.Records.{start, front, requester_states, responder_states, read_requester, read_responder, all_of, record_at, begins_as_record, Decodes};
+ghost use Rattle.ill_saved.specs.Records.{start, front, requester_states, responder_states, read_requester, read_responder, all_of, judged, record_at, begins_as_record, Decodes};
 
 use crate::cursor::Cursor;
 use crate::fault::{LayoutFault, RecordFault};
+use crate::role::Role;
 use crate::side::Side;
 use ill_core::{Requester, Responder};
 use ill_values::{Apdu, TxnId};
@@ -15,22 +16,25 @@ use std::alloc::Global;
 /// Decodes a saved record, which must take up all of the bytes, or gives their first fault.
 ///
 /// Memory is taken as decoding goes on, from the qualifiers on.
-#[tactic(auto, unfolding(crate::specs::Records::record_at, crate::specs::Records::begins_as_record))]
+#[tactic(auto, unfolding(
+    crate::specs::Records::record_at,
+    crate::specs::Records::side_spelled,
+    crate::specs::Records::begins_as_record
+))]
 pub fn decode_record(alloc: Global, bytes: &[u8]) -> Result<Side, RecordFault>
     ensures { Decodes (record_at bytes.now) (begins_as_record bytes.now) result }
 {
     let mut cursor = Cursor::new(bytes);
-    if is_responder(&mut cursor)? {
-        responder(alloc, &mut cursor)
-    } else {
-        requester(alloc, &mut cursor)
+    match role(&mut cursor)? {
+        Role::Requester => requester(alloc, &mut cursor),
+        Role::Responder => responder(alloc, &mut cursor),
     }
 }
 
 /// Reads the octets `ILL1`, and the role.
-fn is_responder(cursor: &mut Cursor<'_>) -> Result<bool, LayoutFault>
+fn role(cursor: &mut Cursor<'_>) -> Result<Role, LayoutFault>
     requires room { cursor.old.at ≤ 100 }
-    ensures read { Reads (λ is. ((tt, (tt, (tt, tt))), is)) result cursor.new
+    ensures read { Reads (λ role. ((tt, (tt, (tt, tt))), role)) result cursor.new
         (start.read cursor.old) }
     ensures near { OnOk result (cursor.new.at ≡ cursor.old.at + 5) }
 {
@@ -38,13 +42,13 @@ fn is_responder(cursor: &mut Cursor<'_>) -> Result<bool, LayoutFault>
     cursor.constant(b'L')?;
     cursor.constant(b'L')?;
     cursor.constant(b'1')?;
-    cursor.mark()
+    cursor.role()
 }
 
 /// Decodes the rest of a record of a requester, to its end.
 fn requester(alloc: Global, cursor: &mut Cursor<'_>) -> Result<Side, RecordFault>
     requires room { cursor.old.at ≤ 1000 }
-    ensures { Decodes (all_of (read_requester cursor.old))
+    ensures { Decodes (judged (all_of (read_requester cursor.old)))
         (is_ok ((front requester_states).read cursor.old)) result }
 {
     let state = cursor.requester_state()?;
@@ -63,7 +67,7 @@ fn requester(alloc: Global, cursor: &mut Cursor<'_>) -> Result<Side, RecordFault
 /// Decodes the rest of a record of a responder, to its end.
 fn responder(alloc: Global, cursor: &mut Cursor<'_>) -> Result<Side, RecordFault>
     requires room { cursor.old.at ≤ 1000 }
-    ensures { Decodes (all_of (read_responder cursor.old))
+    ensures { Decodes (judged (all_of (read_responder cursor.old)))
         (is_ok ((front responder_states).read cursor.old)) result }
 {
     let state = cursor.responder_state()?;

@@ -7,6 +7,7 @@ ghost use Rattle.ill_values.specs.Apdu.{IsApdu, IsNumber};
 ghost use Rattle.ill_der.specs.ShortForm.{spelling};
 ghost use Rattle.ill_core.specs.Requester.{IsRequester};
 ghost use Rattle.ill_core.specs.Responder.{IsResponder};
+ghost use Rattle.ill_saved.specs.declared.role.Role.TheVariants as roles;
 ghost use Rattle.ill_saved.specs.Layout.{spell_all, number_octet, mark, marked, counted, counted_text, apdu, ill_request};
 ghost use Rattle.ill_saved.specs.Records.{state_code, due, due_octets, front, requester_states, spell_start, spell_requester, spell_responder, record_spelling};
 ghost use Rattle.ill_saved.specs.Side.{issued_of};
@@ -55,7 +56,7 @@ pub fn encode_behind(
 /// Adds all that stands before the messages issued.
 fn push_requester(bytes: &mut Vec<u8>, requester: &Requester) -> Result<(), OutOfMemory>
     ensures bytes { OnOk result (bytes.new.items ++ (counted apdu).spell requester.now.issued ≡
-        bytes.old.items ++ (spell_start false ++ spell_requester requester.now)) }
+        bytes.old.items ++ (spell_start roles.Requester ++ spell_requester requester.now)) }
     ensures range { OnOk result (RequesterInRange requester.now) }
     ensures consistent { IsRequester requester.now }
 {
@@ -70,7 +71,7 @@ fn push_requester(bytes: &mut Vec<u8>, requester: &Requester) -> Result<(), OutO
 /// Adds all that stands before the messages issued.
 fn push_responder(bytes: &mut Vec<u8>, responder: &Responder) -> Result<(), OutOfMemory>
     ensures bytes { OnOk result (bytes.new.items ++ (counted apdu).spell responder.now.issued ≡
-        bytes.old.items ++ (spell_start true ++ spell_responder responder.now)) }
+        bytes.old.items ++ (spell_start roles.Responder ++ spell_responder responder.now)) }
     ensures range { OnOk result (ResponderInRange responder.now) }
     ensures consistent { IsResponder responder.now }
 {

@@ -4,7 +4,7 @@ ghost use Rattle.std.specs.Prelude.{◌≡◌, ℕ, ◌≤◌, List, length, Ok}
 ghost use Rattle.ill_der.specs.Laws.{IsBytes};
 ghost use Rattle.ill_saved.specs.declared.side.Side.{Side};
 ghost use Rattle.ill_saved.specs.Side.{issued_of, IsRow, Grows, KeepsRequest, Follows, IsFrontOf};
-ghost use Rattle.ill_saved.specs.Records.{record_at, record_spelling};
+ghost use Rattle.ill_saved.specs.Records.{side_spelled, record_at, record_spelling};
 ghost use Rattle.ill_saved.specs.Ranges.{IsInRange, IsSide};
 
 /// A side is read from its spelling: with this, `decode_record` gives back what `encode_record`
@@ -18,9 +18,11 @@ pub fn read_again()
     ill_der::laws::prefix_or_fault();
 }
 
-/// What is read as a side is the spelling of that side.
+/// What is read as a side is the spelling of that side, and where it has the layout alone too.
 pub fn spelled()
-    ensures { (bytes : List ℕ) (side : Side) → IsBytes bytes → record_at bytes ≡ Ok side →
+    ensures side { (bytes : List ℕ) (side : Side) → IsBytes bytes → record_at bytes ≡ Ok side →
+        (bytes ≡ record_spelling side) × IsSide side }
+    ensures layout { (bytes : List ℕ) (side : Side) → IsBytes bytes → side_spelled bytes ≡ Ok side →
         (bytes ≡ record_spelling side) × IsInRange side }
 {
     ill_values::laws::date_texts();

@@ -5,7 +5,7 @@ use Rattle.ill_values.specs.TxnId.{Qualifiers}
 use Rattle.ill_core.specs.Issued.{is_same_txn}
 use Rattle.ill_values.specs.declared.apdu.Body.TheVariants.{Cancel}
 use Rattle.ill_der.specs.declared.fault.DerFault.{DerFault}
-use Rattle.ill_saved.specs.declared.fault.LayoutFault.{LayoutFault}
+use Rattle.ill_saved.specs.declared.fault.RecordFault.{RecordFault}
 use Rattle.ill_saved.specs.declared.side.Side.{Side}
 use Rattle.ill_saved.specs.declared.store.NextCall.TheVariants.{Works}
 use Rattle.ill_saved.specs.Side.{idle_of}
@@ -34,7 +34,7 @@ is_of txn (Err fault) = false
 -- ---- parties
 
 -- the side that was read; there is one where the store is honest
-abbrev pub side_or : Side → Result Side LayoutFault → Side
+abbrev pub side_or : Side → Result Side RecordFault → Side
 side_or live (Ok side) = side
 side_or live (Err fault) = live
 

@@ -1,7 +1,8 @@
-use Rattle.std.proofs.Common.{rules, ◌≡◌, Ok, sym, subst}
+use Rattle.std.proofs.Common.{rules, ◌≡◌, Ok, sym}
 use Rattle.ill_core.specs.Requester.{RequesterRecord, requester_of, IsRequester}
 use Rattle.ill_saved.specs.declared.side.Side.TheVariants as sides
-use Rattle.ill_saved.specs.Records.{read_requester, all_of, IsInconsistent}
+use Rattle.ill_saved.specs.Records.{read_requester, all_of}
+use Rattle.ill_saved.proofs.Records.{judged_not}
 use Rattle.ill_saved.proofs.decoding.requester.Goals as goal
 
 pub returns-in-None : goal.returns-in-None
@@ -10,4 +11,4 @@ returns-in-None c =
     requester_of c.in_ok-txn.txn c.in_ok-state.state c.in_ok-held.held c.in_ok-checked_in.checked_in c.in_ok-due.due c.in_ok-issued.issued.items in
     let read : all_of (read_requester c.args.cursor.now) ≡ Ok (sides.Requester x) = search rules in
     let breaks : IsRequester x → ⊥ = search rules in
-    subst IsInconsistent (sym read) breaks
+    sym (judged_not (all_of (read_requester c.args.cursor.now)) (sides.Requester x) read breaks)

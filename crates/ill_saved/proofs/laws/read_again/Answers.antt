@@ -1,8 +1,8 @@
-use Rattle.ill_saved.proofs.RecordLaws.{side_again}
+use Rattle.ill_saved.proofs.RecordLaws.{record_again}
 use Rattle.ill_saved.proofs.laws.read_again.Goals as goal
 
 pub returns : goal.returns
-returns c = side_again (record {
+returns c = record_again (record {
   day_spelled = c.date_texts.ensures.spelled;
   day_read = c.date_texts.ensures.read;
   text_size = c.text_sizes.ensures.qualifier;

@@ -1,11 +1,14 @@
-use Rattle.ill_saved.proofs.RecordLaws.{side_takes}
+use Rattle.ill_saved.proofs.Fields.{Below}
+use Rattle.ill_saved.proofs.RecordLaws.{side_takes, record_takes}
 use Rattle.ill_saved.proofs.laws.spelled.Goals as goal
 
 pub returns : goal.returns
-returns c = side_takes (record {
-  day_spelled = c.date_texts.ensures.spelled;
-  day_read = c.date_texts.ensures.read;
-  text_size = c.text_sizes.ensures.qualifier;
-  apdu_again = c.read_again.ensures;
-  apdu_or_fault = c.prefix_or_fault.ensures;
-})
+returns c =
+    let below : Below = record {
+      day_spelled = c.date_texts.ensures.spelled;
+      day_read = c.date_texts.ensures.read;
+      text_size = c.text_sizes.ensures.qualifier;
+      apdu_again = c.read_again.ensures;
+      apdu_or_fault = c.prefix_or_fault.ensures;
+    } in
+    record { side = record_takes below; layout = side_takes below }

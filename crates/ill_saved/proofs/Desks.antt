@@ -425,6 +425,7 @@ no_fault : (read : Result Side RecordFault) (begins : Bool) (fault : RecordFault
 no_fault read begins records.Short live released backed decodes is = subst (λ r. IsBackedByRead r live released) (sym decodes) backed
 no_fault read begins (records.Bad at) live released backed decodes is = subst (λ r. IsBackedByRead r live released) (sym decodes) backed
 no_fault read begins records.Inconsistent live released backed decodes is = subst (λ r. IsBackedByRead r live released) (sym decodes) backed
+no_fault read begins records.Digest live released backed decodes is = subst (λ r. IsBackedByRead r live released) (sym decodes) backed
 no_fault read begins records.OutOfMemory live released backed decodes is = is
 
 -- where an honest store backs the side, memory alone is wanted to load what has landed

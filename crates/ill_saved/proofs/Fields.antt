@@ -22,7 +22,7 @@ use Rattle.ill_saved.specs.declared.fault.LayoutFault.{LayoutFault}
 use Rattle.ill_saved.specs.declared.fault.LayoutFault.TheVariants.{Short, Bad}
 use Rattle.ill_saved.specs.declared.role.Role.{Role}
 use Rattle.ill_saved.specs.declared.role.Role.TheVariants as roles
-use Rattle.ill_saved.specs.Layout.{Field, bytes_at, value_at, sized, one_octet, octet, followed_by, constant, count, number_octet, optional_number, mark, text_size, counted_text, apdu_by, apdu, ill_request, marked, spell_all, read_all, counted}
+use Rattle.ill_saved.specs.Layout.{Field, bytes_at, value_at, sized, one_octet, octet, followed_by, constant, count, number_octet, optional_number, mark, text_size, counted_text, apdu_by, apdu, ill_request, marked, spell_all, read_all, counted_by, counted}
 use Rattle.ill_saved.specs.Records.{state_code, state_with, state_in, role_octet, role_with, role}
 use Rattle.ill_saved.specs.Ranges.{Each}
 use Rattle.ill_saved.proofs.Steps.{bind_ok, passed, went_on, chosen, ok_is, found_with, IsBytes-take, IsBytes-rest}
@@ -337,22 +337,32 @@ all_again P f fs (v ∷ vs) at more p =
     let others = all_again P f fs vs first.0 more p.1 in
     (others.0, rw (append_assoc (f.spell v) (spell_all f.spell vs) more, first.1, others.1) refl)
 
-abbrev pub Counted : {V : Type 0} → (V → Type 0) → List V → Type 0
-Counted P vs = Each P vs × (length vs < 256)
+abbrev pub CountedBy : {V : Type 0} → (ℕ → Type 0) → (V → Type 0) → List V → Type 0
+CountedBy Q P vs = Each P vs × Q (length vs)
 
-counted_takes : {V : Type 0} (P : V → Type 0) (f : Field V) → IsField P f → (left : Cursor) (vs : List V) (rest : Cursor) → IsBytes left.bytes → (counted f).read left ≡ Ok (vs, rest)
-    → Takes (counted f) (Counted P) left.bytes vs rest.bytes
-counted_takes P f fs left vs rest fits e =
-    let n = bind_ok (count.read left) (λ n. read_all f n.0 n.1) (vs, rest) e in
-    let first = count_is.takes left n.0.0 n.0.1 fits n.1 in
-    let others = all_takes P f fs n.0.0 n.0.1 vs rest (rest_fits (λ m. m < 256) count count_is left n.0.0 n.0.1 fits n.1) n.2 in
-    (first.0 ∙ ap (λ (x : List ℕ). n.0.0 ∷ x) others.0 ∙ ap (λ (m : ℕ). m ∷ (spell_all f.spell vs ++ rest.bytes)) (sym others.2), (others.1, subst (λ m. m < 256) (sym others.2) first.1))
+counted_takes : {V : Type 0} (Q : ℕ → Type 0) (P : V → Type 0) (size : Field ℕ) (f : Field V) → IsField Q size → IsField P f → (left : Cursor) (vs : List V) (rest : Cursor) → IsBytes left.bytes
+    → (counted_by size f).read left ≡ Ok (vs, rest) → Takes (counted_by size f) (CountedBy Q P) left.bytes vs rest.bytes
+counted_takes Q P size f sizes fs left vs rest fits e =
+    let n = bind_ok (size.read left) (λ n. read_all f n.0 n.1) (vs, rest) e in
+    let first = sizes.takes left n.0.0 n.0.1 fits n.1 in
+    let others = all_takes P f fs n.0.0 n.0.1 vs rest (rest_fits Q size sizes left n.0.0 n.0.1 fits n.1) n.2 in
+    let parts : left.bytes ≡ (size.spell (length vs) ++ spell_all f.spell vs) ++ rest.bytes =
+    first.0 ∙ ap (λ (x : List ℕ). size.spell n.0.0 ++ x) others.0 ∙ ap (λ (m : ℕ). size.spell m ++ (spell_all f.spell vs ++ rest.bytes)) (sym others.2)
+    ∙ sym (append_assoc (size.spell (length vs)) (spell_all f.spell vs) rest.bytes) in
+    (parts, (others.1, subst Q (sym others.2) first.1))
 
-counted_again : {V : Type 0} (P : V → Type 0) (f : Field V) → IsField P f → (vs : List V) (at : ℕ) (more : List ℕ) → Counted P vs → ReadsAgain (counted f) vs at more
-counted_again P f fs vs at more p =
-    let n = count_is.again (length vs) at (spell_all f.spell vs ++ more) p.1 in
+counted_again : {V : Type 0} (Q : ℕ → Type 0) (P : V → Type 0) (size : Field ℕ) (f : Field V) → IsField Q size → IsField P f → (vs : List V) (at : ℕ) (more : List ℕ) → CountedBy Q P vs
+    → ReadsAgain (counted_by size f) vs at more
+counted_again Q P size f sizes fs vs at more p =
+    let n = sizes.again (length vs) at (spell_all f.spell vs ++ more) p.1 in
     let others = all_again P f fs vs n.0 more p.0 in
-    (others.0, rw (n.1, others.1) refl)
+    (others.0, rw (append_assoc (size.spell (length vs)) (spell_all f.spell vs) more, n.1, others.1) refl)
+
+pub counted_by_is : {V : Type 0} (Q : ℕ → Type 0) (P : V → Type 0) (size : Field ℕ) (f : Field V) → IsField Q size → IsField P f → IsField (CountedBy Q P) (counted_by size f)
+counted_by_is Q P size f sizes fs = record { takes = counted_takes Q P size f sizes fs; again = counted_again Q P size f sizes fs }
+
+abbrev pub Counted : {V : Type 0} → (V → Type 0) → List V → Type 0
+Counted P = CountedBy (λ n. n < 256) P
 
 pub counted_is : {V : Type 0} (P : V → Type 0) (f : Field V) → IsField P f → IsField (Counted P) (counted f)
-counted_is P f fs = record { takes = counted_takes P f fs; again = counted_again P f fs }
+counted_is P f fs = counted_by_is (λ n. n < 256) P count f count_is fs

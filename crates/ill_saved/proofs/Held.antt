@@ -24,7 +24,7 @@ same_is a b same =
     let transaction : a.transaction ≡ b.transaction = (bytes_eq-Decides a.transaction b.transaction).0 parts.1 in
     λ i. record { group = group i; transaction = transaction i }
 
-apart_back : (a b : Qualifiers) → is_same_txn a b ≡ false → is_same_txn b a ≡ false
+pub apart_back : (a b : Qualifiers) → is_same_txn a b ≡ false → is_same_txn b a ≡ false
 apart_back a b apart = by (is_same_txn b a) refl
   where
     by : (same : Bool) → is_same_txn b a ≡ same → same ≡ false
@@ -61,7 +61,7 @@ none_more txn side [] none apart = ap (λ same. is_none (cond same (Some side) N
 none_more txn side (x ∷ sides) none apart = none_behind (is_same_txn txn (txn_of x)) x (side_with txn sides) _ none (λ there. none_more txn side sides there apart)
 
 -- one more whose transaction was not held
-apart_more : (side : Side) (sides : List Side) → side_with (txn_of side) sides ≡ None → are_apart sides ≡ true → are_apart (sides ++ side ∷ []) ≡ true
+pub apart_more : (side : Side) (sides : List Side) → side_with (txn_of side) sides ≡ None → are_apart sides ≡ true → are_apart (sides ++ side ∷ []) ≡ true
 unfolding side_with are_apart
 apart_more side [] none apart = refl
 apart_more side (x ∷ sides) none apart =
@@ -70,13 +70,13 @@ apart_more side (x ∷ sides) none apart =
     and_from _ _ (none_more (txn_of x) side sides parts.0 (apart_back (txn_of side) (txn_of x) new.0)) (apart_more side sides new.1 parts.1)
 
 -- what no refusal of a side says
-not_refused : (of_role idle twice room : Bool)
+pub not_refused : (of_role idle twice room : Bool)
     → (if not of_role then Some faults.OtherRole else (if idle then Some faults.Idle else (if twice then Some faults.Twice else (if room then None else Some faults.Full)))) ≡ None
     → (of_role ≡ true) × (idle ≡ false) × (twice ≡ false) × (room ≡ true)
 not_refused true false false true none = (refl, refl, refl, refl)
 not_refused of_role idle twice room none = search rules
 
-not_some : (found : Option Side) → is_some found ≡ false → found ≡ None
+pub not_some : (found : Option Side) → is_some found ≡ false → found ≡ None
 not_some None none = refl
 not_some (Some side) none = absurd (true≢false none)
 

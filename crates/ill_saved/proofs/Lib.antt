@@ -6,6 +6,7 @@ pub mod Fields
 pub mod RecordLaws
 pub mod Roles
 pub mod Held
+pub mod Together
 pub mod Desks
 pub mod Files
 pub mod Sizes

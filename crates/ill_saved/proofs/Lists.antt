@@ -1,5 +1,6 @@
 -- Fields that stand one after another.
-use Rattle.std.proofs.Common.{◌≡◌, ℕ, suc, ◌+◌, ◌<◌, ◌≤◌, length, drop, List, [], ◌∷◌, ◌++◌, Result, Ok, Err, refl, ap, sym, subst, ◌∙◌, append_assoc, append-nil}
+use Rattle.std.proofs.Common.{◌≡◌, ℕ, zero, suc, ◌+◌, ◌<◌, ◌≤◌, length, drop, List, [], ◌∷◌, ◌++◌, Option, None, Result, Ok, Err, refl, ap, sym, subst, ◌∙◌, append_assoc, append-nil, arith}
+use Rattle.std.specs.List.{slice_get}
 use Rattle.ill_der.specs.Format.{◌>>=◌, Cursor}
 use Rattle.ill_saved.specs.declared.fault.LayoutFault.{LayoutFault}
 use Rattle.ill_saved.specs.declared.fault.LayoutFault.TheVariants.{Short, Bad}
@@ -54,6 +55,7 @@ pub fault_kept : {X Y V W : Type 0} (f : X → V) (g : Y → W) (fault : RecordF
 fault_kept f g faults.Short left next first then_read stays read = stays Short read
 fault_kept f g (faults.Bad at) left next first then_read stays read = stays (Bad at) read
 fault_kept f g faults.Inconsistent left next first then_read stays read = absurd read
+fault_kept f g faults.Digest left next first then_read stays read = absurd read
 fault_kept f g faults.OutOfMemory left next first then_read stays read = tt
 
 pub spell_none : {V : Type 0} (spell : V → List ℕ) → spell_all spell [] ≡ []
@@ -98,3 +100,9 @@ pub each_both : {V : Type 0} (P : V → Type 0) (front rest : List V) → Each P
 unfolding Each
 each_both P [] rest of_front of_rest = of_rest
 each_both P (v ∷ front) rest of_front of_rest = (of_front.0, each_both P front rest of_front.1 of_rest)
+
+-- there is an element at a place within a list
+pub none_past : {V : Type 0} (values : List V) (i : ℕ) → i < length values → slice_get values i ≡ None → ⊥
+none_past [] i within none = omega (arith, within)
+none_past (v ∷ values) zero within none = absurd cc
+none_past (v ∷ values) (suc i) within none = none_past values i (omega (arith, within)) none

@@ -12,10 +12,12 @@ use Rattle.ill_saved.specs.Records.{start, side_at, side_spelled, judged, record
 use Rattle.ill_saved.specs.Ranges.{IsSide}
 use Rattle.ill_saved.proofs.Steps.{ok_is}
 
-pub decodes_behind : (bytes : List ℕ) (role : Role) (left : Cursor) (result : Result Side RecordFault) → start.read (cursor_at 0 bytes) ≡ Ok (((tt, (tt, (tt, tt))), role), left)
-    → Decodes (judged (side_at role left)) (has_front role left) result → Decodes (record_at bytes) (begins_as_record bytes) result
+pub decodes_behind : (bytes : List ℕ) (first left : Cursor) (found role : Role) (result : Result Side RecordFault) → first ≡ cursor_at 0 bytes → found ≡ role
+    → start.read first ≡ Ok (((tt, (tt, (tt, tt))), found), left) → Decodes (judged (side_at role left)) (has_front role left) result → Decodes (record_at bytes) (begins_as_record bytes) result
 unfolding record_at side_spelled begins_as_record
-decodes_behind bytes role left result read decodes =
+decodes_behind bytes first left found role result begun is read_first decodes =
+    let read : start.read (cursor_at 0 bytes) ≡ Ok (((tt, (tt, (tt, tt))), role), left) =
+    ap start.read (sym begun) ∙ read_first ∙ ap (λ (r : Role). Ok (((tt, (tt, (tt, tt))), r), left)) is in
     let same : record_at bytes ≡ judged (side_at role left) = ap (λ r. judged (r >>= λ start. side_at start.0.1 start.1)) read in
     let begins : begins_as_record bytes ≡ has_front role left = ap has_front_behind read in
     subst (λ r. Decodes r (begins_as_record bytes) result) (sym same) (subst (λ b. Decodes (judged (side_at role left)) b result) (sym begins) decodes)

@@ -127,12 +127,15 @@ read_all field (suc n) left =
     field.read left >>= λ first. read_all field n first.1 >>= λ others.
     Ok (first.0 ∷ others.0, others.1)
 
--- their count, and so many of a field
-abbrev pub counted : {V : Type 0} → Field V → Field (List V)
-counted field = record {
-  spell = λ values. count.spell (length values) ++ spell_all field.spell values;
-  read = λ left. count.read left >>= λ n. read_all field n.0 n.1;
+-- their count, as this field spells it, and so many of a field
+abbrev pub counted_by : {V : Type 0} → Field ℕ → Field V → Field (List V)
+counted_by size field = record {
+  spell = λ values. size.spell (length values) ++ spell_all field.spell values;
+  read = λ left. size.read left >>= λ n. read_all field n.0 n.1;
 }
+
+abbrev pub counted : {V : Type 0} → Field V → Field (List V)
+counted = counted_by count
 
 -- nothing is left
 abbrev pub ended : Cursor → Result (Unit {0}) LayoutFault
@@ -155,4 +158,5 @@ ReadsInMemory view (Ok value) left read = read ≡ Ok (view value, left)
 ReadsInMemory view (Err faults.Short) left read = read ≡ Err Short
 ReadsInMemory view (Err (faults.Bad at)) left read = read ≡ Err (Bad at)
 ReadsInMemory view (Err faults.Inconsistent) left read = ⊥
+ReadsInMemory view (Err faults.Digest) left read = ⊥
 ReadsInMemory view (Err faults.OutOfMemory) left read = Unit {0}

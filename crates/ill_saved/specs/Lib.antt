@@ -2,6 +2,7 @@ pub mod Side
 pub mod Sides
 pub mod Layout
 pub mod Records
+pub mod Records2
 pub mod Ranges
 pub mod Store
 pub mod Faults

@@ -173,7 +173,7 @@ read_fields roles.Requester left = read_requester left
 read_fields roles.Responder left = read_responder left
 
 -- all of what is left
-abbrev pub all_of : Result (Side × Cursor) LayoutFault → Result Side LayoutFault
+abbrev pub all_of : {V : Type 0} → Result (V × Cursor) LayoutFault → Result V LayoutFault
 all_of read = read >>= λ found. ended found.1 >>= λ _. Ok found.0
 
 -- the side of a role that all of what is left spells, or the first fault

@@ -7,9 +7,12 @@ ghost use Rattle.ill_der.specs.Format as model;
 ghost use Rattle.ill_der.specs.Format.{cursor_at};
 ghost use Rattle.ill_saved.specs.Layout.{Reads, ReadsInMemory, bytes_at, sized, constant, count, optional_number, mark, text_size, counted_text, apdu, ill_request, marked, counted, ended};
 ghost use Rattle.ill_saved.specs.Records.{state_in, requester_states, responder_states, due, role};
+ghost use Rattle.ill_saved.specs.Records2.{two_octets, side_count};
+ghost use Rattle.ill_saved.specs.Sides.{most_sides};
 
 use crate::fault::{LayoutFault, RecordFault};
 use crate::role::Role;
+use crate::sides::MOST_SIDES;
 use ill_core::State;
 use ill_der::{DerFault, decode};
 use ill_values::{Apdu, Body, Day, Number, TxnId};
@@ -37,6 +40,20 @@ impl<'a> Cursor<'a> {
         Cursor { at: 0, bytes }
     }
 
+    /// A cursor behind so many bytes of a record, at these.
+    pub fn behind(at: u32, bytes: &'a [u8]) -> Cursor<'a>
+        ensures { result ≡ cursor_at at bytes.entry.now }
+    {
+        Cursor { at, bytes }
+    }
+
+    /// The offset of the first byte that is not read.
+    pub fn at(&self) -> u32
+        ensures { result ≡ self.now.at }
+    {
+        self.at
+    }
+
     /// Checks that all bytes were read. Otherwise the fault is `Bad` at the first that was not.
     pub fn ended(&self) -> Result<(), LayoutFault>
         ensures { result ≡ ended self.now }
@@ -49,9 +66,9 @@ impl<'a> Cursor<'a> {
     }
 
     /// Reads so many bytes.
-    fn bytes(&mut self, size: usize) -> Result<&'a [u8], LayoutFault>
-        requires room { self.old.at ≤ 2000000 }
-        requires few { size ≤ 1000 }
+    pub fn bytes(&mut self, size: usize) -> Result<&'a [u8], LayoutFault>
+        requires room { self.old.at ≤ 100000000 }
+        requires few { size ≤ 65535 }
         ensures read { Reads (λ part. part.now) result self.new (bytes_at size self.old) }
         ensures near { OnOk result (self.new.at ≡ self.old.at + size) }
     {
@@ -66,7 +83,7 @@ impl<'a> Cursor<'a> {
 
     /// Reads an octet of any value.
     pub fn octet(&mut self) -> Result<u8, LayoutFault>
-        requires room { self.old.at ≤ 2000000 }
+        requires room { self.old.at ≤ 100000000 }
         ensures read { Reads (λ n. n) result self.new (count.read self.old) }
         ensures near { OnOk result (self.new.at ≡ self.old.at + 1) }
     {
@@ -80,9 +97,37 @@ impl<'a> Cursor<'a> {
         }
     }
 
+    /// Reads a number of two octets, the high one first.
+    pub fn two_octets(&mut self) -> Result<usize, LayoutFault>
+        requires room { self.old.at ≤ 100000000 }
+        ensures read { Reads (λ n. n) result self.new (two_octets.read self.old) }
+        ensures few { IfOk result (λ n. n ≤ 65535) }
+        ensures near { OnOk result (self.new.at ≡ self.old.at + 2) }
+    {
+        let octets = self.bytes(2)?;
+        Ok(usize::from(u16::from_be_bytes([octets[0], octets[1]])))
+    }
+
+    /// Reads how many sides there are.
+    pub fn side_count(&mut self) -> Result<u16, LayoutFault>
+        requires room { self.old.at ≤ 1000 }
+        ensures read { Reads (λ n. n) result self.new (side_count.read self.old) }
+        ensures few { IfOk result (λ n. n ≤ most_sides) }
+        ensures near { OnOk result (self.new.at ≡ self.old.at + 2) }
+    {
+        let at = self.at;
+        let octets = self.bytes(2)?;
+        let count = u16::from_be_bytes([octets[0], octets[1]]);
+        if count > MOST_SIDES as u16 {
+            Err(LayoutFault::Bad(at))
+        } else {
+            Ok(count)
+        }
+    }
+
     /// Reads an octet of this one value.
     pub fn constant(&mut self, value: u8) -> Result<(), LayoutFault>
-        requires room { self.old.at ≤ 2000000 }
+        requires room { self.old.at ≤ 100000000 }
         ensures read { Reads (λ v. v) result self.new ((constant value).read self.old) }
         ensures near { OnOk result (self.new.at ≡ self.old.at + 1) }
     {
@@ -96,7 +141,7 @@ impl<'a> Cursor<'a> {
 
     /// Reads a yes or no.
     pub fn mark(&mut self) -> Result<bool, LayoutFault>
-        requires room { self.old.at ≤ 2000000 }
+        requires room { self.old.at ≤ 100000000 }
         ensures read { Reads (λ b. b) result self.new (mark.read self.old) }
         ensures near { OnOk result (self.new.at ≡ self.old.at + 1) }
     {
@@ -110,7 +155,7 @@ impl<'a> Cursor<'a> {
 
     /// Reads a role.
     pub fn role(&mut self) -> Result<Role, LayoutFault>
-        requires room { self.old.at ≤ 2000000 }
+        requires room { self.old.at ≤ 100000000 }
         ensures read { Reads (λ r. r) result self.new (role.read self.old) }
         ensures near { OnOk result (self.new.at ≡ self.old.at + 1) }
     {
@@ -124,7 +169,7 @@ impl<'a> Cursor<'a> {
 
     /// Reads the number of a message, if there is one.
     pub fn optional_number(&mut self) -> Result<Option<Number>, LayoutFault>
-        requires room { self.old.at ≤ 2000000 }
+        requires room { self.old.at ≤ 100000000 }
         ensures read { Reads (λ n. n) result self.new (optional_number.read self.old) }
         ensures near { OnOk result (self.new.at ≡ self.old.at + 1) }
     {
@@ -133,7 +178,7 @@ impl<'a> Cursor<'a> {
 
     /// Reads the state of a requester.
     pub fn requester_state(&mut self) -> Result<State, LayoutFault>
-        requires room { self.old.at ≤ 2000000 }
+        requires room { self.old.at ≤ 100000000 }
         ensures read { Reads (λ s. s) result self.new ((state_in requester_states).read self.old) }
         ensures near { OnOk result (self.new.at ≡ self.old.at + 1) }
     {
@@ -159,7 +204,7 @@ impl<'a> Cursor<'a> {
 
     /// Reads the state of a responder.
     pub fn responder_state(&mut self) -> Result<State, LayoutFault>
-        requires room { self.old.at ≤ 2000000 }
+        requires room { self.old.at ≤ 100000000 }
         ensures read { Reads (λ s. s) result self.new ((state_in responder_states).read self.old) }
         ensures near { OnOk result (self.new.at ≡ self.old.at + 1) }
     {
@@ -200,7 +245,7 @@ impl<'a> Cursor<'a> {
     }
 
     fn text_size(&mut self) -> Result<usize, LayoutFault>
-        requires room { self.old.at ≤ 2000000 }
+        requires room { self.old.at ≤ 100000000 }
         ensures read { Reads (λ n. n) result self.new (text_size.read self.old) }
         ensures few { IfOk result (λ size. size ≤ 64) }
         ensures near { OnOk result (self.new.at ≡ self.old.at + 1) }
@@ -216,7 +261,7 @@ impl<'a> Cursor<'a> {
 
     /// Reads a due date, if there is one.
     pub fn due(&mut self) -> Result<Option<Day>, LayoutFault>
-        requires room { self.old.at ≤ 2000000 }
+        requires room { self.old.at ≤ 100000000 }
         ensures read { Reads (λ d. d) result self.new (due.read self.old) }
         ensures near { OnOk result (self.new.at ≡ self.old.at + 8) }
     {
@@ -233,7 +278,7 @@ impl<'a> Cursor<'a> {
 
     /// Reads an APDU.
     pub fn apdu(&mut self, alloc: Global) -> Result<Apdu, RecordFault>
-        requires room { self.old.at ≤ 2000000 }
+        requires room { self.old.at ≤ 100000000 }
         ensures read { ReadsInMemory (λ a. a) result self.new (apdu.read self.old) }
         ensures near { OnOk result (self.new.at ≤ self.old.at + 359) }
     {
@@ -263,7 +308,7 @@ impl<'a> Cursor<'a> {
     }
 
     fn ill_request(&mut self, alloc: Global) -> Result<Apdu, RecordFault>
-        requires room { self.old.at ≤ 2000000 }
+        requires room { self.old.at ≤ 100000000 }
         ensures read { ReadsInMemory (λ a. a) result self.new (ill_request.read self.old) }
         ensures near { OnOk result (self.new.at ≤ self.old.at + 359) }
     {

@@ -29,7 +29,6 @@ pub fn encode_record(alloc: Global, side: &Side) -> Result<Vec<u8>, OutOfMemory>
 
 /// Encodes a side of which the first messages are spelled already. These are copied, and the others,
 /// which are given, are spelled behind them.
-#[tactic(auto, unfolding(crate::specs::Records::record_spelling))]
 pub fn encode_behind(
     alloc: Global,
     side: &Side,
@@ -43,14 +42,31 @@ pub fn encode_behind(
     ensures side { OnOk result (IsSide side.now) }
 {
     let mut bytes = Vec::new(alloc);
+    push_record(&mut bytes, side, known, others)?;
+    Ok(bytes)
+}
+
+/// Adds the record of a side of which the first messages are spelled already, as above.
+#[tactic(auto, unfolding(crate::specs::Records::record_spelling))]
+pub fn push_record(
+    bytes: &mut Vec<u8>,
+    side: &Side,
+    known: &[u8],
+    others: &[Apdu],
+) -> Result<(), OutOfMemory>
+    requires spelled { known.now ++ spell_all spelling others.now ≡
+        spell_all spelling (issued_of side.now) }
+    requires range { Each IsApdu others.now → Each IsApdu (issued_of side.now) }
+    ensures bytes { OnOk result (bytes.new.items ≡ bytes.old.items ++ record_spelling side.now) }
+    ensures side { OnOk result (IsSide side.now) }
+{
     match side {
-        Side::Requester(requester) => push_requester(&mut bytes, requester)?,
-        Side::Responder(responder) => push_responder(&mut bytes, responder)?,
+        Side::Requester(requester) => push_requester(bytes, requester)?,
+        Side::Responder(responder) => push_responder(bytes, responder)?,
     }
     bytes.push(side.issued_count())?;
     bytes.extend_from_slice(known)?;
-    push_apdus(&mut bytes, others)?;
-    Ok(bytes)
+    push_apdus(bytes, others)
 }
 
 /// Adds all that stands before the messages issued.

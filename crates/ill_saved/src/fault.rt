@@ -27,6 +27,10 @@ pub enum RecordFault {
     /// Memory ran out, before the checks that would follow.
     #[error("memory")]
     OutOfMemory,
+    /// The last 32 octets are not the digest of all before them: the record was damaged. Only a record of
+    /// many sides has a digest.
+    #[error("digest")]
+    Digest,
 }
 
 /// The first fault of bytes that have not the layout of a record.

@@ -4,8 +4,10 @@
 
 mod cursor;
 mod decoding;
+mod decoding2;
 mod desk;
 mod encoding;
+mod encoding2;
 mod fault;
 mod file_store;
 mod fuse_store;
@@ -18,8 +20,10 @@ mod sides;
 mod store;
 
 pub use decoding::decode_record;
+pub use decoding2::decode_record2;
 pub use desk::Desk1;
 pub use encoding::encode_record;
+pub use encoding2::encode_record2;
 pub use fault::{DeskFault, RecordFault, SidesFault};
 pub use file_store::FileStore;
 pub use fuse_store::FuseStore;

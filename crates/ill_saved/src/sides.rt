@@ -14,7 +14,7 @@ use std::alloc::Global;
 use std::marker::Model;
 
 /// The most sides that are held.
-const MOST_SIDES: usize = 1000;
+pub const MOST_SIDES: usize = 1000;
 
 /// The sides of one library, all of one role, in the order in which they were put: none is idle, no two
 /// are of one transaction, and they are 1,000 at most.

@@ -1,10 +1,11 @@
-use Rattle.std.proofs.Common.{rules}
 use Rattle.ill_saved.specs.declared.role.Role.TheVariants as roles
 use Rattle.ill_saved.proofs.Records.{decodes_behind}
 use Rattle.ill_saved.proofs.decoding.decode_record.Goals as goal
 
 pub returns-in-Requester : goal.returns-in-Requester
-returns-in-Requester c = decodes_behind c.args.bytes.now roles.Requester c.role.new.cursor c.requester.result (search rules) c.requester.ensures
+returns-in-Requester c =
+    decodes_behind c.args.bytes.now c.new-cursor.result c.role.new.cursor c.in_ok-role.field-0 roles.Requester c.requester.result c.new-cursor.ensures c.in-Requester.is c.in_ok-role.ensures.read c.requester.ensures
 
 pub returns-in-Responder : goal.returns-in-Responder
-returns-in-Responder c = decodes_behind c.args.bytes.now roles.Responder c.role.new.cursor c.responder.result (search rules) c.responder.ensures
+returns-in-Responder c =
+    decodes_behind c.args.bytes.now c.new-cursor.result c.role.new.cursor c.in_ok-role.field-0 roles.Responder c.responder.result c.new-cursor.ensures c.in-Responder.is c.in_ok-role.ensures.read c.responder.ensures

@@ -1,0 +1,160 @@
+-- Sides that are read one after another, and held together.
+use Rattle.std.proofs.Common.{◌≡◌, ℕ, ◌<◌, ◌≤◌, nat_lt, length, drop, Bool, true, false, cond, not, ◌&&◌, if◌then◌else◌, List, [], ◌∷◌, ◌++◌, Option, Some, None, Result, Ok, Err, is_some, is_none, is_ok, refl, ap, sym, subst, ◌∙◌, inl, inr, true≢false, rules, arith, length-append}
+use Rattle.std.specs.List.{list_all, slice_get}
+use Rattle.std.proofs.lemmas.Bool.{and_parts, and_from, not-true}
+use Rattle.std.proofs.lemmas.List.Folds.{list_all-append}
+use Rattle.ill_values.specs.TxnId.{Qualifiers}
+use Rattle.ill_core.specs.Issued.{is_same_txn}
+use Rattle.ill_der.specs.Format.{◌>>=◌, Cursor, cursor_at}
+use Rattle.ill_saved.specs.declared.role.Role.{Role}
+use Rattle.ill_saved.specs.declared.role.Role.TheVariants as roles
+use Rattle.ill_saved.specs.declared.side.Side.{Side}
+use Rattle.ill_saved.specs.declared.fault.LayoutFault.{LayoutFault}
+use Rattle.ill_saved.specs.declared.fault.RecordFault.{RecordFault}
+use Rattle.ill_saved.specs.declared.fault.RecordFault.TheVariants as faults
+use Rattle.ill_saved.specs.declared.fault.SidesFault.{SidesFault}
+use Rattle.ill_saved.specs.declared.fault.SidesFault.TheVariants as refusals
+use Rattle.ill_saved.specs.Side.{role_of, txn_of, is_idle, keeps_rules}
+use Rattle.ill_saved.specs.Sides.{SidesOf, side_with, is_same_role, may_stand, are_apart, may_be_held, most_sides, put_refusal, put_last}
+use Rattle.ill_saved.specs.Layout.{followed_by, counted_by, read_all, ended}
+use Rattle.ill_saved.specs.Records.{role, front, start, states_of, has_front, has_front_behind, requester_fields, responder_fields, requester_rest, responder_rest, requester_states, responder_states, read_fields, side_at, side_spelled, record_at, begins_as_record, Decodes}
+use Rattle.ill_saved.specs.Records2.{part, side_count, role_and_sides, unsealed, together, judged_together, sides_at, alone, read_alone, is_version_1, has_count, has_count_behind, records_at, begins_as_records, PutsRead}
+use Rattle.ill_saved.proofs.Steps.{bind_ok}
+use Rattle.ill_saved.proofs.Records.{judged_ok}
+use Rattle.ill_saved.proofs.Held.{apart_back, apart_more, not_refused, not_some}
+
+-- ---- holding together
+
+-- one more that is not refused is held too
+pub held_more : (held : SidesOf) (side : Side) → may_be_held held ≡ true → put_refusal held side ≡ None → may_be_held (put_last held side) ≡ true
+held_more held side is none =
+    let parts = and_parts _ _ is in
+    let may = not_refused (is_same_role held.role (role_of side)) (is_idle side) (is_some (side_with (txn_of side) held.sides)) (nat_lt (length held.sides) most_sides) none in
+    let stands : may_stand held.role side ≡ true = and_from _ _ may.0 (ap not may.1) in
+    and_from _ _ (list_all-append (may_stand held.role) held.sides (side ∷ []) ∙ and_from _ _ parts.0 (and_from _ _ stands refl))
+    (apart_more side held.sides (not_some (side_with (txn_of side) held.sides) may.2) parts.1)
+
+first_apart : (is : Bool) (found : Option Side) (x : Side) → is_none (cond is (Some x) found) ≡ true → (is ≡ false) × (is_none found ≡ true)
+first_apart true found x none = absurd (true≢false (sym none))
+first_apart false found x none = (refl, none)
+
+-- what is not found in a list is none of its elements
+apart_of : (txn : Qualifiers) (front : List Side) (side : Side) (rest : List Side) → is_none (side_with txn (front ++ side ∷ rest)) ≡ true → is_same_txn txn (txn_of side) ≡ false
+unfolding side_with
+apart_of txn [] side rest none = (first_apart (is_same_txn txn (txn_of side)) (side_with txn rest) side none).0
+apart_of txn (x ∷ front) side rest none = apart_of txn front side rest (first_apart (is_same_txn txn (txn_of x)) (side_with txn (front ++ side ∷ rest)) x none).1
+
+-- a side is not found among those before it
+not_before : (front : List Side) (side : Side) (rest : List Side) → are_apart (front ++ side ∷ rest) ≡ true → is_some (side_with (txn_of side) front) ≡ false
+unfolding side_with are_apart
+not_before [] side rest apart = refl
+not_before (x ∷ front) side rest apart =
+    let parts = and_parts (is_none (side_with (txn_of x) (front ++ side ∷ rest))) (are_apart (front ++ side ∷ rest)) apart in
+    let differs : is_same_txn (txn_of side) (txn_of x) ≡ false = apart_back (txn_of x) (txn_of side) (apart_of (txn_of x) front side rest parts.0) in
+    ap (λ same. is_some (cond same (Some x) (side_with (txn_of side) front))) differs ∙ not_before front side rest parts.1
+
+less : (a b : ℕ) → a < b → nat_lt a b ≡ true
+less a b is = search rules
+
+none_refused : (same idle twice room : Bool) → same ≡ true → idle ≡ false → twice ≡ false → room ≡ true
+    → (if not same then Some refusals.OtherRole else (if idle then Some refusals.Idle else (if twice then Some refusals.Twice else (if room then None else Some refusals.Full)))) ≡ None
+none_refused same idle twice room is_same no_idle once free = rw (is_same, no_idle, once, free) refl
+
+-- sides that may be held together are put one after another
+stands_last : (role : Role) (front : List Side) (side : Side) (rest : List Side) → length (front ++ side ∷ rest) ≤ most_sides
+    → may_be_held (record { role = role; sides = front ++ side ∷ rest }) ≡ true → put_refusal (record { role = role; sides = front }) side ≡ None
+stands_last role front side rest few held =
+    let parts = and_parts (list_all (may_stand role) (front ++ side ∷ rest)) (are_apart (front ++ side ∷ rest)) held in
+    let all : list_all (may_stand role) front && list_all (may_stand role) (side ∷ rest) ≡ true = sym (list_all-append (may_stand role) front (side ∷ rest)) ∙ parts.0 in
+    let behind = and_parts (list_all (may_stand role) front) (list_all (may_stand role) (side ∷ rest)) all in
+    let stands = and_parts (may_stand role side) (list_all (may_stand role) rest) behind.1 in
+    let one = and_parts (is_same_role role (role_of side)) (not (is_idle side)) stands.0 in
+    let room : length front < most_sides = omega (arith, few, length-append front (side ∷ rest)) in
+    none_refused (is_same_role role (role_of side)) (is_idle side) (is_some (side_with (txn_of side) front)) (nat_lt (length front) most_sides)
+    one.0 (not-true (is_idle side) one.1) (not_before front side rest parts.1) (less (length front) most_sides room)
+
+inconsistent : (held : Bool) (all : SidesOf) → (held ≡ true → ⊥) → Err faults.Inconsistent ≡ cond held (Ok all) (Err faults.Inconsistent)
+inconsistent true all breaks = absurd (breaks refl)
+inconsistent false all breaks = refl
+
+-- a side that may not stand with those before it
+pub put_fails : (of_role : Role) (all : List Side) (held : SidesOf) (side : Side) (rest : List Side) (fault : RecordFault) (new : SidesOf) → held.role ≡ of_role → held.sides ++ side ∷ rest ≡ all → length all ≤ most_sides
+    → PutsRead held side (Err fault) new → Decodes (together (record { role = of_role; sides = all })) true (Err fault)
+put_fails of_role all held side rest faults.Inconsistent new same whole few puts =
+    let breaks : may_be_held (record { role = of_role; sides = all }) ≡ true → ⊥ =
+    λ stand. puts (stands_last held.role held.sides side rest (omega (arith, few, ap length whole))
+    (ap (λ sides. may_be_held (record { role = held.role; sides = sides })) whole ∙ ap (λ r. may_be_held (record { role = r; sides = all })) same ∙ stand)) in
+    inconsistent (may_be_held (record { role = of_role; sides = all })) (record { role = of_role; sides = all }) breaks
+put_fails of_role all held side rest faults.OutOfMemory new same whole few puts = refl
+put_fails of_role all held side rest fault new same whole few puts = absurd puts
+
+-- all that were read are held
+pub all_put : (of_role : Role) (all : List Side) (held : SidesOf) → held.role ≡ of_role → held.sides ≡ all → may_be_held held ≡ true → Decodes (together (record { role = of_role; sides = all })) true (Ok held)
+all_put of_role all held same whole is =
+    let there : held ≡ record { role = of_role; sides = all } = λ i. record { role = same i; sides = whole i } in
+    subst (λ other. Ok held ≡ together other) there (sym (ap (λ keeps. cond keeps (Ok held) (Err faults.Inconsistent)) is))
+
+-- ---- a record of one side
+
+ok_begins : {V W : Type 0} (r : Result V LayoutFault) (f : V → Result W LayoutFault) (w : W) → (r >>= f) ≡ Ok w → is_ok r ≡ true
+ok_begins (Ok v) f w e = refl
+ok_begins (Err fault) f w e = absurd cc
+
+fields_begin : (r : Role) (left : Cursor) (side : Side) → side_at r left ≡ Ok side → has_front r left ≡ true
+fields_begin roles.Requester left side e =
+    let found = bind_ok (read_fields roles.Requester left) _ side e in
+    let fields = bind_ok (requester_fields.read left) _ found.0 found.1 in
+    ok_begins ((front requester_states).read left) _ fields.0 fields.1
+fields_begin roles.Responder left side e =
+    let found = bind_ok (read_fields roles.Responder left) _ side e in
+    let fields = bind_ok (responder_fields.read left) _ found.0 found.1 in
+    ok_begins ((front responder_states).read left) _ fields.0 fields.1
+
+-- what is read as a side begins as one
+read_begins : (bytes : List ℕ) (side : Side) → record_at bytes ≡ Ok side → begins_as_record bytes ≡ true
+unfolding record_at side_spelled begins_as_record
+read_begins bytes side e =
+    let read = judged_ok (side_spelled bytes) side e in
+    let begun = bind_ok (start.read (cursor_at 0 bytes)) (λ start. side_at start.0.1 start.1) side read.0 in
+    ap has_front_behind begun.1 ∙ fields_begin begun.0.0.1 begun.0.1 side begun.2
+
+own_role : (r : Role) → is_same_role r r ≡ true
+own_role roles.Requester = refl
+own_role roles.Responder = refl
+
+none_first : (side : Side) → is_idle side ≡ false → put_refusal (record { role = role_of side; sides = [] }) side ≡ None
+unfolding side_with
+none_first side begun = none_refused (is_same_role (role_of side) (role_of side)) (is_idle side) false true (own_role (role_of side)) begun refl refl
+
+-- a side that has begun stands alone, memory aside
+pub alone_fails : (bytes : List ℕ) (side : Side) (fault : RecordFault) (new : SidesOf) → Ok side ≡ record_at bytes → is_idle side ≡ false → PutsRead (record { role = role_of side; sides = [] }) side (Err fault) new
+    → Decodes (read_alone (record_at bytes)) (begins_as_record bytes) (Err fault)
+alone_fails bytes side faults.Inconsistent new read begun puts = absurd (puts (none_first side begun))
+alone_fails bytes side faults.OutOfMemory new read begun puts = read_begins bytes side (sym read)
+alone_fails bytes side fault new read begun puts = absurd puts
+
+-- ---- a record of many sides
+
+-- the sides behind their count, which nothing follows
+pub all_held : (octets : List ℕ) (first behind_role behind_count last : Cursor) (of_role : Role) (n : ℕ) (sides : List Side) (x : Unit {0}) (result : Result SidesOf RecordFault) → first ≡ cursor_at 4 octets
+    → role.read first ≡ Ok (of_role, behind_role) → side_count.read behind_role ≡ Ok (n, behind_count) → read_all part n behind_count ≡ Ok (sides, last) → ended last ≡ Ok x
+    → Decodes (together (record { role = of_role; sides = sides })) true result → Decodes (sides_at octets) (has_count octets) result
+all_held octets first behind_role behind_count last of_role n sides x result begun read_role read_count read_sides at_end decodes =
+    let role_read : role.read (cursor_at 4 octets) ≡ Ok (of_role, behind_role) = ap role.read (sym begun) ∙ read_role in
+    let counted : (counted_by side_count part).read behind_role ≡ Ok (sides, last) = ap (λ r. r >>= λ n. read_all part n.0 n.1) read_count ∙ read_sides in
+    let whole : role_and_sides.read (cursor_at 4 octets) ≡ Ok ((of_role, sides), last) =
+    ap (λ r. r >>= λ a. (counted_by side_count part).read a.1 >>= λ b. Ok ((a.0, b.0), b.1)) role_read ∙ ap (λ r. r >>= λ b. Ok ((of_role, b.0), b.1)) counted in
+    let same : sides_at octets ≡ together (record { role = of_role; sides = sides }) =
+    ap (λ r. judged_together (r >>= λ found. ended found.1 >>= λ _. Ok found.0)) whole ∙ ap (λ r. judged_together (r >>= λ _. Ok (of_role, sides))) at_end in
+    let begins : has_count octets ≡ true =
+    ap (λ r. is_ok {T = (Role × ℕ) × Cursor} (r >>= λ a. side_count.read a.1 >>= λ b. Ok ((a.0, b.0), b.1))) role_read ∙ ap (λ r. is_ok {T = (Role × ℕ) × Cursor} (r >>= λ b. Ok ((of_role, b.0), b.1))) read_count in
+    subst (λ r. Decodes r (has_count octets) result) (sym same) (subst (λ b. Decodes (together (record { role = of_role; sides = sides })) b result) (sym begins) decodes)
+
+-- what is sealed wrongly, or not at all
+pub unsealed_not : (bytes : List ℕ) (fault : RecordFault) → is_version_1 bytes ≡ false → Decodes (unsealed bytes) false (Err fault) → Decodes (records_at bytes) (begins_as_records bytes) (Err fault)
+unfolding records_at
+unsealed_not bytes faults.OutOfMemory another decodes = absurd (true≢false (sym decodes))
+unsealed_not bytes faults.Short another decodes = rw (another, sym decodes) refl
+unsealed_not bytes (faults.Bad at) another decodes = rw (another, sym decodes) refl
+unsealed_not bytes faults.Inconsistent another decodes = rw (another, sym decodes) refl
+unsealed_not bytes faults.Digest another decodes = rw (another, sym decodes) refl

@@ -1,0 +1,144 @@
+//! Decoding of many sides from one saved record.
+
+ghost use Rattle.std.specs.Prelude.{◌≡◌, ◌+◌, ◌≤◌, ◌<◌, true, false, Ok, Err, length, IfOk, IfErr, OnOk};
+ghost use Rattle.ill_saved.specs.Layout.{ReadsInMemory, read_all};
+ghost use Rattle.ill_saved.specs.Records.{record_at, begins_as_record, Decodes};
+ghost use Rattle.ill_saved.specs.Records2.{unsealed, part, together, sides_at, read_alone, has_count, records_at, begins_as_records, PutsRead};
+ghost use Rattle.ill_saved.specs.Sides.{most_sides};
+
+use crate::cursor::Cursor;
+use crate::decoding::decode_record;
+use crate::fault::{RecordFault, SidesFault};
+use crate::role::Role;
+use crate::side::Side;
+use crate::sides::Sides;
+use sha2::{Digest, Sha256};
+use std::alloc::Global;
+
+/// How many octets the digest has.
+const DIGEST_SIZE: usize = 32;
+
+/// How few octets no record of version 2 has: the version, the role, the count and the digest.
+const SMALLEST: usize = 39;
+
+/// Decodes a saved record of many sides, which must take up all of the bytes, or gives their first fault.
+///
+/// Bytes that begin with `ILL1` are a record of one side: it is alone, and where it is idle there is none.
+/// Memory is taken as decoding goes on: from the count on, and in version 1 from the qualifiers on.
+#[tactic(auto, unfolding(
+    crate::specs::Records2::records_at,
+    crate::specs::Records2::begins_as_records
+))]
+pub fn decode_record2(alloc: Global, bytes: &[u8]) -> Result<Sides, RecordFault>
+    ensures { Decodes (records_at bytes.now) (begins_as_records bytes.now) result }
+{
+    if bytes.starts_with(b"ILL1".as_slice()) {
+        one_side(alloc, bytes)
+    } else {
+        many_sides(alloc, unsealed(bytes)?)
+    }
+}
+
+/// The side of a record of version 1, alone.
+fn one_side(alloc: Global, bytes: &[u8]) -> Result<Sides, RecordFault>
+    ensures { Decodes (read_alone (record_at bytes.now)) (begins_as_record bytes.now) result }
+{
+    let side = decode_record(alloc, bytes)?;
+    let mut sides = Sides::new(alloc, side.role())?;
+    if !side.is_idle() {
+        put(alloc, &mut sides, side)?;
+    }
+    Ok(sides)
+}
+
+/// What stands between the version and the digest, where both are right.
+#[tactic(auto, unfolding(crate::specs::Records2::unsealed))]
+fn unsealed(bytes: &[u8]) -> Result<&[u8], RecordFault>
+    ensures octets { IfOk result (λ octets. unsealed bytes.now ≡ Ok octets.now) }
+    ensures fault { IfErr result (λ fault. Decodes (unsealed bytes.now) false (Err fault)) }
+{
+    if bytes.len() < SMALLEST {
+        return Err(RecordFault::Short);
+    }
+    if !bytes.starts_with(b"ILL2".as_slice()) {
+        return Err(RecordFault::Bad(0));
+    }
+    let (body, digest) = bytes.split_at(bytes.len() - DIGEST_SIZE);
+    if digest == Sha256::digest(body).as_slice() {
+        Ok(&body[4..])
+    } else {
+        Err(RecordFault::Digest)
+    }
+}
+
+/// The sides of a record of version 2, from what stands between its version and its digest.
+fn many_sides(alloc: Global, octets: &[u8]) -> Result<Sides, RecordFault>
+    ensures { Decodes (sides_at octets.now) (has_count octets.now) result }
+{
+    let mut cursor = Cursor::behind(4, octets);
+    let role = cursor.role()?;
+    let count = cursor.side_count()?;
+    let sides = parts(alloc, &mut cursor, count)?;
+    cursor.ended()?;
+    held_together(alloc, role, sides)
+}
+
+/// Reads this number of records, each behind its length.
+#[tactic(auto, using(crate::proofs::Lists::behind_none))]
+fn parts(alloc: Global, cursor: &mut Cursor<'_>, count: u16) -> Result<Vec<Side>, RecordFault>
+    requires room { cursor.old.at ≤ 7 }
+    requires few { count ≤ most_sides }
+    ensures read { ReadsInMemory (λ sides. sides.items) result cursor.new
+        (read_all part count cursor.old) }
+    ensures few { IfOk result (λ sides. length sides.items ≡ count) }
+{
+    let mut sides = Vec::with_capacity(alloc, usize::from(count))?;
+    for _ in 0..count {
+        sides.push(part(alloc, cursor)?)?;
+    }
+    Ok(sides)
+}
+
+/// Reads a record behind its length. Whatever is wrong with it is wrong at its first byte.
+fn part(alloc: Global, cursor: &mut Cursor<'_>) -> Result<Side, RecordFault>
+    requires room { cursor.old.at ≤ 70000000 }
+    ensures read { ReadsInMemory (λ side. side) result cursor.new (part.read cursor.old) }
+    ensures near { OnOk result (cursor.new.at ≤ cursor.old.at + 65537) }
+{
+    let at = cursor.at();
+    let Ok(size) = cursor.two_octets() else {
+        return Err(RecordFault::Bad(at));
+    };
+    let first = cursor.at();
+    let Ok(record) = cursor.bytes(size) else {
+        return Err(RecordFault::Bad(first));
+    };
+    match decode_record(alloc, record) {
+        Ok(side) => Ok(side),
+        Err(RecordFault::OutOfMemory) => Err(RecordFault::OutOfMemory),
+        Err(_) => Err(RecordFault::Bad(first)),
+    }
+}
+
+/// The sides, if they may be held together.
+fn held_together(alloc: Global, role: Role, read: Vec<Side>) -> Result<Sides, RecordFault>
+    requires few { length read.items ≤ most_sides }
+    ensures { Decodes (together (record { role = role; sides = read.items })) true result }
+{
+    let mut sides = Sides::new(alloc, role)?;
+    for side in read {
+        put(alloc, &mut sides, side)?;
+    }
+    Ok(sides)
+}
+
+/// Puts a side behind the others, or says that it may not stand with them.
+fn put(alloc: Global, sides: &mut Sides, side: Side) -> Result<(), RecordFault>
+    ensures { PutsRead sides.old side result sides.new }
+{
+    match sides.put(alloc, side) {
+        Ok(()) => Ok(()),
+        Err((SidesFault::OutOfMemory, _)) => Err(RecordFault::OutOfMemory),
+        Err(_) => Err(RecordFault::Inconsistent),
+    }
+}

@@ -4,6 +4,7 @@ pub mod Rules
 pub mod Steps
 pub mod Fields
 pub mod RecordLaws
+pub mod SidesLaws
 pub mod Roles
 pub mod Held
 pub mod Together

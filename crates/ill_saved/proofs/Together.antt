@@ -25,15 +25,6 @@ use Rattle.ill_saved.proofs.Held.{apart_back, apart_more, not_refused, not_some}
 
 -- ---- holding together
 
--- one more that is not refused is held too
-pub held_more : (held : SidesOf) (side : Side) → may_be_held held ≡ true → put_refusal held side ≡ None → may_be_held (put_last held side) ≡ true
-held_more held side is none =
-    let parts = and_parts _ _ is in
-    let may = not_refused (is_same_role held.role (role_of side)) (is_idle side) (is_some (side_with (txn_of side) held.sides)) (nat_lt (length held.sides) most_sides) none in
-    let stands : may_stand held.role side ≡ true = and_from _ _ may.0 (ap not may.1) in
-    and_from _ _ (list_all-append (may_stand held.role) held.sides (side ∷ []) ∙ and_from _ _ parts.0 (and_from _ _ stands refl))
-    (apart_more side held.sides (not_some (side_with (txn_of side) held.sides) may.2) parts.1)
-
 first_apart : (is : Bool) (found : Option Side) (x : Side) → is_none (cond is (Some x) found) ≡ true → (is ≡ false) × (is_none found ≡ true)
 first_apart true found x none = absurd (true≢false (sym none))
 first_apart false found x none = (refl, none)
@@ -87,12 +78,6 @@ put_fails of_role all held side rest faults.Inconsistent new same whole few puts
     inconsistent (may_be_held (record { role = of_role; sides = all })) (record { role = of_role; sides = all }) breaks
 put_fails of_role all held side rest faults.OutOfMemory new same whole few puts = refl
 put_fails of_role all held side rest fault new same whole few puts = absurd puts
-
--- all that were read are held
-pub all_put : (of_role : Role) (all : List Side) (held : SidesOf) → held.role ≡ of_role → held.sides ≡ all → may_be_held held ≡ true → Decodes (together (record { role = of_role; sides = all })) true (Ok held)
-all_put of_role all held same whole is =
-    let there : held ≡ record { role = of_role; sides = all } = λ i. record { role = same i; sides = whole i } in
-    subst (λ other. Ok held ≡ together other) there (sym (ap (λ keeps. cond keeps (Ok held) (Err faults.Inconsistent)) is))
 
 -- ---- a record of one side
 

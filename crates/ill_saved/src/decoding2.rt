@@ -25,10 +25,7 @@ const SMALLEST: usize = 39;
 ///
 /// Bytes that begin with `ILL1` are a record of one side: it is alone, and where it is idle there is none.
 /// Memory is taken as decoding goes on: from the count on, and in version 1 from the qualifiers on.
-#[tactic(auto, unfolding(
-    crate::specs::Records2::records_at,
-    crate::specs::Records2::begins_as_records
-))]
+#[tactic(auto, unfolding(crate::specs::Records2::records_at, crate::specs::Records2::begins_as_records))]
 pub fn decode_record2(alloc: Global, bytes: &[u8]) -> Result<Sides, RecordFault>
     ensures { Decodes (records_at bytes.now) (begins_as_records bytes.now) result }
 {

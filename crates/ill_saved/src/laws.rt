@@ -1,11 +1,13 @@
 //! What holds of saved records, as contracts of functions that do nothing.
 
-ghost use Rattle.std.specs.Prelude.{◌≡◌, ℕ, ◌≤◌, List, length, Ok};
+ghost use Rattle.std.specs.Prelude.{◌≡◌, ℕ, ◌≤◌, List, false, length, Ok};
 ghost use Rattle.ill_der.specs.Laws.{IsBytes};
 ghost use Rattle.ill_saved.specs.declared.side.Side.{Side};
 ghost use Rattle.ill_saved.specs.Side.{issued_of, IsRow, Grows, KeepsRequest, Follows, IsFrontOf};
 ghost use Rattle.ill_saved.specs.Records.{side_spelled, record_at, record_spelling};
+ghost use Rattle.ill_saved.specs.Records2.{sides_spelling, is_version_1, records_at, AreSides};
 ghost use Rattle.ill_saved.specs.Ranges.{IsInRange, IsSide};
+ghost use Rattle.ill_saved.specs.Sides.{SidesOf};
 
 /// A side is read from its spelling: with this, `decode_record` gives back what `encode_record`
 /// spelled.
@@ -46,6 +48,32 @@ pub fn record_is_short()
     ill_values::laws::text_sizes();
     ill_der::laws::longest();
     ill_der::laws::shorter();
+}
+
+/// Sides are read from their spelling: with this, `decode_record2` gives back what `encode_record2` spelled.
+pub fn sides_read_again()
+    ensures { (held : SidesOf) → AreSides held → records_at (sides_spelling held) ≡ Ok held }
+{
+    read_again();
+    spelled();
+    record_is_short();
+}
+
+/// What is read as sides, and is no record of version 1, is the spelling of these sides.
+pub fn sides_spelled()
+    ensures { (bytes : List ℕ) (held : SidesOf) → IsBytes bytes → is_version_1 bytes ≡ false →
+        records_at bytes ≡ Ok held → (bytes ≡ sides_spelling held) × AreSides held }
+{
+    read_again();
+    spelled();
+    record_is_short();
+}
+
+/// No bytes spell two lists of sides, or one of two roles.
+pub fn one_sides()
+    ensures { (a b : SidesOf) → AreSides a → AreSides b → sides_spelling a ≡ sides_spelling b → a ≡ b }
+{
+    sides_read_again();
 }
 
 /// An action or a message keeps the role and the transaction, and takes no message away.

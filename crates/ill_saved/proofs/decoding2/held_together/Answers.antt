@@ -1,5 +1,5 @@
 use Rattle.std.proofs.Common.{rules, ◌≡◌, ◌++◌, ◌∷◌, ap, sym, ◌∙◌}
-use Rattle.ill_saved.proofs.Together.{held_more, put_fails, all_put}
+use Rattle.ill_saved.proofs.Together.{put_fails}
 use Rattle.ill_saved.proofs.decoding2.held_together.Goals as goal
 
 pub returns-in_err-put : goal.returns-in_err-put

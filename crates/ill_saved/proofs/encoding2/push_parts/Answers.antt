@@ -1,9 +1,9 @@
 use Rattle.std.proofs.Common.{◌≡◌, ◌+◌, ◌≤◌, ◌<◌, ◌++◌, length, drop, Some, ap, sym, ◌∙◌, arith, rules}
 use Rattle.std.specs.List.{slice_get}
-use Rattle.std.proofs.lemmas.Option.{slice_get_within, get_or_from_slice_get}
+use Rattle.std.proofs.lemmas.Option.{get_or_from_slice_get}
 use Rattle.ill_saved.specs.Layout.{spell_all}
 use Rattle.ill_saved.specs.Records2.{part}
-use Rattle.ill_saved.specs.Ranges.{Each, IsSide}
+use Rattle.ill_saved.specs.Ranges.{IsSide}
 use Rattle.ill_saved.proofs.Lists.{one_spelled, all_spelled, one_each, none_each, none_past}
 use Rattle.ill_saved.proofs.encoding2.push_parts.Goals as goal
 use Rattle.ill_saved.proofs.encoding2.push_parts.Goals.{in-Some+in_ok-push_part, in_default}

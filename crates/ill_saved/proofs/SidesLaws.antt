@@ -1,0 +1,220 @@
+-- The laws of records of many sides: what is read is spelled so, and what is spelled is read again.
+use Rattle.std.proofs.Common.{◌≡◌, ℕ, ◌+◌, ◌-◌, ◌<◌, ◌≤◌, ltb, leb, Bool, true, false, cond, not, List, [], ◌∷◌, ◌++◌, length, take, drop, Option, Some, None, Result, Ok, Err, refl, sym, ap, subst, ◌∙◌, append_assoc, append-nil, length-append, arith, rules}
+use Rattle.std.specs.Prelude.{nat_eq}
+use Rattle.std.specs.Int.{w16, byte_at, to_be_bytes, from_be_bytes}
+use Rattle.std.specs.List.{starts_with}
+use Rattle.std.specs.Result.{result_ok}
+use Rattle.std.specs.Str.{bytes_eq}
+use Rattle.std.proofs.lemmas.Bool.{eqb-true, leb-true, le-leb, ltb-false, le-ltb, not-true}
+use Rattle.std.proofs.lemmas.List.{take_at, drop_at, take-append-drop, take-take, nil_from_length}
+use Rattle.std.proofs.lemmas.Nat.{be_bytes_2, from_be_bytes-to_be_bytes_2}
+use Rattle.std.proofs.lemmas.Option.{same_Some, cond_some}
+use Rattle.std.proofs.lemmas.Slice.Eq.{bytes_eq-Decides}
+use Rattle.sha2.specs.Sha256.{sha256}
+use Rattle.sha2.proofs.Facts256.{length-sha256}
+use Rattle.ill_der.specs.Format.{◌>>=◌, Cursor, cursor_at}
+use Rattle.ill_der.specs.Laws.{IsBytes}
+use Rattle.ill_saved.specs.declared.role.Role.{Role}
+use Rattle.ill_saved.specs.declared.side.Side.{Side}
+use Rattle.ill_saved.specs.declared.fault.LayoutFault.{LayoutFault}
+use Rattle.ill_saved.specs.declared.fault.LayoutFault.TheVariants.{Bad}
+use Rattle.ill_saved.specs.declared.fault.RecordFault.{RecordFault}
+use Rattle.ill_saved.specs.declared.fault.RecordFault.TheVariants as faults
+use Rattle.ill_saved.specs.Sides.{SidesOf, most_sides, may_be_held}
+use Rattle.ill_saved.specs.Layout.{sized, followed_by, counted_by, spell_all, ended}
+use Rattle.ill_saved.specs.Records.{role, role_octet, all_of, record_at, record_spelling}
+use Rattle.ill_saved.specs.Records2.{version_1, version_2, two_octets, few_sides, side_count, bad_at, one_record, part, role_and_sides, body_of, sides_spelling, body, unsealed, together, judged_together, sides_at, read_alone, is_version_1, records_at, AreSides}
+use Rattle.ill_saved.specs.Ranges.{IsSide}
+use Rattle.ill_saved.proofs.Steps.{bind_ok, ok_is, passed, went_on, IsBytes-take, IsBytes-rest}
+use Rattle.ill_saved.proofs.Fields.{ReadsAgain, Takes, IsField, IsSized, Any, Both, CountedBy, rest_fits, sized_is, followed_is, counted_by_is, role_is}
+
+-- what the laws of one record say
+pub record OneRecord : Type 0 where
+  pub spelled : (bytes : List ℕ) (side : Side) → IsBytes bytes → record_at bytes ≡ Ok side → (bytes ≡ record_spelling side) × IsSide side
+  pub again : (side : Side) → IsSide side → record_at (record_spelling side) ≡ Ok side
+  pub short : (side : Side) → IsSide side → length (record_spelling side) ≤ 41811
+
+-- ---- two octets
+
+two_below : (bytes : List ℕ) → length bytes ≡ 2 → IsBytes bytes → from_be_bytes w16 bytes < 65536
+two_below [] two fits = omega (arith, two)
+two_below (a ∷ []) two fits = omega (arith, two)
+two_below (a ∷ b ∷ []) two fits =
+    let high : a < 256 = fits 0 in
+    let low : b < 256 = fits 1 in
+    omega (arith, high, low)
+two_below (a ∷ b ∷ c ∷ rest) two fits = omega (arith, two)
+
+spells_two : (bytes : List ℕ) (n : ℕ) → IsBytes bytes → length bytes ≡ 2 → from_be_bytes w16 bytes ≡ n → bytes ≡ to_be_bytes w16 n
+spells_two bytes n fits two read = sym (be_bytes_2 bytes n two fits (sym read))
+
+two_octets_is : IsField (λ n. n < 65536) two_octets
+two_octets_is = sized_is (λ n. n < 65536) 2 _ (record {
+  takes = λ bytes n fits two e.
+      let read = same_Some (from_be_bytes w16 bytes) n e in
+      (spells_two bytes n fits two read, subst (λ m. m < 65536) read (two_below bytes two fits));
+  again = λ n small. (ap Some (from_be_bytes-to_be_bytes_2 n small), refl);
+})
+
+side_count_is : IsField (λ n. n ≤ most_sides) side_count
+side_count_is = sized_is (λ n. n ≤ most_sides) 2 _ (record {
+  takes = λ bytes n fits two e.
+      let read = cond_some (leb (from_be_bytes w16 bytes) most_sides) (from_be_bytes w16 bytes) n e in
+      (spells_two bytes n fits two read.1, subst (λ m. m ≤ most_sides) read.1 (leb-true (from_be_bytes w16 bytes) most_sides read.0));
+  again = λ n few. (ap few_sides (from_be_bytes-to_be_bytes_2 n (omega (arith, few))) ∙ ap (λ b. cond b (Some n) None) (le-leb n most_sides few), refl);
+})
+
+-- ---- a record behind its length
+
+ok_found : (r : Result Side RecordFault) (side : Side) → result_ok r ≡ Some side → r ≡ Ok side
+ok_found (Ok found) side e = ap Ok (same_Some found side e)
+ok_found (Err fault) side e = absurd cc
+
+record_sized : OneRecord → (n : ℕ) → IsSized (λ side. IsSide side × (length (record_spelling side) ≡ n)) n one_record
+record_sized one n = record {
+  takes = λ bytes side fits size e.
+      let is = one.spelled bytes side fits (ok_found (record_at bytes) side e) in
+      (is.0, (is.1, ap length (sym is.0) ∙ size));
+  again = λ side p. (ap result_ok (one.again side p.0), p.1);
+}
+
+good_at : {X : Type 0} (at : ℕ) (r : Result X LayoutFault) (x : X) → bad_at at r ≡ Ok x → r ≡ Ok x
+good_at at (Ok found) x e = ap Ok (ok_is found x e)
+good_at at (Err fault) x e = absurd cc
+
+part_takes : OneRecord → (left : Cursor) (side : Side) (rest : Cursor) → IsBytes left.bytes → part.read left ≡ Ok (side, rest) → Takes part IsSide left.bytes side rest.bytes
+part_takes one left side rest fits e =
+    let size = bind_ok (bad_at left.at (two_octets.read left)) (λ size. bad_at size.1.at ((sized size.0 one_record).read size.1)) (side, rest) e in
+    let read = good_at left.at (two_octets.read left) size.0 size.1 in
+    let first = two_octets_is.takes left size.0.0 size.0.1 fits read in
+    let behind_fits = rest_fits (λ n. n < 65536) two_octets two_octets_is left size.0.0 size.0.1 fits read in
+    let second = (sized_is _ size.0.0 one_record (record_sized one size.0.0)).takes size.0.1 side rest behind_fits (good_at size.0.1.at _ (side, rest) size.2) in
+    let parts : left.bytes ≡ (two_octets.spell (length (record_spelling side)) ++ record_spelling side) ++ rest.bytes =
+    first.0 ∙ ap (λ (x : List ℕ). two_octets.spell size.0.0 ++ x) second.0 ∙ ap (λ (n : ℕ). two_octets.spell n ++ (record_spelling side ++ rest.bytes)) (sym second.1.1)
+    ∙ sym (append_assoc (two_octets.spell (length (record_spelling side))) (record_spelling side) rest.bytes) in
+    (parts, second.1.0)
+
+part_again : OneRecord → (side : Side) (at : ℕ) (more : List ℕ) → IsSide side → ReadsAgain part side at more
+part_again one side at more is =
+    let n = length (record_spelling side) in
+    let size = two_octets_is.again n at (record_spelling side ++ more) (omega (arith, one.short side is)) in
+    let text = (sized_is _ n one_record (record_sized one n)).again side size.0 more (is, refl) in
+    (text.0, rw (append_assoc (two_octets.spell n) (record_spelling side) more, size.1, text.1) refl)
+
+part_is : OneRecord → IsField IsSide part
+part_is one = record { takes = part_takes one; again = part_again one }
+
+-- ---- all sides
+
+abbrev ManySides : List Side → Type 0
+ManySides = CountedBy (λ n. n ≤ most_sides) IsSide
+
+role_and_sides_is : OneRecord → IsField (Both Any ManySides) role_and_sides
+role_and_sides_is one = followed_is Any ManySides role (counted_by side_count part) role_is (counted_by_is (λ n. n ≤ most_sides) IsSide side_count part side_count_is (part_is one))
+
+abbrev octets_of : SidesOf → List ℕ
+octets_of held = role_and_sides.spell (held.role, held.sides)
+
+sides_again : OneRecord → (held : SidesOf) → AreSides held → sides_at (octets_of held) ≡ Ok held
+sides_again one held are =
+    let read = (role_and_sides_is one).again (held.role, held.sides) 4 [] (tt, (are.each, are.few)) in
+    let whole : role_and_sides.read (cursor_at 4 (octets_of held)) ≡ Ok ((held.role, held.sides), cursor_at read.0 []) =
+    ap (λ (octets : List ℕ). role_and_sides.read (cursor_at 4 octets)) (sym (append-nil (octets_of held))) ∙ read.1 in
+    ap (λ r. judged_together (all_of r)) whole ∙ ap (λ keeps. cond keeps (Ok held) (Err faults.Inconsistent)) are.held
+
+same_bytes : (a b : List ℕ) → a ≡ b → bytes_eq a b ≡ true
+same_bytes a b same = (bytes_eq-Decides a b).1 same
+
+seven_first : (a b c d e f g : ℕ) (rest : List ℕ) → 7 ≤ length (a ∷ b ∷ c ∷ d ∷ e ∷ f ∷ g ∷ rest)
+seven_first a b c d e f g rest = omega arith
+
+unsealed_again : (held : SidesOf) → unsealed (sides_spelling held) ≡ Ok (octets_of held)
+unfolding unsealed sides_spelling
+unsealed_again held =
+    let front = body_of held in
+    let digest = sha256 front in
+    let bytes = front ++ digest in
+    let closed : length digest ≡ 32 = length-sha256 front in
+    let all = length-append front digest in
+    let seven : 7 ≤ length front = seven_first 73 76 76 50 (role_octet held.role) (byte_at 1 (length held.sides)) (byte_at 0 (length held.sides)) (spell_all part.spell held.sides) in
+    let long : ltb (length bytes) 39 ≡ false = le-ltb (length bytes) 39 (omega (arith, closed, all, seven)) in
+    let at_digest : length front ≡ length bytes - 32 = omega (arith, closed, all) in
+    let taken : body bytes ≡ front = take_at front digest (length bytes - 32) at_digest in
+    let dropped : drop (length bytes - 32) bytes ≡ digest = drop_at front digest (length bytes - 32) at_digest in
+    let sealed : bytes_eq (drop (length bytes - 32) bytes) (sha256 (body bytes)) ≡ true = same_bytes _ _ (dropped ∙ ap sha256 (sym taken)) in
+    rw (long, sealed) (ap (λ (x : List ℕ). Ok (drop 4 x)) taken)
+
+second : (held : SidesOf) → is_version_1 (sides_spelling held) ≡ false
+unfolding sides_spelling
+second held = refl
+
+pub read_again : OneRecord → (held : SidesOf) → AreSides held → records_at (sides_spelling held) ≡ Ok held
+unfolding records_at
+read_again one held are =
+    rw (second held, unsealed_again held) (sides_again one held are)
+
+-- ---- what is read
+
+together_is : (keeps : Bool) (found held : SidesOf) → cond keeps (Ok found) (Err faults.Inconsistent) ≡ Ok held → (keeps ≡ true) × (found ≡ held)
+together_is true found held e = (refl, ok_is found held e)
+together_is false found held e = absurd cc
+
+judged_is : (r : Result (Role × List Side) LayoutFault) (held : SidesOf) → judged_together r ≡ Ok held → (r ≡ Ok (held.role, held.sides)) × (may_be_held held ≡ true)
+judged_is (Ok found) held e =
+    let both = together_is (may_be_held (record { role = found.0; sides = found.1 })) (record { role = found.0; sides = found.1 }) held e in
+    (ap (λ (x : SidesOf). Ok (x.role, x.sides)) both.1, ap may_be_held (sym both.1) ∙ both.0)
+judged_is (Err fault) held e = absurd cc
+
+ends : (left : Cursor) (x : Unit {0}) → ended left ≡ Ok x → left.bytes ≡ []
+ends left x e = nil_from_length left.bytes (eqb-true (length left.bytes) 0 (passed _ (Ok tt) (Bad left.at) x e).0)
+
+sides_take : OneRecord → (octets : List ℕ) (held : SidesOf) → IsBytes octets → sides_at octets ≡ Ok held → (octets ≡ octets_of held) × AreSides held
+sides_take one octets held fits e =
+    let judged = judged_is (all_of (role_and_sides.read (cursor_at 4 octets))) held e in
+    let found = bind_ok (role_and_sides.read (cursor_at 4 octets)) (λ found. ended found.1 >>= λ _. Ok found.0) (held.role, held.sides) judged.0 in
+    let last = bind_ok (ended found.0.1) (λ _. Ok found.0.0) (held.role, held.sides) found.2 in
+    let same : found.0.0 ≡ (held.role, held.sides) = ok_is found.0.0 (held.role, held.sides) last.2 in
+    let is = (role_and_sides_is one).takes (cursor_at 4 octets) found.0.0 found.0.1 fits found.1 in
+    let spelled : octets ≡ octets_of held =
+    is.0 ∙ ap (λ (x : List ℕ). role_and_sides.spell found.0.0 ++ x) (ends found.0.1 last.0 last.1) ∙ append-nil (role_and_sides.spell found.0.0) ∙ ap role_and_sides.spell same in
+    let parts : Both Any ManySides (held.role, held.sides) = subst (Both Any ManySides) same is.1 in
+    (spelled, record { held = judged.1; each = parts.1.0; few = parts.1.1 })
+
+-- what is sealed right
+abbrev IsSealed : List ℕ → List ℕ → Type 0
+IsSealed bytes octets = (bytes ≡ (version_2 ++ octets) ++ sha256 (version_2 ++ octets)) × IsBytes octets
+
+unsealed_is : (bytes octets : List ℕ) → IsBytes bytes → unsealed bytes ≡ Ok octets → IsSealed bytes octets
+unfolding unsealed
+unsealed_is bytes octets fits e =
+    let size = length bytes - 32 in
+    let long = went_on (ltb (length bytes) 39) _ faults.Short octets e in
+    let begun = went_on (not (starts_with nat_eq bytes version_2)) _ (faults.Bad 0) octets long.1 in
+    let closed = passed (bytes_eq (drop size bytes) (sha256 (body bytes))) (Ok (drop 4 (body bytes))) faults.Digest octets begun.1 in
+    let enough : 39 ≤ length bytes = ltb-false (length bytes) 39 long.0 in
+    let begins : starts_with nat_eq bytes version_2 ≡ true = not_not (starts_with nat_eq bytes version_2) begun.0 in
+    let version : version_2 ≡ take 4 bytes = (bytes_eq-Decides version_2 (take 4 bytes)).0 begins in
+    let digest : drop size bytes ≡ sha256 (body bytes) = (bytes_eq-Decides (drop size bytes) (sha256 (body bytes))).0 closed.0 in
+    let behind : drop 4 (body bytes) ≡ octets = ok_is (drop 4 (body bytes)) octets closed.1 in
+    let first : take 4 (body bytes) ≡ version_2 = take-take 4 size bytes (omega (arith, enough)) ∙ sym version in
+    let front : body bytes ≡ version_2 ++ octets =
+    sym (take-append-drop 4 (body bytes)) ∙ ap (λ (x : List ℕ). x ++ drop 4 (body bytes)) first ∙ ap (λ (x : List ℕ). version_2 ++ x) behind in
+    let whole : bytes ≡ body bytes ++ sha256 (body bytes) = sym (take-append-drop size bytes) ∙ ap (λ (x : List ℕ). body bytes ++ x) digest in
+    (subst (λ (x : List ℕ). bytes ≡ x ++ sha256 x) front whole, IsBytes-rest (body bytes) version_2 octets front (IsBytes-take size bytes fits))
+  where
+    not_not : (b : Bool) → not b ≡ false → b ≡ true
+    not_not true e = refl
+    not_not false e = absurd cc
+
+pub spelled : OneRecord → (bytes : List ℕ) (held : SidesOf) → IsBytes bytes → is_version_1 bytes ≡ false → records_at bytes ≡ Ok held → (bytes ≡ sides_spelling held) × AreSides held
+unfolding records_at sides_spelling
+spelled one bytes held fits another e =
+    let many : (unsealed bytes >>= sides_at) ≡ Ok held = sym (ap (λ b. cond b (read_alone (record_at bytes)) (unsealed bytes >>= sides_at)) another) ∙ e in
+    let octets = bind_ok (unsealed bytes) sides_at held many in
+    let sealed = unsealed_is bytes octets.0 fits octets.1 in
+    let is = sides_take one octets.0 held sealed.1 octets.2 in
+    (sealed.0 ∙ ap (λ (x : List ℕ). (version_2 ++ x) ++ sha256 (version_2 ++ x)) is.0, is.1)
+
+pub one_sides : ((held : SidesOf) → AreSides held → records_at (sides_spelling held) ≡ Ok held)
+    → (a b : SidesOf) → AreSides a → AreSides b → sides_spelling a ≡ sides_spelling b → a ≡ b
+one_sides again a b first second e = ok_is a b (sym (again a first) ∙ ap records_at e ∙ again b second)

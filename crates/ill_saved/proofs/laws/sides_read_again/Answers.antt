@@ -1,0 +1,5 @@
+use Rattle.ill_saved.proofs.SidesLaws.{read_again}
+use Rattle.ill_saved.proofs.laws.sides_read_again.Goals as goal
+
+pub returns : goal.returns
+returns c = read_again (record { spelled = c.spelled.ensures.side; again = c.read_again.ensures; short = c.record_is_short.ensures })

@@ -47,6 +47,8 @@ use Rattle.ill_saved.specs.declared.store.StoreFault.TheVariants as stores
 use Rattle.ill_saved.specs.declared.store.NextCall.{NextCall}
 use Rattle.ill_saved.specs.declared.store.NextCall.TheVariants as plans
 use Rattle.ill_saved.specs.Side.{issued_of, txn_of, standing_of, back_to, is_asked, KeepsRequest, IsConsistent, idle_of, done_by, acts, takes, Acts, Takes, IsRow, IsFrontOf, Grows, acted, took, Follows, same, further}
+use Rattle.ill_saved.specs.Faults.{of_record}
+use Rattle.ill_saved.proofs.Records.{no_digest}
 use Rattle.ill_saved.specs.Records.{record_at, record_spelling, begins_as_record, Decodes}
 use Rattle.ill_saved.specs.Ranges.{Each, IsSide}
 use Rattle.ill_saved.specs.Store.{LandsAtSave, Allows}
@@ -419,6 +421,14 @@ pub back_rules : ReadsAgain → (old_honest honest : Bool) (old_landed landed by
     → (old_honest ≡ true → landed ≡ old_landed) → (old_honest ≡ true → bytes ≡ old_landed) → GoesBackTo kept released bytes true old new → Rules honest landed kept new released
 back_rules again old_honest honest old_landed landed bytes kept old new released stays lands load (spelled, is, of) =
     whole_rules old_honest honest old_landed landed bytes kept old new released stays lands load (back_is again kept released bytes old new (spelled, is, of)) is.0.0 (keeps_whole kept new released is of.all) of.all
+
+-- what a record's fault is to a desk
+pub record_loads : (bytes : List ℕ) (begins : Bool) (fault : RecordFault) → Decodes (record_at bytes) begins (Err fault) → IsLoadFault (of_record fault)
+record_loads bytes begins records.OutOfMemory decodes = tt
+record_loads bytes begins records.Short decodes = tt
+record_loads bytes begins (records.Bad at) decodes = tt
+record_loads bytes begins records.Inconsistent decodes = tt
+record_loads bytes begins records.Digest decodes = absurd (no_digest bytes decodes)
 
 -- no fault is found in a record that backs a side
 no_fault : (read : Result Side RecordFault) (begins : Bool) (fault : RecordFault) (live : Side) (released : ℕ) → IsBackedByRead read live released → Decodes read begins (Err fault) → IsLoadFault (faults.Saved fault) → ⊥

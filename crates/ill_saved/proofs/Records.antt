@@ -3,6 +3,7 @@ use Rattle.std.proofs.Common.{◌≡◌, ℕ, Bool, true, false, cond, List, Res
 use Rattle.std.specs.Prelude.{IfOk}
 use Rattle.ill_der.specs.Format.{◌>>=◌, Cursor, cursor_at}
 use Rattle.ill_saved.specs.declared.fault.LayoutFault.{LayoutFault}
+use Rattle.ill_saved.specs.declared.fault.LayoutFault.TheVariants.{Short, Bad}
 use Rattle.ill_saved.specs.declared.fault.RecordFault.{RecordFault}
 use Rattle.ill_saved.specs.declared.fault.RecordFault.TheVariants as faults
 use Rattle.ill_saved.specs.declared.role.Role.{Role}
@@ -54,3 +55,17 @@ not_kept false side breaks = refl
 -- what breaks a rule does not
 pub judged_not : (read : Result Side LayoutFault) (side : Side) → read ≡ Ok side → (IsConsistent side → ⊥) → judged read ≡ Err faults.Inconsistent
 judged_not read side is breaks = ap judged is ∙ not_kept (keeps_rules side) side breaks
+
+kept_no_digest : (keeps : Bool) (side : Side) → Err faults.Digest ≡ cond keeps (Ok side) (Err faults.Inconsistent) → ⊥
+kept_no_digest true side is = cc
+kept_no_digest false side is = cc
+
+judged_no_digest : (read : Result Side LayoutFault) → Err faults.Digest ≡ judged read → ⊥
+judged_no_digest (Ok side) is = kept_no_digest (keeps_rules side) side is
+judged_no_digest (Err Short) is = cc
+judged_no_digest (Err (Bad at)) is = cc
+
+-- a record of one side has no digest
+pub no_digest : (bytes : List ℕ) → Err faults.Digest ≡ record_at bytes → ⊥
+unfolding record_at
+no_digest bytes is = judged_no_digest (side_spelled bytes) is

@@ -3,7 +3,7 @@
 ghost use Rattle.std.specs.Prelude.{◌≡◌, ◌<◌, ◌++◌, length, IfOk, OnOk};
 ghost use Rattle.ill_saved.specs.Layout.{spell_all};
 ghost use Rattle.ill_saved.specs.Records.{role_octet};
-ghost use Rattle.ill_saved.specs.Records2.{two_octets, part, sides_spelling};
+ghost use Rattle.ill_saved.specs.Records2.{two_octets, part, sides_spelling, AreSides};
 ghost use Rattle.ill_saved.specs.Ranges.{Each, IsSide};
 
 use crate::encoding::push_record;
@@ -22,7 +22,7 @@ use std::alloc::Global;
 #[tactic(auto, unfolding(crate::specs::Records2::sides_spelling))]
 pub fn encode_record2(alloc: Global, sides: &Sides) -> Result<Vec<u8>, OutOfMemory>
     ensures bytes { IfOk result (λ bytes. bytes.items ≡ sides_spelling sides.now) }
-    ensures sides { OnOk result (Each IsSide sides.now.sides) }
+    ensures sides { OnOk result (AreSides sides.now) }
 {
     let mut bytes = Vec::new(alloc);
     bytes.extend_from_slice(b"ILL2")?;

@@ -25,6 +25,12 @@ pub enum RecordCall {
     Octets,
     /// The cases are the fronts of the bytes.
     Fronts,
+    /// As a record of many sides.
+    Records,
+    /// The same, of the fronts of the bytes.
+    RecordsFronts,
+    /// The same, of the bytes with their SHA-256 behind them.
+    Sealed,
 }
 
 /// A call of a desk, or of a store, with bytes.
@@ -62,15 +68,23 @@ pub enum SidesCall {
     Fill,
     Get,
     At,
+    PutLongest,
+    Again,
 }
 
-static CALLS: [(&str, Call); 27] = [
+static CALLS: [(&str, Call); 32] = [
     ("", Call::Note),
     ("#", Call::Note),
     ("let", Call::Let),
     ("record", Call::Case(CaseCall::Record(RecordCall::Record))),
     ("octets", Call::Case(CaseCall::Record(RecordCall::Octets))),
     ("fronts", Call::Case(CaseCall::Record(RecordCall::Fronts))),
+    ("records", Call::Case(CaseCall::Record(RecordCall::Records))),
+    (
+        "records-fronts",
+        Call::Case(CaseCall::Record(RecordCall::RecordsFronts)),
+    ),
+    ("sealed", Call::Case(CaseCall::Record(RecordCall::Sealed))),
     ("save", Call::Case(CaseCall::Bytes(BytesCall::Save))),
     ("take", Call::Case(CaseCall::Bytes(BytesCall::Take))),
     ("hand", Call::Case(CaseCall::Bytes(BytesCall::Hand))),
@@ -92,6 +106,14 @@ static CALLS: [(&str, Call); 27] = [
     (
         "at",
         Call::Case(CaseCall::Words(WordsCall::Sides(SidesCall::At))),
+    ),
+    (
+        "put-longest",
+        Call::Case(CaseCall::Words(WordsCall::Sides(SidesCall::PutLongest))),
+    ),
+    (
+        "again",
+        Call::Case(CaseCall::Words(WordsCall::Sides(SidesCall::Again))),
     ),
     ("store", Call::Case(CaseCall::Words(WordsCall::Store))),
     ("fuse", Call::Case(CaseCall::Words(WordsCall::Fuse))),

@@ -2,6 +2,8 @@
 
 use crate::calls::{SidesCall, named};
 use crate::line::Line;
+use crate::longest::longest;
+use crate::many::write_again;
 use crate::records::write_head;
 use ill_core::Wish;
 use ill_saved::{Action, Role, Side, Sides, SidesFault, decode_record};
@@ -21,6 +23,8 @@ pub fn call(
         SidesCall::Fill => fill(alloc, line, sides.as_mut()?, words),
         SidesCall::Get => get(alloc, line, sides.as_ref()?, words),
         SidesCall::At => at(line, sides.as_ref()?, words),
+        SidesCall::PutLongest => put_longest(alloc, line, sides.as_mut()?),
+        SidesCall::Again => write_again(alloc, line, sides.as_ref()?),
     }
 }
 
@@ -57,6 +61,17 @@ fn asking(alloc: Global, number: u16) -> Option<Side> {
 /// `put RECORD`: the side of this record is put.
 pub fn put(alloc: Global, line: &mut Line, sides: &mut Sides, record: &[u8]) -> Option<()> {
     let side = decode_record(alloc, record).ok()?;
+    put_side(alloc, line, sides, side);
+    Some(())
+}
+
+/// `put-longest`: a side whose record is the longest is put.
+fn put_longest(alloc: Global, line: &mut Line, sides: &mut Sides) -> Option<()> {
+    put_side(alloc, line, sides, longest(alloc)?);
+    Some(())
+}
+
+fn put_side(alloc: Global, line: &mut Line, sides: &mut Sides, side: Side) {
     match sides.put(alloc, side) {
         Ok(()) => line.text("done"),
         Err((fault, side)) => {
@@ -67,7 +82,6 @@ pub fn put(alloc: Global, line: &mut Line, sides: &mut Sides, record: &[u8]) -> 
     }
     line.text("; ");
     write_held(line, sides);
-    Some(())
 }
 
 fn fault_word(fault: SidesFault) -> &'static str {
@@ -102,7 +116,7 @@ fn write_found(line: &mut Line, side: Option<&Side>) {
 }
 
 /// Writes how many sides are held, and the role of all.
-fn write_held(line: &mut Line, sides: &Sides) {
+pub fn write_held(line: &mut Line, sides: &Sides) {
     line.show(&sides.len());
     line.text(match sides.role() {
         Role::Requester => " requester",

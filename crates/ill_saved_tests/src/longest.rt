@@ -67,7 +67,7 @@ fn write_desk<S: Store>(alloc: Global, line: &mut Line, desk: &Desk1<S>) -> Opti
 }
 
 /// A responder with the longest qualifiers, request and messages: a Shipped, and 254 renewals.
-fn longest(alloc: Global) -> Option<Side> {
+pub fn longest(alloc: Global) -> Option<Side> {
     let txn = TxnId::new(alloc, &[b'g'; 64], &[b't'; 64]).ok()?;
     let due = Day::new(2025, 3, 15).ok()?;
     let issued = issued(alloc, &txn, due)?;

@@ -23,6 +23,7 @@ mod held;
 mod idle;
 mod line;
 mod longest;
+mod many;
 mod names;
 mod records;
 mod restarts;

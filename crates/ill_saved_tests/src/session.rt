@@ -3,6 +3,7 @@
 use crate::bench::Answers;
 use crate::calls::{Call, CaseCall, RecordCall, call_of};
 use crate::line::Line;
+use crate::many::{write_records, write_sealed};
 use crate::names::Names;
 use crate::records::write_record;
 use crate::runs::Run;
@@ -84,7 +85,7 @@ impl<B: Answers> Session<B> {
 
     /// How many cases a line has. Those of `fronts` are fronts, which have the sizes from 0 on.
     fn count(&self, call: CaseCall, words: &str) -> usize {
-        if let CaseCall::Record(RecordCall::Fronts) = call {
+        if let CaseCall::Record(RecordCall::Fronts | RecordCall::RecordsFronts) = call {
             if let Some(bytes) = self.names.bytes(words, 0) {
                 return bytes.len().saturating_add(1);
             }
@@ -110,11 +111,22 @@ impl<B: Answers> Session<B> {
             }
             CaseCall::Record(call) => {
                 let bytes = self.names.bytes(words, case)?;
-                write_record(self.alloc, line, front_of(call, &bytes, case));
-                Some(())
+                write_bytes(self.alloc, line, call, front_of(call, &bytes, case))
             }
         }
     }
+}
+
+/// Writes what bytes are as a record, of one side or of many.
+fn write_bytes(alloc: Global, line: &mut Line, call: RecordCall, bytes: &[u8]) -> Option<()> {
+    match call {
+        RecordCall::Record | RecordCall::Octets | RecordCall::Fronts => {
+            write_record(alloc, line, bytes);
+        }
+        RecordCall::Records | RecordCall::RecordsFronts => write_records(alloc, line, bytes),
+        RecordCall::Sealed => write_sealed(alloc, line, bytes)?,
+    }
+    Some(())
 }
 
 /// A case without the answer behind it. Notes stay as they are.
@@ -137,7 +149,7 @@ fn octet_of(call: CaseCall, case: usize) -> Option<u8> {
 /// The bytes of a case: a front of these, where the cases are fronts.
 fn front_of(call: RecordCall, bytes: &[u8], case: usize) -> &[u8] {
     match call {
-        RecordCall::Fronts => bytes.get(..case).unwrap_or(bytes),
+        RecordCall::Fronts | RecordCall::RecordsFronts => bytes.get(..case).unwrap_or(bytes),
         _ => bytes,
     }
 }

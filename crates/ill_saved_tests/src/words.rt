@@ -35,6 +35,7 @@ pub fn write_record_fault(line: &mut Line, fault: RecordFault) {
         RecordFault::Short => line.text("short"),
         RecordFault::Inconsistent => line.text("inconsistent"),
         RecordFault::OutOfMemory => line.text("memory"),
+        RecordFault::Digest => line.text("digest"),
     }
 }
 

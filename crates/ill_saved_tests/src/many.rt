@@ -1,0 +1,58 @@
+//! What bytes are as a saved record of many sides.
+
+use crate::again::all_written_and_read;
+use crate::held::write_held;
+use crate::line::Line;
+use crate::records::write_head;
+use crate::words::write_record_fault;
+use ill_saved::{Sides, decode_record2, encode_record2};
+use sha2::{Digest, Sha256};
+use std::alloc::Global;
+
+/// Writes what bytes are as a record of many sides: a fault, or how many sides there are and each of them.
+pub fn write_records(alloc: Global, line: &mut Line, bytes: &[u8]) {
+    match decode_record2(alloc, bytes) {
+        Ok(sides) => write_sides(alloc, line, &sides, bytes),
+        Err(fault) => write_record_fault(line, fault),
+    }
+}
+
+/// The same of the bytes with their SHA-256 behind them.
+pub fn write_sealed(alloc: Global, line: &mut Line, bytes: &[u8]) -> Option<()> {
+    let mut sealed = Vec::from_slice(alloc, bytes).ok()?;
+    sealed.extend_from_slice(&Sha256::digest(bytes)).ok()?;
+    write_records(alloc, line, &sealed);
+    Some(())
+}
+
+/// `again`: the size of the record of the sides, which is read as the same sides.
+pub fn write_again(alloc: Global, line: &mut Line, sides: &Sides) -> Option<()> {
+    let record = encode_record2(alloc, sides).ok()?;
+    let again = all_written_and_read(alloc, sides).ok()?;
+    line.show(&record.len());
+    line.text(" octets; ");
+    write_held(line, &again);
+    Some(())
+}
+
+fn write_sides(alloc: Global, line: &mut Line, sides: &Sides, bytes: &[u8]) {
+    write_held(line, sides);
+    for place in 0..sides.len() {
+        if let Some(side) = sides.at(place) {
+            line.text(", ");
+            write_head(line, side.state(), side.txn());
+        }
+    }
+    line.text(if is_record_of(alloc, sides, bytes) {
+        "; the same bytes"
+    } else {
+        "; other bytes"
+    });
+}
+
+fn is_record_of(alloc: Global, sides: &Sides, bytes: &[u8]) -> bool {
+    match encode_record2(alloc, sides) {
+        Ok(record) => record.as_slice() == bytes,
+        Err(_) => false,
+    }
+}

@@ -1,12 +1,22 @@
-//! The sides of one library.
+//! The sides of one library, and their saved record.
 
-use crate::judging::{Outcome, done_if, judged, leaving, quiet};
+use crate::judging::{Outcome, done_if, encoded, judged, leaving, quiet};
 use crate::marks::{begin, end};
 use crate::messages::txn;
 use ill_core::Wish;
-use ill_saved::{Action, Role, Side, Sides, SidesFault};
+use ill_saved::{
+    Action, RecordFault, Role, Side, Sides, SidesFault, decode_record2, encode_record2,
+};
 use ill_values::{Item, TxnId};
 use std::alloc::Global;
+
+/// The record of a requester that has asked, and the SHA-256 of all before it.
+const RECORD: &[u8] =
+    b"ILL2\x00\x00\x01\x00\x2FILL1\x00\x01\x02G1\x02T1\x00\x0000000000\x01\x61\x16\x80\x01\x01\xA1\x08\x81\x02G1\x82\x02T1\x82\x01\x01\x86\x04Maps\x3D\x48\x11\x50\x56\xCE\x9C\x51\xD3\xC9\xC7\x41\xB5\xF8\x76\x10\x10\xCB\xA1\x4B\x51\x26\xFC\xE8\x99\x1A\x47\xE0\xB7\xB1\xD7\xB5";
+
+/// The record of version 1 of the same side.
+const ONE_SIDE: &[u8] =
+    b"ILL1\x00\x01\x02G1\x02T1\x00\x0000000000\x01\x61\x16\x80\x01\x01\xA1\x08\x81\x02G1\x82\x02T1\x82\x01\x01\x86\x04Maps";
 
 /// What comes of this call.
 pub fn outcome(alloc: Global, call: &str) -> Option<Outcome> {
@@ -15,6 +25,10 @@ pub fn outcome(alloc: Global, call: &str) -> Option<Outcome> {
         "put" => puts(alloc),
         "put-refused" => refuses(alloc),
         "get" => finds(alloc),
+        "encode" => encodes(alloc),
+        "decode" => decodes(alloc, RECORD),
+        "decode-one" => decodes(alloc, ONE_SIDE),
+        "decode-faults" => faults(alloc),
         _ => None,
     }
 }
@@ -71,6 +85,56 @@ fn finds(alloc: Global) -> Option<Outcome> {
     let is_told = sides.len() == 1 && sides.role() == Role::Requester;
     let refused = end(alloc);
     Some(quiet(is_found && is_told, refused))
+}
+
+/// `encode_record2`
+fn encodes(alloc: Global) -> Option<Outcome> {
+    let sides = held(alloc)?;
+    begin(alloc);
+    let bytes = encode_record2(alloc, &sides);
+    let refused = end(alloc);
+    Some(encoded(&bytes, RECORD, refused))
+}
+
+/// `decode_record2`, whose sides are those of the one record.
+fn decodes(alloc: Global, record: &[u8]) -> Option<Outcome> {
+    begin(alloc);
+    let decoded = decode_record2(alloc, record);
+    let refused = end(alloc);
+    let outcome = match &decoded {
+        Ok(sides) => done_if(is_spelled(alloc, sides)),
+        Err(RecordFault::OutOfMemory) => Outcome::Memory,
+        Err(_) => Outcome::Wrong,
+    };
+    drop(decoded);
+    Some(judged(outcome, refused))
+}
+
+fn is_spelled(alloc: Global, sides: &Sides) -> bool {
+    match encode_record2(alloc, sides) {
+        Ok(bytes) => bytes.as_slice() == RECORD,
+        Err(_) => false,
+    }
+}
+
+/// `decode_record2` of bytes that are found wrong before the count is read.
+fn faults(alloc: Global) -> Option<Outcome> {
+    begin(alloc);
+    let short = fault_in(alloc, &RECORD[..38]);
+    let version = fault_in(alloc, &RECORD[1..]);
+    let digest = fault_in(alloc, &RECORD[..87]);
+    let refused = end(alloc);
+    let is_right = short == Some(RecordFault::Short)
+        && version == Some(RecordFault::Bad(0))
+        && digest == Some(RecordFault::Digest);
+    Some(quiet(is_right, refused))
+}
+
+fn fault_in(alloc: Global, record: &[u8]) -> Option<RecordFault> {
+    match decode_record2(alloc, record) {
+        Ok(_) => None,
+        Err(fault) => Some(fault),
+    }
 }
 
 /// A side that has asked, among the sides of one library.

@@ -1,5 +1,5 @@
 -- Fields that stand one after another.
-use Rattle.std.proofs.Common.{◌≡◌, ℕ, zero, suc, ◌+◌, ◌<◌, ◌≤◌, length, drop, List, [], ◌∷◌, ◌++◌, Option, None, Result, Ok, Err, refl, ap, sym, subst, ◌∙◌, append_assoc, append-nil, arith}
+use Rattle.std.proofs.Common.{◌≡◌, ℕ, zero, suc, ◌+◌, ◌-◌, ◌<◌, ◌≤◌, length, drop, List, [], ◌∷◌, ◌++◌, None, Result, Ok, Err, refl, ap, sym, subst, ◌∙◌, append_assoc, append-nil, arith}
 use Rattle.std.specs.List.{slice_get}
 use Rattle.ill_der.specs.Format.{◌>>=◌, Cursor}
 use Rattle.ill_saved.specs.declared.fault.LayoutFault.{LayoutFault}
@@ -33,21 +33,40 @@ unfolding read_all
 read_none field left = refl
 
 -- one more was read
-pub one_read : {V : Type 0} (field : Field V) (values : List V) (n : ℕ) (left next : Cursor) (v : V) → field.read left ≡ Ok (v, next)
+one_read : {V : Type 0} (field : Field V) (values : List V) (n : ℕ) (left next : Cursor) (v : V) → field.read left ≡ Ok (v, next)
     → behind values (read_all field (suc n) left) ≡ behind (values ++ v ∷ []) (read_all field n next)
 one_read field values n left next v read =
     ap (behind values) (read_more field n left ∙ ap (λ r. r >>= λ first. read_all field n first.1 >>= λ others. Ok (first.0 ∷ others.0, others.1)) read)
     ∙ behind_more values v (read_all field n next)
 
 -- one could not be read
-pub none_read : {V : Type 0} (field : Field V) (values : List V) (n : ℕ) (left : Cursor) (fault : LayoutFault) → field.read left ≡ Err fault
+none_read : {V : Type 0} (field : Field V) (values : List V) (n : ℕ) (left : Cursor) (fault : LayoutFault) → field.read left ≡ Err fault
     → behind values (read_all field (suc n) left) ≡ Err fault
 none_read field values n left fault read =
     ap (behind values) (read_more field n left ∙ ap (λ r. r >>= λ first. read_all field n first.1 >>= λ others. Ok (first.0 ∷ others.0, others.1)) read)
 
 -- all were read
-pub all_read : {V : Type 0} (field : Field V) (values : List V) (left : Cursor) → behind values (read_all field 0 left) ≡ Ok (values, left)
+all_read : {V : Type 0} (field : Field V) (values : List V) (left : Cursor) → behind values (read_all field 0 left) ≡ Ok (values, left)
 all_read field values left = ap (behind values) (read_none field left) ∙ ap (λ vs. Ok (vs, left)) (append-nil values)
+
+-- A loop that reads so many of a field, one after another: what is read after those that are there is what is read in all.
+module _ {V : Type 0} (field : Field V) (values : List V) (count counter : ℕ) (left : Cursor) (whole : Result (List V × Cursor) LayoutFault)
+    (reads : behind values (read_all field (count - counter) left) ≡ whole) where
+  one_less : counter < count → count - counter ≡ suc (count - (counter + 1))
+  one_less within = omega (arith, within)
+
+  pub one_more : counter < count → (v : V) (next : Cursor) → field.read left ≡ Ok (v, next) → behind (values ++ v ∷ []) (read_all field (count - (counter + 1)) next) ≡ whole
+  one_more within v next read =
+      sym (one_read field values (count - (counter + 1)) left next v read) ∙ (ap (λ n. behind values (read_all field n left)) (sym (one_less within)) ∙ reads)
+
+  pub none_more : counter < count → (fault : LayoutFault) → field.read left ≡ Err fault → whole ≡ Err fault
+  none_more within fault read =
+      sym reads ∙ (ap (λ n. behind values (read_all field n left)) (one_less within) ∙ none_read field values (count - (counter + 1)) left fault read)
+
+  pub all_there : count ≤ counter → whole ≡ Ok (values, left)
+  all_there done =
+      let none : count - counter ≡ 0 = omega (arith, done) in
+      sym reads ∙ (ap (λ n. behind values (read_all field n left)) none ∙ all_read field values left)
 
 -- a fault stays the fault
 pub fault_kept : {X Y V W : Type 0} (f : X → V) (g : Y → W) (fault : RecordFault) (left next : Cursor) (first : Result (V × Cursor) LayoutFault) (then_read : Result (W × Cursor) LayoutFault)

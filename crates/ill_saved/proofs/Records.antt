@@ -1,5 +1,5 @@
 -- A record is read behind its version and its role, and a side that was read is judged.
-use Rattle.std.proofs.Common.{◌≡◌, ℕ, Bool, true, false, cond, List, Result, Ok, Err, refl, ap, sym, subst, ◌∙◌, rules}
+use Rattle.std.proofs.Common.{◌≡◌, ℕ, Bool, true, false, cond, List, Result, Ok, Err, refl, ap, sym, subst, ◌∙◌}
 use Rattle.std.specs.Prelude.{IfOk}
 use Rattle.ill_der.specs.Format.{◌>>=◌, Cursor, cursor_at}
 use Rattle.ill_saved.specs.declared.fault.LayoutFault.{LayoutFault}

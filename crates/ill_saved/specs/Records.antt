@@ -10,7 +10,6 @@ use Rattle.ill_core.specs.declared.state.State.TheVariants.{Idle, Pending, InPro
 use Rattle.ill_core.specs.Requester.{RequesterRecord, requester_of}
 use Rattle.ill_core.specs.Responder.{ResponderRecord, responder_of}
 use Rattle.ill_saved.specs.declared.fault.LayoutFault.{LayoutFault}
-use Rattle.ill_saved.specs.declared.fault.LayoutFault.TheVariants.{Short, Bad}
 use Rattle.ill_saved.specs.declared.fault.RecordFault.{RecordFault}
 use Rattle.ill_saved.specs.declared.fault.RecordFault.TheVariants as faults
 use Rattle.ill_saved.specs.declared.role.Role.{Role}

@@ -6,10 +6,12 @@ ghost use Rattle.ill_core.specs.Issued.{message};
 ghost use Rattle.ill_saved.specs.Side.{acts, issued_of, idle_of, txn_of};
 ghost use Rattle.ill_world.specs.World as model;
 ghost use Rattle.ill_world.specs.declared.event.Outcome.TheVariants as outcomes;
+ghost use Rattle.ill_world.specs.Trace.{party_shown};
 ghost use Rattle.ill_world.specs.PartyView.{party_of, IsReady, Gives, is_of};
 
 use crate::event::Outcome;
 use crate::message::Message;
+use crate::trace::Shown;
 use ill_der::{DerFault, decode};
 use ill_saved::laws::{read_again, rows_grow};
 use ill_saved::{Action, Desk1, DeskFault, MemoryStore, NextCall, Side, StoreFault};
@@ -193,6 +195,13 @@ impl Party {
         ensures { result ≡ self.now.released }
     {
         self.desk.released()
+    }
+
+    /// What a trace shows of the side.
+    pub fn shown(&self) -> Shown
+        ensures { result ≡ party_shown self.now }
+    {
+        Shown::of(self.side(), self.released())
     }
 }
 

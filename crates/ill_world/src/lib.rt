@@ -11,6 +11,7 @@ mod lines;
 mod message;
 mod party;
 mod script;
+mod sent;
 mod simulation;
 mod trace;
 pub mod words;

@@ -10,6 +10,7 @@ pub mod laws;
 mod lines;
 mod message;
 mod party;
+mod performer;
 mod script;
 mod sent;
 mod simulation;

@@ -1,15 +1,15 @@
--- What a script says, line by line.
+-- What a script says, line by line, whatever its lines say.
 use Rattle.std.proofs.Common.{arith, ◌≡◌, ℕ, ◌+◌, ◌<◌, ◌≤◌, Bool, true, false, ◌&&◌, nat_le, if◌then◌else◌, cond, ◌==◌, List, [], ◌∷◌, ◌++◌, length, Some, refl, sym, ap, ◌∙◌, length-append}
 use Rattle.std.specs.List.{onto_first}
 use Rattle.std.proofs.lemmas.Bool.{le-leb, lt-leb}
+use Rattle.ill_world.specs.declared.script.Line.{Line}
 use Rattle.ill_world.specs.declared.script.Line.TheVariants as lines
-use Rattle.ill_world.specs.Script.{meaning}
-use Rattle.ill_world.specs.Simulation.{Said, says_nothing, is_within, line_at, then_says, ends, breaks_off, says_from, lines_in}
-use Rattle.ill_world.specs.Simulating.{has_lf, says_on}
+use Rattle.ill_world.specs.Play.{Play, Said, says_nothing, is_within, line_at, then_says, ends, breaks_off, says_from, lines_in, says_on}
+use Rattle.ill_world.specs.Simulating.{has_lf}
 use Rattle.ill_world.proofs.Texts.{line_first, line_alone, some_line, line_begins}
 
 -- only a bad line, with this number
-abbrev pub only_bad : ℕ → Said
+abbrev pub only_bad : {E : Type 0} → ℕ → Said E
 only_bad n = record { events = []; bad = Some n }
 
 -- ---- within the limits
@@ -36,68 +36,78 @@ too_long n bytes long = go (nat_le n 100000) (nat_le (length bytes) 1024) (le_fa
 too_many : (n : ℕ) (bytes : List ℕ) → 100001 ≤ n → is_within n bytes ≡ false
 too_many n bytes many = ap (λ (a : Bool). a && nat_le (length bytes) 1024) (le_false n 100000 (omega (arith, many)))
 
-pub line_within : (n : ℕ) (bytes : List ℕ) → n ≤ 100000 → length bytes ≤ 1024 → line_at n bytes ≡ meaning bytes
-line_within n bytes few short = ap (λ (b : Bool). if b then meaning bytes else lines.Bad) (within n bytes few short)
-
-line_bad : (n : ℕ) (bytes : List ℕ) → is_within n bytes ≡ false → line_at n bytes ≡ lines.Bad
-line_bad n bytes out = ap (λ (b : Bool). if b then meaning bytes else lines.Bad) out
-
--- ---- lines
-
-says_first : (end : ℕ → List ℕ → Said) (n : ℕ) (first second : List ℕ) (more : List (List ℕ))
-    → says_from end n (first ∷ second ∷ more) ≡ then_says (line_at n first) n (says_from end (n + 1) (second ∷ more))
-unfolding says_from
-says_first end n first second more = refl
-
-says_last : (end : ℕ → List ℕ → Said) (n : ℕ) (rest : List ℕ) → says_from end n (rest ∷ []) ≡ end n rest
-unfolding says_from
-says_last end n rest = refl
-
--- what a line says that an LF closes, and then what the rest says
-pub says_line : (end : ℕ → List ℕ → Said) (n : ℕ) (bytes rest : List ℕ) → has_lf bytes ≡ false → says_on end n (bytes ++ 10 ∷ rest) ≡ then_says (line_at n bytes) n (says_on end (n + 1) rest)
-says_line end n bytes rest none =
-    let some = some_line rest in
-    ap (says_from end n) (line_first bytes rest none ∙ ap (λ parts. bytes ∷ parts) some.2) ∙ says_first end n bytes some.0 some.1
-    ∙ ap (λ parts. then_says (line_at n bytes) n (says_from end (n + 1) parts)) (sym some.2)
-
--- what bytes say that no LF closes
-pub says_rest : (end : ℕ → List ℕ → Said) (n : ℕ) (bytes : List ℕ) → has_lf bytes ≡ false → says_on end n bytes ≡ end n bytes
-says_rest end n bytes none = ap (says_from end n) (line_alone bytes none) ∙ says_last end n bytes
-
--- at the end they are a line
-pub ends_line : (n : ℕ) (bytes : List ℕ) → 1 ≤ length bytes → ends n bytes ≡ then_says (line_at n bytes) n says_nothing
-ends_line n [] some = absurd (omega (arith, some))
-ends_line n (byte ∷ bytes) some = refl
-
 -- where a reader failed they are none
-pub breaks_nothing : (n : ℕ) (bytes : List ℕ) → is_within n bytes ≡ true → breaks_off n bytes ≡ says_nothing
-breaks_nothing n [] is = refl
-breaks_nothing n (byte ∷ bytes) is = ap (λ (b : Bool). if b then says_nothing else only_bad n) is
+pub breaks_nothing : {E C : Type 0} → (c : C) (n : ℕ) (bytes : List ℕ) → is_within n bytes ≡ true → ◌≡◌ {A = Said E} (breaks_off c n bytes) says_nothing
+breaks_nothing c n [] is = refl
+breaks_nothing {E = E} c n (byte ∷ bytes) is = ap (λ (b : Bool). if b then says_nothing {E = E} else only_bad n) is
 
--- ---- beyond the limits
+module _ {W E C : Type 0} (play : Play W E C) where
+  pub line_within : (c : C) (n : ℕ) (bytes : List ℕ) → n ≤ 100000 → length bytes ≤ 1024 → line_at play c n bytes ≡ play.says c bytes
+  line_within c n bytes few short = ap (λ (b : Bool). if b then play.says c bytes else (lines.Bad, c)) (within n bytes few short)
 
-bad_ends : (n : ℕ) (bytes : List ℕ) → 1 ≤ length bytes → is_within n bytes ≡ false → ends n bytes ≡ only_bad n
-bad_ends n bytes some out = ends_line n bytes some ∙ ap (λ says. then_says says n says_nothing) (line_bad n bytes out)
+  line_bad : (c : C) (n : ℕ) (bytes : List ℕ) → is_within n bytes ≡ false → line_at play c n bytes ≡ (lines.Bad, c)
+  line_bad c n bytes out = ap (λ (b : Bool). if b then play.says c bytes else (lines.Bad, c)) out
 
--- the first line is a bad one
-first_bad : (n : ℕ) (first : List ℕ) (more : List (List ℕ)) → is_within n first ≡ false → (1 ≤ length first) → says_from ends n (first ∷ more) ≡ only_bad n
-first_bad n first [] out some = says_last ends n first ∙ bad_ends n first some out
-first_bad n first (second ∷ more) out some = says_first ends n first second more ∙ ap (λ says. then_says says n (says_from ends (n + 1) (second ∷ more))) (line_bad n first out)
+  -- ---- lines
 
--- a line of too many bytes, however it goes on
-pub says_too_long : (n : ℕ) (bytes rest : List ℕ) → has_lf bytes ≡ false → 1025 ≤ length bytes → says_on ends n (bytes ++ rest) ≡ only_bad n
-says_too_long n bytes rest none long =
-    let some = some_line rest in
-    let longer : 1025 ≤ length (bytes ++ some.0) = omega (arith, long, length-append bytes some.0) in
-    ap (says_from ends n) (line_begins bytes rest some.0 some.1 none some.2) ∙ first_bad n (bytes ++ some.0) some.1 (too_long n (bytes ++ some.0) longer) (omega (arith, longer))
+  says_first : (end : C → ℕ → List ℕ → Said E) (c : C) (n : ℕ) (first second : List ℕ) (more : List (List ℕ))
+      → says_from play end c n (first ∷ second ∷ more) ≡ then_says (line_at play c n first).0 n (says_from play end (line_at play c n first).1 (n + 1) (second ∷ more))
+  unfolding says_from
+  says_first end c n first second more = refl
 
--- more lines than there may be
-pub says_too_many : (n byte : ℕ) (text : List ℕ) → 100001 ≤ n → says_on ends n (byte ∷ text) ≡ only_bad n
-says_too_many n byte text many = go (byte == 10) (some_line text)
-  where
-    go : (is_lf : Bool) → ((first : List ℕ) × (more : List (List ℕ)) × (lines_in text ≡ first ∷ more)) → says_from ends n (cond is_lf ([] ∷ lines_in text) (onto_first byte (lines_in text))) ≡ only_bad n
-    go true some =
-        ap (λ parts. says_from ends n ([] ∷ parts)) some.2 ∙ says_first ends n [] some.0 some.1
-        ∙ ap (λ says. then_says says n (says_from ends (n + 1) (some.0 ∷ some.1))) (line_bad n [] (too_many n [] many))
-    go false some =
-        ap (λ parts. says_from ends n (onto_first byte parts)) some.2 ∙ first_bad n (byte ∷ some.0) some.1 (too_many n (byte ∷ some.0) many) (omega arith)
+  says_last : (end : C → ℕ → List ℕ → Said E) (c : C) (n : ℕ) (rest : List ℕ) → says_from play end c n (rest ∷ []) ≡ end c n rest
+  unfolding says_from
+  says_last end c n rest = refl
+
+  -- what a line says that an LF closes, and then what the rest says
+  pub says_line : (end : C → ℕ → List ℕ → Said E) (c : C) (n : ℕ) (bytes rest : List ℕ) → has_lf bytes ≡ false
+      → says_on play end c n (bytes ++ 10 ∷ rest) ≡ then_says (line_at play c n bytes).0 n (says_on play end (line_at play c n bytes).1 (n + 1) rest)
+  says_line end c n bytes rest none =
+      let some = some_line rest in
+      let line = line_at play c n bytes in
+      ap (says_from play end c n) (line_first bytes rest none ∙ ap (λ parts. bytes ∷ parts) some.2) ∙ says_first end c n bytes some.0 some.1
+      ∙ ap (λ parts. then_says line.0 n (says_from play end line.1 (n + 1) parts)) (sym some.2)
+
+  -- what bytes say that no LF closes
+  pub says_rest : (end : C → ℕ → List ℕ → Said E) (c : C) (n : ℕ) (bytes : List ℕ) → has_lf bytes ≡ false → says_on play end c n bytes ≡ end c n bytes
+  says_rest end c n bytes none = ap (says_from play end c n) (line_alone bytes none) ∙ says_last end c n bytes
+
+  -- at the end they are a line
+  pub ends_line : (c : C) (n : ℕ) (bytes : List ℕ) → 1 ≤ length bytes → ends play c n bytes ≡ then_says (line_at play c n bytes).0 n says_nothing
+  ends_line c n [] some = absurd (omega (arith, some))
+  ends_line c n (byte ∷ bytes) some = refl
+
+  -- ---- beyond the limits
+
+  bad_ends : (c : C) (n : ℕ) (bytes : List ℕ) → 1 ≤ length bytes → is_within n bytes ≡ false → ends play c n bytes ≡ only_bad n
+  bad_ends c n bytes some out = ends_line c n bytes some ∙ ap (λ (line : Line E × C). then_says line.0 n says_nothing) (line_bad c n bytes out)
+
+  -- a bad line, and whatever follows
+  bad_first : (c : C) (n : ℕ) (first second : List ℕ) (more : List (List ℕ)) → is_within n first ≡ false → says_from play (ends play) c n (first ∷ second ∷ more) ≡ only_bad n
+  bad_first c n first second more out =
+      says_first (ends play) c n first second more
+      ∙ ap (λ (line : Line E × C). then_says line.0 n (says_from play (ends play) line.1 (n + 1) (second ∷ more))) (line_bad c n first out)
+
+  -- the first line is a bad one
+  first_bad : (c : C) (n : ℕ) (first : List ℕ) (more : List (List ℕ)) → is_within n first ≡ false → 1 ≤ length first → says_from play (ends play) c n (first ∷ more) ≡ only_bad n
+  first_bad c n first [] out some = says_last (ends play) c n first ∙ bad_ends c n first some out
+  first_bad c n first (second ∷ more) out some = bad_first c n first second more out
+
+  -- a line of too many bytes, however it goes on
+  pub says_too_long : (c : C) (n : ℕ) (bytes rest : List ℕ) → has_lf bytes ≡ false → 1025 ≤ length bytes → says_on play (ends play) c n (bytes ++ rest) ≡ only_bad n
+  says_too_long c n bytes rest none long =
+      let some = some_line rest in
+      let longer : 1025 ≤ length (bytes ++ some.0) = omega (arith, long, length-append bytes some.0) in
+      ap (says_from play (ends play) c n) (line_begins bytes rest some.0 some.1 none some.2)
+      ∙ first_bad c n (bytes ++ some.0) some.1 (too_long n (bytes ++ some.0) longer) (omega (arith, longer))
+
+  -- more lines than there may be
+  pub says_too_many : (c : C) (n byte : ℕ) (text : List ℕ) → 100001 ≤ n → says_on play (ends play) c n (byte ∷ text) ≡ only_bad n
+  says_too_many c n byte text many = go (byte == 10) (some_line text)
+    where
+      go : (is_lf : Bool) → ((first : List ℕ) × (more : List (List ℕ)) × (lines_in text ≡ first ∷ more))
+          → says_from play (ends play) c n (cond is_lf ([] ∷ lines_in text) (onto_first byte (lines_in text))) ≡ only_bad n
+      go true some = ap (λ parts. says_from play (ends play) c n ([] ∷ parts)) some.2 ∙ bad_first c n [] some.0 some.1 (too_many n [] many)
+      go false some =
+          ap (λ parts. says_from play (ends play) c n (onto_first byte parts)) some.2
+          ∙ first_bad c n (byte ∷ some.0) some.1 (too_many n (byte ∷ some.0) many) (omega arith)

@@ -2,7 +2,7 @@
 use Rattle.std.proofs.Common.{rules, arith, ◌≡◌, ℕ, suc, ◌+◌, ◌-◌, ◌<◌, ◌≤◌, min, Bool, true, false, ◌||◌, ◌==◌, cond, List, [], ◌∷◌, ◌++◌, length, take, drop, Option, Some, None, Ok, refl, sym, ap, ◌∙◌, subst, add-one, eqb-true, take_all, take-append-drop, drop_of_length-le, length-append, length-take}
 use Rattle.std.specs.List.{onto_first, position_from}
 use Rattle.ill_world.specs.declared.lines.Found.TheVariants as found
-use Rattle.ill_world.specs.Simulation.{lines_in}
+use Rattle.ill_world.specs.Play.{lines_in}
 use Rattle.ill_world.specs.Simulating.{has_lf, lf_place, TakesPart}
 
 -- ---- the first LF

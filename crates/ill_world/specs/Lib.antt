@@ -3,6 +3,7 @@ pub mod PartyView
 pub mod Words
 pub mod Script
 pub mod Trace
+pub mod Play
 pub mod Simulation
 pub mod Simulating
 pub mod Safety

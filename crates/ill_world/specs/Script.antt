@@ -47,12 +47,12 @@ event_of (first ∷ words) =
     else if bytes_eq first (codes "responder") then deed_event words
     else side_event first words
 
-abbrev pub line_with : Option Event → Line
+abbrev pub line_with : Option Event → Line Event
 line_with (Some event) = lines.Event event
 line_with None = lines.Bad
 
 -- what the words of a line say, which is nothing where there are none
-abbrev pub line_of : List (List ℕ) → Line
+abbrev pub line_of : List (List ℕ) → Line Event
 line_of [] = lines.Skipped
 line_of (word ∷ words) = line_with (event_of (word ∷ words))
 
@@ -62,5 +62,5 @@ is_remark [] = false
 is_remark (byte ∷ bytes) = byte == 0x23
 
 -- what a line says, which is nothing where it is a remark
-unfoldable pub meaning : List ℕ → Line
+unfoldable pub meaning : List ℕ → Line Event
 meaning line = if is_remark line then lines.Skipped else line_of (words_of line)

@@ -3,16 +3,15 @@ use Rattle.std.specs.Prelude.{◌≡◌, ℕ, ◌+◌, ◌≤◌, Bool, true, fa
 use Rattle.std.specs.List.{list_any, position_from}
 use Rattle.std.specs.Io.KnownBytes.{Consumes, Appends, IsAtEnd, prepend_known}
 use Rattle.std.specs.declared.alloc.AllocError.{AllocError}
-use Rattle.ill_world.specs.declared.event.Event.{Event}
 use Rattle.ill_world.specs.declared.script.Line.{Line}
 use Rattle.ill_world.specs.declared.script.Line.TheVariants as lines
+use Rattle.ill_world.specs.declared.performer.Told.{Told}
+use Rattle.ill_world.specs.declared.performer.Told.TheVariants as told
 use Rattle.ill_world.specs.declared.lines.Found.{Found}
 use Rattle.ill_world.specs.declared.lines.Found.TheVariants as found
 use Rattle.ill_world.specs.declared.fault.SimFault.{SimFault}
 use Rattle.ill_world.specs.declared.fault.SimFault.TheVariants.{Script, Read, Write, OutOfMemory}
-use Rattle.ill_world.specs.World.{Parties, happens}
-use Rattle.ill_world.specs.Trace.{line}
-use Rattle.ill_world.specs.Simulation.{Said, says_from, ends, breaks_off, lines_in, line_at, trace_from, IsFront, OfAll}
+use Rattle.ill_world.specs.Play.{Play, line_at, Plays}
 
 -- ---- reading ahead
 
@@ -70,76 +69,52 @@ ReadsLine old new bytes (Err Read) = IsLine bytes × Consumes old new bytes
 ReadsLine old new bytes (Err OutOfMemory) = (more : List ℕ) × Consumes old new more
 ReadsLine old new bytes (Err other) = ⊥
 
--- ---- performing one event
+-- ---- performing one line
 
--- the line of the trace that shows an event in a world
-abbrev pub shown_line : Parties → ℕ → Event → List ℕ
-shown_line w count event = line (count + 1) (happens w event).0 (happens w event).1
+-- What was told of a line that says this: nothing has happened; or its event has, and its text was added; or
+-- the line is bad.
+abbrev pub Tells : {W E C : Type 0} → Play W E C → Line E → ℕ → W → List ℕ → Told → W → List ℕ → Type 0
+Tells play lines.Skipped number w shown told.Nothing new new_shown = new ≡ w
+Tells play (lines.Event event) number w shown told.Event new new_shown =
+    (new ≡ play.next w event) × (new_shown ≡ shown ++ play.text number w event)
+Tells play lines.Bad number w shown told.BadLine new new_shown = Unit {0}
+Tells play says number w shown told new new_shown = ⊥
 
--- An event was performed behind so many others, and its line written: whole, a front of it where the
--- writer failed, or nothing for want of memory.
-abbrev pub Performs : Parties → ℕ → Event → Option (List ℕ) → Option (List ℕ) →
-    Result (Unit {0}) SimFault → Parties → ℕ → Type 0
-Performs w count event before after (Ok done) new new_count =
-    (new ≡ (happens w event).1) × (new_count ≡ count + 1) × Appends before after (shown_line w count event)
-Performs w count event before after (Err Write) new new_count =
-    (size : ℕ) × Appends before after (take size (shown_line w count event))
-Performs w count event before after (Err OutOfMemory) new new_count = Appends before after []
-Performs w count event before after (Err other) new new_count = ⊥
+-- a line was told, unless memory ran out
+abbrev pub TellsLine : {W E C M : Type 0} → Play W E C → Line E × C → ℕ → W → List ℕ → Result Told M → W → C →
+    List ℕ → Type 0
+TellsLine play says number w shown (Ok told) new carried new_shown =
+    Tells play says.0 number w shown told new new_shown × (carried ≡ says.1)
+TellsLine play says number w shown (Err memory) new carried new_shown = Unit {0}
 
--- a line of a script was performed
-abbrev pub PerformsLine : Line → ℕ → Parties → ℕ → Option (List ℕ) → Option (List ℕ) →
-    Result (Unit {0}) SimFault → Parties → ℕ → Type 0
-PerformsLine says n w count before after (Err OutOfMemory) new new_count = Appends before after []
-PerformsLine lines.Skipped n w count before after (Ok done) new new_count =
+-- A line that says this was performed behind so many events, and its text written: whole, a front of it where
+-- the writer failed, or nothing for want of memory.
+abbrev pub PerformsLine : {W E C : Type 0} → Play W E C → Line E → ℕ → W → ℕ → Option (List ℕ) →
+    Option (List ℕ) → Result (Unit {0}) SimFault → W → ℕ → Type 0
+PerformsLine play says n w count before after (Err OutOfMemory) new new_count = Appends before after []
+PerformsLine play lines.Skipped n w count before after (Ok done) new new_count =
     (new ≡ w) × (new_count ≡ count) × Appends before after []
-PerformsLine (lines.Event event) n w count before after result new new_count =
-    Performs w count event before after result new new_count
-PerformsLine lines.Bad n w count before after (Err (Script m)) new new_count =
+PerformsLine play (lines.Event event) n w count before after (Ok done) new new_count =
+    (new ≡ play.next w event) × (new_count ≡ count + 1) × Appends before after (play.text (count + 1) w event)
+PerformsLine play (lines.Event event) n w count before after (Err Write) new new_count =
+    (size : ℕ) × Appends before after (take size (play.text (count + 1) w event))
+PerformsLine play lines.Bad n w count before after (Err (Script m)) new new_count =
     (m ≡ n) × Appends before after []
-PerformsLine says n w count before after result new new_count = ⊥
+PerformsLine play says n w count before after result new new_count = ⊥
 
 -- ---- the rest of a script
 
-abbrev pub says_on : (ℕ → List ℕ → Said) → ℕ → List ℕ → Said
-says_on end n text = says_from end n (lines_in text)
-
--- What a simulation answers and writes from line n on, in this world, behind so many events.
-abbrev pub AnswersFrom : ℕ → Parties → ℕ → Result ℕ SimFault → List ℕ → Option (List ℕ) → List ℕ →
-    Type 0
-AnswersFrom n w count (Ok total) text left trace =
-    IsAtEnd left × ((says_on ends n text).bad ≡ None)
-    × (trace ≡ trace_from (count + 1) w (says_on ends n text).events)
-    × (total ≡ count + length (says_on ends n text).events)
-AnswersFrom n w count (Err (Script m)) text left trace =
-    OfAll text left (λ t. ((says_on ends n t).bad ≡ Some m)
-    × (trace ≡ trace_from (count + 1) w (says_on ends n t).events))
-AnswersFrom n w count (Err Read) text left trace =
-    ((says_on breaks_off n text).bad ≡ None)
-    × (trace ≡ trace_from (count + 1) w (says_on breaks_off n text).events)
-AnswersFrom n w count (Err Write) text left trace =
-    OfAll text left (λ t. IsFront trace (trace_from (count + 1) w (says_on ends n t).events))
-AnswersFrom n w count (Err OutOfMemory) text left trace =
-    OfAll text left (λ t. (events : List Event) × IsFront events (says_on ends n t).events
-    × (trace ≡ trace_from (count + 1) w events))
-
--- the rest of a script, from what the reader had left on, and what the writer held
-abbrev pub SimulatesFrom : ℕ → Parties → ℕ → Option (List ℕ) → Option (List ℕ) → Option (List ℕ) →
-    Option (List ℕ) → Result ℕ SimFault → Type 0
-SimulatesFrom n w count old new before after result =
-    (text : List ℕ) × (trace : List ℕ) × Consumes old new text × Appends before after trace
-    × AnswersFrom n w count result text new trace
-
 -- Line n was performed, and more may follow; or the simulation has ended with it.
-abbrev pub StepsLine : ℕ → Parties → ℕ → Option (List ℕ) → Option (List ℕ) → Option (List ℕ) →
-    Option (List ℕ) → Result Bool SimFault → Parties → ℕ → Type 0
-StepsLine n w count old new before after (Ok true) next next_count =
+abbrev pub StepsLine : {W E C : Type 0} → Play W E C → C → ℕ → W → ℕ → Option (List ℕ) → Option (List ℕ) →
+    Option (List ℕ) → Option (List ℕ) → Result Bool SimFault → C → W → ℕ → Type 0
+StepsLine play c n w count old new before after (Ok true) carried next next_count =
     (bytes : List ℕ) × IsLine bytes × Consumes old new (bytes ++ 10 ∷ [])
-    × PerformsLine (line_at n bytes) n w count before after (Ok tt) next next_count
-StepsLine n w count old new before after (Ok false) next next_count =
-    SimulatesFrom n w count old new before after (Ok next_count)
-StepsLine n w count old new before after (Err fault) next next_count =
-    SimulatesFrom n w count old new before after (Err fault)
+    × PerformsLine play (line_at play c n bytes).0 n w count before after (Ok tt) next next_count
+    × (carried ≡ (line_at play c n bytes).1)
+StepsLine play c n w count old new before after (Ok false) carried next next_count =
+    Plays play c n w count old new before after (Ok next_count)
+StepsLine play c n w count old new before after (Err fault) carried next next_count =
+    Plays play c n w count old new before after (Err fault)
 
 -- a byte is left, if that is known
 abbrev pub IsBeforeEnd : Option (List ℕ) → Type 0

@@ -12,6 +12,7 @@ use Rattle.ill_saved.specs.declared.side.Side.{Side}
 use Rattle.ill_saved.specs.Side.{issued_of, state_of, due_date_of}
 use Rattle.ill_world.specs.declared.event.Outcome.{Outcome}
 use Rattle.ill_world.specs.declared.event.Outcome.TheVariants.{Done, Saved, Faulted, Sent, Answered, Refused, NoSuchMessage, NotSaved, NotSent, Garbled, Forged, Restarted}
+use Rattle.ill_world.specs.declared.trace.Shown.{Shown}
 use Rattle.ill_world.specs.World.{Party, Parties}
 
 -- what a message did, in a word
@@ -48,26 +49,48 @@ outcome_word Garbled = codes "garbled"
 outcome_word Forged = codes "forged"
 outcome_word Restarted = codes "restarted"
 
--- the number of an event, and what is seen of it
-abbrev pub event_text : ℕ → Outcome → List ℕ
-event_text number outcome = decimal number ++ codes " " ++ outcome_word outcome
-
 -- a due date, or a dash where there is none
 abbrev pub due_text : Option Date → List ℕ
 due_text None = codes "-"
 due_text (Some d) = date_text d
 
--- how a side stands: its state, its due date, and how many of its messages are released and issued
-abbrev pub side_text : Side → ℕ → List ℕ
-side_text side released =
-    state_name (state_of side) ++ codes " " ++ due_text (due_date_of side) ++ codes " "
-    ++ decimal released ++ codes "/" ++ decimal (length (issued_of side))
+-- what is shown of a side of which so many messages are released
+abbrev pub shown_of : Side → ℕ → Shown
+shown_of side released = record {
+  state = state_of side;
+  due = due_date_of side;
+  released = released;
+  issued = length (issued_of side);
+}
 
-abbrev pub party_text : Party → List ℕ
-party_text p = side_text p.live p.released
+abbrev pub party_shown : Party → Shown
+party_shown p = shown_of p.live p.released
+
+-- its state, its due date, and how many of its messages are released and issued
+unfoldable pub shown_text : Shown → List ℕ
+shown_text shown =
+    state_name shown.state ++ codes " " ++ due_text shown.due ++ codes " "
+    ++ decimal shown.released ++ codes "/" ++ decimal shown.issued
+
+-- how a side stands
+abbrev pub side_text : Side → ℕ → List ℕ
+side_text side released = shown_text (shown_of side released)
+
+-- the number of an event, and what is seen of it, in a word
+abbrev pub event_text : ℕ → List ℕ → List ℕ
+event_text number word = decimal number ++ codes " " ++ word
+
+-- how both sides stand
+abbrev pub sides_text : Shown → Shown → List ℕ
+sides_text requester responder =
+    codes " requester " ++ shown_text requester ++ codes " responder " ++ shown_text responder
+
+-- the line with this number: what was seen, in a word, and how both sides stand
+abbrev pub line_of : ℕ → List ℕ → Shown → Shown → List ℕ
+line_of number word requester responder =
+    event_text number word ++ sides_text requester responder ++ codes "\n"
 
 -- the line of the event with this number
 unfoldable pub line : ℕ → Outcome → Parties → List ℕ
 line number outcome after =
-    event_text number outcome ++ codes " requester " ++ party_text after.requester ++ codes " responder "
-    ++ party_text after.responder ++ codes "\n"
+    line_of number (outcome_word outcome) (party_shown after.requester) (party_shown after.responder)

@@ -36,9 +36,13 @@ pub record Parties : Type 0 where
   pub requester : Party
   pub responder : Party
 
+-- a place for each number, and no message in it
+abbrev pub nothing_sent : List (Option Apdu)
+nothing_sent = replicate 255 None
+
 -- a party that has done nothing yet
 abbrev pub first_party : Side → Party
-first_party idle = record { live = idle; landed = idle; released = 0; sent = replicate 255 None }
+first_party idle = record { live = idle; landed = idle; released = 0; sent = nothing_sent }
 
 -- the two idle sides of a transaction
 abbrev pub first_world : Qualifiers → Parties

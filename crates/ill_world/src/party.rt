@@ -1,15 +1,18 @@
 //! One of the two sides, with its store and what it has sent.
 
-ghost use Rattle.std.specs.Prelude.{◌≡◌, false, None, replicate, length, nat_le, option_map, IfOk};
+ghost use Rattle.std.specs.Prelude.{◌≡◌, false, nat_le, option_map, IfOk};
 ghost use Rattle.ill_der.specs.ShortForm.{apdu_at};
 ghost use Rattle.ill_core.specs.Issued.{message};
 ghost use Rattle.ill_saved.specs.Side.{acts, issued_of, idle_of, txn_of};
 ghost use Rattle.ill_world.specs.World as model;
 ghost use Rattle.ill_world.specs.declared.event.Outcome.TheVariants as outcomes;
+ghost use Rattle.ill_world.specs.Trace.{party_shown};
 ghost use Rattle.ill_world.specs.PartyView.{party_of, IsReady, Gives, is_of};
 
 use crate::event::Outcome;
 use crate::message::Message;
+use crate::sent::Sent;
+use crate::trace::Shown;
 use ill_der::{DerFault, decode};
 use ill_saved::laws::{read_again, rows_grow};
 use ill_saved::{Action, Desk1, DeskFault, MemoryStore, NextCall, Side, StoreFault};
@@ -17,22 +20,19 @@ use ill_values::{Number, OutOfMemory};
 use std::alloc::Global;
 use std::marker::Model;
 
-/// How many messages a side may send: one for each number.
-const MESSAGES: usize = 255;
-
-/// One of the two sides: its desk, and by number the messages that it has sent.
+/// One of the two sides: its desk, and what it has sent.
 #[derive(Debug, Drop)]
 pub struct Party {
     desk: Desk1<MemoryStore>,
-    sent: Vec<Option<Message>>,
+    sent: Sent,
 }
 
 impl Model for Party {
     ghost Value = { model.Party };
 
-    ghost view = { λ p. party_of p.desk p.sent.items };
+    ghost view = { λ p. party_of p.desk p.sent };
 
-    ghost invariant = { λ p. IsReady p.desk × (length p.sent.items ≡ 255) };
+    ghost invariant = { λ p. IsReady p.desk };
 }
 
 impl Party {
@@ -41,7 +41,7 @@ impl Party {
         requires idle { first ≡ idle_of first }
         ensures { IfOk result (λ party. party ≡ model.first_party first) }
     {
-        let sent = nothing_sent(alloc)?;
+        let sent = Sent::nothing(alloc)?;
         match Desk1::create(alloc, MemoryStore::new(alloc), first) {
             Ok(desk) => Ok(Party { desk, sent }),
             Err((DeskFault::OutOfMemory, _)) => Err(OutOfMemory),
@@ -128,7 +128,7 @@ impl Party {
     {
         match self.desk.message(alloc, number) {
             Ok(bytes) => {
-                self.sent[usize::from(number.get()) - 1] = Some(Message::new(bytes));
+                self.sent.put(number, Message::new(bytes));
                 Ok(Outcome::Sent)
             }
             Err(DeskFault::NoSuchMessage) => Ok(Outcome::NoSuchMessage),
@@ -178,7 +178,7 @@ impl Party {
     pub fn sent(&self, number: Number) -> Option<&Message>
         ensures { option_map (λ m. m.now) result ≡ model.sent_message self.now.sent number }
     {
-        self.sent.get(usize::from(number.get()) - 1)?.as_ref()
+        self.sent.get(number)
     }
 
     /// The side, as it is in memory.
@@ -194,15 +194,11 @@ impl Party {
     {
         self.desk.released()
     }
-}
 
-/// A place for each message, and nothing sent.
-fn nothing_sent(alloc: Global) -> Result<Vec<Option<Message>>, OutOfMemory>
-    ensures { IfOk result (λ sent. sent.items ≡ replicate 255 None) }
-{
-    let mut sent = Vec::with_capacity(alloc, MESSAGES)?;
-    for _ in 0..MESSAGES {
-        sent.push(None)?;
+    /// What a trace shows of the side.
+    pub fn shown(&self) -> Shown
+        ensures { result ≡ party_shown self.now }
+    {
+        Shown::of(self.side(), self.released())
     }
-    Ok(sent)
 }

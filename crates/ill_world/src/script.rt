@@ -12,11 +12,11 @@ use std::alloc::Global;
 
 /// What a line of a script says.
 #[derive(Drop)]
-pub(crate) enum Line {
-    /// Nothing: it has no words, or is a remark.
+pub(crate) enum Line<E> {
+    /// Nothing that happens.
     Skipped,
     /// That this happens.
-    Event(Event),
+    Event(E),
     /// Something that no script may say.
     Bad,
 }
@@ -42,7 +42,7 @@ pub(crate) enum Line {
 /// one to three decimal digits for 1 to 255. HEX is two hexadecimal digits, of either case, for each
 /// byte, or `none` for no bytes. No due day of a script is counted from another.
 #[tactic(auto, unfolding(crate::specs::Script::meaning))]
-pub(crate) fn read_line(alloc: Global, line: &[u8]) -> Result<Line, OutOfMemory>
+pub(crate) fn read_line(alloc: Global, line: &[u8]) -> Result<Line<Event>, OutOfMemory>
     ensures { IfOk result (λ read. read ≡ meaning line.now) }
 {
     if line.starts_with(b"#") {
@@ -53,7 +53,7 @@ pub(crate) fn read_line(alloc: Global, line: &[u8]) -> Result<Line, OutOfMemory>
 }
 
 /// What the words of a line say that is no remark.
-fn read_words(alloc: Global, words: &[&[u8]]) -> Result<Line, OutOfMemory>
+fn read_words(alloc: Global, words: &[&[u8]]) -> Result<Line<Event>, OutOfMemory>
     ensures { IfOk result (λ read. read ≡ line_of (map (λ word. word.now) words.now)) }
 {
     if words.is_empty() {

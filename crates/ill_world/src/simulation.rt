@@ -2,20 +2,19 @@
 
 ghost use Rattle.std.specs.Prelude.{◌≡◌, ◌≤◌, ◌+◌, List, [], IfOk};
 ghost use Rattle.std.specs.Io.KnownBytes.{prepend_known};
-ghost use Rattle.ill_values.specs.TxnId.{Qualifiers};
 ghost use Rattle.ill_world.specs.declared.event.Event.{Event};
 ghost use Rattle.ill_world.specs.World.{first_world};
 ghost use Rattle.ill_world.specs.Safety.{IsSafeRun};
 ghost use Rattle.ill_world.specs.Agreement.{IsAgreeingRun};
-ghost use Rattle.ill_world.specs.Simulation.{Simulates, line_at};
-ghost use Rattle.ill_world.specs.Script.{meaning};
-ghost use Rattle.ill_world.specs.Simulating.{Performs, PerformsLine, StepsLine, FindsEnd, IsUsedUp};
+ghost use Rattle.ill_world.specs.Play.{Plays};
+ghost use Rattle.ill_world.specs.Simulation.{Simulates, two_sides};
+ghost use Rattle.ill_world.specs.Simulating.{PerformsLine, StepsLine, FindsEnd, IsUsedUp};
 
 use crate::ahead::Ahead;
-use crate::event::Event;
 use crate::fault::SimFault;
 use crate::laws::{every_run_agrees, every_run_is_safe};
 use crate::lines::{Found, next_line};
+use crate::performer::{Performer, Told};
 use crate::script::{Line, read_line};
 use crate::world::World;
 use ill_der::write_bytes;
@@ -50,49 +49,82 @@ pub fn simulate<R: Read, W: Write>(
 {
     every_run_is_safe();
     every_run_agrees();
-    let mut simulation = Simulation::new(alloc, txn)?;
+    let simulation = Simulation::new(alloc, World::new(alloc, txn)?, ());
     simulation.run(alloc, reader, writer)
+}
+
+impl Performer for World {
+    type Carried = ();
+
+    ghost Event = { Event };
+
+    ghost play = { two_sides };
+
+    fn perform_line(
+        &mut self,
+        alloc: Global,
+        _carried: &mut (),
+        line: &[u8],
+        number: u32,
+        shown: &mut Vec<u8>,
+    ) -> Result<Told, OutOfMemory> {
+        match read_line(alloc, line)? {
+            Line::Skipped => Ok(Told::Nothing),
+            Line::Event(event) => {
+                let outcome = self.step(alloc, &event)?;
+                self.push_line(shown, number, outcome)?;
+                Ok(Told::Event)
+            }
+            Line::Bad => Ok(Told::BadLine),
+        }
+    }
 }
 
 /// A simulation in the midst of a script.
 #[derive(Drop)]
-struct Simulation {
-    /// The two sides as they are now.
-    world: World,
+pub(crate) struct Simulation<T: Performer> {
+    /// Who performs the lines.
+    performer: T,
+    /// What is carried to the next line.
+    carried: T::Carried,
     /// How many events have happened.
     count: u32,
     /// The line of the script that was read last.
     line: Vec<u8>,
     /// What was read of the script behind that line.
     ahead: Ahead,
-    /// The line of the trace that was written last.
+    /// The text of the line that was performed last.
     shown: Vec<u8>,
 }
 
-impl Simulation {
-    fn new(alloc: Global, txn: &TxnId) -> Result<Simulation, OutOfMemory>
-        ensures { IfOk result (λ s. (s.world ≡ first_world txn.now) × (s.count ≡ 0) × (s.ahead ≡ [])) }
+impl<T: Performer> Simulation<T> {
+    pub(crate) fn new(alloc: Global, performer: T, carried: T::Carried) -> Simulation<T>
+        ensures performer { result.performer ≡ performer }
+        ensures carried { result.carried ≡ carried }
+        ensures none { result.count ≡ 0 }
+        ensures unread { result.ahead ≡ [] }
     {
-        Ok(Simulation {
-            world: World::new(alloc, txn)?,
+        Simulation {
+            performer,
+            carried,
             count: 0,
             line: Vec::new(alloc),
             ahead: Ahead::new(),
             shown: Vec::new(alloc),
-        })
+        }
     }
 
     /// Performs the whole script.
-    fn run<R: Read, W: Write>(
-        &mut self,
+    pub(crate) fn run<R: Read, W: Write>(
+        mut self,
         alloc: Global,
         reader: &mut R,
         writer: &mut W,
     ) -> Result<u32, SimFault>
-        requires begins { self.old.count ≡ 0 }
-        requires unread { self.old.ahead ≡ [] }
-        ensures { (txn : Qualifiers) → self.old.world ≡ first_world txn →
-            Simulates txn (R.remaining reader.old) (R.remaining reader.new)
+        requires begins { self.count ≡ 0 }
+        requires unread { self.ahead ≡ [] }
+        ensures { Plays T.play self.carried 1 self.performer 0
+            (R.remaining reader.old) (R.remaining reader.new)
             (W.contents writer.old) (W.contents writer.new) result }
     {
         for before in 0..MAX_LINES {
@@ -115,10 +147,11 @@ impl Simulation {
     ) -> Result<bool, SimFault>
         requires few { self.old.count + 1 ≤ number }
         requires number { number ≤ 100000 }
-        ensures steps { StepsLine number self.old.world self.old.count
+        ensures steps { StepsLine T.play self.old.carried number self.old.performer self.old.count
             (prepend_known self.old.ahead (R.remaining reader.old))
             (prepend_known self.new.ahead (R.remaining reader.new))
-            (W.contents writer.old) (W.contents writer.new) result self.new.world self.new.count }
+            (W.contents writer.old) (W.contents writer.new)
+            result self.new.carried self.new.performer self.new.count }
         ensures used { IsUsedUp self.new.ahead result }
         ensures few { self.new.count ≤ self.old.count + 1 }
     {
@@ -136,7 +169,7 @@ impl Simulation {
         }
     }
 
-    /// Performs the line that was read.
+    /// Performs the line that was read, and writes its text.
     fn perform_line<W: Write>(
         &mut self,
         alloc: Global,
@@ -144,39 +177,32 @@ impl Simulation {
         number: u32,
     ) -> Result<(), SimFault>
         requires few { self.old.count ≤ 100000 }
-        ensures performs { PerformsLine (meaning self.old.line.items) number
-            self.old.world self.old.count (W.contents writer.old) (W.contents writer.new)
-            result self.new.world self.new.count }
+        ensures performs { PerformsLine T.play (T.play.says self.old.carried self.old.line.items).0 number
+            self.old.performer self.old.count (W.contents writer.old) (W.contents writer.new)
+            result self.new.performer self.new.count }
+        ensures carried { IfOk result (λ done.
+            self.new.carried ≡ (T.play.says self.old.carried self.old.line.items).1) }
         ensures ahead { self.new.ahead ≡ self.old.ahead }
         ensures few { self.new.count ≤ self.old.count + 1 }
     {
-        match read_line(alloc, &self.line)? {
-            Line::Skipped => Ok(()),
-            Line::Event(event) => self.perform(alloc, writer, &event),
-            Line::Bad => Err(SimFault::Script(number)),
-        }
-    }
-
-    /// Performs an event, and writes its line.
-    fn perform<W: Write>(
-        &mut self,
-        alloc: Global,
-        writer: &mut W,
-        event: &Event,
-    ) -> Result<(), SimFault>
-        requires few { self.old.count ≤ 100000 }
-        ensures performs { Performs self.old.world self.old.count event.now
-            (W.contents writer.old) (W.contents writer.new) result self.new.world self.new.count }
-        ensures ahead { self.new.ahead ≡ self.old.ahead }
-        ensures few { self.new.count ≤ self.old.count + 1 }
-    {
-        let outcome = self.world.step(alloc, event)?;
-        self.count += 1;
         self.shown.clear();
-        self.world.push_line(&mut self.shown, self.count, outcome)?;
-        match write_bytes(writer, &self.shown) {
-            Ok(()) => Ok(()),
-            Err(_) => Err(SimFault::Write),
+        let next = self.count + 1;
+        match self.performer.perform_line(
+            alloc,
+            &mut self.carried,
+            &self.line,
+            next,
+            &mut self.shown,
+        )? {
+            Told::Nothing => Ok(()),
+            Told::Event => {
+                self.count = next;
+                match write_bytes(writer, &self.shown) {
+                    Ok(()) => Ok(()),
+                    Err(_) => Err(SimFault::Write),
+                }
+            }
+            Told::BadLine => Err(SimFault::Script(number)),
         }
     }
 

@@ -1,44 +1,74 @@
 //! The lines of a trace, which show what is seen of each event and how both sides stand after it.
 
 ghost use Rattle.std.specs.Prelude.{◌≡◌, ◌++◌, OnOk};
-ghost use Rattle.ill_world.specs.Trace.{line, event_text, side_text, due_text};
+ghost use Rattle.ill_world.specs.Trace.{line_of, event_text, sides_text, shown_of, shown_text, side_text, due_text};
 
-use crate::event::Outcome;
-use crate::party::Party;
+use ill_core::State;
 use ill_saved::Side;
 use ill_values::{Day, OutOfMemory};
 use itoa::{Buffer, Integer};
 
-/// Adds the line of the event with this number, counted from 1: its number, its outcome, and for
+/// What a trace shows of a side: its state, its due date, and how many of its messages are released and
+/// issued.
+#[derive(Clone, Copy)]
+pub(crate) struct Shown {
+    state: State,
+    due: Option<Day>,
+    released: u8,
+    issued: u8,
+}
+
+impl Shown {
+    /// What is shown of a side of which so many messages are released.
+    pub(crate) fn of(side: &Side, released: u8) -> Shown
+        ensures { result ≡ shown_of side.now released }
+    {
+        Shown {
+            state: side.state(),
+            due: side.due(),
+            released,
+            issued: side.issued_count(),
+        }
+    }
+}
+
+/// Adds the line of the event with this number, counted from 1: its number, what is seen of it, and for
 /// each side the state, the due date, and how many of its messages are released and issued, as
 /// `3 saved requester PENDING - 1/1 responder IDLE - 0/0` with an LF behind it.
-#[tactic(auto, unfolding(crate::specs::Trace::line))]
 pub(crate) fn push_line(
     lines: &mut Vec<u8>,
     number: u32,
-    outcome: Outcome,
-    requester: &Party,
-    responder: &Party,
+    word: &str,
+    requester: Shown,
+    responder: Shown,
 ) -> Result<(), OutOfMemory>
-    ensures { OnOk result (lines.new.items ≡ lines.old.items ++ line number outcome
-        (record { requester = requester.now; responder = responder.now })) }
+    ensures { OnOk result (lines.new.items ≡ lines.old.items
+        ++ line_of number word.now requester responder) }
 {
-    push_event(lines, number, outcome)?;
-    lines.extend_from_slice(b" requester ")?;
-    push_side(lines, requester.side(), requester.released())?;
-    lines.extend_from_slice(b" responder ")?;
-    push_side(lines, responder.side(), responder.released())?;
+    push_event(lines, number, word)?;
+    push_sides(lines, requester, responder)?;
     lines.push(b'\n')?;
     Ok(())
 }
 
 /// Adds the number of an event and what is seen of it, as `12 saved`.
-fn push_event(lines: &mut Vec<u8>, number: u32, outcome: Outcome) -> Result<(), OutOfMemory>
-    ensures { OnOk result (lines.new.items ≡ lines.old.items ++ event_text number outcome) }
+fn push_event(lines: &mut Vec<u8>, number: u32, word: &str) -> Result<(), OutOfMemory>
+    ensures { OnOk result (lines.new.items ≡ lines.old.items ++ event_text number word.now) }
 {
     push_number(lines, number)?;
     lines.push(b' ')?;
-    lines.extend_from_slice(outcome.word().as_bytes())?;
+    lines.extend_from_slice(word.as_bytes())?;
+    Ok(())
+}
+
+/// Adds how both sides stand.
+fn push_sides(lines: &mut Vec<u8>, requester: Shown, responder: Shown) -> Result<(), OutOfMemory>
+    ensures { OnOk result (lines.new.items ≡ lines.old.items ++ sides_text requester responder) }
+{
+    lines.extend_from_slice(b" requester ")?;
+    push_shown(lines, requester)?;
+    lines.extend_from_slice(b" responder ")?;
+    push_shown(lines, responder)?;
     Ok(())
 }
 
@@ -47,13 +77,21 @@ fn push_event(lines: &mut Vec<u8>, number: u32, outcome: Outcome) -> Result<(), 
 pub fn push_side(lines: &mut Vec<u8>, side: &Side, released: u8) -> Result<(), OutOfMemory>
     ensures { OnOk result (lines.new.items ≡ lines.old.items ++ side_text side.now released) }
 {
-    lines.extend_from_slice(side.state().name().as_bytes())?;
+    push_shown(lines, Shown::of(side, released))
+}
+
+/// Adds what is shown of a side.
+#[tactic(auto, unfolding(crate::specs::Trace::shown_text))]
+fn push_shown(lines: &mut Vec<u8>, shown: Shown) -> Result<(), OutOfMemory>
+    ensures { OnOk result (lines.new.items ≡ lines.old.items ++ shown_text shown) }
+{
+    lines.extend_from_slice(shown.state.name().as_bytes())?;
     lines.push(b' ')?;
-    push_due(lines, side.due())?;
+    push_due(lines, shown.due)?;
     lines.push(b' ')?;
-    push_number(lines, released)?;
+    push_number(lines, shown.released)?;
     lines.push(b'/')?;
-    push_number(lines, side.issued_count())
+    push_number(lines, shown.issued)
 }
 
 /// Adds a due date as eight digits, or a dash where there is none.

@@ -96,6 +96,7 @@ impl World {
     }
 
     /// Adds the line of a trace that shows this world after an event with this number.
+    #[tactic(auto, unfolding(crate::specs::Trace::line))]
     pub(crate) fn push_line(
         &self,
         text: &mut Vec<u8>,
@@ -104,7 +105,8 @@ impl World {
     ) -> Result<(), OutOfMemory>
         ensures { OnOk result (text.new.items ≡ text.old.items ++ line number outcome self.now) }
     {
-        push_line(text, number, outcome, &self.requester, &self.responder)
+        let (requester, responder) = (self.requester.shown(), self.responder.shown());
+        push_line(text, number, outcome.word(), requester, responder)
     }
 
     /// How many messages of a side are released: those with numbers up to this one may be sent.

@@ -1,12 +1,13 @@
 use Rattle.ill_world.specs.World.{first_world}
-use Rattle.ill_world.proofs.Simulations.{trace_of_none, trace_line, trace_front}
+use Rattle.ill_world.specs.Simulation.{two_sides}
+use Rattle.ill_world.proofs.Simulations.{trace_of_none, sides_line, sides_front}
 use Rattle.ill_world.proofs.laws.traces_show_runs.Goals as goal
 
 pub returns-clause-first : goal.returns-clause-first
-returns-clause-first c = λ txn. trace_of_none 1 (first_world txn)
+returns-clause-first c = λ txn. trace_of_none two_sides 1 (first_world txn)
 
 pub returns-clause-next : goal.returns-clause-next
-returns-clause-next c = trace_line
+returns-clause-next c = sides_line
 
 pub returns-clause-front : goal.returns-clause-front
-returns-clause-front c = trace_front
+returns-clause-front c = sides_front

@@ -1,13 +1,13 @@
-use Rattle.std.proofs.Common.{◌≡◌, ◌+◌, ◌≤◌}
+use Rattle.std.proofs.Common.{◌+◌, ◌≤◌, ℕ, List, Option, Result}
 use Rattle.std.specs.Io.KnownBytes.{prepend_known}
-use Rattle.ill_values.specs.TxnId.{Qualifiers}
-use Rattle.ill_world.specs.World.{first_world}
-use Rattle.ill_world.proofs.Simulations.{Stands}
+use Rattle.ill_world.specs.declared.fault.SimFault.{SimFault}
+use Rattle.ill_world.specs.Play.{Plays}
 use Rattle.ill_world.proofs.simulation.Simulation.run.Given as goal
 
--- each line so far was performed
+-- whatever comes of the rest of the script comes of the whole
 abbrev pub invariant-loop-before : goal.invariant-loop-before
 invariant-loop-before g l =
-    ((txn : Qualifiers) → l.fn.self.world ≡ first_world txn
-    → Stands txn (prepend_known l.initial.self.ahead (g.R.Read.remaining l.initial.reader)) (prepend_known l.self.ahead (g.R.Read.remaining l.reader)) (g.W.Write.contents l.initial.writer) (g.W.Write.contents l.writer) (l.before + 1) l.self.world l.self.count)
+    ((left after : Option (List ℕ)) (result : Result ℕ SimFault)
+    → Plays g.T.Performer.play l.self.carried (l.before + 1) l.self.performer l.self.count (prepend_known l.self.ahead (g.R.Read.remaining l.reader)) left (g.W.Write.contents l.writer) after result
+    → Plays g.T.Performer.play l.fn.self.carried 1 l.fn.self.performer 0 (prepend_known l.initial.self.ahead (g.R.Read.remaining l.initial.reader)) left (g.W.Write.contents l.initial.writer) after result)
     × (l.self.count ≤ l.before)

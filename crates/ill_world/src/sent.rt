@@ -1,0 +1,54 @@
+//! What a side has sent.
+
+ghost use Rattle.std.specs.Prelude.{◌≡◌, List, Option, length, option_map, IfOk};
+ghost use Rattle.ill_values.specs.declared.apdu.Apdu.{Apdu};
+ghost use Rattle.ill_world.specs.World.{nothing_sent, sent_message, with_sent};
+
+use crate::message::Message;
+use ill_values::{Number, OutOfMemory};
+use std::alloc::Global;
+use std::marker::Model;
+
+/// How many messages a side may send: one for each number.
+const MESSAGES: usize = 255;
+
+/// What a side has sent: a place for each number, and there the message that was sent with it.
+#[derive(Debug, Drop)]
+pub struct Sent {
+    places: Vec<Option<Message>>,
+}
+
+impl Model for Sent {
+    ghost Value = { List (Option Apdu) };
+
+    ghost view = { λ sent. sent.places.items };
+
+    ghost invariant = { λ sent. length sent.places.items ≡ 255 };
+}
+
+impl Sent {
+    /// Nothing was sent.
+    pub fn nothing(alloc: Global) -> Result<Sent, OutOfMemory>
+        ensures { IfOk result (λ sent. sent ≡ nothing_sent) }
+    {
+        let mut places = Vec::with_capacity(alloc, MESSAGES)?;
+        for _ in 0..MESSAGES {
+            places.push(None)?;
+        }
+        Ok(Sent { places })
+    }
+
+    /// This message was sent, with this number.
+    pub fn put(&mut self, number: Number, message: Message)
+        ensures { self.new ≡ with_sent self.old number message }
+    {
+        self.places[usize::from(number.get()) - 1] = Some(message);
+    }
+
+    /// The message with this number, if it was sent.
+    pub fn get(&self, number: Number) -> Option<&Message>
+        ensures { option_map (λ message. message.now) result ≡ sent_message self.now number }
+    {
+        self.places.get(usize::from(number.get()) - 1)?.as_ref()
+    }
+}

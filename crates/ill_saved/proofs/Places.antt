@@ -1,5 +1,5 @@
 -- The places of messages in a record.
-use Rattle.std.proofs.Common.{arith, ◌≡◌, ℕ, true, false, ◌+◌, ◌-◌, ◌≤◌, List, [], ◌∷◌, ◌++◌, length, map, take, drop, Result, Ok, Err, Some, refl, ap, sym, subst, inl, inr, ◌∙◌, length-append, append_assoc, append-nil}
+use Rattle.std.proofs.Common.{arith, ◌≡◌, ℕ, ◌+◌, ◌-◌, ◌≤◌, List, [], ◌∷◌, ◌++◌, length, map, take, drop, Result, Ok, Err, Some, refl, ap, sym, subst, inl, inr, ◌∙◌, length-append, append_assoc, append-nil}
 use Rattle.std.specs.List.{All}
 use Rattle.std.proofs.lemmas.List.{map-append, take_at, drop_at, drop-drop, take-append-le, drop-append-le, length-drop, map_push}
 use Rattle.std.proofs.lemmas.List.Elements.{All-head, All-tail, All-push, All-weaker}

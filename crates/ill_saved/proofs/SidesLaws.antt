@@ -1,11 +1,11 @@
 -- The laws of records of many sides: what is read is spelled so, and what is spelled is read again.
-use Rattle.std.proofs.Common.{◌≡◌, ℕ, ◌+◌, ◌-◌, ◌<◌, ◌≤◌, ltb, leb, Bool, true, false, cond, not, List, [], ◌∷◌, ◌++◌, length, take, drop, Option, Some, None, Result, Ok, Err, refl, sym, ap, subst, ◌∙◌, append_assoc, append-nil, length-append, arith, rules}
+use Rattle.std.proofs.Common.{◌≡◌, ℕ, ◌-◌, ◌<◌, ◌≤◌, ltb, leb, Bool, true, false, cond, not, List, [], ◌∷◌, ◌++◌, length, take, drop, Some, None, Result, Ok, Err, refl, sym, ap, subst, ◌∙◌, append_assoc, append-nil, length-append, arith}
 use Rattle.std.specs.Prelude.{nat_eq}
 use Rattle.std.specs.Int.{w16, byte_at, to_be_bytes, from_be_bytes}
 use Rattle.std.specs.List.{starts_with}
 use Rattle.std.specs.Result.{result_ok}
 use Rattle.std.specs.Str.{bytes_eq}
-use Rattle.std.proofs.lemmas.Bool.{eqb-true, leb-true, le-leb, ltb-false, le-ltb, not-true}
+use Rattle.std.proofs.lemmas.Bool.{eqb-true, leb-true, le-leb, ltb-false, le-ltb}
 use Rattle.std.proofs.lemmas.List.{take_at, drop_at, take-append-drop, take-take, nil_from_length}
 use Rattle.std.proofs.lemmas.Nat.{be_bytes_2, from_be_bytes-to_be_bytes_2}
 use Rattle.std.proofs.lemmas.Option.{same_Some, cond_some}
@@ -21,9 +21,9 @@ use Rattle.ill_saved.specs.declared.fault.LayoutFault.TheVariants.{Bad}
 use Rattle.ill_saved.specs.declared.fault.RecordFault.{RecordFault}
 use Rattle.ill_saved.specs.declared.fault.RecordFault.TheVariants as faults
 use Rattle.ill_saved.specs.Sides.{SidesOf, most_sides, may_be_held}
-use Rattle.ill_saved.specs.Layout.{sized, followed_by, counted_by, spell_all, ended}
+use Rattle.ill_saved.specs.Layout.{sized, counted_by, spell_all, ended}
 use Rattle.ill_saved.specs.Records.{role, role_octet, all_of, record_at, record_spelling}
-use Rattle.ill_saved.specs.Records2.{version_1, version_2, two_octets, few_sides, side_count, bad_at, one_record, part, role_and_sides, body_of, sides_spelling, body, unsealed, together, judged_together, sides_at, read_alone, is_version_1, records_at, AreSides}
+use Rattle.ill_saved.specs.Records2.{version_2, two_octets, few_sides, side_count, bad_at, one_record, part, role_and_sides, body_of, sides_spelling, body, unsealed, judged_together, sides_at, read_alone, is_version_1, records_at, AreSides}
 use Rattle.ill_saved.specs.Ranges.{IsSide}
 use Rattle.ill_saved.proofs.Steps.{bind_ok, ok_is, passed, went_on, IsBytes-take, IsBytes-rest}
 use Rattle.ill_saved.proofs.Fields.{ReadsAgain, Takes, IsField, IsSized, Any, Both, CountedBy, rest_fits, sized_is, followed_is, counted_by_is, role_is}

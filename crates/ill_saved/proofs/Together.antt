@@ -1,7 +1,7 @@
 -- Sides that are read one after another, and held together.
-use Rattle.std.proofs.Common.{◌≡◌, ℕ, ◌<◌, ◌≤◌, nat_lt, length, drop, Bool, true, false, cond, not, ◌&&◌, if◌then◌else◌, List, [], ◌∷◌, ◌++◌, Option, Some, None, Result, Ok, Err, is_some, is_none, is_ok, refl, ap, sym, subst, ◌∙◌, inl, inr, true≢false, rules, arith, length-append}
-use Rattle.std.specs.List.{list_all, slice_get}
-use Rattle.std.proofs.lemmas.Bool.{and_parts, and_from, not-true}
+use Rattle.std.proofs.Common.{◌≡◌, ℕ, ◌<◌, ◌≤◌, nat_lt, length, Bool, true, false, cond, not, ◌&&◌, if◌then◌else◌, List, [], ◌∷◌, ◌++◌, Option, Some, None, Result, Ok, Err, is_some, is_none, is_ok, refl, ap, sym, subst, ◌∙◌, true≢false, rules, arith, length-append}
+use Rattle.std.specs.List.{list_all}
+use Rattle.std.proofs.lemmas.Bool.{and_parts, not-true}
 use Rattle.std.proofs.lemmas.List.Folds.{list_all-append}
 use Rattle.ill_values.specs.TxnId.{Qualifiers}
 use Rattle.ill_core.specs.Issued.{is_same_txn}
@@ -12,16 +12,15 @@ use Rattle.ill_saved.specs.declared.side.Side.{Side}
 use Rattle.ill_saved.specs.declared.fault.LayoutFault.{LayoutFault}
 use Rattle.ill_saved.specs.declared.fault.RecordFault.{RecordFault}
 use Rattle.ill_saved.specs.declared.fault.RecordFault.TheVariants as faults
-use Rattle.ill_saved.specs.declared.fault.SidesFault.{SidesFault}
 use Rattle.ill_saved.specs.declared.fault.SidesFault.TheVariants as refusals
-use Rattle.ill_saved.specs.Side.{role_of, txn_of, is_idle, keeps_rules}
-use Rattle.ill_saved.specs.Sides.{SidesOf, side_with, is_same_role, may_stand, are_apart, may_be_held, most_sides, put_refusal, put_last}
-use Rattle.ill_saved.specs.Layout.{followed_by, counted_by, read_all, ended}
-use Rattle.ill_saved.specs.Records.{role, front, start, states_of, has_front, has_front_behind, requester_fields, responder_fields, requester_rest, responder_rest, requester_states, responder_states, read_fields, side_at, side_spelled, record_at, begins_as_record, Decodes}
-use Rattle.ill_saved.specs.Records2.{part, side_count, role_and_sides, unsealed, together, judged_together, sides_at, alone, read_alone, is_version_1, has_count, has_count_behind, records_at, begins_as_records, PutsRead}
+use Rattle.ill_saved.specs.Side.{role_of, txn_of, is_idle}
+use Rattle.ill_saved.specs.Sides.{SidesOf, side_with, is_same_role, may_stand, are_apart, may_be_held, most_sides, put_refusal}
+use Rattle.ill_saved.specs.Layout.{counted_by, read_all, ended}
+use Rattle.ill_saved.specs.Records.{role, front, start, has_front, has_front_behind, requester_fields, responder_fields, requester_states, responder_states, read_fields, side_at, side_spelled, record_at, begins_as_record, Decodes}
+use Rattle.ill_saved.specs.Records2.{part, side_count, role_and_sides, unsealed, together, judged_together, sides_at, read_alone, is_version_1, has_count, records_at, begins_as_records, PutsRead}
 use Rattle.ill_saved.proofs.Steps.{bind_ok}
 use Rattle.ill_saved.proofs.Records.{judged_ok}
-use Rattle.ill_saved.proofs.Held.{apart_back, apart_more, not_refused, not_some}
+use Rattle.ill_saved.proofs.Held.{apart_back}
 
 -- ---- holding together
 

@@ -193,11 +193,12 @@ judged (Err fault) = Err (record_fault fault)
 unfoldable pub record_at : List ℕ → Result Side RecordFault
 record_at bytes = judged (side_spelled bytes)
 
--- whether the bytes begin as a record, up to its qualifiers, for which the first memory is taken
+-- the states of a role
 abbrev pub states_of : Role → List State
 states_of roles.Requester = requester_states
 states_of roles.Responder = responder_states
 
+-- whether the bytes begin as a record, up to its qualifiers, for which the first memory is taken
 abbrev pub has_front : Role → Cursor → Bool
 has_front role left = is_ok ((front (states_of role)).read left)
 

@@ -18,7 +18,7 @@ use std::alloc::Global;
 /// How many octets the digest has.
 const DIGEST_SIZE: usize = 32;
 
-/// How few octets no record of version 2 has: the version, the role, the count and the digest.
+/// The fewest octets of a record of version 2: the version, the role, the count and the digest.
 const SMALLEST: usize = 39;
 
 /// Decodes a saved record of many sides, which must take up all of the bytes, or gives their first fault.

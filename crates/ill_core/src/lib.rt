@@ -17,6 +17,7 @@ mod state;
 mod table;
 mod taking;
 
+pub use body::{is_ill_request, is_requesters};
 pub use refusal::Refusal;
 pub use requester::standing::Standing as RequesterStanding;
 pub use requester::{Requester, Wish};

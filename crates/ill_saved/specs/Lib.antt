@@ -8,4 +8,5 @@ pub mod Store
 pub mod Faults
 pub mod Kept
 pub mod Desk
+pub mod Many
 pub mod Loading

@@ -122,6 +122,12 @@ pub enum DeskFault {
     /// Memory ran out.
     #[error("memory")]
     OutOfMemory,
+    /// The desk holds no side of this transaction, and what was asked for opens none.
+    #[error("no-such-transaction")]
+    NoSuchTransaction,
+    /// The desk holds 1,000 sides, and there is no room for one more.
+    #[error("desk-full")]
+    DeskFull,
 }
 
 impl From<Refusal> for DeskFault {

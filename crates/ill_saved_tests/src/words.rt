@@ -22,6 +22,8 @@ pub fn write_fault(line: &mut Line, fault: DeskFault, state: State) {
         DeskFault::Exists => line.text("exists"),
         DeskFault::NoRecord => line.text("no-record"),
         DeskFault::OutOfMemory => line.text("memory"),
+        DeskFault::NoSuchTransaction => line.text("no-such-transaction"),
+        DeskFault::DeskFull => line.text("desk-full"),
     }
 }
 

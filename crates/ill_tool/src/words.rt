@@ -167,7 +167,9 @@ fn status_after_desk(fault: DeskFault) -> u8
         | DeskFault::NoSuchMessage
         | DeskFault::NotSaved
         | DeskFault::Exists
-        | DeskFault::NoRecord => REFUSED,
+        | DeskFault::NoRecord
+        | DeskFault::NoSuchTransaction
+        | DeskFault::DeskFull => REFUSED,
         DeskFault::Bytes(_) | DeskFault::Trailing | DeskFault::Saved(_) => BAD,
         DeskFault::Store(_) | DeskFault::OutOfMemory => FAILED,
     }

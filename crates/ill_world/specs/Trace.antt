@@ -12,6 +12,8 @@ use Rattle.ill_saved.specs.declared.side.Side.{Side}
 use Rattle.ill_saved.specs.Side.{issued_of, state_of, due_date_of}
 use Rattle.ill_world.specs.declared.event.Outcome.{Outcome}
 use Rattle.ill_world.specs.declared.event.Outcome.TheVariants.{Done, Saved, Faulted, Sent, Answered, Refused, NoSuchMessage, NotSaved, NotSent, Garbled, Forged, Restarted}
+use Rattle.ill_world.specs.declared.event.DeskOutcome.{DeskOutcome}
+use Rattle.ill_world.specs.declared.event.DeskOutcome.TheVariants.{Plain, NoSuchTransaction, DeskFull}
 use Rattle.ill_world.specs.declared.trace.Shown.{Shown}
 use Rattle.ill_world.specs.World.{Party, Parties}
 
@@ -48,6 +50,12 @@ outcome_word NotSent = codes "not-sent"
 outcome_word Garbled = codes "garbled"
 outcome_word Forged = codes "forged"
 outcome_word Restarted = codes "restarted"
+
+-- what is seen of an event at a desk of many transactions, in a word
+abbrev pub desk_outcome_word : DeskOutcome → List ℕ
+desk_outcome_word (Plain outcome) = outcome_word outcome
+desk_outcome_word NoSuchTransaction = codes "no-such-transaction"
+desk_outcome_word DeskFull = codes "desk-full"
 
 -- a due date, or a dash where there is none
 abbrev pub due_text : Option Date → List ℕ

@@ -2,7 +2,7 @@
 
 ghost use Rattle.std.specs.Prelude.{◌≡◌};
 ghost use Rattle.ill_world.specs.World.{who_of};
-ghost use Rattle.ill_world.specs.Trace.{outcome_word, taking_word, refusal_word};
+ghost use Rattle.ill_world.specs.Trace.{outcome_word, desk_outcome_word, taking_word, refusal_word};
 
 use crate::bytes::Bytes;
 use ill_core::{Deed, Refusal, Taking, Wish};
@@ -103,6 +103,30 @@ impl Outcome {
             Outcome::Garbled => "garbled",
             Outcome::Forged => "forged",
             Outcome::Restarted => "restarted",
+        }
+    }
+}
+
+/// What is seen of an event at a desk of many transactions. The two further ones change nothing.
+#[derive(Clone, Copy, Debug, PartialEq, Eq, Hash)]
+pub enum DeskOutcome {
+    /// What is seen of the same event in one transaction.
+    Plain(Outcome),
+    /// The desk holds no side of the transaction, and the event begins none.
+    NoSuchTransaction,
+    /// The desk holds as many sides as it may, and the event would begin one more.
+    DeskFull,
+}
+
+impl DeskOutcome {
+    /// What is seen, in a word.
+    pub fn word(self) -> &'static str
+        ensures { result.now ≡ desk_outcome_word self }
+    {
+        match self {
+            DeskOutcome::Plain(outcome) => outcome.word(),
+            DeskOutcome::NoSuchTransaction => "no-such-transaction",
+            DeskOutcome::DeskFull => "desk-full",
         }
     }
 }

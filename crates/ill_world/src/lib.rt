@@ -19,7 +19,7 @@ pub mod words;
 mod world;
 
 pub use bytes::Bytes;
-pub use event::{Event, Outcome, Who};
+pub use event::{DeskOutcome, Event, Outcome, Who};
 pub use fault::SimFault;
 pub use simulation::simulate;
 pub use trace::push_side;

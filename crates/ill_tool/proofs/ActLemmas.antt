@@ -5,15 +5,16 @@ use Rattle.std.proofs.KnownBytes.{Appends-nil}
 use Rattle.ill_saved.specs.declared.side.Action.{Action}
 use Rattle.ill_tool.specs.declared.fault.ToolFault.{ToolFault}
 use Rattle.ill_tool.specs.declared.fault.ToolFault.TheVariants.{OutOfMemory}
-use Rattle.ill_tool.specs.DeskView.{DeskView}
+use Rattle.ill_tool.specs.Keeping.{Keeping, View}
 use Rattle.ill_tool.specs.Act.{RunsAct}
 
--- memory ran out for the words
-words_unread : (named : Option Action) (now : DeskView) (before : Option (List ℕ)) → RunsAct named now before before (Err OutOfMemory) now
-words_unread None now before = (inr refl, refl, Appends-nil before)
-words_unread (Some action) now before = (Err OutOfMemory, [], inl refl, Appends-nil before, (refl, refl))
+module _ {L K : Type 0} (keeping : Keeping L K) (key : K) where
+  -- memory ran out for the words
+  words_unread : (named : Option Action) (now : View L) (before : Option (List ℕ)) → RunsAct keeping key named now before before (Err OutOfMemory) now
+  words_unread None now before = (inr refl, refl, Appends-nil before)
+  words_unread (Some action) now before = (Err OutOfMemory, [], inl (tt, refl), Appends-nil before, (refl, refl))
 
-pub no_words : (named : Option Action) (now : DeskView) (before : Option (List ℕ)) (result : Result Bool ToolFault) → IsErrAnd result (λ fault. fault ≡ OutOfMemory)
-    → RunsAct named now before before result now
-no_words named now before (Ok fine) failed = absurd failed
-no_words named now before (Err fault) failed = subst (λ (f : ToolFault). RunsAct named now before before (Err f) now) (sym failed) (words_unread named now before)
+  pub no_words : (named : Option Action) (now : View L) (before : Option (List ℕ)) (result : Result Bool ToolFault) → IsErrAnd result (λ fault. fault ≡ OutOfMemory)
+      → RunsAct keeping key named now before before result now
+  no_words named now before (Ok fine) failed = absurd failed
+  no_words named now before (Err fault) failed = subst (λ (f : ToolFault). RunsAct keeping key named now before before (Err f) now) (sym failed) (words_unread named now before)

@@ -1,10 +1,8 @@
 -- Beginning, from what the calls below answer.
 use Rattle.std.proofs.Common.{rules, ◌≡◌, ◌⊎◌, ℕ, List, Option, Some, None, Result, Ok, Err, inl, inr, ◌∙◌}
-use Rattle.ill_saved.specs.declared.side.Side.{Side}
 use Rattle.ill_saved.specs.declared.fault.DeskFault.TheVariants.{Store}
 use Rattle.ill_saved.specs.declared.store.StoreFault.TheVariants.{Failed}
 use Rattle.ill_saved.specs.declared.store.NextCall.{NextCall}
-use Rattle.ill_saved.specs.Records.{record_spelling}
 use Rattle.ill_saved.specs.Store.{Allows, spent}
 use Rattle.ill_tool.specs.declared.fault.ToolFault.{ToolFault}
 use Rattle.ill_tool.specs.declared.fault.ToolFault.TheVariants.{Desk, Write, OutOfMemory}
@@ -20,11 +18,11 @@ still_spent (Some plan) None new e (inr is) = search rules
 still_spent (Some plan) (Some next) new e (inr is) = is
 
 -- a side was saved where nothing had landed, once the plan was spent that allowed to load
-pub begun_over : (first : Side) (plan : Option NextCall) (answer : Result (Unit {0}) ToolFault) (new : Option (List ℕ)) → Allows {X = Unit {0}} plan (Ok tt)
-    → LandsFirst (spent plan) (record_spelling first) answer None new → BeginsOver first plan None answer new
-begun_over first plan (Ok done) new allows lands = (lands, allows)
-begun_over first plan (Err Write) new allows lands = (lands, allows)
-begun_over first None (Err (Desk (Store Failed))) new allows lands = lands
-begun_over first (Some plan) (Err (Desk (Store Failed))) new allows lands = absurd lands.1
-begun_over first plan (Err OutOfMemory) new allows lands = lands
-begun_over first plan (Err other) new allows lands = absurd lands
+pub begun_over : (bytes : List ℕ) (plan : Option NextCall) (answer : Result (Unit {0}) ToolFault) (new : Option (List ℕ)) → Allows {X = Unit {0}} plan (Ok tt)
+    → LandsFirst (spent plan) bytes answer None new → BeginsOver bytes plan None answer new
+begun_over bytes plan (Ok done) new allows lands = (lands, allows)
+begun_over bytes plan (Err Write) new allows lands = (lands, allows)
+begun_over bytes None (Err (Desk (Store Failed))) new allows lands = lands
+begun_over bytes (Some plan) (Err (Desk (Store Failed))) new allows lands = absurd lands.1
+begun_over bytes plan (Err OutOfMemory) new allows lands = lands
+begun_over bytes plan (Err other) new allows lands = absurd lands

@@ -9,7 +9,7 @@ use Rattle.ill_tool.specs.declared.fault.ToolFault.{ToolFault}
 use Rattle.ill_tool.specs.declared.fault.ToolFault.TheVariants.{Desk}
 use Rattle.ill_tool.specs.Input.{StopsReading, ReadsInput}
 use Rattle.ill_tool.specs.declared.take.TakesEach.{TakesEach}
-use Rattle.ill_tool.specs.DeskView.{view_of, ToolFailsCounted}
+use Rattle.ill_tool.specs.Keeping.{Keeping, View, ToolFailsCounted}
 use Rattle.ill_tool.specs.Take.{KeepsDesk, Progress, progress, takes_each, answer_of, RunsTake}
 use Rattle.ill_tool.proofs.InputLemmas.{reads_as}
 
@@ -58,21 +58,21 @@ module _ {S N : Type 0} (handles : Handles S ToolFault) (name : S → N) (failur
 
 -- ---- the command
 
--- an input whose messages are taken on a desk that is lent
-module _ {S W : Type 0} (is_honest : S → Bool) (landed : S → Option (List ℕ)) (failures : S → ℕ) (contents : W → Option (List ℕ)) where
-  abbrev how_far : TakesEach S × W → Progress
-  how_far s = progress (view_of is_honest landed s.0.desk.now) (contents s.1) s.0.all_fine
+-- an input whose messages are taken on a keeper that is lent
+module _ {T A S L N W : Type 0} (keeping : Keeping L N) (view : T → View L) (failures : T → ℕ) (contents : W → Option (List ℕ)) where
+  abbrev how_far : TakesEach T A S × W → Progress L
+  how_far s = progress (view s.0.keeper.now) (contents s.1) s.0.all_fine
 
   -- what is done with each
-  abbrev pub TakesOn : Handles (TakesEach S × W) ToolFault
-  TakesOn s apdu r t = takes_each (how_far s) apdu r (how_far t) × KeepsDesk r s.0.desk.ghost_name t.0.desk.ghost_name (failures s.0.desk.now.store) (failures t.0.desk.now.store)
+  abbrev pub TakesOn : Handles (TakesEach T A S × W) ToolFault
+  TakesOn s apdu r t = takes_each keeping (how_far s) apdu r (how_far t) × KeepsDesk r s.0.keeper.ghost_name t.0.keeper.ghost_name (failures s.0.keeper.now) (failures t.0.keeper.now)
 
-  pub input_taken : (old new : Option (List ℕ)) (before after : TakesEach S × W) (result : Result ℕ ToolFault) → before.0.all_fine ≡ true → ReadsInput TakesOn old new before result after
-      → RunsTake old new (contents before.1) (contents after.1) (view_of is_honest landed before.0.desk.now) (answer_of result after.0.all_fine) (view_of is_honest landed after.0.desk.now)
-      × KeepsDesk result before.0.desk.ghost_name after.0.desk.ghost_name (failures before.0.desk.now.store) (failures after.0.desk.now.store)
+  pub input_taken : (old new : Option (List ℕ)) (before after : TakesEach T A S × W) (result : Result ℕ ToolFault) → before.0.all_fine ≡ true → ReadsInput TakesOn old new before result after
+      → RunsTake keeping old new (contents before.1) (contents after.1) (view before.0.keeper.now) (answer_of result after.0.all_fine) (view after.0.keeper.now)
+      × KeepsDesk result before.0.keeper.ghost_name after.0.keeper.ghost_name (failures before.0.keeper.now) (failures after.0.keeper.now)
   input_taken old new before after result fine is =
-      let taken = reads_as TakesOn takes_each how_far (λ s t apdu r h. h.0) old new before after result is in
-      let first = progress (view_of is_honest landed before.0.desk.now) (contents before.1) in (
-        (result, after.0.all_fine, refl, subst (λ (b : Bool). ReadsInput takes_each old new (first b) result (how_far after)) fine taken),
-        input_keeps TakesOn (λ s. s.0.desk.ghost_name) (λ s. failures s.0.desk.now.store) (λ s t apdu r h. h.1) old new before after result is,
+      let taken = reads_as TakesOn (takes_each keeping) how_far (λ s t apdu r h. h.0) old new before after result is in
+      let first = progress (view before.0.keeper.now) (contents before.1) in (
+        (result, after.0.all_fine, refl, subst (λ (b : Bool). ReadsInput (takes_each keeping) old new (first b) result (how_far after)) fine taken),
+        input_keeps TakesOn (λ s. s.0.keeper.ghost_name) (λ s. failures s.0.keeper.now) (λ s t apdu r h. h.1) old new before after result is,
       )

@@ -2,8 +2,8 @@
 use Rattle.std.specs.Prelude.{ℕ, Bool, ◌&&◌, not, ◌==◌, if◌then◌else◌, List, length, Option, None, Some, option_map}
 use Rattle.std.specs.List.{list_all, list_any}
 use Rattle.ill_values.specs.Day.{Date}
-use Rattle.ill_saved.specs.declared.side.Side.{Side}
-use Rattle.ill_saved.specs.declared.side.Side.TheVariants.{Requester, Responder}
+use Rattle.ill_saved.specs.declared.role.Role.{Role}
+use Rattle.ill_saved.specs.declared.role.Role.TheVariants.{Requester, Responder}
 use Rattle.ill_saved.specs.declared.side.Action.{Action}
 use Rattle.ill_saved.specs.declared.side.Action.TheVariants.{Wish, Deed}
 use Rattle.ill_world.specs.Words.{wish_of, deed_of}
@@ -17,11 +17,11 @@ abbrev pub deed_on : Option Date → List (List ℕ) → Option Action
 deed_on None words = None
 deed_on (Some today) words = option_map (λ deed. Deed deed today) (deed_of (Some today) words)
 
--- what words say to a side, as they would behind the side in a script
-abbrev pub action_for : Side → Option Date → List (List ℕ) → Option Action
-action_for (Requester x) today words = option_map Wish (wish_of words)
-action_for (Responder y) today words = deed_on today words
+-- what words say to a side of this role, as they would behind the side in a script
+abbrev pub action_for : Role → Option Date → List (List ℕ) → Option Action
+action_for Requester today words = option_map Wish (wish_of words)
+action_for Responder today words = deed_on today words
 
 -- the action that words name
-unfoldable pub action_named : Side → Option Date → List (List ℕ) → Option Action
-action_named side today words = if list_all is_word words then action_for side today words else None
+unfoldable pub action_named : Role → Option Date → List (List ℕ) → Option Action
+action_named role today words = if list_all is_word words then action_for role today words else None

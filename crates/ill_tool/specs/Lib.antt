@@ -5,7 +5,8 @@ pub mod Show
 pub mod Check
 pub mod Simulate
 pub mod Actions
-pub mod DeskView
+pub mod Keeping
+pub mod Telling
 pub mod Act
 pub mod Take
 pub mod Send

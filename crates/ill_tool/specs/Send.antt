@@ -1,17 +1,28 @@
 -- The command `send`: the bytes of one message.
-use Rattle.std.specs.Prelude.{◌≡◌, ℕ, Bool, true, false, List, [], Option, None, Some, Result, Err}
+use Rattle.std.specs.Prelude.{◌≡◌, ℕ, nat_le, Bool, true, false, List, [], Option, None, Some, Result, Err}
 use Rattle.std.specs.Io.KnownBytes.{Appends}
 use Rattle.ill_values.specs.declared.apdu.Apdu.{Apdu}
 use Rattle.ill_der.specs.ShortForm.{spelling}
-use Rattle.ill_saved.specs.declared.fault.DeskFault.TheVariants.{NoSuchMessage, NotSaved}
+use Rattle.ill_core.specs.Issued.{message}
+use Rattle.ill_saved.specs.Side.{issued_of}
+use Rattle.ill_saved.specs.Many.{Held}
+use Rattle.ill_saved.specs.declared.fault.DeskFault.TheVariants.{NoSuchTransaction, NoSuchMessage, NotSaved}
 use Rattle.ill_tool.specs.declared.fault.ToolFault.{ToolFault}
 use Rattle.ill_tool.specs.declared.fault.ToolFault.TheVariants.{Desk}
 use Rattle.ill_tool.specs.Output.{WritesText}
 
 -- The message, if there is one with the number, and whether it may be sent: only then it is written.
-abbrev pub RunsSend : Option Apdu → Bool → Option (List ℕ) → Option (List ℕ) →
+abbrev pub WritesMessage : Option Apdu → Bool → Option (List ℕ) → Option (List ℕ) →
     Result (Unit {0}) ToolFault → Type 0
-RunsSend None is_released before after result =
+WritesMessage None is_released before after result =
     (result ≡ Err (Desk NoSuchMessage)) × Appends before after []
-RunsSend (Some a) false before after result = (result ≡ Err (Desk NotSaved)) × Appends before after []
-RunsSend (Some a) true before after result = WritesText before after (spelling a) result
+WritesMessage (Some a) false before after result = (result ≡ Err (Desk NotSaved)) × Appends before after []
+WritesMessage (Some a) true before after result = WritesText before after (spelling a) result
+
+-- The command: the message with this number of the side, if one is held.
+abbrev pub RunsSend : Option Held → ℕ → Option (List ℕ) → Option (List ℕ) → Result (Unit {0}) ToolFault →
+    Type 0
+RunsSend None number before after result =
+    (result ≡ Err (Desk NoSuchTransaction)) × Appends before after []
+RunsSend (Some held) number before after result =
+    WritesMessage (message (issued_of held.side) number) (nat_le number held.released) before after result

@@ -1,16 +1,18 @@
 //! The command `act`.
 
 ghost use Rattle.std.specs.Prelude.{map};
+ghost use Rattle.ill_saved.specs.Side.{role_of};
 ghost use Rattle.ill_tool.specs.Actions.{action_named};
-ghost use Rattle.ill_tool.specs.DeskView.{view_of, CountsToolFailure};
+ghost use Rattle.ill_tool.specs.Keeping.{one_side, one_view, view_of, CountsToolFailure};
 ghost use Rattle.ill_tool.specs.Act.{ActsAndSaves, RunsAct};
 
 use crate::action::action;
-use crate::fault::ToolFault;
+use crate::fault::{ToolFault, refused};
+use crate::keeper::Keeper;
 use crate::side_line::report;
-use ill_saved::{Action, Desk1, DeskFault, Store};
+use ill_saved::{Action, Desk1, Store};
 use ill_values::Day;
-use ill_world::Outcome;
+use ill_world::{DeskOutcome, Outcome};
 use std::alloc::Global;
 use std::io::Write;
 
@@ -27,39 +29,62 @@ pub fn run_act<S: Store, W: Write>(
     words: &[&str],
     writer: &mut W,
 ) -> Result<bool, ToolFault>
-    ensures runs { RunsAct (action_named desk.old.live today (map (λ word. word.now) words.now))
-        (view_of S.is_honest S.landed desk.old)
+    ensures runs { RunsAct one_side tt
+        (action_named (role_of desk.old.live) today (map (λ word. word.now) words.now))
+        (one_view S.is_honest S.landed desk.old)
         (W.contents writer.old) (W.contents writer.new) result
-        (view_of S.is_honest S.landed desk.new) }
+        (one_view S.is_honest S.landed desk.new) }
     ensures counted { CountsToolFailure result (S.failures desk.old.store)
         (S.failures desk.new.store) }
 {
-    let Some(action) = action(alloc, desk.side(), today, words)? else {
+    act_on(alloc, desk, &(), today, words, writer)
+}
+
+/// The same, on a side of what keeps it.
+fn act_on<K: Keeper, W: Write>(
+    alloc: Global,
+    keeper: &mut K,
+    key: &K::Key,
+    today: Option<Day>,
+    words: &[&str],
+    writer: &mut W,
+) -> Result<bool, ToolFault>
+    ensures runs { RunsAct K.keeping key.now
+        (action_named (K.keeping.role (K.live keeper.old)) today (map (λ word. word.now) words.now))
+        (view_of K.Kept.is_honest K.Kept.landed (K.live keeper.old) (K.store keeper.old))
+        (W.contents writer.old) (W.contents writer.new) result
+        (view_of K.Kept.is_honest K.Kept.landed (K.live keeper.new) (K.store keeper.new)) }
+    ensures counted { CountsToolFailure result (K.Kept.failures (K.store keeper.old))
+        (K.Kept.failures (K.store keeper.new)) }
+{
+    let Some(action) = action(alloc, keeper.role(), today, words)? else {
         return Err(ToolFault::Arguments);
     };
-    match act_and_save(alloc, desk, &action) {
-        Ok(outcome) => report(alloc, writer, outcome, desk),
+    match act_and_save(alloc, keeper, key, &action) {
+        Ok(outcome) => report(alloc, writer, outcome, keeper, key),
         Err(fault) => Err(fault),
     }
 }
 
 /// Performs an action and, if it was done, saves it.
-fn act_and_save<S: Store>(
+fn act_and_save<K: Keeper>(
     alloc: Global,
-    desk: &mut Desk1<S>,
+    keeper: &mut K,
+    key: &K::Key,
     action: &Action,
-) -> Result<Outcome, ToolFault>
-    ensures acts { ActsAndSaves (view_of S.is_honest S.landed desk.old) action.now result
-        (view_of S.is_honest S.landed desk.new) }
-    ensures counted { CountsToolFailure result (S.failures desk.old.store)
-        (S.failures desk.new.store) }
+) -> Result<DeskOutcome, ToolFault>
+    ensures acts { ActsAndSaves K.keeping key.now
+        (view_of K.Kept.is_honest K.Kept.landed (K.live keeper.old) (K.store keeper.old))
+        action.now result
+        (view_of K.Kept.is_honest K.Kept.landed (K.live keeper.new) (K.store keeper.new)) }
+    ensures counted { CountsToolFailure result (K.Kept.failures (K.store keeper.old))
+        (K.Kept.failures (K.store keeper.new)) }
 {
-    match desk.act(alloc, action) {
-        Ok(()) => match desk.save(alloc) {
-            Ok(()) => Ok(Outcome::Done),
+    match keeper.act(alloc, key, action) {
+        Ok(()) => match keeper.save(alloc) {
+            Ok(()) => Ok(DeskOutcome::Plain(Outcome::Done)),
             Err(fault) => Err(fault.into()),
         },
-        Err(DeskFault::Core(refusal)) => Ok(Outcome::Refused(refusal)),
-        Err(fault) => Err(fault.into()),
+        Err(fault) => refused(fault),
     }
 }

@@ -4,7 +4,7 @@ ghost use Rattle.std.specs.Prelude.{◌≡◌, map, IfOk};
 ghost use Rattle.std.specs.List.{list_all};
 ghost use Rattle.ill_tool.specs.Actions.{action_named, action_for, deed_on, is_word};
 
-use ill_saved::{Action, Side};
+use ill_saved::{Action, Role};
 use ill_values::{Day, OutOfMemory};
 use ill_world::words::{deed, wish};
 use std::alloc::Global;
@@ -17,16 +17,16 @@ use std::alloc::Global;
 #[tactic(auto, unfolding(crate::specs::Actions::action_named))]
 pub fn action(
     alloc: Global,
-    side: &Side,
+    role: Role,
     today: Option<Day>,
     words: &[&str],
 ) -> Result<Option<Action>, OutOfMemory>
     ensures { IfOk result (λ action. action
-        ≡ action_named side.now today (map (λ word. word.now) words.now)) }
+        ≡ action_named role today (map (λ word. word.now) words.now)) }
 {
     if are_words(words) {
         let words = slices(alloc, words)?;
-        action_for(alloc, side, today, &words)
+        action_for(alloc, role, today, &words)
     } else {
         Ok(None)
     }
@@ -35,16 +35,16 @@ pub fn action(
 /// The action that words name which a script may have too.
 fn action_for(
     alloc: Global,
-    side: &Side,
+    role: Role,
     today: Option<Day>,
     words: &[&[u8]],
 ) -> Result<Option<Action>, OutOfMemory>
     ensures { IfOk result (λ action. action
-        ≡ action_for side.now today (map (λ word. word.now) words.now)) }
+        ≡ action_for role today (map (λ word. word.now) words.now)) }
 {
-    match side {
-        Side::Requester(_) => Ok(wish(alloc, words)?.map(Action::Wish)),
-        Side::Responder(_) => Ok(deed_on(today, words)),
+    match role {
+        Role::Requester => Ok(wish(alloc, words)?.map(Action::Wish)),
+        Role::Responder => Ok(deed_on(today, words)),
     }
 }
 

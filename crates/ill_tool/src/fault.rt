@@ -2,12 +2,12 @@
 
 ghost use Rattle.std.specs.Prelude.{◌≡◌};
 ghost use Rattle.ill_tool.specs.Simulate.{sim_fault};
-ghost use Rattle.ill_tool.specs.DeskView.{desk_fault};
+ghost use Rattle.ill_tool.specs.Keeping.{desk_fault, refused};
 ghost use Rattle.ill_tool.specs.declared.fault.ToolFault.TheVariants.{OutOfMemory};
 
 use ill_der::DerFault;
 use ill_saved::DeskFault;
-use ill_world::SimFault;
+use ill_world::{DeskOutcome, Outcome, SimFault};
 use std::alloc::AllocError;
 use thiserror::Error;
 
@@ -72,5 +72,17 @@ impl From<AllocError> for ToolFault {
 
     fn from(_error: AllocError) -> ToolFault {
         ToolFault::OutOfMemory
+    }
+}
+
+/// What is seen of a refusal of a desk. Its other faults end the command.
+pub(crate) fn refused(fault: DeskFault) -> Result<DeskOutcome, ToolFault>
+    ensures { result ≡ refused fault }
+{
+    match fault {
+        DeskFault::Core(refusal) => Ok(DeskOutcome::Plain(Outcome::Refused(refusal))),
+        DeskFault::NoSuchTransaction => Ok(DeskOutcome::NoSuchTransaction),
+        DeskFault::DeskFull => Ok(DeskOutcome::DeskFull),
+        fault => Err(fault.into()),
     }
 }

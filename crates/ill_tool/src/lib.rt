@@ -9,6 +9,7 @@ mod fault;
 mod file;
 mod help;
 mod input;
+mod keeper;
 mod lines;
 mod new;
 mod output;

@@ -5,14 +5,14 @@ ghost use Rattle.ill_saved.specs.Side.{idle_of, idle_side};
 ghost use Rattle.ill_saved.specs.Records.{record_spelling};
 ghost use Rattle.ill_saved.specs.Store.{spent};
 ghost use Rattle.ill_saved.specs.Desk.{answer_of, store_of};
-ghost use Rattle.ill_tool.specs.DeskView.{CountsToolFailure};
-ghost use Rattle.ill_tool.specs.New.{RunsNew, LandsFirst, BeginsOver};
+ghost use Rattle.ill_tool.specs.Keeping.{CountsToolFailure};
+ghost use Rattle.ill_tool.specs.New.{first_line, RunsNew, LandsFirst, BeginsOver};
 
 use crate::fault::ToolFault;
 use crate::side_line::report;
 use ill_saved::{Desk1, Side, Store};
 use ill_values::TxnId;
-use ill_world::{Outcome, Who};
+use ill_world::{DeskOutcome, Outcome, Who};
 use std::alloc::Global;
 use std::io::Write;
 
@@ -28,12 +28,12 @@ pub fn run_new<S: Store, W: Write>(
     txn: TxnId,
     writer: &mut W,
 ) -> Result<Desk1<S>, (ToolFault, S)>
-    ensures runs { RunsNew (idle_side role txn)
+    ensures runs { RunsNew (first_line (idle_side role txn))
         (W.contents writer.old) (W.contents writer.new) (answer_of result) }
     ensures begins { IfOk result (λ desk.
         (desk.live ≡ idle_side role txn) × (desk.released ≡ 0)) }
     ensures lands { S.is_honest store ≡ true →
-        BeginsOver (idle_side role txn) (S.plan store) (S.landed store) (answer_of result)
+        BeginsOver (record_spelling (idle_side role txn)) (S.plan store) (S.landed store) (answer_of result)
         (S.landed (store_of result)) }
     ensures plan { S.plan (store_of result) ≡ spent (S.plan store) }
     ensures counted { CountsToolFailure (answer_of result) (S.failures store)
@@ -56,7 +56,7 @@ fn begin<S: Store, W: Write>(
     writer: &mut W,
 ) -> Result<(), ToolFault>
     requires idle { desk.old.live ≡ idle_of desk.old.live }
-    ensures runs { RunsNew desk.old.live (W.contents writer.old) (W.contents writer.new) result }
+    ensures runs { RunsNew (first_line desk.old.live) (W.contents writer.old) (W.contents writer.new) result }
     ensures live { desk.new.live ≡ desk.old.live }
     ensures released { IfOk result (λ _. desk.new.released ≡ 0) }
     ensures lands { S.is_honest desk.old.store ≡ true →
@@ -69,7 +69,7 @@ fn begin<S: Store, W: Write>(
     ensures honest { S.is_honest desk.new.store ≡ S.is_honest desk.old.store }
 {
     match desk.save(alloc) {
-        Ok(()) => match report(alloc, writer, Outcome::Done, desk) {
+        Ok(()) => match report(alloc, writer, DeskOutcome::Plain(Outcome::Done), desk, &()) {
             Ok(_) => Ok(()),
             Err(fault) => Err(fault),
         },

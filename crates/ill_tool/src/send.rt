@@ -1,11 +1,11 @@
 //! The command `send`.
 
-ghost use Rattle.std.specs.Prelude.{nat_le};
-ghost use Rattle.ill_core.specs.Issued.{message};
-ghost use Rattle.ill_saved.specs.Side.{issued_of};
+ghost use Rattle.std.specs.Prelude.{Some};
+ghost use Rattle.ill_tool.specs.Keeping.{the_one};
 ghost use Rattle.ill_tool.specs.Send.{RunsSend};
 
 use crate::fault::ToolFault;
+use crate::keeper::Keeper;
 use crate::output::write_whole;
 use ill_saved::{Desk1, Store};
 use ill_values::Number;
@@ -21,10 +21,24 @@ pub fn run_send<S: Store, W: Write>(
     number: Number,
     writer: &mut W,
 ) -> Result<(), ToolFault>
-    ensures { RunsSend (message (issued_of desk.now.live) number) (nat_le number desk.now.released)
+    ensures { RunsSend (Some (the_one desk.now)) number
         (W.contents writer.old) (W.contents writer.new) result }
 {
-    match desk.message(alloc, number) {
+    send_from(alloc, desk, &(), number, writer)
+}
+
+/// The same, of a side of what keeps it.
+fn send_from<K: Keeper, W: Write>(
+    alloc: Global,
+    keeper: &K,
+    key: &K::Key,
+    number: Number,
+    writer: &mut W,
+) -> Result<(), ToolFault>
+    ensures { RunsSend (K.keeping.found key.now (K.live keeper.now)) number
+        (W.contents writer.old) (W.contents writer.new) result }
+{
+    match keeper.message(alloc, key, number) {
         Ok(bytes) => write_whole(writer, &bytes),
         Err(fault) => Err(fault.into()),
     }

@@ -1,5 +1,0 @@
-use Rattle.ill_tool.proofs.ActLemmas.{no_words}
-use Rattle.ill_tool.proofs.act.run_act.Goals as goal
-
-pub returns-in_err-action-clause-runs : goal.returns-in_err-action-clause-runs
-returns-in_err-action-clause-runs g c = no_words _ _ _ c.from_residual.result c.from_residual.ensures.1

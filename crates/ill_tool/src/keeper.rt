@@ -1,0 +1,119 @@
+//! What keeps sides in a store: one side alone, or those of many transactions.
+
+ghost use Rattle.std.specs.Prelude.{◌≡◌, ◌++◌, true, OnOk};
+ghost use Rattle.ill_saved.specs.Store.{spent};
+ghost use Rattle.ill_saved.specs.Desk.{SaveLands, PlanAfter, IsSaveFault, CountsDeskFailure};
+ghost use Rattle.ill_saved.specs.Many.{Held, SendsHeld};
+ghost use Rattle.ill_tool.specs.Keeping.{Keeping, KeeperActs, KeeperTakes, held_after, one_side, the_one};
+ghost use Rattle.ill_tool.specs.Telling.{held_text};
+
+use ill_core::Taking;
+use ill_saved::{Action, Desk1, DeskFault, Role, Store};
+use ill_values::{Apdu, Number, OutOfMemory};
+use ill_world::push_side;
+use std::alloc::Global;
+
+/// What keeps sides in a store, and lets the messages of those be sent that it has saved.
+pub(crate) trait Keeper {
+    /// What names a side.
+    type Key;
+
+    /// Where the sides are saved.
+    type Kept: Store;
+
+    /// What is held.
+    ghost Live: { Type 0 };
+
+    /// What is known of all that hold the same.
+    ghost keeping: { Keeping Self.Live Self.Key };
+
+    /// What it holds.
+    ghost live: { Self → Self.Live };
+
+    /// Its store.
+    ghost store: { Self → Self.Kept };
+
+    /// The role of all sides.
+    fn role(&self) -> Role
+        ensures { result ≡ keeping.role (live self.now) };
+
+    /// Performs an action on a side.
+    fn act(&mut self, alloc: Global, key: &Self::Key, action: &Action) -> Result<(), DeskFault>
+        ensures acts { KeeperActs keeping (live self.old) key.now action.now result (live self.new) }
+        ensures store { store self.new ≡ store self.old };
+
+    /// Hands a message to the side that it is for.
+    fn take(&mut self, alloc: Global, apdu: &Apdu) -> Result<Taking, DeskFault>
+        ensures takes { KeeperTakes keeping (live self.old) apdu.now result (live self.new) }
+        ensures store { store self.new ≡ store self.old };
+
+    /// Saves all sides.
+    fn save(&mut self, alloc: Global) -> Result<(), DeskFault>
+        ensures live { live self.new ≡ held_after keeping result (live self.old) }
+        ensures landed { Self.Kept.is_honest (store self.old) ≡ true →
+            SaveLands (Self.Kept.plan (store self.old)) (keeping.spelling (live self.old)) result
+            (Self.Kept.landed (store self.old)) (Self.Kept.landed (store self.new)) }
+        ensures plan { PlanAfter result (Self.Kept.plan (store self.old)) (Self.Kept.plan (store self.new)) }
+        ensures faults { IsSaveFault result }
+        ensures counted { CountsDeskFailure result (Self.Kept.failures (store self.old))
+            (Self.Kept.failures (store self.new)) }
+        ensures honest { Self.Kept.is_honest (store self.new) ≡ Self.Kept.is_honest (store self.old) };
+
+    /// The bytes of a message of a side, to send it.
+    fn message(&self, alloc: Global, key: &Self::Key, number: Number) -> Result<Vec<u8>, DeskFault>
+        ensures { SendsHeld (λ bytes. bytes.items) (keeping.found key.now (live self.now)) number result };
+
+    /// What names the side that a message is for.
+    fn key_of(apdu: &Apdu) -> &Self::Key
+        ensures { result.now ≡ keeping.key_of apdu.now };
+
+    /// Adds how a side stands.
+    fn push_side(&self, line: &mut Vec<u8>, key: &Self::Key) -> Result<(), OutOfMemory>
+        ensures { OnOk result (line.new.items ≡ line.old.items
+            ++ held_text (keeping.side_for key.now (live self.now))) };
+}
+
+/// The name of the one side.
+const ONE: () = ();
+
+impl<S: Store> Keeper for Desk1<S> {
+    type Key = ();
+
+    type Kept = S;
+
+    ghost Live = { Held };
+
+    ghost keeping = { one_side };
+
+    ghost live = { the_one };
+
+    ghost store = { λ desk. desk.store };
+
+    fn role(&self) -> Role {
+        self.side().role()
+    }
+
+    fn act(&mut self, alloc: Global, _key: &(), action: &Action) -> Result<(), DeskFault> {
+        Desk1::act(self, alloc, action)
+    }
+
+    fn take(&mut self, alloc: Global, apdu: &Apdu) -> Result<Taking, DeskFault> {
+        Desk1::take(self, alloc, apdu)
+    }
+
+    fn save(&mut self, alloc: Global) -> Result<(), DeskFault> {
+        Desk1::save(self, alloc)
+    }
+
+    fn message(&self, alloc: Global, _key: &(), number: Number) -> Result<Vec<u8>, DeskFault> {
+        Desk1::message(self, alloc, number)
+    }
+
+    fn key_of(_apdu: &Apdu) -> &() {
+        &ONE
+    }
+
+    fn push_side(&self, line: &mut Vec<u8>, _key: &()) -> Result<(), OutOfMemory> {
+        push_side(line, self.side(), self.released())
+    }
+}

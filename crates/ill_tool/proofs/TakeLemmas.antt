@@ -59,15 +59,15 @@ module _ {S N : Type 0} (handles : Handles S ToolFault) (name : S → N) (failur
 -- ---- the command
 
 -- an input whose messages are taken on a keeper that is lent
-module _ {T A S L N W : Type 0} (keeping : Keeping L N) (view : T → View L) (failures : T → ℕ) (contents : W → Option (List ℕ)) where
-  abbrev how_far : TakesEach T A S × W → Progress L
+module _ {T A B C L N W : Type 0} (keeping : Keeping L N) (view : T → View L) (failures : T → ℕ) (contents : W → Option (List ℕ)) where
+  abbrev how_far : TakesEach T A B C × W → Progress L
   how_far s = progress (view s.0.keeper.now) (contents s.1) s.0.all_fine
 
   -- what is done with each
-  abbrev pub TakesOn : Handles (TakesEach T A S × W) ToolFault
+  abbrev pub TakesOn : Handles (TakesEach T A B C × W) ToolFault
   TakesOn s apdu r t = takes_each keeping (how_far s) apdu r (how_far t) × KeepsDesk r s.0.keeper.ghost_name t.0.keeper.ghost_name (failures s.0.keeper.now) (failures t.0.keeper.now)
 
-  pub input_taken : (old new : Option (List ℕ)) (before after : TakesEach T A S × W) (result : Result ℕ ToolFault) → before.0.all_fine ≡ true → ReadsInput TakesOn old new before result after
+  pub input_taken : (old new : Option (List ℕ)) (before after : TakesEach T A B C × W) (result : Result ℕ ToolFault) → before.0.all_fine ≡ true → ReadsInput TakesOn old new before result after
       → RunsTake keeping old new (contents before.1) (contents after.1) (view before.0.keeper.now) (answer_of result after.0.all_fine) (view after.0.keeper.now)
       × KeepsDesk result before.0.keeper.ghost_name after.0.keeper.ghost_name (failures before.0.keeper.now) (failures after.0.keeper.now)
   input_taken old new before after result fine is =

@@ -25,20 +25,25 @@ use Rattle.ill_tool.specs.declared.fault.ToolFault.{ToolFault}
 use Rattle.ill_tool.specs.declared.fault.ToolFault.TheVariants.{Desk, OutOfMemory}
 
 -- What keeps sides: `L` is what it holds, and `K` is what names one of its sides. It says the role of all; what
--- is held after an action, or why it is refused; what a message does, and whose side it is for; how a side
--- stands that is held, and one that is looked up, also where none is held; what is held once all is saved; and
--- the record of it.
+-- is held after an action, or why it is refused; what a message does, and which side it is for; which side
+-- begins with it, if one does; the side of a name, where it is held, and how it stands, held or not; what is
+-- held once all is saved; and the record of it.
 pub record Keeping (L K : Type 0) : Type 0 where
   pub role : L → Role
   pub acts : L → K → Action → Result L DeskFault
   pub takes : L → Apdu → Result Taking DeskFault × L
   pub key_of : Apdu → K
+  pub first_key : Option K
   pub found : K → L → Option Held
   pub side_for : K → L → Held
   pub saves : L → L
   pub spelling : L → List ℕ
 
 -- ---- one side
+
+-- a side of which no message may be sent
+abbrev pub alone : Side → Held
+alone side = record { side = side; released = 0 }
 
 -- the same, with this side
 abbrev pub with_side : Held → Side → Held
@@ -59,6 +64,7 @@ one_side = record {
   acts = λ held none action. one_acts held (acts held.side action);
   takes = λ held a. (one_answers (takes held.side a).0, with_side held (takes held.side a).1);
   key_of = λ a. tt;
+  first_key = Some tt;
   found = λ none held. Some held;
   side_for = λ none held. held;
   saves = λ held. whole held.side;
@@ -74,6 +80,7 @@ many_sides = record {
   acts = desk_acts;
   takes = desk_takes;
   key_of = λ a. a.txn;
+  first_key = None;
   found = λ txn live. found_by txn_held txn live.held;
   side_for = held_for;
   saves = λ live. whole_of (sides_held live);

@@ -1,20 +1,23 @@
 -- The command `new`: one side of a transaction begins, or the many of a library.
-use Rattle.std.specs.Prelude.{◌≡◌, ◌⊎◌, ℕ, List, [], take, Option, None, Some, Result, Ok, Err}
+use Rattle.std.specs.Prelude.{◌≡◌, ◌⊎◌, ℕ, List, [], take, Option, None, Some, option_map, codes, Result, Ok, Err}
 use Rattle.std.specs.Io.KnownBytes.{Appends}
-use Rattle.ill_saved.specs.declared.side.Side.{Side}
 use Rattle.ill_saved.specs.declared.fault.DeskFault.TheVariants.{Exists, Store}
 use Rattle.ill_saved.specs.declared.store.StoreFault.TheVariants.{Failed}
 use Rattle.ill_saved.specs.declared.store.NextCall.{NextCall}
+use Rattle.ill_saved.specs.Many.{Held}
+use Rattle.ill_tool.specs.Keeping.{Keeping}
+use Rattle.ill_tool.specs.Telling.{done_line}
 use Rattle.ill_saved.specs.Store.{Allows, LandsAtFailure}
-use Rattle.ill_world.specs.declared.event.Outcome.TheVariants.{Done}
-use Rattle.ill_world.specs.declared.event.DeskOutcome.TheVariants.{Plain}
 use Rattle.ill_tool.specs.declared.fault.ToolFault.{ToolFault}
 use Rattle.ill_tool.specs.declared.fault.ToolFault.TheVariants.{Desk, Write, OutOfMemory}
-use Rattle.ill_tool.specs.Telling.{side_line}
 
--- the line of a side that was saved before its first message
-abbrev pub first_line : Side → List ℕ
-first_line first = side_line (Plain Done) (record { side = first; released = 0 })
+-- The line of a beginning that was saved: that of the side, or the outcome alone where no side begins.
+abbrev pub line_of_first : Option Held → List ℕ
+line_of_first (Some held) = done_line held
+line_of_first None = codes "done\n"
+
+abbrev pub first_line : {L K : Type 0} → Keeping L K → L → List ℕ
+first_line keeping live = line_of_first (option_map (λ key. keeping.side_for key live) keeping.first_key)
 
 -- What is answered and written of a beginning with this line: the line, once it is saved; a front of the line
 -- where the writer failed; nothing where a record is there, the store failed or memory ran out.
@@ -57,3 +60,12 @@ BeginsOver bytes plan (Some there) (Err OutOfMemory) new = new ≡ Some there
 BeginsOver bytes plan landed (Err (Desk (Store fault))) new =
     (new ≡ landed) × Allows {X = Unit {0}} plan (Err fault)
 BeginsOver bytes plan landed answer new = ⊥
+
+-- the store after a call that hands it back with a fault
+abbrev pub store_after : {D S F : Type 0} → (D → S) → Result D (F × S) → S
+store_after store (Ok desk) = store desk
+store_after store (Err fault) = fault.1
+
+abbrev pub answer_of : {D S F : Type 0} → Result D (F × S) → Result (Unit {0}) F
+answer_of (Ok desk) = Ok tt
+answer_of (Err fault) = Err fault.0

@@ -26,6 +26,10 @@ held_text now = side_text now.side now.released
 abbrev pub side_line : DeskOutcome → Held → List ℕ
 side_line outcome now = desk_outcome_word outcome ++ codes " " ++ held_text now ++ codes "\n"
 
+-- the line of a side that has begun and is saved
+abbrev pub done_line : Held → List ℕ
+done_line now = side_line (Plain outcomes.Done) now
+
 -- What is written and answered of an outcome: its line, and whether all went well; a front of the line
 -- where the writer failed; nothing without memory for the line, or where a fault stands in its place.
 abbrev pub Reports : Result DeskOutcome ToolFault → Held → List ℕ → Result Bool ToolFault → Type 0

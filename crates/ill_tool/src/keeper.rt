@@ -1,15 +1,17 @@
 //! What keeps sides in a store: one side alone, or those of many transactions.
 
-ghost use Rattle.std.specs.Prelude.{◌≡◌, ◌++◌, true, OnOk};
+ghost use Rattle.std.specs.Prelude.{◌≡◌, ◌++◌, true, option_copied, IfOk, OnOk};
+ghost use Rattle.ill_saved.specs.Side.{idle_side};
 ghost use Rattle.ill_saved.specs.Store.{spent};
-ghost use Rattle.ill_saved.specs.Desk.{SaveLands, PlanAfter, IsSaveFault, CountsDeskFailure};
+ghost use Rattle.ill_saved.specs.Desk.{Creates, IsCreateAnswer, SaveLands, PlanAfter, IsSaveFault, CountsDeskFailure};
 ghost use Rattle.ill_saved.specs.Many.{Held, SendsHeld};
-ghost use Rattle.ill_tool.specs.Keeping.{Keeping, KeeperActs, KeeperTakes, held_after, one_side, the_one};
+ghost use Rattle.ill_tool.specs.Keeping.{Keeping, KeeperActs, KeeperTakes, alone, held_after, one_side, the_one};
 ghost use Rattle.ill_tool.specs.Telling.{held_text};
+ghost use Rattle.ill_tool.specs.New.{answer_of, store_after};
 
 use ill_core::Taking;
-use ill_saved::{Action, Desk1, DeskFault, Role, Store};
-use ill_values::{Apdu, Number, OutOfMemory};
+use ill_saved::{Action, Desk1, DeskFault, Role, Side, Store};
+use ill_values::{Apdu, Number, OutOfMemory, TxnId};
 use ill_world::push_side;
 use std::alloc::Global;
 
@@ -20,6 +22,9 @@ pub(crate) trait Keeper {
 
     /// Where the sides are saved.
     type Kept: Store;
+
+    /// What is said of a beginning.
+    type First;
 
     /// What is held.
     ghost Live: { Type 0 };
@@ -32,6 +37,27 @@ pub(crate) trait Keeper {
 
     /// Its store.
     ghost store: { Self → Self.Kept };
+
+    /// What is held at a beginning.
+    ghost begun: { Self.First → Self.Live };
+
+    /// Begins over a store without a record (else `Exists`). Nothing is saved yet. A fault gives the
+    /// store back.
+    fn create(
+        alloc: Global,
+        kept: Self::Kept,
+        first: Self::First,
+    ) -> Result<Self, (DeskFault, Self::Kept)>
+        ensures creates { Self.Kept.is_honest kept ≡ true →
+            Creates (Self.Kept.landed kept) (Self.Kept.plan kept) (answer_of result) }
+        ensures begins { IfOk result (λ keeper. live keeper ≡ begun first) }
+        ensures faults { IsCreateAnswer (answer_of result) }
+        ensures landed { Self.Kept.is_honest kept ≡ true →
+            Self.Kept.landed (store_after store result) ≡ Self.Kept.landed kept }
+        ensures plan { Self.Kept.plan (store_after store result) ≡ spent (Self.Kept.plan kept) }
+        ensures counted { CountsDeskFailure (answer_of result) (Self.Kept.failures kept)
+            (Self.Kept.failures (store_after store result)) }
+        ensures honest { Self.Kept.is_honest (store_after store result) ≡ Self.Kept.is_honest kept };
 
     /// The role of all sides.
     fn role(&self) -> Role
@@ -71,6 +97,14 @@ pub(crate) trait Keeper {
     fn push_side(&self, line: &mut Vec<u8>, key: &Self::Key) -> Result<(), OutOfMemory>
         ensures { OnOk result (line.new.items ≡ line.old.items
             ++ held_text (keeping.side_for key.now (live self.now))) };
+
+    /// What names the side that begins, if one does.
+    fn first_key(&self) -> Option<&Self::Key>
+        ensures { option_copied result ≡ keeping.first_key };
+
+    /// The store. The sides in memory are let go.
+    fn close(self) -> Self::Kept
+        ensures { result ≡ store self };
 }
 
 /// The name of the one side.
@@ -81,6 +115,8 @@ impl<S: Store> Keeper for Desk1<S> {
 
     type Kept = S;
 
+    type First = (Role, TxnId);
+
     ghost Live = { Held };
 
     ghost keeping = { one_side };
@@ -88,6 +124,17 @@ impl<S: Store> Keeper for Desk1<S> {
     ghost live = { the_one };
 
     ghost store = { λ desk. desk.store };
+
+    ghost begun = { λ first. alone (idle_side first.0 first.1) };
+
+    fn create(
+        alloc: Global,
+        kept: S,
+        first: (Role, TxnId),
+    ) -> Result<Desk1<S>, (DeskFault, S)> {
+        let (role, txn) = first;
+        Desk1::create(alloc, kept, Side::idle(alloc, role, txn))
+    }
 
     fn role(&self) -> Role {
         self.side().role()
@@ -115,5 +162,13 @@ impl<S: Store> Keeper for Desk1<S> {
 
     fn push_side(&self, line: &mut Vec<u8>, _key: &()) -> Result<(), OutOfMemory> {
         push_side(line, self.side(), self.released())
+    }
+
+    fn first_key(&self) -> Option<&()> {
+        Some(&ONE)
+    }
+
+    fn close(self) -> S {
+        Desk1::close(self)
     }
 }

@@ -1,16 +1,20 @@
 //! The command `new`.
 
 ghost use Rattle.std.specs.Prelude.{◌≡◌, ◌⊎◌, true, IfOk};
-ghost use Rattle.ill_saved.specs.Side.{idle_of, idle_side};
+ghost use Rattle.ill_saved.specs.Side.{idle_side};
 ghost use Rattle.ill_saved.specs.Records.{record_spelling};
 ghost use Rattle.ill_saved.specs.Store.{spent};
-ghost use Rattle.ill_saved.specs.Desk.{answer_of, store_of};
-ghost use Rattle.ill_tool.specs.Keeping.{CountsToolFailure};
-ghost use Rattle.ill_tool.specs.New.{first_line, RunsNew, LandsFirst, BeginsOver};
+ghost use Rattle.ill_saved.specs.Desk.{store_of};
+ghost use Rattle.ill_tool.specs.Keeping.{alone, CountsToolFailure};
+ghost use Rattle.ill_tool.specs.Telling.{done_line};
+ghost use Rattle.ill_tool.specs.Output.{WritesText};
+ghost use Rattle.ill_tool.specs.New.{first_line, RunsNew, LandsFirst, BeginsOver, answer_of, store_after};
 
 use crate::fault::ToolFault;
+use crate::keeper::Keeper;
+use crate::output::write_whole;
 use crate::side_line::report;
-use ill_saved::{Desk1, Side, Store};
+use ill_saved::{Desk1, Store};
 use ill_values::TxnId;
 use ill_world::{DeskOutcome, Outcome, Who};
 use std::alloc::Global;
@@ -20,7 +24,7 @@ use std::io::Write;
 /// writes its line. A fault gives the store back.
 ///
 /// If the writer fails, or memory runs out for the line, the record stays saved.
-#[tactic(auto, using(crate::proofs::NewLemmas::still_spent, crate::proofs::NewLemmas::begun_over))]
+#[tactic(auto, using(crate::proofs::NewLemmas::nothing_issued))]
 pub fn run_new<S: Store, W: Write>(
     alloc: Global,
     store: S,
@@ -28,7 +32,7 @@ pub fn run_new<S: Store, W: Write>(
     txn: TxnId,
     writer: &mut W,
 ) -> Result<Desk1<S>, (ToolFault, S)>
-    ensures runs { RunsNew (first_line (idle_side role txn))
+    ensures runs { RunsNew (done_line (alone (idle_side role txn)))
         (W.contents writer.old) (W.contents writer.new) (answer_of result) }
     ensures begins { IfOk result (λ desk.
         (desk.live ≡ idle_side role txn) × (desk.released ≡ 0)) }
@@ -40,39 +44,75 @@ pub fn run_new<S: Store, W: Write>(
         (S.failures (store_of result)) }
     ensures honest { S.is_honest (store_of result) ≡ S.is_honest store }
 {
-    match Desk1::create(alloc, store, Side::idle(alloc, role, txn)) {
-        Ok(mut desk) => match begin(alloc, &mut desk, writer) {
-            Ok(()) => Ok(desk),
-            Err(fault) => Err((fault, desk.close())),
+    begin(alloc, store, (role, txn), writer)
+}
+
+/// The same, of whatever keeps sides.
+#[tactic(auto, using(crate::proofs::NewLemmas::still_spent, crate::proofs::NewLemmas::begun_over))]
+fn begin<K: Keeper, W: Write>(
+    alloc: Global,
+    store: K::Kept,
+    first: K::First,
+    writer: &mut W,
+) -> Result<K, (ToolFault, K::Kept)>
+    ensures runs { RunsNew (first_line K.keeping (K.keeping.saves (K.begun first)))
+        (W.contents writer.old) (W.contents writer.new) (answer_of result) }
+    ensures begins { IfOk result (λ keeper. K.live keeper ≡ K.keeping.saves (K.begun first)) }
+    ensures lands { K.Kept.is_honest store ≡ true →
+        BeginsOver (K.keeping.spelling (K.begun first)) (K.Kept.plan store) (K.Kept.landed store)
+        (answer_of result) (K.Kept.landed (store_after K.store result)) }
+    ensures plan { K.Kept.plan (store_after K.store result) ≡ spent (K.Kept.plan store) }
+    ensures counted { CountsToolFailure (answer_of result) (K.Kept.failures store)
+        (K.Kept.failures (store_after K.store result)) }
+    ensures honest { K.Kept.is_honest (store_after K.store result) ≡ K.Kept.is_honest store }
+{
+    match K::create(alloc, store, first) {
+        Ok(mut keeper) => match save_first(alloc, &mut keeper, writer) {
+            Ok(()) => Ok(keeper),
+            Err(fault) => Err((fault, keeper.close())),
         },
         Err((fault, store)) => Err((fault.into(), store)),
     }
 }
 
-/// Saves a side that was created, and writes its line.
-fn begin<S: Store, W: Write>(
+/// Saves what was created, and writes its line.
+fn save_first<K: Keeper, W: Write>(
     alloc: Global,
-    desk: &mut Desk1<S>,
+    keeper: &mut K,
     writer: &mut W,
 ) -> Result<(), ToolFault>
-    requires idle { desk.old.live ≡ idle_of desk.old.live }
-    ensures runs { RunsNew (first_line desk.old.live) (W.contents writer.old) (W.contents writer.new) result }
-    ensures live { desk.new.live ≡ desk.old.live }
-    ensures released { IfOk result (λ _. desk.new.released ≡ 0) }
-    ensures lands { S.is_honest desk.old.store ≡ true →
-        LandsFirst (S.plan desk.old.store) (record_spelling desk.old.live) result
-        (S.landed desk.old.store) (S.landed desk.new.store) }
-    ensures plan { (S.plan desk.new.store ≡ S.plan desk.old.store)
-        ⊎ (S.plan desk.new.store ≡ spent (S.plan desk.old.store)) }
-    ensures counted { CountsToolFailure result (S.failures desk.old.store)
-        (S.failures desk.new.store) }
-    ensures honest { S.is_honest desk.new.store ≡ S.is_honest desk.old.store }
+    ensures runs { RunsNew (first_line K.keeping (K.keeping.saves (K.live keeper.old)))
+        (W.contents writer.old) (W.contents writer.new) result }
+    ensures live { IfOk result (λ _. K.live keeper.new ≡ K.keeping.saves (K.live keeper.old)) }
+    ensures lands { K.Kept.is_honest (K.store keeper.old) ≡ true →
+        LandsFirst (K.Kept.plan (K.store keeper.old)) (K.keeping.spelling (K.live keeper.old)) result
+        (K.Kept.landed (K.store keeper.old)) (K.Kept.landed (K.store keeper.new)) }
+    ensures plan { (K.Kept.plan (K.store keeper.new) ≡ K.Kept.plan (K.store keeper.old))
+        ⊎ (K.Kept.plan (K.store keeper.new) ≡ spent (K.Kept.plan (K.store keeper.old))) }
+    ensures counted { CountsToolFailure result (K.Kept.failures (K.store keeper.old))
+        (K.Kept.failures (K.store keeper.new)) }
+    ensures honest { K.Kept.is_honest (K.store keeper.new) ≡ K.Kept.is_honest (K.store keeper.old) }
 {
-    match desk.save(alloc) {
-        Ok(()) => match report(alloc, writer, DeskOutcome::Plain(Outcome::Done), desk, &()) {
+    match keeper.save(alloc) {
+        Ok(()) => write_beginning(alloc, keeper, writer),
+        Err(fault) => Err(fault.into()),
+    }
+}
+
+/// Writes the line of what was saved at the beginning.
+fn write_beginning<K: Keeper, W: Write>(
+    alloc: Global,
+    keeper: &K,
+    writer: &mut W,
+) -> Result<(), ToolFault>
+    ensures { WritesText (W.contents writer.old) (W.contents writer.new)
+        (first_line K.keeping (K.live keeper.now)) result }
+{
+    match keeper.first_key() {
+        Some(key) => match report(alloc, writer, DeskOutcome::Plain(Outcome::Done), keeper, key) {
             Ok(_) => Ok(()),
             Err(fault) => Err(fault),
         },
-        Err(fault) => Err(fault.into()),
+        None => write_whole(writer, b"done\n"),
     }
 }

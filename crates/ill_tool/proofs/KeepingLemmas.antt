@@ -1,0 +1,90 @@
+-- What keeps many sides, from what the calls of its desk answer.
+use Rattle.std.proofs.Common.{◌≡◌, ℕ, Bool, true, false, ◌&&◌, if◌then◌else◌, cond, List, [], ◌∷◌, map, Option, Some, None, Result, Ok, Err, refl, ap, sym, subst, ◌∙◌, true≢false}
+use Rattle.std.specs.Prelude.{IfErr, option_map, nat_lt, length, codes, is_none}
+use Rattle.std.proofs.lemmas.Result.{IfErr-at_err}
+use Rattle.ill_values.specs.TxnId.{Qualifiers}
+use Rattle.ill_values.specs.declared.apdu.Apdu.{Apdu}
+use Rattle.ill_core.specs.declared.refusal.Refusal.{Refusal}
+use Rattle.ill_core.specs.declared.refusal.Refusal.TheVariants.{WrongRole}
+use Rattle.ill_core.specs.Bodies.{is_ill_request}
+use Rattle.ill_core.specs.declared.taking.Taking.{Taking}
+use Rattle.ill_core.specs.Issued.{is_same_txn}
+use Rattle.ill_saved.specs.declared.role.Role.{Role}
+use Rattle.ill_saved.specs.declared.role.Role.TheVariants.{Requester, Responder}
+use Rattle.ill_saved.specs.declared.side.Side.{Side}
+use Rattle.ill_saved.specs.declared.side.Action.{Action}
+use Rattle.ill_saved.specs.declared.fault.DeskFault.{DeskFault}
+use Rattle.ill_saved.specs.declared.fault.DeskFault.TheVariants as desks
+use Rattle.ill_saved.specs.Side.{txn_of, idle_side, acts, takes}
+use Rattle.ill_saved.specs.Sides.{most_sides, is_same_role, side_with, are_apart}
+use Rattle.ill_saved.specs.Many.{Held, Holding, begins, role_for, is_own, found_by, txn_held, found_or, idle_held, held_for, sides_held, held_or_begun, reached, acted, acts_reached, desk_acts, took, takes_reached, desk_takes, ManyActs, ManyTakesApdu}
+use Rattle.ill_world.specs.Trace.{shown_text}
+use Rattle.ill_tool.specs.Keeping.{many_sides, IsRefusal, KeeperActs, KeeperTakes}
+use Rattle.ill_tool.specs.Telling.{held_text}
+use Rattle.ill_saved.proofs.Held.{same_is}
+
+-- ---- each fault of a desk is a refusal
+
+either : {X : Type 0} (P : X → Type 0) (b : Bool) (x y : X) → P x → P y → P (cond b x y)
+either P true x y p q = p
+either P false x y p q = q
+
+abbrev OnlyRefuses : {X : Type 0} → Result X DeskFault → Type 0
+OnlyRefuses answer = IfErr answer IsRefusal
+
+begun_or_refused : (may room : Bool) (idle : Held) (found : Option Held) → OnlyRefuses (held_or_begun may room idle found)
+begun_or_refused may room idle (Some held) = tt
+begun_or_refused may room idle None =
+    either OnlyRefuses may (cond room (Ok idle) (Err desks.DeskFull)) (Err desks.NoSuchTransaction) (either OnlyRefuses room (Ok idle) (Err desks.DeskFull) tt refl) refl
+
+acted_or_refused : (live : Holding) (held : Held) (answer : Result Side Refusal) → OnlyRefuses (acted live held answer)
+acted_or_refused live held (Ok side) = tt
+acted_or_refused live held (Err refusal) = refl
+
+acts_or_refused : (live : Holding) (action : Action) (there : Result Held DeskFault) → OnlyRefuses there → OnlyRefuses (acts_reached live action there)
+acts_or_refused live action (Ok held) only = acted_or_refused live held (acts held.side action)
+acts_or_refused live action (Err fault) only = only
+
+took_or_refused : (live : Holding) (held : Held) (answer : Result Taking Refusal) (side : Side) → OnlyRefuses (took live held (answer, side)).0
+took_or_refused live held (Ok taking) side = tt
+took_or_refused live held (Err refusal) side = refl
+
+takes_or_refused : (live : Holding) (a : Apdu) (there : Result Held DeskFault) → OnlyRefuses there → OnlyRefuses (takes_reached live a there).0
+takes_or_refused live a (Ok held) only = took_or_refused live held (takes held.side a).0 (takes held.side a).1
+takes_or_refused live a (Err fault) only = only
+
+reached_or_refused : (live : Holding) (txn : Qualifiers) (may : Bool) → OnlyRefuses (reached live txn may)
+reached_or_refused live txn may = begun_or_refused may (nat_lt (length live.held) most_sides) (idle_held live.role txn) (found_by txn_held txn live.held)
+
+desk_acts_or_refuses : (live : Holding) (txn : Qualifiers) (action : Action) → OnlyRefuses (desk_acts live txn action)
+desk_acts_or_refuses live txn action =
+    let there : Result Held DeskFault = reached live txn (begins action) in
+    either OnlyRefuses (is_same_role live.role (role_for action)) (acts_reached live action there) (Err (desks.Core WrongRole))
+    (acts_or_refused live action there (reached_or_refused live txn (begins action))) refl
+
+desk_takes_or_refuses : (live : Holding) (a : Apdu) → OnlyRefuses (desk_takes live a).0
+desk_takes_or_refuses live a =
+    let there : Result Held DeskFault = reached live a.txn (is_ill_request a.body) in
+    either (λ (p : Result Taking DeskFault × Holding). OnlyRefuses p.0) (is_own live.role a.body) (Err (desks.Core WrongRole), live) (takes_reached live a there) refl
+    (takes_or_refused live a there (reached_or_refused live a.txn (is_ill_request a.body)))
+
+-- ---- what its calls answer
+
+pub many_acts : (old : Holding) (txn : Qualifiers) (action : Action) (answer : Result (Unit {0}) DeskFault) (new : Holding) → ManyActs old txn action answer new
+    → KeeperActs many_sides old txn action answer new
+many_acts old txn action (Ok done) new is = is
+many_acts old txn action (Err desks.OutOfMemory) new is = is.1
+many_acts old txn action (Err fault) new is = (is.0, IfErr-at_err IsRefusal is.0 (desk_acts_or_refuses old txn action), is.1)
+
+pub many_takes : (old : Holding) (a : Apdu) (answer : Result Taking DeskFault) (new : Holding) → ManyTakesApdu old a answer new → KeeperTakes many_sides old a answer new
+many_takes old a (Ok taking) new is = is
+many_takes old a (Err desks.OutOfMemory) new is = ((is.0, is.1), is.2)
+many_takes old a (Err fault) new is = (is, IfErr-at_err IsRefusal (ap (λ (p : Result Taking DeskFault × Holding). p.0) is) (desk_takes_or_refuses old a))
+
+-- ---- how a side stands
+
+-- a side that is not held
+pub idle_text : (role : Role) (txn : Qualifiers) → held_text (idle_held role txn) ≡ codes "IDLE - 0/0"
+unfolding shown_text
+idle_text Requester txn = refl
+idle_text Responder txn = refl

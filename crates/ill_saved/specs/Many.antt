@@ -1,6 +1,5 @@
 -- A desk of many transactions: the sides of one library, all of one role, with their store (this profile's own).
 -- A side that is not held is an idle one of which no message may be sent.
-use Rattle.std.specs.Borrow.{Bor}
 use Rattle.std.specs.Prelude.{◌≡◌, ℕ, nat_le, nat_lt, Bool, true, false, not, List, [], ◌∷◌, length, map, Option, Some, None, is_ok, Result, Ok, Err, if◌then◌else◌}
 use Rattle.ill_values.specs.TxnId.{Qualifiers}
 use Rattle.ill_values.specs.declared.apdu.Apdu.{Apdu}
@@ -53,10 +52,6 @@ counts sides = map (λ side. length (issued_of side)) sides
 unfoldable pub held_of : List Side → List ℕ → List Held
 held_of (side ∷ sides) (count ∷ counts) = record { side = side; released = count } ∷ held_of sides counts
 held_of sides counts = []
-
--- what is found of a side and its count
-abbrev pub held_at : Bor Side × ℕ → Held
-held_at found = record { side = found.0.now; released = found.1 }
 
 abbrev pub txn_held : Held → Qualifiers
 txn_held held = txn_of held.side

@@ -5,22 +5,23 @@ ghost use Rattle.ill_der.specs.ShortForm.{apdu_at};
 ghost use Rattle.ill_core.specs.Bodies.{is_ill_request};
 ghost use Rattle.ill_saved.specs.declared.fault.DeskFault.TheVariants as desks;
 ghost use Rattle.ill_saved.specs.Side.{txn_of, idle_side, role_for, begins, IsRow};
-ghost use Rattle.ill_saved.specs.Sides.{SidesOf, put_refusal, most_sides, found_by};
+ghost use Rattle.ill_saved.specs.Sides.{SidesOf, is_same_role, put_refusal, most_sides, found_by};
 ghost use Rattle.ill_saved.specs.Records2.{sides_spelling, records_at, begins_as_records};
 ghost use Rattle.ill_saved.specs.Store.{spent};
 ghost use Rattle.ill_saved.specs.Desk.{SaveLands, PlanAfter, IsSaveFault, Creates, IsCreateAnswer, answer_of, CountsDeskFailure, Loads, Restarts};
-ghost use Rattle.ill_saved.specs.Many.{ManyOf, held_of, held_at, txn_held, held_for, with_held, sides_held, is_own, counts, ManyActs, ManyTakes, ManyTakesApdu, MayBegin, FirstActs, FirstTakes, SendsHeld, AreBacked, holding_after, WereSpelled, landed_sides, ManyRestartLeaves, many_store_of, StartsMany, AreWhole, IsStartOfMany, IsManyLoadFault, LoadsSides, LoadsOrNone};
+ghost use Rattle.ill_saved.specs.Many.{ManyOf, held_of, txn_held, held_for, with_held, sides_held, is_own, counts, ManyActs, ManyTakes, ManyTakesApdu, MayBegin, FirstActs, FirstTakes, SendsHeld, AreBacked, holding_after, WereSpelled, landed_sides, ManyRestartLeaves, many_store_of, StartsMany, AreWhole, IsStartOfMany, IsManyLoadFault, LoadsSides, LoadsOrNone};
 
 use crate::decoding2::decode_record2;
 use crate::desk::one_apdu;
 use crate::encoding2::encode_record2;
 use crate::fault::DeskFault;
-use crate::laws::{follows_issues, rows_begin, rows_grow, sides_read_again};
+use crate::laws::{follows_issues, refusals_stay, rows_begin, rows_grow, sides_read_again};
 use crate::memory_store::MemoryStore;
 use crate::role::Role;
 use crate::side::{Action, Side};
 use crate::sides::{MOST_SIDES, Sides};
 use crate::store::{NextCall, Store};
+use ill_core::laws::responder_has_begun;
 use ill_core::{Refusal, Taking, is_ill_request, is_requesters};
 use ill_der::encode;
 use ill_values::{Apdu, Body, Number, OutOfMemory, TxnId};
@@ -137,6 +138,7 @@ impl<S: Store> Desk<S> {
         ensures store { self.new.store ≡ self.old.store }
     {
         rows_grow();
+        refusals_stay();
         if is_own(self.sides.role(), &apdu.body) {
             return Err(DeskFault::Core(Refusal::WrongRole));
         }
@@ -149,10 +151,12 @@ impl<S: Store> Desk<S> {
     /// Does the first action of a transaction.
     fn act_first(&mut self, alloc: Global, txn: &TxnId, action: &Action) -> Result<(), DeskFault>
         requires none { found_by txn_held txn.now self.old.live.held ≡ None }
-        requires role { role_for action.now ≡ self.old.live.role }
+        requires role { is_same_role self.old.live.role (role_for action.now) ≡ true }
         ensures acts { ManyActs self.old.live txn.now action.now result self.new.live }
         ensures store { self.new.store ≡ self.old.store }
     {
+        rows_grow();
+        rows_begin();
         self.may_begin(action.begins())?;
         let side = first_act(alloc, self.sides.role(), txn, action)?;
         self.hold(alloc, side)
@@ -165,6 +169,8 @@ impl<S: Store> Desk<S> {
         ensures takes { ManyTakesApdu self.old.live apdu.now result self.new.live }
         ensures store { self.new.store ≡ self.old.store }
     {
+        rows_grow();
+        responder_has_begun();
         self.may_begin(is_ill_request(&apdu.body))?;
         let side = first_take(alloc, self.sides.role(), apdu)?;
         self.hold(alloc, side)?;
@@ -253,24 +259,13 @@ impl<S: Store> Desk<S> {
     pub fn message(&self, alloc: Global, txn: &TxnId, number: Number) -> Result<Vec<u8>, DeskFault>
         ensures { SendsHeld (λ bytes. bytes.items) (found_by txn_held txn.now self.now.live.held) number result }
     {
-        let Some((side, released)) = self.held(txn) else {
+        let Some(side) = self.sides.get(txn) else {
             return Err(DeskFault::NoSuchTransaction);
         };
         match side.issued(number) {
             None => Err(DeskFault::NoSuchMessage),
-            Some(_) if number.get() > released => Err(DeskFault::NotSaved),
+            Some(_) if number.get() > self.released(txn) => Err(DeskFault::NotSaved),
             Some(apdu) => Ok(encode(alloc, apdu)?),
-        }
-    }
-
-    /// The side of this transaction, and how many of its messages may be sent.
-    fn held(&self, txn: &TxnId) -> Option<(&Side, u8)>
-        ensures { option_map held_at result ≡ found_by txn_held txn.now self.now.live.held }
-    {
-        let place = self.sides.place(txn)?;
-        match (self.sides.at(place), self.released.get(place)) {
-            (Some(side), Some(released)) => Some((side, *released)),
-            _ => None,
         }
     }
 
@@ -288,8 +283,8 @@ impl<S: Store> Desk<S> {
     pub fn released(&self, txn: &TxnId) -> u8
         ensures { result ≡ (held_for txn.now self.now.live).released }
     {
-        match self.held(txn) {
-            Some((_, released)) => released,
+        match self.sides.place(txn) {
+            Some(place) => self.released[place],
             None => 0,
         }
     }
@@ -324,7 +319,7 @@ fn is_own(role: Role, body: &Body) -> bool
 /// The side of this role and transaction after its first action.
 fn first_act(alloc: Global, role: Role, txn: &TxnId, action: &Action) -> Result<Side, DeskFault>
     requires begins { begins action.now ≡ true }
-    requires role { role_for action.now ≡ role }
+    requires role { is_same_role role (role_for action.now) ≡ true }
     ensures { FirstActs (idle_side role txn.now) action.now result }
 {
     let mut side = Side::idle(alloc, role, txn.copy(alloc)?);

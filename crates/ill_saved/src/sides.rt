@@ -1,6 +1,6 @@
 //! The sides of one library: one in each of many transactions, all of one role.
 
-ghost use Rattle.std.specs.Prelude.{◌≡◌, ◌≤◌, ◌++◌, [], ◌∷◌, length, position, slice_get, option_copied, None, Some, true, OnOk, OnErr, IfErr};
+ghost use Rattle.std.specs.Prelude.{◌≡◌, ◌≤◌, ◌<◌, ◌++◌, [], ◌∷◌, length, position, slice_get, option_copied, None, Some, true, OnOk, OnErr, IfErr, IfSome};
 ghost use Rattle.indexmap.specs.IndexMap.{get, keys, values};
 ghost use Rattle.ill_core.specs.Issued.{is_same_txn};
 ghost use Rattle.ill_saved.specs.Side.{txn_of, Acts, Takes};
@@ -101,7 +101,8 @@ impl Sides {
 
     /// The place of the side of this transaction.
     pub(crate) fn place(&self, txn: &TxnId) -> Option<usize>
-        ensures { result ≡ position (λ side. is_same_txn txn.now (txn_of side)) self.now.sides }
+        ensures place { result ≡ position (λ side. is_same_txn txn.now (txn_of side)) self.now.sides }
+        ensures within { IfSome result (λ place. place < length self.now.sides) }
     {
         self.map.get_index_of(txn)
     }

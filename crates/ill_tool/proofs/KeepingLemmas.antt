@@ -15,9 +15,9 @@ use Rattle.ill_saved.specs.declared.side.Side.{Side}
 use Rattle.ill_saved.specs.declared.side.Action.{Action}
 use Rattle.ill_saved.specs.declared.fault.DeskFault.{DeskFault}
 use Rattle.ill_saved.specs.declared.fault.DeskFault.TheVariants as desks
-use Rattle.ill_saved.specs.Side.{txn_of, idle_side, acts, takes}
+use Rattle.ill_saved.specs.Side.{txn_of, idle_side, role_for, begins, acts, takes}
 use Rattle.ill_saved.specs.Sides.{most_sides, is_same_role, side_with, are_apart}
-use Rattle.ill_saved.specs.Many.{Held, Holding, begins, role_for, is_own, found_by, txn_held, found_or, idle_held, held_for, sides_held, held_or_begun, reached, acted, acts_reached, desk_acts, took, takes_reached, desk_takes, ManyActs, ManyTakesApdu}
+use Rattle.ill_saved.specs.Many.{Held, Holding, is_own, found_by, txn_held, found_or, idle_held, held_for, sides_held, held_or_begun, reached, acted, acts_reached, desk_acts, took, takes_reached, desk_takes, ManyActs, ManyTakesApdu}
 use Rattle.ill_world.specs.Trace.{shown_text}
 use Rattle.ill_tool.specs.Keeping.{many_sides, IsRefusal, KeeperActs, KeeperTakes}
 use Rattle.ill_tool.specs.Telling.{held_text}
@@ -83,8 +83,3 @@ many_takes old a (Err fault) new is = (is, IfErr-at_err IsRefusal (ap (λ (p : R
 
 -- ---- how a side stands
 
--- a side that is not held
-pub idle_text : (role : Role) (txn : Qualifiers) → held_text (idle_held role txn) ≡ codes "IDLE - 0/0"
-unfolding shown_text
-idle_text Requester txn = refl
-idle_text Responder txn = refl

@@ -1,6 +1,6 @@
 -- What keeps sides in a store, one side or many, whichever: what is known of it, and what an action or a
 -- message does to it (this profile's own).
-use Rattle.std.specs.Prelude.{◌≡◌, ◌⊎◌, ℕ, ◌≤◌, Bool, true, false, if◌then◌else◌, List, Option, None, Some, option_map, is_ok, Result, Ok, Err}
+use Rattle.std.specs.Prelude.{◌≡◌, ◌⊎◌, ℕ, ◌≤◌, Bool, true, false, if◌then◌else◌, List, Option, None, Some, option_map, is_ok, [], Result, Ok, Err}
 use Rattle.ill_values.specs.TxnId.{Qualifiers}
 use Rattle.ill_values.specs.declared.apdu.Apdu.{Apdu}
 use Rattle.ill_core.specs.declared.refusal.Refusal.{Refusal}
@@ -72,6 +72,10 @@ one_side = record {
 }
 
 -- ---- many sides
+
+-- a desk of this role that holds no side
+abbrev pub no_sides : Role → Holding
+no_sides role = record { role = role; held = [] }
 
 -- one side in each of many transactions
 abbrev pub many_sides : Keeping Holding Qualifiers

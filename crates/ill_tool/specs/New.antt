@@ -60,12 +60,3 @@ BeginsOver bytes plan (Some there) (Err OutOfMemory) new = new ≡ Some there
 BeginsOver bytes plan landed (Err (Desk (Store fault))) new =
     (new ≡ landed) × Allows {X = Unit {0}} plan (Err fault)
 BeginsOver bytes plan landed answer new = ⊥
-
--- the store after a call that hands it back with a fault
-abbrev pub store_after : {D S F : Type 0} → (D → S) → Result D (F × S) → S
-store_after store (Ok desk) = store desk
-store_after store (Err fault) = fault.1
-
-abbrev pub answer_of : {D S F : Type 0} → Result D (F × S) → Result (Unit {0}) F
-answer_of (Ok desk) = Ok tt
-answer_of (Err fault) = Err fault.0

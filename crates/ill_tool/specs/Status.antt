@@ -1,11 +1,13 @@
--- The command `status`: seven lines that show a record.
-use Rattle.std.specs.Prelude.{ℕ, Bool, true, false, List, [], ◌∷◌, ◌++◌, length, codes}
+-- The command `status`: seven lines that show a side.
+use Rattle.std.specs.Prelude.{ℕ, Bool, true, false, List, [], ◌∷◌, ◌++◌, length, Option, Some, None, codes}
+use Rattle.std.specs.List.{flat_map}
 use Rattle.std.specs.Fmt.{decimal}
 use Rattle.ill_core.specs.State.{state_name}
 use Rattle.ill_core.specs.Requester.{is_received_by, is_declined}
 use Rattle.ill_saved.specs.declared.side.Side.{Side}
 use Rattle.ill_saved.specs.declared.side.Side.TheVariants.{Requester, Responder}
 use Rattle.ill_saved.specs.Side.{issued_of, txn_of, state_of, due_date_of}
+use Rattle.ill_saved.specs.Many.{Held}
 use Rattle.ill_world.specs.Words.{spaced}
 use Rattle.ill_world.specs.Trace.{due_text}
 use Rattle.ill_tool.specs.Lines.{line, id_lines}
@@ -43,3 +45,14 @@ status_lines side released =
     ++ line (codes "state") (state_name (state_of side)) ++ line (codes "due") (due_text (due_date_of side))
     ++ line (codes "messages") (counts_text side released)
     ++ line (codes "marks") (spaced_or_dash (marks_of side))
+
+-- the lines of each side that is held, in their order
+abbrev pub held_lines : Held → List ℕ
+held_lines held = status_lines held.side held.released
+
+abbrev pub lines_of_one : Option Held → List ℕ
+lines_of_one (Some held) = held_lines held
+lines_of_one None = []
+
+abbrev pub desk_lines : List Held → List ℕ
+desk_lines held = flat_map held_lines held

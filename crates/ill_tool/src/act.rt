@@ -3,15 +3,15 @@
 ghost use Rattle.std.specs.Prelude.{map};
 ghost use Rattle.ill_saved.specs.Side.{role_of};
 ghost use Rattle.ill_tool.specs.Actions.{action_named};
-ghost use Rattle.ill_tool.specs.Keeping.{one_side, one_view, view_of, CountsToolFailure};
+ghost use Rattle.ill_tool.specs.Keeping.{many_sides, many_view, one_side, one_view, view_of, CountsToolFailure};
 ghost use Rattle.ill_tool.specs.Act.{ActsAndSaves, RunsAct};
 
 use crate::action::action;
 use crate::fault::{ToolFault, refused};
 use crate::keeper::Keeper;
 use crate::side_line::report;
-use ill_saved::{Action, Desk1, Store};
-use ill_values::Day;
+use ill_saved::{Action, Desk, Desk1, Store};
+use ill_values::{Day, TxnId};
 use ill_world::{DeskOutcome, Outcome};
 use std::alloc::Global;
 use std::io::Write;
@@ -38,6 +38,28 @@ pub fn run_act<S: Store, W: Write>(
         (S.failures desk.new.store) }
 {
     act_on(alloc, desk, &(), today, words, writer)
+}
+
+/// The same, on the side of a transaction at a desk. Where it is not held and the action does not begin it,
+/// `no-such-transaction` is written, and where no more can be held, `desk-full`; both are refusals. The words are
+/// judged before the transaction is looked for.
+pub fn run_desk_act<S: Store, W: Write>(
+    alloc: Global,
+    desk: &mut Desk<S>,
+    txn: &TxnId,
+    today: Option<Day>,
+    words: &[&str],
+    writer: &mut W,
+) -> Result<bool, ToolFault>
+    ensures runs { RunsAct many_sides txn.now
+        (action_named desk.old.live.role today (map (λ word. word.now) words.now))
+        (many_view S.is_honest S.landed desk.old)
+        (W.contents writer.old) (W.contents writer.new) result
+        (many_view S.is_honest S.landed desk.new) }
+    ensures counted { CountsToolFailure result (S.failures desk.old.store)
+        (S.failures desk.new.store) }
+{
+    act_on(alloc, desk, txn, today, words, writer)
 }
 
 /// The same, on a side of what keeps it.

@@ -3,14 +3,13 @@
 ghost use Rattle.std.specs.Prelude.{◌≡◌, ◌++◌, true, option_copied, IfOk, OnOk};
 ghost use Rattle.ill_saved.specs.Side.{idle_side};
 ghost use Rattle.ill_saved.specs.Store.{spent};
-ghost use Rattle.ill_saved.specs.Desk.{Creates, IsCreateAnswer, SaveLands, PlanAfter, IsSaveFault, CountsDeskFailure};
-ghost use Rattle.ill_saved.specs.Many.{Held, SendsHeld};
-ghost use Rattle.ill_tool.specs.Keeping.{Keeping, KeeperActs, KeeperTakes, alone, held_after, one_side, the_one};
+ghost use Rattle.ill_saved.specs.Desk.{Creates, IsCreateAnswer, SaveLands, PlanAfter, IsSaveFault, CountsDeskFailure, answer_of, store_after};
+ghost use Rattle.ill_saved.specs.Many.{Held, Holding, SendsHeld, idle_held};
+ghost use Rattle.ill_tool.specs.Keeping.{Keeping, KeeperActs, KeeperTakes, alone, held_after, many_sides, no_sides, one_side, the_one};
 ghost use Rattle.ill_tool.specs.Telling.{held_text};
-ghost use Rattle.ill_tool.specs.New.{answer_of, store_after};
 
 use ill_core::Taking;
-use ill_saved::{Action, Desk1, DeskFault, Role, Side, Store};
+use ill_saved::{Action, Desk, Desk1, DeskFault, Role, Side, Store};
 use ill_values::{Apdu, Number, OutOfMemory, TxnId};
 use ill_world::push_side;
 use std::alloc::Global;
@@ -171,4 +170,74 @@ impl<S: Store> Keeper for Desk1<S> {
     fn close(self) -> S {
         Desk1::close(self)
     }
+}
+
+impl<S: Store> Keeper for Desk<S> {
+    type Key = TxnId;
+
+    type Kept = S;
+
+    type First = Role;
+
+    ghost Live = { Holding };
+
+    ghost keeping = { many_sides };
+
+    ghost live = { λ desk. desk.live };
+
+    ghost store = { λ desk. desk.store };
+
+    ghost begun = { no_sides };
+
+    fn create(alloc: Global, kept: S, first: Role) -> Result<Desk<S>, (DeskFault, S)> {
+        Desk::create(alloc, kept, first)
+    }
+
+    fn role(&self) -> Role {
+        self.sides().role()
+    }
+
+    fn act(&mut self, alloc: Global, key: &TxnId, action: &Action) -> Result<(), DeskFault> {
+        Desk::act(self, alloc, key, action)
+    }
+
+    fn take(&mut self, alloc: Global, apdu: &Apdu) -> Result<Taking, DeskFault> {
+        Desk::take(self, alloc, apdu)
+    }
+
+    fn save(&mut self, alloc: Global) -> Result<(), DeskFault> {
+        Desk::save(self, alloc)
+    }
+
+    fn message(&self, alloc: Global, key: &TxnId, number: Number) -> Result<Vec<u8>, DeskFault> {
+        Desk::message(self, alloc, key, number)
+    }
+
+    fn key_of(apdu: &Apdu) -> &TxnId {
+        &apdu.txn
+    }
+
+    fn first_key(&self) -> Option<&TxnId> {
+        None
+    }
+
+    fn push_side(&self, line: &mut Vec<u8>, key: &TxnId) -> Result<(), OutOfMemory> {
+        match self.sides().get(key) {
+            Some(side) => push_side(line, side, self.released(key)),
+            None => push_idle(line, self.sides().role(), key),
+        }
+    }
+
+    fn close(self) -> S {
+        Desk::close(self)
+    }
+}
+
+/// Adds how a side stands that is not held: as an idle one.
+fn push_idle(line: &mut Vec<u8>, role: Role, txn: &TxnId) -> Result<(), OutOfMemory>
+    ensures { OnOk result (line.new.items ≡ line.old.items ++ held_text (idle_held role txn.now)) }
+{
+    let alloc = *line.allocator();
+    let idle = Side::idle(alloc, role, txn.copy(alloc)?);
+    push_side(line, &idle, 0)
 }

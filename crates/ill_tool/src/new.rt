@@ -1,20 +1,22 @@
 //! The command `new`.
 
-ghost use Rattle.std.specs.Prelude.{◌≡◌, ◌⊎◌, true, IfOk};
+ghost use Rattle.std.specs.Prelude.{◌≡◌, ◌⊎◌, true, codes, IfOk};
 ghost use Rattle.ill_saved.specs.Side.{idle_side};
 ghost use Rattle.ill_saved.specs.Records.{record_spelling};
+ghost use Rattle.ill_saved.specs.Records2.{sides_spelling};
+ghost use Rattle.ill_saved.specs.Many.{sides_held, many_store_of};
 ghost use Rattle.ill_saved.specs.Store.{spent};
-ghost use Rattle.ill_saved.specs.Desk.{store_of};
-ghost use Rattle.ill_tool.specs.Keeping.{alone, CountsToolFailure};
+ghost use Rattle.ill_saved.specs.Desk.{answer_of, store_after, store_of};
+ghost use Rattle.ill_tool.specs.Keeping.{alone, no_sides, CountsToolFailure};
 ghost use Rattle.ill_tool.specs.Telling.{done_line};
 ghost use Rattle.ill_tool.specs.Output.{WritesText};
-ghost use Rattle.ill_tool.specs.New.{first_line, RunsNew, LandsFirst, BeginsOver, answer_of, store_after};
+ghost use Rattle.ill_tool.specs.New.{first_line, RunsNew, LandsFirst, BeginsOver};
 
 use crate::fault::ToolFault;
 use crate::keeper::Keeper;
 use crate::output::write_whole;
 use crate::side_line::report;
-use ill_saved::{Desk1, Store};
+use ill_saved::{Desk, Desk1, Store};
 use ill_values::TxnId;
 use ill_world::{DeskOutcome, Outcome, Who};
 use std::alloc::Global;
@@ -45,6 +47,30 @@ pub fn run_new<S: Store, W: Write>(
     ensures honest { S.is_honest (store_of result) ≡ S.is_honest store }
 {
     begin(alloc, store, (role, txn), writer)
+}
+
+/// Begins a desk of this role that holds no side, saves it in a store that has no record (else `Exists`),
+/// and writes the line `done`. A fault gives the store back.
+///
+/// If the writer fails, the record stays saved.
+pub fn run_desk_new<S: Store, W: Write>(
+    alloc: Global,
+    store: S,
+    role: Who,
+    writer: &mut W,
+) -> Result<Desk<S>, (ToolFault, S)>
+    ensures runs { RunsNew (codes "done\n") (W.contents writer.old) (W.contents writer.new)
+        (answer_of result) }
+    ensures begins { IfOk result (λ desk. desk.live ≡ no_sides role) }
+    ensures lands { S.is_honest store ≡ true →
+        BeginsOver (sides_spelling (sides_held (no_sides role))) (S.plan store) (S.landed store) (answer_of result)
+        (S.landed (many_store_of result)) }
+    ensures plan { S.plan (many_store_of result) ≡ spent (S.plan store) }
+    ensures counted { CountsToolFailure (answer_of result) (S.failures store)
+        (S.failures (many_store_of result)) }
+    ensures honest { S.is_honest (many_store_of result) ≡ S.is_honest store }
+{
+    begin(alloc, store, role, writer)
 }
 
 /// The same, of whatever keeps sides.

@@ -1,14 +1,15 @@
 //! The command `send`.
 
 ghost use Rattle.std.specs.Prelude.{Some};
+ghost use Rattle.ill_saved.specs.Many.{found_by, txn_held};
 ghost use Rattle.ill_tool.specs.Keeping.{the_one};
 ghost use Rattle.ill_tool.specs.Send.{RunsSend};
 
 use crate::fault::ToolFault;
 use crate::keeper::Keeper;
 use crate::output::write_whole;
-use ill_saved::{Desk1, Store};
-use ill_values::Number;
+use ill_saved::{Desk, Desk1, Store};
+use ill_values::{Number, TxnId};
 use std::alloc::Global;
 use std::io::Write;
 
@@ -25,6 +26,20 @@ pub fn run_send<S: Store, W: Write>(
         (W.contents writer.old) (W.contents writer.new) result }
 {
     send_from(alloc, desk, &(), number, writer)
+}
+
+/// The same, of the side of a transaction at a desk, which must be held (else `NoSuchTransaction`).
+pub fn run_desk_send<S: Store, W: Write>(
+    alloc: Global,
+    desk: &Desk<S>,
+    txn: &TxnId,
+    number: Number,
+    writer: &mut W,
+) -> Result<(), ToolFault>
+    ensures { RunsSend (found_by txn_held txn.now desk.now.live.held) number
+        (W.contents writer.old) (W.contents writer.new) result }
+{
+    send_from(alloc, desk, txn, number, writer)
 }
 
 /// The same, of a side of what keeps it.

@@ -1,17 +1,19 @@
 //! The command `status`.
 
-ghost use Rattle.std.specs.Prelude.{◌≡◌, ◌++◌, map, codes, IfOk, OnOk};
+ghost use Rattle.std.specs.Prelude.{◌≡◌, ◌++◌, true, map, codes, slice_get, IfOk, OnOk};
 ghost use Rattle.ill_tool.specs.Output.{WritesText};
 ghost use Rattle.ill_core.specs.State.{state_name};
 ghost use Rattle.ill_saved.specs.Side.{state_of, due_date_of};
+ghost use Rattle.ill_saved.specs.Sides.{are_apart};
+ghost use Rattle.ill_saved.specs.Many.{sides_held};
 ghost use Rattle.ill_world.specs.Trace.{due_text};
 ghost use Rattle.ill_tool.specs.Lines.{line};
-ghost use Rattle.ill_tool.specs.Status.{status_lines, role_word, marks_of, mark, counts_text, spaced_or_dash};
+ghost use Rattle.ill_tool.specs.Status.{status_lines, held_lines, lines_of_one, desk_lines, role_word, marks_of, mark, counts_text, spaced_or_dash};
 
 use crate::fault::ToolFault;
 use crate::lines::{push_id, push_line};
 use crate::output::write_whole;
-use ill_saved::{Desk1, Side, Store};
+use ill_saved::{Desk, Desk1, Side, Store};
 use ill_values::OutOfMemory;
 use std::alloc::Global;
 use std::io::Write;
@@ -29,6 +31,46 @@ pub fn run_status<S: Store, W: Write>(
     let mut lines = Vec::new(alloc);
     push_status(&mut lines, desk.side(), desk.released())?;
     write_whole(writer, &lines)
+}
+
+/// Writes the seven lines of each transaction that a desk holds, in the order in which they were first seen.
+pub fn run_desk_status<S: Store, W: Write>(
+    alloc: Global,
+    desk: &Desk<S>,
+    writer: &mut W,
+) -> Result<(), ToolFault>
+    ensures { WritesText (W.contents writer.old) (W.contents writer.new)
+        (desk_lines desk.now.live.held) result }
+{
+    let mut lines = Vec::new(alloc);
+    push_desk(&mut lines, desk)?;
+    write_whole(writer, &lines)
+}
+
+/// Adds the lines of each side that a desk holds.
+fn push_desk<S: Store>(lines: &mut Vec<u8>, desk: &Desk<S>) -> Result<(), OutOfMemory>
+    ensures { OnOk result (lines.new.items ≡ lines.old.items ++ desk_lines desk.now.live.held) }
+{
+    for place in 0..desk.sides().len() {
+        push_status_at(lines, desk, place)?;
+    }
+    Ok(())
+}
+
+/// Adds the lines of the side at this place of a desk, if there is one.
+fn push_status_at<S: Store>(
+    lines: &mut Vec<u8>,
+    desk: &Desk<S>,
+    place: usize,
+) -> Result<(), OutOfMemory>
+    requires apart { are_apart (sides_held desk.now.live).sides ≡ true }
+    ensures { OnOk result (lines.new.items ≡ lines.old.items
+        ++ lines_of_one (slice_get desk.now.live.held place)) }
+{
+    match desk.sides().at(place) {
+        Some(side) => push_status(lines, side, desk.released(side.txn())),
+        None => Ok(()),
+    }
 }
 
 /// Adds the lines of a side.

@@ -1,7 +1,7 @@
 //! The command `take`.
 
 ghost use Rattle.std.specs.Prelude.{◌≡◌, true};
-ghost use Rattle.ill_tool.specs.Keeping.{one_side, one_view, view_of, CountsToolFailure};
+ghost use Rattle.ill_tool.specs.Keeping.{many_sides, many_view, one_side, one_view, view_of, CountsToolFailure};
 ghost use Rattle.ill_tool.specs.Take.{RunsTake, TakesAndSaves, KeepsDesk, progress, takes_each};
 
 use crate::fault::{ToolFault, refused};
@@ -10,7 +10,7 @@ use crate::keeper::Keeper;
 use crate::side_line::report;
 use ill_core::Taking;
 use ill_der::{ApduView, Handler};
-use ill_saved::{Desk1, Store};
+use ill_saved::{Desk, Desk1, Store};
 use ill_values::Apdu;
 use ill_world::{DeskOutcome, Outcome};
 use std::alloc::Global;
@@ -33,6 +33,25 @@ pub fn run_take<S: Store, R: Read, W: Write>(
         (W.contents writer.old) (W.contents writer.new)
         (one_view S.is_honest S.landed desk.old) result
         (one_view S.is_honest S.landed desk.new) }
+    ensures counted { CountsToolFailure result (S.failures desk.old.store)
+        (S.failures desk.new.store) }
+{
+    take_on(alloc, desk, reader, writer)
+}
+
+/// The same, at a desk: each APDU is for the side of its own transaction, whose line is written. Where it is not
+/// held and the APDU does not begin it, `no-such-transaction` is written, and where no more can be held,
+/// `desk-full`; both are refusals, behind which the next APDU is taken.
+pub fn run_desk_take<S: Store, R: Read, W: Write>(
+    alloc: Global,
+    desk: &mut Desk<S>,
+    reader: &mut R,
+    writer: &mut W,
+) -> Result<bool, ToolFault>
+    ensures runs { RunsTake many_sides (R.remaining reader.old) (R.remaining reader.new)
+        (W.contents writer.old) (W.contents writer.new)
+        (many_view S.is_honest S.landed desk.old) result
+        (many_view S.is_honest S.landed desk.new) }
     ensures counted { CountsToolFailure result (S.failures desk.old.store)
         (S.failures desk.new.store) }
 {

@@ -492,7 +492,7 @@ no_memory fault is load = subst (λ f. IsLoadFault (faults.Saved f)) is load
 -- where an honest store backs the side, memory alone is wanted to load what has landed
 load_fails : (bytes : Option (List ℕ)) (live new : Side) (released : ℕ) (plan : Option NextCall) (fault : DeskFault) → IsBacked bytes live released → LoadsOrIdle bytes live (Err fault) → IsLoadFault fault
     → Restarts (landed_side bytes live) plan (Err fault) new
-load_fails (Some bytes) live new released plan (faults.Saved fault) backed loads is = 
+load_fails (Some bytes) live new released plan (faults.Saved fault) backed loads is =
     let read = backed_is (record_at bytes) live released backed in
     absurd (no_memory fault (no_fault (record_at bytes) (begins_as_record bytes) fault read.0 read.1 loads) is)
 load_fails (Some bytes) live new released plan faults.OutOfMemory backed loads is = tt

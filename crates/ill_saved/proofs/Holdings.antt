@@ -194,9 +194,9 @@ row_backs_held landed live held new is row backed = record {
       let after : Held = record { side = new; released = held.released } in
       let here : is_same_txn txn (txn_of new) ≡ true → IsBackedBy (landed_for txn landed) new held.released =
       λ same.
-          let of : txn ≡ txn_of new = same_is txn (txn_of new) same in
-          let there : held_for txn live ≡ held = ap (λ t. held_for t live) of ∙ is in
-          backed_on (landed_for txn landed) held.side new held.released row (subst (λ (h : Held). IsBackedBy (landed_for txn landed) h.side h.released) there (backed.each txn)) in
+      let of : txn ≡ txn_of new = same_is txn (txn_of new) same in
+      let there : held_for txn live ≡ held = ap (λ t. held_for t live) of ∙ is in
+      backed_on (landed_for txn landed) held.side new held.released row (subst (λ (h : Held). IsBackedBy (landed_for txn landed) h.side h.released) there (backed.each txn)) in
       subst (λ found. IsBackedBy (landed_for txn landed) (found_or (idle_held live.role txn) found).side (found_or (idle_held live.role txn) found).released) (sym (found_put txn_held txn after live.held))
       (found_backs (landed_for txn landed) (idle_held live.role txn) after held (found_by txn_held txn live.held) (is_same_txn txn (txn_of new)) here (backed.each txn));
 }
@@ -476,11 +476,14 @@ pub one_counted : (counted : List ℕ) (sides : List Side) (n : ℕ) (side : Sid
 one_counted counted sides n side inside there =
     append_assoc counted (length (issued_of side) ∷ []) (counts (drop (n + 1) sides)) ∙ ap (λ vs. counted ++ counts vs) (sym (drop_more sides n side inside ∙ ap (λ s. s ∷ drop (n + 1) sides) (sym there)))
 
+pub none_are : (P : Side → Type 0) → Each P []
+unfolding Each
+none_are P = tt
+
 -- nothing has landed, and nothing is held
 pub none_backed : (landed : Option (List ℕ)) (all : SidesOf) (counted : List ℕ) → landed ≡ None → all.sides ≡ [] → counted ≡ counts all.sides → AreBacked landed (record { role = all.role; held = held_of all.sides counted })
-unfolding Each
 none_backed landed all counted none empty whole =
-    read_backed landed all counted (ap (λ o. landed_sides o all.role) none ∙ ap (λ vs. Ok (record { role = all.role; sides = vs })) (sym empty)) (subst (Each IsConsistent) (sym empty) tt) whole
+    read_backed landed all counted (ap (λ o. landed_sides o all.role) none ∙ ap (λ vs. Ok (record { role = all.role; sides = vs })) (sym empty)) (subst (Each IsConsistent) (sym empty) (none_are IsConsistent)) whole
 
 pub each_consistent : (sides : List Side) → Each IsSide sides → Each IsConsistent sides
 unfolding Each

@@ -16,7 +16,9 @@ use crate::decoding2::decode_record2;
 use crate::desk::one_apdu;
 use crate::encoding2::encode_record2;
 use crate::fault::DeskFault;
-use crate::laws::{follows_issues, refusals_stay, rows_begin, rows_grow, sides_read_again, sides_spelled, spelled};
+use crate::laws::{
+    follows_issues, refusals_stay, rows_begin, rows_grow, sides_read_again, sides_spelled, spelled,
+};
 use crate::memory_store::MemoryStore;
 use crate::role::Role;
 use crate::side::{Action, Side};

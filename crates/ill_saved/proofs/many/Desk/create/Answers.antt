@@ -11,8 +11,7 @@ invariant_of-result g c =
     let is : all ≡ record { role = c.args.role; sides = [] } = search rules in
     let whole : counted ≡ counts all.sides = search rules in
     let none : g.S.Store.is_honest c.args.store ≡ true → g.S.Store.landed c.load.new.self ≡ None = search rules in
-    let honest : g.S.Store.is_honest c.load.new.self ≡ g.S.Store.is_honest c.args.store = search rules in
-    (
+    let honest : g.S.Store.is_honest c.load.new.self ≡ g.S.Store.is_honest c.args.store = search rules in (
       as_many_counted all.sides counted whole,
       λ now. none_backed (g.S.Store.landed c.load.new.self) all counted (none (sym honest ∙ now)) (ap (λ (held : SidesOf). held.sides) is) whole,
     )

@@ -12,8 +12,7 @@ invariant_of-self g c =
     let spelled : bytes ≡ sides_spelling all = search rules in
     let old = g.S.Store.landed c.self.inside.store in
     let new = g.S.Store.landed c.save.new.self in
-    let honest : g.S.Store.is_honest c.save.new.self ≡ g.S.Store.is_honest c.self.inside.store = search rules in
-    (
+    let honest : g.S.Store.is_honest c.save.new.self ≡ g.S.Store.is_honest c.self.inside.store = search rules in (
       c.self.invariant.0,
       λ now.
           let was = sym honest ∙ now in
@@ -42,8 +41,7 @@ invariant_of-self-2 g c =
     let all = c.self.inside.sides in
     let counted = c.in_ok-released.released.items in
     let spelled : c.deref.result.now ≡ sides_spelling all = search rules in
-    let honest : g.S.Store.is_honest c.save.new.self ≡ g.S.Store.is_honest c.self.inside.store = search rules in
-    (
+    let honest : g.S.Store.is_honest c.save.new.self ≡ g.S.Store.is_honest c.self.inside.store = search rules in (
       as_many_counted all.sides counted c.in_ok-released.ensures,
       λ now.
           let lands : g.S.Store.landed c.save.new.self ≡ Some c.deref.result.now = (c.in_ok-save.ensures.landed (sym honest ∙ now)) in

@@ -17,8 +17,7 @@ invariant_of-result g c =
     let loads : g.S.Store.is_honest store ≡ true → Loads records_at begins_as_records landed (g.S.Store.plan store) (Ok (Some all)) = search rules in
     let each : Each IsConsistent all.sides = search rules in
     let lands = c.load_whole.ensures.landed in
-    let honest : g.S.Store.is_honest c.load_whole.new.store ≡ g.S.Store.is_honest store = search rules in
-    (
+    let honest : g.S.Store.is_honest c.load_whole.new.store ≡ g.S.Store.is_honest store = search rules in (
       as_many_counted all.sides counted whole,
       λ now.
           let was = sym honest ∙ now in

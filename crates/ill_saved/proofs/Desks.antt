@@ -76,7 +76,7 @@ one_more apdus a = (a ∷ [], refl)
 none_more : (old new : List Apdu) → new ≡ old → IsFrontOf old new
 none_more old new e = ([], e ∙ sym (append-nil old))
 
-no_less : (old new : List Apdu) → IsFrontOf old new → length old ≤ length new
+pub no_less : (old new : List Apdu) → IsFrontOf old new → length old ≤ length new
 no_less old new front = omega (arith, ap length front.1 ∙ length-append old front.0)
 
 done_is : {R : Type 0} (make : R → Side) (r : Result R Refusal) (new : Side) → done_by make r ≡ Ok new → (made : R) × (r ≡ Ok made) × (make made ≡ new)
@@ -369,7 +369,7 @@ either_backs : ReadsAgain → (old new : Option (List ℕ)) (bytes : List ℕ) (
 either_backs again old new bytes live released is spelled few backed (inl e) = subst (λ o. IsBacked o live released) (sym e) backed
 either_backs again old new bytes live released is spelled few backed (inr e) = landed_backs again bytes new live released is spelled e few
 
-old_or_new : (plan : Option NextCall) (bytes : List ℕ) (fault : StoreFault) (old new : Option (List ℕ)) → LandsAtSave plan bytes (Err fault) old new → (new ≡ old) ⊎ (new ≡ Some bytes)
+pub old_or_new : (plan : Option NextCall) (bytes : List ℕ) (fault : StoreFault) (old new : Option (List ℕ)) → LandsAtSave plan bytes (Err fault) old new → (new ≡ old) ⊎ (new ≡ Some bytes)
 old_or_new (Some plans.FailsOld) bytes stores.Failed old new lands = inl lands
 old_or_new (Some plans.FailsNew) bytes stores.Failed old new lands = inr lands
 old_or_new (Some plans.Works) bytes stores.Failed old new lands = lands
@@ -474,18 +474,27 @@ record_loads bytes begins (records.Bad at) decodes = tt
 record_loads bytes begins records.Inconsistent decodes = tt
 record_loads bytes begins records.Digest decodes = absurd (no_digest bytes decodes)
 
--- no fault is found in a record that backs a side
-no_fault : (read : Result Side RecordFault) (begins : Bool) (fault : RecordFault) (live : Side) (released : ℕ) → IsBackedByRead read live released → Decodes read begins (Err fault) → IsLoadFault (faults.Saved fault) → ⊥
-no_fault read begins records.Short live released backed decodes is = subst (λ r. IsBackedByRead r live released) (sym decodes) backed
-no_fault read begins (records.Bad at) live released backed decodes is = subst (λ r. IsBackedByRead r live released) (sym decodes) backed
-no_fault read begins records.Inconsistent live released backed decodes is = subst (λ r. IsBackedByRead r live released) (sym decodes) backed
-no_fault read begins records.Digest live released backed decodes is = subst (λ r. IsBackedByRead r live released) (sym decodes) backed
-no_fault read begins records.OutOfMemory live released backed decodes is = is
+-- no fault is found in a record that is read
+pub no_fault : {V : Type 0} (read : Result V RecordFault) (begins : Bool) (fault : RecordFault) (value : V) → read ≡ Ok value → Decodes read begins (Err fault) → fault ≡ records.OutOfMemory
+no_fault read begins records.Short value is decodes = search rules
+no_fault read begins (records.Bad at) value is decodes = search rules
+no_fault read begins records.Inconsistent value is decodes = search rules
+no_fault read begins records.Digest value is decodes = search rules
+no_fault read begins records.OutOfMemory value is decodes = refl
+
+backed_is : (read : Result Side RecordFault) (live : Side) (released : ℕ) → IsBackedByRead read live released → (side : Side) × (read ≡ Ok side)
+backed_is (Ok side) live released backed = (side, refl)
+backed_is (Err fault) live released backed = absurd backed
+
+no_memory : (fault : RecordFault) → fault ≡ records.OutOfMemory → IsLoadFault (faults.Saved fault) → ⊥
+no_memory fault is load = subst (λ f. IsLoadFault (faults.Saved f)) is load
 
 -- where an honest store backs the side, memory alone is wanted to load what has landed
 load_fails : (bytes : Option (List ℕ)) (live new : Side) (released : ℕ) (plan : Option NextCall) (fault : DeskFault) → IsBacked bytes live released → LoadsOrIdle bytes live (Err fault) → IsLoadFault fault
     → Restarts (landed_side bytes live) plan (Err fault) new
-load_fails (Some bytes) live new released plan (faults.Saved fault) backed loads is = absurd (no_fault (record_at bytes) (begins_as_record bytes) fault live released backed loads is)
+load_fails (Some bytes) live new released plan (faults.Saved fault) backed loads is =
+    let read = backed_is (record_at bytes) live released backed in
+    absurd (no_memory fault (no_fault (record_at bytes) (begins_as_record bytes) fault read.0 read.1 loads) is)
 load_fails (Some bytes) live new released plan faults.OutOfMemory backed loads is = tt
 load_fails (Some bytes) live new released plan fault backed loads is = absurd loads
 load_fails None live new released plan fault backed loads is = subst (λ f. Restarts (Ok (idle_of live)) plan (Err f) new) (sym loads) tt

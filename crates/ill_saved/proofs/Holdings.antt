@@ -30,14 +30,19 @@ use Rattle.ill_saved.specs.declared.side.Action.{Action}
 use Rattle.ill_saved.specs.declared.fault.DeskFault.{DeskFault}
 use Rattle.ill_saved.specs.declared.fault.DeskFault.TheVariants as faults
 use Rattle.ill_saved.specs.declared.fault.RecordFault.{RecordFault}
-use Rattle.ill_saved.specs.Side.{issued_of, txn_of, role_of, idle_of, idle_side, is_idle, role_for, begins, IsConsistent, IsRow, acted, took, acts, takes, takes_memory, Acts, Takes, WantsMemoryFor, Follows, further as one_further, IsFrontOf}
+use Rattle.ill_saved.specs.Side.{issued_of, txn_of, role_of, idle_of, idle_side, is_idle, role_for, begins, IsConsistent, IsRow, acted, took, acts, takes, takes_memory, Acts, Takes, WantsMemoryFor, Follows, same as follows_itself, further as one_further, IsFrontOf}
 use Rattle.ill_saved.specs.Faults.{of_core}
 use Rattle.ill_saved.specs.Ranges.{Each, IsSide}
 use Rattle.ill_saved.specs.Sides.{SidesOf, is_same_role, may_be_held, most_sides, found_by, put_by, side_with, put_refusal, put_last as put_side, OnlyThat}
-use Rattle.ill_saved.specs.Records2.{AreSides, sides_spelling, records_at}
-use Rattle.ill_saved.specs.Desk.{IsBackedBy}
-use Rattle.ill_saved.specs.Many.{Held, Holding, held_of, counts, txn_held, idle_held, whole, found_or, held_for, with_held, sides_held, whole_of, is_own, held_or_begun, reached, acted as acted_by, acts_reached, desk_acts, took as took_by, takes_reached, desk_takes, ManyActs, ManyTakesApdu, FirstActs, FirstTakes, landed_for, AreBackedBy, AreBackedByRead, landed_sides, AreBacked}
-use Rattle.ill_saved.proofs.Desks.{RowsGrow, RefusalsStay, itself_backs, idle_consistent}
+use Rattle.ill_der.specs.Format.{◌>>=◌}
+use Rattle.ill_der.specs.Laws.{IsBytes}
+use Rattle.ill_saved.specs.declared.fault.RecordFault.TheVariants as records
+use Rattle.ill_saved.specs.declared.store.NextCall.{NextCall}
+use Rattle.ill_saved.specs.Records.{record_at, record_spelling, Decodes}
+use Rattle.ill_saved.specs.Records2.{AreSides, alone, read_alone, is_version_1, unsealed, sides_at, sides_spelling, records_at, begins_as_records}
+use Rattle.ill_saved.specs.Desk.{IsBackedBy, Loads, Restarts}
+use Rattle.ill_saved.specs.Many.{ManyOf, StartsMany, LoadsOrNone, IsManyLoadFault, Held, Holding, held_of, counts, txn_held, idle_held, whole, found_or, held_for, with_held, sides_held, whole_of, is_own, held_or_begun, reached, acted as acted_by, acts_reached, desk_acts, took as took_by, takes_reached, desk_takes, ManyActs, ManyTakesApdu, FirstActs, FirstTakes, landed_for, AreBackedBy, AreBackedByRead, landed_sides, AreBacked}
+use Rattle.ill_saved.proofs.Desks.{RowsGrow, RefusalsStay, itself_backs, no_less, no_fault, idle_consistent}
 use Rattle.ill_saved.proofs.Held.{new_to, idle_txn, idle_role, acts_row, takes_row, found_plainly}
 use Rattle.ill_saved.proofs.Finding.{same_is, same_self, found_is, found_put, put_last, put_again, found_mapped, put_mapped, put_length, some_is}
 
@@ -189,9 +194,9 @@ row_backs_held landed live held new is row backed = record {
       let after : Held = record { side = new; released = held.released } in
       let here : is_same_txn txn (txn_of new) ≡ true → IsBackedBy (landed_for txn landed) new held.released =
       λ same.
-          let of : txn ≡ txn_of new = same_is txn (txn_of new) same in
-          let there : held_for txn live ≡ held = ap (λ t. held_for t live) of ∙ is in
-          backed_on (landed_for txn landed) held.side new held.released row (subst (λ (h : Held). IsBackedBy (landed_for txn landed) h.side h.released) there (backed.each txn)) in
+      let of : txn ≡ txn_of new = same_is txn (txn_of new) same in
+      let there : held_for txn live ≡ held = ap (λ t. held_for t live) of ∙ is in
+      backed_on (landed_for txn landed) held.side new held.released row (subst (λ (h : Held). IsBackedBy (landed_for txn landed) h.side h.released) there (backed.each txn)) in
       subst (λ found. IsBackedBy (landed_for txn landed) (found_or (idle_held live.role txn) found).side (found_or (idle_held live.role txn) found).released) (sym (found_put txn_held txn after live.held))
       (found_backs (landed_for txn landed) (idle_held live.role txn) after held (found_by txn_held txn live.held) (is_same_txn txn (txn_of new)) here (backed.each txn));
 }
@@ -453,7 +458,7 @@ whole_backed all each = record {
 }
 
 -- sides with the counts of what they have issued
-whole_held : (all : SidesOf) (counted : List ℕ) → counted ≡ counts all.sides → record { role = all.role; held = held_of all.sides counted } ≡ whole_of all
+pub whole_held : (all : SidesOf) (counted : List ℕ) → counted ≡ counts all.sides → record { role = all.role; held = held_of all.sides counted } ≡ whole_of all
 whole_held all counted whole = ap (λ ns. record { role = all.role; held = held_of all.sides ns }) whole ∙ ap (λ hs. record { role = all.role; held = hs }) (held_whole all.sides)
 
 pub as_many_counted : (sides : List Side) (counted : List ℕ) → counted ≡ counts sides → length counted ≡ length sides
@@ -470,3 +475,136 @@ pub one_counted : (counted : List ℕ) (sides : List Side) (n : ℕ) (side : Sid
     → (counted ++ length (issued_of side) ∷ []) ++ counts (drop (n + 1) sides) ≡ counted ++ counts (drop n sides)
 one_counted counted sides n side inside there =
     append_assoc counted (length (issued_of side) ∷ []) (counts (drop (n + 1) sides)) ∙ ap (λ vs. counted ++ counts vs) (sym (drop_more sides n side inside ∙ ap (λ s. s ∷ drop (n + 1) sides) (sym there)))
+
+pub none_are : (P : Side → Type 0) → Each P []
+unfolding Each
+none_are P = tt
+
+-- nothing has landed, and nothing is held
+pub none_backed : (landed : Option (List ℕ)) (all : SidesOf) (counted : List ℕ) → landed ≡ None → all.sides ≡ [] → counted ≡ counts all.sides → AreBacked landed (record { role = all.role; held = held_of all.sides counted })
+none_backed landed all counted none empty whole =
+    read_backed landed all counted (ap (λ o. landed_sides o all.role) none ∙ ap (λ vs. Ok (record { role = all.role; sides = vs })) (sym empty)) (subst (Each IsConsistent) (sym empty) (none_are IsConsistent)) whole
+
+pub each_consistent : (sides : List Side) → Each IsSide sides → Each IsConsistent sides
+unfolding Each
+each_consistent [] each = tt
+each_consistent (side ∷ sides) each = (each.0.0, each_consistent sides each.1)
+
+-- sides are read again, as the law says
+abbrev pub SidesReadAgain : Type 0
+SidesReadAgain = (all : SidesOf) → AreSides all → records_at (sides_spelling all) ≡ Ok all
+
+-- what was saved backs what is held
+pub saved_backed : SidesReadAgain → (landed : Option (List ℕ)) (all : SidesOf) (counted : List ℕ) → AreSides all → landed ≡ Some (sides_spelling all) → counted ≡ counts all.sides
+    → AreBacked landed (record { role = all.role; held = held_of all.sides counted })
+saved_backed again landed all counted are lands whole = read_backed landed all counted (ap (λ o. landed_sides o all.role) lands ∙ again all are) (each_consistent all.sides are.each) whole
+
+abbrev FollowsIssues : Type 0
+FollowsIssues = (old new : Side) → Follows old new → IsFrontOf (issued_of old) (issued_of new)
+
+module _ (follows : FollowsIssues) (all : SidesOf) (counted : List ℕ) (as_many : length counted ≡ length all.sides) (each : Each IsConsistent all.sides) where
+  keeps_or : (txn : Qualifiers) (found : Option Held) → IfSome (option_map side_of found) IsConsistent → IsConsistent (found_or (idle_held all.role txn) found).side
+  keeps_or txn (Some held) is = is
+  keeps_or txn None is = idle_keeps all.role txn
+
+  same_or : (txn : Qualifiers) (found : Option Held) → found_or (idle_side all.role txn) (option_map side_of found) ≡ (found_or (idle_held all.role txn) found).side
+  same_or txn (Some held) = refl
+  same_or txn None = refl
+
+  -- each side backs itself, with what is released of it
+  self_backed : (landed : SidesOf) → AreBackedBy landed (record { role = all.role; held = held_of all.sides counted }) → AreBackedBy all (record { role = all.role; held = held_of all.sides counted })
+  unfolding side_with
+  self_backed landed backed = record {
+    role = refl;
+    each = λ txn.
+        let live : Holding = record { role = all.role; held = held_of all.sides counted } in
+        let held = held_for txn live in
+        let found = found_by txn_held txn live.held in
+        let there = found_side txn all.sides counted as_many in
+        let is : IsConsistent held.side = keeps_or txn found (subst (λ f. IfSome f IsConsistent) there (each_is IsConsistent txn all.sides each)) in
+        let was = backed.each txn in
+        let few = no_less _ _ (follows _ _ was.follows) in
+        subst (λ side. IsBackedBy side held.side held.released) (sym (ap (found_or (idle_side all.role txn)) there ∙ same_or txn found))
+        (record { consistent = is; follows = follows_itself; has-released = omega (arith, was.has-released, few) });
+  }
+
+  -- the old record or the new one has landed
+  pub fault_backed : SidesReadAgain → AreSides all → (old new : Option (List ℕ)) → (new ≡ old) ⊎ (new ≡ Some (sides_spelling all)) → AreBacked old (record { role = all.role; held = held_of all.sides counted })
+      → AreBacked new (record { role = all.role; held = held_of all.sides counted })
+  fault_backed again are old new (inl stays) backed = subst (λ o. AreBacked o (record { role = all.role; held = held_of all.sides counted })) (sym stays) backed
+  fault_backed again are old new (inr lands) backed =
+      subst (λ r. AreBackedByRead r (record { role = all.role; held = held_of all.sides counted })) (sym (ap (λ o. landed_sides o all.role) lands ∙ again all are)) (of_read (landed_sides old all.role) backed)
+    where
+      of_read : (read : Result SidesOf RecordFault) → AreBackedByRead read (record { role = all.role; held = held_of all.sides counted }) → AreBackedBy all (record { role = all.role; held = held_of all.sides counted })
+      of_read (Ok landed) backed = self_backed landed backed
+      of_read (Err fault) backed = absurd backed
+
+-- ---- loading
+
+ok_is : {X : Type 0} (x y : X) → ◌≡◌ {A = Result X RecordFault} (Ok x) (Ok y) → x ≡ y
+ok_is x y e = search rules
+
+-- what starting a desk gives
+pub starts_with : {S : Type 0} (landed : Option (List ℕ)) (plan : Option NextCall) (all : SidesOf) (desk : ManyOf S) → Loads records_at begins_as_records landed plan (Ok (Some all)) → sides_held desk.live ≡ all → StartsMany landed plan (Ok desk)
+starts_with (Some bytes) plan all desk loads is = (loads.0 ∙ ap Ok (sym is), loads.1)
+starts_with None plan all desk loads is = absurd loads
+
+pub loads_landed : (landed : Option (List ℕ)) (plan : Option NextCall) (all : SidesOf) → Loads records_at begins_as_records landed plan (Ok (Some all)) → landed_sides landed all.role ≡ Ok all
+loads_landed (Some bytes) plan all loads = loads.0
+loads_landed None plan all loads = absurd loads
+
+-- what a restart gives
+pub restarts_with : (bytes : Option (List ℕ)) (role : Role) (all : SidesOf) → LoadsOrNone bytes role (Ok all) → landed_sides bytes role ≡ Ok all
+restarts_with (Some bytes) role all loads = loads
+restarts_with None role all loads = ap Ok (sym loads)
+
+-- whatever role is asked for, the sides that are read have theirs
+pub landed_as_read : (bytes : Option (List ℕ)) (role : Role) (all : SidesOf) → landed_sides bytes role ≡ Ok all → landed_sides bytes all.role ≡ Ok all
+landed_as_read (Some bytes) role all read = read
+landed_as_read None role all read = ap (λ (s : SidesOf). Ok (record { role = s.role; sides = [] })) (sym (ok_is _ all read)) ∙ read
+
+not_loading : (fault : RecordFault) → fault ≡ records.OutOfMemory → IsManyLoadFault (faults.Saved fault) → ⊥
+not_loading fault is load = subst (λ f. IsManyLoadFault (faults.Saved f)) is load
+
+backed_read : (read : Result SidesOf RecordFault) (live : Holding) → AreBackedByRead read live → (all : SidesOf) × (read ≡ Ok all)
+backed_read (Ok all) live backed = (all, refl)
+backed_read (Err fault) live backed = absurd backed
+
+-- where an honest store backs what is held, memory alone is wanted to load what has landed
+pub restart_fails_so : (bytes : Option (List ℕ)) (live : Holding) (new : SidesOf) (plan : Option NextCall) (fault : DeskFault) → AreBacked bytes live → LoadsOrNone bytes live.role (Err fault) → IsManyLoadFault fault
+    → Restarts (landed_sides bytes live.role) plan (Err fault) new
+restart_fails_so (Some bytes) live new plan (faults.Saved fault) backed loads is =
+    let read = backed_read (records_at bytes) live backed in
+    absurd (not_loading fault (no_fault (records_at bytes) (begins_as_records bytes) fault read.0 read.1 loads) is)
+restart_fails_so (Some bytes) live new plan faults.OutOfMemory backed loads is = tt
+restart_fails_so (Some bytes) live new plan fault backed loads is = absurd loads
+restart_fails_so None live new plan fault backed loads is = subst (λ f. Restarts (landed_sides None live.role) plan (Err f) new) (sym loads) tt
+
+-- ---- reading
+
+each_if : (idle : Bool) (side : Side) → IsConsistent side → Each IsConsistent (cond idle [] (side ∷ []))
+unfolding Each
+each_if true side is = tt
+each_if false side is = (is, tt)
+
+-- a side that is read is consistent, and sides of version 2 are
+abbrev pub OneConsistent : Type 0
+OneConsistent = (bytes : List ℕ) (side : Side) → IsBytes bytes → record_at bytes ≡ Ok side → (bytes ≡ record_spelling side) × IsSide side
+
+abbrev pub ManyConsistent : Type 0
+ManyConsistent = (bytes : List ℕ) (held : SidesOf) → IsBytes bytes → is_version_1 bytes ≡ false → records_at bytes ≡ Ok held → (bytes ≡ sides_spelling held) × AreSides held
+
+alone_read : (read : Result Side RecordFault) (all : SidesOf) → ((side : Side) → read ≡ Ok side → IsConsistent side) → read_alone read ≡ Ok all → Each IsConsistent all.sides
+alone_read (Ok side) all one is = subst (λ (held : SidesOf). Each IsConsistent held.sides) (ok_is (alone side) all is) (each_if (is_idle side) side (one side refl))
+alone_read (Err fault) all one is = search rules
+
+either_read : (first : Bool) (bytes : List ℕ) (many : Result SidesOf RecordFault) (all : SidesOf) → (is_version_1 bytes ≡ first) → cond first (read_alone (record_at bytes)) many ≡ Ok all
+    → ((side : Side) → record_at bytes ≡ Ok side → IsConsistent side) → (is_version_1 bytes ≡ false → Each IsConsistent all.sides) → Each IsConsistent all.sides
+either_read true bytes many all first read one others = alone_read (record_at bytes) all one read
+either_read false bytes many all first read one others = others first
+
+-- sides that were read are consistent, of either version
+pub read_consistent : OneConsistent → ManyConsistent → (bytes : List ℕ) (all : SidesOf) → IsBytes bytes → records_at bytes ≡ Ok all → Each IsConsistent all.sides
+unfolding records_at
+read_consistent one many bytes all is read =
+    either_read (is_version_1 bytes) bytes (unsealed bytes >>= sides_at) all refl read (λ side found. (one bytes side is found).1.0) (λ later. each_consistent all.sides (many bytes all is later read).1.each)

@@ -1,10 +1,11 @@
 //! A desk of many transactions: the sides of one library, with their store.
 
-ghost use Rattle.std.specs.Prelude.{◌≡◌, true, false, [], None, Ok, length, nat_lt, option_map, IfOk, IfErr, OnOk};
+ghost use Rattle.std.specs.Prelude.{◌≡◌, true, false, [], None, Ok, length, nat_lt, option_map, IfOk, IfErr, IfSome, OnOk};
 ghost use Rattle.ill_der.specs.ShortForm.{apdu_at};
 ghost use Rattle.ill_core.specs.Bodies.{is_ill_request};
 ghost use Rattle.ill_saved.specs.declared.fault.DeskFault.TheVariants as desks;
-ghost use Rattle.ill_saved.specs.Side.{txn_of, idle_side, role_for, begins, IsRow};
+ghost use Rattle.ill_saved.specs.Side.{txn_of, idle_side, role_for, begins, IsConsistent, IsRow};
+ghost use Rattle.ill_saved.specs.Ranges.{Each};
 ghost use Rattle.ill_saved.specs.Sides.{SidesOf, is_same_role, put_refusal, most_sides, found_by};
 ghost use Rattle.ill_saved.specs.Records2.{sides_spelling, records_at, begins_as_records};
 ghost use Rattle.ill_saved.specs.Store.{spent};
@@ -15,7 +16,9 @@ use crate::decoding2::decode_record2;
 use crate::desk::one_apdu;
 use crate::encoding2::encode_record2;
 use crate::fault::DeskFault;
-use crate::laws::{follows_issues, refusals_stay, rows_begin, rows_grow, sides_read_again};
+use crate::laws::{
+    follows_issues, refusals_stay, rows_begin, rows_grow, sides_read_again, sides_spelled, spelled,
+};
 use crate::memory_store::MemoryStore;
 use crate::role::Role;
 use crate::side::{Action, Side};
@@ -392,6 +395,7 @@ fn counts_of(alloc: Global, sides: &Sides) -> Result<Vec<u8>, OutOfMemory>
 fn load_whole<S: Store>(store: &mut S, alloc: Global) -> Result<Option<Whole>, DeskFault>
     ensures loads { S.is_honest store.old ≡ true →
         Loads records_at begins_as_records (S.landed store.old) (S.plan store.old) result }
+    ensures rules { IfOk result (λ found. IfSome found (λ all. Each IsConsistent all.sides)) }
     ensures faults { IfErr result IsManyLoadFault }
     ensures landed { S.is_honest store.old ≡ true → S.landed store.new ≡ S.landed store.old }
     ensures plan { S.plan store.new ≡ spent (S.plan store.old) }
@@ -407,8 +411,11 @@ fn load_whole<S: Store>(store: &mut S, alloc: Global) -> Result<Option<Whole>, D
 /// The sides whose record these bytes are.
 fn read_whole(alloc: Global, bytes: &[u8]) -> Result<Whole, DeskFault>
     ensures loads { LoadsSides bytes.now result }
+    ensures rules { IfOk result (λ all. Each IsConsistent all.sides) }
     ensures faults { IfErr result IsManyLoadFault }
 {
+    spelled();
+    sides_spelled();
     let sides = decode_record2(alloc, bytes)?;
     let released = counts_of(alloc, &sides)?;
     Ok(Whole { sides, released })
@@ -417,6 +424,7 @@ fn read_whole(alloc: Global, bytes: &[u8]) -> Result<Whole, DeskFault>
 /// The sides whose record these bytes are, if any, or else none of this role.
 fn whole_or_none(alloc: Global, bytes: Option<Vec<u8>>, role: Role) -> Result<Whole, DeskFault>
     ensures loads { LoadsOrNone (option_map (λ b. b.items) bytes) role result }
+    ensures rules { IfOk result (λ all. Each IsConsistent all.sides) }
     ensures faults { IfErr result IsManyLoadFault }
 {
     match bytes {

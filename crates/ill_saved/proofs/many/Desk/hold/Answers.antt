@@ -14,8 +14,7 @@ invariant_of-self-in-Ok g c =
     let role = ap (λ desk. desk.live.role) c.self.view_is in
     let row : IsRow (idle_side all.role (txn_of c.args.side)) c.args.side = subst (λ r. IsRow (idle_side r (txn_of c.args.side)) c.args.side) (sym role) c.requires.row in
     let put : c.put.new.self ≡ put_last all c.args.side = search rules in
-    let pushed : c.push.new.self.items ≡ counted ++ 0 ∷ [] = search rules in
-    (
+    let pushed : c.push.new.self.items ≡ counted ++ 0 ∷ [] = search rules in (
       ap length pushed ∙ length-append counted (0 ∷ []) ∙ ap (λ n. n + 1) c.self.invariant.0 ∙ sym (length-append all.sides (c.args.side ∷ [])) ∙ ap (λ held. length held.sides) (sym put),
       λ honest.
           subst (λ ns. AreBacked (g.S.Store.landed c.self.inside.store) (record { role = c.put.new.self.role; held = held_of c.put.new.self.sides ns })) (sym pushed)

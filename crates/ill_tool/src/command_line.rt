@@ -19,21 +19,21 @@ pub enum Request<'a> {
         /// The transaction qualifier that is wished for.
         transaction: &'a str,
     },
-    /// Begin one side of a transaction in a file: `ill new`.
+    /// Begin a desk in a file: `ill new`.
     New {
         /// The path of the file.
         file: &'a str,
         /// The role that is wished for.
         role: &'a str,
+    },
+    /// Perform one action in a transaction: `ill act`.
+    Act {
+        /// The path of the file.
+        file: &'a str,
         /// The group qualifier that is wished for.
         group: &'a str,
         /// The transaction qualifier that is wished for.
         transaction: &'a str,
-    },
-    /// Perform one action of the side in a file: `ill act`.
-    Act {
-        /// The path of the file.
-        file: &'a str,
         /// The day on which it is done, if one is said.
         today: Option<&'a str>,
         /// The words of the action.
@@ -48,10 +48,14 @@ pub enum Request<'a> {
     Send {
         /// The path of the file.
         file: &'a str,
+        /// The group qualifier that is wished for.
+        group: &'a str,
+        /// The transaction qualifier that is wished for.
+        transaction: &'a str,
         /// The number of the message that is wished for.
         number: &'a str,
     },
-    /// Show the side in a file: `ill status`.
+    /// Show the sides in a file: `ill status`.
     Status {
         /// The path of the file.
         file: &'a str,
@@ -71,7 +75,7 @@ enum Name {
     Simulate,
 }
 
-/// All commands, in the order in which the help lists them: those that keep one side in a file, and those
+/// All commands, in the order in which the help lists them: those that keep a desk in a file, and those
 /// that read standard input and keep nothing. clap is told of these and of no others.
 const NAMES: [Name; 8] = [
     Name::New,
@@ -142,8 +146,6 @@ fn new_request<'a>(alloc: Global, matches: &ArgMatches<'a>) -> Result<Request<'a
     Ok(Request::New {
         file: text(alloc, matches, FILE)?,
         role: text(alloc, matches, ROLE)?,
-        group: text(alloc, matches, GROUP)?,
-        transaction: text(alloc, matches, TRANSACTION)?,
     })
 }
 
@@ -154,6 +156,8 @@ fn act_request<'a>(alloc: Global, matches: &ArgMatches<'a>) -> Result<Request<'a
     };
     Ok(Request::Act {
         file: text(alloc, matches, FILE)?,
+        group: text(alloc, matches, GROUP)?,
+        transaction: text(alloc, matches, TRANSACTION)?,
         today: matches.get_str(TODAY),
         words: Vec::from_slice(alloc, words)?,
     })
@@ -163,6 +167,8 @@ fn act_request<'a>(alloc: Global, matches: &ArgMatches<'a>) -> Result<Request<'a
 fn send_request<'a>(alloc: Global, matches: &ArgMatches<'a>) -> Result<Request<'a>, Error> {
     Ok(Request::Send {
         file: text(alloc, matches, FILE)?,
+        group: text(alloc, matches, GROUP)?,
+        transaction: text(alloc, matches, TRANSACTION)?,
         number: text(alloc, matches, NUMBER)?,
     })
 }
@@ -222,13 +228,11 @@ fn subcommand<'a>(alloc: Global, name: Name) -> Result<Command<'a>, Error> {
 /// Adds what `ill new` has.
 fn new<'a>(alloc: Global, command: Command<'a>) -> Result<Command<'a>, Error> {
     let command = command
-        .about("Begin one side of a loan, in a file")
+        .about("Begin a desk of one role, in a file")
         .long_about(help::NEW)
         .after_long_help(help::NEW_EXAMPLE)
-        .arg(file(alloc, "The file of the record, which must not be there yet"))?
-        .arg(argument(alloc, ROLE, "requester or responder"))?
-        .arg(argument(alloc, GROUP, help::GROUP))?
-        .arg(argument(alloc, TRANSACTION, help::TRANSACTION))?;
+        .arg(file(alloc, "The file of the desk, which must not be there yet"))?
+        .arg(argument(alloc, ROLE, "requester or responder"))?;
     Ok(command)
 }
 
@@ -245,10 +249,12 @@ fn act<'a>(alloc: Global, command: Command<'a>) -> Result<Command<'a>, Error> {
         .allow_hyphen_values(true)
         .trailing_var_arg(true);
     let command = command
-        .about("Perform one action of the side in a file, and save it")
+        .about("Perform one action in a loan, and save it")
         .long_about(help::ACT)
         .after_long_help(help::ACT_EXAMPLE)
         .arg(file(alloc, help::FILE))?
+        .arg(argument(alloc, GROUP, help::GROUP))?
+        .arg(argument(alloc, TRANSACTION, help::TRANSACTION))?
         .arg(today)?
         .arg(words)?;
     Ok(command)
@@ -268,10 +274,12 @@ fn take<'a>(alloc: Global, command: Command<'a>) -> Result<Command<'a>, Error> {
 fn send<'a>(alloc: Global, command: Command<'a>) -> Result<Command<'a>, Error> {
     let number = argument(alloc, NUMBER, "The number of the message, 1 to 255");
     let command = command
-        .about("Write the bytes of one message that the side has issued")
+        .about("Write the bytes of one message of a loan")
         .long_about(help::SEND)
         .after_long_help(help::SEND_EXAMPLE)
         .arg(file(alloc, help::FILE))?
+        .arg(argument(alloc, GROUP, help::GROUP))?
+        .arg(argument(alloc, TRANSACTION, help::TRANSACTION))?
         .arg(number.allow_hyphen_values(true))?;
     Ok(command)
 }
@@ -279,7 +287,7 @@ fn send<'a>(alloc: Global, command: Command<'a>) -> Result<Command<'a>, Error> {
 /// Adds what `ill status` has.
 fn status<'a>(alloc: Global, command: Command<'a>) -> Result<Command<'a>, Error> {
     let command = command
-        .about("Show the side in a file")
+        .about("Show how each loan in a file stands")
         .long_about(help::STATUS)
         .after_long_help(help::STATUS_EXAMPLE)
         .arg(file(alloc, help::FILE))?;
@@ -313,7 +321,7 @@ fn simulate<'a>(alloc: Global, command: Command<'a>) -> Result<Command<'a>, Erro
     Ok(command)
 }
 
-/// The file of a record.
+/// The file of a desk.
 fn file<'a>(alloc: Global, help: &'a str) -> Arg<'a> {
     argument(alloc, FILE, help)
 }

@@ -1,52 +1,51 @@
-//! The commands that keep one side in a file. Their words are judged before the file is opened, but
-//! for those of an action.
+//! The commands that keep a desk in a file. Their words are judged before the file is opened, but for
+//! those of an action.
 
-use crate::act::run_act;
+use crate::act::run_desk_act;
 use crate::fault::ToolFault;
-use crate::new::run_new;
-use crate::send::run_send;
+use crate::new::run_desk_new;
+use crate::send::run_desk_send;
 use crate::simulate::id;
-use crate::status::run_status;
-use crate::take::run_take;
-use ill_saved::{Desk1, FileStore};
+use crate::status::run_desk_status;
+use crate::take::run_desk_take;
+use ill_saved::{Desk, FileStore};
 use ill_values::Day;
 use ill_world::words::{number, who};
 use std::alloc::Global;
 use std::io::{Read, Write};
 use std::rt::Files;
 
-/// The most bytes of a record.
-const MAX_RECORD: u32 = 65_535;
+/// The most bytes of a record: those of 1,000 sides that have issued 255 messages each fit.
+const MAX_RECORD: u32 = 67_108_864;
 
-/// `ill new`: begins one side of a transaction.
+/// `ill new`: begins a desk.
 pub fn new<T: Files, W: Write>(
     rt: &T,
     alloc: Global,
     file: &str,
     role: &str,
-    group: &str,
-    transaction: &str,
     writer: &mut W,
 ) -> Result<bool, ToolFault> {
     let role = who(role.as_bytes()).ok_or(ToolFault::Arguments)?;
-    let txn = id(alloc, group, transaction)?;
     let store = FileStore::at(rt, alloc, file, MAX_RECORD)?;
-    answer_of(run_new(alloc, store, role, txn, writer))?;
+    answer_of(run_desk_new(alloc, store, role, writer))?;
     Ok(true)
 }
 
-/// `ill act`: performs one action.
+/// `ill act`: performs one action in the transaction with these qualifiers.
 pub fn act<T: Files, W: Write>(
     rt: &T,
     alloc: Global,
     file: &str,
+    (group, transaction): (&str, &str),
     today: Option<&str>,
     words: &[&str],
     writer: &mut W,
 ) -> Result<bool, ToolFault> {
     let today = day(today)?;
+    let txn = id(alloc, group, transaction)?;
     let mut desk = open(rt, alloc, file)?;
-    let acted = run_act(alloc, &mut desk, today, words, writer);
+    let acted = run_desk_act(alloc, &mut desk, &txn, today, words, writer);
     drop(desk);
     acted
 }
@@ -60,28 +59,30 @@ pub fn take<T: Files, R: Read, W: Write>(
     writer: &mut W,
 ) -> Result<bool, ToolFault> {
     let mut desk = open(rt, alloc, file)?;
-    let taken = run_take(alloc, &mut desk, reader, writer);
+    let taken = run_desk_take(alloc, &mut desk, reader, writer);
     drop(desk);
     taken
 }
 
-/// `ill send`: gives the bytes of a message.
+/// `ill send`: gives the bytes of a message of the transaction with these qualifiers.
 pub fn send<T: Files, W: Write>(
     rt: &T,
     alloc: Global,
     file: &str,
+    (group, transaction): (&str, &str),
     wanted: &str,
     writer: &mut W,
 ) -> Result<bool, ToolFault> {
+    let txn = id(alloc, group, transaction)?;
     let number = number(wanted.as_bytes()).ok_or(ToolFault::Arguments)?;
     let desk = open(rt, alloc, file)?;
-    let sent = run_send(alloc, &desk, number, writer);
+    let sent = run_desk_send(alloc, &desk, &txn, number, writer);
     drop(desk);
     sent?;
     Ok(true)
 }
 
-/// `ill status`: shows the side.
+/// `ill status`: shows the sides.
 pub fn status<T: Files, W: Write>(
     rt: &T,
     alloc: Global,
@@ -89,20 +90,20 @@ pub fn status<T: Files, W: Write>(
     writer: &mut W,
 ) -> Result<bool, ToolFault> {
     let desk = open(rt, alloc, file)?;
-    let shown = run_status(alloc, &desk, writer);
+    let shown = run_desk_status(alloc, &desk, writer);
     drop(desk);
     shown?;
     Ok(true)
 }
 
-/// The side in a file.
+/// The desk in a file.
 fn open<'a, T: Files>(
     rt: &'a T,
     alloc: Global,
     file: &str,
-) -> Result<Desk1<FileStore<'a, T>>, ToolFault> {
+) -> Result<Desk<FileStore<'a, T>>, ToolFault> {
     let store = FileStore::at(rt, alloc, file, MAX_RECORD)?;
-    Ok(answer_of(Desk1::start(alloc, store))?)
+    Ok(answer_of(Desk::start(alloc, store))?)
 }
 
 /// An answer without the store that it hands back with a fault.

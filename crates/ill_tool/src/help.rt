@@ -1,38 +1,40 @@
 //! The texts of `--help`, whose lines have at most 80 columns: `clap` breaks none.
 
-pub const VERSION: &str = "0.1.0";
+pub const VERSION: &str = "0.2.0";
 
-pub const FILE: &str = "The file of the record";
+pub const FILE: &str = "The file of the desk";
 
 pub const GROUP: &str = "The group qualifier of the loan";
 
 pub const TRANSACTION: &str = "The transaction qualifier of the loan";
 
 pub const ILL: &str = "\
-One side of a loan is kept in a file: `new` begins it, `act` does what its
-library decides, `take` takes what comes from the other library, `send` gives a
-message to carry there, and `status` tells how the side stands. How messages are
-carried, by mail or by hand, is left to the libraries. `show`, `check` and
-`simulate` keep nothing. `ill COMMAND --help` tells more of a command.
+A desk is the loans of one library in one role, and it is kept in a file: `new`
+begins it, `act` does what the library decides in a loan, `take` takes what
+comes from other libraries, `send` gives a message to carry there, and `status`
+tells how each loan stands. A loan is named by its GROUP and TRANSACTION. How
+messages are carried, by mail or by hand, is left to the libraries. `show`,
+`check` and `simulate` keep nothing. `ill COMMAND --help` tells more of a
+command.
 
 From the start of a command on a file to its end no other may run on that file,
 while a `take` waits for its input too. No lock is taken, and one on the file
 itself is none, since each save puts a new file in its place. So lock another:
-  flock loan.lock ill act loan receive
-  flock there.lock ill send there 1 > letter
+  flock desk.lock ill act desk G1 T1 receive
+  flock there.lock ill send there G1 T1 1 > letter
 
-The start of a loan, with the requester's side in the file `here` and the
+The start of a loan, with the requester's desk in the file `here` and the
 responder's in the file `there`:
-  $ ill new here requester G1 T1
-  done IDLE - 0/0
-  $ ill act here request none Maps
+  $ ill new here requester
+  done
+  $ ill act here G1 T1 request none Maps
   done PENDING - 1/1
-  $ ill send here 1 > message
-  $ ill new there responder G1 T1
-  done IDLE - 0/0
+  $ ill send here G1 T1 1 > message
+  $ ill new there responder
+  done
   $ ill take there < message
   taken IN-PROCESS - 0/0
-  $ ill act there --today 20250301 ship +14
+  $ ill act there G1 T1 --today 20250301 ship +14
   done SHIPPED 20250315 1/1
 
 The exit status, and the line of a fault on standard error behind `ill: `:
@@ -40,7 +42,8 @@ The exit status, and the line of a fault on standard error behind `ill: `:
   1  -                    refused, or in conflict; standard output says why
   1  exists               FILE is there already
   1  no-record            FILE is not there
-  1  no-such-message      the side has issued no message with this number
+  1  no-such-transaction  FILE has no loan with this GROUP and TRANSACTION
+  1  no-such-message      no message with this number was issued in the loan
   1  not-saved            it has, but the message is not saved
   2  -                    the words are no command; a usage message says why
   2  arguments            an argument is not what it has to be
@@ -52,39 +55,42 @@ The exit status, and the line of a fault on standard error behind `ill: `:
   2  script at line N     the first bad line of a script
   2  record short         FILE ends within a record
   2  record bad at N      FILE has a record with a wrong byte, at N
-  2  record inconsistent  FILE has a record that no side can have
+  2  record digest        FILE was damaged: its digest is not that of its bytes
+  2  record inconsistent  FILE has a record that no desk can have
   3  store failed         FILE or its folder cannot be read or written
-  3  store too-large      FILE has more than 65,535 bytes
+  3  store too-large      FILE has more than 67,108,864 bytes
   3  read                 the input cannot be read
   3  write                the output cannot be written; a closed pipe too
   3  memory               memory ran out";
 
 pub const NEW: &str = "\
-Begin one side of a loan, in a file.
+Begin a desk of one role, in a file.
 
-The side has issued and taken nothing yet. Each library begins its own side, one
-as requester and one as responder, with the same GROUP and TRANSACTION. These
-have 1 to 64 characters of ASCII each, from space to tilde; where one begins
-with a hyphen, `--` goes before the arguments.
+The desk has no loan yet. A library that both asks and is asked has two desks,
+one as requester and one as responder, in two files.
 
 FILE must not be there yet, and its folder must. The program writes a record by
 way of FILE.new, beside it; that file belongs to the program. From its start to
-its end no other command may run on FILE, as `ill --help` tells. One line is
-written to standard output, as `ill act --help` tells. Standard input is not
-read.
+its end no other command may run on FILE, as `ill --help` tells. One line,
+`done`, is written to standard output. Standard input is not read.
 
-The exit status is 0 where the side is saved, 1 with `exists`, 2 for wrong
-arguments, a ROLE, GROUP or TRANSACTION that is none too, and 3 with `store
-failed`, `store too-large`, `write` or `memory`.";
+The exit status is 0 where the desk is saved, 1 with `exists`, 2 for wrong
+arguments, a ROLE that is none too, and 3 with `store failed`, `store
+too-large`, `write` or `memory`.";
 
 pub const NEW_EXAMPLE: &str = "Example:
-  $ ill new box requester G1 T1
-  done IDLE - 0/0
-  $ ill new box requester G1 T1
+  $ ill new box requester
+  done
+  $ ill new box requester
   ill: exists";
 
 pub const ACT: &str = "\
-Perform one action of the side in a file, and save it.
+Perform one action in a loan, and save it.
+
+The loan is that of GROUP and TRANSACTION, of 1 to 64 characters of ASCII each,
+from space to tilde; where one begins with a hyphen, `--` goes before the
+arguments. A requester's `request` begins a loan, and the ILL-Request that
+`take` takes begins a responder's. A desk has room for 1,000 loans.
 
 The words of a requester:
   request EXPIRY ITEM    ask for the item; after the day EXPIRY the responder
@@ -116,14 +122,16 @@ title has no quotes round it: `request none War and Peace`.
 A responder's action needs --today; a requester's has no use for it. It stands
 before the words: behind them it would be one of them, as of a title. One action
 issues one message; `take` may issue one too, as `ill take --help` tells. The
-messages of a side are numbered 1, 2, 3, up to 255.
+messages of each loan are numbered 1, 2, 3, up to 255.
 
 The action is saved in FILE before a line of it is written to standard output:
   OUTCOME STATE DUE RELEASED/ISSUED
-OUTCOME is `done`. Then come the side's state, its due date or `-`, how many of
-its messages may be sent, and how many it has issued: behind `done`, the message
-of the action is the last one. Where the action is refused, nothing changes, and
-OUTCOME says why:
+OUTCOME is `done`. Then come the state of the loan, its due date or `-`, how
+many of its messages may be sent, and how many it has issued: behind `done`, the
+message of the action is the last one. Where the action is refused, nothing
+changes, and OUTCOME says why:
+  no-such-transaction    the desk has no such loan, and only `request` begins one
+  desk-full              `request`, and the desk has 1,000 loans
   not-now                it has no place in this state
   date-earlier           DUE of `ship` is before today
   date-not-later         DUE of `renew-answer` is not after the due date
@@ -131,57 +139,61 @@ OUTCOME says why:
   not-expired            `expire`, and no expiry day is past
   numbers-used           all 255 numbers are used
 
-Standard input is not read, and FILE has at most 65,535 bytes. From its start to
-its end no other command may run on FILE: `flock FILE.lock ill act FILE ..` sees
-to it, as `ill --help` tells.
+Standard input is not read, and FILE has at most 67,108,864 bytes. From its
+start to its end no other command may run on FILE: `flock FILE.lock ill act FILE
+..` sees to it, as `ill --help` tells.
 
 The exit status is 0 where the action is done, 1 where it is refused or with
-`no-record`, 2 for wrong words, a wrong day or a bad record, and 3 with `store
+`no-record`, 2 for wrong arguments or words or a bad record, and 3 with `store
 failed`, `store too-large`, `write` or `memory`. After `store failed` the action
 may be saved or not: `ill status FILE` shows which.";
 
 pub const ACT_EXAMPLE: &str = "Example:
-  $ ill new box requester G1 T1
-  done IDLE - 0/0
-  $ ill act box request none War and Peace
+  $ ill new box requester
+  done
+  $ ill act box G1 T1 request none War and Peace
   done PENDING - 1/1
-  $ ill act box return
+  $ ill act box G1 T1 return
   not-now PENDING - 1/1
-  $ ill new there responder G1 T1
-  done IDLE - 0/0
-  $ ill send box 1 | ill take there
+  $ ill act box G1 T2 return
+  no-such-transaction IDLE - 0/0
+  $ ill new there responder
+  done
+  $ ill send box G1 T1 1 | ill take there
   taken IN-PROCESS - 0/0
-  $ ill act there --today 20250301 ship +14
+  $ ill act there G1 T1 --today 20250301 ship +14
   done SHIPPED 20250315 1/1";
 
 pub const TAKE: &str = "\
 Take the APDUs on standard input, and save what they change.
 
-The APDUs, the messages of the other side as `ill send` gives them there, stand
-one behind another up to the end of the input: `ill take FILE < message`. There
-are at most 100,000 of them. FILE has at most 65,535 bytes. From its start to
-its end, while it waits for its input too, no other command may run on FILE:
-`flock FILE.lock ill take FILE < message` sees to it, as `ill --help` tells.
+The APDUs, the messages of other libraries as `ill send` gives them there, stand
+one behind another up to the end of the input: `ill take FILE < message`. Each
+is for the loan that it names. There are at most 100,000 of them. FILE has at
+most 67,108,864 bytes. From its start to its end, while it waits for its input
+too, no other command may run on FILE: `flock FILE.lock ill take FILE < message`
+sees to it, as `ill --help` tells.
 
 For each of them a line is written to standard output:
   OUTCOME STATE DUE RELEASED/ISSUED
-OUTCOME is one of these; behind it the line says how the side stands, as that of
+OUTCOME is one of these; behind it the line says how its loan stands, as that of
 `ill act`:
   taken                  this is news: read it, and act on it
-  repeat                 the side knows it already; there is nothing to do
+  repeat                 the desk knows it already; there is nothing to do
   stale                  it answers what is no longer open; nothing to do either
   conflict               it has no place in this state: somebody should look
-  other-transaction      it is of another loan
-  wrong-role             it is of a kind that this side sends
+  no-such-transaction    it is of a loan that the desk has not, and begins none
+  desk-full              it would begin a loan, and the desk has 1,000
+  wrong-role             it is of a kind that this desk sends
   numbers-used           it wants an answer, and all 255 numbers are used
 
-Only what is taken changes the side, and it is saved in FILE before its line is
+Only what is taken changes the desk, and it is saved in FILE before its line is
 written. To take a message twice does no harm.
 
 A message that is taken may issue one: a responder that takes a
 Conditional-Reply no, by which the requester declines its conditions, issues an
 ILL-Answer unfilled. ISSUED has risen by one then, as from 1/1 to 2/2, and that
-message has to be sent, like one of an action: `ill send FILE 2`.
+message has to be sent, like one of an action: `ill send FILE G1 T1 2`.
 
 The exit status is 0 where each was taken, a repeat or stale, and 1 where one
 was anything else or with `no-record`. It is 2 where the input has a faulty
@@ -189,75 +201,76 @@ message or too many, and for a bad record, and 3 with `store failed`, `store
 too-large`, `read`, `write` or `memory`. The messages before a fault stay taken.";
 
 pub const TAKE_EXAMPLE: &str = "Example:
-  $ ill new here requester G1 T1
-  done IDLE - 0/0
-  $ ill act here request none Maps
+  $ ill new here requester
+  done
+  $ ill act here G1 T1 request none Maps
   done PENDING - 1/1
-  $ ill send here 1 > message
-  $ ill new there responder G1 T1
-  done IDLE - 0/0
+  $ ill send here G1 T1 1 > message
+  $ ill new there responder
+  done
   $ ill take there < message
   taken IN-PROCESS - 0/0
   $ ill take there < message
   repeat IN-PROCESS - 0/0";
 
 pub const SEND: &str = "\
-Write the bytes of one message that the side has issued.
+Write the bytes of one message of a loan.
 
-The messages of a side are numbered 1, 2, 3, in the order in which `act` and
+The messages of each loan are numbered 1, 2, 3, in the order in which `act` and
 `take` issued them. NUMBER has one to three digits, with a value from 1 to 255.
 The message must be saved, which what `act` and `take` have told always is.
 
 Its bytes, and nothing else, are written to standard output: 16 to 359 of them,
 which are not for a terminal. Give them to a file or another program, as in
-`ill send FILE 1 > message`. FILE has at most 65,535 bytes; it is not changed,
-so nothing tells what was sent. A message may be sent again at any time, and has
-the same bytes then. From its start to its end no other command may run on FILE:
-`flock FILE.lock ill send FILE 1 > message` sees to it, as `ill --help` tells.
-Standard input is not read.
+`ill send FILE G1 T1 1 > message`. FILE has at most 67,108,864 bytes; it is not
+changed, so nothing tells what was sent. A message may be sent again at any
+time, and has the same bytes then. From its start to its end no other command
+may run on FILE: `flock FILE.lock ill send FILE G1 T1 1 > message` sees to it,
+as `ill --help` tells. Standard input is not read.
 
-The exit status is 0 where the message is written, 1 with `no-such-message`,
-`not-saved` or `no-record`, 2 for a wrong NUMBER or a bad record, and 3 with
-`store failed`, `store too-large`, `write` or `memory`.";
+The exit status is 0 where the message is written, 1 with `no-such-transaction`,
+`no-such-message`, `not-saved` or `no-record`, 2 for wrong arguments or a bad
+record, and 3 with `store failed`, `store too-large`, `write` or `memory`.";
 
 pub const SEND_EXAMPLE: &str = "Example:
-  $ ill new box requester G1 T1
-  done IDLE - 0/0
-  $ ill act box request none Maps
+  $ ill new box requester
+  done
+  $ ill act box G1 T1 request none Maps
   done PENDING - 1/1
-  $ ill send box 1 > message
+  $ ill send box G1 T1 1 > message
   $ ill show < message
   apdu ILL-Request
   group G1
   transaction T1
   number 1
   item Maps
-  $ ill send box 2
+  $ ill send box G1 T1 2
   ill: no-such-message";
 
 pub const STATUS: &str = "\
-Show the side in a file.
+Show how each loan in a file stands.
 
-Seven lines are written to standard output:
+Seven lines for each loan are written to standard output, in the order in which
+the loans were begun; none, where the desk has no loan:
   role                   requester or responder
   group                  the group qualifier of the loan
   transaction            the transaction qualifier of the loan
-  state                  the state of the side
+  state                  the state of the loan
   due                    the day on which the item is due, or `-`
   messages               RELEASED/ISSUED: how many of its messages may be sent,
                          and how many it has issued
   marks                  those that are set of `received` (a Received was
                          issued, or taken), `checked-in` and `declined`, or `-`
 
-FILE has at most 65,535 bytes and is not changed. From its start to its end no
-other command may run on FILE, as `ill --help` tells. Standard input is not
-read. The exit status is 0 where the side is shown, 1 with `no-record`, 2 for a
-bad record, and 3 with `store failed`, `store too-large`, `write` or `memory`.";
+FILE has at most 67,108,864 bytes and is not changed. From its start to its end
+no other command may run on FILE, as `ill --help` tells. Standard input is not
+read. The exit status is 0 where the loans are shown, 1 with `no-record`, 2 for
+a bad record, and 3 with `store failed`, `store too-large`, `write` or `memory`.";
 
 pub const STATUS_EXAMPLE: &str = "Example:
-  $ ill new box requester G1 T1
-  done IDLE - 0/0
-  $ ill act box request none Maps
+  $ ill new box requester
+  done
+  $ ill act box G1 T1 request none Maps
   done PENDING - 1/1
   $ ill status box
   role requester

@@ -81,15 +81,21 @@ fn run<T: Files, R: Read, W: Write>(
         Request::Simulate { group, transaction } => {
             run_simulate(alloc, group, transaction, reader, writer).and(Ok(true))
         }
-        Request::New {
+        Request::New { file, role } => new(rt, alloc, file, role, writer),
+        Request::Act {
             file,
-            role,
             group,
             transaction,
-        } => new(rt, alloc, file, role, group, transaction, writer),
-        Request::Act { file, today, words } => act(rt, alloc, file, *today, words, writer),
+            today,
+            words,
+        } => act(rt, alloc, file, (group, transaction), *today, words, writer),
         Request::Take { file } => take(rt, alloc, file, reader, writer),
-        Request::Send { file, number } => send(rt, alloc, file, number, writer),
+        Request::Send {
+            file,
+            group,
+            transaction,
+            number,
+        } => send(rt, alloc, file, (group, transaction), number, writer),
         Request::Status { file } => status(rt, alloc, file, writer),
     }
 }

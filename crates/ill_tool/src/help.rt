@@ -130,7 +130,7 @@ OUTCOME is `done`. Then come the state of the loan, its due date or `-`, how
 many of its messages may be sent, and how many it has issued: behind `done`, the
 message of the action is the last one. Where the action is refused, nothing
 changes, and OUTCOME says why:
-  no-such-transaction    the desk has no such loan, and only `request` begins one
+  no-such-transaction    the desk has no such loan; `request` begins one
   desk-full              `request`, and the desk has 1,000 loans
   not-now                it has no place in this state
   date-earlier           DUE of `ship` is before today

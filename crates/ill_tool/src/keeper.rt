@@ -126,11 +126,7 @@ impl<S: Store> Keeper for Desk1<S> {
 
     ghost begun = { λ first. alone (idle_side first.0 first.1) };
 
-    fn create(
-        alloc: Global,
-        kept: S,
-        first: (Role, TxnId),
-    ) -> Result<Desk1<S>, (DeskFault, S)> {
+    fn create(alloc: Global, kept: S, first: (Role, TxnId)) -> Result<Desk1<S>, (DeskFault, S)> {
         let (role, txn) = first;
         Desk1::create(alloc, kept, Side::idle(alloc, role, txn))
     }

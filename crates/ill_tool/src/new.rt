@@ -135,7 +135,13 @@ fn write_beginning<K: Keeper, W: Write>(
         (first_line K.keeping (K.live keeper.now)) result }
 {
     match keeper.first_key() {
-        Some(key) => match report(alloc, writer, DeskOutcome::Plain(Outcome::Done), keeper, key) {
+        Some(key) => match report(
+            alloc,
+            writer,
+            DeskOutcome::Plain(Outcome::Done),
+            keeper,
+            key,
+        ) {
             Ok(_) => Ok(()),
             Err(fault) => Err(fault),
         },

@@ -12,3 +12,4 @@ pub mod Desks
 pub mod Files
 pub mod Sizes
 pub mod Places
+pub mod Finding

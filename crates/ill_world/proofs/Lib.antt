@@ -18,3 +18,4 @@ pub mod Arrivals
 pub mod BadWorlds
 pub mod Changes
 pub mod Outcomes
+pub mod Projections

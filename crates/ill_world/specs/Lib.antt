@@ -1,4 +1,5 @@
 pub mod World
+pub mod Desks
 pub mod PartyView
 pub mod Words
 pub mod Script

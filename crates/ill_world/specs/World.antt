@@ -90,10 +90,13 @@ fails_to_save p true = record p { landed = p.live }
 fails_to_save p false = p
 
 -- A message that was issued may be sent once it is released.
+abbrev pub sends_by : {P : Type 0} → P → (Apdu → P) → Option Apdu → Bool → Outcome × P
+sends_by p sending None is_released = (NoSuchMessage, p)
+sends_by p sending (Some a) false = (NotSaved, p)
+sends_by p sending (Some a) true = (Sent, sending a)
+
 abbrev pub sends : Party → ℕ → Option Apdu → Bool → Outcome × Party
-sends p n None is_released = (NoSuchMessage, p)
-sends p n (Some a) false = (NotSaved, p)
-sends p n (Some a) true = (Sent, record p { sent = with_sent p.sent n a })
+sends p n issued is_released = sends_by p (λ a. record p { sent = with_sent p.sent n a }) issued is_released
 
 -- what is seen of a message that was delivered
 abbrev pub answer_to : Result Taking Refusal → Outcome

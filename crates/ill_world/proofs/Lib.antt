@@ -19,3 +19,4 @@ pub mod BadWorlds
 pub mod Changes
 pub mod Outcomes
 pub mod Projections
+pub mod Desks

@@ -9,6 +9,7 @@ pub mod Simulation
 pub mod Simulating
 pub mod Safety
 pub mod Invariant
+pub mod DeskSafety
 pub mod Agreement
 pub mod BadWorlds
 pub mod Changes

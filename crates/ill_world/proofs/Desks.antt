@@ -75,7 +75,7 @@ responders_txn : (txn : Qualifiers) (side : Side) (told : List (Option Apdu)) (n
 responders_txn txn (sides.Responder y) told n a stands at = sym (same_is a.txn y.txn (message_number y.txn y.issued n a stands.rules.numbered at).0 ∙ stands.same_txn)
 responders_txn txn (sides.Requester x) told n a stands at = absurd stands
 
-keeps_to : (w : DeskParties) (role : Who) → DesksStand w → KeepsTo role (party w role) (party w (other role)).sent
+pub keeps_to : (w : DeskParties) (role : Who) → DesksStand w → KeepsTo role (party w role) (party w (other role)).sent
 keeps_to w who.Requester stands = record {
   role_is = stands.requester.0;
   role_held = λ txn. requesters txn (held_for txn w.requester.live).side (sent_for txn w.responder.sent) (stands.each txn).requester.live;

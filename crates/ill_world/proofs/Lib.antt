@@ -20,3 +20,4 @@ pub mod Changes
 pub mod Outcomes
 pub mod Projections
 pub mod Desks
+pub mod DeskArrivals

@@ -6,9 +6,9 @@ ghost use Rattle.ill_world.specs.declared.event.DeskEvent.{DeskEvent};
 ghost use Rattle.ill_world.specs.World.{first_world, run_of};
 ghost use Rattle.ill_world.specs.Desks.{DeskParties, plain, first_desks, desks_happen, desks_run, project, events_for, Projects};
 ghost use Rattle.ill_world.specs.Agreement.{KeepsDates};
-ghost use Rattle.ill_world.specs.DeskSafety.{DesksStand, IsSafeDeskRun, IsAgreeingDeskRun};
+ghost use Rattle.ill_world.specs.DeskSafety.{ArrivesAt, DesksStand, IsSafeDeskRun, IsAgreeingDeskRun};
 
-use crate::laws::{due_dates_stay, every_world_agrees, every_world_is_safe, world_stands};
+use crate::laws::{due_dates_stay, one_arrival_is_enough, every_world_agrees, every_world_is_safe, world_stands};
 use ill_core::laws::{requester_is_quiet, responder_is_quiet};
 use ill_saved::laws::rows_grow;
 
@@ -69,4 +69,13 @@ pub fn due_dates_stay_at_desks()
 {
     desk_events_are_events();
     due_dates_stay();
+}
+
+/// Where two desks stand, one arrival of the end of a request, or of a Returned, is enough: its
+/// transaction is held.
+pub fn one_arrival_at_a_desk_is_enough()
+    ensures { (w : DeskParties) (event : DeskEvent) → DesksStand w → ArrivesAt w event }
+{
+    desk_events_are_events();
+    one_arrival_is_enough();
 }

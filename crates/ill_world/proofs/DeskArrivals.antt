@@ -17,17 +17,18 @@ use Rattle.ill_saved.specs.declared.role.Role.{Role as Who}
 use Rattle.ill_saved.specs.declared.role.Role.TheVariants as who
 use Rattle.ill_saved.specs.declared.side.Side.{Side}
 use Rattle.ill_saved.specs.declared.side.Side.TheVariants as sides
-use Rattle.ill_saved.specs.Side.{issued_of, idle_side, takes}
+use Rattle.ill_saved.specs.Side.{other, issued_of, idle_side, takes}
 use Rattle.ill_saved.specs.Many.{Held, Holding, held_for, found_or, idle_held, reached, took as took_at, takes_reached, is_own, found_by, txn_held}
 use Rattle.ill_saved.proofs.Finding.{same_self}
 use Rattle.ill_world.specs.declared.event.DeskEvent.{DeskEvent}
 use Rattle.ill_world.specs.declared.event.DeskEvent.TheVariants as desk_events
 use Rattle.ill_world.specs.declared.event.Event.{Event}
+use Rattle.ill_world.specs.declared.event.Event.TheVariants as events
 use Rattle.ill_world.specs.declared.event.Outcome.{Outcome}
 use Rattle.ill_world.specs.declared.event.DeskOutcome.{DeskOutcome}
 use Rattle.ill_world.specs.declared.event.DeskOutcome.TheVariants.{Plain, NoSuchTransaction, DeskFull}
-use Rattle.ill_world.specs.World.{Parties, happens}
-use Rattle.ill_world.specs.Desks.{DeskParty, DeskParties, plain, taking_seen, desk_receives, desks_happen, project, concerns, if_reached, IsSeenAs}
+use Rattle.ill_world.specs.World.{sent_message, party, Parties, happens}
+use Rattle.ill_world.specs.Desks.{DeskParty, sent_for, DeskParties, plain, taking_seen, desk_receives, desks_happen, project, concerns, if_reached, IsSeenAs}
 use Rattle.ill_world.specs.Agreement.{Settles, settled_by, Arrives}
 use Rattle.ill_world.specs.Invariant.{RequesterSideStands, ResponderSideStands, Stands}
 use Rattle.ill_world.specs.DeskSafety.{DesksStand, SettlesAt, ArrivesAt}
@@ -110,37 +111,33 @@ settles_as among false expected old new outcome side seen concerned is_plain set
 settles_as among true expected old new NoSuchTransaction side seen concerned is_plain settles = absurd is_plain
 settles_as among true expected old new DeskFull side seen concerned is_plain settles = absurd is_plain
 
+module _ (projects : EachProjects) (w : DeskParties) (stands : DesksStand w) (txn : Qualifiers) (n : ℕ) (a : Apdu) where
+  -- a message that settles a side that has issued something settles it at a desk
+  settles_there : (role : Who) (among : List State) → sent_message (sent_for txn (party w (other role)).sent) n ≡ Some a → (issued_of (held_for txn (party w role).live).side ≡ [] → ⊥)
+      → let after = happens (project txn w) (events.Deliver role n) in Settles among after.0 (party after.1 role).live
+      → let after = desks_happen w (desk_events.Deliver role txn n) in SettlesAt among after.0 (party (project txn after.1) role).live
+  settles_there role among sent begun settles =
+      let event = desk_events.Deliver role txn n in
+      let is : txn ≡ a.txn = (keeps_to w role stands).told_of txn n a sent in
+      let there : issued_of (held_for a.txn (party w role).live).side ≡ [] → ⊥ = subst (λ t. issued_of (held_for t (party w role).live).side ≡ [] → ⊥) is begun in
+      let is_plain : IsPlain (desks_happen w event).0 =
+      subst (λ o. IsPlain (desk_receives (party w role) o).0) (sym sent) (arrives_plainly (party w role) a (found_by txn_held a.txn (party w role).live.held) refl there) in
+      settles_as among (concerns txn event) (happens (project txn w) (plain event)) (project txn w) (project txn (desks_happen w event).1) (desks_happen w event).0 (λ v. (party v role).live) (projects txn w event stands)
+      (same_self txn) is_plain settles
+
 pub arrives_at : EachProjects → ((txn : Qualifiers) (w : Parties) (event : Event) → Stands txn w → Arrives w event) → (w : DeskParties) (event : DeskEvent) → DesksStand w → ArrivesAt w event
 arrives_at projects arrives w (desk_events.Deliver who.Requester txn n) stands =
     λ a sent ends.
-    let event = desk_events.Deliver who.Requester txn n in
     let shown = stands.each txn in
-    let is = (keeps_to w who.Requester stands).told_of txn n a sent in
-    let begun : issued_of (held_for a.txn w.requester.live).side ≡ [] → ⊥ =
-    subst (λ t. issued_of (held_for t w.requester.live).side ≡ [] → ⊥) is
-    (asked txn (project txn w).requester.live (project txn w).responder.landed (project txn w).responder.sent (project txn w).requester.sent n a shown.requester.live shown.responder.landed
-    (live_issues (project txn w).requester shown.requester.saved) (shown.responder.saved.landed n a sent)) in
-    let is_plain : IsPlain (desks_happen w event).0 =
-    subst (λ o. IsPlain (desk_receives w.requester o).0) (sym sent) (arrives_plainly w.requester a (found_by txn_held a.txn w.requester.live.held) refl begun) in
-    settles_as (settled_by a.body) (concerns txn event) (happens (project txn w) (plain event)) (project txn w) (project txn (desks_happen w event).1) (desks_happen w event).0 (λ v. v.requester.live) (projects txn w event stands)
-    (same_self txn) is_plain (arrives txn (project txn w) (plain event) shown a sent ends)
+    let v = project txn w in
+    settles_there projects w stands txn n a who.Requester (settled_by a.body) sent
+    (asked txn v.requester.live v.responder.landed v.responder.sent v.requester.sent n a shown.requester.live shown.responder.landed (live_issues v.requester shown.requester.saved) (shown.responder.saved.landed n a sent))
+    (arrives txn v (events.Deliver who.Requester n) shown a sent ends)
 arrives_at projects arrives w (desk_events.Deliver who.Responder txn n) stands =
     λ a sent returned.
-    let event = desk_events.Deliver who.Responder txn n in
     let shown = stands.each txn in
-    let is = (keeps_to w who.Responder stands).told_of txn n a sent in
-    let begun : issued_of (held_for a.txn w.responder.live).side ≡ [] → ⊥ =
-    subst (λ t. issued_of (held_for t w.responder.live).side ≡ [] → ⊥) is
-    (supplied txn (project txn w).requester.landed (project txn w).responder.live (project txn w).responder.sent (project txn w).requester.sent n a shown.requester.landed shown.responder.live
-    (live_issues (project txn w).responder shown.responder.saved) (shown.requester.saved.landed n a sent) returned) in
-    let is_plain : IsPlain (desks_happen w event).0 =
-    subst (λ o. IsPlain (desk_receives w.responder o).0) (sym sent) (arrives_plainly w.responder a (found_by txn_held a.txn w.responder.live.held) refl begun) in
-    settles_as (states.Returned ∷ states.CheckedIn ∷ []) (concerns txn event) (happens (project txn w) (plain event)) (project txn w) (project txn (desks_happen w event).1) (desks_happen w event).0 (λ v. v.responder.live) (projects txn w event stands)
-    (same_self txn) is_plain (arrives txn (project txn w) (plain event) shown a sent returned)
-arrives_at projects arrives w (desk_events.Wish txn wish) stands = tt
-arrives_at projects arrives w (desk_events.Deed txn deed today) stands = tt
-arrives_at projects arrives w (desk_events.Save of) stands = tt
-arrives_at projects arrives w (desk_events.SaveFault of landed) stands = tt
-arrives_at projects arrives w (desk_events.Send of txn n) stands = tt
-arrives_at projects arrives w (desk_events.Noise of bytes) stands = tt
-arrives_at projects arrives w (desk_events.Restart of) stands = tt
+    let v = project txn w in
+    settles_there projects w stands txn n a who.Responder (states.Returned ∷ states.CheckedIn ∷ []) sent
+    (supplied txn v.requester.landed v.responder.live v.responder.sent v.requester.sent n a shown.requester.landed shown.responder.live (live_issues v.responder shown.responder.saved)
+    (shown.requester.saved.landed n a sent) returned) (arrives txn v (events.Deliver who.Responder n) shown a sent returned)
+arrives_at projects arrives w event stands = tt

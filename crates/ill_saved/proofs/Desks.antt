@@ -8,6 +8,7 @@ use Rattle.ill_values.specs.Apdu.{IsApdu}
 use Rattle.ill_core.specs.declared.refusal.Refusal.{Refusal}
 use Rattle.ill_core.specs.declared.refusal.Refusal.TheVariants as refusals
 use Rattle.ill_core.specs.declared.taking.Taking.{Taking}
+use Rattle.ill_core.specs.declared.taking.Taking.TheVariants.{Taken}
 use Rattle.std.proofs.lemmas.List.{length-drop, take-append-le, take_all}
 use Rattle.ill_der.specs.declared.fault.DerFault.{DerFault}
 use Rattle.ill_der.specs.declared.fault.DerFault.TheVariants as der
@@ -46,7 +47,7 @@ use Rattle.ill_saved.specs.declared.store.StoreFault.{StoreFault}
 use Rattle.ill_saved.specs.declared.store.StoreFault.TheVariants as stores
 use Rattle.ill_saved.specs.declared.store.NextCall.{NextCall}
 use Rattle.ill_saved.specs.declared.store.NextCall.TheVariants as plans
-use Rattle.ill_saved.specs.Side.{issued_of, txn_of, standing_of, back_to, is_asked, KeepsRequest, IsConsistent, idle_of, done_by, acts, takes, Acts, Takes, IsRow, IsFrontOf, Grows, acted, took, Follows, same, further}
+use Rattle.ill_saved.specs.Side.{issued_of, txn_of, is_idle, standing_of, back_to, is_asked, KeepsRequest, IsConsistent, idle_of, done_by, acts, takes, Acts, Takes, IsRow, IsFrontOf, Grows, acted, took, Follows, same, further}
 use Rattle.ill_saved.specs.Faults.{of_record}
 use Rattle.ill_saved.proofs.Records.{no_digest}
 use Rattle.ill_saved.specs.Records.{record_at, record_spelling, begins_as_record, Decodes}
@@ -75,7 +76,7 @@ one_more apdus a = (a ∷ [], refl)
 none_more : (old new : List Apdu) → new ≡ old → IsFrontOf old new
 none_more old new e = ([], e ∙ sym (append-nil old))
 
-no_less : (old new : List Apdu) → IsFrontOf old new → length old ≤ length new
+pub no_less : (old new : List Apdu) → IsFrontOf old new → length old ≤ length new
 no_less old new front = omega (arith, ap length front.1 ∙ length-append old front.0)
 
 done_is : {R : Type 0} (make : R → Side) (r : Result R Refusal) (new : Side) → done_by make r ≡ Ok new → (made : R) × (r ≡ Ok made) × (make made ≡ new)
@@ -162,6 +163,49 @@ RowsGrow = (old new : Side) → IsRow old new → Grows old new
 -- and keeps the request
 abbrev pub RowsKeepRequest : Type 0
 RowsKeepRequest = (old new : Side) → IsRow old new → KeepsRequest old new
+
+-- What the laws of ill_core say of sides that have begun.
+pub record BeginningRows : Type 0 where
+  pub wish : (x new : RequesterRecord) (wish : Wish) → requester_actions.acts x wish ≡ Ok new → is_among (Idle ∷ []) new.state ≡ false
+  pub deed : (y new : ResponderRecord) (deed : Deed) (today : Date) → responder_actions.acts y deed today ≡ Ok new → is_among (Idle ∷ []) new.state ≡ false
+  pub message : (x : RequesterRecord) (a : Apdu) → is_among (Idle ∷ []) x.state ≡ false → is_among (Idle ∷ []) (requester_deliveries.takes x a).1.state ≡ false
+
+acts_begin : BeginningRows → (old new : Side) (action : Action) → acts old action ≡ Ok new → is_idle new ≡ false
+acts_begin rows (sides.Requester x) new (actions.Wish wish) e =
+    let is = done_is sides.Requester (requester_actions.acts x wish) new e in
+    subst (λ side. is_idle side ≡ false) is.2 (rows.wish x is.0 wish is.1)
+acts_begin rows (sides.Responder y) new (actions.Deed deed today) e =
+    let is = done_is sides.Responder (responder_actions.acts y deed today) new e in
+    subst (λ side. is_idle side ≡ false) is.2 (rows.deed y is.0 deed today is.1)
+acts_begin rows (sides.Requester x) new (actions.Deed deed today) e = search rules
+acts_begin rows (sides.Responder y) new (actions.Wish wish) e = search rules
+
+takes_stay : BeginningRows → RowsKeepRequest → (old : Side) (a : Apdu) → is_idle old ≡ false → is_idle (takes old a).1 ≡ false
+takes_stay rows keeps (sides.Requester x) a begun = rows.message x a begun
+takes_stay rows keeps (sides.Responder y) a begun =
+    not_true _ (keeps (sides.Responder y) (takes (sides.Responder y) a).1 (took a refl) (ap not begun)).0
+
+pub rows_stay : BeginningRows → RowsKeepRequest → (old new : Side) → IsRow old new → is_idle old ≡ false → is_idle new ≡ false
+rows_stay rows keeps old new (acted action e) begun = acts_begin rows old new action e
+rows_stay rows keeps old new (took a e) begun = subst (λ side. is_idle side ≡ false) e (takes_stay rows keeps old a begun)
+
+not_both : (answer : Result Taking Refusal) (refusal : Refusal) → answer ≡ Ok Taken → answer ≡ Err refusal → ⊥
+not_both answer refusal taken refused = search rules
+
+-- a message that is refused changes nothing, as the law says
+abbrev pub RefusalsStay : Type 0
+RefusalsStay = (side : Side) (a : Apdu) (refusal : Refusal) → (takes side a).0 ≡ Err refusal → (takes side a).1 ≡ side
+
+pub refusals_stay : ((x : RequesterRecord) (a : Apdu) → ((requester_deliveries.takes x a).0 ≡ Ok Taken) ⊎ ((requester_deliveries.takes x a).1 ≡ x))
+    → ((y : ResponderRecord) (a : Apdu) → ((responder_deliveries.takes y a).0 ≡ Ok Taken) ⊎ ((responder_deliveries.takes y a).1 ≡ y)) → RefusalsStay
+refusals_stay requester responder (sides.Requester x) a refusal e = elim (requester x a) [
+  | inl taken ↦ absurd (not_both _ refusal taken e)
+  | inr stays ↦ ap sides.Requester stays
+]
+refusals_stay requester responder (sides.Responder y) a refusal e = elim (responder y a) [
+  | inl taken ↦ absurd (not_both _ refusal taken e)
+  | inr stays ↦ ap sides.Responder stays
+]
 
 front_of_front : (old between new : List Apdu) → IsFrontOf old between → IsFrontOf between new → IsFrontOf old new
 front_of_front old between new before after = (before.0 ++ after.0, after.1 ∙ (ap (λ l. l ++ after.0) before.1 ∙ append_assoc old before.0 after.0))
@@ -325,7 +369,7 @@ either_backs : ReadsAgain → (old new : Option (List ℕ)) (bytes : List ℕ) (
 either_backs again old new bytes live released is spelled few backed (inl e) = subst (λ o. IsBacked o live released) (sym e) backed
 either_backs again old new bytes live released is spelled few backed (inr e) = landed_backs again bytes new live released is spelled e few
 
-old_or_new : (plan : Option NextCall) (bytes : List ℕ) (fault : StoreFault) (old new : Option (List ℕ)) → LandsAtSave plan bytes (Err fault) old new → (new ≡ old) ⊎ (new ≡ Some bytes)
+pub old_or_new : (plan : Option NextCall) (bytes : List ℕ) (fault : StoreFault) (old new : Option (List ℕ)) → LandsAtSave plan bytes (Err fault) old new → (new ≡ old) ⊎ (new ≡ Some bytes)
 old_or_new (Some plans.FailsOld) bytes stores.Failed old new lands = inl lands
 old_or_new (Some plans.FailsNew) bytes stores.Failed old new lands = inr lands
 old_or_new (Some plans.Works) bytes stores.Failed old new lands = lands
@@ -356,7 +400,7 @@ unfolding are_numbered rise_from ships_first requesters.keeps_rules responders.k
 idle_consistent (sides.Requester x) = search rules
 idle_consistent (sides.Responder y) = search rules
 
-itself_backs : (side : Side) (count : ℕ) → IsConsistent side → count ≡ length (issued_of side) → IsBackedBy side side count
+pub itself_backs : (side : Side) (count : ℕ) → IsConsistent side → count ≡ length (issued_of side) → IsBackedBy side side count
 itself_backs side count is all = record { consistent = is; follows = same; has-released = omega (arith, all) }
 
 idle_backs : (live side : Side) (count : ℕ) → side ≡ idle_of live → count ≡ length (issued_of side) → IsBacked None side count
@@ -371,7 +415,7 @@ whole_backs None live side count is consistent all =
     idle_backs live side count same all
 whole_backs (Some bytes) live side count is consistent all = subst (λ read. IsBackedByRead read side count) (sym is) (itself_backs side count consistent all)
 
-nothing_issued : (live : Side) → length (issued_of (idle_of live)) ≡ 0
+pub nothing_issued : (live : Side) → length (issued_of (idle_of live)) ≡ 0
 nothing_issued (sides.Requester x) = refl
 nothing_issued (sides.Responder y) = refl
 
@@ -430,18 +474,27 @@ record_loads bytes begins (records.Bad at) decodes = tt
 record_loads bytes begins records.Inconsistent decodes = tt
 record_loads bytes begins records.Digest decodes = absurd (no_digest bytes decodes)
 
--- no fault is found in a record that backs a side
-no_fault : (read : Result Side RecordFault) (begins : Bool) (fault : RecordFault) (live : Side) (released : ℕ) → IsBackedByRead read live released → Decodes read begins (Err fault) → IsLoadFault (faults.Saved fault) → ⊥
-no_fault read begins records.Short live released backed decodes is = subst (λ r. IsBackedByRead r live released) (sym decodes) backed
-no_fault read begins (records.Bad at) live released backed decodes is = subst (λ r. IsBackedByRead r live released) (sym decodes) backed
-no_fault read begins records.Inconsistent live released backed decodes is = subst (λ r. IsBackedByRead r live released) (sym decodes) backed
-no_fault read begins records.Digest live released backed decodes is = subst (λ r. IsBackedByRead r live released) (sym decodes) backed
-no_fault read begins records.OutOfMemory live released backed decodes is = is
+-- no fault is found in a record that is read
+pub no_fault : {V : Type 0} (read : Result V RecordFault) (begins : Bool) (fault : RecordFault) (value : V) → read ≡ Ok value → Decodes read begins (Err fault) → fault ≡ records.OutOfMemory
+no_fault read begins records.Short value is decodes = search rules
+no_fault read begins (records.Bad at) value is decodes = search rules
+no_fault read begins records.Inconsistent value is decodes = search rules
+no_fault read begins records.Digest value is decodes = search rules
+no_fault read begins records.OutOfMemory value is decodes = refl
+
+backed_is : (read : Result Side RecordFault) (live : Side) (released : ℕ) → IsBackedByRead read live released → (side : Side) × (read ≡ Ok side)
+backed_is (Ok side) live released backed = (side, refl)
+backed_is (Err fault) live released backed = absurd backed
+
+no_memory : (fault : RecordFault) → fault ≡ records.OutOfMemory → IsLoadFault (faults.Saved fault) → ⊥
+no_memory fault is load = subst (λ f. IsLoadFault (faults.Saved f)) is load
 
 -- where an honest store backs the side, memory alone is wanted to load what has landed
 load_fails : (bytes : Option (List ℕ)) (live new : Side) (released : ℕ) (plan : Option NextCall) (fault : DeskFault) → IsBacked bytes live released → LoadsOrIdle bytes live (Err fault) → IsLoadFault fault
     → Restarts (landed_side bytes live) plan (Err fault) new
-load_fails (Some bytes) live new released plan (faults.Saved fault) backed loads is = absurd (no_fault (record_at bytes) (begins_as_record bytes) fault live released backed loads is)
+load_fails (Some bytes) live new released plan (faults.Saved fault) backed loads is =
+    let read = backed_is (record_at bytes) live released backed in
+    absurd (no_memory fault (no_fault (record_at bytes) (begins_as_record bytes) fault read.0 read.1 loads) is)
 load_fails (Some bytes) live new released plan faults.OutOfMemory backed loads is = tt
 load_fails (Some bytes) live new released plan fault backed loads is = absurd loads
 load_fails None live new released plan fault backed loads is = subst (λ f. Restarts (Ok (idle_of live)) plan (Err f) new) (sym loads) tt

@@ -7,7 +7,7 @@ use Rattle.std.proofs.lemmas.Bool.{and_parts, and_from}
 use Rattle.std.proofs.lemmas.Slice.Eq.{bytes_eq-Decides}
 use Rattle.ill_values.specs.TxnId.{Qualifiers}
 use Rattle.ill_core.specs.Issued.{is_same_txn}
-use Rattle.ill_saved.specs.Many.{found_by, put_by}
+use Rattle.ill_saved.specs.Sides.{found_by, put_by}
 
 -- two ids are the same exactly where their qualifiers are
 pub same_is : (a b : Qualifiers) → is_same_txn a b ≡ true → a ≡ b

@@ -1,12 +1,13 @@
 -- Sides that are filed by their transactions.
-use Rattle.std.proofs.Common.{◌≡◌, ℕ, ◌<◌, nat_lt, length, drop, map, Bool, true, false, cond, if◌then◌else◌, not, List, [], ◌∷◌, ◌++◌, Option, Some, None, Err, is_some, is_none, refl, ap, sym, subst, ◌∙◌, true≢false, rules, arith, length-append}
+use Rattle.std.proofs.Common.{◌≡◌, ℕ, ◌<◌, nat_lt, length, drop, map, Bool, true, false, cond, if◌then◌else◌, not, ◌&&◌, ◌⊎◌, inl, inr, Ok, List, [], ◌∷◌, ◌++◌, Option, Some, None, Err, is_some, is_none, refl, ap, sym, subst, ◌∙◌, true≢false, rules, arith, length-append}
 use Rattle.std.specs.List.{list_all}
-use Rattle.std.specs.Map.{keys_of, values_of, lookup}
+use Rattle.std.specs.Prelude.{option_map, ◌≤◌, Result}
+use Rattle.std.proofs.lemmas.Map.{keys-set_value}
+use Rattle.std.specs.Map.{keys_of, values_of, lookup, set_value}
 use Rattle.std.proofs.Math.ListN.{get_or}
 use Rattle.std.proofs.lemmas.Bool.{and_parts, and_from}
-use Rattle.std.proofs.lemmas.List.{map-append}
+use Rattle.std.proofs.lemmas.List.{map-append, length-map}
 use Rattle.std.proofs.lemmas.List.Folds.{list_all-append}
-use Rattle.std.proofs.lemmas.Slice.Eq.{bytes_eq-Decides}
 use Rattle.ill_values.specs.TxnId.{Qualifiers}
 use Rattle.ill_core.specs.Issued.{is_same_txn}
 use Rattle.ill_saved.specs.declared.role.Role.{Role}
@@ -14,24 +15,17 @@ use Rattle.ill_saved.specs.declared.side.Side.{Side}
 use Rattle.ill_saved.specs.declared.fault.SidesFault.{SidesFault}
 use Rattle.ill_saved.specs.declared.fault.SidesFault.TheVariants as faults
 use Rattle.ill_saved.specs.Side.{role_of, txn_of, is_idle}
+use Rattle.ill_saved.specs.declared.side.Side.TheVariants as sides
+use Rattle.ill_saved.specs.declared.side.Action.{Action}
+use Rattle.ill_values.specs.declared.apdu.Apdu.{Apdu}
+use Rattle.ill_core.specs.declared.refusal.Refusal.{Refusal}
+use Rattle.ill_core.specs.declared.refusal.Refusal.TheVariants as refusals
+use Rattle.ill_core.specs.declared.taking.Taking.{Taking}
+use Rattle.ill_saved.specs.Side.{idle_of, IsRow, acted, took, Acts, Takes}
+use Rattle.ill_saved.specs.Sides.{found_by, put_by, OnlyThat, OnlyThatEntry}
+use Rattle.ill_saved.proofs.Desks.{RowsGrow}
+use Rattle.ill_saved.proofs.Finding.{apart_back, found_is, found_mapped, found_passes, keys_put, put_passes, not_true}
 use Rattle.ill_saved.specs.Sides.{SidesOf, AreFiled, side_with, is_same_role, may_stand, are_apart, most_sides, put_refusal, Puts}
-
--- two ids are the same exactly where their qualifiers are
-pub same_is : (a b : Qualifiers) → is_same_txn a b ≡ true → a ≡ b
-same_is a b same =
-    let parts = and_parts _ _ same in
-    let group : a.group ≡ b.group = (bytes_eq-Decides a.group b.group).0 parts.0 in
-    let transaction : a.transaction ≡ b.transaction = (bytes_eq-Decides a.transaction b.transaction).0 parts.1 in
-    λ i. record { group = group i; transaction = transaction i }
-
-pub apart_back : (a b : Qualifiers) → is_same_txn a b ≡ false → is_same_txn b a ≡ false
-apart_back a b apart = by (is_same_txn b a) refl
-  where
-    by : (same : Bool) → is_same_txn b a ≡ same → same ≡ false
-    by true same =
-        let is : b ≡ a = same_is b a same in
-        absurd (true≢false (sym (subst (λ t. is_same_txn a t ≡ true) (sym is) (subst (λ t. is_same_txn t a ≡ true) is same)) ∙ apart))
-    by false same = refl
 
 -- what is filed under a transaction is the side of it
 pub filed_with : (txn : Qualifiers) (entries : List (Qualifiers × Side)) → keys_of entries ≡ map txn_of (values_of entries)
@@ -79,6 +73,12 @@ not_refused of_role idle twice room none = search rules
 pub not_some : (found : Option Side) → is_some found ≡ false → found ≡ None
 not_some None none = refl
 not_some (Some side) none = absurd (true≢false none)
+
+-- of a side that may be put, none of its transaction is there
+pub new_to : (held : SidesOf) (side : Side) → put_refusal held side ≡ None → side_with (txn_of side) held.sides ≡ None
+new_to held side none =
+    not_some (side_with (txn_of side) held.sides)
+    (not_refused (is_same_role held.role (role_of side)) (is_idle side) (is_some (side_with (txn_of side) held.sides)) (nat_lt (length held.sides) most_sides) none).2
 
 below : (a b : ℕ) → nat_lt a b ≡ true → a < b
 below a b less = search rules
@@ -144,3 +144,130 @@ module _ (role : Role) (entries : List (Qualifiers × Side)) (side : Side)
   -- where it is not filed, all is as before
   pub filed_still : (new : List (Qualifiers × Side)) → new ≡ entries → AreFiled (keys_of new) (record { role = role; sides = values_of new })
   filed_still new same = subst (λ es. AreFiled (keys_of es) (record { role = role; sides = values_of es })) (sym same) filed
+
+-- ---- one of the sides that are filed is changed
+
+pub idle_txn : (side : Side) → txn_of (idle_of side) ≡ txn_of side
+idle_txn (sides.Requester x) = refl
+idle_txn (sides.Responder y) = refl
+
+pub idle_role : (side : Side) → role_of (idle_of side) ≡ role_of side
+idle_role (sides.Requester x) = refl
+idle_role (sides.Responder y) = refl
+
+-- no two ids are the same
+unfoldable are_other : List Qualifiers → Bool
+are_other [] = true
+are_other (txn ∷ txns) = is_none (found_by (λ t. t) txn txns) && are_other txns
+
+mapped_none : (txn : Qualifiers) (found : Option Side) → is_none (option_map txn_of found) ≡ is_none found
+mapped_none txn None = refl
+mapped_none txn (Some side) = refl
+
+-- sides are apart by their transactions alone
+apart_by_txns : (sides : List Side) → are_apart sides ≡ are_other (map txn_of sides)
+unfolding side_with are_apart are_other
+apart_by_txns [] = refl
+apart_by_txns (side ∷ sides) =
+    ap (λ b. b && are_apart sides) (sym (ap is_none (found_mapped txn_of (λ t. t) txn_of (λ s. refl) (txn_of side) sides) ∙ mapped_none (txn_of side) (found_by txn_of (txn_of side) sides)))
+    ∙ ap (λ b. is_none (found_by (λ t. t) (txn_of side) (map txn_of sides)) && b) (apart_by_txns sides)
+
+set_first : (test : Bool) (e : Qualifiers × Side) (after side : Side) (found : Option Side) (set_on : List (Qualifiers × Side)) (entries : List (Qualifiers × Side)) (put_on : List Side) → cond test (Some e.1) found ≡ Some side
+    → (found ≡ Some side → values_of set_on ≡ put_on) → values_of (cond test ((e.0, after) ∷ entries) (e ∷ set_on)) ≡ cond test (after ∷ values_of entries) (e.1 ∷ put_on)
+set_first true e after side found set_on entries put_on there further = refl
+set_first false e after side found set_on entries put_on there further = ap (λ vs. e.1 ∷ vs) (further there)
+
+-- the side of the transaction is put in the place of the one before it
+values_set : (txn : Qualifiers) (after side : Side) (entries : List (Qualifiers × Side)) → txn ≡ txn_of after → keys_of entries ≡ map txn_of (values_of entries) → lookup (is_same_txn txn) entries ≡ Some side
+    → values_of (set_value (is_same_txn txn) entries after) ≡ put_by txn_of after (values_of entries)
+unfolding put_by
+values_set txn after side [] of_txn keyed there = absurd (true≢false (sym (ap is_some there)))
+values_set txn after side (e ∷ entries) of_txn keyed there =
+    let first : e.0 ≡ txn_of e.1 = ap (λ ids. get_or ids 0 e.0) keyed in
+    let others : keys_of entries ≡ map txn_of (values_of entries) = ap (λ ids. drop 1 ids) keyed in
+    let put_on = put_by txn_of after (values_of entries) in
+    set_first (is_same_txn txn e.0) e after side (lookup (is_same_txn txn) entries) (set_value (is_same_txn txn) entries after) entries put_on there (values_set txn after side entries of_txn others)
+    ∙ ap (λ t. cond (is_same_txn t e.0) (after ∷ values_of entries) (e.1 ∷ put_on)) of_txn ∙ ap (λ t. cond (is_same_txn (txn_of after) t) (after ∷ values_of entries) (e.1 ∷ put_on)) first
+
+pub found_plainly : (txn : Qualifiers) (sides : List Side) (side : Side) → side_with txn sides ≡ Some side → found_by txn_of txn sides ≡ Some side
+unfolding side_with
+found_plainly txn sides side found = found
+
+-- what one side does to itself: it keeps its role and transaction, and is idle no more than before
+record Stays (old new : Side) : Type 0 where
+  idle : idle_of new ≡ idle_of old
+  begun : is_idle old ≡ false → is_idle new ≡ false
+
+module _ (role : Role) (entries : List (Qualifiers × Side)) (filed : AreFiled (keys_of entries) (record { role = role; sides = values_of entries }))
+    (txn : Qualifiers) (side after : Side) (there : lookup (is_same_txn txn) entries ≡ Some side) (stays : Stays side after) where
+  found : found_by txn_of txn (values_of entries) ≡ Some side
+  unfolding side_with
+  found = sym (filed_with txn entries filed.keys) ∙ there
+
+  of_txn : txn ≡ txn_of after
+  of_txn = found_is txn_of txn (values_of entries) side found ∙ sym (idle_txn side) ∙ ap txn_of (sym stays.idle) ∙ idle_txn after
+
+  values_put : values_of (set_value (is_same_txn txn) entries after) ≡ put_by txn_of after (values_of entries)
+  values_put = values_set txn after side entries of_txn filed.keys there
+
+  same_txns : map txn_of (put_by txn_of after (values_of entries)) ≡ map txn_of (values_of entries)
+  same_txns = keys_put txn_of after side (values_of entries) (ap (λ t. found_by txn_of t (values_of entries)) (sym of_txn) ∙ found)
+
+  -- the side may stand where it stood
+  stands : may_stand role after ≡ true
+  stands =
+      let held = and_parts _ _ filed.held in
+      let stood = and_parts _ _ (found_passes txn_of (may_stand role) txn (values_of entries) side held.0 found) in
+      let same : role_of after ≡ role_of side = sym (idle_role after) ∙ ap role_of stays.idle ∙ idle_role side in
+      and_from _ _ (ap (is_same_role role) same ∙ stood.0) (ap not (stays.begun (not_true _ stood.1)))
+
+  filed_changed : (new : List (Qualifiers × Side)) → new ≡ set_value (is_same_txn txn) entries after → AreFiled (keys_of new) (record { role = role; sides = values_of new })
+  filed_changed new changed =
+      let held = and_parts _ _ filed.held in
+      let values : values_of new ≡ put_by txn_of after (values_of entries) = ap values_of changed ∙ values_put in
+      let keys : keys_of new ≡ map txn_of (put_by txn_of after (values_of entries)) = ap keys_of changed ∙ keys-set_value (is_same_txn txn) entries after ∙ filed.keys ∙ sym same_txns in
+      let apart : are_apart (put_by txn_of after (values_of entries)) ≡ true =
+      apart_by_txns (put_by txn_of after (values_of entries)) ∙ ap are_other same_txns ∙ sym (apart_by_txns (values_of entries)) ∙ held.1 in
+      subst (λ vs. AreFiled (keys_of new) (record { role = role; sides = vs })) (sym values) (record {
+        keys = keys;
+        held = and_from _ _ (put_passes txn_of (may_stand role) after (values_of entries) stands held.0) apart;
+        few = subst (λ n. n ≤ most_sides) (sym (length-map (values_of entries) txn_of) ∙ ap length (sym same_txns) ∙ length-map (put_by txn_of after (values_of entries)) txn_of) filed.few;
+      })
+
+-- ---- a side is changed, or none is found
+
+-- what a side does to itself is a row, or nothing
+pub acts_row : (old new : Side) (action : Action) (answer : Result (Unit {0}) Refusal) → Acts old action answer new → IsRow old new ⊎ (new ≡ old)
+acts_row old new action (Ok done) acts = inl (acted action acts)
+acts_row old new action (Err refusals.OutOfMemory) acts = inr acts.1
+acts_row old new action (Err refusal) acts = inr acts.1
+
+pub takes_row : (old new : Side) (a : Apdu) (answer : Result Taking Refusal) → Takes old a answer new → IsRow old new ⊎ (new ≡ old)
+takes_row old new a (Err refusals.OutOfMemory) takes = inr takes.2
+takes_row old new a answer takes = inl (took a (ap (λ (r : Result Taking Refusal × Side). r.1) takes))
+
+-- every row grows, and leaves no side idle that was not
+abbrev pub RowsStay : Type 0
+RowsStay = (old new : Side) → IsRow old new → is_idle old ≡ false → is_idle new ≡ false
+
+stays_by : RowsGrow → RowsStay → (old new : Side) → IsRow old new ⊎ (new ≡ old) → Stays old new
+stays_by grows begins old new (inl row) = record { idle = (grows old new row).0; begun = begins old new row }
+stays_by grows begins old new (inr same) = record { idle = ap idle_of same; begun = λ begun. ap is_idle same ∙ begun }
+
+module _ (grows : RowsGrow) (begins : RowsStay) {A : Type 0} (Does : Side → A → Side → Type 0) (rows : (old new : Side) (answer : A) → Does old answer new → IsRow old new ⊎ (new ≡ old))
+    (role : Role) (txn : Qualifiers) (entries : List (Qualifiers × Side)) (filed : AreFiled (keys_of entries) (record { role = role; sides = values_of entries })) where
+  pub filed_on : (answer : Option A) (new : List (Qualifiers × Side)) → OnlyThatEntry Does txn entries answer new → AreFiled (keys_of new) (record { role = role; sides = values_of new })
+  filed_on None new only = subst (λ es. AreFiled (keys_of es) (record { role = role; sides = values_of es })) (sym only.1) filed
+  filed_on (Some answer) new (side, after, there, does, changed) =
+      filed_changed role entries filed txn side after there (stays_by grows begins side after (rows side after answer does)) new changed
+
+  pub only_that : (answer : Option A) (new : List (Qualifiers × Side)) → OnlyThatEntry Does txn entries answer new
+      → OnlyThat Does txn (record { role = role; sides = values_of entries }) answer (record { role = role; sides = values_of new })
+  only_that None new only = (sym (filed_with txn entries filed.keys) ∙ only.0, ap (λ es. record { role = role; sides = values_of es }) only.1)
+  only_that (Some answer) new (side, after, there, does, changed) = (
+    side,
+    after,
+    sym (filed_with txn entries filed.keys) ∙ there,
+    does,
+    ap (λ vs. record { role = role; sides = vs }) (ap values_of changed ∙ values_put role entries filed txn side after there (stays_by grows begins side after (rows side after answer does))),
+  )

@@ -6,10 +6,11 @@ pub mod Fields
 pub mod RecordLaws
 pub mod SidesLaws
 pub mod Roles
+pub mod Finding
 pub mod Held
 pub mod Together
 pub mod Desks
+pub mod Holdings
 pub mod Files
 pub mod Sizes
 pub mod Places
-pub mod Finding

@@ -20,7 +20,7 @@ use Rattle.ill_saved.specs.Records.{role, front, start, has_front, has_front_beh
 use Rattle.ill_saved.specs.Records2.{part, side_count, role_and_sides, unsealed, together, judged_together, sides_at, read_alone, is_version_1, has_count, records_at, begins_as_records, PutsRead}
 use Rattle.ill_saved.proofs.Steps.{bind_ok}
 use Rattle.ill_saved.proofs.Records.{judged_ok}
-use Rattle.ill_saved.proofs.Held.{apart_back}
+use Rattle.ill_saved.proofs.Finding.{apart_back}
 
 -- ---- holding together
 

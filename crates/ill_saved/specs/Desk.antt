@@ -119,17 +119,20 @@ IsSaveFault (Err other) = ⊥
 
 -- ---- loading
 
--- What the store of a desk gives, of an honest one: the consistent side that has landed, if any, or
--- a fault.
+-- What the store of a desk gives, of an honest one: what has landed, if anything, as it is read, or a fault.
+abbrev pub Loads : {V : Type 0} → (List ℕ → Result V RecordFault) → (List ℕ → Bool) → Option (List ℕ) →
+    Option NextCall → Result (Option V) DeskFault → Type 0
+Loads read begins None plan (Ok None) = Allows {X = Unit {0}} plan (Ok tt)
+Loads read begins (Some bytes) plan (Ok (Some value)) =
+    (read bytes ≡ Ok value) × Allows {X = Unit {0}} plan (Ok tt)
+Loads read begins landed plan (Err (Store fault)) = Allows {X = Unit {0}} plan (Err fault)
+Loads read begins (Some bytes) plan (Err (Saved fault)) =
+    Decodes (read bytes) (begins bytes) (Err fault) × Allows {X = Unit {0}} plan (Ok tt)
+Loads read begins landed plan (Err OutOfMemory) = Unit {0}
+Loads read begins landed plan answer = ⊥
+
 abbrev pub LoadsSide : Option (List ℕ) → Option NextCall → Result (Option Side) DeskFault → Type 0
-LoadsSide None plan (Ok None) = Allows {X = Unit {0}} plan (Ok tt)
-LoadsSide (Some bytes) plan (Ok (Some side)) =
-    (record_at bytes ≡ Ok side) × IsConsistent side × Allows {X = Unit {0}} plan (Ok tt)
-LoadsSide landed plan (Err (Store fault)) = Allows {X = Unit {0}} plan (Err fault)
-LoadsSide (Some bytes) plan (Err (Saved fault)) =
-    Decodes (record_at bytes) (begins_as_record bytes) (Err fault) × Allows {X = Unit {0}} plan (Ok tt)
-LoadsSide landed plan (Err OutOfMemory) = Unit {0}
-LoadsSide landed plan answer = ⊥
+LoadsSide landed plan answer = Loads record_at begins_as_record landed plan answer
 
 -- the only faults of loading
 abbrev pub IsLoadFault : DeskFault → Type 0
@@ -141,9 +144,9 @@ IsLoadFault (Saved records.Inconsistent) = Unit {0}
 IsLoadFault OutOfMemory = Unit {0}
 IsLoadFault other = ⊥
 
--- What a restart answers, of an honest store: the side that has landed, or a fault of the store.
-abbrev pub Restarts : Result Side RecordFault → Option NextCall → Result (Unit {0}) DeskFault → Side →
-    Type 0
+-- What a restart answers, of an honest store: what has landed, or a fault of the store.
+abbrev pub Restarts : {V : Type 0} → Result V RecordFault → Option NextCall → Result (Unit {0}) DeskFault →
+    V → Type 0
 Restarts landed plan (Ok done) new = (landed ≡ Ok new) × Allows {X = Unit {0}} plan (Ok tt)
 Restarts landed plan (Err (Store fault)) new = Allows {X = Unit {0}} plan (Err fault)
 Restarts landed plan (Err OutOfMemory) new = Unit {0}
@@ -170,14 +173,17 @@ CountsDeskFailure answer old new = (old ≤ new) × DeskFailsCounted answer old 
 -- ---- beginning
 
 -- what a call answers that hands the store back with a fault
-abbrev pub answer_of : {S F : Type 0} → Result (DeskOf S) (F × S) → Result (Unit {0}) F
+abbrev pub answer_of : {D S F : Type 0} → Result D (F × S) → Result (Unit {0}) F
 answer_of (Ok desk) = Ok tt
 answer_of (Err fault) = Err fault.0
 
 -- the store after it
+abbrev pub store_after : {D S F : Type 0} → (D → S) → Result D (F × S) → S
+store_after store (Ok desk) = store desk
+store_after store (Err fault) = fault.1
+
 abbrev pub store_of : {S F : Type 0} → Result (DeskOf S) (F × S) → S
-store_of (Ok desk) = desk.store
-store_of (Err fault) = fault.1
+store_of answer = store_after (λ desk. desk.store) answer
 
 -- What creating a desk answers, over an honest store: done where nothing has landed.
 abbrev pub Creates : Option (List ℕ) → Option NextCall → Result (Unit {0}) DeskFault → Type 0
@@ -195,18 +201,21 @@ IsCreateAnswer (Err (Store stores.TooLarge)) = Unit {0}
 IsCreateAnswer (Err OutOfMemory) = Unit {0}
 IsCreateAnswer (Err other) = ⊥
 
--- What starting a desk answers, over an honest store: the consistent side that has landed.
+-- What starting a desk answers, over an honest store: what has landed, as it is read.
+abbrev pub Begins : {V D S : Type 0} → (List ℕ → Result V RecordFault) → (List ℕ → Bool) → (D → V) →
+    Option (List ℕ) → Option NextCall → Result D (DeskFault × S) → Type 0
+Begins read begins live (Some bytes) plan (Ok desk) =
+    (read bytes ≡ Ok (live desk)) × Allows {X = Unit {0}} plan (Ok tt)
+Begins read begins live None plan (Err (NoRecord, store)) = Allows {X = Unit {0}} plan (Ok tt)
+Begins read begins live landed plan (Err (Store fault, store)) = Allows {X = Unit {0}} plan (Err fault)
+Begins read begins live (Some bytes) plan (Err (Saved fault, store)) =
+    Decodes (read bytes) (begins bytes) (Err fault) × Allows {X = Unit {0}} plan (Ok tt)
+Begins read begins live landed plan (Err (OutOfMemory, store)) = Unit {0}
+Begins read begins live landed plan answer = ⊥
+
 abbrev pub Starts : {S : Type 0} → Option (List ℕ) → Option NextCall →
-    Result (DeskOf S) (DeskFault × S) →
-    Type 0
-Starts (Some bytes) plan (Ok desk) =
-    (record_at bytes ≡ Ok desk.live) × IsConsistent desk.live × Allows {X = Unit {0}} plan (Ok tt)
-Starts None plan (Err (NoRecord, store)) = Allows {X = Unit {0}} plan (Ok tt)
-Starts landed plan (Err (Store fault, store)) = Allows {X = Unit {0}} plan (Err fault)
-Starts (Some bytes) plan (Err (Saved fault, store)) =
-    Decodes (record_at bytes) (begins_as_record bytes) (Err fault) × Allows {X = Unit {0}} plan (Ok tt)
-Starts landed plan (Err (OutOfMemory, store)) = Unit {0}
-Starts landed plan answer = ⊥
+    Result (DeskOf S) (DeskFault × S) → Type 0
+Starts landed plan answer = Begins record_at begins_as_record (λ desk. desk.live) landed plan answer
 
 abbrev pub IsStartAnswer : Result (Unit {0}) DeskFault → Type 0
 IsStartAnswer (Ok done) = Unit {0}

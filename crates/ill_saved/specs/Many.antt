@@ -1,11 +1,10 @@
 -- A desk of many transactions: the sides of one library, all of one role, with their store (this profile's own).
 -- A side that is not held is an idle one of which no message may be sent.
-use Rattle.std.specs.Prelude.{◌≡◌, ℕ, nat_le, nat_lt, Bool, true, false, not, List, [], ◌∷◌, length, map, find, Option, Some, None, is_ok, Result, Ok, Err, if◌then◌else◌}
+use Rattle.std.specs.Prelude.{◌≡◌, ℕ, nat_le, nat_lt, Bool, true, false, not, List, [], ◌∷◌, length, map, Option, Some, None, is_ok, Result, Ok, Err, if◌then◌else◌}
 use Rattle.ill_values.specs.TxnId.{Qualifiers}
 use Rattle.ill_values.specs.declared.apdu.Apdu.{Apdu}
 use Rattle.ill_values.specs.declared.apdu.Body.{Body}
 use Rattle.ill_der.specs.declared.fault.DerFault.{DerFault}
-use Rattle.ill_core.specs.declared.requester.Wish.TheVariants.{Request}
 use Rattle.ill_core.specs.declared.refusal.Refusal.{Refusal}
 use Rattle.ill_core.specs.declared.refusal.Refusal.TheVariants.{WrongRole}
 use Rattle.ill_core.specs.declared.taking.Taking.{Taking}
@@ -16,12 +15,17 @@ use Rattle.ill_saved.specs.declared.role.Role.{Role}
 use Rattle.ill_saved.specs.declared.role.Role.TheVariants.{Requester, Responder}
 use Rattle.ill_saved.specs.declared.side.Side.{Side}
 use Rattle.ill_saved.specs.declared.side.Action.{Action}
-use Rattle.ill_saved.specs.declared.side.Action.TheVariants.{Wish, Deed}
 use Rattle.ill_saved.specs.declared.fault.DeskFault.{DeskFault}
-use Rattle.ill_saved.specs.declared.fault.DeskFault.TheVariants.{Core, Bytes, Trailing, NoSuchTransaction, DeskFull, OutOfMemory}
-use Rattle.ill_saved.specs.Side.{issued_of, txn_of, idle_side, acts, takes, takes_memory}
+use Rattle.ill_saved.specs.declared.fault.DeskFault.TheVariants.{Core, Bytes, Trailing, NoRecord, NoSuchTransaction, DeskFull, Saved, OutOfMemory}
+use Rattle.ill_saved.specs.Side.{issued_of, txn_of, idle_side, role_for, begins, acts, takes, takes_memory}
+pub use Rattle.ill_saved.specs.Sides.{found_by, put_by}
 use Rattle.ill_saved.specs.Sides.{SidesOf, is_same_role, most_sides, side_with}
-use Rattle.ill_saved.specs.Desk.{IsBackedBy, Sends}
+use Rattle.ill_saved.specs.declared.store.NextCall.{NextCall}
+use Rattle.ill_saved.specs.declared.fault.RecordFault.{RecordFault}
+use Rattle.ill_saved.specs.declared.fault.RecordFault.TheVariants as records
+use Rattle.ill_saved.specs.Records.{Decodes}
+use Rattle.ill_saved.specs.Records2.{AreSides, records_at, begins_as_records}
+use Rattle.ill_saved.specs.Desk.{Begins, IsBackedBy, IsLoadFault, Sends, store_after}
 
 -- a side that is held, and how many of its messages may be sent
 pub record Held : Type 0 where
@@ -38,17 +42,16 @@ pub record ManyOf (S : Type 0) : Type 0 where
   pub live : Holding
   pub store : S
 
--- ---- finding and keeping by a transaction
+-- ---- the side of a transaction
 
--- of items that name a transaction each, the one of this transaction
-abbrev pub found_by : {X : Type 0} → (X → Qualifiers) → Qualifiers → List X → Option X
-found_by key txn items = find (λ item. is_same_txn txn (key item)) items
+-- how many messages each has issued
+abbrev pub counts : List Side → List ℕ
+counts sides = map (λ side. length (issued_of side)) sides
 
--- the items with this one in place of the one of its transaction, or behind them where there is none
-unfoldable pub put_by : {X : Type 0} → (X → Qualifiers) → X → List X → List X
-put_by key new [] = new ∷ []
-put_by key new (item ∷ items) =
-    if is_same_txn (key new) (key item) then new ∷ items else item ∷ put_by key new items
+-- each side with its count
+unfoldable pub held_of : List Side → List ℕ → List Held
+held_of (side ∷ sides) (count ∷ counts) = record { side = side; released = count } ∷ held_of sides counts
+held_of sides counts = []
 
 abbrev pub txn_held : Held → Qualifiers
 txn_held held = txn_of held.side
@@ -83,16 +86,6 @@ abbrev pub whole_of : SidesOf → Holding
 whole_of all = record { role = all.role; held = map whole all.sides }
 
 -- ---- actions and messages
-
--- the role that an action is for
-abbrev pub role_for : Action → Role
-role_for (Wish wish) = Requester
-role_for (Deed deed today) = Responder
-
--- A request begins a requester's transaction; an ILL-Request, a responder's.
-abbrev pub begins : Action → Bool
-begins (Wish (Request expiry item)) = true
-begins action = false
 
 -- whether a side of this role issues APDUs of this type
 abbrev pub is_own : Role → Body → Bool
@@ -167,7 +160,25 @@ SendsHeld view None number answer = answer ≡ Err NoSuchTransaction
 SendsHeld view (Some held) number answer =
     Sends view (message (issued_of held.side) number) (nat_le number held.released) answer
 
+-- whether a transaction may begin
+abbrev pub MayBegin : Bool → Bool → Result (Unit {0}) DeskFault → Type 0
+MayBegin begins has_room (Ok done) = (begins ≡ true) × (has_room ≡ true)
+MayBegin begins has_room (Err NoSuchTransaction) = begins ≡ false
+MayBegin begins has_room (Err DeskFull) = (begins ≡ true) × (has_room ≡ false)
+MayBegin begins has_room (Err fault) = ⊥
+
 -- ---- what has landed
+
+-- the only faults of loading: a record of many sides has a digest besides
+abbrev pub IsManyLoadFault : DeskFault → Type 0
+IsManyLoadFault (Saved records.Digest) = Unit {0}
+IsManyLoadFault fault = IsLoadFault fault
+
+-- what starting a desk may answer
+abbrev pub IsStartOfMany : Result (Unit {0}) DeskFault → Type 0
+IsStartOfMany (Ok done) = Unit {0}
+IsStartOfMany (Err NoRecord) = Unit {0}
+IsStartOfMany (Err fault) = IsManyLoadFault fault
 
 -- the side of this transaction among those that have landed, or an idle one
 abbrev pub landed_for : Qualifiers → SidesOf → Side
@@ -177,3 +188,68 @@ landed_for txn all = found_or (idle_side all.role txn) (side_with txn all.sides)
 pub record AreBackedBy (landed : SidesOf) (live : Holding) : Type 0 where
   pub role : landed.role ≡ live.role
   pub each : (txn : Qualifiers) → IsBackedBy (landed_for txn landed) (held_for txn live).side (held_for txn live).released
+
+abbrev pub AreBackedByRead : Result SidesOf RecordFault → Holding → Type 0
+AreBackedByRead (Ok landed) live = AreBackedBy landed live
+AreBackedByRead (Err fault) live = ⊥
+
+-- the sides that landed bytes stand for: none where nothing has landed
+abbrev pub landed_sides : Option (List ℕ) → Role → Result SidesOf RecordFault
+landed_sides None role = Ok (record { role = role; sides = [] })
+landed_sides (Some bytes) role = records_at bytes
+
+abbrev pub AreBacked : Option (List ℕ) → Holding → Type 0
+AreBacked landed live = AreBackedByRead (landed_sides landed live.role) live
+
+-- after a save all messages are released; after a fault those that were
+abbrev pub holding_after : Result (Unit {0}) DeskFault → Holding → Holding
+holding_after (Ok done) live = whole_of (sides_held live)
+holding_after (Err fault) live = live
+
+-- once they could be spelled for their store, the parts of all are in range
+abbrev pub WereSpelled : Result (Unit {0}) DeskFault → Holding → Type 0
+WereSpelled (Err OutOfMemory) live = Unit {0}
+WereSpelled answer live = AreSides (sides_held live)
+
+-- all messages may be sent
+abbrev pub AreWhole : {S : Type 0} → ManyOf S → Type 0
+AreWhole desk = desk.live ≡ whole_of (sides_held desk.live)
+
+-- what a restart leaves
+abbrev pub ManyRestartLeaves : {S : Type 0} → Result (Unit {0}) DeskFault → ManyOf S → ManyOf S → Type 0
+ManyRestartLeaves (Ok done) old new = AreWhole new
+ManyRestartLeaves (Err fault) old new = (new.live ≡ old.live) × IsManyLoadFault fault
+
+-- what bytes are read as
+abbrev pub LoadsSides : List ℕ → Result SidesOf DeskFault → Type 0
+LoadsSides bytes (Ok all) = records_at bytes ≡ Ok all
+LoadsSides bytes (Err (Saved fault)) = Decodes (records_at bytes) (begins_as_records bytes) (Err fault)
+LoadsSides bytes (Err OutOfMemory) = Unit {0}
+LoadsSides bytes (Err other) = ⊥
+
+-- What an idle side does first, and how it stands then. Memory is wanted only where it would do it.
+abbrev pub FirstActs : Side → Action → Result Side DeskFault → Type 0
+FirstActs idle action (Ok new) = acts idle action ≡ Ok new
+FirstActs idle action (Err OutOfMemory) = is_ok (acts idle action) ≡ true
+FirstActs idle action (Err fault) = ⊥
+
+abbrev pub FirstTakes : Side → Apdu → Result Side DeskFault → Type 0
+FirstTakes idle a (Ok new) = takes idle a ≡ (Ok Taken, new)
+FirstTakes idle a (Err OutOfMemory) = Unit {0}
+FirstTakes idle a (Err fault) = ⊥
+
+-- where there are no bytes, none of the role
+abbrev pub LoadsOrNone : Option (List ℕ) → Role → Result SidesOf DeskFault → Type 0
+LoadsOrNone (Some bytes) role answer = LoadsSides bytes answer
+LoadsOrNone None role (Ok all) = all ≡ record { role = role; sides = [] }
+LoadsOrNone None role (Err fault) = fault ≡ OutOfMemory
+
+-- the store after a call that hands it back with a fault
+abbrev pub many_store_of : {S F : Type 0} → Result (ManyOf S) (F × S) → S
+many_store_of answer = store_after (λ desk. desk.store) answer
+
+-- What starting a desk answers, over an honest store: the sides that have landed.
+abbrev pub StartsMany : {S : Type 0} → Option (List ℕ) → Option NextCall → Result (ManyOf S) (DeskFault × S) →
+    Type 0
+StartsMany landed plan answer =
+    Begins records_at begins_as_records (λ desk. sides_held desk.live) landed plan answer

@@ -8,6 +8,7 @@ use Rattle.ill_core.specs.declared.state.State.{State}
 use Rattle.ill_core.specs.declared.state.State.TheVariants.{Idle}
 use Rattle.ill_core.specs.declared.refusal.Refusal.{Refusal}
 use Rattle.ill_core.specs.declared.refusal.Refusal.TheVariants as refusals
+use Rattle.ill_core.specs.declared.requester.Wish.TheVariants as wishes
 use Rattle.ill_core.specs.declared.taking.Taking.{Taking}
 use Rattle.ill_core.specs.declared.taking.Taking.TheVariants.{Taken}
 use Rattle.ill_core.specs.State.{is_among}
@@ -99,6 +100,16 @@ request_of (sides.Responder y) = y.request
 abbrev pub KeepsRequest : Side → Side → Type 0
 KeepsRequest old new =
     is_asked old ≡ true → (is_asked new ≡ true) × (request_of new ≡ request_of old)
+
+-- the role that an action is for
+abbrev pub role_for : Action → Role
+role_for (actions.Wish wish) = roles.Requester
+role_for (actions.Deed deed today) = roles.Responder
+
+-- A request begins a requester's transaction; an ILL-Request, a responder's.
+abbrev pub begins : Action → Bool
+begins (actions.Wish (wishes.Request expiry item)) = true
+begins action = false
 
 -- the side of this role and transaction before its first message
 abbrev pub idle_side : Role → Qualifiers → Side

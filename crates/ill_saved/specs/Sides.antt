@@ -1,6 +1,7 @@
 -- The sides of one library: one in each of many transactions, all of one role (this profile's own).
 use Rattle.std.specs.Prelude.{◌≡◌, ℕ, ◌≤◌, nat_lt, Bool, true, false, not, ◌&&◌, if◌then◌else◌, List, [], ◌∷◌, ◌++◌, length, map, find, Option, Some, None, is_some, is_none, Result, Ok, Err}
 use Rattle.std.specs.List.{list_all}
+use Rattle.std.specs.Map.{lookup, set_value}
 use Rattle.ill_values.specs.TxnId.{Qualifiers}
 use Rattle.ill_core.specs.Issued.{is_same_txn}
 use Rattle.ill_saved.specs.declared.role.Role.{Role}
@@ -19,9 +20,19 @@ pub record SidesOf : Type 0 where
 abbrev pub most_sides : ℕ
 most_sides = 1000
 
--- the side of this transaction, which both of its qualifiers name
+-- of items that name a transaction each, the one of this transaction: both of its qualifiers name it
+abbrev pub found_by : {X : Type 0} → (X → Qualifiers) → Qualifiers → List X → Option X
+found_by key txn items = find (λ item. is_same_txn txn (key item)) items
+
+-- the items with this one in place of the one of its transaction, or behind them where there is none
+unfoldable pub put_by : {X : Type 0} → (X → Qualifiers) → X → List X → List X
+put_by key new [] = new ∷ []
+put_by key new (item ∷ items) =
+    if is_same_txn (key new) (key item) then new ∷ items else item ∷ put_by key new items
+
+-- the side of this transaction
 unfoldable pub side_with : Qualifiers → List Side → Option Side
-side_with txn sides = find (λ side. is_same_txn txn (txn_of side)) sides
+side_with txn sides = found_by txn_of txn sides
 
 abbrev pub is_same_role : Role → Role → Bool
 is_same_role roles.Requester roles.Requester = true
@@ -67,3 +78,20 @@ Puts old side (Err (faults.OutOfMemory, back)) new =
     (put_refusal old side ≡ None) × (back ≡ side) × (new ≡ old)
 Puts old side (Err (fault, back)) new =
     (put_refusal old side ≡ Some fault) × (back ≡ side) × (new ≡ old)
+
+-- Where the side of a transaction is held, it does something and answers, and the others stay. Where none is,
+-- all stay.
+abbrev pub OnlyThat : {A : Type 0} → (Side → A → Side → Type 0) → Qualifiers → SidesOf → Option A → SidesOf →
+    Type 0
+OnlyThat Does txn old None new = (side_with txn old.sides ≡ None) × (new ≡ old)
+OnlyThat Does txn old (Some answer) new =
+    (side : Side) × (after : Side) × (side_with txn old.sides ≡ Some side) × Does side answer after
+    × (new ≡ record { role = old.role; sides = put_by txn_of after old.sides })
+
+-- the same of entries, each filed under its transaction
+abbrev pub OnlyThatEntry : {A : Type 0} → (Side → A → Side → Type 0) → Qualifiers → List (Qualifiers × Side) →
+    Option A → List (Qualifiers × Side) → Type 0
+OnlyThatEntry Does txn old None new = (lookup (is_same_txn txn) old ≡ None) × (new ≡ old)
+OnlyThatEntry Does txn old (Some answer) new =
+    (side : Side) × (after : Side) × (lookup (is_same_txn txn) old ≡ Some side) × Does side answer after
+    × (new ≡ set_value (is_same_txn txn) old after)

@@ -2,7 +2,7 @@
 
 ghost use Rattle.std.specs.Prelude.{◌≡◌, ◌≤◌, true, length, nat_le, option_map, IfOk, IfErr, IfSome};
 ghost use Rattle.ill_core.specs.Issued.{message};
-ghost use Rattle.ill_saved.specs.Side.{issued_of, idle_of};
+ghost use Rattle.ill_saved.specs.Side.{issued_of, idle_of, IsConsistent};
 ghost use Rattle.ill_saved.specs.Records.{record_spelling, record_at, begins_as_record, Decodes};
 ghost use Rattle.ill_saved.specs.Ranges.{IsSide};
 ghost use Rattle.ill_saved.specs.Desk.{DeskOf, IsBacked, DeskActs, DeskTakes, DeskTakesApdu, IsOneApdu, Sends, released_after, SaveLands, PlanAfter, IsSaveFault, landed_side, LoadsSide, IsLoadFault, Restarts, RestartLeaves, answer_of, store_of, Creates, IsCreateAnswer, Starts, IsStartAnswer, IsWhole, CountsDeskFailure, WasSpelled};
@@ -87,6 +87,7 @@ impl<S: Store> Desk1<S> {
     pub fn start(alloc: Global, store: S) -> Result<Desk1<S>, (DeskFault, S)>
         ensures starts { S.is_honest store ≡ true → Starts (S.landed store) (S.plan store) result }
         ensures whole { IfOk result IsWhole }
+        ensures rules { IfOk result (λ desk. IsConsistent desk.live) }
         ensures faults { IsStartAnswer (answer_of result) }
         ensures landed { S.is_honest store ≡ true → S.landed (store_of result) ≡ S.landed store }
         ensures plan { S.plan (store_of result) ≡ spent (S.plan store) }
@@ -243,7 +244,7 @@ impl Desk1<MemoryStore> {
 }
 
 /// The APDU that the bytes are.
-fn one_apdu(alloc: Global, bytes: &[u8]) -> Result<Apdu, DeskFault>
+pub(crate) fn one_apdu(alloc: Global, bytes: &[u8]) -> Result<Apdu, DeskFault>
     ensures { IsOneApdu (apdu_at bytes.now) result }
 {
     prefix_or_fault();

@@ -170,3 +170,11 @@ impl From<AllocError> for DeskFault {
         DeskFault::OutOfMemory
     }
 }
+
+impl<T: Drop> From<AllocFailed<T>> for DeskFault {
+    ghost from_gives = { λ _ fault. fault ≡ desks.OutOfMemory };
+
+    fn from(_error: AllocFailed<T>) -> DeskFault {
+        DeskFault::OutOfMemory
+    }
+}

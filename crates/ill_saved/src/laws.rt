@@ -1,9 +1,12 @@
 //! What holds of saved records, as contracts of functions that do nothing.
 
-ghost use Rattle.std.specs.Prelude.{◌≡◌, ℕ, ◌≤◌, List, false, length, Ok};
+ghost use Rattle.std.specs.Prelude.{◌≡◌, ℕ, ◌≤◌, List, false, length, Ok, Err};
 ghost use Rattle.ill_der.specs.Laws.{IsBytes};
+ghost use Rattle.ill_values.specs.declared.apdu.Apdu.{Apdu};
+ghost use Rattle.ill_core.specs.declared.refusal.Refusal.{Refusal};
 ghost use Rattle.ill_saved.specs.declared.side.Side.{Side};
-ghost use Rattle.ill_saved.specs.Side.{issued_of, IsRow, Grows, KeepsRequest, Follows, IsFrontOf};
+ghost use Rattle.ill_saved.specs.declared.side.Action.{Action};
+ghost use Rattle.ill_saved.specs.Side.{issued_of, is_idle, acts, takes, IsRow, Grows, KeepsRequest, Follows, IsFrontOf};
 ghost use Rattle.ill_saved.specs.Records.{side_spelled, record_at, record_spelling};
 ghost use Rattle.ill_saved.specs.Records2.{sides_spelling, is_version_1, records_at, AreSides};
 ghost use Rattle.ill_saved.specs.Ranges.{IsInRange, IsSide};
@@ -91,6 +94,25 @@ pub fn rows_keep_request()
     ensures { (old new : Side) → IsRow old new → KeepsRequest old new }
 {
     ill_core::laws::responder_keeps_request();
+}
+
+/// An action leaves no side idle, and neither does a message one that was not.
+pub fn rows_begin()
+    ensures acts { (old new : Side) (action : Action) → acts old action ≡ Ok new → is_idle new ≡ false }
+    ensures stays { (old new : Side) → IsRow old new → is_idle old ≡ false → is_idle new ≡ false }
+{
+    ill_core::laws::requester_has_begun();
+    ill_core::laws::responder_has_begun();
+    rows_keep_request();
+}
+
+/// A message that is refused changes nothing.
+pub fn refusals_stay()
+    ensures { (side : Side) (a : Apdu) (refusal : Refusal) → (takes side a).0 ≡ Err refusal →
+        (takes side a).1 ≡ side }
+{
+    ill_core::laws::requester_is_quiet();
+    ill_core::laws::responder_is_quiet();
 }
 
 /// What a side has issued is the front of what a side that follows from it has issued.

@@ -2,7 +2,7 @@
 
 ghost use Rattle.std.specs.Prelude.{◌≡◌, ◌≤◌, length, option_map, IfOk};
 ghost use Rattle.ill_core.specs.Issued.{message};
-ghost use Rattle.ill_saved.specs.Side.{Acts, Takes, IsConsistent, issued_of, standing_of, back_to, GoesBack, idle_of, idle_side, is_idle, role_of, txn_of, state_of, due_date_of};
+ghost use Rattle.ill_saved.specs.Side.{role_for, begins, Acts, Takes, IsConsistent, issued_of, standing_of, back_to, GoesBack, idle_of, idle_side, is_idle, role_of, txn_of, state_of, due_date_of};
 
 use crate::role::Role;
 use ill_core::{
@@ -36,6 +36,25 @@ pub enum Action {
     Wish(Wish),
     /// What a responder does, and the day on which it is done.
     Deed(Deed, Day),
+}
+
+impl Action {
+    /// The role that it is for.
+    pub fn role(&self) -> Role
+        ensures { result ≡ role_for self.now }
+    {
+        match self {
+            Action::Wish(_) => Role::Requester,
+            Action::Deed(_, _) => Role::Responder,
+        }
+    }
+
+    /// Whether it begins a transaction: a request does.
+    pub(crate) fn begins(&self) -> bool
+        ensures { result ≡ begins self.now }
+    {
+        matches!(self, Action::Wish(Wish::Request { .. }))
+    }
 }
 
 impl Side {

@@ -1,14 +1,17 @@
 //! The sides of one library: one in each of many transactions, all of one role.
 
-ghost use Rattle.std.specs.Prelude.{◌≡◌, ◌≤◌, ◌++◌, [], ◌∷◌, length, slice_get, option_copied, None, Some, true, OnOk, OnErr, IfErr};
+ghost use Rattle.std.specs.Prelude.{◌≡◌, ◌≤◌, ◌<◌, ◌++◌, [], ◌∷◌, length, position, slice_get, option_copied, None, Some, true, OnOk, OnErr, IfErr, IfSome};
 ghost use Rattle.indexmap.specs.IndexMap.{get, keys, values};
 ghost use Rattle.ill_core.specs.Issued.{is_same_txn};
-ghost use Rattle.ill_saved.specs.Sides.{SidesOf, AreFiled, most_sides, side_with, may_be_held, put_refusal, Puts};
+ghost use Rattle.ill_saved.specs.Side.{txn_of, Acts, Takes};
+ghost use Rattle.ill_saved.specs.Sides.{SidesOf, AreFiled, most_sides, side_with, may_be_held, put_refusal, Puts, OnlyThat, OnlyThatEntry};
 
 use crate::fault::SidesFault;
+use crate::laws::{rows_begin, rows_grow};
 use crate::role::Role;
-use crate::side::Side;
-use ill_values::{OutOfMemory, TxnId};
+use crate::side::{Action, Side};
+use ill_core::{Refusal, Taking};
+use ill_values::{Apdu, OutOfMemory, TxnId};
 use indexmap::IndexMap;
 use std::alloc::Global;
 use std::marker::Model;
@@ -96,6 +99,37 @@ impl Sides {
         self.map.get_index(place).map(|(_, side)| side)
     }
 
+    /// The place of the side of this transaction.
+    pub(crate) fn place(&self, txn: &TxnId) -> Option<usize>
+        ensures place { result ≡ position (λ side. is_same_txn txn.now (txn_of side)) self.now.sides }
+        ensures within { IfSome result (λ place. place < length self.now.sides) }
+    {
+        self.map.get_index_of(txn)
+    }
+
+    /// Does what the library decides in this transaction, where its side is held.
+    pub(crate) fn act(
+        &mut self,
+        alloc: Global,
+        txn: &TxnId,
+        action: &Action,
+    ) -> Option<Result<(), Refusal>>
+        ensures { OnlyThat (λ old answer new. Acts old action.now answer new) txn.now self.old result self.new }
+    {
+        rows_grow();
+        rows_begin();
+        act_among(&mut self.map, alloc, txn, action)
+    }
+
+    /// Hands a message to the side of its transaction, where that is held.
+    pub(crate) fn take(&mut self, alloc: Global, apdu: &Apdu) -> Option<Result<Taking, Refusal>>
+        ensures { OnlyThat (λ old answer new. Takes old apdu.now answer new) apdu.now.txn self.old result self.new }
+    {
+        rows_grow();
+        rows_begin();
+        take_among(&mut self.map, alloc, apdu)
+    }
+
     /// How many sides there are: 1,000 at most.
     pub fn len(&self) -> usize
         ensures value { result ≡ length self.now.sides }
@@ -124,5 +158,34 @@ fn insert_new<V: Drop>(map: &mut IndexMap<TxnId, V>, key: TxnId, value: V) -> Re
     match map.insert(key, value) {
         Ok(_) => Ok(()),
         Err(failed) => Err(failed.value.1),
+    }
+}
+
+/// Does what the library decides, where the side of this transaction is filed.
+fn act_among(
+    map: &mut IndexMap<TxnId, Side>,
+    alloc: Global,
+    txn: &TxnId,
+    action: &Action,
+) -> Option<Result<(), Refusal>>
+    ensures { OnlyThatEntry (λ old answer new. Acts old action.now answer new) txn.now map.old.entries result map.new.entries }
+{
+    match map.get_mut(txn) {
+        Some(side) => Some(side.act(alloc, action)),
+        None => None,
+    }
+}
+
+/// Hands over a message, where the side of its transaction is filed.
+fn take_among(
+    map: &mut IndexMap<TxnId, Side>,
+    alloc: Global,
+    apdu: &Apdu,
+) -> Option<Result<Taking, Refusal>>
+    ensures { OnlyThatEntry (λ old answer new. Takes old apdu.now answer new) apdu.now.txn map.old.entries result map.new.entries }
+{
+    match map.get_mut(&apdu.txn) {
+        Some(side) => Some(side.take(alloc, apdu)),
+        None => None,
     }
 }

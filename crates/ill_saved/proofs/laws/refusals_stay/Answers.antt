@@ -1,0 +1,5 @@
+use Rattle.ill_saved.proofs.Desks.{refusals_stay}
+use Rattle.ill_saved.proofs.laws.refusals_stay.Goals as goal
+
+pub returns : goal.returns
+returns c = refusals_stay c.requester_is_quiet.ensures c.responder_is_quiet.ensures

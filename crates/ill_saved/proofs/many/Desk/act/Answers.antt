@@ -1,0 +1,42 @@
+use Rattle.std.proofs.Common.{rules, ◌≡◌, true, ap, ◌∙◌}
+use Rattle.ill_saved.specs.Side.{Acts, role_for}
+use Rattle.ill_saved.specs.Sides.{is_same_role, found_by}
+use Rattle.ill_saved.specs.Many.{txn_held, held_of}
+use Rattle.ill_saved.proofs.Held.{acts_row}
+use Rattle.ill_saved.proofs.Holdings.{none_held, changed_held, still_backed, desk_acts_so}
+use Rattle.ill_saved.proofs.many.Desk.act.Goals as goal
+
+pub invariant_of-self : goal.invariant_of-self
+invariant_of-self g c = (
+  (changed_held c.self.inside.sides.role c.self.inside.sides.sides c.self.inside.released.items c.self.invariant.0 c.rows_grow.ensures c.args.txn.now (λ old answer new. Acts old c.args.action.now answer new) (λ old new answer does. acts_row old new c.args.action.now answer does) c.in-Some.answer c.act.new.self c.in-Some.ensures).6,
+  λ honest.
+      still_backed c.self.inside.sides.role c.self.inside.sides.sides c.self.inside.released.items c.self.invariant.0 c.rows_grow.ensures c.args.txn.now (λ old answer new. Acts old c.args.action.now answer new) (λ old new answer does. acts_row old new c.args.action.now answer does)
+      (g.S.Store.landed c.self.inside.store) c.in-Some.answer c.act.new.self c.in-Some.ensures (c.self.invariant.1 honest),
+)
+
+pub invariant_of-self-in-Some : goal.invariant_of-self-in-Some
+invariant_of-self-in-Some g c = (
+  (changed_held c.self.inside.sides.role c.self.inside.sides.sides c.self.inside.released.items c.self.invariant.0 c.rows_grow.ensures c.args.txn.now (λ old answer new. Acts old c.args.action.now answer new) (λ old new answer does. acts_row old new c.args.action.now answer does) c.in-Some.answer c.act.new.self c.in-Some.ensures).6,
+  λ honest.
+      still_backed c.self.inside.sides.role c.self.inside.sides.sides c.self.inside.released.items c.self.invariant.0 c.rows_grow.ensures c.args.txn.now (λ old answer new. Acts old c.args.action.now answer new) (λ old new answer does. acts_row old new c.args.action.now answer does)
+      (g.S.Store.landed c.self.inside.store) c.in-Some.answer c.act.new.self c.in-Some.ensures (c.self.invariant.1 honest),
+)
+
+pub returns-in_err-answer-in-Some-clause-acts : goal.returns-in_err-answer-in-Some-clause-acts
+returns-in_err-answer-in-Some-clause-acts g c =
+    let fits : is_same_role c.self.inside.sides.role (role_for c.args.action.now) ≡ true = search rules in
+    let acts_so = desk_acts_so c.self.inside.sides.role c.self.inside.sides.sides c.self.inside.released.items c.self.invariant.0 c.rows_grow.ensures c.args.txn.now c.args.action.now c.in-Some.answer c.act.new.self fits c.in-Some.ensures in
+    let seen = c.self.view_is in
+    search (rules, acts_so, seen)
+
+pub returns-in_ok-answer-in-Some-clause-acts : goal.returns-in_ok-answer-in-Some-clause-acts
+returns-in_ok-answer-in-Some-clause-acts g c =
+    let fits : is_same_role c.self.inside.sides.role (role_for c.args.action.now) ≡ true = search rules in
+    let acts_so = desk_acts_so c.self.inside.sides.role c.self.inside.sides.sides c.self.inside.released.items c.self.invariant.0 c.rows_grow.ensures c.args.txn.now c.args.action.now c.in-Some.answer c.act.new.self fits c.in-Some.ensures in
+    let seen = c.self.view_is in
+    search (rules, acts_so, seen)
+
+pub act_first-requires-clause-none : goal.act_first-requires-clause-none
+act_first-requires-clause-none g c =
+    ap (λ all. found_by txn_held c.args.txn.now (held_of all.sides c.self.inside.released.items)) c.in-None.ensures.1
+    ∙ none_held c.self.inside.sides.role c.self.inside.sides.sides c.self.inside.released.items c.self.invariant.0 c.args.txn.now c.in-None.ensures.0

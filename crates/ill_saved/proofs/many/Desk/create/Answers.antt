@@ -1,0 +1,24 @@
+use Rattle.std.proofs.Common.{rules, ◌≡◌, true, None, [], ap, sym, ◌∙◌}
+use Rattle.ill_saved.specs.Sides.{SidesOf}
+use Rattle.ill_saved.specs.Many.{counts, held_of}
+use Rattle.ill_saved.proofs.Holdings.{as_many_counted, none_backed}
+use Rattle.ill_saved.proofs.many.Desk.create.Goals as goal
+
+pub invariant_of-result : goal.invariant_of-result
+invariant_of-result g c =
+    let all = c.in-Ok.field-0.sides in
+    let counted = c.in-Ok.field-0.released.items in
+    let is : all ≡ record { role = c.args.role; sides = [] } = search rules in
+    let whole : counted ≡ counts all.sides = search rules in
+    let none : g.S.Store.is_honest c.args.store ≡ true → g.S.Store.landed c.load.new.self ≡ None = search rules in
+    let honest : g.S.Store.is_honest c.load.new.self ≡ g.S.Store.is_honest c.args.store = search rules in (
+      as_many_counted all.sides counted whole,
+      λ now. none_backed (g.S.Store.landed c.load.new.self) all counted (none (sym honest ∙ now)) (ap (λ (held : SidesOf). held.sides) is) whole,
+    )
+
+pub returns-in-Ok-clause-begins : goal.returns-in-Ok-clause-begins
+unfolding held_of
+returns-in-Ok-clause-begins g c =
+    let all = c.in-Ok.field-0.sides in
+    let is : all ≡ record { role = c.args.role; sides = [] } = search rules in
+    ap (λ (held : SidesOf). record { role = held.role; held = held_of held.sides c.in-Ok.field-0.released.items }) is

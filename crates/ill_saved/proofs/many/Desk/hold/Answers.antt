@@ -1,0 +1,34 @@
+use Rattle.std.proofs.Common.{rules, ◌≡◌, ◌++◌, ◌+◌, ◌∷◌, [], length, None, length-append, ap, sym, subst, ◌∙◌}
+use Rattle.ill_saved.specs.Side.{txn_of, idle_side, IsRow}
+use Rattle.ill_saved.specs.Sides.{put_refusal, put_last}
+use Rattle.ill_saved.specs.Many.{sides_held, with_held, AreBacked, held_of}
+use Rattle.ill_saved.proofs.Holdings.{holds_sides, held_more, more_backed}
+use Rattle.ill_saved.proofs.many.Desk.hold.Goals as goal
+
+pub invariant_of-self-in-Ok : goal.invariant_of-self-in-Ok
+invariant_of-self-in-Ok g c =
+    let all = c.self.inside.sides in
+    let counted = c.self.inside.released.items in
+    let seen : all ≡ sides_held c.args.self.now.live = sym (holds_sides all counted c.self.invariant.0) ∙ ap (λ desk. sides_held desk.live) c.self.view_is in
+    let may : put_refusal all c.args.side ≡ None = ap (λ held. put_refusal held c.args.side) seen ∙ c.requires.may in
+    let role = ap (λ desk. desk.live.role) c.self.view_is in
+    let row : IsRow (idle_side all.role (txn_of c.args.side)) c.args.side = subst (λ r. IsRow (idle_side r (txn_of c.args.side)) c.args.side) (sym role) c.requires.row in
+    let put : c.put.new.self ≡ put_last all c.args.side = search rules in
+    let pushed : c.push.new.self.items ≡ counted ++ 0 ∷ [] = search rules in (
+      ap length pushed ∙ length-append counted (0 ∷ []) ∙ ap (λ n. n + 1) c.self.invariant.0 ∙ sym (length-append all.sides (c.args.side ∷ [])) ∙ ap (λ held. length held.sides) (sym put),
+      λ honest.
+          subst (λ ns. AreBacked (g.S.Store.landed c.self.inside.store) (record { role = c.put.new.self.role; held = held_of c.put.new.self.sides ns })) (sym pushed)
+          (more_backed all.role all.sides counted c.self.invariant.0 c.args.side may c.rows_grow.ensures (g.S.Store.landed c.self.inside.store) c.put.new.self put row (c.self.invariant.1 honest)),
+    )
+
+pub returns-in_ok-push-in-Ok-clause-held : goal.returns-in_ok-push-in-Ok-clause-held
+returns-in_ok-push-in-Ok-clause-held g c =
+    let all = c.self.inside.sides in
+    let counted = c.self.inside.released.items in
+    let seen : all ≡ sides_held c.args.self.now.live = sym (holds_sides all counted c.self.invariant.0) ∙ ap (λ desk. sides_held desk.live) c.self.view_is in
+    let may : put_refusal all c.args.side ≡ None = ap (λ held. put_refusal held c.args.side) seen ∙ c.requires.may in
+    let put : c.put.new.self ≡ put_last all c.args.side = search rules in
+    let pushed : c.push.new.self.items ≡ counted ++ 0 ∷ [] = search rules in
+    ap (λ ns. record { role = c.put.new.self.role; held = held_of c.put.new.self.sides ns }) pushed
+    ∙ held_more all.role all.sides counted c.self.invariant.0 c.args.side may c.put.new.self put
+    ∙ ap (λ desk. with_held desk.live (record { side = c.args.side; released = 0 })) c.self.view_is

@@ -1,0 +1,69 @@
+use Rattle.std.proofs.Common.{rules, ◌≡◌, ◌⊎◌, true, Some, ap, sym, subst, ◌∙◌}
+use Rattle.ill_saved.specs.Records2.{AreSides, sides_spelling}
+use Rattle.ill_saved.specs.Many.{counts, sides_held, whole_of}
+use Rattle.ill_saved.proofs.Desks.{old_or_new}
+use Rattle.ill_saved.proofs.Holdings.{holds_sides, as_many_counted, saved_backed, fault_backed, whole_held, each_consistent}
+use Rattle.ill_saved.proofs.many.Desk.save.Goals as goal
+
+pub invariant_of-self : goal.invariant_of-self
+invariant_of-self g c =
+    let all = c.self.inside.sides in
+    let bytes = c.deref.result.now in
+    let spelled : bytes ≡ sides_spelling all = search rules in
+    let old = g.S.Store.landed c.self.inside.store in
+    let new = g.S.Store.landed c.save.new.self in
+    let honest : g.S.Store.is_honest c.save.new.self ≡ g.S.Store.is_honest c.self.inside.store = search rules in (
+      c.self.invariant.0,
+      λ now.
+          let was = sym honest ∙ now in
+          let either = old_or_new (g.S.Store.plan c.self.inside.store) bytes c.in_err-save.field-0.0 old new (c.in_err-save.ensures.landed was) in
+          fault_backed c.follows_issues.ensures all c.self.inside.released.items c.self.invariant.0 (each_consistent all.sides c.in_ok-record.ensures.sides.each) c.sides_read_again.ensures c.in_ok-record.ensures.sides old new
+          (subst (λ b. (new ≡ old) ⊎ (new ≡ Some b)) spelled either) (c.self.invariant.1 was),
+    )
+
+pub returns-in_err-save-clause-landed : goal.returns-in_err-save-clause-landed
+returns-in_err-save-clause-landed g c =
+    let all = c.self.inside.sides in
+    let seen : all ≡ sides_held c.args.self.now.live = sym (holds_sides all c.self.inside.released.items c.self.invariant.0) ∙ ap (λ desk. sides_held desk.live) c.self.view_is in
+    let spelled : c.deref.result.now ≡ sides_spelling all = search rules in
+    let bytes = spelled ∙ ap sides_spelling seen in
+    search (rules, bytes)
+
+pub returns-in_err-save-clause-sides : goal.returns-in_err-save-clause-sides
+returns-in_err-save-clause-sides g c =
+    let all = c.self.inside.sides in
+    let seen : all ≡ sides_held c.args.self.now.live = sym (holds_sides all c.self.inside.released.items c.self.invariant.0) ∙ ap (λ desk. sides_held desk.live) c.self.view_is in
+    let are = subst AreSides seen c.in_ok-record.ensures.sides in
+    search (rules, are)
+
+pub invariant_of-self-2 : goal.invariant_of-self-2
+invariant_of-self-2 g c =
+    let all = c.self.inside.sides in
+    let counted = c.in_ok-released.released.items in
+    let spelled : c.deref.result.now ≡ sides_spelling all = search rules in
+    let honest : g.S.Store.is_honest c.save.new.self ≡ g.S.Store.is_honest c.self.inside.store = search rules in (
+      as_many_counted all.sides counted c.in_ok-released.ensures,
+      λ now.
+          let lands : g.S.Store.landed c.save.new.self ≡ Some c.deref.result.now = (c.in_ok-save.ensures.landed (sym honest ∙ now)) in
+          saved_backed c.sides_read_again.ensures (g.S.Store.landed c.save.new.self) all counted c.in_ok-record.ensures.sides (lands ∙ ap Some spelled) c.in_ok-released.ensures,
+    )
+
+pub returns-clause-live : goal.returns-clause-live
+returns-clause-live g c =
+    let all = c.self.inside.sides in
+    let seen : all ≡ sides_held c.args.self.now.live = sym (holds_sides all c.self.inside.released.items c.self.invariant.0) ∙ ap (λ desk. sides_held desk.live) c.self.view_is in
+    whole_held all c.in_ok-released.released.items c.in_ok-released.ensures ∙ ap whole_of seen
+
+pub returns-clause-landed : goal.returns-clause-landed
+returns-clause-landed g c =
+    let all = c.self.inside.sides in
+    let seen : all ≡ sides_held c.args.self.now.live = sym (holds_sides all c.self.inside.released.items c.self.invariant.0) ∙ ap (λ desk. sides_held desk.live) c.self.view_is in
+    let spelled : c.deref.result.now ≡ sides_spelling all = search rules in
+    let bytes = spelled ∙ ap sides_spelling seen in
+    search (rules, bytes)
+
+pub returns-clause-sides : goal.returns-clause-sides
+returns-clause-sides g c =
+    let all = c.self.inside.sides in
+    let seen : all ≡ sides_held c.args.self.now.live = sym (holds_sides all c.self.inside.released.items c.self.invariant.0) ∙ ap (λ desk. sides_held desk.live) c.self.view_is in
+    subst AreSides seen c.in_ok-record.ensures.sides

@@ -1,0 +1,42 @@
+use Rattle.std.proofs.Common.{rules, ◌≡◌, true, Ok, Some, ap, sym, subst, ◌∙◌}
+use Rattle.ill_saved.specs.Side.{IsConsistent}
+use Rattle.ill_saved.specs.Ranges.{Each}
+use Rattle.ill_saved.specs.Records2.{records_at, begins_as_records}
+use Rattle.ill_saved.specs.Desk.{Loads}
+use Rattle.ill_saved.specs.Many.{counts, landed_sides, sides_held, whole_of, held_of}
+use Rattle.ill_saved.proofs.Holdings.{holds_sides, as_many_counted, read_backed, loads_landed, starts_with, whole_held}
+use Rattle.ill_saved.proofs.many.Desk.start.Goals as goal
+
+pub invariant_of-result : goal.invariant_of-result
+invariant_of-result g c =
+    let all = c.in-Ok-Some.field-0-0.sides in
+    let counted = c.in-Ok-Some.field-0-0.released.items in
+    let store = c.args.store in
+    let landed = g.S.Store.landed store in
+    let whole : counted ≡ counts all.sides = search rules in
+    let loads : g.S.Store.is_honest store ≡ true → Loads records_at begins_as_records landed (g.S.Store.plan store) (Ok (Some all)) = search rules in
+    let each : Each IsConsistent all.sides = search rules in
+    let lands = c.load_whole.ensures.landed in
+    let honest : g.S.Store.is_honest c.load_whole.new.store ≡ g.S.Store.is_honest store = search rules in (
+      as_many_counted all.sides counted whole,
+      λ now.
+          let was = sym honest ∙ now in
+          read_backed (g.S.Store.landed c.load_whole.new.store) all counted (ap (λ o. landed_sides o all.role) (lands was) ∙ loads_landed landed (g.S.Store.plan store) all (loads was)) each whole,
+    )
+
+pub returns-in-Ok-Some-clause-starts : goal.returns-in-Ok-Some-clause-starts
+returns-in-Ok-Some-clause-starts g c =
+    let all = c.in-Ok-Some.field-0-0.sides in
+    let counted = c.in-Ok-Some.field-0-0.released.items in
+    let store = c.args.store in
+    let landed = g.S.Store.landed store in
+    let whole : counted ≡ counts all.sides = search rules in
+    let loads : g.S.Store.is_honest store ≡ true → Loads records_at begins_as_records landed (g.S.Store.plan store) (Ok (Some all)) = search rules in
+    λ honest. starts_with landed (g.S.Store.plan store) all (record { live = record { role = all.role; held = held_of all.sides counted }; store = c.load_whole.new.store }) (loads honest) (holds_sides all counted (as_many_counted all.sides counted whole))
+
+pub returns-in-Ok-Some-clause-whole : goal.returns-in-Ok-Some-clause-whole
+returns-in-Ok-Some-clause-whole g c =
+    let all = c.in-Ok-Some.field-0-0.sides in
+    let counted = c.in-Ok-Some.field-0-0.released.items in
+    let whole : counted ≡ counts all.sides = search rules in
+    whole_held all counted whole ∙ ap whole_of (sym (holds_sides all counted (as_many_counted all.sides counted whole)))

@@ -13,10 +13,10 @@ use Rattle.ill_saved.specs.declared.side.Side.{Side}
 use Rattle.ill_saved.specs.declared.side.Side.TheVariants as sides
 use Rattle.ill_saved.specs.declared.side.Action.{Action}
 use Rattle.ill_saved.specs.declared.side.Action.TheVariants as actions
-use Rattle.ill_saved.specs.Side.{issued_of, role_of, other, acts, takes}
+use Rattle.ill_saved.specs.Side.{issued_of, role_of, other, acts, takes, begins}
 use Rattle.ill_saved.specs.Sides.{is_same_role}
 use Rattle.ill_core.specs.Bodies.{is_ill_request}
-use Rattle.ill_saved.specs.Many.{Held, held_for, begins, reached, acted as acted_at, acts_reached, took as took_at, takes_reached, is_own, found_by, txn_held}
+use Rattle.ill_saved.specs.Many.{Held, held_for, reached, acted as acted_at, acts_reached, took as took_at, takes_reached, is_own, found_by, txn_held}
 use Rattle.ill_saved.proofs.Finding.{same_is}
 use Rattle.ill_world.specs.declared.event.Event.{Event}
 use Rattle.ill_world.specs.declared.event.DeskEvent.{DeskEvent}

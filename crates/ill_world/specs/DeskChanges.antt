@@ -5,9 +5,9 @@ use Rattle.ill_values.specs.declared.apdu.Apdu.{Apdu}
 use Rattle.ill_core.specs.Bodies.{is_ill_request}
 use Rattle.ill_saved.specs.declared.side.Action.TheVariants as actions
 use Rattle.ill_saved.specs.declared.side.Side.{Side}
-use Rattle.ill_saved.specs.Side.{other}
+use Rattle.ill_saved.specs.Side.{other, begins}
 use Rattle.ill_saved.specs.Sides.{side_with}
-use Rattle.ill_saved.specs.Many.{Held, begins, found_by, txn_held}
+use Rattle.ill_saved.specs.Many.{Held, found_by, txn_held}
 use Rattle.ill_world.specs.declared.event.DeskEvent.{DeskEvent}
 use Rattle.ill_world.specs.declared.event.DeskEvent.TheVariants.{Wish, Deed, Send, Deliver}
 use Rattle.ill_world.specs.declared.event.DeskOutcome.{DeskOutcome}

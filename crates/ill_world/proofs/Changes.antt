@@ -19,7 +19,7 @@ use Rattle.ill_world.specs.declared.event.Event.{Event}
 use Rattle.ill_world.specs.declared.event.Event.TheVariants as events
 use Rattle.ill_world.specs.declared.event.Outcome.{Outcome}
 use Rattle.ill_world.specs.declared.event.Outcome.TheVariants.{Done, Saved, Faulted, Sent, Answered, Restarted}
-use Rattle.ill_world.specs.World.{Party, Parties, party, with_party, who_of, sent_message, decides, sends, answer_to, receives, hears, happens_to, happens, run_of}
+use Rattle.ill_world.specs.World.{Party, Parties, party, with_party, who_of, sent_message, decides, sends, answer_to, receives, hears, happens_to, happens, run_by, run_of}
 use Rattle.ill_world.specs.Changes.{OnlyLands, OnlyLandedChanges, MayChange, KeepsSent}
 use Rattle.ill_world.specs.Invariant.{SendsSaved, Stands}
 use Rattle.ill_world.proofs.Kept.{stays_sent}
@@ -60,7 +60,7 @@ sends_changes p n None released = refl
 sends_changes p n (Some a) true = tt
 sends_changes p n (Some a) false = refl
 
-quiet : Quiet → (side : Side) (a : Apdu) → ((takes side a).0 ≡ Ok Taken) ⊎ ((takes side a).1 ≡ side)
+pub quiet : Quiet → (side : Side) (a : Apdu) → ((takes side a).0 ≡ Ok Taken) ⊎ ((takes side a).1 ≡ side)
 quiet rows (sides.Requester x) a = elim (rows.requester x a) [ inl taken ↦ inl taken | inr same ↦ inr (ap sides.Requester same) ]
 quiet rows (sides.Responder y) a = elim (rows.responder y a) [ inl taken ↦ inl taken | inr same ↦ inr (ap sides.Responder same) ]
 
@@ -130,12 +130,12 @@ abbrev pub After : Qualifiers → Type 0
 After txn = (w : Parties) (event : Event) → Stands txn w → Stands txn (happens w event).1
 
 further_keeps_sent : (txn : Qualifiers) → After txn → (w : Parties) (more : List Event) → Stands txn w → KeepsSent w (run_of w more)
-unfolding run_of
+unfolding run_by
 further_keeps_sent txn after w [] stands = λ of n a was. was
 further_keeps_sent txn after w (event ∷ more) stands =
     λ of n a was. further_keeps_sent txn after (happens w event).1 more (after w event stands) of n a (event_keeps_sent txn w event stands of n a was)
 
 pub run_keeps_sent : (txn : Qualifiers) → After txn → (w : Parties) (events more : List Event) → Stands txn w → KeepsSent (run_of w events) (run_of w (events ++ more))
-unfolding run_of
+unfolding run_by
 run_keeps_sent txn after w [] more stands = further_keeps_sent txn after w more stands
 run_keeps_sent txn after w (event ∷ events) more stands = run_keeps_sent txn after (happens w event).1 events more (after w event stands)

@@ -18,3 +18,6 @@ pub mod Arrivals
 pub mod BadWorlds
 pub mod Changes
 pub mod Outcomes
+pub mod Projections
+pub mod Desks
+pub mod DeskArrivals

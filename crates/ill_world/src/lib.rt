@@ -4,6 +4,7 @@
 
 mod ahead;
 mod bytes;
+pub mod desk_laws;
 mod event;
 mod fault;
 pub mod laws;
@@ -19,7 +20,7 @@ pub mod words;
 mod world;
 
 pub use bytes::Bytes;
-pub use event::{DeskOutcome, Event, Outcome, Who};
+pub use event::{DeskEvent, DeskOutcome, Event, Outcome, Who};
 pub use fault::SimFault;
 pub use simulation::simulate;
 pub use trace::push_side;

@@ -104,6 +104,10 @@ changes_of_one (Answered (Conflict state)) w of new changes = same_world w of ne
 changes_of_one Faulted w of new changes = landed_of_one w of new changes
 changes_of_one other w of new changes = same_world w of new changes
 
+-- a world that stays as it is
+pub same_changes : (w : Parties) (outcome : Outcome) → MayChange OnlyLandedChanges outcome w w
+same_changes w outcome = changes_of_one outcome w who.Requester w.requester (nothing_changes outcome w.requester)
+
 pub world_changes : Quiet → (w : Parties) (event : Event) → MayChange OnlyLandedChanges (happens w event).0 w (happens w event).1
 world_changes rows w event =
     let of = who_of event in

@@ -1,5 +1,5 @@
 -- One arrival of the end of a request, or of a Returned, is enough at a desk too: the transaction is held there.
-use Rattle.std.proofs.Common.{rules, ◌≡◌, ℕ, zero, suc, Bool, true, false, ◌&&◌, not, if◌then◌else◌, List, [], ◌∷◌, Option, Some, None, is_some, Result, Ok, Err, refl, sym, ap, ◌∙◌, subst, true≢false}
+use Rattle.std.proofs.Common.{rules, ◌≡◌, ℕ, nat_lt, length, zero, suc, Bool, true, false, ◌&&◌, not, if◌then◌else◌, List, [], ◌∷◌, Option, Some, None, is_some, Result, Ok, Err, refl, sym, ap, ◌∙◌, subst, true≢false}
 use Rattle.ill_values.specs.TxnId.{Qualifiers}
 use Rattle.ill_values.specs.declared.apdu.Apdu.{Apdu}
 use Rattle.ill_core.specs.declared.state.State.{State}
@@ -31,11 +31,12 @@ use Rattle.ill_world.specs.World.{sent_message, party, Parties, happens}
 use Rattle.ill_world.specs.Desks.{DeskParty, sent_for, DeskParties, plain, taking_seen, desk_receives, desks_happen, project, concerns, if_reached, IsSeenAs}
 use Rattle.ill_world.specs.Agreement.{Settles, settled_by, Arrives}
 use Rattle.ill_world.specs.Invariant.{RequesterSideStands, ResponderSideStands, Stands}
+use Rattle.ill_world.specs.DeskChanges.{IsPlain, Reaches, ReachesAt, ReachesSide}
 use Rattle.ill_world.specs.DeskSafety.{DesksStand, SettlesAt, ArrivesAt}
 use Rattle.ill_world.proofs.Claims.{AreIssued, has_issued, live_issues}
 use Rattle.ill_world.proofs.Arrivals.{shipped_before}
 use Rattle.ill_world.proofs.Agreements.{tells_requested}
-use Rattle.ill_world.proofs.Desks.{EachProjects, keeps_to}
+use Rattle.ill_world.proofs.Desks.{EachProjects, same_plain}
 
 -- ---- who has issued a message has a side
 
@@ -75,69 +76,54 @@ supplied txn (sides.Requester x) (sides.Requester y) told heard n a requester_st
 
 -- ---- what is held is reached
 
-abbrev IsPlain : DeskOutcome → Type 0
-IsPlain (Plain outcome) = Unit {0}
-IsPlain other = ⊥
+idle_issues : (role : Who) (txn : Qualifiers) → issued_of (idle_side role txn) ≡ []
+idle_issues who.Requester txn = refl
+idle_issues who.Responder txn = refl
 
-took_is_plain : (live : Holding) (held : Held) (answer : Result _ Refusal) (new : Side) → IsPlain (taking_seen (took_at live held (answer, new)).0)
-took_is_plain live held (Ok _) new = tt
-took_is_plain live held (Err refusal) new = tt
-
-there_is_plain : (live : Holding) (a : Apdu) (held : Held) (own : Bool) (found : Result Held DeskFault) → found ≡ Ok held → IsPlain (taking_seen (if own then (Err (faults.Core WrongRole), live) else takes_reached live a found).0)
-there_is_plain live a held true found is = tt
-there_is_plain live a held false (Ok other) is = took_is_plain live other (takes other.side a).0 (takes other.side a).1
-there_is_plain live a held false (Err fault) is = search rules
-
-reaches_held : (live : Holding) (txn : Qualifiers) (may_begin : Bool) (held : Held) → found_by txn_held txn live.held ≡ Some held → reached live txn may_begin ≡ Ok held
-reaches_held live txn may_begin held e = rw e refl
-
--- a message of a transaction that is not idle is handed to its side
-arrives_plainly : (p : DeskParty) (a : Apdu) (found : Option Held) → found_by txn_held a.txn p.live.held ≡ found → (issued_of (held_for a.txn p.live).side ≡ [] → ⊥) → IsPlain (desk_receives p (Some a)).0
-arrives_plainly p a (Some held) e not_idle = there_is_plain p.live a held (is_own p.live.role a.body) (reached p.live a.txn (is_ill_request a.body)) (reaches_held p.live a.txn (is_ill_request a.body) held e)
-arrives_plainly p a None e not_idle = absurd (not_idle (ap (λ o. issued_of (found_or (idle_held p.live.role a.txn) o).side) e ∙ idle_issues p.live.role a.txn))
-  where
-    idle_issues : (role : Who) (txn : Qualifiers) → issued_of (idle_side role txn) ≡ []
-    idle_issues who.Requester txn = refl
-    idle_issues who.Responder txn = refl
+-- a side that has issued something is held
+held_plainly : (may_begin : Bool) (p : DeskParty) (txn : Qualifiers) (found : Option Held) (outcome : DeskOutcome) → found_by txn_held txn p.live.held ≡ found → (issued_of (held_for txn p.live).side ≡ [] → ⊥)
+    → ReachesAt may_begin p txn outcome → IsPlain outcome
+held_plainly may_begin p txn (Some held) outcome e not_idle reaches = subst (λ o. Reaches may_begin (nat_lt (length p.live.held) 1000) o outcome) e reaches
+held_plainly may_begin p txn None outcome e not_idle reaches = absurd (not_idle (ap (λ o. issued_of (found_or (idle_held p.live.role txn) o).side) e ∙ idle_issues p.live.role txn))
 
 -- ---- the law
 
 settles_as : (among : List State) (own : Bool) (expected : Outcome × Parties) (old new : Parties) (outcome : DeskOutcome) (side : Parties → Side) → IsSeenAs (if_reached outcome own) expected old outcome new → own ≡ true → IsPlain outcome
     → Settles among expected.0 (side expected.1) → SettlesAt among outcome (side new)
 settles_as among true expected old new (Plain outcome) side seen concerned is_plain settles =
-    let same : outcome ≡ expected.0 = search (rules, seen.0) in
-    subst (λ o. Settles among o (side new)) (sym same) (subst (λ w. Settles among expected.0 (side w)) (sym seen.1) settles)
+    subst (λ o. Settles among o (side new)) (sym (same_plain outcome expected.0 seen.0)) (subst (λ w. Settles among expected.0 (side w)) (sym seen.1) settles)
 settles_as among false expected old new outcome side seen concerned is_plain settles = search rules
 settles_as among true expected old new NoSuchTransaction side seen concerned is_plain settles = absurd is_plain
 settles_as among true expected old new DeskFull side seen concerned is_plain settles = absurd is_plain
 
-module _ (projects : EachProjects) (w : DeskParties) (stands : DesksStand w) (txn : Qualifiers) (n : ℕ) (a : Apdu) where
+abbrev pub EachReaches : Type 0
+EachReaches = (w : DeskParties) (event : DeskEvent) → DesksStand w → ReachesSide w event
+
+module _ (projects : EachProjects) (reaches : EachReaches) (w : DeskParties) (stands : DesksStand w) (txn : Qualifiers) (n : ℕ) (a : Apdu) where
   -- a message that settles a side that has issued something settles it at a desk
   settles_there : (role : Who) (among : List State) → sent_message (sent_for txn (party w (other role)).sent) n ≡ Some a → (issued_of (held_for txn (party w role).live).side ≡ [] → ⊥)
       → let after = happens (project txn w) (events.Deliver role n) in Settles among after.0 (party after.1 role).live
       → let after = desks_happen w (desk_events.Deliver role txn n) in SettlesAt among after.0 (party (project txn after.1) role).live
   settles_there role among sent begun settles =
       let event = desk_events.Deliver role txn n in
-      let is : txn ≡ a.txn = (keeps_to w role stands).told_of txn n a sent in
-      let there : issued_of (held_for a.txn (party w role).live).side ≡ [] → ⊥ = subst (λ t. issued_of (held_for t (party w role).live).side ≡ [] → ⊥) is begun in
       let is_plain : IsPlain (desks_happen w event).0 =
-      subst (λ o. IsPlain (desk_receives (party w role) o).0) (sym sent) (arrives_plainly (party w role) a (found_by txn_held a.txn (party w role).live.held) refl there) in
+      held_plainly (is_ill_request a.body) (party w role) txn (found_by txn_held txn (party w role).live.held) (desks_happen w event).0 refl begun (reaches w event stands a sent) in
       settles_as among (concerns txn event) (happens (project txn w) (plain event)) (project txn w) (project txn (desks_happen w event).1) (desks_happen w event).0 (λ v. (party v role).live) (projects txn w event stands)
       (same_self txn) is_plain settles
 
-pub arrives_at : EachProjects → ((txn : Qualifiers) (w : Parties) (event : Event) → Stands txn w → Arrives w event) → (w : DeskParties) (event : DeskEvent) → DesksStand w → ArrivesAt w event
-arrives_at projects arrives w (desk_events.Deliver who.Requester txn n) stands =
+pub arrives_at : EachProjects → EachReaches → ((txn : Qualifiers) (w : Parties) (event : Event) → Stands txn w → Arrives w event) → (w : DeskParties) (event : DeskEvent) → DesksStand w → ArrivesAt w event
+arrives_at projects reaches arrives w (desk_events.Deliver who.Requester txn n) stands =
     λ a sent ends.
     let shown = stands.each txn in
     let v = project txn w in
-    settles_there projects w stands txn n a who.Requester (settled_by a.body) sent
+    settles_there projects reaches w stands txn n a who.Requester (settled_by a.body) sent
     (asked txn v.requester.live v.responder.landed v.responder.sent v.requester.sent n a shown.requester.live shown.responder.landed (live_issues v.requester shown.requester.saved) (shown.responder.saved.landed n a sent))
     (arrives txn v (events.Deliver who.Requester n) shown a sent ends)
-arrives_at projects arrives w (desk_events.Deliver who.Responder txn n) stands =
+arrives_at projects reaches arrives w (desk_events.Deliver who.Responder txn n) stands =
     λ a sent returned.
     let shown = stands.each txn in
     let v = project txn w in
-    settles_there projects w stands txn n a who.Responder (states.Returned ∷ states.CheckedIn ∷ []) sent
+    settles_there projects reaches w stands txn n a who.Responder (states.Returned ∷ states.CheckedIn ∷ []) sent
     (supplied txn v.requester.landed v.responder.live v.responder.sent v.requester.sent n a shown.requester.landed shown.responder.live (live_issues v.responder shown.responder.saved)
     (shown.requester.saved.landed n a sent) returned) (arrives txn v (events.Deliver who.Responder n) shown a sent returned)
-arrives_at projects arrives w event stands = tt
+arrives_at projects reaches arrives w event stands = tt

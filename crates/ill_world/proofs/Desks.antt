@@ -1,5 +1,5 @@
 -- Why two desks are safe in each transaction.
-use Rattle.std.proofs.Common.{◌≡◌, ℕ, Bool, true, false, if◌then◌else◌, List, [], ◌∷◌, Option, Some, None, Result, Ok, Err, refl, sym, ap, ◌∙◌, subst}
+use Rattle.std.proofs.Common.{rules, ◌≡◌, ℕ, Bool, true, false, if◌then◌else◌, List, [], ◌∷◌, Option, Some, None, Result, Ok, Err, refl, sym, ap, ◌∙◌, subst}
 use Rattle.ill_values.specs.TxnId.{Qualifiers}
 use Rattle.ill_values.specs.declared.apdu.Apdu.{Apdu}
 use Rattle.ill_core.specs.declared.refusal.Refusal.{Refusal}
@@ -13,10 +13,10 @@ use Rattle.ill_saved.specs.declared.side.Side.{Side}
 use Rattle.ill_saved.specs.declared.side.Side.TheVariants as sides
 use Rattle.ill_saved.specs.declared.side.Action.{Action}
 use Rattle.ill_saved.specs.declared.side.Action.TheVariants as actions
-use Rattle.ill_saved.specs.Side.{issued_of, role_of, other, acts, takes}
+use Rattle.ill_saved.specs.Side.{issued_of, role_of, other, acts, takes, begins}
 use Rattle.ill_saved.specs.Sides.{is_same_role}
 use Rattle.ill_core.specs.Bodies.{is_ill_request}
-use Rattle.ill_saved.specs.Many.{Held, held_for, begins, reached, acted as acted_at, acts_reached, took as took_at, takes_reached, is_own, found_by, txn_held}
+use Rattle.ill_saved.specs.Many.{Held, held_for, reached, acted as acted_at, acts_reached, took as took_at, takes_reached, is_own, found_by, txn_held}
 use Rattle.ill_saved.proofs.Finding.{same_is}
 use Rattle.ill_world.specs.declared.event.Event.{Event}
 use Rattle.ill_world.specs.declared.event.DeskEvent.{DeskEvent}
@@ -27,9 +27,12 @@ use Rattle.ill_world.specs.World.{Parties, sent_message, sends_by, happens_to, h
 use Rattle.ill_world.specs.Desks.{DeskParty, DeskParties, Sending, sent_for, plain, desk_decides, desk_sends, desk_receives, desk_happens_to, desks_happen, desks_run, first_desks, party_for, project, concerns, if_reached, is_event_of, events_for, IsSeenAs, Projects}
 use Rattle.ill_world.specs.Agreement.{KeepsDates}
 use Rattle.ill_world.specs.Invariant.{RequesterSideStands, ResponderSideStands, Stands}
+use Rattle.ill_world.specs.Changes.{MayChange, OnlyLandedChanges, KeepsSent}
+use Rattle.ill_world.specs.DeskChanges.{DeskMayChange}
+use Rattle.ill_world.specs.declared.event.DeskOutcome.TheVariants.{Plain, NoSuchTransaction, DeskFull}
 use Rattle.ill_world.specs.DeskSafety.{IsDeskOf, DesksStand}
 use Rattle.ill_world.proofs.Parties.{RowsGrow}
-use Rattle.ill_world.proofs.Changes.{Quiet, After}
+use Rattle.ill_world.proofs.Changes.{Quiet, After, same_changes}
 use Rattle.ill_world.proofs.Uniqueness.{message_number}
 use Rattle.ill_world.proofs.Worlds.{same_dates}
 use Rattle.ill_world.proofs.Projections.{PartySeen, KeepsTo, party_seen, first_project}
@@ -207,3 +210,29 @@ pub desk_dates : EachProjects → ((txn : Qualifiers) (w : Parties) (event : Eve
 desk_dates projects stay txn w event stands =
     seen_keeps (KeepsDates (project txn w) (plain event)) (is_event_of txn w event) (happens (project txn w) (plain event)) (project txn w) _ _ (projects txn w event stands) (same_dates (project txn w) (plain event))
     (stay txn (project txn w) (plain event) (stands.each txn))
+
+-- ---- what changes
+
+pub same_plain : (a b : Outcome) → ◌≡◌ {A = DeskOutcome} (Plain a) (Plain b) → a ≡ b
+same_plain a b e = search rules
+
+unchanged : (own : Bool) (expected : Outcome × Parties) (old new : Parties) (outcome : DeskOutcome) → IsSeenAs (if_reached outcome own) expected old outcome new → MayChange OnlyLandedChanges expected.0 old expected.1
+    → ((outcome : Outcome) → MayChange OnlyLandedChanges outcome old old) → DeskMayChange outcome old new
+unchanged true expected old new (Plain outcome) seen changes same =
+    let is : expected.0 ≡ outcome = sym (same_plain outcome expected.0 seen.0) in
+    subst (λ o. MayChange OnlyLandedChanges o old new) is (subst (MayChange OnlyLandedChanges expected.0 old) (sym seen.1) changes)
+unchanged false expected old new (Plain outcome) seen changes same = subst (MayChange OnlyLandedChanges outcome old) (sym seen) (same outcome)
+unchanged own expected old new NoSuchTransaction seen changes same = seen
+unchanged own expected old new DeskFull seen changes same = seen
+
+pub desk_changes : EachProjects → ((w : Parties) (event : Event) → MayChange OnlyLandedChanges (happens w event).0 w (happens w event).1) → (txn : Qualifiers) (w : DeskParties) (event : DeskEvent) → DesksStand w
+    → DeskMayChange (desks_happen w event).0 (project txn w) (project txn (desks_happen w event).1)
+desk_changes projects changes txn w event stands =
+    unchanged (concerns txn event) (happens (project txn w) (plain event)) (project txn w) (project txn (desks_happen w event).1) (desks_happen w event).0 (projects txn w event stands)
+    (changes (project txn w) (plain event)) (same_changes (project txn w))
+
+pub desk_keeps_sent : EachProjects → ((txn : Qualifiers) (w : Parties) (event : Event) → Stands txn w → KeepsSent w (happens w event).1) → (txn : Qualifiers) (w : DeskParties) (event : DeskEvent) → DesksStand w
+    → KeepsSent (project txn w) (project txn (desks_happen w event).1)
+desk_keeps_sent projects keeps txn w event stands =
+    seen_keeps (KeepsSent (project txn w)) (is_event_of txn w event) (happens (project txn w) (plain event)) (project txn w) _ _ (projects txn w event stands) (λ of n a was. was)
+    (keeps txn (project txn w) (plain event) (stands.each txn))

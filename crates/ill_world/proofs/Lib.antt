@@ -20,4 +20,5 @@ pub mod Changes
 pub mod Outcomes
 pub mod Projections
 pub mod Desks
+pub mod Reaching
 pub mod DeskArrivals

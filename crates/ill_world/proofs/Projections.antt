@@ -17,9 +17,9 @@ use Rattle.ill_saved.specs.declared.side.Side.{Side}
 use Rattle.ill_saved.specs.declared.side.Side.TheVariants as sides
 use Rattle.ill_saved.specs.declared.side.Action.{Action}
 use Rattle.ill_saved.specs.declared.side.Action.TheVariants as actions
-use Rattle.ill_saved.specs.Side.{issued_of, txn_of, role_of, idle_side, acts, takes, acted, took, IsRow}
+use Rattle.ill_saved.specs.Side.{issued_of, txn_of, role_of, idle_side, acts, takes, acted, took, IsRow, role_for, begins}
 use Rattle.ill_saved.specs.Sides.{SidesOf, is_same_role, most_sides, side_with}
-use Rattle.ill_saved.specs.Many.{Held, Holding, found_by, txn_held, idle_held, whole, found_or, held_for, with_held, landed_for, sides_held, whole_of, is_own, role_for, begins, held_or_begun, reached, acted as acted_at, acts_reached, desk_acts, took as took_at, takes_reached}
+use Rattle.ill_saved.specs.Many.{Held, Holding, found_by, txn_held, idle_held, whole, found_or, held_for, with_held, landed_for, sides_held, whole_of, is_own, held_or_begun, reached, acted as acted_at, acts_reached, desk_acts, took as took_at, takes_reached}
 use Rattle.ill_saved.proofs.Finding.{same_is, same_self, found_is, found_put, found_mapped}
 use Rattle.ill_world.specs.declared.event.DeskEvent.{DeskEvent}
 use Rattle.ill_world.specs.declared.event.DeskEvent.TheVariants as events
@@ -29,6 +29,7 @@ use Rattle.ill_world.specs.declared.event.DeskOutcome.{DeskOutcome}
 use Rattle.ill_world.specs.declared.event.DeskOutcome.TheVariants.{Plain}
 use Rattle.ill_world.specs.World.{Party, nothing_sent, sent_message, with_sent, sends, sends_by, answer_to, receives, decides, saves, restarts, fails_to_save, happens_to, who_of, first_world}
 use Rattle.ill_world.specs.Desks.{Sending, DeskParty, txn_sent, sent_for, with_sent_for, plain, fault_seen, desk_decides, desk_saves, desk_fails_to_save, desk_sends, taking_seen, desk_receives, desk_restarts, desk_happens_to, first_desks, party_for, project, concerns, if_reached, IsSeenAs}
+use Rattle.ill_world.specs.DeskChanges.{Shows}
 use Rattle.ill_world.proofs.Parties.{RowsGrow}
 use Rattle.ill_world.proofs.Changes.{Quiet, quiet}
 
@@ -100,6 +101,15 @@ held_txn txn live = found_txn live.role txn live.held (found_by txn_held txn liv
 row_txn : RowsGrow → (old new : Side) → IsRow old new → txn_of new ≡ txn_of old
 row_txn grows old new row =
     sym (idle_txn (role_of new) (txn_of new)) ∙ ap txn_of (grows old new row).0 ∙ idle_txn (role_of old) (txn_of old)
+
+-- what there is of a transaction is shown
+pub shows : (p : DeskParty) (txn : Qualifiers) → Shows p txn (party_for txn p)
+shows p txn = record {
+  live = λ held found.
+      let is = ap (found_or (idle_held p.live.role txn)) found in (ap (λ (h : Held). h.side) is, ap (λ (h : Held). h.released) is);
+  landed = λ side found. ap (found_or (idle_side p.landed.role txn)) found;
+  sent = λ sending found. ap (λ o. (found_or {X = Sending} (record { txn = txn; sent = nothing_sent }) o).sent) found;
+}
 
 -- ---- an event of one transaction
 
@@ -303,7 +313,7 @@ same_role : (role : Who) → is_same_role role role ≡ true
 same_role who.Requester = refl
 same_role who.Responder = refl
 
-may_act : (p : DeskParty) (role : Who) → p.live.role ≡ role → is_same_role p.live.role role ≡ true
+pub may_act : (p : DeskParty) (role : Who) → p.live.role ≡ role → is_same_role p.live.role role ≡ true
 may_act p role is = ap (λ r. is_same_role r role) is ∙ same_role role
 
 pub party_seen : RowsGrow → Quiet → (p : DeskParty) (told : List Sending) (event : DeskEvent) → KeepsTo (who_of (plain event)) p told → (txn : Qualifiers) → PartySeen txn p told event

@@ -13,3 +13,4 @@ pub mod DeskSafety
 pub mod Agreement
 pub mod BadWorlds
 pub mod Changes
+pub mod DeskChanges

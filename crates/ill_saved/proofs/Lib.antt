@@ -14,3 +14,4 @@ pub mod Holdings
 pub mod Files
 pub mod Sizes
 pub mod Places
+pub mod Finding

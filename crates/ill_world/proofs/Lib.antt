@@ -22,3 +22,5 @@ pub mod Projections
 pub mod Desks
 pub mod Reaching
 pub mod DeskArrivals
+pub mod DeskMaps
+pub mod DeskParties

@@ -22,3 +22,4 @@ pub mod Projections
 pub mod Desks
 pub mod Reaching
 pub mod DeskArrivals
+pub mod DeskMaps

@@ -109,10 +109,14 @@ abbrev pub taking_seen : Result Taking DeskFault → DeskOutcome
 taking_seen (Ok taking) = Plain (Answered taking)
 taking_seen (Err fault) = fault_seen fault
 
+-- a message of the other desk
+abbrev pub desk_takes_message : DeskParty → Apdu → DeskOutcome × DeskParty
+desk_takes_message p a = (taking_seen (desk_takes p.live a).0, record p { live = (desk_takes p.live a).1 })
+
 -- Only a message that the other desk has sent in the transaction is delivered.
 abbrev pub desk_receives : DeskParty → Option Apdu → DeskOutcome × DeskParty
 desk_receives p None = (Plain NotSent, p)
-desk_receives p (Some a) = (taking_seen (desk_takes p.live a).0, record p { live = (desk_takes p.live a).1 })
+desk_receives p (Some a) = desk_takes_message p a
 
 -- What other bytes are, by what stands at their front. They change nothing: nobody forges an APDU, of whichever
 -- transaction.

@@ -14,3 +14,4 @@ pub mod Agreement
 pub mod BadWorlds
 pub mod Changes
 pub mod DeskChanges
+pub mod DeskView

@@ -5,6 +5,8 @@
 mod ahead;
 mod bytes;
 pub mod desk_laws;
+mod desk_party;
+mod desk_sent;
 mod event;
 mod fault;
 pub mod laws;
@@ -13,6 +15,7 @@ mod message;
 mod party;
 mod performer;
 mod script;
+
 mod sent;
 mod simulation;
 mod trace;

@@ -45,7 +45,7 @@ pub fn begin(
 }
 
 /// The store of these words. The side that is there is let go.
-fn store_of(alloc: Global, desk: &mut Option<Desk>, word: &Word) -> Option<MemoryStore> {
+pub fn store_of(alloc: Global, desk: &mut Option<Desk>, word: &Word) -> Option<MemoryStore> {
     let before = desk.take();
     if word.is("again") {
         before.and_then(Desk::into_store)
@@ -75,7 +75,7 @@ fn begin_over(
 }
 
 /// Tells the bytes that have landed, if any have.
-fn tell_landed(
+pub fn tell_landed(
     alloc: Global,
     page: &mut Page,
     names: &Names,

@@ -6,6 +6,7 @@ use crate::desk::{Desk, DeskCall};
 use crate::engines;
 use crate::engines::Engine;
 use crate::folder::{FileCall, Folder};
+use crate::many::begin_many;
 use crate::names::Names;
 use crate::page::Page;
 use crate::texts::tell_texts;
@@ -44,13 +45,15 @@ enum Kind {
     Desk,
     /// One begins by the engine of `new`.
     New,
+    /// Many begin by the engine of `new`.
+    Many,
     /// The next call of its store is planned.
     Next,
     On(DeskCall),
     Texts,
 }
 
-const KINDS: [(&str, Kind); 20] = [
+const KINDS: [(&str, Kind); 21] = [
     ("ill", Kind::Ill),
     ("show", Kind::Engine(Engine::Show)),
     ("check", Kind::Engine(Engine::Check)),
@@ -63,6 +66,7 @@ const KINDS: [(&str, Kind); 20] = [
     ("remove", Kind::File(FileCall::Remove)),
     ("desk", Kind::Desk),
     ("new", Kind::New),
+    ("many", Kind::Many),
     ("next", Kind::Next),
     ("save", Kind::On(DeskCall::Save)),
     ("restart", Kind::On(DeskCall::Restart)),
@@ -103,6 +107,7 @@ impl<'a, R: Files> Bench<'a, R> {
                 desk.perform(self.alloc, page, names, kind, &mut call)
             }
             Kind::New => begin(self.alloc, page, names, &mut self.desk, &mut call),
+            Kind::Many => begin_many(self.alloc, page, names, &mut self.desk, &mut call),
             _ => None,
         }
     }

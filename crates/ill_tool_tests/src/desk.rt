@@ -1,4 +1,4 @@
-//! One side of transaction G1, T1 in memory, and the engines that are called on it.
+//! What is in memory: one side of transaction G1, T1, and the engines that are called on it; or many sides.
 
 ghost use Rattle.std.specs.Prelude.{◌≡◌, IfSome};
 ghost use Rattle.ill_saved.specs.Side.{idle_of};
@@ -6,20 +6,22 @@ ghost use Rattle.ill_saved.specs.Side.{idle_of};
 use crate::call::Call;
 use crate::desk_view::{DeskView, tell_view};
 use crate::limited::LimitedStore;
+use crate::many::perform_many;
 use crate::names::Names;
 use crate::page::Page;
 use crate::words::{Word, texts};
 use ill_core::{Requester, Responder};
-use ill_saved::{Desk1, MemoryStore, NextCall, Side, Store};
+use ill_saved::{Desk as Many, Desk1, MemoryStore, NextCall, Side, Store};
 use ill_tool::{run_act, run_send, run_status, run_take};
 use ill_values::{Day, Number, TxnId};
 use std::alloc::Global;
 
-/// A side, in a store that fails as is planned, or in one that lasts for so many saves.
+/// A side, in a store that fails as is planned, or in one that lasts for so many saves; or many sides.
 #[derive(Drop)]
 pub enum Desk {
     Planned(Desk1<MemoryStore>),
     Limited(Desk1<LimitedStore>),
+    Many(Many<MemoryStore>),
 }
 
 /// What is called on a side.
@@ -53,6 +55,7 @@ impl Desk {
         match self {
             Desk::Planned(desk) => Some(desk.close()),
             Desk::Limited(_) => None,
+            Desk::Many(desk) => Some(desk.close()),
         }
     }
 
@@ -60,15 +63,14 @@ impl Desk {
     pub fn plan(&mut self, words: &[Word]) -> Option<()> {
         let next = next_call(words.first()?)?;
         match self {
-            Desk::Planned(desk) => {
-                desk.set_next(next);
-                Some(())
-            }
-            Desk::Limited(_) => None,
+            Desk::Planned(desk) => desk.set_next(next),
+            Desk::Limited(_) => return None,
+            Desk::Many(desk) => desk.set_next(next),
         }
+        Some(())
     }
 
-    /// Performs a call, and tells its answer and how the side stands.
+    /// Performs a call, and tells its answer; and how the side stands, where there is one alone.
     pub fn perform(
         &mut self,
         alloc: Global,
@@ -80,6 +82,7 @@ impl Desk {
         match self {
             Desk::Planned(desk) => perform_on(alloc, page, names, desk, kind, call),
             Desk::Limited(desk) => perform_on(alloc, page, names, desk, kind, call),
+            Desk::Many(desk) => perform_many(alloc, page, names, desk, kind, call),
         }
     }
 }
@@ -182,7 +185,7 @@ fn act<S: Store>(
 }
 
 /// The word of the day that stands before the words of an action, if one does.
-fn day_before(words: &[Word]) -> Option<&Word> {
+pub fn day_before(words: &[Word]) -> Option<&Word> {
     match words {
         [option, day, ..] if option.is("--today") => Some(day),
         _ => None,
@@ -190,7 +193,7 @@ fn day_before(words: &[Word]) -> Option<&Word> {
 }
 
 /// The words of an action.
-fn words_behind(words: &[Word]) -> &[Word] {
+pub fn words_behind(words: &[Word]) -> &[Word] {
     match words {
         [option, _, words @ ..] if option.is("--today") => words,
         _ => words,

@@ -24,6 +24,7 @@ mod engines;
 mod failure;
 mod folder;
 mod limited;
+mod many;
 mod names;
 mod page;
 mod session;

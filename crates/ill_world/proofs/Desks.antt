@@ -118,7 +118,7 @@ takes_role : (role : Who) (p : DeskParty) (a : Apdu) (found : Result Held DeskFa
 takes_role role p a (Ok held) is = took_role role p held (takes held.side a).0 (takes held.side a).1 is
 takes_role role p a (Err fault) is = is.0
 
-receives_role : (role : Who) (p : DeskParty) (found : Option Apdu) → IsDeskOf role p → IsDeskOf role (desk_receives p found).1
+pub receives_role : (role : Who) (p : DeskParty) (found : Option Apdu) → IsDeskOf role p → IsDeskOf role (desk_receives p found).1
 receives_role role p None is = is
 receives_role role p (Some a) is = (go (is_own p.live.role a.body), is.1)
   where

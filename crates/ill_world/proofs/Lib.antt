@@ -23,3 +23,4 @@ pub mod Desks
 pub mod Reaching
 pub mod DeskArrivals
 pub mod DeskMaps
+pub mod DeskParties

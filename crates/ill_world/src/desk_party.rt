@@ -171,9 +171,13 @@ pub fn heard(alloc: Global, bytes: &[u8]) -> Result<Outcome, OutOfMemory>
     ensures { IfOk result (λ outcome. outcome ≡ desks.desk_hears (apdu_at bytes.now)) }
 {
     match decode(alloc, bytes) {
-        Ok((_, size)) if size == bytes.len() => Ok(Outcome::Forged),
+        Ok((_, size)) => Ok(if size == bytes.len() {
+            Outcome::Forged
+        } else {
+            Outcome::Garbled
+        }),
         Err(DerFault::OutOfMemory) => Err(OutOfMemory),
-        Ok(_) | Err(_) => Ok(Outcome::Garbled),
+        Err(_) => Ok(Outcome::Garbled),
     }
 }
 

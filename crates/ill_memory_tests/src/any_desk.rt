@@ -100,7 +100,12 @@ impl AnyDesk for Desk1<MemoryStore> {
         self.restart(alloc)
     }
 
-    fn message_in(&self, alloc: Global, _txn: &TxnId, number: Number) -> Result<Vec<u8>, DeskFault> {
+    fn message_in(
+        &self,
+        alloc: Global,
+        _txn: &TxnId,
+        number: Number,
+    ) -> Result<Vec<u8>, DeskFault> {
         self.message(alloc, number)
     }
 }

@@ -116,11 +116,7 @@ pub fn restarts_idle<D: AnyDesk>(alloc: Global, words: &mut Words<'_>) -> Option
 }
 
 /// The outcome of `restart` behind the first message, which is not saved.
-fn begins_and_restarts<D: AnyDesk>(
-    alloc: Global,
-    desk: &mut D,
-    role: Role,
-) -> Option<Outcome> {
+fn begins_and_restarts<D: AnyDesk>(alloc: Global, desk: &mut D, role: Role) -> Option<Outcome> {
     let has_begun = match role {
         Role::Requester => acts(alloc, desk, wish(alloc, "Request")),
         Role::Responder => desk.take_spelled(alloc, REQUEST).is_ok(),
@@ -163,7 +159,11 @@ fn called<D: AnyDesk>(
 fn given_to(alloc: Global, name: &str, role: Role) -> Option<Given> {
     let is_held = !name.ends_with("-first") && !name.ends_with("-of-none");
     let txn = txn(alloc, if is_held { "T1" } else { "T2" });
-    let bytes = if is_held { message_to(role) } else { REQUEST_OF_T2 };
+    let bytes = if is_held {
+        message_to(role)
+    } else {
+        REQUEST_OF_T2
+    };
     let decoded = decode(alloc, bytes).ok();
     let ((apdu, _), (action, txn)) = decoded.zip(action_in(alloc, name, role).zip(txn))?;
     let first = message_of(role);

@@ -80,8 +80,10 @@ impl DeskView {
 
     /// The state of the side, or IDLE.
     pub fn state(&self) -> State {
-        self.standing
-            .map_or(State::Idle, |standing| standing.side.state)
+        match &self.standing {
+            Some(standing) => standing.side.state,
+            None => State::Idle,
+        }
     }
 
     /// Writes where the side stands, and how many sides are held.

@@ -14,4 +14,3 @@ pub mod Holdings
 pub mod Files
 pub mod Sizes
 pub mod Places
-pub mod Finding

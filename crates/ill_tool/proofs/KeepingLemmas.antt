@@ -1,6 +1,7 @@
 -- What keeps many sides, from what the calls of its desk answer.
-use Rattle.std.proofs.Common.{◌≡◌, ℕ, Bool, true, false, ◌&&◌, if◌then◌else◌, cond, List, [], ◌∷◌, map, Option, Some, None, Result, Ok, Err, refl, ap, sym, subst, ◌∙◌, true≢false}
-use Rattle.std.specs.Prelude.{IfErr, option_map, nat_lt, length, codes, is_none}
+use Rattle.std.proofs.Common.{◌≡◌, ℕ, zero, suc, Bool, true, false, ◌&&◌, if◌then◌else◌, cond, List, [], ◌∷◌, map, Option, Some, None, Result, Ok, Err, refl, ap, sym, subst, ◌∙◌, true≢false}
+use Rattle.std.specs.Prelude.{IfErr, option_map, nat_lt, length, is_none, is_some, slice_get}
+use Rattle.std.proofs.lemmas.Bool.{and_parts}
 use Rattle.std.proofs.lemmas.Result.{IfErr-at_err}
 use Rattle.ill_values.specs.TxnId.{Qualifiers}
 use Rattle.ill_values.specs.declared.apdu.Apdu.{Apdu}
@@ -9,8 +10,6 @@ use Rattle.ill_core.specs.declared.refusal.Refusal.TheVariants.{WrongRole}
 use Rattle.ill_core.specs.Bodies.{is_ill_request}
 use Rattle.ill_core.specs.declared.taking.Taking.{Taking}
 use Rattle.ill_core.specs.Issued.{is_same_txn}
-use Rattle.ill_saved.specs.declared.role.Role.{Role}
-use Rattle.ill_saved.specs.declared.role.Role.TheVariants.{Requester, Responder}
 use Rattle.ill_saved.specs.declared.side.Side.{Side}
 use Rattle.ill_saved.specs.declared.side.Action.{Action}
 use Rattle.ill_saved.specs.declared.fault.DeskFault.{DeskFault}
@@ -18,10 +17,9 @@ use Rattle.ill_saved.specs.declared.fault.DeskFault.TheVariants as desks
 use Rattle.ill_saved.specs.Side.{txn_of, idle_side, role_for, begins, acts, takes}
 use Rattle.ill_saved.specs.Sides.{most_sides, is_same_role, side_with, are_apart}
 use Rattle.ill_saved.specs.Many.{Held, Holding, is_own, found_by, txn_held, found_or, idle_held, held_for, sides_held, held_or_begun, reached, acted, acts_reached, desk_acts, took, takes_reached, desk_takes, ManyActs, ManyTakesApdu}
-use Rattle.ill_world.specs.Trace.{shown_text}
 use Rattle.ill_tool.specs.Keeping.{many_sides, IsRefusal, KeeperActs, KeeperTakes}
-use Rattle.ill_tool.specs.Telling.{held_text}
-use Rattle.ill_saved.proofs.Held.{same_is}
+use Rattle.ill_saved.proofs.Finding.{same_is, same_self, some_is, found_mapped}
+use Rattle.ill_saved.proofs.Holdings.{held_there, none_held_there}
 
 -- ---- each fault of a desk is a refusal
 
@@ -46,7 +44,7 @@ acts_or_refused live action (Ok held) only = acted_or_refused live held (acts he
 acts_or_refused live action (Err fault) only = only
 
 took_or_refused : (live : Holding) (held : Held) (answer : Result Taking Refusal) (side : Side) → OnlyRefuses (took live held (answer, side)).0
-took_or_refused live held (Ok taking) side = tt
+took_or_refused live held (Ok answer) side = tt
 took_or_refused live held (Err refusal) side = refl
 
 takes_or_refused : (live : Holding) (a : Apdu) (there : Result Held DeskFault) → OnlyRefuses there → OnlyRefuses (takes_reached live a there).0
@@ -77,9 +75,43 @@ many_acts old txn action (Err desks.OutOfMemory) new is = is.1
 many_acts old txn action (Err fault) new is = (is.0, IfErr-at_err IsRefusal is.0 (desk_acts_or_refuses old txn action), is.1)
 
 pub many_takes : (old : Holding) (a : Apdu) (answer : Result Taking DeskFault) (new : Holding) → ManyTakesApdu old a answer new → KeeperTakes many_sides old a answer new
-many_takes old a (Ok taking) new is = is
+many_takes old a (Ok answer) new is = is
 many_takes old a (Err desks.OutOfMemory) new is = ((is.0, is.1), is.2)
 many_takes old a (Err fault) new is = (is, IfErr-at_err IsRefusal (ap (λ (p : Result Taking DeskFault × Holding). p.0) is) (desk_takes_or_refuses old a))
 
 -- ---- how a side stands
 
+-- where its transaction has a side
+pub side_there : (live : Holding) (txn : Qualifiers) (side : Side) → side_with txn (sides_held live).sides ≡ Some side → (held_for txn live).side ≡ side
+side_there live txn side there = ap (λ (found : Option Held). (found_or (idle_held live.role txn) found).side) (held_there live txn side there)
+
+-- where it has none
+pub none_there : (live : Holding) (txn : Qualifiers) → side_with txn (sides_held live).sides ≡ None → held_for txn live ≡ idle_held live.role txn
+none_there live txn none = ap (found_or (idle_held live.role txn)) (none_held_there live txn none)
+
+-- No two sides are of one transaction, so each is found by its own.
+abbrev side_of : Held → Side
+side_of held = held.side
+
+hidden_by : (txn : Qualifiers) (sides : List Held) (held : Held) → is_none (side_with txn (map side_of sides)) ≡ true → found_by txn_held txn sides ≡ Some held → ⊥
+unfolding side_with
+hidden_by txn sides held none found = true≢false (sym none ∙ ap is_none (found_mapped txn_held txn_of side_of (λ h. refl) txn sides ∙ ap (option_map side_of) found))
+
+found_behind : (first held : Held) (sides : List Held) (same : Bool) → is_same_txn (txn_held held) (txn_held first) ≡ same → is_none (side_with (txn_held first) (map side_of sides)) ≡ true
+    → found_by txn_held (txn_held held) sides ≡ Some held → cond same (Some first) (found_by txn_held (txn_held held) sides) ≡ Some held
+found_behind first held sides true same none found =
+    let of : txn_held held ≡ txn_held first = same_is (txn_held held) (txn_held first) same in
+    absurd (hidden_by (txn_held first) sides held none (ap (λ t. found_by txn_held t sides) (sym of) ∙ found))
+found_behind first held sides false same none found = found
+
+apart_found : (sides : List Held) (place : ℕ) (held : Held) → are_apart (map side_of sides) ≡ true → slice_get sides place ≡ Some held → found_by txn_held (txn_held held) sides ≡ Some held
+unfolding are_apart
+apart_found [] place held apart at = absurd (true≢false (sym (ap is_some at)))
+apart_found (first ∷ sides) zero held apart at =
+    subst (λ (h : Held). found_by txn_held (txn_held h) (first ∷ sides) ≡ Some h) (some_is first held at) (ap (λ same. cond same (Some first) (found_by txn_held (txn_held first) sides)) (same_self (txn_held first)))
+apart_found (first ∷ sides) (suc place) held apart at =
+    let parts = and_parts _ _ apart in
+    found_behind first held sides (is_same_txn (txn_held held) (txn_held first)) refl parts.0 (apart_found sides place held parts.1 at)
+
+pub held_at_place : (live : Holding) (place : ℕ) (held : Held) → are_apart (sides_held live).sides ≡ true → slice_get live.held place ≡ Some held → held_for (txn_held held) live ≡ held
+held_at_place live place held apart at = ap (found_or (idle_held live.role (txn_held held))) (apart_found live.held place held apart at)

@@ -1,9 +1,11 @@
 //! The cases by their words.
 
+use crate::any_desk::AnyDesk;
 use crate::files::Folder;
 use crate::judging::Outcome;
 use crate::words::Words;
 use crate::{codec, desks, held, records, scripts, sides, starts, stores, tool, values, worlds};
+use ill_saved::{Desk, Desk1, MemoryStore};
 use std::alloc::Global;
 
 /// What comes of the case of these words, or `None` where they are none.
@@ -34,7 +36,8 @@ fn call_outcome(
         "MemoryStore" => store_outcome(alloc, name, words),
         "FileStore" => folder.outcome(alloc, name),
         "Sides" => held::outcome(alloc, name),
-        "Desk1" => desk_outcome(alloc, name, words),
+        "Desk1" => desk_outcome::<Desk1<MemoryStore>>(alloc, name, words),
+        "Desk" => desk_outcome::<Desk<MemoryStore>>(alloc, name, words),
         "record" => record_outcome(alloc, name, words),
         "World" => world_outcome(alloc, name, words),
         "tool" => tool::outcome(alloc, name, words),
@@ -95,13 +98,13 @@ fn store_outcome(alloc: Global, call: &str, words: &mut Words<'_>) -> Option<Out
     }
 }
 
-fn desk_outcome(alloc: Global, call: &str, words: &mut Words<'_>) -> Option<Outcome> {
+fn desk_outcome<D: AnyDesk>(alloc: Global, call: &str, words: &mut Words<'_>) -> Option<Outcome> {
     match call {
-        "create" => starts::creates(alloc, words),
-        "create-over-record" => starts::exists(alloc, words),
-        "start" => starts::starts(alloc, words),
-        "restart-idle" => desks::restarts_idle(alloc, words),
-        other => desks::outcome(alloc, other, words),
+        "create" => starts::creates::<D>(alloc, words),
+        "create-over-record" => starts::exists::<D>(alloc, words),
+        "start" => starts::starts::<D>(alloc, words),
+        "restart-idle" => desks::restarts_idle::<D>(alloc, words),
+        other => desks::outcome::<D>(alloc, other, words),
     }
 }
 

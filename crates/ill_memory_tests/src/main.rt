@@ -12,6 +12,7 @@
 //! by name: the proof of that function needs no word of the parts that a drop lets go.
 #![tactic(auto)]
 
+mod any_desk;
 mod cases;
 mod codec;
 mod desks;

@@ -56,6 +56,14 @@ impl Role {
         }
     }
 
+    /// The same role of all sides of one library.
+    pub fn of_sides(self) -> ill_saved::Role {
+        match self {
+            Role::Requester => ill_saved::Role::Requester,
+            Role::Responder => ill_saved::Role::Responder,
+        }
+    }
+
     /// The side of the first of these records.
     pub fn side(self, alloc: Global) -> Option<Side> {
         decode_record(alloc, self.record()).ok()

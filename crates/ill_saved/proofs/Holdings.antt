@@ -1,7 +1,7 @@
 -- What a desk of many transactions holds.
-use Rattle.std.proofs.Common.{rules, arith, ◌≡◌, ◌⊎◌, inl, inr, ℕ, zero, suc, ◌+◌, ◌≤◌, ◌<◌, nat_lt, length, map, Bool, true, false, not, cond, List, [], ◌∷◌, ◌++◌, Option, Some, None, is_some, Result, Ok, Err, is_ok, refl, ap, sym, subst, ◌∙◌, true≢false, length-append, slice_index_or, drop, append_assoc}
+use Rattle.std.proofs.Common.{rules, arith, ◌≡◌, ◌⊎◌, inl, inr, ℕ, zero, suc, ◌+◌, ◌<◌, nat_lt, length, map, Bool, true, false, not, cond, List, [], ◌∷◌, ◌++◌, Option, Some, None, is_some, Result, Ok, Err, is_ok, refl, ap, sym, subst, ◌∙◌, true≢false, slice_index_or, drop, append_assoc}
 use Rattle.std.specs.Prelude.{option_map, IfSome, slice_get, position, find}
-use Rattle.std.specs.List.{list_all, position_or_len}
+use Rattle.std.specs.List.{position_or_len}
 use Rattle.std.proofs.Math.ListN.{get_or}
 use Rattle.std.proofs.lemmas.List.{length-map, drop_more}
 use Rattle.std.proofs.lemmas.List.Folds.{find_at}
@@ -30,21 +30,21 @@ use Rattle.ill_saved.specs.declared.side.Action.{Action}
 use Rattle.ill_saved.specs.declared.fault.DeskFault.{DeskFault}
 use Rattle.ill_saved.specs.declared.fault.DeskFault.TheVariants as faults
 use Rattle.ill_saved.specs.declared.fault.RecordFault.{RecordFault}
-use Rattle.ill_saved.specs.Side.{issued_of, txn_of, role_of, idle_of, idle_side, is_idle, role_for, begins, IsConsistent, IsRow, acted, took, acts, takes, takes_memory, Acts, Takes, WantsMemoryFor, Follows, same as follows_itself, further as one_further, IsFrontOf}
+use Rattle.ill_saved.specs.Side.{issued_of, txn_of, role_of, idle_side, is_idle, role_for, begins, IsConsistent, IsRow, acts, takes, takes_memory, Acts, Takes, Follows, same as follows_itself, further as one_further, IsFrontOf}
 use Rattle.ill_saved.specs.Faults.{of_core}
 use Rattle.ill_saved.specs.Ranges.{Each, IsSide}
-use Rattle.ill_saved.specs.Sides.{SidesOf, is_same_role, may_be_held, most_sides, found_by, put_by, side_with, put_refusal, put_last as put_side, OnlyThat}
+use Rattle.ill_saved.specs.Sides.{SidesOf, is_same_role, most_sides, found_by, put_by, side_with, put_refusal, put_last as put_side, OnlyThat}
 use Rattle.ill_der.specs.Format.{◌>>=◌}
 use Rattle.ill_der.specs.Laws.{IsBytes}
 use Rattle.ill_saved.specs.declared.fault.RecordFault.TheVariants as records
 use Rattle.ill_saved.specs.declared.store.NextCall.{NextCall}
-use Rattle.ill_saved.specs.Records.{record_at, record_spelling, Decodes}
+use Rattle.ill_saved.specs.Records.{record_at, record_spelling}
 use Rattle.ill_saved.specs.Records2.{AreSides, alone, read_alone, is_version_1, unsealed, sides_at, sides_spelling, records_at, begins_as_records}
 use Rattle.ill_saved.specs.Desk.{IsBackedBy, Loads, Restarts}
 use Rattle.ill_saved.specs.Many.{ManyOf, StartsMany, LoadsOrNone, IsManyLoadFault, Held, Holding, held_of, counts, txn_held, idle_held, whole, found_or, held_for, with_held, sides_held, whole_of, is_own, held_or_begun, reached, acted as acted_by, acts_reached, desk_acts, took as took_by, takes_reached, desk_takes, ManyActs, ManyTakesApdu, FirstActs, FirstTakes, landed_for, AreBackedBy, AreBackedByRead, landed_sides, AreBacked}
 use Rattle.ill_saved.proofs.Desks.{RowsGrow, RefusalsStay, itself_backs, no_less, no_fault, idle_consistent}
 use Rattle.ill_saved.proofs.Held.{new_to, idle_txn, idle_role, acts_row, takes_row, found_plainly}
-use Rattle.ill_saved.proofs.Finding.{same_is, same_self, found_is, found_put, put_last, put_again, found_mapped, put_mapped, put_length, some_is}
+use Rattle.ill_saved.proofs.Finding.{same_is, same_self, found_is, found_put, put_last, put_again, found_mapped, put_length, some_is}
 
 -- ---- sides and their counts
 
@@ -59,6 +59,11 @@ sides_there (side ∷ sides) (n ∷ counted) as_many = ap (λ vs. side ∷ vs) (
 
 pub holds_sides : (all : SidesOf) (counted : List ℕ) → length counted ≡ length all.sides → sides_held (record { role = all.role; held = held_of all.sides counted }) ≡ all
 holds_sides all counted as_many = ap (λ vs. record { role = all.role; sides = vs }) (sides_there all.sides counted as_many)
+
+-- the sides, as a caller of the desk sees them
+pub as_seen : {S : Type 0} (all : SidesOf) (counted : List ℕ) (store : S) (desk : ManyOf S) → length counted ≡ length all.sides
+    → record { live = record { role = all.role; held = held_of all.sides counted }; store = store } ≡ desk → all ≡ sides_held desk.live
+as_seen all counted store desk as_many view = sym (holds_sides all counted as_many) ∙ ap (λ (d : ManyOf _). sides_held d.live) view
 
 pub as_many_held : (sides : List Side) (counted : List ℕ) → length counted ≡ length sides → length (held_of sides counted) ≡ length sides
 as_many_held sides counted as_many = sym (length-map (held_of sides counted) side_of) ∙ ap length (sides_there sides counted as_many)
@@ -324,13 +329,13 @@ module _ (grows : RowsGrow) (live : Holding) (txn : Qualifiers) (none : found_by
   first_role : role_of side ≡ live.role
   first_role = sym (idle_role side) ∙ ap role_of (grows (idle_side live.role txn) side row).0 ∙ idle_role (idle_side live.role txn) ∙ role_idle live.role txn
 
-  pub first_may : put_refusal (sides_held live) side ≡ None
-  first_may =
+  first_put : put_refusal (sides_held live) side ≡ None
+  first_put =
       may_put (sides_held live) side (ap (is_same_role live.role) first_role ∙ same_role live.role) begun
       (ap (λ t. side_with t (sides_held live).sides) first_txn ∙ none_with live txn none) (ap (λ n. nat_lt n most_sides) (length-map live.held side_of) ∙ room)
 
-  pub first_row : IsRow (idle_side live.role (txn_of side)) side
-  first_row = subst (λ t. IsRow (idle_side live.role t) side) (sym first_txn) row
+  pub first_may : (put_refusal (sides_held live) side ≡ None) × IsRow (idle_side live.role (txn_of side)) side
+  first_may = (first_put, subst (λ t. IsRow (idle_side live.role t) side) (sym first_txn) row)
 
 -- the first message of a transaction leaves its side no longer idle
 pub first_begins : ((y : ResponderRecord) (a : Apdu) → is_ill_request a.body ≡ true → (responder_takes y a).0 ≡ Ok Taken → is_among (Idle ∷ []) (responder_takes y a).1.state ≡ false)

@@ -10,7 +10,7 @@ use Rattle.ill_core.specs.declared.refusal.Refusal.TheVariants.{WrongRole}
 use Rattle.ill_core.specs.declared.taking.Taking.{Taking}
 use Rattle.ill_core.specs.declared.taking.Taking.TheVariants.{Taken}
 use Rattle.ill_core.specs.Bodies.{is_ill_request, is_requesters}
-use Rattle.ill_core.specs.Issued.{message, is_same_txn}
+use Rattle.ill_core.specs.Issued.{message}
 use Rattle.ill_saved.specs.declared.role.Role.{Role}
 use Rattle.ill_saved.specs.declared.role.Role.TheVariants.{Requester, Responder}
 use Rattle.ill_saved.specs.declared.side.Side.{Side}
@@ -160,13 +160,6 @@ SendsHeld view None number answer = answer ≡ Err NoSuchTransaction
 SendsHeld view (Some held) number answer =
     Sends view (message (issued_of held.side) number) (nat_le number held.released) answer
 
--- whether a transaction may begin
-abbrev pub MayBegin : Bool → Bool → Result (Unit {0}) DeskFault → Type 0
-MayBegin begins has_room (Ok done) = (begins ≡ true) × (has_room ≡ true)
-MayBegin begins has_room (Err NoSuchTransaction) = begins ≡ false
-MayBegin begins has_room (Err DeskFull) = (begins ≡ true) × (has_room ≡ false)
-MayBegin begins has_room (Err fault) = ⊥
-
 -- ---- what has landed
 
 -- the only faults of loading: a record of many sides has a digest besides
@@ -220,12 +213,24 @@ abbrev pub ManyRestartLeaves : {S : Type 0} → Result (Unit {0}) DeskFault → 
 ManyRestartLeaves (Ok done) old new = AreWhole new
 ManyRestartLeaves (Err fault) old new = (new.live ≡ old.live) × IsManyLoadFault fault
 
--- what bytes are read as
-abbrev pub LoadsSides : List ℕ → Result SidesOf DeskFault → Type 0
-LoadsSides bytes (Ok all) = records_at bytes ≡ Ok all
-LoadsSides bytes (Err (Saved fault)) = Decodes (records_at bytes) (begins_as_records bytes) (Err fault)
-LoadsSides bytes (Err OutOfMemory) = Unit {0}
-LoadsSides bytes (Err other) = ⊥
+-- the store after a call that hands it back with a fault
+abbrev pub many_store_of : {S F : Type 0} → Result (ManyOf S) (F × S) → S
+many_store_of answer = store_after (λ desk. desk.store) answer
+
+-- What starting a desk answers, over an honest store: the sides that have landed.
+abbrev pub StartsMany : {S : Type 0} → Option (List ℕ) → Option NextCall → Result (ManyOf S) (DeskFault × S) →
+    Type 0
+StartsMany landed plan answer =
+    Begins records_at begins_as_records (λ desk. sides_held desk.live) landed plan answer
+
+-- ---- the parts of these calls
+
+-- whether a transaction may begin
+abbrev pub MayBegin : Bool → Bool → Result (Unit {0}) DeskFault → Type 0
+MayBegin begins has_room (Ok done) = (begins ≡ true) × (has_room ≡ true)
+MayBegin begins has_room (Err NoSuchTransaction) = begins ≡ false
+MayBegin begins has_room (Err DeskFull) = (begins ≡ true) × (has_room ≡ false)
+MayBegin begins has_room (Err fault) = ⊥
 
 -- What an idle side does first, and how it stands then. Memory is wanted only where it would do it.
 abbrev pub FirstActs : Side → Action → Result Side DeskFault → Type 0
@@ -238,18 +243,15 @@ FirstTakes idle a (Ok new) = takes idle a ≡ (Ok Taken, new)
 FirstTakes idle a (Err OutOfMemory) = Unit {0}
 FirstTakes idle a (Err fault) = ⊥
 
+-- what bytes are read as
+abbrev pub LoadsSides : List ℕ → Result SidesOf DeskFault → Type 0
+LoadsSides bytes (Ok all) = records_at bytes ≡ Ok all
+LoadsSides bytes (Err (Saved fault)) = Decodes (records_at bytes) (begins_as_records bytes) (Err fault)
+LoadsSides bytes (Err OutOfMemory) = Unit {0}
+LoadsSides bytes (Err other) = ⊥
+
 -- where there are no bytes, none of the role
 abbrev pub LoadsOrNone : Option (List ℕ) → Role → Result SidesOf DeskFault → Type 0
 LoadsOrNone (Some bytes) role answer = LoadsSides bytes answer
 LoadsOrNone None role (Ok all) = all ≡ record { role = role; sides = [] }
 LoadsOrNone None role (Err fault) = fault ≡ OutOfMemory
-
--- the store after a call that hands it back with a fault
-abbrev pub many_store_of : {S F : Type 0} → Result (ManyOf S) (F × S) → S
-many_store_of answer = store_after (λ desk. desk.store) answer
-
--- What starting a desk answers, over an honest store: the sides that have landed.
-abbrev pub StartsMany : {S : Type 0} → Option (List ℕ) → Option NextCall → Result (ManyOf S) (DeskFault × S) →
-    Type 0
-StartsMany landed plan answer =
-    Begins records_at begins_as_records (λ desk. sides_held desk.live) landed plan answer

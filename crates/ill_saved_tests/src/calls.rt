@@ -59,6 +59,7 @@ pub enum WordsCall {
     Message,
     Restart,
     Sides(SidesCall),
+    Many(ManyCall),
 }
 
 /// A call of the sides of one library.
@@ -72,7 +73,17 @@ pub enum SidesCall {
     Again,
 }
 
-static CALLS: [(&str, Call); 32] = [
+/// A call for a desk of many transactions alone.
+#[derive(Clone, Copy)]
+pub enum ManyCall {
+    Create,
+    Start,
+    Begin,
+    Each,
+    Fuse,
+}
+
+static CALLS: [(&str, Call); 37] = [
     ("", Call::Note),
     ("#", Call::Note),
     ("let", Call::Let),
@@ -114,6 +125,26 @@ static CALLS: [(&str, Call); 32] = [
     (
         "again",
         Call::Case(CaseCall::Words(WordsCall::Sides(SidesCall::Again))),
+    ),
+    (
+        "create-many",
+        Call::Case(CaseCall::Words(WordsCall::Many(ManyCall::Create))),
+    ),
+    (
+        "start-many",
+        Call::Case(CaseCall::Words(WordsCall::Many(ManyCall::Start))),
+    ),
+    (
+        "begin",
+        Call::Case(CaseCall::Words(WordsCall::Many(ManyCall::Begin))),
+    ),
+    (
+        "each",
+        Call::Case(CaseCall::Words(WordsCall::Many(ManyCall::Each))),
+    ),
+    (
+        "fuse-many",
+        Call::Case(CaseCall::Words(WordsCall::Many(ManyCall::Fuse))),
     ),
     ("store", Call::Case(CaseCall::Words(WordsCall::Store))),
     ("fuse", Call::Case(CaseCall::Words(WordsCall::Fuse))),

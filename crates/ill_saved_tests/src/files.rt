@@ -4,14 +4,15 @@ ghost use Rattle.std.specs.Prelude.{◌≡◌, IfErr};
 ghost use Rattle.ill_saved.specs.declared.store.StoreFault.TheVariants.{Failed};
 ghost use Rattle.ill_saved.specs.Store.{failed_file};
 
+use crate::any_desk::DeskOver;
 use crate::calls::named;
 use crate::failing::Failing;
 use crate::line::Line;
 use crate::longest;
 use crate::names::Names;
-use crate::restarts::{Damage, Restarts};
+use crate::restarts::{Damage, HostStore, Restarts};
 use crate::words::{write_loaded, write_saved};
-use ill_saved::{FileStore, Store, StoreFault};
+use ill_saved::{Desk, Desk1, FileStore, Store, StoreFault};
 use std::alloc::Global;
 use std::fs::{Metadata, Permissions};
 use std::io::ErrorKind;
@@ -73,9 +74,11 @@ impl<'a> Folder<'a> {
         match call {
             "at" => self.lay(line, path, words),
             "failing" => self.failing(line, names, path, words),
-            "desk" => self.desk(line, path),
+            "desk" => self.desk::<Desk1<HostStore<'a>>>(line, path),
+            "desk-many" => self.desk::<Desk<HostStore<'a>>>(line, path),
             "making" => self.making(line, names, path, words),
-            "damaged" => self.damaged(line, names, path, words),
+            "damaged" => self.damaged::<Desk1<HostStore<'a>>>(line, names, path, words),
+            "damaged-many" => self.damaged::<Desk<HostStore<'a>>>(line, names, path, words),
             "longest" => longest::write(self.rt, self.alloc, line, path),
             _ => self.call_system(line, names, call, path, words),
         }
@@ -151,9 +154,10 @@ impl<'a> Folder<'a> {
         call_store(self.alloc, line, &mut store, call, bytes)
     }
 
-    /// `desk NAME`: a requester that asks is saved there, and another desk starts from its record.
-    fn desk(&self, line: &mut Line, path: &str) -> Option<()> {
-        Restarts::new(self.rt, self.alloc, path, 1000).write_started(line)
+    /// `desk NAME`: a requester that asks is saved there, and another desk starts from its record. With
+    /// `desk-many` the desks are of many transactions.
+    fn desk<D: DeskOver<HostStore<'a>>>(&self, line: &mut Line, path: &str) -> Option<()> {
+        Restarts::new(self.rt, self.alloc, path, 1000).write_started::<D>(line)
     }
 
     /// `put NAME BYTES`: a file with these bytes.
@@ -205,12 +209,19 @@ impl<'a> Folder<'a> {
         Some(())
     }
 
-    /// `damaged NAME LIMIT DAMAGE`: what a desk answers behind whose back its record was damaged.
-    fn damaged(&self, line: &mut Line, names: &Names, path: &str, words: &str) -> Option<()> {
+    /// `damaged NAME LIMIT DAMAGE`: what a desk answers behind whose back its record was damaged. With
+    /// `damaged-many` it is of many transactions.
+    fn damaged<D: DeskOver<HostStore<'a>>>(
+        &self,
+        line: &mut Line,
+        names: &Names,
+        path: &str,
+        words: &str,
+    ) -> Option<()> {
         let (limit, words) = words.split_once(' ').unwrap_or((words, ""));
         let limit = limit.parse::<u32>().ok()?;
         let damage = damage_of(names, words)?;
-        Restarts::new(self.rt, self.alloc, path, limit).write_damaged(line, &damage)
+        Restarts::new(self.rt, self.alloc, path, limit).write_damaged::<D>(line, &damage)
     }
 }
 

@@ -1,13 +1,14 @@
 //! The sides of one library, which are put one after another.
 
+use crate::actions::action;
 use crate::calls::{SidesCall, named};
+use crate::idle::split_txn;
 use crate::line::Line;
 use crate::longest::longest;
 use crate::many::write_again;
 use crate::records::write_head;
-use ill_core::Wish;
-use ill_saved::{Action, Role, Side, Sides, SidesFault, decode_record};
-use ill_values::{Item, TxnId};
+use ill_saved::{Role, Side, Sides, SidesFault, decode_record};
+use ill_values::TxnId;
 use std::alloc::Global;
 
 /// Performs a call with words on the sides that lie there, and writes its answer.
@@ -30,7 +31,7 @@ pub fn call(
 
 /// `sides ROLE`: none is held yet.
 fn lay(alloc: Global, line: &mut Line, sides: &mut Option<Sides>, words: &str) -> Option<()> {
-    let none = Sides::new(alloc, named(&ROLES, words)?).ok()?;
+    let none = Sides::new(alloc, role_of(words)?).ok()?;
     write_held(line, sides.insert(none));
     Some(())
 }
@@ -49,13 +50,15 @@ fn fill(alloc: Global, line: &mut Line, sides: &mut Sides, words: &str) -> Optio
 
 /// A requester that has asked, in the transaction that this number names.
 fn asking(alloc: Global, number: u16) -> Option<Side> {
-    let transaction = format!(in alloc; "{number}").ok()?;
-    let txn = TxnId::new(alloc, b"G1", transaction.as_bytes()).ok()?;
-    let item = Item::new(alloc, b"Maps").ok()?;
-    let request = Action::Wish(Wish::Request { expiry: None, item });
-    let mut side = Side::idle(alloc, Role::Requester, txn);
-    side.act(alloc, &request).ok()?;
+    let mut side = Side::idle(alloc, Role::Requester, numbered(alloc, number)?);
+    side.act(alloc, &action(alloc, "request none Maps")?).ok()?;
     Some(side)
+}
+
+/// The transaction of the group G1 that this number names.
+pub fn numbered(alloc: Global, number: u16) -> Option<TxnId> {
+    let transaction = format!(in alloc; "{number}").ok()?;
+    TxnId::new(alloc, b"G1", transaction.as_bytes()).ok()
 }
 
 /// `put RECORD`: the side of this record is put.
@@ -96,8 +99,7 @@ fn fault_word(fault: SidesFault) -> &'static str {
 
 /// `get GROUP TRANSACTION`: the side of this transaction.
 fn get(alloc: Global, line: &mut Line, sides: &Sides, words: &str) -> Option<()> {
-    let (group, transaction) = words.split_once(' ')?;
-    let txn = TxnId::new(alloc, group.as_bytes(), transaction.as_bytes()).ok()?;
+    let (txn, _) = split_txn(alloc, words)?;
     write_found(line, sides.get(&txn));
     Some(())
 }
@@ -122,6 +124,11 @@ pub fn write_held(line: &mut Line, sides: &Sides) {
         Role::Requester => " requester",
         Role::Responder => " responder",
     });
+}
+
+/// The role of this name.
+pub fn role_of(word: &str) -> Option<Role> {
+    named(&ROLES, word)
 }
 
 static ROLES: [(&str, Role); 2] = [

@@ -13,7 +13,7 @@ pub fn idle(alloc: Global, words: &str) -> Option<Side>
     ensures { IfSome result (λ side. side ≡ idle_of side) }
 {
     let (role, names) = words.split_once(' ')?;
-    let txn = txn_of(alloc, names)?;
+    let (txn, _) = split_txn(alloc, names)?;
     Some(idle_side(alloc, role, txn))
 }
 
@@ -27,7 +27,10 @@ fn idle_side(alloc: Global, role: &str, txn: TxnId) -> Side
     }
 }
 
-fn txn_of(alloc: Global, names: &str) -> Option<TxnId> {
-    let (group, transaction) = names.split_once(' ')?;
-    TxnId::new(alloc, group.as_bytes(), transaction.as_bytes()).ok()
+/// The transaction that these words begin with, `GROUP TRANSACTION`, and the words behind it.
+pub fn split_txn<'a>(alloc: Global, words: &'a str) -> Option<(TxnId, &'a str)> {
+    let (group, words) = words.split_once(' ')?;
+    let (transaction, words) = words.split_once(' ').unwrap_or((words, ""));
+    let txn = TxnId::new(alloc, group.as_bytes(), transaction.as_bytes()).ok()?;
+    Some((txn, words))
 }

@@ -1,7 +1,7 @@
 //! The longest record that a side has.
 
 use crate::again::written_and_read;
-use crate::desk_view::DeskView;
+use crate::any_desk::AnyDesk;
 use crate::desks::write_begun;
 use crate::line::Line;
 use ill_core::{Responder, State};
@@ -57,8 +57,8 @@ fn write_started(rt: &HostRuntime, alloc: Global, line: &mut Line, path: &str) -
 }
 
 /// Writes where a desk stands, and the size of its last message.
-fn write_desk<S: Store>(alloc: Global, line: &mut Line, desk: &Desk1<S>) -> Option<()> {
-    DeskView::of(alloc, desk).write(line);
+fn write_desk<S: Store + Drop>(alloc: Global, line: &mut Line, desk: &Desk1<S>) -> Option<()> {
+    desk.view(alloc, None).write(line);
     written_and_read(alloc, desk.side()).map(drop).ok()?;
     let message = desk.message(alloc, Number::new(255)?).ok()?;
     line.text(", the last message ");

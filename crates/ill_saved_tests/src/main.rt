@@ -12,6 +12,7 @@
 
 mod actions;
 mod again;
+mod any_desk;
 mod bench;
 mod calls;
 mod desk_view;
@@ -29,6 +30,7 @@ mod records;
 mod restarts;
 mod runs;
 mod session;
+mod transactions;
 mod words;
 
 use bench::{Answers, Bench};

@@ -35,7 +35,8 @@ pub fn write_again(alloc: Global, line: &mut Line, sides: &Sides) -> Option<()> 
     Some(())
 }
 
-fn write_sides(alloc: Global, line: &mut Line, sides: &Sides, bytes: &[u8]) {
+/// Writes how many sides there are and each of them, and whether these bytes are their record.
+pub fn write_sides(alloc: Global, line: &mut Line, sides: &Sides, bytes: &[u8]) {
     write_held(line, sides);
     for place in 0..sides.len() {
         if let Some(side) = sides.at(place) {

@@ -1,17 +1,19 @@
 //! Desks whose record was damaged in its file.
 
 use crate::actions::action;
-use crate::desk_view::DeskView;
+use crate::any_desk::{AnyDesk, DeskOver};
 use crate::desks::{restart, write_begun};
-use crate::idle::idle;
 use crate::line::Line;
-use ill_saved::{Desk1, DeskFault, FileStore};
-use ill_values::Number;
+use ill_saved::{DeskFault, FileStore};
+use ill_values::{Number, TxnId};
 use std::alloc::Global;
 use std::{fs, io};
 
-/// The side that each desk begins with.
+/// The role of each desk, and the transaction in which it asks.
 const FIRST: &str = "requester G1 T1";
+
+/// A file of the system as a desk's store.
+pub type HostStore<'a> = FileStore<'a, HostRuntime>;
 
 /// What has become of the record.
 #[derive(Drop)]
@@ -26,16 +28,16 @@ pub enum Damage {
 
 /// A file for a record, with a limit.
 #[derive(Drop)]
-pub struct Restarts<'a> {
+pub struct Restarts<'a, 'p> {
     rt: &'a HostRuntime,
     alloc: Global,
-    path: &'a str,
+    path: &'p str,
     limit: u32,
 }
 
-impl<'a> Restarts<'a> {
+impl<'a, 'p> Restarts<'a, 'p> {
     /// The file at this path.
-    pub fn new(rt: &'a HostRuntime, alloc: Global, path: &'a str, limit: u32) -> Restarts<'a> {
+    pub fn new(rt: &'a HostRuntime, alloc: Global, path: &'p str, limit: u32) -> Restarts<'a, 'p> {
         Restarts {
             rt,
             alloc,
@@ -46,79 +48,78 @@ impl<'a> Restarts<'a> {
 
     /// Writes what a desk answers whose record is damaged: to `restart`, with where it stands then, and
     /// then what `start` and `create` answer there.
-    pub fn write_damaged(&self, line: &mut Line, damage: &Damage) -> Option<()> {
-        self.damaged(line, damage)?;
+    pub fn write_damaged<D: DeskOver<HostStore<'a>>>(
+        &self,
+        line: &mut Line,
+        damage: &Damage,
+    ) -> Option<()> {
+        self.damaged::<D>(line, damage)?;
         line.text("; start ");
-        write_begun(line, Desk1::start(self.alloc, self.store()?));
+        write_begun(line, D::start_from(self.alloc, self.store()?));
         line.text("; create ");
-        write_begun(line, self.create()?);
+        write_begun(line, self.create::<D>()?);
         Some(())
     }
 
     /// Writes where a desk stands that starts from the record of another, and its first message.
-    pub fn write_started(&self, line: &mut Line) -> Option<()> {
-        self.asked()?;
+    pub fn write_started<D: DeskOver<HostStore<'a>>>(&self, line: &mut Line) -> Option<()> {
+        self.asked::<D>()?;
         line.text("started");
-        let desk = Desk1::start(self.alloc, self.store()?).ok()?;
+        let desk = D::start_from(self.alloc, self.store()?).ok()?;
         let shown = self.show(line, &desk);
         drop(desk);
         shown
     }
 
-    fn store(&self) -> Option<FileStore<'a, HostRuntime>> {
+    fn store(&self) -> Option<HostStore<'a>> {
         FileStore::at(self.rt, self.alloc, self.path, self.limit).ok()
     }
 
-    /// A desk that begins with the first side.
-    fn create(
-        &self,
-    ) -> Option<
-        Result<Desk1<FileStore<'a, HostRuntime>>, (DeskFault, FileStore<'a, HostRuntime>)>,
-    > {
-        let store = self.store()?;
-        let first = idle(self.alloc, FIRST)?;
-        Some(Desk1::create(self.alloc, store, first))
+    /// A desk that has not asked.
+    fn create<D: DeskOver<HostStore<'a>>>(&self) -> Option<Result<D, (DeskFault, HostStore<'a>)>> {
+        D::create_as(self.alloc, FIRST, self.store()?)
+    }
+
+    /// The transaction in which it asks.
+    fn txn(&self) -> Option<TxnId> {
+        TxnId::new(self.alloc, b"G1", b"T1").ok()
     }
 
     /// A desk asks, and is gone.
-    fn asked(&self) -> Option<()> {
-        let mut desk = self.create()?.ok()?;
+    fn asked<D: DeskOver<HostStore<'a>>>(&self) -> Option<()> {
+        let mut desk: D = self.create()?.ok()?;
         let asked = self.ask(&mut desk);
         drop(desk);
         asked
     }
 
     /// Has the desk ask, and saves that.
-    fn ask(&self, desk: &mut Desk1<FileStore<'a, HostRuntime>>) -> Option<()> {
+    fn ask<D: AnyDesk>(&self, desk: &mut D) -> Option<()> {
         self.act(desk, "request none Maps")?;
-        desk.save(self.alloc).ok()
+        desk.save_all(self.alloc).ok()
     }
 
-    fn act(&self, desk: &mut Desk1<FileStore<'a, HostRuntime>>, words: &str) -> Option<()> {
-        desk.act(self.alloc, &action(self.alloc, words)?).ok()
+    fn act<D: AnyDesk>(&self, desk: &mut D, words: &str) -> Option<()> {
+        let (txn, action) = self.txn().zip(action(self.alloc, words))?;
+        desk.act_in(self.alloc, &txn, &action).ok()
     }
 
-    fn show(&self, line: &mut Line, desk: &Desk1<FileStore<'a, HostRuntime>>) -> Option<()> {
-        DeskView::of(self.alloc, desk).write(line);
+    fn show<D: AnyDesk>(&self, line: &mut Line, desk: &D) -> Option<()> {
+        desk.view(self.alloc, Some(&self.txn()?)).write(line);
         line.text(", ");
         line.octets(&self.first_message(desk)?);
         Some(())
     }
 
     /// Damages the record of a desk that has asked and then wishes to cancel, and restarts it.
-    fn damaged(&self, line: &mut Line, damage: &Damage) -> Option<()> {
-        let mut desk = self.create()?.ok()?;
+    fn damaged<D: DeskOver<HostStore<'a>>>(&self, line: &mut Line, damage: &Damage) -> Option<()> {
+        let mut desk: D = self.create()?.ok()?;
         let answered = self.damage(line, &mut desk, damage);
         drop(desk);
         answered
     }
 
-    fn damage(
-        &self,
-        line: &mut Line,
-        desk: &mut Desk1<FileStore<'a, HostRuntime>>,
-        damage: &Damage,
-    ) -> Option<()> {
+    fn damage<D: AnyDesk>(&self, line: &mut Line, desk: &mut D, damage: &Damage) -> Option<()> {
         self.ask(desk)?;
         self.act(desk, "cancel")?;
         self.inflict(damage).ok()?;
@@ -140,7 +141,7 @@ impl<'a> Restarts<'a> {
 
     /// Writes what `restart` answers, and where the desk stands then. After a fault that is as before,
     /// and its first message has the bytes that it had.
-    fn restart(&self, line: &mut Line, desk: &mut Desk1<FileStore<'a, HostRuntime>>) -> Option<()> {
+    fn restart<D: AnyDesk>(&self, line: &mut Line, desk: &mut D) -> Option<()> {
         let message = self.first_message(desk)?;
         let is_done = restart(self.alloc, line, desk, "done");
         if !is_done && !self.has_first_message(desk, &message) {
@@ -149,14 +150,15 @@ impl<'a> Restarts<'a> {
         Some(())
     }
 
-    fn has_first_message(&self, desk: &Desk1<FileStore<'a, HostRuntime>>, bytes: &[u8]) -> bool {
+    fn has_first_message<D: AnyDesk>(&self, desk: &D, bytes: &[u8]) -> bool {
         match self.first_message(desk) {
             Some(message) => message.as_slice() == bytes,
             None => false,
         }
     }
 
-    fn first_message(&self, desk: &Desk1<FileStore<'a, HostRuntime>>) -> Option<Vec<u8>> {
-        desk.message(self.alloc, Number::new(1)?).ok()
+    fn first_message<D: AnyDesk>(&self, desk: &D) -> Option<Vec<u8>> {
+        desk.message_in(self.alloc, &self.txn()?, Number::new(1)?)
+            .ok()
     }
 }

@@ -5,7 +5,8 @@ use Rattle.std.proofs.KnownBytes.{Appends-nil}
 use Rattle.ill_saved.specs.declared.side.Action.{Action}
 use Rattle.ill_tool.specs.declared.fault.ToolFault.{ToolFault}
 use Rattle.ill_tool.specs.declared.fault.ToolFault.TheVariants.{OutOfMemory}
-use Rattle.ill_tool.specs.Keeping.{Keeping, View}
+use Rattle.ill_tool.specs.Keeping.{Keeping}
+use Rattle.ill_tool.specs.Performing.{View}
 use Rattle.ill_tool.specs.Act.{RunsAct}
 
 module _ {L K : Type 0} (keeping : Keeping L K) (key : K) where

@@ -1,5 +1,5 @@
 -- What keeps many sides, from what the calls of its desk answer.
-use Rattle.std.proofs.Common.{◌≡◌, ℕ, zero, suc, Bool, true, false, ◌&&◌, if◌then◌else◌, cond, List, [], ◌∷◌, map, Option, Some, None, Result, Ok, Err, refl, ap, sym, subst, ◌∙◌, true≢false}
+use Rattle.std.proofs.Common.{◌≡◌, ℕ, zero, suc, Bool, true, false, cond, List, [], ◌∷◌, map, Option, Some, None, Result, Ok, Err, refl, ap, sym, subst, ◌∙◌, true≢false}
 use Rattle.std.specs.Prelude.{IfErr, option_map, nat_lt, length, is_none, is_some, slice_get}
 use Rattle.std.proofs.lemmas.Bool.{and_parts}
 use Rattle.std.proofs.lemmas.Result.{IfErr-at_err}
@@ -14,10 +14,11 @@ use Rattle.ill_saved.specs.declared.side.Side.{Side}
 use Rattle.ill_saved.specs.declared.side.Action.{Action}
 use Rattle.ill_saved.specs.declared.fault.DeskFault.{DeskFault}
 use Rattle.ill_saved.specs.declared.fault.DeskFault.TheVariants as desks
-use Rattle.ill_saved.specs.Side.{txn_of, idle_side, role_for, begins, acts, takes}
+use Rattle.ill_saved.specs.Side.{txn_of, role_for, begins, acts, takes}
 use Rattle.ill_saved.specs.Sides.{most_sides, is_same_role, side_with, are_apart}
 use Rattle.ill_saved.specs.Many.{Held, Holding, is_own, found_by, txn_held, found_or, idle_held, held_for, sides_held, held_or_begun, reached, acted, acts_reached, desk_acts, took, takes_reached, desk_takes, ManyActs, ManyTakesApdu}
-use Rattle.ill_tool.specs.Keeping.{many_sides, IsRefusal, KeeperActs, KeeperTakes}
+use Rattle.ill_tool.specs.Keeping.{many_sides}
+use Rattle.ill_tool.specs.Keeper.{IsRefusal, KeeperActs, KeeperTakes}
 use Rattle.ill_saved.proofs.Finding.{same_is, same_self, some_is, found_mapped}
 use Rattle.ill_saved.proofs.Holdings.{held_there, none_held_there}
 

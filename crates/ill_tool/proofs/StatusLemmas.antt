@@ -8,7 +8,7 @@ use Rattle.ill_saved.specs.Side.{txn_of}
 use Rattle.ill_saved.specs.Sides.{are_apart}
 use Rattle.ill_saved.specs.Many.{Held, Holding, held_for, sides_held}
 use Rattle.ill_saved.proofs.Finding.{some_is}
-use Rattle.ill_tool.specs.Status.{status_lines, spaced_or_dash, held_lines, lines_of_one, desk_lines}
+use Rattle.ill_tool.specs.Status.{status_lines, spaced_or_dash, lines_of_one, desk_lines}
 use Rattle.ill_tool.proofs.KeepingLemmas.{held_at_place}
 
 -- what is put before each text

@@ -9,7 +9,8 @@ use Rattle.ill_tool.specs.declared.fault.ToolFault.{ToolFault}
 use Rattle.ill_tool.specs.declared.fault.ToolFault.TheVariants.{Desk}
 use Rattle.ill_tool.specs.Input.{StopsReading, ReadsInput}
 use Rattle.ill_tool.specs.declared.take.TakesEach.{TakesEach}
-use Rattle.ill_tool.specs.Keeping.{Keeping, View, ToolFailsCounted}
+use Rattle.ill_tool.specs.Keeping.{Keeping}
+use Rattle.ill_tool.specs.Performing.{View, ToolFailsCounted}
 use Rattle.ill_tool.specs.Take.{KeepsDesk, Progress, progress, takes_each, answer_of, RunsTake}
 use Rattle.ill_tool.proofs.InputLemmas.{reads_as}
 

@@ -5,7 +5,8 @@ use Rattle.ill_saved.specs.declared.side.Action.{Action}
 use Rattle.ill_world.specs.declared.event.DeskOutcome.{DeskOutcome}
 use Rattle.ill_tool.specs.declared.fault.ToolFault.{ToolFault}
 use Rattle.ill_tool.specs.declared.fault.ToolFault.TheVariants.{Arguments, OutOfMemory}
-use Rattle.ill_tool.specs.Keeping.{Keeping, View, acted, Performs}
+use Rattle.ill_tool.specs.Keeping.{Keeping}
+use Rattle.ill_tool.specs.Performing.{View, acted, Performs}
 use Rattle.ill_tool.specs.Telling.{Reports}
 
 -- What an action did: it was done and saved; it was refused, and nothing changed; it was done, and the

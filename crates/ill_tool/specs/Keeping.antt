@@ -1,42 +1,38 @@
--- What keeps sides in a store, one side or many, whichever: what is known of it, and what an action or a
--- message does to it (this profile's own).
-use Rattle.std.specs.Prelude.{◌≡◌, ◌⊎◌, ℕ, ◌≤◌, Bool, true, false, if◌then◌else◌, List, Option, None, Some, option_map, is_ok, [], Result, Ok, Err}
+-- What keeps sides, one or many: what actions and messages do to it (this profile's own).
+use Rattle.std.specs.Prelude.{ℕ, List, [], Option, None, Some, Result, Ok, Err}
 use Rattle.ill_values.specs.TxnId.{Qualifiers}
 use Rattle.ill_values.specs.declared.apdu.Apdu.{Apdu}
 use Rattle.ill_core.specs.declared.refusal.Refusal.{Refusal}
 use Rattle.ill_core.specs.declared.taking.Taking.{Taking}
-use Rattle.ill_core.specs.declared.taking.Taking.TheVariants.{Taken}
 use Rattle.ill_saved.specs.declared.role.Role.{Role}
 use Rattle.ill_saved.specs.declared.side.Side.{Side}
 use Rattle.ill_saved.specs.declared.side.Action.{Action}
-use Rattle.ill_saved.specs.Side.{role_of, acts, takes, takes_memory}
+use Rattle.ill_saved.specs.declared.fault.DeskFault.{DeskFault}
+use Rattle.ill_saved.specs.declared.fault.DeskFault.TheVariants.{Core}
+use Rattle.ill_saved.specs.Side.{role_of, acts, takes}
 use Rattle.ill_saved.specs.Records.{record_spelling}
 use Rattle.ill_saved.specs.Records2.{sides_spelling}
-use Rattle.ill_saved.specs.declared.fault.DeskFault.{DeskFault}
-use Rattle.ill_saved.specs.declared.fault.DeskFault.TheVariants as desks
-use Rattle.ill_saved.specs.declared.store.StoreFault.TheVariants.{Failed}
-use Rattle.ill_saved.specs.Store.{HasRisen}
-use Rattle.ill_saved.specs.Desk.{DeskOf}
-use Rattle.ill_saved.specs.Many.{Held, Holding, ManyOf, whole, held_for, found_by, txn_held, sides_held, whole_of, desk_acts, desk_takes}
-use Rattle.ill_world.specs.declared.event.Outcome.TheVariants as outcomes
-use Rattle.ill_world.specs.declared.event.DeskOutcome.{DeskOutcome}
-use Rattle.ill_world.specs.declared.event.DeskOutcome.TheVariants.{Plain, NoSuchTransaction, DeskFull}
-use Rattle.ill_tool.specs.declared.fault.ToolFault.{ToolFault}
-use Rattle.ill_tool.specs.declared.fault.ToolFault.TheVariants.{Desk, OutOfMemory}
+use Rattle.ill_saved.specs.Many.{Held, Holding, whole, held_for, found_by, txn_held, sides_held, whole_of, desk_acts, desk_takes}
 
--- What keeps sides: `L` is what it holds, and `K` is what names one of its sides. It says the role of all; what
--- is held after an action, or why it is refused; what a message does, and which side it is for; which side
--- begins with it, if one does; the side of a name, where it is held, and how it stands, held or not; what is
--- held once all is saved; and the record of it.
+-- What keeps sides: `L` is what is held, and `K` names one of its sides.
 pub record Keeping (L K : Type 0) : Type 0 where
+  -- the role of all sides
   pub role : L → Role
+  -- what is held after an action, or why it is refused
   pub acts : L → K → Action → Result L DeskFault
+  -- what a message does
   pub takes : L → Apdu → Result Taking DeskFault × L
+  -- the side that it is for
   pub key_of : Apdu → K
-  pub first_key : Option K
+  -- a side, if it is held
   pub found : K → L → Option Held
+  -- how it stands, held or not
   pub side_for : K → L → Held
+  -- the side that is there from the beginning, if one is
+  pub first_key : Option K
+  -- what is held once all is saved
   pub saves : L → L
+  -- the record of it
   pub spelling : L → List ℕ
 
 -- ---- one side
@@ -51,11 +47,11 @@ with_side held side = record held { side = side }
 
 abbrev pub one_acts : Held → Result Side Refusal → Result Held DeskFault
 one_acts held (Ok side) = Ok (with_side held side)
-one_acts held (Err refusal) = Err (desks.Core refusal)
+one_acts held (Err refusal) = Err (Core refusal)
 
 abbrev pub one_answers : Result Taking Refusal → Result Taking DeskFault
 one_answers (Ok taking) = Ok taking
-one_answers (Err refusal) = Err (desks.Core refusal)
+one_answers (Err refusal) = Err (Core refusal)
 
 -- one side alone, which wants no name
 abbrev pub one_side : Keeping Held (Unit {0})
@@ -64,9 +60,9 @@ one_side = record {
   acts = λ held none action. one_acts held (acts held.side action);
   takes = λ held a. (one_answers (takes held.side a).0, with_side held (takes held.side a).1);
   key_of = λ a. tt;
-  first_key = Some tt;
   found = λ none held. Some held;
   side_for = λ none held. held;
+  first_key = Some tt;
   saves = λ held. whole held.side;
   spelling = λ held. record_spelling held.side;
 }
@@ -84,146 +80,9 @@ many_sides = record {
   acts = desk_acts;
   takes = desk_takes;
   key_of = λ a. a.txn;
-  first_key = None;
   found = λ txn live. found_by txn_held txn live.held;
   side_for = held_for;
+  first_key = None;
   saves = λ live. whole_of (sides_held live);
   spelling = λ live. sides_spelling (sides_held live);
 }
-
--- ---- what is known
-
--- What is held, and what has landed in the store, of a store of which that is known.
-pub record View (L : Type 0) : Type 0 where
-  pub live : L
-  pub landed : Option (Option (List ℕ))
-
--- what has landed is known of an honest store
-abbrev pub known : Bool → Option (List ℕ) → Option (Option (List ℕ))
-known true landed = Some landed
-known false landed = None
-
-abbrev pub view_of : {L S : Type 0} → (S → Bool) → (S → Option (List ℕ)) → L → S → View L
-view_of is_honest landed live store = record {
-  live = live;
-  landed = known (is_honest store) (landed store);
-}
-
--- the side of a desk of one
-abbrev pub the_one : {S : Type 0} → DeskOf S → Held
-the_one desk = record { side = desk.live; released = desk.released }
-
-abbrev pub one_view : {S : Type 0} → (S → Bool) → (S → Option (List ℕ)) → DeskOf S → View Held
-one_view is_honest landed desk = view_of is_honest landed (the_one desk) desk.store
-
-abbrev pub many_view : {S : Type 0} → (S → Bool) → (S → Option (List ℕ)) → ManyOf S → View Holding
-many_view is_honest landed desk = view_of is_honest landed desk.live desk.store
-
--- this is held, and not saved yet
-abbrev pub becomes : {L : Type 0} → View L → L → View L
-becomes old live = record old { live = live }
-
--- all is saved
-abbrev pub saved : {L K : Type 0} → Keeping L K → View L → View L
-saved keeping old = record {
-  live = keeping.saves old.live;
-  landed = option_map (λ _. Some (keeping.spelling old.live)) old.landed;
-}
-
--- A save has failed: what is held is as before, and the old record has landed or the new one.
-abbrev pub IsFaulted : {L K : Type 0} → Keeping L K → View L → View L → Type 0
-IsFaulted keeping old new = (new ≡ old) ⊎ (new ≡ record old { landed = (saved keeping old).landed })
-
--- ---- what is seen
-
--- the fault of a command whose desk has failed
-abbrev pub desk_fault : DeskFault → ToolFault
-desk_fault desks.OutOfMemory = OutOfMemory
-desk_fault other = Desk other
-
--- what is seen of a refusal; no other fault is one
-abbrev pub refused : DeskFault → Result DeskOutcome ToolFault
-refused (desks.Core refusal) = Ok (Plain (outcomes.Refused refusal))
-refused desks.NoSuchTransaction = Ok NoSuchTransaction
-refused desks.DeskFull = Ok DeskFull
-refused fault = Err (desk_fault fault)
-
--- an action was done, or refused
-abbrev pub acted : {L : Type 0} → L → Result L DeskFault → Result DeskOutcome ToolFault × L
-acted old (Ok new) = (Ok (Plain outcomes.Done), new)
-acted old (Err fault) = (refused fault, old)
-
--- what is seen of a message
-abbrev pub answered : Result Taking DeskFault → Result DeskOutcome ToolFault
-answered (Ok taking) = Ok (Plain (outcomes.Answered taking))
-answered (Err fault) = refused fault
-
--- a message was handed to its side
-abbrev pub handed : {L K : Type 0} → Keeping L K → L → Apdu → Result DeskOutcome ToolFault × L
-handed keeping live a = (answered (keeping.takes live a).0, (keeping.takes live a).1)
-
--- ---- what is done
-
--- what is seen of a change, which is to be saved: an action was done, or a message was taken
-abbrev pub is_change : DeskOutcome → Bool
-is_change (Plain outcomes.Done) = true
-is_change (Plain (outcomes.Answered Taken)) = true
-is_change outcome = false
-
-abbrev pub IsChange : Result DeskOutcome ToolFault → Type 0
-IsChange (Ok outcome) = is_change outcome ≡ true
-IsChange (Err fault) = ⊥
-
--- What came of an event of which this is seen and after which this is held: it happened, and was saved if it
--- was a change; it was one, and the save failed; or memory ran out for it, where it wants memory, or for the
--- save.
-abbrev pub Performs : {L K : Type 0} → Keeping L K → Type 0 → View L → Result DeskOutcome ToolFault × L →
-    Result DeskOutcome ToolFault → View L → Type 0
-Performs keeping WantsMemory old event (Ok outcome) new =
-    (event.0 ≡ Ok outcome)
-    × (new ≡ (if is_change outcome then saved keeping (becomes old event.1) else becomes old event.1))
-Performs keeping WantsMemory old event (Err (Desk (desks.Store Failed))) new =
-    IsChange event.0 × IsFaulted keeping (becomes old event.1) new
-Performs keeping WantsMemory old event (Err OutOfMemory) new =
-    (WantsMemory × (new ≡ old)) ⊎ (IsChange event.0 × (new ≡ becomes old event.1))
-Performs keeping WantsMemory old event (Err other) new = ⊥
-
--- ---- failures of the store
-
-abbrev pub ToolFailsCounted : {X : Type 0} → Result X ToolFault → ℕ → ℕ → Type 0
-ToolFailsCounted (Err (Desk (desks.Store Failed))) old new = HasRisen old new
-ToolFailsCounted answer old new = Unit {0}
-
--- The count of the store's failures never falls, and a command answers one only where it has risen, or
--- can rise no more.
-abbrev pub CountsToolFailure : {X : Type 0} → Result X ToolFault → ℕ → ℕ → Type 0
-CountsToolFailure answer old new = (old ≤ new) × ToolFailsCounted answer old new
-
--- ---- what the calls of a keeper answer
-
--- one of the faults that stand for a refusal
-abbrev pub IsRefusal : DeskFault → Type 0
-IsRefusal fault = is_ok (refused fault) ≡ true
-
--- What an action answers, and what is held after it. Want of memory changes nothing.
-abbrev pub KeeperActs : {L K : Type 0} → Keeping L K → L → K → Action → Result (Unit {0}) DeskFault → L → Type 0
-KeeperActs keeping old key action (Ok done) new = keeping.acts old key action ≡ Ok new
-KeeperActs keeping old key action (Err desks.OutOfMemory) new = new ≡ old
-KeeperActs keeping old key action (Err fault) new =
-    (keeping.acts old key action ≡ Err fault) × IsRefusal fault × (new ≡ old)
-
--- a message is to be taken, and its side takes memory for it
-abbrev pub WantsMemory : {L K : Type 0} → Keeping L K → L → Apdu → Type 0
-WantsMemory keeping live a =
-    ((keeping.takes live a).0 ≡ Ok Taken) × (takes_memory (keeping.side_for (keeping.key_of a) live).side a ≡ true)
-
--- What a message answers, and what is held after it. Want of memory changes nothing.
-abbrev pub KeeperTakes : {L K : Type 0} → Keeping L K → L → Apdu → Result Taking DeskFault → L → Type 0
-KeeperTakes keeping old a (Ok taking) new = keeping.takes old a ≡ (Ok taking, new)
-KeeperTakes keeping old a (Err desks.OutOfMemory) new = WantsMemory keeping old a × (new ≡ old)
-KeeperTakes keeping old a (Err fault) new = (keeping.takes old a ≡ (Err fault, new)) × IsRefusal fault
-
--- what is held after a save, or after one that failed
-abbrev pub held_after : {L K : Type 0} → Keeping L K → Result (Unit {0}) DeskFault → L → L
-held_after keeping (Ok done) live = keeping.saves live
-held_after keeping (Err fault) live = live

@@ -6,6 +6,8 @@ pub mod Check
 pub mod Simulate
 pub mod Actions
 pub mod Keeping
+pub mod Performing
+pub mod Keeper
 pub mod Telling
 pub mod Act
 pub mod Take

@@ -7,7 +7,9 @@ use Rattle.ill_tool.specs.declared.fault.ToolFault.{ToolFault}
 use Rattle.ill_tool.specs.declared.fault.ToolFault.TheVariants.{OutOfMemory}
 use Rattle.ill_der.specs.Handling.{Handles}
 use Rattle.ill_tool.specs.Input.{ReadsInput}
-use Rattle.ill_tool.specs.Keeping.{Keeping, View, handed, Performs, WantsMemory, CountsToolFailure}
+use Rattle.ill_tool.specs.Keeping.{Keeping}
+use Rattle.ill_tool.specs.Performing.{View, handed, Performs, CountsToolFailure}
+use Rattle.ill_tool.specs.Keeper.{WantsMemory}
 use Rattle.ill_tool.specs.Telling.{is_fine, side_line, Reports}
 
 -- ---- one message

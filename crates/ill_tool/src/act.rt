@@ -3,7 +3,8 @@
 ghost use Rattle.std.specs.Prelude.{map};
 ghost use Rattle.ill_saved.specs.Side.{role_of};
 ghost use Rattle.ill_tool.specs.Actions.{action_named};
-ghost use Rattle.ill_tool.specs.Keeping.{many_sides, many_view, one_side, one_view, view_of, CountsToolFailure};
+ghost use Rattle.ill_tool.specs.Keeping.{many_sides, one_side};
+ghost use Rattle.ill_tool.specs.Performing.{many_view, one_view, view_of, CountsToolFailure};
 ghost use Rattle.ill_tool.specs.Act.{ActsAndSaves, RunsAct};
 
 use crate::action::action;

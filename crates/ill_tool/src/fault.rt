@@ -2,7 +2,7 @@
 
 ghost use Rattle.std.specs.Prelude.{◌≡◌};
 ghost use Rattle.ill_tool.specs.Simulate.{sim_fault};
-ghost use Rattle.ill_tool.specs.Keeping.{desk_fault, refused};
+ghost use Rattle.ill_tool.specs.Performing.{desk_fault, refused};
 ghost use Rattle.ill_tool.specs.declared.fault.ToolFault.TheVariants.{OutOfMemory};
 
 use ill_der::DerFault;

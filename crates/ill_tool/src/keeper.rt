@@ -5,7 +5,9 @@ ghost use Rattle.ill_saved.specs.Side.{idle_side};
 ghost use Rattle.ill_saved.specs.Store.{spent};
 ghost use Rattle.ill_saved.specs.Desk.{Creates, IsCreateAnswer, SaveLands, PlanAfter, IsSaveFault, CountsDeskFailure, answer_of, store_after};
 ghost use Rattle.ill_saved.specs.Many.{Held, Holding, SendsHeld, idle_held};
-ghost use Rattle.ill_tool.specs.Keeping.{Keeping, KeeperActs, KeeperTakes, alone, held_after, many_sides, no_sides, one_side, the_one};
+ghost use Rattle.ill_tool.specs.Keeping.{Keeping, alone, many_sides, no_sides, one_side};
+ghost use Rattle.ill_tool.specs.Performing.{the_one};
+ghost use Rattle.ill_tool.specs.Keeper.{KeeperActs, KeeperTakes, held_after};
 ghost use Rattle.ill_tool.specs.Telling.{held_text};
 
 use ill_core::Taking;
@@ -22,13 +24,13 @@ pub(crate) trait Keeper {
     /// Where the sides are saved.
     type Kept: Store;
 
-    /// What is said of a beginning.
+    /// What a beginning wants.
     type First;
 
     /// What is held.
     ghost Live: { Type 0 };
 
-    /// What is known of all that hold the same.
+    /// What its calls do to what it holds.
     ghost keeping: { Keeping Self.Live Self.Key };
 
     /// What it holds.
@@ -97,7 +99,7 @@ pub(crate) trait Keeper {
         ensures { OnOk result (line.new.items ≡ line.old.items
             ++ held_text (keeping.side_for key.now (live self.now))) };
 
-    /// What names the side that begins, if one does.
+    /// What names the side that is there from the beginning, if one is.
     fn first_key(&self) -> Option<&Self::Key>
         ensures { option_copied result ≡ keeping.first_key };
 
@@ -126,11 +128,7 @@ impl<S: Store> Keeper for Desk1<S> {
 
     ghost begun = { λ first. alone (idle_side first.0 first.1) };
 
-    fn create(
-        alloc: Global,
-        kept: S,
-        first: (Role, TxnId),
-    ) -> Result<Desk1<S>, (DeskFault, S)> {
+    fn create(alloc: Global, kept: S, first: (Role, TxnId)) -> Result<Desk1<S>, (DeskFault, S)> {
         let (role, txn) = first;
         Desk1::create(alloc, kept, Side::idle(alloc, role, txn))
     }

@@ -7,7 +7,8 @@ ghost use Rattle.ill_saved.specs.Records2.{sides_spelling};
 ghost use Rattle.ill_saved.specs.Many.{sides_held, many_store_of};
 ghost use Rattle.ill_saved.specs.Store.{spent};
 ghost use Rattle.ill_saved.specs.Desk.{answer_of, store_after, store_of};
-ghost use Rattle.ill_tool.specs.Keeping.{alone, no_sides, CountsToolFailure};
+ghost use Rattle.ill_tool.specs.Keeping.{alone, no_sides};
+ghost use Rattle.ill_tool.specs.Performing.{CountsToolFailure};
 ghost use Rattle.ill_tool.specs.Telling.{done_line};
 ghost use Rattle.ill_tool.specs.Output.{WritesText};
 ghost use Rattle.ill_tool.specs.New.{first_line, RunsNew, LandsFirst, BeginsOver};
@@ -135,7 +136,13 @@ fn write_beginning<K: Keeper, W: Write>(
         (first_line K.keeping (K.live keeper.now)) result }
 {
     match keeper.first_key() {
-        Some(key) => match report(alloc, writer, DeskOutcome::Plain(Outcome::Done), keeper, key) {
+        Some(key) => match report(
+            alloc,
+            writer,
+            DeskOutcome::Plain(Outcome::Done),
+            keeper,
+            key,
+        ) {
             Ok(_) => Ok(()),
             Err(fault) => Err(fault),
         },

@@ -2,7 +2,7 @@
 
 ghost use Rattle.std.specs.Prelude.{Some};
 ghost use Rattle.ill_saved.specs.Many.{found_by, txn_held};
-ghost use Rattle.ill_tool.specs.Keeping.{the_one};
+ghost use Rattle.ill_tool.specs.Performing.{the_one};
 ghost use Rattle.ill_tool.specs.Send.{RunsSend};
 
 use crate::fault::ToolFault;

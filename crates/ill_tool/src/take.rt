@@ -1,7 +1,8 @@
 //! The command `take`.
 
 ghost use Rattle.std.specs.Prelude.{◌≡◌, true};
-ghost use Rattle.ill_tool.specs.Keeping.{many_sides, many_view, one_side, one_view, view_of, CountsToolFailure};
+ghost use Rattle.ill_tool.specs.Keeping.{many_sides, one_side};
+ghost use Rattle.ill_tool.specs.Performing.{many_view, one_view, view_of, CountsToolFailure};
 ghost use Rattle.ill_tool.specs.Take.{RunsTake, TakesAndSaves, KeepsDesk, progress, takes_each};
 
 use crate::fault::{ToolFault, refused};

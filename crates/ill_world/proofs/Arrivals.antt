@@ -200,12 +200,18 @@ returned_is_later : (state : State) → is_among (states.Returned ∷ []) state 
 returned_is_later states.Returned is = refl
 returned_is_later state is = search rules
 
+-- the item was shipped before it was returned
+pub shipped_before : (txn : Qualifiers) (x : RequesterRecord) (y : ResponderRecord) (told heard : List (Option Apdu)) (n : ℕ) (a : Apdu) → RequesterStands txn x told → ResponderStands txn y heard
+    → AreIssued told y.issued → message x.issued n ≡ Some a → is_returned a.body ≡ true → has is_shipped y.issued ≡ true
+shipped_before txn x y told heard n a requester_stands responder_stands issued at is =
+    let returned = sym requester_stands.rules.issued.returned ∙ message_has is_returned x.issued n a at is in
+    shipped_by txn x y told heard x.due requester_stands responder_stands issued refl (requester_stands.rules.parts.due ∙ returned_is_later x.state returned)
+
 returned_arrives : RowsFollow → (txn : Qualifiers) (x : RequesterRecord) (y : ResponderRecord) (told heard : List (Option Apdu)) (n : ℕ) (a : Apdu) → RequesterStands txn x told
     → ResponderStands txn y heard → AreIssued told y.issued → message x.issued n ≡ Some a → is_returned a.body ≡ true
     → responder.LeadsTo (states.Returned ∷ states.CheckedIn ∷ []) (responder_deliveries.takes y a)
 returned_arrives rows txn x y told heard n a requester_stands responder_stands issued at is =
-    let returned = sym requester_stands.rules.issued.returned ∙ message_has is_returned x.issued n a at is in
-    let shipped = shipped_by txn x y told heard x.due requester_stands responder_stands issued refl (requester_stands.rules.parts.due ∙ returned_is_later x.state returned) in
+    let shipped = shipped_before txn x y told heard n a requester_stands responder_stands issued at is in
     let same = subst (λ t. is_same_txn a.txn t ≡ true) (requester_stands.same_txn ∙ sym responder_stands.same_txn) (message_number x.txn x.issued n a requester_stands.rules.numbered at).0 in
     rows.returned y a same (returned_is a.body is) (sym responder_stands.ends.shipped ∙ shipped)
 

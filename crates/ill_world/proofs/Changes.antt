@@ -19,7 +19,7 @@ use Rattle.ill_world.specs.declared.event.Event.{Event}
 use Rattle.ill_world.specs.declared.event.Event.TheVariants as events
 use Rattle.ill_world.specs.declared.event.Outcome.{Outcome}
 use Rattle.ill_world.specs.declared.event.Outcome.TheVariants.{Done, Saved, Faulted, Sent, Answered, Restarted}
-use Rattle.ill_world.specs.World.{Party, Parties, party, with_party, who_of, sent_message, decides, sends, answer_to, receives, hears, happens_to, happens, run_of}
+use Rattle.ill_world.specs.World.{Party, Parties, party, with_party, who_of, sent_message, decides, sends, answer_to, receives, hears, happens_to, happens, run_by, run_of}
 use Rattle.ill_world.specs.Changes.{OnlyLands, OnlyLandedChanges, MayChange, KeepsSent}
 use Rattle.ill_world.specs.Invariant.{SendsSaved, Stands}
 use Rattle.ill_world.proofs.Kept.{stays_sent}
@@ -60,7 +60,7 @@ sends_changes p n None released = refl
 sends_changes p n (Some a) true = tt
 sends_changes p n (Some a) false = refl
 
-quiet : Quiet → (side : Side) (a : Apdu) → ((takes side a).0 ≡ Ok Taken) ⊎ ((takes side a).1 ≡ side)
+pub quiet : Quiet → (side : Side) (a : Apdu) → ((takes side a).0 ≡ Ok Taken) ⊎ ((takes side a).1 ≡ side)
 quiet rows (sides.Requester x) a = elim (rows.requester x a) [ inl taken ↦ inl taken | inr same ↦ inr (ap sides.Requester same) ]
 quiet rows (sides.Responder y) a = elim (rows.responder y a) [ inl taken ↦ inl taken | inr same ↦ inr (ap sides.Responder same) ]
 
@@ -104,6 +104,10 @@ changes_of_one (Answered (Conflict state)) w of new changes = same_world w of ne
 changes_of_one Faulted w of new changes = landed_of_one w of new changes
 changes_of_one other w of new changes = same_world w of new changes
 
+-- a world that stays as it is
+pub same_changes : (w : Parties) (outcome : Outcome) → MayChange OnlyLandedChanges outcome w w
+same_changes w outcome = changes_of_one outcome w who.Requester w.requester (nothing_changes outcome w.requester)
+
 pub world_changes : Quiet → (w : Parties) (event : Event) → MayChange OnlyLandedChanges (happens w event).0 w (happens w event).1
 world_changes rows w event =
     let of = who_of event in
@@ -130,12 +134,12 @@ abbrev pub After : Qualifiers → Type 0
 After txn = (w : Parties) (event : Event) → Stands txn w → Stands txn (happens w event).1
 
 further_keeps_sent : (txn : Qualifiers) → After txn → (w : Parties) (more : List Event) → Stands txn w → KeepsSent w (run_of w more)
-unfolding run_of
+unfolding run_by
 further_keeps_sent txn after w [] stands = λ of n a was. was
 further_keeps_sent txn after w (event ∷ more) stands =
     λ of n a was. further_keeps_sent txn after (happens w event).1 more (after w event stands) of n a (event_keeps_sent txn w event stands of n a was)
 
 pub run_keeps_sent : (txn : Qualifiers) → After txn → (w : Parties) (events more : List Event) → Stands txn w → KeepsSent (run_of w events) (run_of w (events ++ more))
-unfolding run_of
+unfolding run_by
 run_keeps_sent txn after w [] more stands = further_keeps_sent txn after w more stands
 run_keeps_sent txn after w (event ∷ events) more stands = run_keeps_sent txn after (happens w event).1 events more (after w event stands)

@@ -18,3 +18,9 @@ pub mod Arrivals
 pub mod BadWorlds
 pub mod Changes
 pub mod Outcomes
+pub mod Projections
+pub mod Desks
+pub mod Reaching
+pub mod DeskArrivals
+pub mod DeskMaps
+pub mod DeskParties

@@ -24,21 +24,30 @@ is_whole again bytes a is spelled = spelled_whole again bytes a is spelled ∙ a
 
 -- ---- whether bytes are exactly one APDU
 
-none_behind : (txn : Qualifiers) (a : Apdu) (rest : List ℕ) → length rest ≡ 0 → is_of txn (Ok (a, rest)) ≡ is_same_txn a.txn txn
-none_behind txn a [] none = refl
-none_behind txn a (byte ∷ rest) none = absurd (omega (arith, none))
+none_left : (rest : List ℕ) → length rest ≡ 0 → rest ≡ []
+none_left [] none = refl
+none_left (byte ∷ rest) none = absurd (omega (arith, none))
 
-some_behind : (txn : Qualifiers) (a : Apdu) (rest : List ℕ) → 1 ≤ length rest → is_of txn (Ok (a, rest)) ≡ false
-some_behind txn a [] some = absurd (omega (arith, some))
-some_behind txn a (byte ∷ rest) some = refl
+some_left : (rest : List ℕ) → 1 ≤ length rest → (byte : ℕ) × (more : List ℕ) × (rest ≡ byte ∷ more)
+some_left [] some = absurd (omega (arith, some))
+some_left (byte ∷ rest) some = (byte, rest, refl)
+
+pub whole_reads : (bytes : List ℕ) (read : Result (Apdu × List ℕ) DerFault) (a : Apdu) (size : ℕ) → Decodes bytes read (Ok (a, size)) → size ≡ length bytes → read ≡ Ok (a, [])
+whole_reads bytes (Ok found) a size decodes whole =
+    ap Ok decodes.1 ∙ ap (λ rest. Ok (a, rest)) (none_left (drop size bytes) (omega (arith, length-drop size bytes, whole)))
+whole_reads bytes (Err fault) a size decodes whole = search rules
+
+pub part_reads : (bytes : List ℕ) (read : Result (Apdu × List ℕ) DerFault) (a : Apdu) (size : ℕ) → Decodes bytes read (Ok (a, size)) → (size ≡ length bytes → ⊥)
+    → (byte : ℕ) × (more : List ℕ) × (read ≡ Ok (a, byte ∷ more))
+part_reads bytes (Ok found) a size decodes part =
+    let left = some_left (drop size bytes) (omega (arith, length-drop size bytes, decodes.0, part)) in
+    (left.0, left.1, ap Ok decodes.1 ∙ ap (λ rest. Ok (a, rest)) left.2)
+part_reads bytes (Err fault) a size decodes part = search rules
 
 pub whole_is_of : (txn : Qualifiers) (bytes : List ℕ) (read : Result (Apdu × List ℕ) DerFault) (a : Apdu) (size : ℕ) → Decodes bytes read (Ok (a, size)) → size ≡ length bytes
     → is_of txn read ≡ is_same_txn a.txn txn
-whole_is_of txn bytes (Ok found) a size decodes whole = ap (λ r. is_of txn (Ok r)) decodes.1 ∙ none_behind txn a (drop size bytes) (omega (arith, length-drop size bytes, whole))
-whole_is_of txn bytes (Err fault) a size decodes whole = search rules
+whole_is_of txn bytes read a size decodes whole = ap (is_of txn) (whole_reads bytes read a size decodes whole)
 
 pub part_is_of : (txn : Qualifiers) (bytes : List ℕ) (read : Result (Apdu × List ℕ) DerFault) (a : Apdu) (size : ℕ) → Decodes bytes read (Ok (a, size)) → (size ≡ length bytes → ⊥)
     → is_of txn read ≡ false
-part_is_of txn bytes (Ok found) a size decodes part =
-    ap (λ r. is_of txn (Ok r)) decodes.1 ∙ some_behind txn a (drop size bytes) (omega (arith, length-drop size bytes, decodes.0, part))
-part_is_of txn bytes (Err fault) a size decodes part = search rules
+part_is_of txn bytes read a size decodes part = ap (is_of txn) (part_reads bytes read a size decodes part).2

@@ -132,11 +132,11 @@ negated true is = refl
 negated false is = search rules
 
 -- what a responder has issued is none of a requester's types, and the other way round
-responders_own : (txn : Qualifiers) (side : Side) (told : List (Option Apdu)) (n : ℕ) (a : Apdu) → ResponderSideStands txn side told → message (issued_of side) n ≡ Some a → is_requesters a.body ≡ false
+pub responders_own : (txn : Qualifiers) (side : Side) (told : List (Option Apdu)) (n : ℕ) (a : Apdu) → ResponderSideStands txn side told → message (issued_of side) n ≡ Some a → is_requesters a.body ≡ false
 responders_own txn (sides.Responder y) told n a stands at = opposite (is_requesters a.body) (message_passes (λ a. not (is_requesters a.body)) y.issued n a at stands.rules.role)
 responders_own txn (sides.Requester x) told n a stands at = absurd stands
 
-requesters_own : (txn : Qualifiers) (side : Side) (told : List (Option Apdu)) (n : ℕ) (a : Apdu) → RequesterSideStands txn side told → message (issued_of side) n ≡ Some a → is_requesters a.body ≡ true
+pub requesters_own : (txn : Qualifiers) (side : Side) (told : List (Option Apdu)) (n : ℕ) (a : Apdu) → RequesterSideStands txn side told → message (issued_of side) n ≡ Some a → is_requesters a.body ≡ true
 requesters_own txn (sides.Requester x) told n a stands at = message_passes (λ a. is_requesters a.body) x.issued n a at stands.rules.role
 requesters_own txn (sides.Responder y) told n a stands at = absurd stands
 

@@ -4,11 +4,11 @@ use Rattle.std.proofs.lemmas.List.{length-drop}
 use Rattle.ill_world.specs.declared.event.Event.{Event}
 use Rattle.ill_world.specs.declared.event.Outcome.{Outcome}
 use Rattle.ill_values.specs.TxnId.{Qualifiers}
-use Rattle.ill_world.specs.World.{Parties, happens, run_of}
+use Rattle.ill_world.specs.World.{Parties, happens, run_by, run_of}
 use Rattle.ill_world.specs.Invariant.{Stands}
 
 run_next : (w new : Parties) (events : List Event) (event : Event) (outcome : Outcome) → happens w event ≡ (outcome, new) → run_of w (event ∷ events) ≡ run_of new events
-unfolding run_of
+unfolding run_by
 run_next w new events event outcome happened = ap (λ (after : Outcome × Parties). run_of after.1 events) happened
 
 -- the next event leads on
@@ -19,7 +19,7 @@ run_on w new events i event outcome less is happened =
     ap (run_of w) first ∙ run_next w new (drop (i + 1) events) event outcome happened
 
 run_of_none : (w : Parties) (events : List Event) → length events ≡ 0 → run_of w events ≡ w
-unfolding run_of
+unfolding run_by
 run_of_none w [] none = refl
 run_of_none w (event ∷ events) none = absurd (omega (arith, none))
 
@@ -30,6 +30,6 @@ run_ended w events i all = run_of_none w (drop i events) (omega (arith, length-d
 -- ---- what every world of a run keeps
 
 pub run_stands : (txn : Qualifiers) → ((w : Parties) (event : Event) → Stands txn w → Stands txn (happens w event).1) → (w : Parties) (events : List Event) → Stands txn w → Stands txn (run_of w events)
-unfolding run_of
+unfolding run_by
 run_stands txn after w [] stands = stands
 run_stands txn after w (event ∷ events) stands = run_stands txn after (happens w event).1 events (after w event stands)

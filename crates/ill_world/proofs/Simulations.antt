@@ -8,7 +8,7 @@ use Rattle.ill_world.specs.declared.script.Line.{Line}
 use Rattle.ill_world.specs.declared.script.Line.TheVariants as lines
 use Rattle.ill_world.specs.declared.fault.SimFault.{SimFault}
 use Rattle.ill_world.specs.declared.fault.SimFault.TheVariants.{Script, Read, Write, OutOfMemory}
-use Rattle.ill_world.specs.World.{Parties, first_world, happens, run_of}
+use Rattle.ill_world.specs.World.{Parties, first_world, happens, run_by, run_of}
 use Rattle.ill_world.specs.Trace.{line}
 use Rattle.ill_world.specs.Play.{Play, Said, line_at, then_says, ends, breaks_off, says_on, trace_from, IsFront, Answers, Plays}
 use Rattle.ill_world.specs.Simulation.{two_sides, trace_of, line_behind}
@@ -67,11 +67,11 @@ module _ {W E C : Type 0} (play : Play W E C) (run : W → List E → W) (none :
 -- ---- the trace of two sides
 
 run_of_next : (w : Parties) (event : Event) (events : List Event) → run_of w (event ∷ events) ≡ run_of (happens w event).1 events
-unfolding run_of
+unfolding run_by
 run_of_next w event events = refl
 
 run_of_none : (w : Parties) → run_of w [] ≡ w
-unfolding run_of
+unfolding run_by
 run_of_none w = refl
 
 pub sides_line : (txn : Qualifiers) (events : List Event) (event : Event) → trace_of txn (events ++ event ∷ []) ≡ trace_of txn events ++ line_behind txn events event

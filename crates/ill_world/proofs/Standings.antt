@@ -167,7 +167,7 @@ none_there zero i a e = search rules
 none_there (suc size) zero a e = search rules
 none_there (suc size) (suc i) a e = none_there size i a e
 
-none_sent : (n : ℕ) (a : Apdu) → sent_message (replicate 255 None) n ≡ Some a → ⊥
+pub none_sent : (n : ℕ) (a : Apdu) → sent_message (replicate 255 None) n ≡ Some a → ⊥
 none_sent zero a e = search rules
 none_sent (suc n) a e = none_there 255 n a e
 

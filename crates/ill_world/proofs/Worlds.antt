@@ -44,7 +44,7 @@ pub still_stands : {M : Type 0} → (txn : Qualifiers) (w new : Parties) (event 
 still_stands txn w new event (Ok outcome) after gives stands = subst (λ (x : Outcome × Parties). Stands txn x.1) gives (after w event stands)
 still_stands txn w new event (Err memory) after same stands = subst (Stands txn) (sym same) stands
 
-same_dates : (w : Parties) (event : Event) → KeepsDates w event w
+pub same_dates : (w : Parties) (event : Event) → KeepsDates w event w
 same_dates w (events.Restart who.Requester) = (tt, inr (inl refl))
 same_dates w event = (inr (inl refl), inr (inl refl))
 

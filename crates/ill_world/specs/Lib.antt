@@ -1,4 +1,5 @@
 pub mod World
+pub mod Desks
 pub mod PartyView
 pub mod Words
 pub mod Script
@@ -8,6 +9,9 @@ pub mod Simulation
 pub mod Simulating
 pub mod Safety
 pub mod Invariant
+pub mod DeskSafety
 pub mod Agreement
 pub mod BadWorlds
 pub mod Changes
+pub mod DeskChanges
+pub mod DeskView

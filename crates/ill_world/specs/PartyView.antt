@@ -33,14 +33,14 @@ is_of txn (Err fault) = false
 
 -- ---- parties
 
--- the side that was read; there is one where the store is honest
-abbrev pub side_or : Side → Result Side RecordFault → Side
-side_or live (Ok side) = side
-side_or live (Err fault) = live
+-- what was read; it was where the store is honest
+abbrev pub read_or : {V : Type 0} → V → Result V RecordFault → V
+read_or live (Ok landed) = landed
+read_or live (Err fault) = live
 
 -- the side that has landed in the store of a desk
 abbrev pub landed_of : DeskOf MemoryStoreState → Side
-landed_of desk = side_or desk.live (landed_side desk.store.landed desk.live)
+landed_of desk = read_or desk.live (landed_side desk.store.landed desk.live)
 
 -- the party that a desk and the messages sent from it stand for
 abbrev pub party_of : DeskOf MemoryStoreState → List (Option Apdu) → Party
@@ -57,6 +57,6 @@ pub record IsReady (desk : DeskOf MemoryStoreState) : Type 0 where
 
 -- what a party answers to an event, and the party after it: as expected, or nothing has changed for
 -- want of memory
-abbrev pub Gives : {M P : Type 0} → Outcome × P → P → Result Outcome M → P → Type 0
+abbrev pub Gives : {O M P : Type 0} → O × P → P → Result O M → P → Type 0
 Gives expected old (Ok outcome) new = expected ≡ (outcome, new)
 Gives expected old (Err memory) new = new ≡ old

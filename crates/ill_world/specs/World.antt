@@ -32,9 +32,13 @@ pub record Party : Type 0 where
   pub released : ℕ
   pub sent : List (Option Apdu)
 
-pub record Parties : Type 0 where
-  pub requester : Party
-  pub responder : Party
+-- the two of a loan, each named by its role
+pub record TwoOf (P : Type 0) : Type 0 where
+  pub requester : P
+  pub responder : P
+
+abbrev pub Parties : Type 0
+Parties = TwoOf Party
 
 -- a place for each number, and no message in it
 abbrev pub nothing_sent : List (Option Apdu)
@@ -51,11 +55,11 @@ first_world txn = record {
   responder = first_party (idle_side Responder txn);
 }
 
-abbrev pub party : Parties → Who → Party
+abbrev pub party : {P : Type 0} → TwoOf P → Who → P
 party w Requester = w.requester
 party w Responder = w.responder
 
-abbrev pub with_party : Parties → Who → Party → Parties
+abbrev pub with_party : {P : Type 0} → TwoOf P → Who → P → TwoOf P
 with_party w Requester p = record w { requester = p }
 with_party w Responder p = record w { responder = p }
 
@@ -86,10 +90,13 @@ fails_to_save p true = record p { landed = p.live }
 fails_to_save p false = p
 
 -- A message that was issued may be sent once it is released.
+abbrev pub sends_by : {P : Type 0} → P → (Apdu → P) → Option Apdu → Bool → Outcome × P
+sends_by p sending None is_released = (NoSuchMessage, p)
+sends_by p sending (Some a) false = (NotSaved, p)
+sends_by p sending (Some a) true = (Sent, sending a)
+
 abbrev pub sends : Party → ℕ → Option Apdu → Bool → Outcome × Party
-sends p n None is_released = (NoSuchMessage, p)
-sends p n (Some a) false = (NotSaved, p)
-sends p n (Some a) true = (Sent, record p { sent = with_sent p.sent n a })
+sends p n issued is_released = sends_by p (λ a. record p { sent = with_sent p.sent n a }) issued is_released
 
 -- what is seen of a message that was delivered
 abbrev pub answer_to : Result Taking Refusal → Outcome
@@ -139,16 +146,24 @@ who_of (Deliver who n) = who
 who_of (Noise who bytes) = who
 who_of (Restart who) = who
 
--- What is seen of an event, and the world after it: the other party stays as it is.
-abbrev pub happens : Parties → Event → Outcome × Parties
-happens w event =
-    let who = who_of event in
-    let after = happens_to (party w who) (party w (other who)).sent event in
+-- What is seen of what happens to one of the two, and both after it: the other one, on which it may
+-- depend, stays as it is.
+abbrev pub happens_at : {P O : Type 0} → TwoOf P → Who → (P → P → O × P) → O × TwoOf P
+happens_at w who happening =
+    let after = happening (party w who) (party w (other who)) in
     (after.0, with_party w who after.1)
+
+-- What is seen of an event, and the world after it.
+abbrev pub happens : Parties → Event → Outcome × Parties
+happens w event = happens_at w (who_of event) (λ p partner. happens_to p partner.sent event)
 
 -- ---- a run: one event after another
 
+-- the world after events, each of which leads on as it happens
+unfoldable pub run_by : {W E O : Type 0} → (W → E → O × W) → W → List E → W
+run_by happening w [] = w
+run_by happening w (event ∷ events) = run_by happening (happening w event).1 events
+
 -- the world after events
-unfoldable pub run_of : Parties → List Event → Parties
-run_of w [] = w
-run_of w (event ∷ events) = run_of (happens w event).1 events
+abbrev pub run_of : Parties → List Event → Parties
+run_of w events = run_by happens w events

@@ -6,7 +6,7 @@ ghost use Rattle.ill_world.specs.Trace.{outcome_word, desk_outcome_word, taking_
 
 use crate::bytes::Bytes;
 use ill_core::{Deed, Refusal, Taking, Wish};
-use ill_values::{Day, Number};
+use ill_values::{Day, Number, TxnId};
 
 /// To whom an event happens: each side is named by its role.
 pub use ill_saved::Role as Who;
@@ -53,6 +53,33 @@ impl Event {
             | Event::Restart(who) => *who,
         }
     }
+}
+
+/// What may happen to one of two desks of many transactions. What happens in one of these names it, and
+/// what happens to a whole desk happens in each.
+#[derive(Debug, PartialEq, Eq, Drop)]
+pub enum DeskEvent {
+    /// The requester's library decides this.
+    Wish(TxnId, Wish),
+    /// The responder's library decides this, on this day.
+    Deed(TxnId, Deed, Day),
+    /// The desk is saved.
+    Save(Who),
+    /// A save fails.
+    SaveFault {
+        /// Whose save it is.
+        who: Who,
+        /// Whether the new record has landed nevertheless.
+        landed: bool,
+    },
+    /// The desk sends its message with this number.
+    Send(Who, TxnId, Number),
+    /// The message of the other desk with this number reaches this desk.
+    Deliver(Who, TxnId, Number),
+    /// Other bytes reach the desk.
+    Noise(Who, Bytes),
+    /// The desk begins again from the record that has landed.
+    Restart(Who),
 }
 
 /// What is seen of an event. Those from `Refused` on to `Forged` change nothing, and neither does

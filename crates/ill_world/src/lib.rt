@@ -4,6 +4,9 @@
 
 mod ahead;
 mod bytes;
+pub mod desk_laws;
+mod desk_party;
+mod desk_sent;
 mod event;
 mod fault;
 pub mod laws;
@@ -12,6 +15,7 @@ mod message;
 mod party;
 mod performer;
 mod script;
+
 mod sent;
 mod simulation;
 mod trace;
@@ -19,7 +23,7 @@ pub mod words;
 mod world;
 
 pub use bytes::Bytes;
-pub use event::{DeskOutcome, Event, Outcome, Who};
+pub use event::{DeskEvent, DeskOutcome, Event, Outcome, Who};
 pub use fault::SimFault;
 pub use simulation::simulate;
 pub use trace::push_side;

@@ -1,5 +1,5 @@
 use Rattle.std.proofs.Common.{Ok, Err}
-use Rattle.ill_tool.specs.Keeping.{view_of}
+use Rattle.ill_tool.specs.Performing.{view_of}
 use Rattle.ill_tool.proofs.TakeLemmas.{input_taken}
 use Rattle.ill_tool.proofs.take.take_input.Goals as goal
 

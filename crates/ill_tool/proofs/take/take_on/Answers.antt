@@ -1,5 +1,5 @@
-use Rattle.std.proofs.Common.{rules, ◌≡◌, sym, ap, subst, ◌∙◌}
-use Rattle.ill_tool.specs.Keeping.{View, view_of}
+use Rattle.std.proofs.Common.{rules, ◌≡◌, subst}
+use Rattle.ill_tool.specs.Performing.{view_of}
 use Rattle.ill_tool.specs.Take.{RunsTake}
 use Rattle.ill_tool.proofs.take.take_on.Goals as goal
 

@@ -1,21 +1,23 @@
-use Rattle.std.proofs.Common.{rules, ◌≡◌, true, Ok, length, nat_lt}
-use Rattle.ill_saved.specs.Side.{acted, acts, idle_side}
-use Rattle.ill_saved.specs.Sides.{most_sides}
-use Rattle.ill_saved.proofs.Holdings.{first_may, first_row}
+use Rattle.std.proofs.Common.{rules, ◌≡◌, true, None, Ok, length, nat_lt}
+use Rattle.ill_saved.specs.Side.{acted, acts, txn_of, idle_side, IsRow}
+use Rattle.ill_saved.specs.Sides.{most_sides, put_refusal}
+use Rattle.ill_saved.specs.Many.{sides_held}
+use Rattle.ill_saved.proofs.Holdings.{first_may}
+use Rattle.ill_saved.proofs.many.Desk.act_first.Given.{Over}
+use Rattle.ill_saved.proofs.many.Desk.act_first.Goals.{In_ok-side}
 use Rattle.ill_saved.proofs.many.Desk.act_first.Goals as goal
 
-pub hold-requires-clause-may : goal.hold-requires-clause-may
-hold-requires-clause-may g c =
+-- the side that has begun may be put, and came of a row
+may : (g : Over) (c : In_ok-side g) → (put_refusal (sides_held c.args.self.now.live) c.in_ok-side.side ≡ None) × IsRow (idle_side c.args.self.now.live.role (txn_of c.in_ok-side.side)) c.in_ok-side.side
+may g c =
     let live = c.args.self.now.live in
     let room : nat_lt (length live.held) most_sides ≡ true = search rules in
     let done : acts (idle_side live.role c.args.txn.now) c.args.action.now ≡ Ok c.in_ok-side.side = search rules in
     let begun = c.rows_begin.ensures.acts (idle_side live.role c.args.txn.now) c.in_ok-side.side c.args.action.now done in
     first_may c.rows_grow.ensures live c.args.txn.now c.requires.none room c.in_ok-side.side (acted c.args.action.now done) begun
 
+pub hold-requires-clause-may : goal.hold-requires-clause-may
+hold-requires-clause-may g c = (may g (goal.at.hold-requires-clause-may g c).In_ok-side).0
+
 pub hold-requires-clause-row : goal.hold-requires-clause-row
-hold-requires-clause-row g c =
-    let live = c.args.self.now.live in
-    let room : nat_lt (length live.held) most_sides ≡ true = search rules in
-    let done : acts (idle_side live.role c.args.txn.now) c.args.action.now ≡ Ok c.in_ok-side.side = search rules in
-    let begun = c.rows_begin.ensures.acts (idle_side live.role c.args.txn.now) c.in_ok-side.side c.args.action.now done in
-    first_row c.rows_grow.ensures live c.args.txn.now c.requires.none room c.in_ok-side.side (acted c.args.action.now done) begun
+hold-requires-clause-row g c = (may g (goal.at.hold-requires-clause-row g c).In_ok-side).1

@@ -2,14 +2,14 @@ use Rattle.std.proofs.Common.{rules, ◌≡◌, ◌++◌, ◌+◌, ◌∷◌, []
 use Rattle.ill_saved.specs.Side.{txn_of, idle_side, IsRow}
 use Rattle.ill_saved.specs.Sides.{put_refusal, put_last}
 use Rattle.ill_saved.specs.Many.{sides_held, with_held, AreBacked, held_of}
-use Rattle.ill_saved.proofs.Holdings.{holds_sides, held_more, more_backed}
+use Rattle.ill_saved.proofs.Holdings.{as_seen, held_more, more_backed}
 use Rattle.ill_saved.proofs.many.Desk.hold.Goals as goal
 
 pub invariant_of-self-in-Ok : goal.invariant_of-self-in-Ok
 invariant_of-self-in-Ok g c =
     let all = c.self.inside.sides in
     let counted = c.self.inside.released.items in
-    let seen : all ≡ sides_held c.args.self.now.live = sym (holds_sides all counted c.self.invariant.0) ∙ ap (λ desk. sides_held desk.live) c.self.view_is in
+    let seen : all ≡ sides_held c.args.self.now.live = as_seen all counted c.self.inside.store c.args.self.now c.self.invariant.0 c.self.view_is in
     let may : put_refusal all c.args.side ≡ None = ap (λ held. put_refusal held c.args.side) seen ∙ c.requires.may in
     let role = ap (λ desk. desk.live.role) c.self.view_is in
     let row : IsRow (idle_side all.role (txn_of c.args.side)) c.args.side = subst (λ r. IsRow (idle_side r (txn_of c.args.side)) c.args.side) (sym role) c.requires.row in
@@ -25,7 +25,7 @@ pub returns-in_ok-push-in-Ok-clause-held : goal.returns-in_ok-push-in-Ok-clause-
 returns-in_ok-push-in-Ok-clause-held g c =
     let all = c.self.inside.sides in
     let counted = c.self.inside.released.items in
-    let seen : all ≡ sides_held c.args.self.now.live = sym (holds_sides all counted c.self.invariant.0) ∙ ap (λ desk. sides_held desk.live) c.self.view_is in
+    let seen : all ≡ sides_held c.args.self.now.live = as_seen all counted c.self.inside.store c.args.self.now c.self.invariant.0 c.self.view_is in
     let may : put_refusal all c.args.side ≡ None = ap (λ held. put_refusal held c.args.side) seen ∙ c.requires.may in
     let put : c.put.new.self ≡ put_last all c.args.side = search rules in
     let pushed : c.push.new.self.items ≡ counted ++ 0 ∷ [] = search rules in

@@ -1,20 +1,22 @@
 use Rattle.std.proofs.Common.{rules, ◌≡◌, nat_lt, length, true, false, ap, sym, ◌∙◌}
 use Rattle.ill_saved.specs.Sides.{most_sides}
 use Rattle.ill_saved.proofs.Holdings.{as_many_held}
+use Rattle.ill_saved.proofs.many.Desk.may_begin.Given.{Over}
+use Rattle.ill_saved.proofs.many.Desk.may_begin.Goals.{After-len}
 use Rattle.ill_saved.proofs.many.Desk.may_begin.Goals as goal
+
+-- as many are held as there are sides
+as_many : (g : Over) (c : After-len g) → length c.args.self.now.live.held ≡ length c.self.inside.sides.sides
+as_many g c = sym (ap (λ desk. length desk.live.held) c.self.view_is) ∙ as_many_held c.self.inside.sides.sides c.self.inside.released.items c.self.invariant.0
 
 pub returns-then-len-lt-MOST_SIDES : goal.returns-then-len-lt-MOST_SIDES
 returns-then-len-lt-MOST_SIDES g c =
-    let many = as_many_held c.self.inside.sides.sides c.self.inside.released.items c.self.invariant.0 in
-    let seen = ap (λ desk. length desk.live.held) c.self.view_is in
-    let room : nat_lt (length c.self.inside.sides.sides) most_sides ≡ true = search rules in
     let may : c.args.begins ≡ true = search rules in
-    (may, ap (λ n. nat_lt n most_sides) (sym seen ∙ many) ∙ room)
+    let room : nat_lt (length c.self.inside.sides.sides) most_sides ≡ true = search rules in
+    (may, ap (λ n. nat_lt n most_sides) (as_many g (goal.at.returns-then-len-lt-MOST_SIDES g c).After-len) ∙ room)
 
 pub returns-else-len-lt-MOST_SIDES : goal.returns-else-len-lt-MOST_SIDES
 returns-else-len-lt-MOST_SIDES g c =
-    let many = as_many_held c.self.inside.sides.sides c.self.inside.released.items c.self.invariant.0 in
-    let seen = ap (λ desk. length desk.live.held) c.self.view_is in
-    let none : nat_lt (length c.self.inside.sides.sides) most_sides ≡ false = search rules in
     let may : c.args.begins ≡ true = search rules in
-    (may, ap (λ n. nat_lt n most_sides) (sym seen ∙ many) ∙ none)
+    let none : nat_lt (length c.self.inside.sides.sides) most_sides ≡ false = search rules in
+    (may, ap (λ n. nat_lt n most_sides) (as_many g (goal.at.returns-else-len-lt-MOST_SIDES g c).After-len) ∙ none)

@@ -1,55 +1,40 @@
 use Rattle.std.proofs.Common.{rules, ◌≡◌, Some, None, ap, sym, ◌∙◌}
-use Rattle.ill_saved.specs.Sides.{side_with}
-use Rattle.ill_saved.specs.Many.{sides_held}
-use Rattle.ill_saved.proofs.Holdings.{holds_sides, held_there, none_held_there}
+use Rattle.ill_saved.specs.Sides.{found_by, side_with}
+use Rattle.ill_saved.specs.Many.{txn_held, held_for}
+use Rattle.ill_saved.proofs.Holdings.{as_seen, held_there, none_held_there}
+use Rattle.ill_saved.proofs.many.Desk.message.Given.{Over}
+use Rattle.ill_saved.proofs.many.Desk.message.Goals.{In-Some}
 use Rattle.ill_saved.proofs.many.Desk.message.Goals as goal
+
+-- what is held of the transaction
+found : (g : Over) (c : In-Some g) → found_by txn_held c.args.txn.now c.args.self.now.live.held
+    ≡ Some (record { side = c.in-Some.side.now; released = (held_for c.args.txn.now c.args.self.now.live).released })
+found g c =
+    let there : side_with c.args.txn.now c.self.inside.sides.sides ≡ Some c.in-Some.side.now = search rules in
+    held_there c.args.self.now.live c.args.txn.now c.in-Some.side.now (ap (λ all. side_with c.args.txn.now all.sides) (sym (as_seen c.self.inside.sides c.self.inside.released.items c.self.inside.store c.args.self.now c.self.invariant.0 c.self.view_is)) ∙ there)
 
 pub returns-in_default : goal.returns-in_default
 returns-in_default g c =
-    let live = c.args.self.now.live in
-    let txn = c.args.txn.now in
-    let all : c.self.inside.sides ≡ sides_held live =
-    sym (holds_sides c.self.inside.sides c.self.inside.released.items c.self.invariant.0) ∙ ap (λ desk. sides_held desk.live) c.self.view_is in
-    let none : side_with txn c.self.inside.sides.sides ≡ None = search rules in
-    let found = none_held_there live txn (ap (λ held. side_with txn held.sides) (sym all) ∙ none) in
-    search (rules, found)
+    let none : side_with c.args.txn.now c.self.inside.sides.sides ≡ None = search rules in
+    let held = none_held_there c.args.self.now.live c.args.txn.now (ap (λ all. side_with c.args.txn.now all.sides) (sym (as_seen c.self.inside.sides c.self.inside.released.items c.self.inside.store c.args.self.now c.self.invariant.0 c.self.view_is)) ∙ none) in
+    search (rules, held)
 
 pub returns-in-None : goal.returns-in-None
 returns-in-None g c =
-    let live = c.args.self.now.live in
-    let txn = c.args.txn.now in
-    let all : c.self.inside.sides ≡ sides_held live =
-    sym (holds_sides c.self.inside.sides c.self.inside.released.items c.self.invariant.0) ∙ ap (λ desk. sides_held desk.live) c.self.view_is in
-    let there : side_with txn c.self.inside.sides.sides ≡ Some c.in-Some.side.now = search rules in
-    let found = held_there live txn c.in-Some.side.now (ap (λ held. side_with txn held.sides) (sym all) ∙ there) in
-    search (rules, found)
+    let held = found g (goal.at.returns-in-None g c).In-Some in
+    search (rules, held)
 
 pub returns-in-Some-issued : goal.returns-in-Some-issued
 returns-in-Some-issued g c =
-    let live = c.args.self.now.live in
-    let txn = c.args.txn.now in
-    let all : c.self.inside.sides ≡ sides_held live =
-    sym (holds_sides c.self.inside.sides c.self.inside.released.items c.self.invariant.0) ∙ ap (λ desk. sides_held desk.live) c.self.view_is in
-    let there : side_with txn c.self.inside.sides.sides ≡ Some c.in-Some.side.now = search rules in
-    let found = held_there live txn c.in-Some.side.now (ap (λ held. side_with txn held.sides) (sym all) ∙ there) in
-    search (rules, found)
+    let held = found g (goal.at.returns-in-Some-issued g c).In-Some in
+    search (rules, held)
 
 pub returns-in_err-encode-in-Some-2 : goal.returns-in_err-encode-in-Some-2
 returns-in_err-encode-in-Some-2 g c =
-    let live = c.args.self.now.live in
-    let txn = c.args.txn.now in
-    let all : c.self.inside.sides ≡ sides_held live =
-    sym (holds_sides c.self.inside.sides c.self.inside.released.items c.self.invariant.0) ∙ ap (λ desk. sides_held desk.live) c.self.view_is in
-    let there : side_with txn c.self.inside.sides.sides ≡ Some c.in-Some.side.now = search rules in
-    let found = held_there live txn c.in-Some.side.now (ap (λ held. side_with txn held.sides) (sym all) ∙ there) in
-    search (rules, found)
+    let held = found g (goal.at.returns-in_err-encode-in-Some-2 g c).In-Some in
+    search (rules, held)
 
 pub returns-in_ok-encode-in-Some-2 : goal.returns-in_ok-encode-in-Some-2
 returns-in_ok-encode-in-Some-2 g c =
-    let live = c.args.self.now.live in
-    let txn = c.args.txn.now in
-    let all : c.self.inside.sides ≡ sides_held live =
-    sym (holds_sides c.self.inside.sides c.self.inside.released.items c.self.invariant.0) ∙ ap (λ desk. sides_held desk.live) c.self.view_is in
-    let there : side_with txn c.self.inside.sides.sides ≡ Some c.in-Some.side.now = search rules in
-    let found = held_there live txn c.in-Some.side.now (ap (λ held. side_with txn held.sides) (sym all) ∙ there) in
-    search (rules, found)
+    let held = found g (goal.at.returns-in_ok-encode-in-Some-2 g c).In-Some in
+    search (rules, held)

@@ -1,8 +1,8 @@
-use Rattle.std.proofs.Common.{rules, ◌≡◌, ◌⊎◌, true, Some, ap, sym, subst, ◌∙◌}
+use Rattle.std.proofs.Common.{rules, ◌≡◌, ◌⊎◌, Some, ap, sym, subst, ◌∙◌}
 use Rattle.ill_saved.specs.Records2.{AreSides, sides_spelling}
-use Rattle.ill_saved.specs.Many.{counts, sides_held, whole_of}
+use Rattle.ill_saved.specs.Many.{sides_held, whole_of}
 use Rattle.ill_saved.proofs.Desks.{old_or_new}
-use Rattle.ill_saved.proofs.Holdings.{holds_sides, as_many_counted, saved_backed, fault_backed, whole_held, each_consistent}
+use Rattle.ill_saved.proofs.Holdings.{as_seen, as_many_counted, saved_backed, fault_backed, whole_held, each_consistent}
 use Rattle.ill_saved.proofs.many.Desk.save.Goals as goal
 
 pub invariant_of-self : goal.invariant_of-self
@@ -24,7 +24,7 @@ invariant_of-self g c =
 pub returns-in_err-save-clause-landed : goal.returns-in_err-save-clause-landed
 returns-in_err-save-clause-landed g c =
     let all = c.self.inside.sides in
-    let seen : all ≡ sides_held c.args.self.now.live = sym (holds_sides all c.self.inside.released.items c.self.invariant.0) ∙ ap (λ desk. sides_held desk.live) c.self.view_is in
+    let seen : all ≡ sides_held c.args.self.now.live = as_seen all c.self.inside.released.items c.self.inside.store c.args.self.now c.self.invariant.0 c.self.view_is in
     let spelled : c.deref.result.now ≡ sides_spelling all = search rules in
     let bytes = spelled ∙ ap sides_spelling seen in
     search (rules, bytes)
@@ -32,7 +32,7 @@ returns-in_err-save-clause-landed g c =
 pub returns-in_err-save-clause-sides : goal.returns-in_err-save-clause-sides
 returns-in_err-save-clause-sides g c =
     let all = c.self.inside.sides in
-    let seen : all ≡ sides_held c.args.self.now.live = sym (holds_sides all c.self.inside.released.items c.self.invariant.0) ∙ ap (λ desk. sides_held desk.live) c.self.view_is in
+    let seen : all ≡ sides_held c.args.self.now.live = as_seen all c.self.inside.released.items c.self.inside.store c.args.self.now c.self.invariant.0 c.self.view_is in
     let are = subst AreSides seen c.in_ok-record.ensures.sides in
     search (rules, are)
 
@@ -51,13 +51,13 @@ invariant_of-self-2 g c =
 pub returns-clause-live : goal.returns-clause-live
 returns-clause-live g c =
     let all = c.self.inside.sides in
-    let seen : all ≡ sides_held c.args.self.now.live = sym (holds_sides all c.self.inside.released.items c.self.invariant.0) ∙ ap (λ desk. sides_held desk.live) c.self.view_is in
+    let seen : all ≡ sides_held c.args.self.now.live = as_seen all c.self.inside.released.items c.self.inside.store c.args.self.now c.self.invariant.0 c.self.view_is in
     whole_held all c.in_ok-released.released.items c.in_ok-released.ensures ∙ ap whole_of seen
 
 pub returns-clause-landed : goal.returns-clause-landed
 returns-clause-landed g c =
     let all = c.self.inside.sides in
-    let seen : all ≡ sides_held c.args.self.now.live = sym (holds_sides all c.self.inside.released.items c.self.invariant.0) ∙ ap (λ desk. sides_held desk.live) c.self.view_is in
+    let seen : all ≡ sides_held c.args.self.now.live = as_seen all c.self.inside.released.items c.self.inside.store c.args.self.now c.self.invariant.0 c.self.view_is in
     let spelled : c.deref.result.now ≡ sides_spelling all = search rules in
     let bytes = spelled ∙ ap sides_spelling seen in
     search (rules, bytes)
@@ -65,5 +65,5 @@ returns-clause-landed g c =
 pub returns-clause-sides : goal.returns-clause-sides
 returns-clause-sides g c =
     let all = c.self.inside.sides in
-    let seen : all ≡ sides_held c.args.self.now.live = sym (holds_sides all c.self.inside.released.items c.self.invariant.0) ∙ ap (λ desk. sides_held desk.live) c.self.view_is in
+    let seen : all ≡ sides_held c.args.self.now.live = as_seen all c.self.inside.released.items c.self.inside.store c.args.self.now c.self.invariant.0 c.self.view_is in
     subst AreSides seen c.in_ok-record.ensures.sides

@@ -1,8 +1,5 @@
-use Rattle.std.proofs.Common.{ap, sym, ◌∙◌}
-use Rattle.ill_saved.specs.Many.{sides_held}
-use Rattle.ill_saved.proofs.Holdings.{holds_sides}
+use Rattle.ill_saved.proofs.Holdings.{as_seen}
 use Rattle.ill_saved.proofs.many.Desk.sides.Goals as goal
 
 pub returns-clause-value : goal.returns-clause-value
-returns-clause-value g c =
-    sym (holds_sides c.self.inside.sides c.self.inside.released.items c.self.invariant.0) ∙ ap (λ desk. sides_held desk.live) c.self.view_is
+returns-clause-value g c = as_seen c.self.inside.sides c.self.inside.released.items c.self.inside.store c.args.self.now c.self.invariant.0 c.self.view_is

@@ -1,40 +1,47 @@
-use Rattle.std.proofs.Common.{rules, ◌≡◌, false, ap, ◌∙◌}
+use Rattle.std.proofs.Common.{rules, ◌≡◌, true, false, length, ap, subst, ◌∙◌}
 use Rattle.ill_saved.specs.Side.{Takes}
 use Rattle.ill_saved.specs.Sides.{found_by}
-use Rattle.ill_saved.specs.Many.{txn_held, held_of, is_own}
+use Rattle.ill_saved.specs.Many.{txn_held, held_of, is_own, ManyTakesApdu, AreBacked}
 use Rattle.ill_saved.proofs.Held.{takes_row}
-use Rattle.ill_saved.proofs.Holdings.{none_held, changed_held, still_backed, desk_takes_so}
+use Rattle.ill_saved.proofs.Holdings.{none_held, changed_held, still_backed, desk_answer, desk_takes_so}
+use Rattle.ill_saved.proofs.many.Desk.take.Given.{Over}
+use Rattle.ill_saved.proofs.many.Desk.take.Goals.{In-Some}
 use Rattle.ill_saved.proofs.many.Desk.take.Goals as goal
 
-pub invariant_of-self : goal.invariant_of-self
-invariant_of-self g c = (
+-- the desk keeps its rules
+rules_stay : (g : Over) (c : In-Some g) → (length c.self.inside.released.items ≡ length c.take.new.self.sides)
+    × (g.S.Store.is_honest c.self.inside.store ≡ true → AreBacked (g.S.Store.landed c.self.inside.store) (record { role = c.take.new.self.role; held = held_of c.take.new.self.sides c.self.inside.released.items }))
+rules_stay g c = (
   (changed_held c.self.inside.sides.role c.self.inside.sides.sides c.self.inside.released.items c.self.invariant.0 c.rows_grow.ensures c.args.apdu.now.txn (λ old answer new. Takes old c.args.apdu.now answer new) (λ old new answer does. takes_row old new c.args.apdu.now answer does) c.in-Some.answer c.take.new.self c.in-Some.ensures).6,
   λ honest.
       still_backed c.self.inside.sides.role c.self.inside.sides.sides c.self.inside.released.items c.self.invariant.0 c.rows_grow.ensures c.args.apdu.now.txn (λ old answer new. Takes old c.args.apdu.now answer new) (λ old new answer does. takes_row old new c.args.apdu.now answer does)
       (g.S.Store.landed c.self.inside.store) c.in-Some.answer c.take.new.self c.in-Some.ensures (c.self.invariant.1 honest),
 )
 
+-- what the desk answers
+takes_so : (g : Over) (c : In-Some g) → ManyTakesApdu c.args.self.now.live c.args.apdu.now (desk_answer c.in-Some.answer)
+    (record { role = c.take.new.self.role; held = held_of c.take.new.self.sides c.self.inside.released.items })
+takes_so g c =
+    let other : is_own c.self.inside.sides.role c.args.apdu.now.body ≡ false = search rules in
+    let all = c.self.inside.sides in
+    subst (λ desk. ManyTakesApdu desk.live c.args.apdu.now (desk_answer c.in-Some.answer) (record { role = c.take.new.self.role; held = held_of c.take.new.self.sides c.self.inside.released.items })) c.self.view_is
+    (desk_takes_so all.role all.sides c.self.inside.released.items c.self.invariant.0 c.rows_grow.ensures c.refusals_stay.ensures c.args.apdu.now c.in-Some.answer c.take.new.self other c.in-Some.ensures)
+
+pub invariant_of-self : goal.invariant_of-self
+invariant_of-self g c = rules_stay g (goal.at.invariant_of-self g c).In-Some
+
 pub invariant_of-self-in-Some : goal.invariant_of-self-in-Some
-invariant_of-self-in-Some g c = (
-  (changed_held c.self.inside.sides.role c.self.inside.sides.sides c.self.inside.released.items c.self.invariant.0 c.rows_grow.ensures c.args.apdu.now.txn (λ old answer new. Takes old c.args.apdu.now answer new) (λ old new answer does. takes_row old new c.args.apdu.now answer does) c.in-Some.answer c.take.new.self c.in-Some.ensures).6,
-  λ honest.
-      still_backed c.self.inside.sides.role c.self.inside.sides.sides c.self.inside.released.items c.self.invariant.0 c.rows_grow.ensures c.args.apdu.now.txn (λ old answer new. Takes old c.args.apdu.now answer new) (λ old new answer does. takes_row old new c.args.apdu.now answer does)
-      (g.S.Store.landed c.self.inside.store) c.in-Some.answer c.take.new.self c.in-Some.ensures (c.self.invariant.1 honest),
-)
+invariant_of-self-in-Some g c = rules_stay g (goal.at.invariant_of-self-in-Some g c).In-Some
 
 pub returns-in_err-answer-in-Some-clause-takes : goal.returns-in_err-answer-in-Some-clause-takes
 returns-in_err-answer-in-Some-clause-takes g c =
-    let other : is_own c.self.inside.sides.role c.args.apdu.now.body ≡ false = search rules in
-    let takes_so = desk_takes_so c.self.inside.sides.role c.self.inside.sides.sides c.self.inside.released.items c.self.invariant.0 c.rows_grow.ensures c.refusals_stay.ensures c.args.apdu.now c.in-Some.answer c.take.new.self other c.in-Some.ensures in
-    let seen = c.self.view_is in
-    search (rules, takes_so, seen)
+    let so = takes_so g (goal.at.returns-in_err-answer-in-Some-clause-takes g c).In-Some in
+    search (rules, so)
 
 pub returns-in_ok-answer-in-Some-clause-takes : goal.returns-in_ok-answer-in-Some-clause-takes
 returns-in_ok-answer-in-Some-clause-takes g c =
-    let other : is_own c.self.inside.sides.role c.args.apdu.now.body ≡ false = search rules in
-    let takes_so = desk_takes_so c.self.inside.sides.role c.self.inside.sides.sides c.self.inside.released.items c.self.invariant.0 c.rows_grow.ensures c.refusals_stay.ensures c.args.apdu.now c.in-Some.answer c.take.new.self other c.in-Some.ensures in
-    let seen = c.self.view_is in
-    search (rules, takes_so, seen)
+    let so = takes_so g (goal.at.returns-in_ok-answer-in-Some-clause-takes g c).In-Some in
+    search (rules, so)
 
 pub take_first-requires-clause-none : goal.take_first-requires-clause-none
 take_first-requires-clause-none g c =

@@ -1,0 +1,64 @@
+//! Calls that a desk of many transactions alone has.
+
+use crate::actions::action;
+use crate::calls::ManyCall;
+use crate::desk_view::Standing;
+use crate::held::{numbered, write_held};
+use crate::line::Line;
+use ill_saved::{Desk, MemoryStore, Role, Store};
+use ill_values::{Apdu, Body, Item, Number, TxnId};
+use std::alloc::Global;
+
+/// Performs a call, and writes its answer.
+pub fn call(
+    alloc: Global,
+    line: &mut Line,
+    desk: &mut Desk<MemoryStore>,
+    call: ManyCall,
+    words: &str,
+) -> Option<()> {
+    match call {
+        ManyCall::Begin => begin(alloc, line, desk, words),
+        ManyCall::Each => write_each(line, desk),
+        ManyCall::Create | ManyCall::Start | ManyCall::Fuse => None,
+    }
+}
+
+/// `begin COUNT`: the transactions 0 to COUNT - 1 of the group G1 begin.
+fn begin(alloc: Global, line: &mut Line, desk: &mut Desk<MemoryStore>, words: &str) -> Option<()> {
+    for number in 0..words.parse::<u16>().ok()? {
+        begin_one(alloc, desk, numbered(alloc, number)?)?;
+    }
+    write_held(line, desk.sides());
+    Some(())
+}
+
+/// A requester asks, or a responder is asked.
+fn begin_one(alloc: Global, desk: &mut Desk<MemoryStore>, txn: TxnId) -> Option<()> {
+    match desk.sides().role() {
+        Role::Requester => desk
+            .act(alloc, &txn, &action(alloc, "request none Maps")?)
+            .ok(),
+        Role::Responder => desk.take(alloc, &request(alloc, txn)?).map(|_| ()).ok(),
+    }
+}
+
+fn request(alloc: Global, txn: TxnId) -> Option<Apdu> {
+    let item = Item::new(alloc, b"Maps").ok()?;
+    let body = Body::IllRequest { expiry: None, item };
+    let number = Number::new(1)?;
+    Some(Apdu { txn, number, body })
+}
+
+/// `each`: where each side stands, in the order in which they were first seen.
+fn write_each<S: Store>(line: &mut Line, desk: &Desk<S>) -> Option<()> {
+    write_held(line, desk.sides());
+    for place in 0..desk.sides().len() {
+        let side = desk.sides().at(place)?;
+        line.text(",");
+        line.qualifier(side.txn().group());
+        line.qualifier(side.txn().transaction());
+        Standing::of(side, desk.released(side.txn())).write(line);
+    }
+    Some(())
+}

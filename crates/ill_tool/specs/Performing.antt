@@ -1,0 +1,126 @@
+-- What came of an action or a message, whatever keeps the sides: what is seen of it, and what is saved (this
+-- profile's own).
+use Rattle.std.specs.Prelude.{◌≡◌, ◌⊎◌, ℕ, ◌≤◌, Bool, true, false, if◌then◌else◌, List, Option, None, Some, option_map, Result, Ok, Err}
+use Rattle.ill_values.specs.declared.apdu.Apdu.{Apdu}
+use Rattle.ill_core.specs.declared.taking.Taking.{Taking}
+use Rattle.ill_core.specs.declared.taking.Taking.TheVariants.{Taken}
+use Rattle.ill_saved.specs.declared.fault.DeskFault.{DeskFault}
+use Rattle.ill_saved.specs.declared.fault.DeskFault.TheVariants as desks
+use Rattle.ill_saved.specs.declared.store.StoreFault.TheVariants.{Failed}
+use Rattle.ill_saved.specs.Store.{HasRisen}
+use Rattle.ill_saved.specs.Desk.{DeskOf}
+use Rattle.ill_saved.specs.Many.{Held, Holding, ManyOf}
+use Rattle.ill_world.specs.declared.event.Outcome.TheVariants as outcomes
+use Rattle.ill_world.specs.declared.event.DeskOutcome.{DeskOutcome}
+use Rattle.ill_world.specs.declared.event.DeskOutcome.TheVariants.{Plain, NoSuchTransaction, DeskFull}
+use Rattle.ill_tool.specs.declared.fault.ToolFault.{ToolFault}
+use Rattle.ill_tool.specs.declared.fault.ToolFault.TheVariants.{Desk, OutOfMemory}
+use Rattle.ill_tool.specs.Keeping.{Keeping}
+
+-- ---- what is known
+
+-- What is held, and what has landed in the store, of a store of which that is known.
+pub record View (L : Type 0) : Type 0 where
+  pub live : L
+  pub landed : Option (Option (List ℕ))
+
+-- what has landed is known of an honest store
+abbrev pub known : Bool → Option (List ℕ) → Option (Option (List ℕ))
+known true landed = Some landed
+known false landed = None
+
+abbrev pub view_of : {L S : Type 0} → (S → Bool) → (S → Option (List ℕ)) → L → S → View L
+view_of is_honest landed live store = record {
+  live = live;
+  landed = known (is_honest store) (landed store);
+}
+
+-- the side of a desk of one
+abbrev pub the_one : {S : Type 0} → DeskOf S → Held
+the_one desk = record { side = desk.live; released = desk.released }
+
+abbrev pub one_view : {S : Type 0} → (S → Bool) → (S → Option (List ℕ)) → DeskOf S → View Held
+one_view is_honest landed desk = view_of is_honest landed (the_one desk) desk.store
+
+abbrev pub many_view : {S : Type 0} → (S → Bool) → (S → Option (List ℕ)) → ManyOf S → View Holding
+many_view is_honest landed desk = view_of is_honest landed desk.live desk.store
+
+-- this is held, and not saved yet
+abbrev pub becomes : {L : Type 0} → View L → L → View L
+becomes old live = record old { live = live }
+
+-- all is saved
+abbrev pub saved : {L K : Type 0} → Keeping L K → View L → View L
+saved keeping old = record {
+  live = keeping.saves old.live;
+  landed = option_map (λ _. Some (keeping.spelling old.live)) old.landed;
+}
+
+-- A save has failed: what is held is as before, and the old record has landed or the new one.
+abbrev pub IsFaulted : {L K : Type 0} → Keeping L K → View L → View L → Type 0
+IsFaulted keeping old new = (new ≡ old) ⊎ (new ≡ record old { landed = (saved keeping old).landed })
+
+-- ---- what is seen
+
+-- the fault of a command whose desk has failed
+abbrev pub desk_fault : DeskFault → ToolFault
+desk_fault desks.OutOfMemory = OutOfMemory
+desk_fault other = Desk other
+
+-- what is seen of a refusal; no other fault is one
+abbrev pub refused : DeskFault → Result DeskOutcome ToolFault
+refused (desks.Core refusal) = Ok (Plain (outcomes.Refused refusal))
+refused desks.NoSuchTransaction = Ok NoSuchTransaction
+refused desks.DeskFull = Ok DeskFull
+refused fault = Err (desk_fault fault)
+
+-- an action was done, or refused
+abbrev pub acted : {L : Type 0} → L → Result L DeskFault → Result DeskOutcome ToolFault × L
+acted old (Ok new) = (Ok (Plain outcomes.Done), new)
+acted old (Err fault) = (refused fault, old)
+
+-- what is seen of a message
+abbrev pub answered : Result Taking DeskFault → Result DeskOutcome ToolFault
+answered (Ok taking) = Ok (Plain (outcomes.Answered taking))
+answered (Err fault) = refused fault
+
+-- a message was handed to its side
+abbrev pub handed : {L K : Type 0} → Keeping L K → L → Apdu → Result DeskOutcome ToolFault × L
+handed keeping live a = (answered (keeping.takes live a).0, (keeping.takes live a).1)
+
+-- ---- what is done
+
+-- what is seen of a change, which is to be saved: an action was done, or a message was taken
+abbrev pub is_change : DeskOutcome → Bool
+is_change (Plain outcomes.Done) = true
+is_change (Plain (outcomes.Answered Taken)) = true
+is_change outcome = false
+
+abbrev pub IsChange : Result DeskOutcome ToolFault → Type 0
+IsChange (Ok outcome) = is_change outcome ≡ true
+IsChange (Err fault) = ⊥
+
+-- What came of an event of which this is seen and after which this is held: it happened, and was saved if it
+-- was a change; it was one, and the save failed; or memory ran out for it, where it wants memory, or for the
+-- save.
+abbrev pub Performs : {L K : Type 0} → Keeping L K → Type 0 → View L → Result DeskOutcome ToolFault × L →
+    Result DeskOutcome ToolFault → View L → Type 0
+Performs keeping WantsMemory old event (Ok outcome) new =
+    (event.0 ≡ Ok outcome)
+    × (new ≡ (if is_change outcome then saved keeping (becomes old event.1) else becomes old event.1))
+Performs keeping WantsMemory old event (Err (Desk (desks.Store Failed))) new =
+    IsChange event.0 × IsFaulted keeping (becomes old event.1) new
+Performs keeping WantsMemory old event (Err OutOfMemory) new =
+    (WantsMemory × (new ≡ old)) ⊎ (IsChange event.0 × (new ≡ becomes old event.1))
+Performs keeping WantsMemory old event (Err other) new = ⊥
+
+-- ---- failures of the store
+
+abbrev pub ToolFailsCounted : {X : Type 0} → Result X ToolFault → ℕ → ℕ → Type 0
+ToolFailsCounted (Err (Desk (desks.Store Failed))) old new = HasRisen old new
+ToolFailsCounted answer old new = Unit {0}
+
+-- The count of the store's failures never falls, and a command answers one only where it has risen, or
+-- can rise no more.
+abbrev pub CountsToolFailure : {X : Type 0} → Result X ToolFault → ℕ → ℕ → Type 0
+CountsToolFailure answer old new = (old ≤ new) × ToolFailsCounted answer old new

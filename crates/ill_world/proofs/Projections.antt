@@ -1,0 +1,327 @@
+-- What an event of desks is, of one transaction.
+use Rattle.std.proofs.Common.{rules, ◌≡◌, ◌⊎◌, inl, inr, ℕ, nat_le, nat_lt, length, Bool, true, false, cond, if◌then◌else◌, List, Option, Some, None, Result, Ok, Err, refl, ap, sym, subst, ◌∙◌}
+use Rattle.std.specs.Prelude.{option_map}
+use Rattle.ill_values.specs.TxnId.{Qualifiers}
+use Rattle.ill_values.specs.declared.apdu.Apdu.{Apdu}
+use Rattle.ill_core.specs.declared.refusal.Refusal.{Refusal}
+use Rattle.ill_core.specs.declared.refusal.Refusal.TheVariants.{WrongRole}
+use Rattle.ill_core.specs.declared.taking.Taking.{Taking}
+use Rattle.ill_core.specs.declared.taking.Taking.TheVariants.{Taken}
+use Rattle.ill_core.specs.Bodies.{is_ill_request}
+use Rattle.ill_core.specs.Issued.{message, is_same_txn}
+use Rattle.ill_saved.specs.declared.fault.DeskFault.{DeskFault}
+use Rattle.ill_saved.specs.declared.fault.DeskFault.TheVariants as faults
+use Rattle.ill_saved.specs.declared.role.Role.{Role as Who}
+use Rattle.ill_saved.specs.declared.role.Role.TheVariants as who
+use Rattle.ill_saved.specs.declared.side.Side.{Side}
+use Rattle.ill_saved.specs.declared.side.Side.TheVariants as sides
+use Rattle.ill_saved.specs.declared.side.Action.{Action}
+use Rattle.ill_saved.specs.declared.side.Action.TheVariants as actions
+use Rattle.ill_saved.specs.Side.{issued_of, txn_of, role_of, idle_side, acts, takes, acted, took, IsRow, role_for, begins}
+use Rattle.ill_saved.specs.Sides.{SidesOf, is_same_role, most_sides, side_with}
+use Rattle.ill_saved.specs.Many.{Held, Holding, found_by, txn_held, idle_held, whole, found_or, held_for, with_held, landed_for, sides_held, whole_of, is_own, held_or_begun, reached, acted as acted_at, acts_reached, desk_acts, took as took_at, takes_reached}
+use Rattle.ill_saved.proofs.Finding.{same_is, same_self, found_is, found_put, found_mapped}
+use Rattle.ill_world.specs.declared.event.DeskEvent.{DeskEvent}
+use Rattle.ill_world.specs.declared.event.DeskEvent.TheVariants as events
+use Rattle.ill_world.specs.declared.event.Outcome.{Outcome}
+use Rattle.ill_world.specs.declared.event.Outcome.TheVariants.{Done, Sent, Refused, Answered, NotSent, NoSuchMessage, NotSaved}
+use Rattle.ill_world.specs.declared.event.DeskOutcome.{DeskOutcome}
+use Rattle.ill_world.specs.declared.event.DeskOutcome.TheVariants.{Plain}
+use Rattle.ill_world.specs.World.{Party, nothing_sent, sent_message, with_sent, sends, sends_by, answer_to, receives, decides, saves, restarts, fails_to_save, happens_to, who_of, first_world}
+use Rattle.ill_world.specs.Desks.{Sending, DeskParty, txn_sent, sent_for, with_sent_for, plain, fault_seen, desk_decides, desk_saves, desk_fails_to_save, desk_sends, taking_seen, desk_receives, desk_restarts, desk_happens_to, first_desks, party_for, project, concerns, if_reached, IsSeenAs}
+use Rattle.ill_world.specs.DeskChanges.{Shows}
+use Rattle.ill_world.proofs.Parties.{RowsGrow}
+use Rattle.ill_world.proofs.Changes.{Quiet, quiet}
+
+-- ---- one transaction of a desk
+
+-- before anything has happened
+pub first_project : (txn : Qualifiers) → project txn first_desks ≡ first_world txn
+unfolding side_with
+first_project txn = refl
+
+found_either : {X : Type 0} (same : Bool) (instead new : X) (found : Option X) → found_or instead (cond same (Some new) found) ≡ cond same new (found_or instead found)
+found_either true instead new found = refl
+found_either false instead new found = refl
+
+-- once a side was put: it, or what there was of another transaction
+held_after : (txn : Qualifiers) (live : Holding) (new : Held) → held_for txn (with_held live new) ≡ cond (is_same_txn txn (txn_held new)) new (held_for txn live)
+held_after txn live new =
+    ap (found_or (idle_held live.role txn)) (found_put txn_held txn new live.held)
+    ∙ found_either (is_same_txn txn (txn_held new)) (idle_held live.role txn) new (found_by txn_held txn live.held)
+
+sent_either : (same : Bool) (instead new : Sending) (found : Option Sending) → (found_or instead (cond same (Some new) found)).sent ≡ cond same new.sent (found_or instead found).sent
+sent_either true instead new found = refl
+sent_either false instead new found = refl
+
+-- once a message was sent
+sent_after : (txn of : Qualifiers) (all : List Sending) (n : ℕ) (a : Apdu) → sent_for txn (with_sent_for of all n a) ≡ cond (is_same_txn txn of) (with_sent (sent_for of all) n a) (sent_for txn all)
+sent_after txn of all n a =
+    let new : Sending = record { txn = of; sent = with_sent (sent_for of all) n a } in
+    ap (λ found. (found_or {X = Sending} (record { txn = txn; sent = nothing_sent }) found).sent) (found_put txn_sent txn new all)
+    ∙ sent_either (is_same_txn txn of) (record { txn = txn; sent = nothing_sent }) new (found_by txn_sent txn all)
+
+whole_idle : (role : Who) (txn : Qualifiers) → idle_held role txn ≡ whole (idle_side role txn)
+whole_idle who.Requester txn = refl
+whole_idle who.Responder txn = refl
+
+whole_found : (role : Who) (txn : Qualifiers) (found : Option Side) → found_or (idle_held role txn) (option_map whole found) ≡ whole (found_or (idle_side role txn) found)
+whole_found role txn (Some side) = refl
+whole_found role txn None = whole_idle role txn
+
+-- all of what has landed may be sent
+whole_for : (txn : Qualifiers) (all : SidesOf) → held_for txn (whole_of all) ≡ whole (landed_for txn all)
+unfolding side_with
+whole_for txn all =
+    ap (found_or (idle_held all.role txn)) (found_mapped txn_of txn_held whole (λ side. refl) txn all.sides) ∙ whole_found all.role txn (found_by txn_of txn all.sides)
+
+side_found : (idle : Held) (found : Option Held) → found_or idle.side (option_map (λ (held : Held). held.side) found) ≡ (found_or idle found).side
+side_found idle (Some held) = refl
+side_found idle None = refl
+
+-- what is saved is what is live
+side_for : (txn : Qualifiers) (live : Holding) → landed_for txn (sides_held live) ≡ (held_for txn live).side
+unfolding side_with
+side_for txn live =
+    ap (found_or (idle_side live.role txn)) (found_mapped txn_held txn_of (λ (held : Held). held.side) (λ held. refl) txn live.held)
+    ∙ side_found (idle_held live.role txn) (found_by txn_held txn live.held)
+
+idle_txn : (role : Who) (txn : Qualifiers) → txn_of (idle_side role txn) ≡ txn
+idle_txn who.Requester txn = refl
+idle_txn who.Responder txn = refl
+
+found_txn : (role : Who) (txn : Qualifiers) (held : List Held) (found : Option Held) → found_by txn_held txn held ≡ found → txn_held (found_or (idle_held role txn) found) ≡ txn
+found_txn role txn held (Some there) e = sym (found_is txn_held txn held there e)
+found_txn role txn held None e = idle_txn role txn
+
+-- the side that a desk has of a transaction is of it
+held_txn : (txn : Qualifiers) (live : Holding) → txn_held (held_for txn live) ≡ txn
+held_txn txn live = found_txn live.role txn live.held (found_by txn_held txn live.held) refl
+
+row_txn : RowsGrow → (old new : Side) → IsRow old new → txn_of new ≡ txn_of old
+row_txn grows old new row =
+    sym (idle_txn (role_of new) (txn_of new)) ∙ ap txn_of (grows old new row).0 ∙ idle_txn (role_of old) (txn_of old)
+
+-- what there is of a transaction is shown
+pub shows : (p : DeskParty) (txn : Qualifiers) → Shows p txn (party_for txn p)
+shows p txn = record {
+  live = λ held found.
+      let is = ap (found_or (idle_held p.live.role txn)) found in (ap (λ (h : Held). h.side) is, ap (λ (h : Held). h.released) is);
+  landed = λ side found. ap (found_or (idle_side p.landed.role txn)) found;
+  sent = λ sending found. ap (λ o. (found_or {X = Sending} (record { txn = txn; sent = nothing_sent }) o).sent) found;
+}
+
+-- ---- an event of one transaction
+
+-- what is seen of an event that names a transaction, in whichever transaction it is looked for
+abbrev Seen : (Qualifiers → Outcome × Party) → Qualifiers → DeskParty → Qualifiers → DeskOutcome × DeskParty → Type 0
+Seen expected of p txn after = IsSeenAs (if_reached after.0 (is_same_txn txn of)) (expected txn) (party_for txn p) after.0 (party_for txn after.1)
+
+-- an event of a transaction happens to its party, and leaves the others
+single : (expected : Qualifiers → Outcome × Party) (of : Qualifiers) (p new : DeskParty) (outcome : Outcome) → expected of ≡ (outcome, party_for of new)
+    → ((txn : Qualifiers) → is_same_txn txn of ≡ false → party_for txn new ≡ party_for txn p) → (txn : Qualifiers) → Seen expected of p txn (Plain outcome, new)
+single expected of p new outcome here there txn = go (is_same_txn txn of) refl
+  where
+    go : (same : Bool) → is_same_txn txn of ≡ same → IsSeenAs same (expected txn) (party_for txn p) (Plain outcome) (party_for txn new)
+    go true e =
+        let is : expected txn ≡ (outcome, party_for txn new) = subst (λ t. expected t ≡ (outcome, party_for t new)) (sym (same_is txn of e)) here in
+        (ap (λ (r : Outcome × Party). Plain r.0) (sym is), ap (λ (r : Outcome × Party). r.1) (sym is))
+    go false e = there txn e
+
+-- one that leaves the desk as it is
+nothing_done : (expected : Qualifiers → Outcome × Party) (of : Qualifiers) (p : DeskParty) (outcome : Outcome) → expected of ≡ (outcome, party_for of p) → (txn : Qualifiers) → Seen expected of p txn (Plain outcome, p)
+nothing_done expected of p outcome here = single expected of p p outcome here (λ txn another. refl)
+
+abbrev next_held : Held → Side → Held
+next_held held new = record { side = new; released = held.released }
+
+-- one that leads the side of the transaction on
+goes_on : (expected : Qualifiers → Outcome × Party) (of : Qualifiers) (p : DeskParty) (new : Side) (outcome : Outcome) → txn_of new ≡ of
+    → expected of ≡ (outcome, record (party_for of p) { live = new }) → (txn : Qualifiers)
+    → Seen expected of p txn (Plain outcome, record p { live = with_held p.live (next_held (held_for of p.live) new) })
+goes_on expected of p new outcome is here =
+    let next = next_held (held_for of p.live) new in
+    let after : DeskParty = record p { live = with_held p.live next } in
+    let shows : (txn : Qualifiers) → party_for txn after ≡ record (party_for txn p) { live = (cond (is_same_txn txn (txn_held next)) next (held_for txn p.live)).side; released = (cond (is_same_txn txn (txn_held next)) next (held_for txn p.live)).released } =
+    λ txn. ap (λ (h : Held). record (party_for txn p) { live = h.side; released = h.released }) (held_after txn p.live next) in
+    let at : (txn : Qualifiers) (same : Bool) → is_same_txn txn of ≡ same → is_same_txn txn (txn_held next) ≡ same = λ txn same e. ap (is_same_txn txn) is ∙ e in
+    single expected of p after outcome
+    (here ∙ ap (λ (q : Party). (outcome, q)) (sym (shows of ∙ ap (λ b. record (party_for of p) { live = (cond b next (held_for of p.live)).side; released = (cond b next (held_for of p.live)).released }) (at of true (same_self of)))))
+    (λ txn another. shows txn ∙ ap (λ b. record (party_for txn p) { live = (cond b next (held_for txn p.live)).side; released = (cond b next (held_for txn p.live)).released }) (at txn false another))
+
+-- ---- what is reached
+
+-- it is not reached, which is no event
+abbrev IsNotReached : DeskFault → Type 0
+IsNotReached fault = (fault ≡ faults.NoSuchTransaction) ⊎ (fault ≡ faults.DeskFull)
+
+not_reached : (expected : Qualifiers → Outcome × Party) (of : Qualifiers) (p : DeskParty) (fault : DeskFault) → IsNotReached fault → (txn : Qualifiers) → Seen expected of p txn (fault_seen fault, p)
+not_reached expected of p fault (inl is) txn = subst (λ f. Seen expected of p txn (fault_seen f, p)) (sym is) refl
+not_reached expected of p fault (inr is) txn = subst (λ f. Seen expected of p txn (fault_seen f, p)) (sym is) refl
+
+abbrev Reaches : Held → Result Held DeskFault → Type 0
+Reaches held (Ok found) = found ≡ held
+Reaches held (Err fault) = IsNotReached fault
+
+reaches : (may_begin has_room : Bool) (idle : Held) (found : Option Held) → Reaches (found_or idle found) (held_or_begun may_begin has_room idle found)
+reaches may_begin has_room idle (Some held) = refl
+reaches true true idle None = refl
+reaches true false idle None = inr refl
+reaches false has_room idle None = inl refl
+
+-- ---- decisions
+
+abbrev decided : DeskParty → Action → Qualifiers → Outcome × Party
+decided p action txn = decides (party_for txn p) (acts (party_for txn p).live action)
+
+decides_held : RowsGrow → (p : DeskParty) (of : Qualifiers) (action : Action) (result : Result Side Refusal) → acts (held_for of p.live).side action ≡ result → (txn : Qualifiers)
+    → Seen (decided p action) of p txn (desk_decides p (acted_at p.live (held_for of p.live) result))
+decides_held grows p of action (Ok new) e txn =
+    goes_on (decided p action) of p new Done (row_txn grows (held_for of p.live).side new (acted action e) ∙ held_txn of p.live) (ap (decides (party_for of p)) e) txn
+decides_held grows p of action (Err refusal) e txn = nothing_done (decided p action) of p (Refused refusal) (ap (decides (party_for of p)) e) txn
+
+decides_reached : RowsGrow → (p : DeskParty) (of : Qualifiers) (action : Action) (found : Result Held DeskFault) → Reaches (held_for of p.live) found → (txn : Qualifiers)
+    → Seen (decided p action) of p txn (desk_decides p (acts_reached p.live action found))
+decides_reached grows p of action (Ok held) is txn =
+    subst (λ h. Seen (decided p action) of p txn (desk_decides p (acted_at p.live h (acts h.side action)))) (sym is)
+    (decides_held grows p of action (acts (held_for of p.live).side action) refl txn)
+decides_reached grows p of action (Err fault) is txn = not_reached (decided p action) of p fault is txn
+
+desk_decides_seen : RowsGrow → (p : DeskParty) (of : Qualifiers) (action : Action) → is_same_role p.live.role (role_for action) ≡ true → (txn : Qualifiers)
+    → Seen (decided p action) of p txn (desk_decides p (desk_acts p.live of action))
+desk_decides_seen grows p of action may txn =
+    let found = reached p.live of (begins action) in
+    subst (λ b. Seen (decided p action) of p txn (desk_decides p (if b then acts_reached p.live action found else Err (faults.Core WrongRole)))) (sym may)
+    (decides_reached grows p of action found (reaches (begins action) (nat_lt (length p.live.held) most_sides) (idle_held p.live.role of) (found_by txn_held of p.live.held)) txn)
+
+-- ---- messages that come
+
+abbrev received : DeskParty → List Sending → ℕ → Qualifiers → Outcome × Party
+received p told n txn = receives (party_for txn p) (sent_message (sent_for txn told) n)
+
+taken_by : Quiet → (side new : Side) (a : Apdu) (refusal : Refusal) → takes side a ≡ (Err refusal, new) → new ≡ side
+taken_by rows side new a refusal e =
+    elim (quiet rows side a) [
+      | inl taken ↦ let no : ◌≡◌ {A = Result Taking Refusal} (Err refusal) (Ok Taken) = sym (ap (λ (r : Result Taking Refusal × Side). r.0) e) ∙ taken in search rules
+      | inr same ↦ sym (ap (λ (r : Result Taking Refusal × Side). r.1) e) ∙ same
+    ]
+
+module _ (grows : RowsGrow) (rows : Quiet) (p : DeskParty) (told : List Sending) (n : ℕ) (a : Apdu) (was : sent_message (sent_for a.txn told) n ≡ Some a) where
+  abbrev desk_took : Result Taking DeskFault × Holding → DeskOutcome × DeskParty
+  desk_took result = (taking_seen result.0, record p { live = result.1 })
+
+  here : (answer : Result Taking Refusal) (new : Side) → takes (held_for a.txn p.live).side a ≡ (answer, new) → received p told n a.txn ≡ (answer_to answer, record (party_for a.txn p) { live = new })
+  here answer new e = ap (receives (party_for a.txn p)) was ∙ ap (λ (r : Result Taking Refusal × Side). (answer_to r.0, record (party_for a.txn p) { live = r.1 })) e
+
+  takes_held : (answer : Result Taking Refusal) (new : Side) → takes (held_for a.txn p.live).side a ≡ (answer, new) → (txn : Qualifiers)
+      → Seen (received p told n) a.txn p txn (desk_took (took_at p.live (held_for a.txn p.live) (answer, new)))
+  takes_held (Ok taking) new e txn =
+      goes_on (received p told n) a.txn p new (Answered taking) (row_txn grows (held_for a.txn p.live).side new (took a (ap (λ (r : Result Taking Refusal × Side). r.1) e)) ∙ held_txn a.txn p.live) (here (Ok taking) new e) txn
+  takes_held (Err refusal) new e txn =
+      nothing_done (received p told n) a.txn p (Refused refusal)
+      (here (Err refusal) new e ∙ ap (λ side. (Refused refusal, record (party_for a.txn p) { live = side })) (taken_by rows (held_for a.txn p.live).side new a refusal e)) txn
+
+  takes_found : (found : Result Held DeskFault) → Reaches (held_for a.txn p.live) found → (txn : Qualifiers) → Seen (received p told n) a.txn p txn (desk_took (takes_reached p.live a found))
+  takes_found (Ok held) is txn =
+      let side = (held_for a.txn p.live).side in
+      subst (λ h. Seen (received p told n) a.txn p txn (desk_took (took_at p.live h (takes h.side a)))) (sym is) (takes_held (takes side a).0 (takes side a).1 refl txn)
+  takes_found (Err fault) is txn = not_reached (received p told n) a.txn p fault is txn
+
+  -- a side refuses what its own role issues, as the desk does
+  desk_takes_seen : (own : Bool) → is_own p.live.role a.body ≡ own → (own ≡ true → takes (held_for a.txn p.live).side a ≡ (Err WrongRole, (held_for a.txn p.live).side)) → (txn : Qualifiers)
+      → Seen (received p told n) a.txn p txn (desk_receives p (Some a))
+  desk_takes_seen own e refused txn =
+      subst (λ b. Seen (received p told n) a.txn p txn (desk_took (if b then (Err (faults.Core WrongRole), p.live) else takes_reached p.live a (reached p.live a.txn (is_ill_request a.body))))) (sym e) (go own refused)
+    where
+      go : (own : Bool) → (own ≡ true → takes (held_for a.txn p.live).side a ≡ (Err WrongRole, (held_for a.txn p.live).side))
+          → Seen (received p told n) a.txn p txn (desk_took (if own then (Err (faults.Core WrongRole), p.live) else takes_reached p.live a (reached p.live a.txn (is_ill_request a.body))))
+      go true refused = nothing_done (received p told n) a.txn p (Refused WrongRole) (here (Err WrongRole) (held_for a.txn p.live).side (refused refl)) txn
+      go false refused =
+          takes_found (reached p.live a.txn (is_ill_request a.body))
+          (reaches (is_ill_request a.body) (nat_lt (length p.live.held) most_sides) (idle_held p.live.role a.txn) (found_by txn_held a.txn p.live.held)) txn
+
+-- ---- messages that are sent
+
+abbrev sent_by : DeskParty → ℕ → Qualifiers → Outcome × Party
+sent_by p n txn = sends (party_for txn p) n (message (issued_of (party_for txn p).live) n) (nat_le n (party_for txn p).released)
+
+sends_held : (p : DeskParty) (of : Qualifiers) (n : ℕ) (issued : Option Apdu) (released : Bool) → message (issued_of (held_for of p.live).side) n ≡ issued → nat_le n (held_for of p.live).released ≡ released
+    → (txn : Qualifiers) → let after = sends_by p (λ a. record p { sent = with_sent_for of p.sent n a }) issued released in Seen (sent_by p n) of p txn (Plain after.0, after.1)
+sends_held p of n None released is may txn = nothing_done (sent_by p n) of p NoSuchMessage (ap (λ o. sends (party_for of p) n o (nat_le n (held_for of p.live).released)) is) txn
+sends_held p of n (Some a) false is may txn =
+    nothing_done (sent_by p n) of p NotSaved (ap (λ o. sends (party_for of p) n o (nat_le n (held_for of p.live).released)) is ∙ ap (sends (party_for of p) n (Some a)) may) txn
+sends_held p of n (Some a) true is may txn =
+    let after : DeskParty = record p { sent = with_sent_for of p.sent n a } in
+    let shows : (txn : Qualifiers) (same : Bool) → is_same_txn txn of ≡ same → party_for txn after ≡ record (party_for txn p) { sent = cond same (with_sent (sent_for of p.sent) n a) (sent_for txn p.sent) } =
+    λ txn same e. ap (λ s. record (party_for txn p) { sent = s }) (sent_after txn of p.sent n a ∙ ap (λ b. cond b (with_sent (sent_for of p.sent) n a) (sent_for txn p.sent)) e) in
+    single (sent_by p n) of p after Sent
+    (ap (λ o. sends (party_for of p) n o (nat_le n (held_for of p.live).released)) is ∙ ap (sends (party_for of p) n (Some a)) may ∙ ap (λ (q : Party). (Sent, q)) (sym (shows of true (same_self of))))
+    (λ txn another. shows txn false another) txn
+
+desk_sends_seen : (p : DeskParty) (of : Qualifiers) (n : ℕ) (found : Option Held) → found_by txn_held of p.live.held ≡ found → (txn : Qualifiers) → Seen (sent_by p n) of p txn (desk_sends p of n found)
+desk_sends_seen p of n None e txn = refl
+desk_sends_seen p of n (Some held) e txn =
+    let is : held_for of p.live ≡ held = ap (found_or (idle_held p.live.role of)) e in
+    subst (λ h. Seen (sent_by p n) of p txn (desk_sends p of n (Some h))) is
+    (sends_held p of n (message (issued_of (held_for of p.live).side) n) (nat_le n (held_for of p.live).released) refl refl txn)
+
+-- ---- events of a whole desk
+
+saves_seen : (p : DeskParty) (txn : Qualifiers) → party_for txn (desk_saves p) ≡ saves (party_for txn p)
+saves_seen p txn =
+    ap (λ (h : Held). record (party_for txn p) { live = h.side; landed = landed_for txn (sides_held p.live); released = h.released }) (whole_for txn (sides_held p.live))
+    ∙ ap (λ side. record (party_for txn p) { live = side; landed = side; released = length (issued_of side) }) (side_for txn p.live)
+
+fault_of_save : (p : DeskParty) (txn : Qualifiers) (landed : Bool) → party_for txn (desk_fails_to_save p landed) ≡ fails_to_save (party_for txn p) landed
+fault_of_save p txn true = ap (λ side. record (party_for txn p) { landed = side }) (side_for txn p.live)
+fault_of_save p txn false = refl
+
+restarts_seen : (p : DeskParty) (txn : Qualifiers) → party_for txn (desk_restarts p) ≡ restarts (party_for txn p)
+restarts_seen p txn = ap (λ (h : Held). record (party_for txn p) { live = h.side; released = h.released }) (whole_for txn p.landed)
+
+-- ---- every event
+
+abbrev pub PartySeen : Qualifiers → DeskParty → List Sending → DeskEvent → Type 0
+PartySeen txn p told event =
+    let after = desk_happens_to p told event in
+    IsSeenAs (if_reached after.0 (concerns txn event)) (happens_to (party_for txn p) (sent_for txn told) (plain event)) (party_for txn p) after.0 (party_for txn after.1)
+
+-- What a desk keeps to: its role, also in each transaction, and that what it is told in a transaction is of it.
+pub record KeepsTo (role : Who) (p : DeskParty) (told : List Sending) : Type 0 where
+  pub role_is : p.live.role ≡ role
+  pub role_held : (txn : Qualifiers) → role_of (held_for txn p.live).side ≡ role
+  pub told_of : (txn : Qualifiers) (n : ℕ) (a : Apdu) → sent_message (sent_for txn told) n ≡ Some a → txn ≡ a.txn
+
+-- what a side's own role issues it refuses
+own_refused : (side : Side) (a : Apdu) → txn_of side ≡ a.txn → is_own (role_of side) a.body ≡ true → takes side a ≡ (Err WrongRole, side)
+own_refused (sides.Requester x) a is own =
+    let same : is_same_txn a.txn x.txn ≡ true = ap (is_same_txn a.txn) is ∙ same_self a.txn in
+    rw (same, own) refl
+own_refused (sides.Responder y) a is own =
+    let same : is_same_txn a.txn y.txn ≡ true = ap (is_same_txn a.txn) is ∙ same_self a.txn in
+    rw (same, own) refl
+
+delivers_seen : RowsGrow → Quiet → (role : Who) (p : DeskParty) (told : List Sending) → KeepsTo role p told → (to : Who) (of : Qualifiers) (n : ℕ) (found : Option Apdu) → sent_message (sent_for of told) n ≡ found → (txn : Qualifiers)
+    → Seen (received p told n) of p txn (desk_receives p found)
+delivers_seen grows rows role p told keeps to of n None e txn = nothing_done (received p told n) of p NotSent (ap (receives (party_for of p)) e) txn
+delivers_seen grows rows role p told keeps to of n (Some a) e txn =
+    subst (λ t. Seen (received p told n) t p txn (desk_receives p (Some a))) (sym (keeps.told_of of n a e))
+    (desk_takes_seen grows rows p told n a (subst (λ t. sent_message (sent_for t told) n ≡ Some a) (keeps.told_of of n a e) e) (is_own p.live.role a.body) refl
+    (λ own. own_refused (held_for a.txn p.live).side a (held_txn a.txn p.live) (ap (λ r. is_own r a.body) (keeps.role_held a.txn ∙ sym keeps.role_is) ∙ own)) txn)
+
+same_role : (role : Who) → is_same_role role role ≡ true
+same_role who.Requester = refl
+same_role who.Responder = refl
+
+pub may_act : (p : DeskParty) (role : Who) → p.live.role ≡ role → is_same_role p.live.role role ≡ true
+may_act p role is = ap (λ r. is_same_role r role) is ∙ same_role role
+
+pub party_seen : RowsGrow → Quiet → (p : DeskParty) (told : List Sending) (event : DeskEvent) → KeepsTo (who_of (plain event)) p told → (txn : Qualifiers) → PartySeen txn p told event
+party_seen grows rows p told (events.Wish of wish) keeps txn = desk_decides_seen grows p of (actions.Wish wish) (may_act p who.Requester keeps.role_is) txn
+party_seen grows rows p told (events.Deed of deed today) keeps txn = desk_decides_seen grows p of (actions.Deed deed today) (may_act p who.Responder keeps.role_is) txn
+party_seen grows rows p told (events.Save role) keeps txn = (refl, saves_seen p txn)
+party_seen grows rows p told (events.SaveFault role landed) keeps txn = (refl, fault_of_save p txn landed)
+party_seen grows rows p told (events.Send role of n) keeps txn = desk_sends_seen p of n (found_by txn_held of p.live.held) refl txn
+party_seen grows rows p told (events.Deliver role of n) keeps txn = delivers_seen grows rows role p told keeps role of n (sent_message (sent_for of told) n) refl txn
+party_seen grows rows p told (events.Noise role bytes) keeps txn = refl
+party_seen grows rows p told (events.Restart role) keeps txn = (refl, restarts_seen p txn)

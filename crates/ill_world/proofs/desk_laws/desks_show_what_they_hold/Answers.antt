@@ -1,0 +1,5 @@
+use Rattle.ill_world.proofs.Projections.{shows}
+use Rattle.ill_world.proofs.desk_laws.desks_show_what_they_hold.Goals as goal
+
+pub returns : goal.returns
+returns c = λ txn w. (shows w.requester txn, shows w.responder txn)

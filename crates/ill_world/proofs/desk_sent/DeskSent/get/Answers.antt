@@ -1,0 +1,22 @@
+use Rattle.std.proofs.Common.{rules, ◌≡◌, Some, None, sym, ap, ◌∙◌}
+use Rattle.std.specs.Map.{lookup}
+use Rattle.ill_core.specs.Issued.{is_same_txn}
+use Rattle.ill_saved.specs.Many.{found_or}
+use Rattle.ill_world.specs.World.{nothing_sent, sent_message}
+use Rattle.ill_world.specs.Desks.{sent_for}
+use Rattle.ill_world.proofs.DeskMaps.{sent_there, nothing_there}
+use Rattle.ill_world.proofs.desk_sent.DeskSent.get.Goals as goal
+
+pub returns-in-Some : goal.returns-in-Some
+returns-in-Some c =
+    let entries = c.self.inside.map.entries in
+    let there : lookup (is_same_txn c.args.txn.now) entries ≡ Some c.in-Some.sent.now = search (rules, c.in-Some.ensures.value) in
+    c.get-in-Some.ensures
+    ∙ ap (λ s. sent_message s c.args.number) (sym (ap (sent_for c.args.txn.now) (sym c.self.view_is) ∙ sent_there c.args.txn.now entries ∙ ap (found_or nothing_sent) there))
+
+pub returns-in-None : goal.returns-in-None
+returns-in-None c =
+    let entries = c.self.inside.map.entries in
+    let there : lookup (is_same_txn c.args.txn.now) entries ≡ None = search (rules, c.in-None.ensures.value) in
+    sym (ap (λ s. sent_message s c.args.number) (ap (sent_for c.args.txn.now) (sym c.self.view_is) ∙ sent_there c.args.txn.now entries ∙ ap (found_or nothing_sent) there)
+    ∙ nothing_there c.args.number)

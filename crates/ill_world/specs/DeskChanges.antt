@@ -1,0 +1,58 @@
+-- What an event of desks may change, and when it reaches a side (this profile's own).
+use Rattle.std.specs.Prelude.{◌≡◌, ℕ, nat_lt, Bool, true, false, length, Option, Some, None}
+use Rattle.ill_values.specs.TxnId.{Qualifiers}
+use Rattle.ill_values.specs.declared.apdu.Apdu.{Apdu}
+use Rattle.ill_core.specs.Bodies.{is_ill_request}
+use Rattle.ill_saved.specs.declared.side.Action.TheVariants as actions
+use Rattle.ill_saved.specs.declared.side.Side.{Side}
+use Rattle.ill_saved.specs.Side.{other, begins}
+use Rattle.ill_saved.specs.Sides.{side_with}
+use Rattle.ill_saved.specs.Many.{Held, found_by, txn_held}
+use Rattle.ill_world.specs.declared.event.DeskEvent.{DeskEvent}
+use Rattle.ill_world.specs.declared.event.DeskEvent.TheVariants.{Wish, Deed, Send, Deliver}
+use Rattle.ill_world.specs.declared.event.DeskOutcome.{DeskOutcome}
+use Rattle.ill_world.specs.declared.event.DeskOutcome.TheVariants.{Plain, NoSuchTransaction, DeskFull}
+use Rattle.ill_world.specs.World.{Party, Parties, party, sent_message}
+use Rattle.ill_world.specs.Changes.{MayChange, OnlyLandedChanges}
+use Rattle.ill_world.specs.Desks.{Sending, DeskParty, DeskParties, txn_sent, sent_for, desks_happen}
+
+-- What a desk holds of a transaction, what has landed of it and what was sent in it is what it shows of it.
+pub record Shows (p : DeskParty) (txn : Qualifiers) (shown : Party) : Type 0 where
+  pub live : (held : Held) → found_by txn_held txn p.live.held ≡ Some held →
+      (shown.live ≡ held.side) × (shown.released ≡ held.released)
+  pub landed : (side : Side) → side_with txn p.landed.sides ≡ Some side → shown.landed ≡ side
+  pub sent : (sending : Sending) → found_by txn_sent txn p.sent ≡ Some sending → shown.sent ≡ sending.sent
+
+-- what is seen is what is seen of an event in one transaction
+abbrev pub IsPlain : DeskOutcome → Type 0
+IsPlain (Plain outcome) = Unit {0}
+IsPlain other = ⊥
+
+-- By whether an event may begin a transaction, whether there is room, and the side that is held: the event reaches
+-- this side, or one that it begins.
+abbrev pub Reaches : Bool → Bool → Option Held → DeskOutcome → Type 0
+Reaches may_begin has_room (Some held) outcome = IsPlain outcome
+Reaches true true None outcome = IsPlain outcome
+Reaches true false None outcome = outcome ≡ DeskFull
+Reaches false has_room None outcome = outcome ≡ NoSuchTransaction
+
+-- at a desk, which holds 1,000 sides at most
+abbrev pub ReachesAt : Bool → DeskParty → Qualifiers → DeskOutcome → Type 0
+ReachesAt may_begin p txn outcome =
+    Reaches may_begin (nat_lt (length p.live.held) 1000) (found_by txn_held txn p.live.held) outcome
+
+-- A Request begins a transaction, and so does an ILL-Request that was sent; nothing else does.
+abbrev pub ReachesSide : DeskParties → DeskEvent → Type 0
+ReachesSide w (Wish txn wish) =
+    ReachesAt (begins (actions.Wish wish)) w.requester txn (desks_happen w (Wish txn wish)).0
+ReachesSide w (Deed txn deed today) = ReachesAt false w.responder txn (desks_happen w (Deed txn deed today)).0
+ReachesSide w (Send who txn n) = ReachesAt false (party w who) txn (desks_happen w (Send who txn n)).0
+ReachesSide w (Deliver who txn n) =
+    (a : Apdu) → sent_message (sent_for txn (party w (other who)).sent) n ≡ Some a →
+    ReachesAt (is_ill_request a.body) (party w who) txn (desks_happen w (Deliver who txn n)).0
+ReachesSide w event = IsPlain (desks_happen w event).0
+
+-- What may have changed of a transaction, by what is seen at a desk: nothing, where it is not reached.
+abbrev pub DeskMayChange : DeskOutcome → Parties → Parties → Type 0
+DeskMayChange (Plain outcome) old new = MayChange OnlyLandedChanges outcome old new
+DeskMayChange other old new = new ≡ old

@@ -1,0 +1,62 @@
+-- What holds of two desks in every run: of each transaction what holds of a world of two parties (this profile's own).
+use Rattle.std.specs.Prelude.{◌≡◌, ℕ, true, List, ◌∷◌, [], Some, take}
+use Rattle.ill_values.specs.TxnId.{Qualifiers}
+use Rattle.ill_values.specs.declared.apdu.Apdu.{Apdu}
+use Rattle.ill_core.specs.declared.state.State.{State}
+use Rattle.ill_core.specs.declared.state.State.TheVariants as states
+use Rattle.ill_core.specs.Bodies.{is_end, is_returned}
+use Rattle.ill_saved.specs.declared.role.Role.{Role as Who}
+use Rattle.ill_saved.specs.declared.role.Role.TheVariants.{Requester, Responder}
+use Rattle.ill_saved.specs.declared.side.Side.{Side}
+use Rattle.ill_saved.specs.Many.{held_for}
+use Rattle.ill_world.specs.declared.event.DeskEvent.{DeskEvent}
+use Rattle.ill_world.specs.declared.event.DeskEvent.TheVariants.{Deliver}
+use Rattle.ill_world.specs.declared.event.DeskOutcome.{DeskOutcome}
+use Rattle.ill_world.specs.declared.event.DeskOutcome.TheVariants.{Plain}
+use Rattle.ill_world.specs.World.{sent_message}
+use Rattle.ill_world.specs.Desks.{DeskParty, DeskParties, sent_for, desks_happen, desks_run, project}
+use Rattle.ill_world.specs.Safety.{Safe}
+use Rattle.ill_world.specs.Agreement.{Agrees, Settles, settled_by}
+use Rattle.ill_world.specs.Invariant.{Stands}
+
+-- ---- why
+
+-- a desk is of this role, in memory and as it has landed
+abbrev pub IsDeskOf : Who → DeskParty → Type 0
+IsDeskOf role p = (p.live.role ≡ role) × (p.landed.role ≡ role)
+
+-- Each desk is of its role, and what both show of each transaction stands.
+pub record DesksStand (w : DeskParties) : Type 0 where
+  pub requester : IsDeskOf Requester w.requester
+  pub responder : IsDeskOf Responder w.responder
+  pub each : (txn : Qualifiers) → Stands txn (project txn w)
+
+-- ---- runs
+
+-- In every world that these events lead through, what the desks show of each transaction is safe.
+abbrev pub IsSafeDeskRun : DeskParties → List DeskEvent → Type 0
+IsSafeDeskRun w events = (txn : Qualifiers) (n : ℕ) → Safe (project txn (desks_run w (take n events)))
+
+-- In every such world both sides of each transaction agree.
+abbrev pub IsAgreeingDeskRun : DeskParties → List DeskEvent → Type 0
+IsAgreeingDeskRun w events = (txn : Qualifiers) (n : ℕ) → Agrees (project txn (desks_run w (take n events)))
+
+-- ---- events
+
+-- The message has reached its transaction, was taken or was before, and the side is in one of these states.
+abbrev pub SettlesAt : List State → DeskOutcome → Side → Type 0
+SettlesAt among (Plain outcome) side = Settles among outcome side
+SettlesAt among other side = ⊥
+
+-- One arrival of the end of a request, once it was sent in its transaction, leads the requester's side of it to its
+-- outcome; and one of a Returned leads the responder's to RETURNED, or the item is checked in.
+abbrev pub ArrivesAt : DeskParties → DeskEvent → Type 0
+ArrivesAt w (Deliver Requester txn n) =
+    let after = desks_happen w (Deliver Requester txn n) in
+    (a : Apdu) → sent_message (sent_for txn w.responder.sent) n ≡ Some a → is_end a.body ≡ true →
+    SettlesAt (settled_by a.body) after.0 (held_for txn after.1.requester.live).side
+ArrivesAt w (Deliver Responder txn n) =
+    let after = desks_happen w (Deliver Responder txn n) in
+    (a : Apdu) → sent_message (sent_for txn w.requester.sent) n ≡ Some a → is_returned a.body ≡ true →
+    SettlesAt (states.Returned ∷ states.CheckedIn ∷ []) after.0 (held_for txn after.1.responder.live).side
+ArrivesAt w event = Unit {0}

@@ -1,0 +1,52 @@
+-- How the model of two desks sees what a desk has in memory and in its store, and what it has sent.
+use Rattle.std.specs.Prelude.{◌≡◌, List, map, Option, Some, None, Result, Ok, Err}
+use Rattle.std.specs.Map.{lookup, set_value}
+use Rattle.ill_values.specs.TxnId.{Qualifiers}
+use Rattle.ill_values.specs.declared.apdu.Apdu.{Apdu}
+use Rattle.ill_core.specs.Issued.{is_same_txn}
+use Rattle.ill_saved.specs.declared.store.NextCall.TheVariants.{Works}
+use Rattle.ill_saved.specs.declared.fault.DeskFault.{DeskFault}
+use Rattle.ill_saved.specs.declared.fault.DeskFault.TheVariants as faults
+use Rattle.ill_saved.specs.Sides.{SidesOf}
+use Rattle.ill_saved.specs.Store.{MemoryStoreState}
+use Rattle.ill_saved.specs.Many.{ManyOf, sides_held, landed_sides}
+use Rattle.ill_world.specs.declared.event.DeskOutcome.{DeskOutcome}
+use Rattle.ill_world.specs.PartyView.{read_or}
+use Rattle.ill_world.specs.Desks.{Sending, DeskParty, fault_seen}
+
+-- ---- what was sent
+
+-- what was sent in each transaction, by the entries of a map
+abbrev pub sendings_of : List (Qualifiers × List (Option Apdu)) → List Sending
+sendings_of entries = map (λ e. record { txn = e.0; sent = e.1 }) entries
+
+-- Where something was sent in a transaction, it becomes what this makes of it; else nothing changes.
+abbrev pub BecomesAmong : Qualifiers → (List (Option Apdu) → List (Option Apdu)) → List (Qualifiers × List (Option Apdu)) →
+    Option (List (Option Apdu)) → Option Apdu → Apdu → List (Qualifiers × List (Option Apdu)) → Type 0
+BecomesAmong txn next old None back a new = (back ≡ Some a) × (new ≡ old)
+BecomesAmong txn next old (Some sent) back a new = (back ≡ None) × (new ≡ set_value (is_same_txn txn) old (next sent))
+
+-- ---- desks
+
+-- the sides that have landed in the store of a desk
+abbrev pub landed_at : ManyOf MemoryStoreState → SidesOf
+landed_at desk = read_or (sides_held desk.live) (landed_sides desk.store.landed desk.live.role)
+
+-- the party that a desk and the messages sent from it stand for
+abbrev pub desk_party_of : ManyOf MemoryStoreState → List Sending → DeskParty
+desk_party_of desk sent = record { live = desk.live; landed = landed_at desk; sent = sent }
+
+-- Between two events the next call of the store works, and what has landed are sides of the desk's role.
+pub record IsReadyDesk (desk : ManyOf MemoryStoreState) : Type 0 where
+  pub works : desk.store.next ≡ Works
+  pub landed : landed_sides desk.store.landed desk.live.role ≡ Ok (landed_at desk)
+  pub role : (landed_at desk).role ≡ desk.live.role
+
+-- ---- answers
+
+-- what is seen of a fault of an action or a message, but for want of memory
+abbrev pub FaultSeen : {M : Type 0} → DeskFault → Result DeskOutcome M → Type 0
+FaultSeen faults.OutOfMemory (Err memory) = Unit {0}
+FaultSeen faults.OutOfMemory (Ok outcome) = ⊥
+FaultSeen fault (Ok outcome) = outcome ≡ fault_seen fault
+FaultSeen fault (Err memory) = ⊥

@@ -1,0 +1,203 @@
+-- The model of two desks: each holds sides of many transactions, what has landed of them, and what it has sent in
+-- each (this profile's own). Of one transaction a desk shows a party of the two-party model.
+use Rattle.std.specs.Prelude.{◌≡◌, ℕ, nat_le, Bool, true, false, if◌then◌else◌, List, [], ◌∷◌, Option, Some, None, Result, Ok, Err}
+use Rattle.ill_values.specs.declared.apdu.Apdu.{Apdu}
+use Rattle.ill_values.specs.TxnId.{Qualifiers}
+use Rattle.ill_der.specs.declared.fault.DerFault.{DerFault}
+use Rattle.ill_der.specs.ShortForm.{apdu_at}
+use Rattle.ill_core.specs.declared.taking.Taking.{Taking}
+use Rattle.ill_core.specs.Issued.{message, is_same_txn}
+use Rattle.ill_saved.specs.declared.fault.DeskFault.{DeskFault}
+use Rattle.ill_saved.specs.declared.fault.DeskFault.TheVariants as faults
+use Rattle.ill_saved.specs.declared.side.Action.TheVariants as actions
+use Rattle.ill_saved.specs.declared.role.Role.{Role as Who}
+use Rattle.ill_saved.specs.declared.role.Role.TheVariants.{Requester, Responder}
+use Rattle.ill_saved.specs.Side.{issued_of}
+use Rattle.ill_saved.specs.Sides.{SidesOf}
+use Rattle.ill_saved.specs.Many.{Held, Holding, found_by, put_by, txn_held, found_or, held_for, landed_for, sides_held, whole_of, desk_acts, desk_takes}
+use Rattle.ill_world.specs.declared.event.Event.{Event}
+use Rattle.ill_world.specs.declared.event.Event.TheVariants as events
+use Rattle.ill_world.specs.declared.event.DeskEvent.{DeskEvent}
+use Rattle.ill_world.specs.declared.event.DeskEvent.TheVariants.{Wish, Deed, Save, SaveFault, Send, Deliver, Noise, Restart}
+use Rattle.ill_world.specs.declared.event.Outcome.{Outcome}
+use Rattle.ill_world.specs.declared.event.Outcome.TheVariants.{Done, Saved, Faulted, Answered, Refused, NotSent, Garbled, Forged, Restarted}
+use Rattle.ill_world.specs.declared.event.DeskOutcome.{DeskOutcome}
+use Rattle.ill_world.specs.declared.event.DeskOutcome.TheVariants.{Plain, NoSuchTransaction, DeskFull}
+use Rattle.ill_world.specs.World.{Party, TwoOf, Parties, nothing_sent, sent_message, with_sent, sends_by, who_of, happens, happens_at, run_by}
+
+-- ---- the desks
+
+-- what was sent in a transaction: by number the messages, the n-th being message n
+pub record Sending : Type 0 where
+  pub txn : Qualifiers
+  pub sent : List (Option Apdu)
+
+-- A desk: what it holds in memory; the sides that have landed; and what it has sent, in each transaction in which
+-- it has sent anything.
+pub record DeskParty : Type 0 where
+  pub live : Holding
+  pub landed : SidesOf
+  pub sent : List Sending
+
+abbrev pub DeskParties : Type 0
+DeskParties = TwoOf DeskParty
+
+-- a desk that holds nothing yet
+abbrev pub first_desk : Who → DeskParty
+first_desk role = record {
+  live = record { role = role; held = [] };
+  landed = record { role = role; sides = [] };
+  sent = [];
+}
+
+abbrev pub first_desks : DeskParties
+first_desks = record { requester = first_desk Requester; responder = first_desk Responder }
+
+abbrev pub txn_sent : Sending → Qualifiers
+txn_sent sending = sending.txn
+
+-- what was sent in this transaction
+abbrev pub sent_for : Qualifiers → List Sending → List (Option Apdu)
+sent_for txn all = (found_or (record { txn = txn; sent = nothing_sent }) (found_by txn_sent txn all)).sent
+
+-- the same, and message n of this transaction
+abbrev pub with_sent_for : Qualifiers → List Sending → ℕ → Apdu → List Sending
+with_sent_for txn all n a = put_by txn_sent (record { txn = txn; sent = with_sent (sent_for txn all) n a }) all
+
+-- ---- one event
+
+-- The same event of one transaction: of the one that it names, or of each.
+abbrev pub plain : DeskEvent → Event
+plain (Wish txn wish) = events.Wish wish
+plain (Deed txn deed today) = events.Deed deed today
+plain (Save who) = events.Save who
+plain (SaveFault who landed) = events.SaveFault who landed
+plain (Send who txn n) = events.Send who n
+plain (Deliver who txn n) = events.Deliver who n
+plain (Noise who bytes) = events.Noise who bytes
+plain (Restart who) = events.Restart who
+
+-- what is seen of a fault of an action or a message; there are no others than these three
+abbrev pub fault_seen : DeskFault → DeskOutcome
+fault_seen (faults.Core refusal) = Plain (Refused refusal)
+fault_seen faults.DeskFull = DeskFull
+fault_seen other = NoSuchTransaction
+
+-- a decision of the library, in one transaction
+abbrev pub desk_decides : DeskParty → Result Holding DeskFault → DeskOutcome × DeskParty
+desk_decides p (Ok new) = (Plain Done, record p { live = new })
+desk_decides p (Err fault) = (fault_seen fault, p)
+
+-- A save lands all sides that are live, and releases all their messages.
+abbrev pub desk_saves : DeskParty → DeskParty
+desk_saves p = record p { live = whole_of (sides_held p.live); landed = sides_held p.live }
+
+-- A save that fails may have landed. It releases nothing.
+abbrev pub desk_fails_to_save : DeskParty → Bool → DeskParty
+desk_fails_to_save p true = record p { landed = sides_held p.live }
+desk_fails_to_save p false = p
+
+-- A message of a transaction that is held may be sent once it is released.
+abbrev pub desk_sends : DeskParty → Qualifiers → ℕ → Option Held → DeskOutcome × DeskParty
+desk_sends p txn n None = (NoSuchTransaction, p)
+desk_sends p txn n (Some held) =
+    let after = sends_by p (λ a. record p { sent = with_sent_for txn p.sent n a })
+        (message (issued_of held.side) n) (nat_le n held.released) in
+    (Plain after.0, after.1)
+
+abbrev pub taking_seen : Result Taking DeskFault → DeskOutcome
+taking_seen (Ok taking) = Plain (Answered taking)
+taking_seen (Err fault) = fault_seen fault
+
+-- a message of the other desk
+abbrev pub desk_takes_message : DeskParty → Apdu → DeskOutcome × DeskParty
+desk_takes_message p a = (taking_seen (desk_takes p.live a).0, record p { live = (desk_takes p.live a).1 })
+
+-- Only a message that the other desk has sent in the transaction is delivered.
+abbrev pub desk_receives : DeskParty → Option Apdu → DeskOutcome × DeskParty
+desk_receives p None = (Plain NotSent, p)
+desk_receives p (Some a) = desk_takes_message p a
+
+-- What other bytes are, by what stands at their front. They change nothing: nobody forges an APDU, of whichever
+-- transaction.
+abbrev pub desk_hears : Result (Apdu × List ℕ) DerFault → Outcome
+desk_hears (Ok (a, [])) = Forged
+desk_hears (Ok (a, byte ∷ rest)) = Garbled
+desk_hears (Err fault) = Garbled
+
+-- A restart takes the sides that have landed, and releases all their messages.
+abbrev pub desk_restarts : DeskParty → DeskParty
+desk_restarts p = record p { live = whole_of p.landed }
+
+-- What is seen of an event, and the desk after it to which it happens. The other desk has sent these messages.
+abbrev pub desk_happens_to : DeskParty → List Sending → DeskEvent → DeskOutcome × DeskParty
+desk_happens_to p sent (Wish txn wish) = desk_decides p (desk_acts p.live txn (actions.Wish wish))
+desk_happens_to p sent (Deed txn deed today) = desk_decides p (desk_acts p.live txn (actions.Deed deed today))
+desk_happens_to p sent (Save who) = (Plain Saved, desk_saves p)
+desk_happens_to p sent (SaveFault who landed) = (Plain Faulted, desk_fails_to_save p landed)
+desk_happens_to p sent (Send who txn n) = desk_sends p txn n (found_by txn_held txn p.live.held)
+desk_happens_to p sent (Deliver who txn n) = desk_receives p (sent_message (sent_for txn sent) n)
+desk_happens_to p sent (Noise who bytes) = (Plain (desk_hears (apdu_at bytes)), p)
+desk_happens_to p sent (Restart who) = (Plain Restarted, desk_restarts p)
+
+-- What is seen of an event, and the desks after it.
+abbrev pub desks_happen : DeskParties → DeskEvent → DeskOutcome × DeskParties
+desks_happen w event = happens_at w (who_of (plain event)) (λ p partner. desk_happens_to p partner.sent event)
+
+-- the desks after events
+abbrev pub desks_run : DeskParties → List DeskEvent → DeskParties
+desks_run w events = run_by desks_happen w events
+
+-- ---- one transaction
+
+-- what a desk shows of a transaction: a side that is not held is idle, and nothing was sent by it
+abbrev pub party_for : Qualifiers → DeskParty → Party
+party_for txn p = record {
+  live = (held_for txn p.live).side;
+  landed = landed_for txn p.landed;
+  released = (held_for txn p.live).released;
+  sent = sent_for txn p.sent;
+}
+
+-- what two desks show of a transaction
+abbrev pub project : Qualifiers → DeskParties → Parties
+project txn w = record { requester = party_for txn w.requester; responder = party_for txn w.responder }
+
+-- Whether an event may be one of a transaction: it names it, or is one of a whole desk. Noise is none of any.
+abbrev pub concerns : Qualifiers → DeskEvent → Bool
+concerns txn (Wish named wish) = is_same_txn txn named
+concerns txn (Deed named deed today) = is_same_txn txn named
+concerns txn (Save who) = true
+concerns txn (SaveFault who landed) = true
+concerns txn (Send who named n) = is_same_txn txn named
+concerns txn (Deliver who named n) = is_same_txn txn named
+concerns txn (Noise who bytes) = false
+concerns txn (Restart who) = true
+
+-- What a desk does not do, since it does not hold the transaction, is no event.
+abbrev pub if_reached : DeskOutcome → Bool → Bool
+if_reached (Plain outcome) may_be = may_be
+if_reached other may_be = false
+
+-- an event of desks is one of this transaction
+abbrev pub is_event_of : Qualifiers → DeskParties → DeskEvent → Bool
+is_event_of txn w event = if_reached (desks_happen w event).0 (concerns txn event)
+
+-- the events of a transaction, among those of desks
+unfoldable pub events_for : Qualifiers → DeskParties → List DeskEvent → List Event
+events_for txn w [] = []
+events_for txn w (event ∷ events) =
+    let others = events_for txn (desks_happen w event).1 events in
+    if is_event_of txn w event then plain event ∷ others else others
+
+-- What is seen at a desk, and what it shows of a transaction then: as expected of an event of the transaction;
+-- of another, nothing changes.
+abbrev pub IsSeenAs : {P : Type 0} → Bool → Outcome × P → P → DeskOutcome → P → Type 0
+IsSeenAs true expected old outcome new = (outcome ≡ Plain expected.0) × (new ≡ expected.1)
+IsSeenAs false expected old outcome new = new ≡ old
+
+-- An event of desks is one event of a transaction, with the same outcome, or changes nothing of it.
+abbrev pub Projects : Qualifiers → DeskParties → DeskEvent → Type 0
+Projects txn w event =
+    let after = desks_happen w event in
+    IsSeenAs (is_event_of txn w event) (happens (project txn w) (plain event)) (project txn w) after.0 (project txn after.1)

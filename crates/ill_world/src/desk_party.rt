@@ -1,0 +1,194 @@
+//! One of two desks, with its store and what it has sent.
+
+ghost use Rattle.std.specs.Prelude.{◌≡◌, option_map, IfOk};
+ghost use Rattle.ill_der.specs.ShortForm.{apdu_at};
+ghost use Rattle.ill_saved.specs.Many.{desk_acts, found_by, held_for, sides_held, txn_held};
+ghost use Rattle.ill_world.specs.World as model;
+ghost use Rattle.ill_world.specs.Desks as desks;
+ghost use Rattle.ill_world.specs.declared.event.DeskOutcome.TheVariants as desk_outcomes;
+ghost use Rattle.ill_world.specs.declared.event.Outcome.TheVariants as outcomes;
+ghost use Rattle.ill_world.specs.PartyView.{Gives};
+ghost use Rattle.ill_world.specs.DeskView.{desk_party_of, FaultSeen, IsReadyDesk};
+
+use crate::desk_sent::DeskSent;
+use crate::event::{DeskOutcome, Outcome, Who};
+use crate::message::Message;
+use ill_der::{DerFault, decode};
+use ill_saved::laws::sides_read_again;
+use ill_saved::{Action, Desk, DeskFault, MemoryStore, NextCall, Sides, StoreFault};
+use ill_values::{Number, OutOfMemory, TxnId};
+use std::alloc::Global;
+use std::marker::Model;
+
+/// One of two desks, and what it has sent.
+#[derive(Drop)]
+pub struct DeskParty {
+    desk: Desk<MemoryStore>,
+    sent: DeskSent,
+}
+
+impl Model for DeskParty {
+    ghost Value = { desks.DeskParty };
+
+    ghost view = { λ p. desk_party_of p.desk p.sent };
+
+    ghost invariant = { λ p. IsReadyDesk p.desk };
+}
+
+impl DeskParty {
+    /// A desk of this role that holds nothing. Nothing is saved, and nothing was sent.
+    pub fn new(alloc: Global, role: Who) -> Result<DeskParty, OutOfMemory>
+        ensures { IfOk result (λ party. party ≡ desks.first_desk role) }
+    {
+        match Desk::create(alloc, MemoryStore::new(alloc), role) {
+            Ok(desk) => Ok(DeskParty {
+                desk,
+                sent: DeskSent::nothing(alloc),
+            }),
+            Err(_) => Err(OutOfMemory),
+        }
+    }
+
+    /// Does what the library decides in a transaction.
+    pub fn act(
+        &mut self,
+        alloc: Global,
+        txn: &TxnId,
+        action: &Action,
+    ) -> Result<DeskOutcome, OutOfMemory>
+        ensures { Gives (desks.desk_decides self.old (desk_acts self.old.live txn.now action.now))
+            self.old result self.new }
+    {
+        match self.desk.act(alloc, txn, action) {
+            Ok(()) => Ok(DeskOutcome::Plain(Outcome::Done)),
+            Err(fault) => seen(fault),
+        }
+    }
+
+    /// Takes a message of the other desk.
+    pub fn take(&mut self, alloc: Global, message: &Message) -> Result<DeskOutcome, OutOfMemory>
+        ensures { Gives (desks.desk_takes_message self.old message.now) self.old result self.new }
+    {
+        match self.desk.take_bytes(alloc, message.bytes()) {
+            Ok(taking) => Ok(DeskOutcome::Plain(Outcome::Answered(taking))),
+            Err(fault) => seen(fault),
+        }
+    }
+
+    /// Saves the desk.
+    pub fn save(&mut self, alloc: Global) -> Result<DeskOutcome, OutOfMemory>
+        ensures { Gives (desk_outcomes.Plain outcomes.Saved, desks.desk_saves self.old)
+            self.old result self.new }
+    {
+        sides_read_again();
+        match self.desk.save(alloc) {
+            Ok(()) => Ok(DeskOutcome::Plain(Outcome::Saved)),
+            Err(DeskFault::OutOfMemory) => Err(OutOfMemory),
+            Err(_) => unreachable!(),
+        }
+    }
+
+    /// Tries to save the desk, and fails: the new record has landed, or it has not.
+    pub fn fail_to_save(&mut self, alloc: Global, landed: bool) -> Result<DeskOutcome, OutOfMemory>
+        ensures { Gives (desk_outcomes.Plain outcomes.Faulted, desks.desk_fails_to_save self.old landed)
+            self.old result self.new }
+    {
+        sides_read_again();
+        self.desk.set_next(if landed {
+            NextCall::FailsNew
+        } else {
+            NextCall::FailsOld
+        });
+        match self.desk.save(alloc) {
+            Err(DeskFault::Store(StoreFault::Failed)) => Ok(DeskOutcome::Plain(Outcome::Faulted)),
+            Err(DeskFault::OutOfMemory) => {
+                self.desk.set_next(NextCall::Works);
+                Err(OutOfMemory)
+            }
+            _ => unreachable!(),
+        }
+    }
+
+    /// Begins again from what has landed.
+    pub fn restart(&mut self, alloc: Global) -> Result<DeskOutcome, OutOfMemory>
+        ensures { Gives (desk_outcomes.Plain outcomes.Restarted, desks.desk_restarts self.old)
+            self.old result self.new }
+    {
+        match self.desk.restart(alloc) {
+            Ok(()) => Ok(DeskOutcome::Plain(Outcome::Restarted)),
+            Err(DeskFault::OutOfMemory) => Err(OutOfMemory),
+            Err(_) => unreachable!(),
+        }
+    }
+
+    /// Sends the message of this transaction with this number.
+    pub fn send(
+        &mut self,
+        alloc: Global,
+        txn: &TxnId,
+        number: Number,
+    ) -> Result<DeskOutcome, OutOfMemory>
+        ensures { Gives (desks.desk_sends self.old txn.now number
+            (found_by txn_held txn.now self.old.live.held)) self.old result self.new }
+    {
+        match self.desk.message(alloc, txn, number) {
+            Ok(bytes) => {
+                self.sent.put(alloc, txn, number, Message::new(bytes))?;
+                Ok(DeskOutcome::Plain(Outcome::Sent))
+            }
+            Err(DeskFault::NoSuchMessage) => Ok(DeskOutcome::Plain(Outcome::NoSuchMessage)),
+            Err(DeskFault::NotSaved) => Ok(DeskOutcome::Plain(Outcome::NotSaved)),
+            Err(DeskFault::NoSuchTransaction) => Ok(DeskOutcome::NoSuchTransaction),
+            Err(_) => Err(OutOfMemory),
+        }
+    }
+
+    /// The message with this number, if it was sent in this transaction.
+    pub fn sent(&self, txn: &TxnId, number: Number) -> Option<&Message>
+        ensures { option_map (λ m. m.now) result
+            ≡ model.sent_message (desks.sent_for txn.now self.now.sent) number }
+    {
+        self.sent.get(txn, number)
+    }
+
+    /// The sides that are held, as they are in memory.
+    pub fn sides(&self) -> &Sides
+        ensures { result.now ≡ sides_held self.now.live }
+    {
+        self.desk.sides()
+    }
+
+    /// How many messages of this transaction are released.
+    pub fn released(&self, txn: &TxnId) -> u8
+        ensures { result ≡ (held_for txn.now self.now.live).released }
+    {
+        self.desk.released(txn)
+    }
+}
+
+/// What other bytes are. An APDU would be forged, of whichever transaction.
+pub fn heard(alloc: Global, bytes: &[u8]) -> Result<Outcome, OutOfMemory>
+    ensures { IfOk result (λ outcome. outcome ≡ desks.desk_hears (apdu_at bytes.now)) }
+{
+    match decode(alloc, bytes) {
+        Ok((_, size)) => Ok(if size == bytes.len() {
+            Outcome::Forged
+        } else {
+            Outcome::Garbled
+        }),
+        Err(DerFault::OutOfMemory) => Err(OutOfMemory),
+        Err(_) => Ok(Outcome::Garbled),
+    }
+}
+
+/// What is seen of a fault of an action or a message.
+fn seen(fault: DeskFault) -> Result<DeskOutcome, OutOfMemory>
+    ensures { FaultSeen fault result }
+{
+    match fault {
+        DeskFault::Core(refusal) => Ok(DeskOutcome::Plain(Outcome::Refused(refusal))),
+        DeskFault::DeskFull => Ok(DeskOutcome::DeskFull),
+        DeskFault::OutOfMemory => Err(OutOfMemory),
+        _ => Ok(DeskOutcome::NoSuchTransaction),
+    }
+}

@@ -1,0 +1,103 @@
+//! What a desk has sent.
+
+ghost use Rattle.std.specs.Prelude.{◌≡◌, ◌++◌, ◌∷◌, [], List, None, option_map, OnOk, OnErr};
+ghost use Rattle.indexmap.specs.IndexMap.{get};
+ghost use Rattle.std.specs.Map.{lookup};
+ghost use Rattle.ill_core.specs.Issued.{is_same_txn};
+ghost use Rattle.ill_world.specs.World.{sent_message, with_sent};
+ghost use Rattle.ill_world.specs.Desks.{Sending, sent_for, with_sent_for};
+ghost use Rattle.ill_world.specs.DeskView.{sendings_of, BecomesAmong};
+
+use crate::message::Message;
+use crate::sent::Sent;
+use ill_values::{Number, OutOfMemory, TxnId};
+use indexmap::IndexMap;
+use std::alloc::Global;
+use std::marker::Model;
+
+/// What a desk has sent, in each transaction in which it has sent anything.
+#[derive(Drop)]
+pub struct DeskSent {
+    map: IndexMap<TxnId, Sent>,
+}
+
+impl Model for DeskSent {
+    ghost Value = { List Sending };
+
+    ghost view = { λ sendings. sendings_of sendings.map.entries };
+}
+
+impl DeskSent {
+    /// Nothing was sent. It takes no memory.
+    pub fn nothing(alloc: Global) -> DeskSent
+        ensures { result ≡ [] }
+    {
+        DeskSent {
+            map: IndexMap::new(alloc),
+        }
+    }
+
+    /// This message was sent in this transaction, with this number. If memory runs out, nothing has changed.
+    pub fn put(
+        &mut self,
+        alloc: Global,
+        txn: &TxnId,
+        number: Number,
+        message: Message,
+    ) -> Result<(), OutOfMemory>
+        ensures put { OnOk result (self.new ≡ with_sent_for txn.now self.old number message) }
+        ensures unchanged { OnErr result (self.new ≡ self.old) }
+    {
+        match put_among(&mut self.map, txn, number, message) {
+            None => Ok(()),
+            Some(message) => {
+                let mut sent = Sent::nothing(alloc)?;
+                sent.put(number, message);
+                insert_new(&mut self.map, txn.copy(alloc)?, sent)
+            }
+        }
+    }
+
+    /// The message with this number, if it was sent in this transaction.
+    pub fn get(&self, txn: &TxnId, number: Number) -> Option<&Message>
+        ensures { option_map (λ message. message.now) result
+            ≡ sent_message (sent_for txn.now self.now) number }
+    {
+        match self.map.get(txn) {
+            Some(sent) => sent.get(number),
+            None => None,
+        }
+    }
+}
+
+/// This message was sent, where there is a transaction for it; else it is handed back.
+fn put_among(
+    map: &mut IndexMap<TxnId, Sent>,
+    txn: &TxnId,
+    number: Number,
+    message: Message,
+) -> Option<Message>
+    ensures { BecomesAmong txn.now (λ sent. with_sent sent number message) map.old.entries
+        (lookup (is_same_txn txn.now) map.old.entries) result message map.new.entries }
+{
+    match map.get_mut(txn) {
+        Some(sent) => {
+            sent.put(number, message);
+            None
+        }
+        None => Some(message),
+    }
+}
+
+/// Puts a value behind those of the map, under a key that it has not. If memory runs out, the map is as it
+/// was.
+fn insert_new<V: Drop>(map: &mut IndexMap<TxnId, V>, key: TxnId, value: V) -> Result<(), OutOfMemory>
+    requires new { get is_same_txn map.old key ≡ None }
+    ensures done { OnOk result (map.new.entries ≡ map.old.entries ++ (key, value) ∷ []) }
+    ensures unchanged { OnErr result (map.new.entries ≡ map.old.entries) }
+{
+    match map.insert(key, value) {
+        Ok(_) => Ok(()),
+        Err(_) => Err(OutOfMemory),
+    }
+}

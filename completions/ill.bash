@@ -1,4 +1,4 @@
-# Completion of ill(1) in bash: commands, options, roles, files, and the first words of actions.
+# Completion of ill(1) in bash: commands, options, roles, files, their loans, and the first words of actions.
 
 # A word of the line as a command sees it: without quotes and backslashes, and with the home folder for `~/`.
 _ill_text() {
@@ -16,15 +16,40 @@ _ill_text() {
   printf '%s\n' "$text"
 }
 
-# The first words of the side in a file; of both roles where the file has no side.
+# What `ill status` tells of the loans in a file.
+_ill_status() { ill status -- "$(_ill_text "$1")" 2> /dev/null; }
+
+# The first words of the role of a file; of both roles where the file has no loan.
 _ill_words() {
   local requester='request cancel reply receive renew return'
   local responder='answer cancel-reply ship renew-answer overdue recall check-in expire'
-  case $(ill status -- "$1" 2> /dev/null) in
+  case $(_ill_status "$1") in
     'role requester'*) echo "$requester" ;;
     'role responder'*) echo "$responder" ;;
     *) echo "$requester $responder" ;;
   esac
+}
+
+# The groups of the loans in a file; behind a group, its transactions.
+_ill_loans() {
+  local line group=
+  while IFS= read -r line; do
+    case $#-$line in
+      1-group\ *) printf '%s\n' "${line#group }" ;;
+      2-group\ *) group=${line#group } ;;
+      2-transaction\ *) [ "$group" != "$(_ill_text "$2")" ] || printf '%s\n' "${line#transaction }" ;;
+    esac
+  done < <(_ill_status "$1") | sort -u
+}
+
+# Offers those that begin with the word at the cursor, with backslashes where that word is in no quotes.
+_ill_offer_loans() {
+  local loan word=${COMP_WORDS[COMP_CWORD]}
+  while IFS= read -r loan; do
+    case $loan in "$(_ill_text "$word")"*) ;; *) continue ;; esac
+    case $word in [\"\']*) ;; *) loan=$(printf %q "$loan") ;; esac
+    COMPREPLY+=("$loan")
+  done < <(_ill_loans "$@")
 }
 
 # Sets `arguments` to those that stand between the command and the cursor, options left out, and `wanted` to
@@ -42,7 +67,7 @@ _ill_read() {
       any--*) ;;
       *)
         arguments+=("$word")
-        if [ "${COMP_WORDS[1]}-${#arguments[@]}" = act-2 ]; then wanted=argument; fi ;;
+        if [ "${COMP_WORDS[1]}-${#arguments[@]}" = act-4 ]; then wanted=argument; fi ;;
     esac
   done
 }
@@ -64,7 +89,10 @@ _ill() {
       mapfile -t COMPREPLY < <(compgen -f -- "$word")
       return ;;
     *-new-1-*) offered='requester responder' ;;
-    *-act-1-*) offered=$(_ill_words "$(_ill_text "${arguments[0]}")") ;;
+    *-act-[12]-* | *-send-[12]-*)
+      _ill_offer_loans "${arguments[@]}"
+      return ;;
+    *-act-3-*) offered=$(_ill_words "${arguments[0]}") ;;
   esac
   COMPREPLY=($(compgen -W "$offered" -- "$word"))
 }

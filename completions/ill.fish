@@ -1,4 +1,4 @@
-# Completion of ill(1) in fish: commands, options, roles, files, and the first words of actions.
+# Completion of ill(1) in fish: commands, options, roles, files, their loans, and the first words of actions.
 
 set -l commands new act take send status show check simulate help
 
@@ -20,7 +20,7 @@ function __ill_read
             case 'any--*'
             case '*'
                 set -a arguments $word
-                if test "$words[2]-"(count $arguments) = act-2
+                if test "$words[2]-"(count $arguments) = act-4
                     set wanted argument
                 end
         end
@@ -42,12 +42,35 @@ function __ill_option
     and contains -- "$read[2]" $argv
 end
 
-# The words of the role of the side in the file; of both roles where the file has no side.
+# What `ill status` tells of the loans in a file.
+function __ill_status
+    ill status -- (string replace -r '^~/' "$HOME/" -- $argv[1]) 2>/dev/null
+end
+
+# The groups of the loans in the file; behind a group, its transactions.
+function __ill_loans
+    set -l arguments (__ill_read)[3..-1]
+    set -l group
+    for line in (__ill_status $arguments[1])
+        set -l words (string split -m 1 ' ' -- $line)
+        switch (count $arguments)-$words[1]
+            case 1-group
+                string join \n -- $words[2]
+            case 2-group
+                set group $words[2]
+            case 2-transaction
+                if test "$group" = "$arguments[2]"
+                    string join \n -- $words[2]
+                end
+        end
+    end | sort -u
+end
+
+# The words of the role of the file; of both roles where the file has no loan.
 function __ill_words
     set -l requester request cancel reply receive renew return
     set -l responder answer cancel-reply ship renew-answer overdue recall check-in expire
-    set -l file (string replace -r '^~/' "$HOME/" -- (__ill_read)[3])
-    switch (ill status -- "$file" 2>/dev/null)[1]
+    switch (__ill_status (__ill_read)[3])[1]
         case 'role requester'
             string join \n $requester
         case 'role responder'
@@ -60,11 +83,11 @@ end
 complete -c ill -f
 complete -c ill -n "__ill_option '' (string match -v help -- $commands)" -s h -l help -d 'Print help'
 complete -c ill -n "__ill_option ''" -s V -l version -d 'Print the version'
-complete -c ill -n "__ill_at 0 ''" -a new -d 'Begin one side of a loan, in a file'
-complete -c ill -n "__ill_at 0 ''" -a act -d 'Perform one action, and save it'
+complete -c ill -n "__ill_at 0 ''" -a new -d 'Begin a desk of one role, in a file'
+complete -c ill -n "__ill_at 0 ''" -a act -d 'Perform one action in a loan, and save it'
 complete -c ill -n "__ill_at 0 ''" -a take -d 'Take the APDUs on standard input'
-complete -c ill -n "__ill_at 0 ''" -a send -d 'Write the bytes of one message'
-complete -c ill -n "__ill_at 0 ''" -a status -d 'Show the side in a file'
+complete -c ill -n "__ill_at 0 ''" -a send -d 'Write the bytes of one message of a loan'
+complete -c ill -n "__ill_at 0 ''" -a status -d 'Show how each loan in a file stands'
 complete -c ill -n "__ill_at 0 ''" -a show -d 'Show each APDU on standard input'
 complete -c ill -n "__ill_at 0 ''" -a check -d 'Check and count the APDUs on standard input'
 complete -c ill -n "__ill_at 0 ''" -a simulate -d 'Perform a script of both sides'
@@ -72,5 +95,7 @@ complete -c ill -n "__ill_at 0 ''" -a help -d 'Print the help of a command'
 complete -c ill -n '__ill_at 0 new act take send status' -F
 complete -c ill -n '__ill_at 1 new' -a 'requester responder'
 complete -c ill -n '__ill_option act' -l today -x -d 'The day of the action'
-complete -c ill -n '__ill_at 1 act' -a '(__ill_words)'
+complete -c ill -n '__ill_at 1 act send' -a '(__ill_loans)'
+complete -c ill -n '__ill_at 2 act send' -a '(__ill_loans)'
+complete -c ill -n '__ill_at 3 act' -a '(__ill_words)'
 complete -c ill -n '__ill_at 0 help' -a "$commands"

@@ -1,40 +1,39 @@
-//! Sides that begin in a store in memory, by the engine of `new`.
+//! Sides and desks that begin in a store in memory, by the engines of `new`.
 
 use crate::call::Call;
-use crate::desk::{Desk, next_call};
-use crate::desk_view::tell_begun;
+use crate::memory::{Beginning, Memory, next_call};
 use crate::names::Names;
 use crate::page::Page;
 use crate::sink::Sink;
 use crate::telling::tell_bytes;
 use crate::words::Word;
-use ill_saved::{Desk1, MemoryStore, Store};
-use ill_tool::{ToolFault, run_new};
+use ill_saved::{MemoryStore, Role, Store};
+use ill_tool::{ToolFault, run_desk_new, run_new};
 use ill_values::TxnId;
-use ill_world::Who;
 use ill_world::words::who;
 use std::alloc::Global;
 
-/// `ROLE STORE`: a side of this role begins, and its answer is told; then how it stands, or what has landed
-/// in the store that was handed back. The store is a new one whose first call `works`, `fails-old` or
-/// `fails-new`, or `again` that of the side that is there.
+/// `ROLE STORE`: a side or a desk of this role begins, and its answer is told; then how it stands, or what has
+/// landed in the store that was handed back. The store is a new one whose first call `works`, `fails-old` or
+/// `fails-new`, or `again` that of what lies in memory.
 pub fn begin(
     alloc: Global,
     page: &mut Page,
     names: &Names,
-    desk: &mut Option<Desk>,
+    memory: &mut Option<Memory>,
+    beginning: Beginning,
     call: &mut Call<'_>,
 ) -> Option<()> {
     let [role, store] = call.words else {
         return None;
     };
     let role = who(role.text.as_bytes())?;
-    let store = store_of(alloc, desk, store)?;
-    match begin_over(alloc, store, role, &mut call.output)? {
+    let store = store_of(alloc, memory, store)?;
+    match begin_over(alloc, store, beginning, role, &mut call.output)? {
         Ok(begun) => {
             call.tell_answer(page, names, &Ok::<(), ToolFault>(()));
-            tell_begun(page, &begun);
-            drop(desk.replace(Desk::Planned(begun)));
+            begun.tell_begun(page);
+            drop(memory.replace(begun));
             Some(())
         }
         Err((fault, mut store)) => {
@@ -44,11 +43,11 @@ pub fn begin(
     }
 }
 
-/// The store of these words. The side that is there is let go.
-pub fn store_of(alloc: Global, desk: &mut Option<Desk>, word: &Word) -> Option<MemoryStore> {
-    let before = desk.take();
+/// The store of these words. What lies in memory is let go.
+fn store_of(alloc: Global, memory: &mut Option<Memory>, word: &Word) -> Option<MemoryStore> {
+    let before = memory.take();
     if word.is("again") {
-        before.and_then(Desk::into_store)
+        before.and_then(Memory::into_store)
     } else {
         drop(before);
         new_store(alloc, word)
@@ -67,15 +66,27 @@ fn new_store(alloc: Global, plan: &Word) -> Option<MemoryStore> {
 fn begin_over(
     alloc: Global,
     store: MemoryStore,
-    role: Who,
+    beginning: Beginning,
+    role: Role,
     output: &mut Sink,
-) -> Option<Result<Desk1<MemoryStore>, (ToolFault, MemoryStore)>> {
-    let txn = TxnId::new(alloc, b"G1", b"T1").ok()?;
-    Some(run_new(alloc, store, role, txn, output))
+) -> Option<Result<Memory, (ToolFault, MemoryStore)>> {
+    match beginning {
+        Beginning::Side => {
+            let txn = TxnId::new(alloc, b"G1", b"T1").ok()?;
+            match run_new(alloc, store, role, txn, output) {
+                Ok(desk) => Some(Ok(Memory::Side(desk))),
+                Err(refused) => Some(Err(refused)),
+            }
+        }
+        Beginning::Desk => match run_desk_new(alloc, store, role, output) {
+            Ok(desk) => Some(Ok(Memory::Desk(desk))),
+            Err(refused) => Some(Err(refused)),
+        },
+    }
 }
 
 /// Tells the bytes that have landed, if any have.
-pub fn tell_landed(
+fn tell_landed(
     alloc: Global,
     page: &mut Page,
     names: &Names,

@@ -1,12 +1,11 @@
-//! What lies on the bench: a folder, and a side in memory.
+//! What lies on the bench: a folder, and what lies in memory.
 
 use crate::beginning::begin;
 use crate::call::Call;
-use crate::desk::{Desk, DeskCall};
 use crate::engines;
 use crate::engines::Engine;
 use crate::folder::{FileCall, Folder};
-use crate::many::begin_many;
+use crate::memory::{Beginning, Memory, MemoryCall};
 use crate::names::Names;
 use crate::page::Page;
 use crate::texts::tell_texts;
@@ -16,7 +15,7 @@ use std::rt::Files;
 
 /// What performs the calls of lines. Nothing is answered where the words are none.
 pub trait Performs {
-    /// Begins anew: an empty folder, and no side in memory.
+    /// Begins anew: an empty folder, and nothing in memory.
     fn begin(&mut self) -> Option<()>;
 
     /// Performs a call, and tells its answer.
@@ -26,12 +25,12 @@ pub trait Performs {
     fn end(&mut self) -> Option<()>;
 }
 
-/// A folder, and a side in memory.
+/// A folder, and a side or a desk in memory.
 #[derive(Drop)]
 pub struct Bench<'a, R: Files> {
     alloc: Global,
     folder: Folder<'a, R>,
-    desk: Option<Desk>,
+    memory: Option<Memory>,
 }
 
 /// What the first word of a line calls.
@@ -41,19 +40,17 @@ enum Kind {
     Ill,
     Engine(Engine),
     File(FileCall),
-    /// A side in memory begins.
-    Desk,
+    /// A side or a desk in memory begins.
+    Begin(Beginning),
     /// One begins by the engine of `new`.
-    New,
-    /// Many begin by the engine of `new`.
-    Many,
+    New(Beginning),
     /// The next call of its store is planned.
     Next,
-    On(DeskCall),
+    On(MemoryCall),
     Texts,
 }
 
-const KINDS: [(&str, Kind); 21] = [
+const KINDS: [(&str, Kind); 22] = [
     ("ill", Kind::Ill),
     ("show", Kind::Engine(Engine::Show)),
     ("check", Kind::Engine(Engine::Check)),
@@ -64,16 +61,17 @@ const KINDS: [(&str, Kind); 21] = [
     ("file", Kind::File(FileCall::Show)),
     ("folder", Kind::File(FileCall::Folder)),
     ("remove", Kind::File(FileCall::Remove)),
-    ("desk", Kind::Desk),
-    ("new", Kind::New),
-    ("many", Kind::Many),
+    ("side", Kind::Begin(Beginning::Side)),
+    ("new-side", Kind::New(Beginning::Side)),
+    ("desk", Kind::Begin(Beginning::Desk)),
+    ("new", Kind::New(Beginning::Desk)),
     ("next", Kind::Next),
-    ("save", Kind::On(DeskCall::Save)),
-    ("restart", Kind::On(DeskCall::Restart)),
-    ("act", Kind::On(DeskCall::Act)),
-    ("take", Kind::On(DeskCall::Take)),
-    ("send", Kind::On(DeskCall::Send)),
-    ("status", Kind::On(DeskCall::Status)),
+    ("save", Kind::On(MemoryCall::Save)),
+    ("restart", Kind::On(MemoryCall::Restart)),
+    ("act", Kind::On(MemoryCall::Act)),
+    ("take", Kind::On(MemoryCall::Take)),
+    ("send", Kind::On(MemoryCall::Send)),
+    ("status", Kind::On(MemoryCall::Status)),
     ("texts", Kind::Texts),
 ];
 
@@ -92,7 +90,7 @@ impl<'a, R: Files> Bench<'a, R> {
         Bench {
             alloc,
             folder,
-            desk: None,
+            memory: None,
         }
     }
 
@@ -103,11 +101,13 @@ impl<'a, R: Files> Bench<'a, R> {
             Kind::Ill => self.folder.command(page, names, &mut call),
             Kind::Engine(engine) => engines::perform(self.alloc, page, names, engine, &mut call),
             Kind::On(kind) => {
-                let desk = self.desk.as_mut()?;
-                desk.perform(self.alloc, page, names, kind, &mut call)
+                let memory = self.memory.as_mut()?;
+                memory.perform(self.alloc, page, names, kind, &mut call)
             }
-            Kind::New => begin(self.alloc, page, names, &mut self.desk, &mut call),
-            Kind::Many => begin_many(self.alloc, page, names, &mut self.desk, &mut call),
+            Kind::New(beginning) => {
+                let memory = &mut self.memory;
+                begin(self.alloc, page, names, memory, beginning, &mut call)
+            }
             _ => None,
         }
     }
@@ -115,7 +115,7 @@ impl<'a, R: Files> Bench<'a, R> {
 
 impl<'a, R: Files> Performs for Bench<'a, R> {
     fn begin(&mut self) -> Option<()> {
-        drop(self.desk.take());
+        drop(self.memory.take());
         self.folder.clear()
     }
 
@@ -123,11 +123,12 @@ impl<'a, R: Files> Performs for Bench<'a, R> {
         let (first, others) = words.split_first()?;
         match kind_of(first.text.as_str())? {
             Kind::File(kind) => self.folder.perform(page, names, kind, others),
-            Kind::Desk => {
-                drop(self.desk.replace(Desk::begin(self.alloc, others)?));
+            Kind::Begin(beginning) => {
+                let begun = Memory::begin(self.alloc, beginning, others)?;
+                drop(self.memory.replace(begun));
                 Some(())
             }
-            Kind::Next => self.desk.as_mut()?.plan(others),
+            Kind::Next => self.memory.as_mut()?.plan(others),
             Kind::Texts => {
                 tell_texts(page);
                 Some(())

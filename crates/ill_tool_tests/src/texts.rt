@@ -6,7 +6,7 @@ use ill_saved::{RecordFault, StoreFault};
 use ill_tool::{DerFault, DeskFault, ToolFault};
 use std::fmt::{Debug, Display};
 
-const FAULTS: [ToolFault; 21] = [
+const FAULTS: [ToolFault; 24] = [
     ToolFault::Arguments,
     ToolFault::Der(DerFault::Short(17)),
     ToolFault::Der(DerFault::Tag(15)),
@@ -18,12 +18,15 @@ const FAULTS: [ToolFault; 21] = [
     ToolFault::Desk(DeskFault::Trailing),
     ToolFault::Desk(DeskFault::NoSuchMessage),
     ToolFault::Desk(DeskFault::NotSaved),
+    ToolFault::Desk(DeskFault::NoSuchTransaction),
+    ToolFault::Desk(DeskFault::DeskFull),
     ToolFault::Desk(DeskFault::Exists),
     ToolFault::Desk(DeskFault::NoRecord),
     ToolFault::Desk(DeskFault::Store(StoreFault::Failed)),
     ToolFault::Desk(DeskFault::Store(StoreFault::TooLarge)),
     ToolFault::Desk(DeskFault::Saved(RecordFault::Short)),
-    ToolFault::Desk(DeskFault::Saved(RecordFault::Bad(65_535))),
+    ToolFault::Desk(DeskFault::Saved(RecordFault::Bad(67_108_863))),
+    ToolFault::Desk(DeskFault::Saved(RecordFault::Digest)),
     ToolFault::Desk(DeskFault::Saved(RecordFault::Inconsistent)),
     ToolFault::Read,
     ToolFault::Write,

@@ -1,0 +1,210 @@
+//! What a side and a desk of many transactions have in common: what is called on them, and what is seen of them.
+
+use crate::page::Page;
+use crate::sink::Sink;
+use crate::source::Source;
+use crate::view::{View, tell_side};
+use crate::words::{Word, texts};
+use ill_saved::{Desk, Desk1, DeskFault, Store};
+use ill_tool::{
+    ToolFault, run_act, run_desk_act, run_desk_send, run_desk_status, run_desk_take, run_send,
+    run_status, run_take,
+};
+use ill_values::{Day, Number, TxnId};
+use std::alloc::Global;
+
+/// What keeps sides in a store. Nothing is answered where the words are none.
+pub trait Kept {
+    /// Performs the action that the words say, by its engine.
+    fn act(
+        &mut self,
+        alloc: Global,
+        words: &[Word],
+        output: &mut Sink,
+    ) -> Option<Result<bool, ToolFault>>;
+
+    /// Takes the APDUs of the input, by the engine.
+    fn take(
+        &mut self,
+        alloc: Global,
+        source: &mut Source,
+        output: &mut Sink,
+    ) -> Result<bool, ToolFault>;
+
+    /// Gives the message that the words say, by the engine.
+    fn send(
+        &self,
+        alloc: Global,
+        words: &[Word],
+        output: &mut Sink,
+    ) -> Option<Result<(), ToolFault>>;
+
+    /// Shows all sides, by the engine.
+    fn status(&self, alloc: Global, output: &mut Sink) -> Result<(), ToolFault>;
+
+    /// Saves all sides.
+    fn save(&mut self, alloc: Global) -> Result<(), DeskFault>;
+
+    /// Takes up what has landed.
+    fn restart(&mut self, alloc: Global) -> Result<(), DeskFault>;
+
+    /// What is seen of all sides.
+    fn view(&self, alloc: Global) -> Option<View>;
+
+    /// Tells how each side stands.
+    fn tell(&self, page: &mut Page);
+}
+
+/// The words are `[--today DAY] WORDS` of an action, and the NUMBER of a message.
+impl<S: Store> Kept for Desk1<S> {
+    fn act(
+        &mut self,
+        alloc: Global,
+        words: &[Word],
+        output: &mut Sink,
+    ) -> Option<Result<bool, ToolFault>> {
+        let today = day(words)?;
+        let words: Vec<&str> = texts(alloc, words_behind(words))?;
+        Some(run_act(alloc, self, today, &words, output))
+    }
+
+    fn take(
+        &mut self,
+        alloc: Global,
+        source: &mut Source,
+        output: &mut Sink,
+    ) -> Result<bool, ToolFault> {
+        run_take(alloc, self, source, output)
+    }
+
+    fn send(
+        &self,
+        alloc: Global,
+        words: &[Word],
+        output: &mut Sink,
+    ) -> Option<Result<(), ToolFault>> {
+        Some(run_send(alloc, self, number(words)?, output))
+    }
+
+    fn status(&self, alloc: Global, output: &mut Sink) -> Result<(), ToolFault> {
+        run_status(alloc, self, output)
+    }
+
+    fn save(&mut self, alloc: Global) -> Result<(), DeskFault> {
+        Desk1::save(self, alloc)
+    }
+
+    fn restart(&mut self, alloc: Global) -> Result<(), DeskFault> {
+        Desk1::restart(self, alloc)
+    }
+
+    fn view(&self, alloc: Global) -> Option<View> {
+        View::of_side(alloc, self)
+    }
+
+    fn tell(&self, page: &mut Page) {
+        tell_side(page, self.side(), self.released());
+        page.text("\n");
+    }
+}
+
+/// Before the words stand GROUP and TRANSACTION.
+impl<S: Store> Kept for Desk<S> {
+    fn act(
+        &mut self,
+        alloc: Global,
+        words: &[Word],
+        output: &mut Sink,
+    ) -> Option<Result<bool, ToolFault>> {
+        let (txn, words) = txn_before(alloc, words)?;
+        let today = day(words)?;
+        let words: Vec<&str> = texts(alloc, words_behind(words))?;
+        Some(run_desk_act(alloc, self, &txn, today, &words, output))
+    }
+
+    fn take(
+        &mut self,
+        alloc: Global,
+        source: &mut Source,
+        output: &mut Sink,
+    ) -> Result<bool, ToolFault> {
+        run_desk_take(alloc, self, source, output)
+    }
+
+    fn send(
+        &self,
+        alloc: Global,
+        words: &[Word],
+        output: &mut Sink,
+    ) -> Option<Result<(), ToolFault>> {
+        let (txn, words) = txn_before(alloc, words)?;
+        Some(run_desk_send(alloc, self, &txn, number(words)?, output))
+    }
+
+    fn status(&self, alloc: Global, output: &mut Sink) -> Result<(), ToolFault> {
+        run_desk_status(alloc, self, output)
+    }
+
+    fn save(&mut self, alloc: Global) -> Result<(), DeskFault> {
+        Desk::save(self, alloc)
+    }
+
+    fn restart(&mut self, alloc: Global) -> Result<(), DeskFault> {
+        Desk::restart(self, alloc)
+    }
+
+    fn view(&self, alloc: Global) -> Option<View> {
+        View::of_desk(alloc, self)
+    }
+
+    fn tell(&self, page: &mut Page) {
+        let mut before = "";
+        for place in 0..self.sides().len() {
+            if let Some(side) = self.sides().at(place) {
+                page.text(before);
+                page.push(side.txn().group());
+                page.text(" ");
+                page.push(side.txn().transaction());
+                page.text(" ");
+                tell_side(page, side, self.released(side.txn()));
+                before = ", ";
+            }
+        }
+        page.line(if before.is_empty() { "empty" } else { "" });
+    }
+}
+
+/// The transaction whose group and transaction stand before other words, and these.
+fn txn_before(alloc: Global, words: &[Word]) -> Option<(TxnId, &[Word])> {
+    match words {
+        [group, transaction, others @ ..] => {
+            let group = group.text.as_bytes();
+            let txn = TxnId::new(alloc, group, transaction.text.as_bytes()).ok()?;
+            Some((txn, others))
+        }
+        _ => None,
+    }
+}
+
+/// The day that stands before the words of an action, if one does. One that is none is nothing.
+fn day(words: &[Word]) -> Option<Option<Day>> {
+    match words {
+        [option, day, ..] if option.is("--today") => {
+            Some(Some(Day::read(day.text.as_bytes()).ok()?))
+        }
+        _ => Some(None),
+    }
+}
+
+/// The words of an action.
+fn words_behind(words: &[Word]) -> &[Word] {
+    match words {
+        [option, _, words @ ..] if option.is("--today") => words,
+        _ => words,
+    }
+}
+
+/// The number of a message.
+fn number(words: &[Word]) -> Option<Number> {
+    Number::new(words.first()?.text.parse::<u8>().ok()?)
+}

@@ -1,0 +1,204 @@
+//! What lies in memory: one side of transaction G1, T1, or a desk of many transactions.
+
+ghost use Rattle.std.specs.Prelude.{◌≡◌, IfSome};
+ghost use Rattle.ill_saved.specs.Side.{idle_of};
+
+use crate::call::Call;
+use crate::kept::Kept;
+use crate::limited::LimitedStore;
+use crate::names::Names;
+use crate::page::Page;
+use crate::telling::begin;
+use crate::words::Word;
+use ill_core::{Requester, Responder};
+use ill_saved::{Desk, Desk1, MemoryStore, NextCall, Role, Side};
+use ill_values::TxnId;
+use ill_world::words::who;
+use std::alloc::Global;
+
+/// A side or a desk, in a store that fails as is planned, or in one that lasts for so many saves.
+#[derive(Drop)]
+pub enum Memory {
+    Side(Desk1<MemoryStore>),
+    LimitedSide(Desk1<LimitedStore>),
+    Desk(Desk<MemoryStore>),
+    LimitedDesk(Desk<LimitedStore>),
+}
+
+/// Whether one side begins, or a desk of many transactions.
+#[derive(Clone, Copy)]
+pub enum Beginning {
+    Side,
+    Desk,
+}
+
+/// What is called on what lies in memory.
+#[derive(Clone, Copy)]
+pub enum MemoryCall {
+    Save,
+    Restart,
+    Act,
+    Take,
+    Send,
+    Status,
+}
+
+impl Memory {
+    /// What `ROLE [lasting SAVES]` says, before its first message. It is not saved.
+    pub fn begin(alloc: Global, beginning: Beginning, words: &[Word]) -> Option<Memory> {
+        let (role, others) = words.split_first()?;
+        let role = who(role.text.as_bytes())?;
+        match others {
+            [] => planned(alloc, beginning, role),
+            [word, saves] if word.is("lasting") => {
+                limited(alloc, beginning, role, saves.text.parse::<u32>().ok()?)
+            }
+            _ => None,
+        }
+    }
+
+    /// The store in memory that fails as is planned.
+    pub fn into_store(self) -> Option<MemoryStore> {
+        match self {
+            Memory::Side(desk) => Some(desk.close()),
+            Memory::Desk(desk) => Some(desk.close()),
+            Memory::LimitedSide(_) | Memory::LimitedDesk(_) => None,
+        }
+    }
+
+    /// Plans the next call of the store.
+    pub fn plan(&mut self, words: &[Word]) -> Option<()> {
+        let next = next_call(words.first()?)?;
+        match self {
+            Memory::Side(desk) => desk.set_next(next),
+            Memory::Desk(desk) => desk.set_next(next),
+            Memory::LimitedSide(_) | Memory::LimitedDesk(_) => return None,
+        }
+        Some(())
+    }
+
+    /// Performs a call, and tells its answer and how all stands.
+    pub fn perform(
+        &mut self,
+        alloc: Global,
+        page: &mut Page,
+        names: &Names,
+        kind: MemoryCall,
+        call: &mut Call<'_>,
+    ) -> Option<()> {
+        match self {
+            Memory::Side(desk) => perform_on(alloc, page, names, desk, kind, call),
+            Memory::LimitedSide(desk) => perform_on(alloc, page, names, desk, kind, call),
+            Memory::Desk(desk) => perform_on(alloc, page, names, desk, kind, call),
+            Memory::LimitedDesk(desk) => perform_on(alloc, page, names, desk, kind, call),
+        }
+    }
+
+    /// Tells how all stands at its beginning.
+    pub fn tell_begun(&self, page: &mut Page) {
+        begin(page, "stands");
+        match self {
+            Memory::Side(desk) => desk.tell(page),
+            Memory::LimitedSide(desk) => desk.tell(page),
+            Memory::Desk(desk) => desk.tell(page),
+            Memory::LimitedDesk(desk) => desk.tell(page),
+        }
+    }
+}
+
+/// What is planned for the next call of a store: it `works`, `fails-old` or `fails-new`.
+pub fn next_call(word: &Word) -> Option<NextCall> {
+    match word.text.as_str() {
+        "works" => Some(NextCall::Works),
+        "fails-old" => Some(NextCall::FailsOld),
+        "fails-new" => Some(NextCall::FailsNew),
+        _ => None,
+    }
+}
+
+/// The side of a role before its first message.
+fn first_side(alloc: Global, role: Role) -> Option<Side>
+    ensures { IfSome result (λ side. side ≡ idle_of side) }
+{
+    let txn = TxnId::new(alloc, b"G1", b"T1").ok()?;
+    match role {
+        Role::Requester => Some(Side::Requester(Requester::idle(alloc, txn))),
+        Role::Responder => Some(Side::Responder(Responder::idle(alloc, txn))),
+    }
+}
+
+fn planned(alloc: Global, beginning: Beginning, role: Role) -> Option<Memory> {
+    let store = MemoryStore::new(alloc);
+    match beginning {
+        Beginning::Side => match Desk1::create(alloc, store, first_side(alloc, role)?) {
+            Ok(desk) => Some(Memory::Side(desk)),
+            Err(_) => None,
+        },
+        Beginning::Desk => match Desk::create(alloc, store, role) {
+            Ok(desk) => Some(Memory::Desk(desk)),
+            Err(_) => None,
+        },
+    }
+}
+
+fn limited(alloc: Global, beginning: Beginning, role: Role, saves: u32) -> Option<Memory> {
+    let store = LimitedStore::new(alloc, saves);
+    match beginning {
+        Beginning::Side => match Desk1::create(alloc, store, first_side(alloc, role)?) {
+            Ok(desk) => Some(Memory::LimitedSide(desk)),
+            Err(_) => None,
+        },
+        Beginning::Desk => match Desk::create(alloc, store, role) {
+            Ok(desk) => Some(Memory::LimitedDesk(desk)),
+            Err(_) => None,
+        },
+    }
+}
+
+fn perform_on<K: Kept>(
+    alloc: Global,
+    page: &mut Page,
+    names: &Names,
+    kept: &mut K,
+    kind: MemoryCall,
+    call: &mut Call<'_>,
+) -> Option<()> {
+    let before = kept.view(alloc)?;
+    answer(alloc, page, names, kept, kind, call)?;
+    let after = kept.view(alloc)?;
+    begin(page, if after.is(&before) { "stays" } else { "stands" });
+    kept.tell(page);
+    Some(())
+}
+
+/// Performs a call, and tells its answer.
+fn answer<K: Kept>(
+    alloc: Global,
+    page: &mut Page,
+    names: &Names,
+    kept: &mut K,
+    kind: MemoryCall,
+    call: &mut Call<'_>,
+) -> Option<()> {
+    match kind {
+        MemoryCall::Save => call.tell_answer(page, names, &kept.save(alloc)),
+        MemoryCall::Restart => call.tell_answer(page, names, &kept.restart(alloc)),
+        MemoryCall::Act => {
+            let answer = kept.act(alloc, call.words, &mut call.output)?;
+            call.tell_answer(page, names, &answer);
+        }
+        MemoryCall::Take => {
+            let answer = kept.take(alloc, &mut call.source, &mut call.output);
+            call.tell_answer(page, names, &answer);
+        }
+        MemoryCall::Send => {
+            let answer = kept.send(alloc, call.words, &mut call.output)?;
+            call.tell_answer(page, names, &answer);
+        }
+        MemoryCall::Status => {
+            let answer = kept.status(alloc, &mut call.output);
+            call.tell_answer(page, names, &answer);
+        }
+    }
+    Some(())
+}

@@ -1,0 +1,53 @@
+//! What is seen of what lies in memory.
+
+use crate::page::Page;
+use ill_saved::{Desk, Desk1, Side, Store, encode_record, encode_record2};
+use std::alloc::Global;
+
+/// The record, and how many messages of each side are released.
+#[derive(Drop)]
+pub struct View {
+    record: Vec<u8>,
+    released: Vec<u8>,
+}
+
+impl View {
+    /// What is seen of one side.
+    pub fn of_side<S: Store>(alloc: Global, desk: &Desk1<S>) -> Option<View> {
+        Some(View {
+            record: encode_record(alloc, desk.side()).ok()?,
+            released: Vec::from_slice(alloc, &[desk.released()]).ok()?,
+        })
+    }
+
+    /// What is seen of a desk of many transactions.
+    pub fn of_desk<S: Store>(alloc: Global, desk: &Desk<S>) -> Option<View> {
+        let mut released = Vec::new(alloc);
+        for place in 0..desk.sides().len() {
+            let side = desk.sides().at(place)?;
+            released.push(desk.released(side.txn())).ok()?;
+        }
+        let record = encode_record2(alloc, desk.sides()).ok()?;
+        Some(View { record, released })
+    }
+
+    /// Whether the same is seen of both.
+    pub fn is(&self, other: &View) -> bool {
+        self.record.as_slice() == other.record.as_slice()
+            && self.released.as_slice() == other.released.as_slice()
+    }
+}
+
+/// Tells how a side stands: its state, its due date, and how many of its messages are released and issued.
+pub fn tell_side(page: &mut Page, side: &Side, released: u8) {
+    page.show(&side.state());
+    page.text(" ");
+    match side.due() {
+        Some(day) => page.push(&day.digits()),
+        None => page.text("-"),
+    }
+    page.text(" ");
+    page.show(&released);
+    page.text("/");
+    page.show(&side.issued_count());
+}

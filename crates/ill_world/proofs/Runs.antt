@@ -7,25 +7,26 @@ use Rattle.ill_values.specs.TxnId.{Qualifiers}
 use Rattle.ill_world.specs.World.{Parties, happens, run_by, run_of}
 use Rattle.ill_world.specs.Invariant.{Stands}
 
-run_next : (w new : Parties) (events : List Event) (event : Event) (outcome : Outcome) → happens w event ≡ (outcome, new) → run_of w (event ∷ events) ≡ run_of new events
-unfolding run_by
-run_next w new events event outcome happened = ap (λ (after : Outcome × Parties). run_of after.1 events) happened
+module _ {W E O : Type 0} (happening : W → E → O × W) where
+  run_next : (w new : W) (events : List E) (event : E) (outcome : O) → happening w event ≡ (outcome, new) → run_by happening w (event ∷ events) ≡ run_by happening new events
+  unfolding run_by
+  run_next w new events event outcome happened = ap (λ (after : O × W). run_by happening after.1 events) happened
 
--- the next event leads on
-pub run_on : (w new : Parties) (events : List Event) (i : ℕ) (event : Event) (outcome : Outcome) → i < length events → event ≡ get_or events i event → happens w event ≡ (outcome, new)
-    → run_of w (drop i events) ≡ run_of new (drop (i + 1) events)
-run_on w new events i event outcome less is happened =
-    let first = drop-cons events i event less ∙ ap (λ e. e ∷ drop (suc i) events) (sym is) ∙ ap (λ j. event ∷ drop j events) (sym (add-one i)) in
-    ap (run_of w) first ∙ run_next w new (drop (i + 1) events) event outcome happened
+  -- the next event leads on
+  pub run_on : (w new : W) (events : List E) (i : ℕ) (event : E) (outcome : O) → i < length events → event ≡ get_or events i event → happening w event ≡ (outcome, new)
+      → run_by happening w (drop i events) ≡ run_by happening new (drop (i + 1) events)
+  run_on w new events i event outcome less is happened =
+      let first = drop-cons events i event less ∙ ap (λ e. e ∷ drop (suc i) events) (sym is) ∙ ap (λ j. event ∷ drop j events) (sym (add-one i)) in
+      ap (run_by happening w) first ∙ run_next w new (drop (i + 1) events) event outcome happened
 
-run_of_none : (w : Parties) (events : List Event) → length events ≡ 0 → run_of w events ≡ w
-unfolding run_by
-run_of_none w [] none = refl
-run_of_none w (event ∷ events) none = absurd (omega (arith, none))
+  run_of_none : (w : W) (events : List E) → length events ≡ 0 → run_by happening w events ≡ w
+  unfolding run_by
+  run_of_none w [] none = refl
+  run_of_none w (event ∷ events) none = absurd (omega (arith, none))
 
--- no event is left
-pub run_ended : (w : Parties) (events : List Event) (i : ℕ) → length events ≤ i → run_of w (drop i events) ≡ w
-run_ended w events i all = run_of_none w (drop i events) (omega (arith, length-drop i events, all))
+  -- no event is left
+  pub run_ended : (w : W) (events : List E) (i : ℕ) → length events ≤ i → run_by happening w (drop i events) ≡ w
+  run_ended w events i all = run_of_none w (drop i events) (omega (arith, length-drop i events, all))
 
 -- ---- what every world of a run keeps
 

@@ -7,7 +7,7 @@ use Rattle.ill_saved.specs.declared.role.Role.TheVariants as who
 use Rattle.ill_world.specs.declared.event.Event.{Event}
 use Rattle.ill_world.specs.declared.event.Event.TheVariants as events
 use Rattle.ill_world.specs.declared.event.Outcome.{Outcome}
-use Rattle.ill_world.specs.World.{Party, Parties, first_party, first_world, party, with_party, who_of, happens_to, happens}
+use Rattle.ill_world.specs.World.{Party, Parties, TwoOf, happens_at, first_party, first_world, party, with_party, who_of, happens_to, happens}
 use Rattle.ill_saved.specs.Side.{idle_side, other}
 use Rattle.ill_world.specs.PartyView.{Gives}
 use Rattle.ill_world.specs.Invariant.{Stands}
@@ -25,29 +25,32 @@ first_is txn t u x y p q copied again idle_x idle_y new_x new_y =
 
 -- ---- one event of the world, by one of a party
 
-happens_by : Parties → Who → Event → Outcome × Parties
-happens_by w of event = ((happens_to (party w of) (party w (other of)).sent event).0, with_party w of (happens_to (party w of) (party w (other of)).sent event).1)
-
-stays_whole : (w : Parties) (of : Who) → with_party w of (party w of) ≡ w
+stays_whole : {P : Type 0} (w : TwoOf P) (of : Who) → with_party w of (party w of) ≡ w
 stays_whole w who.Requester = refl
 stays_whole w who.Responder = refl
 
+-- what one of two gives, both give
+pub both_give : {M O P : Type 0} (happening : P → P → O × P) (w : TwoOf P) (at of : Who) (result : Result O M) (new : P) → at ≡ of
+    → Gives (happening (party w of) (party w (other of))) (party w of) result new → Gives (happens_at w at happening) w result (with_party w of new)
+both_give {O = O} {P = P} happening w at of (Ok outcome) new is gives = ap (λ o. happens_at w o happening) is ∙ ap (λ (after : O × P). (after.0, with_party w of after.1)) gives
+both_give happening w at of (Err memory) new is same = ap (with_party w of) same ∙ stays_whole w of
+
 pub world_gives : {M : Type 0} → (w : Parties) (event : Event) (of : Who) (result : Result Outcome M) (new : Party) → who_of event ≡ of
     → Gives (happens_to (party w of) (party w (other of)).sent event) (party w of) result new → Gives (happens w event) w result (with_party w of new)
-unfolding happens_by
-world_gives w event of (Ok outcome) new is gives =
-    ap (λ o. happens_by w o event) is ∙ ap (λ (after : Outcome × Party). (after.0, with_party w of after.1)) gives
-world_gives w event of (Err memory) new is same = ap (with_party w of) same ∙ stays_whole w of
+world_gives w event of result new is gives = both_give (λ (p : Party) (partner : Party). happens_to p partner.sent event) w (who_of event) of result new is gives
+
+-- what held before holds after, where it does after what is given
+pub given_keeps : {M O P : Type 0} (F : P → Type 0) (expected : O × P) (old new : P) (result : Result O M) → Gives expected old result new → F old → F expected.1 → F new
+given_keeps {O = O} {P = P} F expected old new (Ok outcome) gives before after = subst (λ (x : O × P). F x.1) gives after
+given_keeps F expected old new (Err memory) same before after = subst F (sym same) before
 
 pub still_stands : {M : Type 0} → (txn : Qualifiers) (w new : Parties) (event : Event) (result : Result Outcome M) → ((w : Parties) (event : Event) → Stands txn w → Stands txn (happens w event).1)
     → Gives (happens w event) w result new → Stands txn w → Stands txn new
-still_stands txn w new event (Ok outcome) after gives stands = subst (λ (x : Outcome × Parties). Stands txn x.1) gives (after w event stands)
-still_stands txn w new event (Err memory) after same stands = subst (Stands txn) (sym same) stands
+still_stands txn w new event result after gives stands = given_keeps (Stands txn) (happens w event) w new result gives stands (after w event stands)
 
 pub same_dates : (w : Parties) (event : Event) → KeepsDates w event w
 same_dates w (events.Restart who.Requester) = (tt, inr (inl refl))
 same_dates w event = (inr (inl refl), inr (inl refl))
 
 pub dates_of : {M : Type 0} → (w new : Parties) (event : Event) (result : Result Outcome M) → KeepsDates w event (happens w event).1 → Gives (happens w event) w result new → KeepsDates w event new
-dates_of w new event (Ok outcome) keeps gives = subst (λ (x : Outcome × Parties). KeepsDates w event x.1) gives keeps
-dates_of w new event (Err memory) keeps same = subst (KeepsDates w event) (sym same) (same_dates w event)
+dates_of w new event result keeps gives = given_keeps (KeepsDates w event) (happens w event) w new result gives (same_dates w event) keeps

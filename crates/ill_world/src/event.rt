@@ -2,6 +2,7 @@
 
 ghost use Rattle.std.specs.Prelude.{◌≡◌};
 ghost use Rattle.ill_world.specs.World.{who_of};
+ghost use Rattle.ill_world.specs.Desks.{plain};
 ghost use Rattle.ill_world.specs.Trace.{outcome_word, desk_outcome_word, taking_word, refusal_word};
 
 use crate::bytes::Bytes;
@@ -80,6 +81,24 @@ pub enum DeskEvent {
     Noise(Who, Bytes),
     /// The desk begins again from the record that has landed.
     Restart(Who),
+}
+
+impl DeskEvent {
+    /// The desk that it happens to.
+    pub fn who(&self) -> Who
+        ensures { result ≡ who_of (plain self.now) }
+    {
+        match self {
+            DeskEvent::Wish(_, _) => Who::Requester,
+            DeskEvent::Deed(_, _, _) => Who::Responder,
+            DeskEvent::Save(who)
+            | DeskEvent::SaveFault { who, .. }
+            | DeskEvent::Send(who, _, _)
+            | DeskEvent::Deliver(who, _, _)
+            | DeskEvent::Noise(who, _)
+            | DeskEvent::Restart(who) => *who,
+        }
+    }
 }
 
 /// What is seen of an event. Those from `Refused` on to `Forged` change nothing, and neither does

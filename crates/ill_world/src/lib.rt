@@ -7,6 +7,7 @@ mod bytes;
 pub mod desk_laws;
 mod desk_party;
 mod desk_sent;
+mod desk_world;
 mod event;
 mod fault;
 pub mod laws;
@@ -23,6 +24,7 @@ pub mod words;
 mod world;
 
 pub use bytes::Bytes;
+pub use desk_world::{DeskWorld, run_desks};
 pub use event::{DeskEvent, DeskOutcome, Event, Outcome, Who};
 pub use fault::SimFault;
 pub use simulation::simulate;

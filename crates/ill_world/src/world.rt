@@ -168,7 +168,7 @@ fn perform(
 }
 
 /// The same wish, on its own memory.
-fn copy(alloc: Global, wish: &Wish) -> Result<Wish, OutOfMemory>
+pub(crate) fn copy(alloc: Global, wish: &Wish) -> Result<Wish, OutOfMemory>
     ensures { IfOk result (λ copy. copy ≡ wish.now) }
 {
     Ok(match wish {

@@ -1,0 +1,156 @@
+//! Two desks of many transactions, with what they have sent.
+
+ghost use Rattle.std.specs.Prelude.{◌≡◌, IfOk};
+ghost use Rattle.ill_values.specs.TxnId.{Qualifiers};
+ghost use Rattle.ill_saved.specs.Many.{held_for, sides_held};
+ghost use Rattle.ill_world.specs.World.{party, who_of};
+ghost use Rattle.ill_world.specs.Desks as model;
+ghost use Rattle.ill_world.specs.Desks.{plain, project, Projects};
+ghost use Rattle.ill_world.specs.Agreement.{KeepsDates};
+ghost use Rattle.ill_world.specs.DeskSafety.{DesksStand, ArrivesAt, IsSafeDeskRun, IsAgreeingDeskRun};
+ghost use Rattle.ill_world.specs.PartyView.{Gives};
+
+use crate::desk_laws::{
+    desk_events_are_events, desks_stand, due_dates_stay_at_desks, every_desk_run_agrees,
+    every_desk_run_is_safe, one_arrival_at_a_desk_is_enough,
+};
+use crate::desk_party::{DeskParty, heard};
+use crate::event::{DeskEvent, DeskOutcome, Outcome, Who};
+use crate::world::copy;
+use ill_saved::{Action, Sides};
+use ill_values::{OutOfMemory, TxnId};
+use std::alloc::Global;
+use std::marker::Model;
+
+/// The two desks of two libraries, with their stores and what they have sent.
+#[derive(Drop)]
+pub struct DeskWorld {
+    requester: DeskParty,
+    responder: DeskParty,
+}
+
+impl Model for DeskWorld {
+    ghost Value = { model.DeskParties };
+
+    ghost view = { λ w. record { requester = w.requester; responder = w.responder } };
+
+    ghost invariant = { λ w. DesksStand (record { requester = w.requester; responder = w.responder }) };
+}
+
+impl DeskWorld {
+    /// Two desks that hold nothing: nothing is saved, and nothing was sent.
+    pub fn new(alloc: Global) -> Result<DeskWorld, OutOfMemory>
+        ensures { IfOk result (λ world. world ≡ model.first_desks) }
+    {
+        desks_stand();
+        Ok(DeskWorld {
+            requester: DeskParty::new(alloc, Who::Requester)?,
+            responder: DeskParty::new(alloc, Who::Responder)?,
+        })
+    }
+
+    /// Performs an event, and answers what is seen of it. If memory runs out, nothing has changed.
+    ///
+    /// In each transaction it is one event of `World`, with the same outcome, or changes nothing. At every
+    /// event but its restart the requester's due date in each, once it is there, stays or rises. One
+    /// `Deliver` of the message that ended a request leads the requester's side to its outcome, and one of a
+    /// Returned the responder's to RETURNED, or the item is checked in.
+    pub fn step(&mut self, alloc: Global, event: &DeskEvent) -> Result<DeskOutcome, OutOfMemory>
+        ensures gives { Gives (model.desks_happen self.old event.now) self.old result self.new }
+        ensures projects { (txn : Qualifiers) → Projects txn self.old event.now }
+        ensures dates { (txn : Qualifiers) →
+            KeepsDates (project txn self.old) (plain event.now) (project txn self.new) }
+        ensures arrives { ArrivesAt self.old event.now }
+    {
+        desks_stand();
+        desk_events_are_events();
+        due_dates_stay_at_desks();
+        one_arrival_at_a_desk_is_enough();
+        happen(&mut self.requester, &mut self.responder, alloc, event)
+    }
+
+    /// The sides that the requester's desk holds, as they are in memory.
+    pub fn requester(&self) -> &Sides
+        ensures { result.now ≡ sides_held self.now.requester.live }
+    {
+        self.requester.sides()
+    }
+
+    /// The sides that the responder's desk holds, as they are in memory.
+    pub fn responder(&self) -> &Sides
+        ensures { result.now ≡ sides_held self.now.responder.live }
+    {
+        self.responder.sides()
+    }
+
+    /// How many messages of a transaction are released at a desk: those with numbers up to this one may be
+    /// sent, and none where it is not held.
+    pub fn released(&self, who: Who, txn: &TxnId) -> u8
+        ensures { result ≡ (held_for txn.now (party self.now who).live).released }
+    {
+        match who {
+            Who::Requester => self.requester.released(txn),
+            Who::Responder => self.responder.released(txn),
+        }
+    }
+}
+
+/// The two desks after these events, from desks on that hold nothing.
+///
+/// Every world on the way is safe in each transaction, and both sides of each agree, as `run` says of one.
+pub fn run_desks(alloc: Global, events: &[DeskEvent]) -> Result<DeskWorld, OutOfMemory>
+    ensures runs { IfOk result (λ world. world ≡ model.desks_run model.first_desks events.now) }
+    ensures safe { IsSafeDeskRun model.first_desks events.now }
+    ensures agrees { IsAgreeingDeskRun model.first_desks events.now }
+{
+    every_desk_run_is_safe();
+    every_desk_run_agrees();
+    let mut world = DeskWorld::new(alloc)?;
+    for event in events {
+        world.step(alloc, event)?;
+    }
+    Ok(world)
+}
+
+/// Performs an event of two desks.
+fn happen(
+    requester: &mut DeskParty,
+    responder: &mut DeskParty,
+    alloc: Global,
+    event: &DeskEvent,
+) -> Result<DeskOutcome, OutOfMemory>
+    ensures { Gives
+        (model.desks_happen (record { requester = requester.old; responder = responder.old }) event.now)
+        (record { requester = requester.old; responder = responder.old }) result
+        (record { requester = requester.new; responder = responder.new }) }
+{
+    match event.who() {
+        Who::Requester => perform(requester, responder, alloc, event),
+        Who::Responder => perform(responder, requester, alloc, event),
+    }
+}
+
+/// Performs an event of a desk. The other one has sent what it may deliver.
+fn perform(
+    party: &mut DeskParty,
+    other: &DeskParty,
+    alloc: Global,
+    event: &DeskEvent,
+) -> Result<DeskOutcome, OutOfMemory>
+    ensures { Gives (model.desk_happens_to party.old other.now.sent event.now)
+        party.old result party.new }
+{
+    match event {
+        DeskEvent::Wish(txn, wish) => party.act(alloc, txn, &Action::Wish(copy(alloc, wish)?)),
+        DeskEvent::Deed(txn, deed, today) => party.act(alloc, txn, &Action::Deed(*deed, *today)),
+        DeskEvent::Save(_) => party.save(alloc),
+        DeskEvent::SaveFault { landed, .. } => party.fail_to_save(alloc, *landed),
+        DeskEvent::Send(_, txn, number) => party.send(alloc, txn, *number),
+        DeskEvent::Deliver(_, txn, number) => match other.sent(txn, *number) {
+            Some(message) => party.take(alloc, message),
+            None => Ok(DeskOutcome::Plain(Outcome::NotSent)),
+        },
+        DeskEvent::Noise(_, bytes) => Ok(DeskOutcome::Plain(heard(alloc, bytes.as_slice())?)),
+        DeskEvent::Restart(_) => party.restart(alloc),
+    }
+}

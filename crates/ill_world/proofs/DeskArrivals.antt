@@ -1,24 +1,20 @@
 -- One arrival of the end of a request, or of a Returned, is enough at a desk too: the transaction is held there.
-use Rattle.std.proofs.Common.{rules, ◌≡◌, ℕ, nat_lt, length, zero, suc, Bool, true, false, ◌&&◌, not, if◌then◌else◌, List, [], ◌∷◌, Option, Some, None, is_some, Result, Ok, Err, refl, sym, ap, ◌∙◌, subst, true≢false}
+use Rattle.std.proofs.Common.{rules, ◌≡◌, ℕ, nat_lt, length, zero, suc, Bool, true, false, ◌&&◌, not, List, [], ◌∷◌, Option, Some, None, is_some, refl, sym, ap, ◌∙◌, subst, true≢false}
 use Rattle.ill_values.specs.TxnId.{Qualifiers}
 use Rattle.ill_values.specs.declared.apdu.Apdu.{Apdu}
 use Rattle.ill_core.specs.declared.state.State.{State}
 use Rattle.ill_core.specs.declared.state.State.TheVariants as states
-use Rattle.ill_core.specs.declared.refusal.Refusal.{Refusal}
-use Rattle.ill_core.specs.declared.refusal.Refusal.TheVariants.{WrongRole}
 use Rattle.ill_core.specs.State.{is_among}
 use Rattle.ill_core.specs.Bodies.{is_ill_request, is_returned, is_shipped}
 use Rattle.ill_core.specs.Issued.{message, has, is_none}
 use Rattle.ill_core.specs.Rules.{implies}
 use Rattle.ill_core.specs.ResponderFacts as responder
-use Rattle.ill_saved.specs.declared.fault.DeskFault.{DeskFault}
-use Rattle.ill_saved.specs.declared.fault.DeskFault.TheVariants as faults
 use Rattle.ill_saved.specs.declared.role.Role.{Role as Who}
 use Rattle.ill_saved.specs.declared.role.Role.TheVariants as who
 use Rattle.ill_saved.specs.declared.side.Side.{Side}
 use Rattle.ill_saved.specs.declared.side.Side.TheVariants as sides
-use Rattle.ill_saved.specs.Side.{other, issued_of, idle_side, takes}
-use Rattle.ill_saved.specs.Many.{Held, Holding, held_for, found_or, idle_held, reached, took as took_at, takes_reached, is_own, found_by, txn_held}
+use Rattle.ill_saved.specs.Side.{other, issued_of, idle_side}
+use Rattle.ill_saved.specs.Many.{Held, held_for, found_or, idle_held, found_by, txn_held}
 use Rattle.ill_saved.proofs.Finding.{same_self}
 use Rattle.ill_world.specs.declared.event.DeskEvent.{DeskEvent}
 use Rattle.ill_world.specs.declared.event.DeskEvent.TheVariants as desk_events
@@ -28,7 +24,7 @@ use Rattle.ill_world.specs.declared.event.Outcome.{Outcome}
 use Rattle.ill_world.specs.declared.event.DeskOutcome.{DeskOutcome}
 use Rattle.ill_world.specs.declared.event.DeskOutcome.TheVariants.{Plain, NoSuchTransaction, DeskFull}
 use Rattle.ill_world.specs.World.{sent_message, party, Parties, happens}
-use Rattle.ill_world.specs.Desks.{DeskParty, sent_for, DeskParties, plain, taking_seen, desk_receives, desks_happen, project, concerns, if_reached, IsSeenAs}
+use Rattle.ill_world.specs.Desks.{DeskParty, sent_for, DeskParties, plain, desks_happen, project, concerns, if_reached, IsSeenAs}
 use Rattle.ill_world.specs.Agreement.{Settles, settled_by, Arrives}
 use Rattle.ill_world.specs.Invariant.{RequesterSideStands, ResponderSideStands, Stands}
 use Rattle.ill_world.specs.DeskChanges.{IsPlain, Reaches, ReachesAt, ReachesSide}

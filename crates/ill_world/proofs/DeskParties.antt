@@ -1,15 +1,12 @@
 -- What a desk of many transactions answers, as a party of the model answers it.
-use Rattle.std.proofs.Common.{rules, length, ◌≡◌, Some, List, [], ℕ, Bool, true, false, if◌then◌else◌, Result, Ok, Err, refl, sym, ap, subst, ◌∙◌}
+use Rattle.std.proofs.Common.{rules, length, ◌≡◌, Some, List, [], ℕ, Result, Ok, Err, refl, sym, ap, subst, ◌∙◌}
 use Rattle.ill_values.specs.declared.apdu.Apdu.{Apdu}
 use Rattle.ill_der.specs.declared.fault.DerFault.{DerFault}
-use Rattle.ill_core.specs.declared.refusal.Refusal.{Refusal}
-use Rattle.ill_core.specs.declared.refusal.Refusal.TheVariants.{WrongRole}
 use Rattle.ill_core.specs.declared.taking.Taking.{Taking}
-use Rattle.ill_core.specs.Bodies.{is_ill_request}
 use Rattle.ill_saved.specs.declared.fault.DeskFault.{DeskFault}
 use Rattle.ill_saved.specs.declared.fault.DeskFault.TheVariants as faults
 use Rattle.ill_saved.specs.Side.{takes}
-use Rattle.ill_saved.specs.Many.{Holding, reached, takes_reached, desk_takes, is_own, ManyTakes}
+use Rattle.ill_saved.specs.Many.{Holding, desk_takes, ManyTakes}
 use Rattle.ill_der.specs.declared.fault.DerFault.TheVariants.{OutOfMemory}
 use Rattle.ill_der.specs.ShortForm.{Decodes}
 use Rattle.ill_world.specs.declared.event.Outcome.{Outcome}

@@ -5,7 +5,6 @@ use Rattle.ill_values.specs.declared.apdu.Apdu.{Apdu}
 use Rattle.ill_core.specs.declared.refusal.Refusal.{Refusal}
 use Rattle.ill_core.specs.declared.refusal.Refusal.TheVariants.{WrongRole}
 use Rattle.ill_core.specs.Bodies.{is_ill_request}
-use Rattle.ill_core.specs.Issued.{message}
 use Rattle.ill_saved.specs.declared.fault.DeskFault.{DeskFault}
 use Rattle.ill_saved.specs.declared.fault.DeskFault.TheVariants as faults
 use Rattle.ill_saved.specs.declared.role.Role.{Role as Who}
@@ -13,15 +12,14 @@ use Rattle.ill_saved.specs.declared.role.Role.TheVariants as who
 use Rattle.ill_saved.specs.declared.side.Side.{Side}
 use Rattle.ill_saved.specs.declared.side.Action.{Action}
 use Rattle.ill_saved.specs.declared.side.Action.TheVariants as actions
-use Rattle.ill_saved.specs.Side.{issued_of, other, acts, takes, role_for, begins}
+use Rattle.ill_saved.specs.Side.{other, acts, takes, role_for, begins}
 use Rattle.ill_saved.specs.Sides.{is_same_role, most_sides}
 use Rattle.ill_saved.specs.Many.{Held, Holding, found_by, txn_held, idle_held, held_or_begun, reached, acted as acted_at, acts_reached, desk_acts, took as took_at, takes_reached, is_own}
 use Rattle.ill_world.specs.declared.event.DeskEvent.{DeskEvent}
 use Rattle.ill_world.specs.declared.event.DeskEvent.TheVariants as events
 use Rattle.ill_world.specs.declared.event.DeskOutcome.{DeskOutcome}
-use Rattle.ill_world.specs.declared.event.DeskOutcome.TheVariants.{Plain}
 use Rattle.ill_world.specs.World.{party, sent_message}
-use Rattle.ill_world.specs.Desks.{DeskParty, DeskParties, sent_for, fault_seen, desk_decides, desk_sends, taking_seen, desk_receives, desks_happen}
+use Rattle.ill_world.specs.Desks.{DeskParty, DeskParties, sent_for, fault_seen, desk_decides, desk_sends, taking_seen, desk_receives}
 use Rattle.ill_world.specs.DeskSafety.{DesksStand}
 use Rattle.ill_world.specs.DeskChanges.{IsPlain, Reaches, ReachesAt, ReachesSide}
 use Rattle.ill_world.proofs.Outcomes.{responders_own, requesters_own}

@@ -2,7 +2,6 @@
 use Rattle.std.proofs.Common.{arith, ◌≡◌, ℕ, suc, ◌+◌, ◌<◌, ◌≤◌, List, [], ◌∷◌, length, drop, get_or, refl, sym, ap, ◌∙◌, drop-cons, add-one}
 use Rattle.std.proofs.lemmas.List.{length-drop}
 use Rattle.ill_world.specs.declared.event.Event.{Event}
-use Rattle.ill_world.specs.declared.event.Outcome.{Outcome}
 use Rattle.ill_values.specs.TxnId.{Qualifiers}
 use Rattle.ill_world.specs.World.{Parties, happens, run_by, run_of}
 use Rattle.ill_world.specs.Invariant.{Stands}

@@ -1,5 +1,5 @@
 -- What an event of desks may change, and when it reaches a side (this profile's own).
-use Rattle.std.specs.Prelude.{◌≡◌, ℕ, nat_lt, Bool, true, false, length, Option, Some, None}
+use Rattle.std.specs.Prelude.{◌≡◌, nat_lt, Bool, true, false, length, Option, Some, None}
 use Rattle.ill_values.specs.TxnId.{Qualifiers}
 use Rattle.ill_values.specs.declared.apdu.Apdu.{Apdu}
 use Rattle.ill_core.specs.Bodies.{is_ill_request}

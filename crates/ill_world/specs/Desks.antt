@@ -102,7 +102,7 @@ abbrev pub desk_sends : DeskParty → Qualifiers → ℕ → Option Held → Des
 desk_sends p txn n None = (NoSuchTransaction, p)
 desk_sends p txn n (Some held) =
     let after = sends_by p (λ a. record p { sent = with_sent_for txn p.sent n a })
-        (message (issued_of held.side) n) (nat_le n held.released) in
+    (message (issued_of held.side) n) (nat_le n held.released) in
     (Plain after.0, after.1)
 
 abbrev pub taking_seen : Result Taking DeskFault → DeskOutcome

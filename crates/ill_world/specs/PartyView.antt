@@ -11,7 +11,6 @@ use Rattle.ill_saved.specs.declared.store.NextCall.TheVariants.{Works}
 use Rattle.ill_saved.specs.Side.{idle_of}
 use Rattle.ill_saved.specs.Store.{MemoryStoreState}
 use Rattle.ill_saved.specs.Desk.{DeskOf, landed_side}
-use Rattle.ill_world.specs.declared.event.Outcome.{Outcome}
 use Rattle.ill_world.specs.World.{Party}
 
 -- ---- messages

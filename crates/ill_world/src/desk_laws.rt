@@ -10,7 +10,10 @@ ghost use Rattle.ill_world.specs.Changes.{KeepsSent};
 ghost use Rattle.ill_world.specs.DeskChanges.{DeskMayChange, ReachesSide, Shows};
 ghost use Rattle.ill_world.specs.DeskSafety.{ArrivesAt, DesksStand, IsSafeDeskRun, IsAgreeingDeskRun};
 
-use crate::laws::{few_outcomes_change, sent_stays_sent, due_dates_stay, one_arrival_is_enough, every_world_agrees, every_world_is_safe, world_stands};
+use crate::laws::{
+    due_dates_stay, every_world_agrees, every_world_is_safe, few_outcomes_change,
+    one_arrival_is_enough, sent_stays_sent, world_stands,
+};
 use ill_core::laws::{requester_is_quiet, responder_is_quiet};
 use ill_saved::laws::rows_grow;
 

@@ -91,7 +91,11 @@ fn put_among(
 
 /// Puts a value behind those of the map, under a key that it has not. If memory runs out, the map is as it
 /// was.
-fn insert_new<V: Drop>(map: &mut IndexMap<TxnId, V>, key: TxnId, value: V) -> Result<(), OutOfMemory>
+fn insert_new<V: Drop>(
+    map: &mut IndexMap<TxnId, V>,
+    key: TxnId,
+    value: V,
+) -> Result<(), OutOfMemory>
     requires new { get is_same_txn map.old key ≡ None }
     ensures done { OnOk result (map.new.entries ≡ map.old.entries ++ (key, value) ∷ []) }
     ensures unchanged { OnErr result (map.new.entries ≡ map.old.entries) }

@@ -16,7 +16,6 @@ mod message;
 mod party;
 mod performer;
 mod script;
-
 mod sent;
 mod simulation;
 mod trace;

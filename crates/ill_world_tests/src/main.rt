@@ -7,6 +7,7 @@
 //! nothing where all is right.
 #![tactic(auto)]
 
+mod desks;
 mod events;
 mod page;
 mod performing;

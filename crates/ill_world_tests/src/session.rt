@@ -2,6 +2,7 @@
 
 use crate::page::{INDENT, Page};
 use crate::performing::{print_script, print_trace};
+use crate::desks::{print_desk_run, print_desk_steps};
 use crate::places::{print_readers, print_writers};
 use crate::scripts::push_line;
 use crate::streams::End;
@@ -90,6 +91,8 @@ impl Session {
             "" | "#" => return Some(()),
             "steps" => return print_steps(self.alloc, answers, name),
             "run" => return print_run(self.alloc, answers, name),
+            "desk-steps" => return print_desk_steps(self.alloc, answers, name),
+            "desk-run" => return print_desk_run(self.alloc, answers, name),
             "ending" => return print_ending(self.alloc, answers, name),
             "each" => self.block = Block::Each,
             _ => self.block = Block::Script(call_of(word)?, Vec::new(self.alloc)),

@@ -4,7 +4,9 @@ use crate::any_desk::AnyDesk;
 use crate::files::Folder;
 use crate::judging::Outcome;
 use crate::words::Words;
-use crate::{codec, desks, held, records, scripts, sides, starts, stores, tool, values, worlds};
+use crate::{
+    codec, desk_worlds, desks, held, records, scripts, sides, starts, stores, tool, values, worlds,
+};
 use ill_saved::{Desk, Desk1, MemoryStore};
 use std::alloc::Global;
 
@@ -40,6 +42,7 @@ fn call_outcome(
         "Desk" => desk_outcome::<Desk<MemoryStore>>(alloc, name, words),
         "record" => record_outcome(alloc, name, words),
         "World" => world_outcome(alloc, name, words),
+        "DeskWorld" => desk_world_outcome(alloc, name, words),
         "tool" => tool::outcome(alloc, name, words),
         _ => value_outcome(alloc, call),
     }
@@ -114,6 +117,15 @@ fn world_outcome(alloc: Global, call: &str, words: &mut Words<'_>) -> Option<Out
         "step" => worlds::steps(alloc, words),
         "run" => worlds::runs(alloc),
         "readers" => worlds::shows(alloc),
+        _ => None,
+    }
+}
+
+fn desk_world_outcome(alloc: Global, call: &str, words: &mut Words<'_>) -> Option<Outcome> {
+    match call {
+        "new" => desk_worlds::begins(alloc),
+        "step" => desk_worlds::steps(alloc, words),
+        "run" => desk_worlds::runs(alloc),
         _ => None,
     }
 }

@@ -15,6 +15,7 @@
 mod any_desk;
 mod cases;
 mod codec;
+mod desk_worlds;
 mod desks;
 mod files;
 mod held;

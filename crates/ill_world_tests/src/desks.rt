@@ -52,12 +52,7 @@ fn second(alloc: Global) -> Option<TxnId> {
     TxnId::new(alloc, b"G1", b"T2").ok()
 }
 
-fn push_request(
-    alloc: Global,
-    events: &mut Vec<DeskEvent>,
-    txn: TxnId,
-    item: &[u8],
-) -> Option<()> {
+fn push_request(alloc: Global, events: &mut Vec<DeskEvent>, txn: TxnId, item: &[u8]) -> Option<()> {
     let item = Item::new(alloc, item).ok()?;
     let request = Wish::Request { expiry: None, item };
     events.push(DeskEvent::Wish(txn, request)).ok()
@@ -67,7 +62,9 @@ fn push_request(
 fn push_delivered(events: &mut Vec<DeskEvent>, txn: TxnId, same: TxnId) -> Option<()> {
     let one = Number::new(1)?;
     events.push(DeskEvent::Send(Who::Requester, txn, one)).ok()?;
-    events.push(DeskEvent::Deliver(Who::Responder, same, one)).ok()
+    events
+        .push(DeskEvent::Deliver(Who::Responder, same, one))
+        .ok()
 }
 
 /// Performs the events of this name one by one, and prints a line for each, of the transaction that was

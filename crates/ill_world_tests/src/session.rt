@@ -1,8 +1,8 @@
 //! The lines of the input, one after another.
 
+use crate::desks::{print_desk_run, print_desk_steps};
 use crate::page::{INDENT, Page};
 use crate::performing::{print_script, print_trace};
-use crate::desks::{print_desk_run, print_desk_steps};
 use crate::places::{print_readers, print_writers};
 use crate::scripts::push_line;
 use crate::streams::End;

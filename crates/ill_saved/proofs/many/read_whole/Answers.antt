@@ -1,5 +1,4 @@
-use Rattle.std.proofs.Common.{arith, rules, ◌≡◌, Ok, sym}
-use Rattle.ill_saved.specs.Records2.{records_at}
+use Rattle.std.proofs.Common.{arith, sym}
 use Rattle.ill_saved.proofs.Holdings.{read_consistent}
 use Rattle.ill_saved.proofs.many.read_whole.Goals as goal
 

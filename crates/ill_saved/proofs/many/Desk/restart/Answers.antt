@@ -1,8 +1,8 @@
-use Rattle.std.proofs.Common.{rules, ◌≡◌, true, Ok, Some, ap, sym, subst, ◌∙◌}
+use Rattle.std.proofs.Common.{rules, ◌≡◌, true, Ok, ap, sym, ◌∙◌}
 use Rattle.std.specs.Prelude.{option_map}
 use Rattle.ill_saved.specs.Side.{IsConsistent}
 use Rattle.ill_saved.specs.Ranges.{Each}
-use Rattle.ill_saved.specs.Many.{counts, landed_sides, sides_held, whole_of, held_of, LoadsOrNone}
+use Rattle.ill_saved.specs.Many.{landed_sides, sides_held, whole_of, held_of, LoadsOrNone}
 use Rattle.ill_saved.specs.Store.{Allows}
 use Rattle.ill_saved.proofs.Desks.{allows_done}
 use Rattle.ill_saved.proofs.Holdings.{holds_sides, as_many_counted, read_backed, restarts_with, landed_as_read, whole_held}

@@ -1,9 +1,9 @@
-use Rattle.std.proofs.Common.{rules, ◌≡◌, true, Ok, Some, ap, sym, subst, ◌∙◌}
+use Rattle.std.proofs.Common.{rules, ◌≡◌, true, Ok, Some, ap, sym, ◌∙◌}
 use Rattle.ill_saved.specs.Side.{IsConsistent}
 use Rattle.ill_saved.specs.Ranges.{Each}
 use Rattle.ill_saved.specs.Records2.{records_at, begins_as_records}
 use Rattle.ill_saved.specs.Desk.{Loads}
-use Rattle.ill_saved.specs.Many.{counts, landed_sides, sides_held, whole_of, held_of}
+use Rattle.ill_saved.specs.Many.{counts, landed_sides, whole_of, held_of}
 use Rattle.ill_saved.proofs.Holdings.{holds_sides, as_many_counted, read_backed, loads_landed, starts_with, whole_held}
 use Rattle.ill_saved.proofs.many.Desk.start.Goals as goal
 

@@ -36,13 +36,12 @@ use Rattle.ill_saved.specs.Ranges.{Each, IsSide}
 use Rattle.ill_saved.specs.Sides.{SidesOf, is_same_role, most_sides, found_by, put_by, side_with, put_refusal, put_last as put_side, OnlyThat}
 use Rattle.ill_der.specs.Format.{◌>>=◌}
 use Rattle.ill_der.specs.Laws.{IsBytes}
-use Rattle.ill_saved.specs.declared.fault.RecordFault.TheVariants as records
 use Rattle.ill_saved.specs.declared.store.NextCall.{NextCall}
 use Rattle.ill_saved.specs.Records.{record_at, record_spelling}
 use Rattle.ill_saved.specs.Records2.{AreSides, alone, read_alone, is_version_1, unsealed, sides_at, sides_spelling, records_at, begins_as_records}
-use Rattle.ill_saved.specs.Desk.{IsBackedBy, Loads, Restarts}
-use Rattle.ill_saved.specs.Many.{ManyOf, StartsMany, LoadsOrNone, IsManyLoadFault, Held, Holding, held_of, counts, txn_held, idle_held, whole, found_or, held_for, with_held, sides_held, whole_of, is_own, held_or_begun, reached, acted as acted_by, acts_reached, desk_acts, took as took_by, takes_reached, desk_takes, ManyActs, ManyTakesApdu, FirstActs, FirstTakes, landed_for, AreBackedBy, AreBackedByRead, landed_sides, AreBacked}
-use Rattle.ill_saved.proofs.Desks.{RowsGrow, RefusalsStay, itself_backs, no_less, no_fault, idle_consistent}
+use Rattle.ill_saved.specs.Desk.{IsBackedBy, Loads}
+use Rattle.ill_saved.specs.Many.{ManyOf, StartsMany, LoadsOrNone, Held, Holding, held_of, counts, txn_held, idle_held, whole, found_or, held_for, with_held, sides_held, whole_of, is_own, held_or_begun, reached, acted as acted_by, acts_reached, desk_acts, took as took_by, takes_reached, desk_takes, ManyActs, ManyTakesApdu, FirstActs, FirstTakes, landed_for, AreBackedBy, AreBackedByRead, landed_sides, AreBacked}
+use Rattle.ill_saved.proofs.Desks.{RowsGrow, RefusalsStay, itself_backs, no_less, idle_consistent}
 use Rattle.ill_saved.proofs.Held.{new_to, idle_txn, idle_role, acts_row, takes_row, found_plainly}
 use Rattle.ill_saved.proofs.Finding.{same_is, same_self, found_is, found_put, put_last, put_again, found_mapped, put_length, some_is}
 
@@ -567,23 +566,6 @@ restarts_with None role all loads = ap Ok (sym loads)
 pub landed_as_read : (bytes : Option (List ℕ)) (role : Role) (all : SidesOf) → landed_sides bytes role ≡ Ok all → landed_sides bytes all.role ≡ Ok all
 landed_as_read (Some bytes) role all read = read
 landed_as_read None role all read = ap (λ (s : SidesOf). Ok (record { role = s.role; sides = [] })) (sym (ok_is _ all read)) ∙ read
-
-not_loading : (fault : RecordFault) → fault ≡ records.OutOfMemory → IsManyLoadFault (faults.Saved fault) → ⊥
-not_loading fault is load = subst (λ f. IsManyLoadFault (faults.Saved f)) is load
-
-backed_read : (read : Result SidesOf RecordFault) (live : Holding) → AreBackedByRead read live → (all : SidesOf) × (read ≡ Ok all)
-backed_read (Ok all) live backed = (all, refl)
-backed_read (Err fault) live backed = absurd backed
-
--- where an honest store backs what is held, memory alone is wanted to load what has landed
-pub restart_fails_so : (bytes : Option (List ℕ)) (live : Holding) (new : SidesOf) (plan : Option NextCall) (fault : DeskFault) → AreBacked bytes live → LoadsOrNone bytes live.role (Err fault) → IsManyLoadFault fault
-    → Restarts (landed_sides bytes live.role) plan (Err fault) new
-restart_fails_so (Some bytes) live new plan (faults.Saved fault) backed loads is =
-    let read = backed_read (records_at bytes) live backed in
-    absurd (not_loading fault (no_fault (records_at bytes) (begins_as_records bytes) fault read.0 read.1 loads) is)
-restart_fails_so (Some bytes) live new plan faults.OutOfMemory backed loads is = tt
-restart_fails_so (Some bytes) live new plan fault backed loads is = absurd loads
-restart_fails_so None live new plan fault backed loads is = subst (λ f. Restarts (landed_sides None live.role) plan (Err f) new) (sym loads) tt
 
 -- ---- reading
 

@@ -73,7 +73,7 @@ _ill_read() {
 }
 
 _ill() {
-  local commands='new act take send status show check simulate help'
+  local commands='new act take send status show check simulate simulate-desks help'
   local word=${COMP_WORDS[COMP_CWORD]} command=${COMP_WORDS[1]} offered= arguments wanted
   COMPREPLY=()
   _ill_read

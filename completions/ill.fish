@@ -1,6 +1,6 @@
 # Completion of ill(1) in fish: commands, options, roles, files, their loans, and the first words of actions.
 
-set -l commands new act take send status show check simulate help
+set -l commands new act take send status show check simulate simulate-desks help
 
 # What may come next, a line, the command, a line, and the arguments that stand between the command and the
 # cursor, options left out, a line each. What may come next is `any` (an option too), `argument` (no option
@@ -91,6 +91,7 @@ complete -c ill -n "__ill_at 0 ''" -a status -d 'Show how each loan in a file st
 complete -c ill -n "__ill_at 0 ''" -a show -d 'Show each APDU on standard input'
 complete -c ill -n "__ill_at 0 ''" -a check -d 'Check and count the APDUs on standard input'
 complete -c ill -n "__ill_at 0 ''" -a simulate -d 'Perform a script of both sides'
+complete -c ill -n "__ill_at 0 ''" -a simulate-desks -d 'Perform a script of two desks'
 complete -c ill -n "__ill_at 0 ''" -a help -d 'Print the help of a command'
 complete -c ill -n '__ill_at 0 new act take send status' -F
 complete -c ill -n '__ill_at 1 new' -a 'requester responder'

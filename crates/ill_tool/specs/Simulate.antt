@@ -6,6 +6,7 @@ use Rattle.ill_values.specs.TxnId.{Qualifiers}
 use Rattle.ill_world.specs.declared.fault.SimFault.{SimFault}
 use Rattle.ill_world.specs.declared.fault.SimFault.TheVariants as simulation
 use Rattle.ill_world.specs.Simulation.{Simulates}
+use Rattle.ill_world.specs.DeskSimulation.{SimulatesDesks}
 use Rattle.ill_tool.specs.declared.fault.ToolFault.{ToolFault}
 use Rattle.ill_tool.specs.declared.fault.ToolFault.TheVariants.{Arguments, Script, Read, Write, OutOfMemory}
 
@@ -31,6 +32,13 @@ Performs (Ok txn) old new before after result =
     × (result ≡ tool_answer simulated)
 Performs (Err fault) old new before after result =
     (result ≡ Err Arguments) × Consumes old new [] × Appends before after []
+
+-- the same of a script of two desks, which takes no arguments
+abbrev pub PerformsDesks : Option (List ℕ) → Option (List ℕ) → Option (List ℕ) → Option (List ℕ) →
+    Result ℕ ToolFault → Type 0
+PerformsDesks old new before after result =
+    (simulated : Result ℕ SimFault) × SimulatesDesks old new before after simulated
+    × (result ≡ tool_answer simulated)
 
 -- the transaction id of the arguments, or that they are none, unless memory ran out
 abbrev pub GivesId : Result Qualifiers TextFault → Result Qualifiers ToolFault → Type 0

@@ -19,6 +19,8 @@ pub enum Request<'a> {
         /// The transaction qualifier that is wished for.
         transaction: &'a str,
     },
+    /// Perform a script of two desks: `ill simulate-desks`.
+    SimulateDesks,
     /// Begin a desk in a file: `ill new`.
     New {
         /// The path of the file.
@@ -73,11 +75,12 @@ enum Name {
     Show,
     Check,
     Simulate,
+    SimulateDesks,
 }
 
 /// All commands, in the order in which the help lists them: those that keep a desk in a file, and those
 /// that read standard input and keep nothing. clap is told of these and of no others.
-const NAMES: [Name; 8] = [
+const NAMES: [Name; 9] = [
     Name::New,
     Name::Act,
     Name::Take,
@@ -86,6 +89,7 @@ const NAMES: [Name; 8] = [
     Name::Show,
     Name::Check,
     Name::Simulate,
+    Name::SimulateDesks,
 ];
 
 impl Name {
@@ -100,6 +104,7 @@ impl Name {
             Name::Show => "show",
             Name::Check => "check",
             Name::Simulate => "simulate",
+            Name::SimulateDesks => "simulate-desks",
         }
     }
 
@@ -137,6 +142,7 @@ fn requested<'a>(
         Some(Name::Show) => Ok(Request::Show),
         Some(Name::Check) => Ok(Request::Check),
         Some(Name::Simulate) => simulate_request(alloc, matches),
+        Some(Name::SimulateDesks) => Ok(Request::SimulateDesks),
         None => Err(unknown(alloc)?),
     }
 }
@@ -222,6 +228,7 @@ fn subcommand<'a>(alloc: Global, name: Name) -> Result<Command<'a>, Error> {
         Name::Show => Ok(show(command)),
         Name::Check => Ok(check(command)),
         Name::Simulate => simulate(alloc, command),
+        Name::SimulateDesks => Ok(simulate_desks(command)),
     }
 }
 
@@ -319,6 +326,14 @@ fn simulate<'a>(alloc: Global, command: Command<'a>) -> Result<Command<'a>, Erro
         .arg(argument(alloc, GROUP, help::GROUP))?
         .arg(argument(alloc, TRANSACTION, help::TRANSACTION))?;
     Ok(command)
+}
+
+/// Adds what `ill simulate-desks` has.
+fn simulate_desks<'a>(command: Command<'a>) -> Command<'a> {
+    command
+        .about("Perform a script of two desks, from standard input")
+        .long_about(help::SIMULATE_DESKS)
+        .after_long_help(help::SIMULATE_DESKS_EXAMPLE)
 }
 
 /// The file of a desk.

@@ -14,8 +14,8 @@ begins it, `act` does what the library decides in a loan, `take` takes what
 comes from other libraries, `send` gives a message to carry there, and `status`
 tells how each loan stands. A loan is named by its GROUP and TRANSACTION. How
 messages are carried, by mail or by hand, is left to the libraries. `show`,
-`check` and `simulate` keep nothing. `ill COMMAND --help` tells more of a
-command.
+`check`, `simulate` and `simulate-desks` keep nothing. `ill COMMAND --help`
+tells more of a command.
 
 From the start of a command on a file to its end no other may run on that file,
 while a `take` waits for its input too. No lock is taken, and one on the file
@@ -356,3 +356,30 @@ pub const SIMULATE_EXAMPLE: &str = "Example:
   $ printf 'requester request none Maps\\nsave requester\\n' | ill simulate G1 T1
   1 done requester PENDING - 0/1 responder IDLE - 0/0
   2 saved requester PENDING - 1/1 responder IDLE - 0/0";
+
+pub const SIMULATE_DESKS: &str = "\
+Perform a script of two desks, from standard input.
+
+A desk is the loans of one library, all in one role; both begin without a loan.
+The script comes from standard input, as in `ill simulate-desks < FILE`, and has
+the lines of a script of `simulate` and one more:
+  use GROUP TRANSACTION
+
+It is no event: the lines behind it are in this loan. An event before the first
+of them is a bad line. A save, a faulted save and a restart are those of a whole
+desk. For each event a line is written to standard output: its number, what is
+seen of it, and how both sides of the loan in use stand after it, IDLE where a
+desk does not hold it. No file is read or written.
+
+Two words are seen at desks alone: `no-such-transaction` of what names a loan
+that the desk does not hold and does not begin it, and `desk-full` of what would
+begin one more than 1,000.
+
+The exit status is 0 where the whole script was performed. It is 2 for a line
+that is no event and no use, and 3 where the input cannot be read, the output
+cannot be written, or memory runs out. The lines of the events before are
+written.";
+
+pub const SIMULATE_DESKS_EXAMPLE: &str = "Example:
+  $ printf 'use G1 T1\\nrequester request none Maps\\n' | ill simulate-desks
+  1 done requester PENDING - 0/1 responder IDLE - 0/0";

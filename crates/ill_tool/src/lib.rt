@@ -29,7 +29,7 @@ pub use ill_saved::DeskFault;
 pub use new::{run_desk_new, run_new};
 pub use send::{run_desk_send, run_send};
 pub use show::run_show;
-pub use simulate::run_simulate;
+pub use simulate::{run_simulate, run_simulate_desks};
 pub use status::{run_desk_status, run_status};
 pub use take::{run_desk_take, run_take};
 pub use words::run_words;

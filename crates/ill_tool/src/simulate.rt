@@ -1,11 +1,11 @@
-//! The command `simulate`.
+//! The commands `simulate` and `simulate-desks`.
 
 ghost use Rattle.ill_values.specs.TxnId.{txn_id_of};
-ghost use Rattle.ill_tool.specs.Simulate.{GivesId, Performs};
+ghost use Rattle.ill_tool.specs.Simulate.{GivesId, Performs, PerformsDesks};
 
 use crate::fault::ToolFault;
 use ill_values::{TextFault, TxnId};
-use ill_world::simulate;
+use ill_world::{simulate, simulate_desks};
 use std::alloc::Global;
 use std::io::{Read, Write};
 
@@ -28,6 +28,22 @@ pub fn run_simulate<R: Read, W: Write>(
 {
     let txn = id(alloc, group, transaction)?;
     match simulate(alloc, &txn, reader, writer) {
+        Ok(count) => Ok(count),
+        Err(fault) => Err(fault.into()),
+    }
+}
+
+/// Performs a script of two desks, which names its transactions itself, and writes a line for each event.
+/// It answers the number of events. What was written before a fault is told at `run_simulate`.
+pub fn run_simulate_desks<R: Read, W: Write>(
+    alloc: Global,
+    reader: &mut R,
+    writer: &mut W,
+) -> Result<u32, ToolFault>
+    ensures { PerformsDesks (R.remaining reader.old) (R.remaining reader.new)
+        (W.contents writer.old) (W.contents writer.new) result }
+{
+    match simulate_desks(alloc, reader, writer) {
         Ok(count) => Ok(count),
         Err(fault) => Err(fault.into()),
     }

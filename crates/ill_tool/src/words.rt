@@ -8,7 +8,7 @@ use crate::command_line::{Request, read_words};
 use crate::fault::ToolFault;
 use crate::file::{act, new, send, status, take};
 use crate::show::run_show;
-use crate::simulate::run_simulate;
+use crate::simulate::{run_simulate, run_simulate_desks};
 use clap::error::ErrorKind;
 use ill_saved::DeskFault;
 use std::alloc::Global;
@@ -81,6 +81,7 @@ fn run<T: Files, R: Read, W: Write>(
         Request::Simulate { group, transaction } => {
             run_simulate(alloc, group, transaction, reader, writer).and(Ok(true))
         }
+        Request::SimulateDesks => run_simulate_desks(alloc, reader, writer).and(Ok(true)),
         Request::New { file, role } => new(rt, alloc, file, role, writer),
         Request::Act {
             file,

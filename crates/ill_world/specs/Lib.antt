@@ -7,6 +7,8 @@ pub mod Trace
 pub mod Play
 pub mod Simulation
 pub mod Simulating
+pub mod DeskScript
+pub mod DeskSimulation
 pub mod Safety
 pub mod Invariant
 pub mod DeskSafety

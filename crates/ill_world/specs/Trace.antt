@@ -15,7 +15,10 @@ use Rattle.ill_world.specs.declared.event.Outcome.TheVariants.{Done, Saved, Faul
 use Rattle.ill_world.specs.declared.event.DeskOutcome.{DeskOutcome}
 use Rattle.ill_world.specs.declared.event.DeskOutcome.TheVariants.{Plain, NoSuchTransaction, DeskFull}
 use Rattle.ill_world.specs.declared.trace.Shown.{Shown}
+use Rattle.ill_values.specs.TxnId.{Qualifiers}
+use Rattle.ill_saved.specs.Many.{held_for}
 use Rattle.ill_world.specs.World.{Party, Parties}
+use Rattle.ill_world.specs.Desks.{DeskParty, DeskParties}
 
 -- what a message did, in a word
 abbrev pub taking_word : Taking → List ℕ
@@ -102,3 +105,12 @@ line_of number word requester responder =
 unfoldable pub line : ℕ → Outcome → Parties → List ℕ
 line number outcome after =
     line_of number (outcome_word outcome) (party_shown after.requester) (party_shown after.responder)
+
+-- what is shown of a transaction at a desk: of an idle side, where it is not held
+abbrev pub desk_shown : Qualifiers → DeskParty → Shown
+desk_shown txn p = shown_of (held_for txn p.live).side (held_for txn p.live).released
+
+-- the line of the event with this number, with how both sides of a transaction stand
+unfoldable pub desk_line : ℕ → Qualifiers → DeskOutcome → DeskParties → List ℕ
+desk_line number txn outcome after =
+    line_of number (desk_outcome_word outcome) (desk_shown txn after.requester) (desk_shown txn after.responder)

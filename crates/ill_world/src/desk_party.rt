@@ -8,11 +8,13 @@ ghost use Rattle.ill_world.specs.Desks as desks;
 ghost use Rattle.ill_world.specs.declared.event.DeskOutcome.TheVariants as desk_outcomes;
 ghost use Rattle.ill_world.specs.declared.event.Outcome.TheVariants as outcomes;
 ghost use Rattle.ill_world.specs.PartyView.{Gives};
+ghost use Rattle.ill_world.specs.Trace.{desk_shown};
 ghost use Rattle.ill_world.specs.DeskView.{desk_party_of, FaultSeen, IsReadyDesk};
 
 use crate::desk_sent::DeskSent;
 use crate::event::{DeskOutcome, Outcome, Who};
 use crate::message::Message;
+use crate::trace::Shown;
 use ill_der::{DerFault, decode};
 use ill_saved::laws::sides_read_again;
 use ill_saved::{Action, Desk, DeskFault, MemoryStore, NextCall, Sides, StoreFault};
@@ -163,6 +165,16 @@ impl DeskParty {
         ensures { result ≡ (held_for txn.now self.now.live).released }
     {
         self.desk.released(txn)
+    }
+
+    /// What a trace shows of the side of this transaction, which is idle where it is not held.
+    pub fn shown(&self, txn: &TxnId) -> Shown
+        ensures { result ≡ desk_shown txn.now self.now }
+    {
+        match self.desk.sides().get(txn) {
+            Some(side) => Shown::of(side, self.desk.released(txn)),
+            None => Shown::idle(),
+        }
     }
 }
 

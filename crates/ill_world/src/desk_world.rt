@@ -1,6 +1,6 @@
 //! Two desks of many transactions, with what they have sent.
 
-ghost use Rattle.std.specs.Prelude.{◌≡◌, IfOk};
+ghost use Rattle.std.specs.Prelude.{◌≡◌, ◌++◌, IfOk, OnOk};
 ghost use Rattle.ill_values.specs.TxnId.{Qualifiers};
 ghost use Rattle.ill_saved.specs.Many.{held_for, sides_held};
 ghost use Rattle.ill_world.specs.World.{party, who_of};
@@ -9,6 +9,7 @@ ghost use Rattle.ill_world.specs.Desks.{plain, project, Projects};
 ghost use Rattle.ill_world.specs.Agreement.{KeepsDates};
 ghost use Rattle.ill_world.specs.DeskSafety.{DesksStand, ArrivesAt, IsSafeDeskRun, IsAgreeingDeskRun};
 ghost use Rattle.ill_world.specs.PartyView.{Gives};
+ghost use Rattle.ill_world.specs.Trace.{desk_line};
 
 use crate::desk_laws::{
     desk_events_are_events, desks_stand, due_dates_stay_at_desks, every_desk_run_agrees,
@@ -16,6 +17,7 @@ use crate::desk_laws::{
 };
 use crate::desk_party::{DeskParty, heard};
 use crate::event::{DeskEvent, DeskOutcome, Outcome, Who};
+use crate::trace::push_line;
 use crate::world::copy;
 use ill_saved::{Action, Sides};
 use ill_values::{OutOfMemory, TxnId};
@@ -92,6 +94,22 @@ impl DeskWorld {
             Who::Requester => self.requester.released(txn),
             Who::Responder => self.responder.released(txn),
         }
+    }
+
+    /// Adds the line of a trace that shows a transaction at both desks after an event with this number.
+    #[tactic(auto, unfolding(crate::specs::Trace::desk_line))]
+    pub(crate) fn push_line(
+        &self,
+        text: &mut Vec<u8>,
+        number: u32,
+        txn: &TxnId,
+        outcome: DeskOutcome,
+    ) -> Result<(), OutOfMemory>
+        ensures { OnOk result (text.new.items ≡ text.old.items
+            ++ desk_line number txn.now outcome self.now) }
+    {
+        let (requester, responder) = (self.requester.shown(txn), self.responder.shown(txn));
+        push_line(text, number, outcome.word(), requester, responder)
     }
 }
 

@@ -1,13 +1,15 @@
 //! What may happen to two sides, and what is seen of it.
 
-ghost use Rattle.std.specs.Prelude.{◌≡◌};
+ghost use Rattle.std.specs.Prelude.{◌≡◌, IfOk};
 ghost use Rattle.ill_world.specs.World.{who_of};
 ghost use Rattle.ill_world.specs.Desks.{plain};
+ghost use Rattle.ill_world.specs.DeskScript.{in_txn};
 ghost use Rattle.ill_world.specs.Trace.{outcome_word, desk_outcome_word, taking_word, refusal_word};
 
 use crate::bytes::Bytes;
 use ill_core::{Deed, Refusal, Taking, Wish};
-use ill_values::{Day, Number, TxnId};
+use ill_values::{Day, Number, OutOfMemory, TxnId};
+use std::alloc::Global;
 
 /// To whom an event happens: each side is named by its role.
 pub use ill_saved::Role as Who;
@@ -53,6 +55,22 @@ impl Event {
             | Event::Noise(who, _)
             | Event::Restart(who) => *who,
         }
+    }
+
+    /// The same event at two desks, in this transaction where it is one of a transaction.
+    pub(crate) fn in_txn(self, alloc: Global, txn: &TxnId) -> Result<DeskEvent, OutOfMemory>
+        ensures { IfOk result (λ event. event ≡ in_txn txn.now self) }
+    {
+        Ok(match self {
+            Event::Wish(wish) => DeskEvent::Wish(txn.copy(alloc)?, wish),
+            Event::Deed(deed, today) => DeskEvent::Deed(txn.copy(alloc)?, deed, today),
+            Event::Save(who) => DeskEvent::Save(who),
+            Event::SaveFault { who, landed } => DeskEvent::SaveFault { who, landed },
+            Event::Send(who, number) => DeskEvent::Send(who, txn.copy(alloc)?, number),
+            Event::Deliver(who, number) => DeskEvent::Deliver(who, txn.copy(alloc)?, number),
+            Event::Noise(who, bytes) => DeskEvent::Noise(who, bytes),
+            Event::Restart(who) => DeskEvent::Restart(who),
+        })
     }
 }
 

@@ -6,7 +6,9 @@ mod ahead;
 mod bytes;
 pub mod desk_laws;
 mod desk_party;
+mod desk_script;
 mod desk_sent;
+mod desk_simulation;
 mod desk_world;
 mod event;
 mod fault;
@@ -23,6 +25,7 @@ pub mod words;
 mod world;
 
 pub use bytes::Bytes;
+pub use desk_simulation::simulate_desks;
 pub use desk_world::{DeskWorld, run_desks};
 pub use event::{DeskEvent, DeskOutcome, Event, Outcome, Who};
 pub use fault::SimFault;

@@ -53,7 +53,7 @@ pub(crate) fn read_line(alloc: Global, line: &[u8]) -> Result<Line<Event>, OutOf
 }
 
 /// What the words of a line say that is no remark.
-fn read_words(alloc: Global, words: &[&[u8]]) -> Result<Line<Event>, OutOfMemory>
+pub(crate) fn read_words(alloc: Global, words: &[&[u8]]) -> Result<Line<Event>, OutOfMemory>
     ensures { IfOk result (λ read. read ≡ line_of (map (λ word. word.now) words.now)) }
 {
     if words.is_empty() {
@@ -66,7 +66,7 @@ fn read_words(alloc: Global, words: &[&[u8]]) -> Result<Line<Event>, OutOfMemory
 }
 
 /// The words of a line: its runs of bytes other than spaces.
-fn split_words(alloc: Global, line: &[u8]) -> Result<Vec<&[u8]>, OutOfMemory>
+pub(crate) fn split_words(alloc: Global, line: &[u8]) -> Result<Vec<&[u8]>, OutOfMemory>
     ensures { IfOk result (λ words. map (λ word. word.now) words.items ≡ words_of line.now) }
 {
     line.split(|byte| *byte == b' ')

@@ -1,6 +1,9 @@
 //! The lines of a trace, which show what is seen of each event and how both sides stand after it.
 
 ghost use Rattle.std.specs.Prelude.{◌≡◌, ◌++◌, OnOk};
+ghost use Rattle.ill_values.specs.TxnId.{Qualifiers};
+ghost use Rattle.ill_saved.specs.declared.role.Role.{Role};
+ghost use Rattle.ill_saved.specs.Side.{idle_side};
 ghost use Rattle.ill_world.specs.Trace.{line_of, event_text, sides_text, shown_of, shown_text, side_text, due_text};
 
 use ill_core::State;
@@ -28,6 +31,18 @@ impl Shown {
             due: side.due(),
             released,
             issued: side.issued_count(),
+        }
+    }
+
+    /// What is shown of an idle side, of either role and whichever transaction.
+    pub(crate) fn idle() -> Shown
+        ensures { (role : Role) (txn : Qualifiers) → result ≡ shown_of (idle_side role txn) 0 }
+    {
+        Shown {
+            state: State::Idle,
+            due: None,
+            released: 0,
+            issued: 0,
         }
     }
 }

@@ -1,0 +1,66 @@
+-- What a line of a script of two desks says: what one of two sides does, or which transaction the lines behind it
+-- are in (this profile's own).
+use Rattle.std.specs.Prelude.{ℕ, bytes_eq, codes, if◌then◌else◌, List, [], ◌∷◌, Option, Some, None, Result, Ok, Err}
+use Rattle.ill_values.specs.declared.fault.TextFault.{TextFault}
+use Rattle.ill_values.specs.TxnId.{Qualifiers, txn_id_of}
+use Rattle.ill_world.specs.declared.event.Event.{Event}
+use Rattle.ill_world.specs.declared.event.Event.TheVariants as events
+use Rattle.ill_world.specs.declared.event.DeskEvent.{DeskEvent}
+use Rattle.ill_world.specs.declared.event.DeskEvent.TheVariants.{Wish, Deed, Save, SaveFault, Send, Deliver, Noise, Restart}
+use Rattle.ill_world.specs.declared.script.Line.{Line}
+use Rattle.ill_world.specs.declared.script.Line.TheVariants as lines
+use Rattle.ill_world.specs.declared.desk_script.DeskLine.{DeskLine}
+use Rattle.ill_world.specs.declared.desk_script.DeskLine.TheVariants.{Use, Plain}
+use Rattle.ill_world.specs.Script.{is_remark, line_of, words_of}
+
+-- ---- one line
+
+-- from here on the transaction with these qualifiers, if they are some
+abbrev pub use_of : Result Qualifiers TextFault → DeskLine
+use_of (Ok txn) = Use txn
+use_of (Err fault) = Plain lines.Bad
+
+-- what the words behind the first one say, which are two qualifiers
+abbrev pub use_line : List (List ℕ) → DeskLine
+use_line (group ∷ transaction ∷ []) = use_of (txn_id_of group transaction)
+use_line words = Plain lines.Bad
+
+-- what the words of a line say
+abbrev pub desk_line_of : List (List ℕ) → DeskLine
+desk_line_of [] = Plain lines.Skipped
+desk_line_of (first ∷ words) =
+    if bytes_eq first (codes "use") then use_line words else Plain (line_of (first ∷ words))
+
+-- what a line says, which is nothing where it is a remark
+unfoldable pub desk_meaning : List ℕ → DeskLine
+desk_meaning line = if is_remark line then Plain lines.Skipped else desk_line_of (words_of line)
+
+-- ---- the transaction in use
+
+-- an event, and the transaction that was in use: a trace shows both sides of it
+pub record EventIn : Type 0 where
+  pub txn : Qualifiers
+  pub event : DeskEvent
+
+-- the same event at two desks, in a transaction
+abbrev pub in_txn : Qualifiers → Event → DeskEvent
+in_txn txn (events.Wish wish) = Wish txn wish
+in_txn txn (events.Deed deed today) = Deed txn deed today
+in_txn txn (events.Save who) = Save who
+in_txn txn (events.SaveFault who landed) = SaveFault who landed
+in_txn txn (events.Send who n) = Send who txn n
+in_txn txn (events.Deliver who n) = Deliver who txn n
+in_txn txn (events.Noise who bytes) = Noise who bytes
+in_txn txn (events.Restart who) = Restart who
+
+-- Nothing happens before a transaction is in use.
+abbrev pub line_in : Option Qualifiers → Line Event → Line EventIn
+line_in in_use lines.Skipped = lines.Skipped
+line_in (Some txn) (lines.Event event) = lines.Event (record { txn = txn; event = in_txn txn event })
+line_in None (lines.Event event) = lines.Bad
+line_in in_use lines.Bad = lines.Bad
+
+-- what a line says with the transaction in use, and the one in use behind it
+abbrev pub says_in : Option Qualifiers → DeskLine → Line EventIn × Option Qualifiers
+says_in in_use (Use txn) = (lines.Skipped, Some txn)
+says_in in_use (Plain line) = (line_in in_use line, in_use)

@@ -1,0 +1,100 @@
+//! A whole script of two desks, performed line by line.
+
+ghost use Rattle.std.specs.Prelude.{◌≡◌, ◌×◌, ◌++◌, List, OnOk};
+ghost use Rattle.ill_world.specs.declared.event.DeskEvent.{DeskEvent};
+ghost use Rattle.ill_world.specs.Desks.{first_desks, desks_happen};
+ghost use Rattle.ill_world.specs.DeskSafety.{IsSafeDeskRun, IsAgreeingDeskRun};
+ghost use Rattle.ill_world.specs.DeskScript.{EventIn, in_txn};
+ghost use Rattle.ill_world.specs.DeskSimulation.{SimulatesDesks, two_desks};
+ghost use Rattle.ill_world.specs.Trace.{desk_line};
+
+use crate::desk_laws::{every_desk_run_agrees, every_desk_run_is_safe};
+use crate::desk_script::{DeskLine, read_desk_line};
+use crate::desk_world::DeskWorld;
+use crate::event::Event;
+use crate::fault::SimFault;
+use crate::performer::{Performer, Told};
+use crate::script::Line;
+use crate::simulation::Simulation;
+use ill_values::{OutOfMemory, TxnId};
+use std::alloc::Global;
+use std::io::{Read, Write};
+
+/// Performs a script of two desks from desks on that hold nothing, and writes a line for each event,
+/// with both sides of the transaction in use after it. It answers the number of events.
+///
+/// A line `use GROUP TRANSACTION` is no event: the lines behind it are in this transaction. Before the
+/// first of them every event is a bad line. Else it reads, writes and stops as `simulate` does.
+///
+/// Whatever the script says, each world that a line shows is safe in each transaction, and both sides of
+/// each agree, as `run_desks` says.
+pub fn simulate_desks<R: Read, W: Write>(
+    alloc: Global,
+    reader: &mut R,
+    writer: &mut W,
+) -> Result<u32, SimFault>
+    ensures simulates { SimulatesDesks (R.remaining reader.old) (R.remaining reader.new)
+        (W.contents writer.old) (W.contents writer.new) result }
+    ensures safe { (events : List DeskEvent) → IsSafeDeskRun first_desks events }
+    ensures agrees { (events : List DeskEvent) → IsAgreeingDeskRun first_desks events }
+{
+    every_desk_run_is_safe();
+    every_desk_run_agrees();
+    let simulation = Simulation::new(alloc, DeskWorld::new(alloc)?, None);
+    simulation.run(alloc, reader, writer)
+}
+
+impl Performer for DeskWorld {
+    type Carried = Option<TxnId>;
+
+    ghost Event = { EventIn };
+
+    ghost play = { two_desks };
+
+    fn perform_line(
+        &mut self,
+        alloc: Global,
+        in_use: &mut Option<TxnId>,
+        line: &[u8],
+        number: u32,
+        shown: &mut Vec<u8>,
+    ) -> Result<Told, OutOfMemory> {
+        match read_desk_line(alloc, line)? {
+            DeskLine::Use(txn) => {
+                *in_use = Some(txn);
+                Ok(Told::Nothing)
+            }
+            DeskLine::Plain(Line::Skipped) => Ok(Told::Nothing),
+            DeskLine::Plain(Line::Event(event)) => match in_use {
+                Some(txn) => {
+                    self.perform_in(alloc, txn, event, number, shown)?;
+                    Ok(Told::Event)
+                }
+                None => Ok(Told::BadLine),
+            },
+            DeskLine::Plain(Line::Bad) => Ok(Told::BadLine),
+        }
+    }
+}
+
+impl DeskWorld {
+    /// Performs an event, in this transaction where it is one of a transaction, and adds its line of the
+    /// trace.
+    fn perform_in(
+        &mut self,
+        alloc: Global,
+        txn: &TxnId,
+        event: Event,
+        number: u32,
+        shown: &mut Vec<u8>,
+    ) -> Result<(), OutOfMemory>
+        ensures { OnOk result (
+            let after = desks_happen self.old (in_txn txn.now event) in
+            (self.new ≡ after.1)
+            × (shown.new.items ≡ shown.old.items ++ desk_line number txn.now after.0 after.1)) }
+    {
+        let event = event.in_txn(alloc, txn)?;
+        let outcome = self.step(alloc, &event)?;
+        self.push_line(shown, number, txn, outcome)
+    }
+}

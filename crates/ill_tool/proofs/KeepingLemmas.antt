@@ -20,7 +20,6 @@ use Rattle.ill_saved.specs.Many.{Held, Holding, is_own, found_by, txn_held, foun
 use Rattle.ill_tool.specs.Keeping.{many_sides}
 use Rattle.ill_tool.specs.Keeper.{IsRefusal, KeeperActs, KeeperTakes}
 use Rattle.ill_saved.proofs.Finding.{same_is, same_self, some_is, found_mapped}
-use Rattle.ill_saved.proofs.Holdings.{held_there, none_held_there}
 
 -- ---- each fault of a desk is a refusal
 
@@ -81,14 +80,6 @@ many_takes old a (Err desks.OutOfMemory) new is = ((is.0, is.1), is.2)
 many_takes old a (Err fault) new is = (is, IfErr-at_err IsRefusal (ap (λ (p : Result Taking DeskFault × Holding). p.0) is) (desk_takes_or_refuses old a))
 
 -- ---- how a side stands
-
--- where its transaction has a side
-pub side_there : (live : Holding) (txn : Qualifiers) (side : Side) → side_with txn (sides_held live).sides ≡ Some side → (held_for txn live).side ≡ side
-side_there live txn side there = ap (λ (found : Option Held). (found_or (idle_held live.role txn) found).side) (held_there live txn side there)
-
--- where it has none
-pub none_there : (live : Holding) (txn : Qualifiers) → side_with txn (sides_held live).sides ≡ None → held_for txn live ≡ idle_held live.role txn
-none_there live txn none = ap (found_or (idle_held live.role txn)) (none_held_there live txn none)
 
 -- No two sides are of one transaction, so each is found by its own.
 abbrev side_of : Held → Side

@@ -22,23 +22,24 @@ abbrev pub tool_answer : Result ℕ SimFault → Result ℕ ToolFault
 tool_answer (Ok count) = Ok count
 tool_answer (Err fault) = Err (sim_fault fault)
 
+-- a command answers what its simulation answered, which was one of these
+abbrev pub TellsOf : (Result ℕ SimFault → Type 0) → Result ℕ ToolFault → Type 0
+TellsOf Simulated result =
+    (simulated : Result ℕ SimFault) × Simulated simulated × (result ≡ tool_answer simulated)
+
 -- The command, from what the reader had left to what it has left, and from what the writer held to
 -- what it holds: a simulation of the transaction, or, where there is no such transaction, nothing but
 -- the fault of the arguments.
 abbrev pub Performs : Result Qualifiers TextFault → Option (List ℕ) → Option (List ℕ) →
     Option (List ℕ) → Option (List ℕ) → Result ℕ ToolFault → Type 0
-Performs (Ok txn) old new before after result =
-    (simulated : Result ℕ SimFault) × Simulates txn old new before after simulated
-    × (result ≡ tool_answer simulated)
+Performs (Ok txn) old new before after result = TellsOf (Simulates txn old new before after) result
 Performs (Err fault) old new before after result =
     (result ≡ Err Arguments) × Consumes old new [] × Appends before after []
 
 -- the same of a script of two desks, which takes no arguments
 abbrev pub PerformsDesks : Option (List ℕ) → Option (List ℕ) → Option (List ℕ) → Option (List ℕ) →
     Result ℕ ToolFault → Type 0
-PerformsDesks old new before after result =
-    (simulated : Result ℕ SimFault) × SimulatesDesks old new before after simulated
-    × (result ≡ tool_answer simulated)
+PerformsDesks old new before after result = TellsOf (SimulatesDesks old new before after) result
 
 -- the transaction id of the arguments, or that they are none, unless memory ran out
 abbrev pub GivesId : Result Qualifiers TextFault → Result Qualifiers ToolFault → Type 0

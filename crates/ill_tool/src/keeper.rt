@@ -13,7 +13,7 @@ ghost use Rattle.ill_tool.specs.Telling.{held_text};
 use ill_core::Taking;
 use ill_saved::{Action, Desk, Desk1, DeskFault, Role, Side, Store};
 use ill_values::{Apdu, Number, OutOfMemory, TxnId};
-use ill_world::push_side;
+use ill_world::{push_held, push_side};
 use std::alloc::Global;
 
 /// What keeps sides in a store, and lets the messages of those be sent that it has saved.
@@ -220,22 +220,10 @@ impl<S: Store> Keeper for Desk<S> {
     }
 
     fn push_side(&self, line: &mut Vec<u8>, key: &TxnId) -> Result<(), OutOfMemory> {
-        match self.sides().get(key) {
-            Some(side) => push_side(line, side, self.released(key)),
-            None => push_idle(line, self.sides().role(), key),
-        }
+        push_held(line, self.sides(), key, self.released(key))
     }
 
     fn close(self) -> S {
         Desk::close(self)
     }
-}
-
-/// Adds how a side stands that is not held: as an idle one.
-fn push_idle(line: &mut Vec<u8>, role: Role, txn: &TxnId) -> Result<(), OutOfMemory>
-    ensures { OnOk result (line.new.items ≡ line.old.items ++ held_text (idle_held role txn.now)) }
-{
-    let alloc = *line.allocator();
-    let idle = Side::idle(alloc, role, txn.copy(alloc)?);
-    push_side(line, &idle, 0)
 }

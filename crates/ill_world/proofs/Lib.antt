@@ -24,3 +24,4 @@ pub mod Reaching
 pub mod DeskArrivals
 pub mod DeskMaps
 pub mod DeskParties
+pub mod DeskSimulations

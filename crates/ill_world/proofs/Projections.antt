@@ -80,7 +80,7 @@ side_found idle (Some held) = refl
 side_found idle None = refl
 
 -- what is saved is what is live
-side_for : (txn : Qualifiers) (live : Holding) → landed_for txn (sides_held live) ≡ (held_for txn live).side
+pub side_for : (txn : Qualifiers) (live : Holding) → landed_for txn (sides_held live) ≡ (held_for txn live).side
 unfolding side_with
 side_for txn live =
     ap (found_or (idle_side live.role txn)) (found_mapped txn_held txn_of (λ (held : Held). held.side) (λ held. refl) txn live.held)

@@ -13,8 +13,8 @@ use Rattle.ill_world.specs.declared.event.DeskEvent.{DeskEvent}
 use Rattle.ill_world.specs.declared.event.DeskEvent.TheVariants.{Deliver}
 use Rattle.ill_world.specs.declared.event.DeskOutcome.{DeskOutcome}
 use Rattle.ill_world.specs.declared.event.DeskOutcome.TheVariants.{Plain}
-use Rattle.ill_world.specs.World.{sent_message}
-use Rattle.ill_world.specs.Desks.{DeskParty, DeskParties, sent_for, desks_happen, desks_run, project}
+use Rattle.ill_world.specs.World.{sent_message, first_world, run_of}
+use Rattle.ill_world.specs.Desks.{DeskParty, DeskParties, first_desks, sent_for, desks_happen, desks_run, project, events_for}
 use Rattle.ill_world.specs.Safety.{Safe}
 use Rattle.ill_world.specs.Agreement.{Agrees, Settles, settled_by}
 use Rattle.ill_world.specs.Invariant.{Stands}
@@ -32,6 +32,13 @@ pub record DesksStand (w : DeskParties) : Type 0 where
   pub each : (txn : Qualifiers) → Stands txn (project txn w)
 
 -- ---- runs
+
+-- What two desks that hold nothing at first show of each transaction after these events is the world after the
+-- events of this transaction.
+abbrev pub IsRunOfEach : List DeskEvent → Type 0
+IsRunOfEach events =
+    (txn : Qualifiers) →
+    project txn (desks_run first_desks events) ≡ run_of (first_world txn) (events_for txn first_desks events)
 
 -- In every world that these events lead through, what the desks show of each transaction is safe.
 abbrev pub IsSafeDeskRun : DeskParties → List DeskEvent → Type 0

@@ -1,6 +1,6 @@
 -- What a line of a script of two desks says: what one of two sides does, or which transaction the lines behind it
 -- are in (this profile's own).
-use Rattle.std.specs.Prelude.{ℕ, bytes_eq, codes, if◌then◌else◌, List, [], ◌∷◌, Option, Some, None, Result, Ok, Err}
+use Rattle.std.specs.Prelude.{◌≡◌, ℕ, bytes_eq, codes, if◌then◌else◌, List, [], ◌∷◌, Option, Some, None, Result, Ok, Err}
 use Rattle.ill_values.specs.declared.fault.TextFault.{TextFault}
 use Rattle.ill_values.specs.TxnId.{Qualifiers, txn_id_of}
 use Rattle.ill_world.specs.declared.event.Event.{Event}
@@ -52,6 +52,14 @@ in_txn txn (events.Send who n) = Send who txn n
 in_txn txn (events.Deliver who n) = Deliver who txn n
 in_txn txn (events.Noise who bytes) = Noise who bytes
 in_txn txn (events.Restart who) = Restart who
+
+-- an event is one of this transaction, or of a whole desk, or other bytes
+abbrev pub IsInTxn : Qualifiers → DeskEvent → Type 0
+IsInTxn txn (Wish named wish) = named ≡ txn
+IsInTxn txn (Deed named deed today) = named ≡ txn
+IsInTxn txn (Send who named n) = named ≡ txn
+IsInTxn txn (Deliver who named n) = named ≡ txn
+IsInTxn txn other = Unit {0}
 
 -- Nothing happens before a transaction is in use.
 abbrev pub line_in : Option Qualifiers → Line Event → Line EventIn

@@ -1,5 +1,5 @@
 -- The script of two desks, and the trace of the run that it describes (this profile's own).
-use Rattle.std.specs.Prelude.{ℕ, List, map, Option, None, Result}
+use Rattle.std.specs.Prelude.{ℕ, ◌+◌, List, [], ◌∷◌, ◌++◌, length, map, Option, None, Result}
 use Rattle.ill_values.specs.TxnId.{Qualifiers}
 use Rattle.ill_world.specs.declared.event.DeskEvent.{DeskEvent}
 use Rattle.ill_world.specs.declared.fault.SimFault.{SimFault}
@@ -27,6 +27,14 @@ desk_trace_of events = trace_from two_desks 1 first_desks events
 -- the events alone
 abbrev pub desk_events : List EventIn → List DeskEvent
 desk_events events = map (λ e. e.event) events
+
+-- The line that a trace shows of an event behind others: its number, what is seen of it at the desks after those,
+-- and how both sides of its transaction stand after it.
+abbrev pub desk_line_behind : List EventIn → EventIn → List ℕ
+desk_line_behind events event =
+    desk_line (length events + 1) event.txn
+    (desks_happen (desks_run first_desks (desk_events events)) event.event).0
+    (desks_run first_desks (desk_events (events ++ event ∷ [])))
 
 -- A simulation, from what the reader had left to what it has left, and from what the writer held to
 -- what it holds.

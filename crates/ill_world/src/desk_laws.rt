@@ -1,14 +1,20 @@
 //! What holds of two desks of many transactions, as contracts of functions that do nothing.
 
-ghost use Rattle.std.specs.Prelude.{◌≡◌, List};
+ghost use Rattle.std.specs.Prelude.{◌≡◌, ◌++◌, List, [], ◌∷◌, Option, None};
 ghost use Rattle.ill_values.specs.TxnId.{Qualifiers};
 ghost use Rattle.ill_world.specs.declared.event.DeskEvent.{DeskEvent};
-ghost use Rattle.ill_world.specs.World.{first_world, run_of};
-ghost use Rattle.ill_world.specs.Desks.{DeskParties, plain, first_desks, desks_happen, desks_run, project, events_for, Projects};
+ghost use Rattle.ill_world.specs.declared.event.Event.{Event};
+ghost use Rattle.ill_world.specs.declared.script.Line.{Line};
+ghost use Rattle.ill_world.specs.declared.script.Line.TheVariants as lines;
+ghost use Rattle.ill_world.specs.declared.desk_script.DeskLine.TheVariants.{Plain};
+ghost use Rattle.ill_world.specs.Play.{IsFront};
+ghost use Rattle.ill_world.specs.Desks.{DeskParties, plain, first_desks, desks_happen, project, Projects};
+ghost use Rattle.ill_world.specs.DeskScript.{EventIn, in_txn, says_in, IsInTxn};
+ghost use Rattle.ill_world.specs.DeskSimulation.{desk_trace_of, desk_line_behind};
 ghost use Rattle.ill_world.specs.Agreement.{KeepsDates};
 ghost use Rattle.ill_world.specs.Changes.{KeepsSent};
 ghost use Rattle.ill_world.specs.DeskChanges.{DeskMayChange, ReachesSide, Shows};
-ghost use Rattle.ill_world.specs.DeskSafety.{ArrivesAt, DesksStand, IsSafeDeskRun, IsAgreeingDeskRun};
+ghost use Rattle.ill_world.specs.DeskSafety.{ArrivesAt, DesksStand, IsRunOfEach, IsSafeDeskRun, IsAgreeingDeskRun};
 
 use crate::laws::{
     due_dates_stay, every_world_agrees, every_world_is_safe, few_outcomes_change,
@@ -49,9 +55,7 @@ pub fn desks_stand()
 /// What two desks show of a transaction after any events is the world after the events of this
 /// transaction.
 pub fn desk_runs_are_runs()
-    ensures { (txn : Qualifiers) (events : List DeskEvent) →
-        project txn (desks_run first_desks events) ≡
-        run_of (first_world txn) (events_for txn first_desks events) }
+    ensures { (events : List DeskEvent) → IsRunOfEach events }
 {
     desk_events_are_events();
     desks_stand();
@@ -118,3 +122,25 @@ pub fn sent_stays_sent_at_desks()
     desk_events_are_events();
     sent_stays_sent();
 }
+
+/// A line of a script of two desks that is no `use` leaves the transaction in use as it was. Its event is
+/// what a script of two sides says, in the transaction in use, if it is one of a transaction; and before
+/// the first `use` there is none.
+pub fn events_are_in_the_transaction_in_use()
+    ensures stays { (in_use : Option Qualifiers) (line : Line Event) →
+        (says_in in_use (Plain line)).1 ≡ in_use }
+    ensures plain { (txn : Qualifiers) (event : Event) → plain (in_txn txn event) ≡ event }
+    ensures named { (txn : Qualifiers) (event : Event) → IsInTxn txn (in_txn txn event) }
+    ensures none { (event : Event) → (says_in None (Plain (lines.Event event))).0 ≡ lines.Bad }
+{}
+
+/// A trace of two desks is empty at first; each event adds a line, with its number, what is seen of it at
+/// the desks after those before it, and how both sides of its transaction stand after it; and no later
+/// event changes what the trace begins with. So line n shows the desks after the first n events.
+pub fn desk_traces_show_runs()
+    ensures first { desk_trace_of [] ≡ [] }
+    ensures next { (events : List EventIn) (event : EventIn) →
+        desk_trace_of (events ++ event ∷ []) ≡ desk_trace_of events ++ desk_line_behind events event }
+    ensures front { (events more : List EventIn) →
+        IsFront (desk_trace_of events) (desk_trace_of (events ++ more)) }
+{}

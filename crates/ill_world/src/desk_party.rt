@@ -171,10 +171,7 @@ impl DeskParty {
     pub fn shown(&self, txn: &TxnId) -> Shown
         ensures { result ≡ desk_shown txn.now self.now }
     {
-        match self.desk.sides().get(txn) {
-            Some(side) => Shown::of(side, self.desk.released(txn)),
-            None => Shown::idle(),
-        }
+        Shown::held(self.desk.sides(), txn, self.desk.released(txn))
     }
 }
 

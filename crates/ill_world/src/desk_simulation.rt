@@ -1,14 +1,14 @@
 //! A whole script of two desks, performed line by line.
 
-ghost use Rattle.std.specs.Prelude.{◌≡◌, ◌×◌, ◌++◌, List, OnOk};
+ghost use Rattle.std.specs.Prelude.{◌≡◌, ◌++◌, List, OnOk};
 ghost use Rattle.ill_world.specs.declared.event.DeskEvent.{DeskEvent};
 ghost use Rattle.ill_world.specs.Desks.{first_desks, desks_happen};
-ghost use Rattle.ill_world.specs.DeskSafety.{IsSafeDeskRun, IsAgreeingDeskRun};
+ghost use Rattle.ill_world.specs.DeskSafety.{IsRunOfEach, IsSafeDeskRun, IsAgreeingDeskRun};
 ghost use Rattle.ill_world.specs.DeskScript.{EventIn, in_txn};
 ghost use Rattle.ill_world.specs.DeskSimulation.{SimulatesDesks, two_desks};
 ghost use Rattle.ill_world.specs.Trace.{desk_line};
 
-use crate::desk_laws::{every_desk_run_agrees, every_desk_run_is_safe};
+use crate::desk_laws::{desk_runs_are_runs, every_desk_run_agrees, every_desk_run_is_safe};
 use crate::desk_script::{DeskLine, read_desk_line};
 use crate::desk_world::DeskWorld;
 use crate::event::Event;
@@ -26,8 +26,8 @@ use std::io::{Read, Write};
 /// A line `use GROUP TRANSACTION` is no event: the lines behind it are in this transaction. Before the
 /// first of them every event is a bad line. Else it reads, writes and stops as `simulate` does.
 ///
-/// Whatever the script says, each world that a line shows is safe in each transaction, and both sides of
-/// each agree, as `run_desks` says.
+/// Whatever the script says, in each transaction the desks are the world of two sides after its events,
+/// each world that a line shows is safe, and both sides agree, as `run_desks` says.
 pub fn simulate_desks<R: Read, W: Write>(
     alloc: Global,
     reader: &mut R,
@@ -35,9 +35,11 @@ pub fn simulate_desks<R: Read, W: Write>(
 ) -> Result<u32, SimFault>
     ensures simulates { SimulatesDesks (R.remaining reader.old) (R.remaining reader.new)
         (W.contents writer.old) (W.contents writer.new) result }
+    ensures each { (events : List DeskEvent) → IsRunOfEach events }
     ensures safe { (events : List DeskEvent) → IsSafeDeskRun first_desks events }
     ensures agrees { (events : List DeskEvent) → IsAgreeingDeskRun first_desks events }
 {
+    desk_runs_are_runs();
     every_desk_run_is_safe();
     every_desk_run_agrees();
     let simulation = Simulation::new(alloc, DeskWorld::new(alloc)?, None);

@@ -7,13 +7,13 @@ ghost use Rattle.ill_world.specs.World.{party, who_of};
 ghost use Rattle.ill_world.specs.Desks as model;
 ghost use Rattle.ill_world.specs.Desks.{plain, project, Projects};
 ghost use Rattle.ill_world.specs.Agreement.{KeepsDates};
-ghost use Rattle.ill_world.specs.DeskSafety.{DesksStand, ArrivesAt, IsSafeDeskRun, IsAgreeingDeskRun};
+ghost use Rattle.ill_world.specs.DeskSafety.{DesksStand, ArrivesAt, IsRunOfEach, IsSafeDeskRun, IsAgreeingDeskRun};
 ghost use Rattle.ill_world.specs.PartyView.{Gives};
 ghost use Rattle.ill_world.specs.Trace.{desk_line};
 
 use crate::desk_laws::{
-    desk_events_are_events, desks_stand, due_dates_stay_at_desks, every_desk_run_agrees,
-    every_desk_run_is_safe, one_arrival_at_a_desk_is_enough,
+    desk_events_are_events, desk_runs_are_runs, desks_stand, due_dates_stay_at_desks,
+    every_desk_run_agrees, every_desk_run_is_safe, one_arrival_at_a_desk_is_enough,
 };
 use crate::desk_party::{DeskParty, heard};
 use crate::event::{DeskEvent, DeskOutcome, Outcome, Who};
@@ -115,12 +115,15 @@ impl DeskWorld {
 
 /// The two desks after these events, from desks on that hold nothing.
 ///
-/// Every world on the way is safe in each transaction, and both sides of each agree, as `run` says of one.
+/// In each transaction they are the world of two sides after its events. Every world on the way is safe in
+/// each, and both sides of each agree, as `run` says of one.
 pub fn run_desks(alloc: Global, events: &[DeskEvent]) -> Result<DeskWorld, OutOfMemory>
     ensures runs { IfOk result (λ world. world ≡ model.desks_run model.first_desks events.now) }
+    ensures each { IsRunOfEach events.now }
     ensures safe { IsSafeDeskRun model.first_desks events.now }
     ensures agrees { IsAgreeingDeskRun model.first_desks events.now }
 {
+    desk_runs_are_runs();
     every_desk_run_is_safe();
     every_desk_run_agrees();
     let mut world = DeskWorld::new(alloc)?;

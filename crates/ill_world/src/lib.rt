@@ -30,5 +30,5 @@ pub use desk_world::{DeskWorld, run_desks};
 pub use event::{DeskEvent, DeskOutcome, Event, Outcome, Who};
 pub use fault::SimFault;
 pub use simulation::simulate;
-pub use trace::push_side;
+pub use trace::{push_held, push_side};
 pub use world::{World, run};

@@ -3,12 +3,13 @@
 ghost use Rattle.std.specs.Prelude.{◌≡◌, ◌++◌, OnOk};
 ghost use Rattle.ill_values.specs.TxnId.{Qualifiers};
 ghost use Rattle.ill_saved.specs.declared.role.Role.{Role};
+ghost use Rattle.ill_saved.specs.Many.{landed_for};
 ghost use Rattle.ill_saved.specs.Side.{idle_side};
 ghost use Rattle.ill_world.specs.Trace.{line_of, event_text, sides_text, shown_of, shown_text, side_text, due_text};
 
 use ill_core::State;
-use ill_saved::Side;
-use ill_values::{Day, OutOfMemory};
+use ill_saved::{Side, Sides};
+use ill_values::{Day, OutOfMemory, TxnId};
 use itoa::{Buffer, Integer};
 
 /// What a trace shows of a side: its state, its due date, and how many of its messages are released and
@@ -34,14 +35,25 @@ impl Shown {
         }
     }
 
+    /// What is shown of the side of this transaction among these, of which so many messages are released.
+    /// One that is not held is shown as an idle one.
+    pub(crate) fn held(sides: &Sides, txn: &TxnId, released: u8) -> Shown
+        ensures { result ≡ shown_of (landed_for txn.now sides.now) released }
+    {
+        match sides.get(txn) {
+            Some(side) => Shown::of(side, released),
+            None => Shown::idle(released),
+        }
+    }
+
     /// What is shown of an idle side, of either role and whichever transaction.
-    pub(crate) fn idle() -> Shown
-        ensures { (role : Role) (txn : Qualifiers) → result ≡ shown_of (idle_side role txn) 0 }
+    fn idle(released: u8) -> Shown
+        ensures { (role : Role) (txn : Qualifiers) → result ≡ shown_of (idle_side role txn) released }
     {
         Shown {
             state: State::Idle,
             due: None,
-            released: 0,
+            released,
             issued: 0,
         }
     }
@@ -93,6 +105,19 @@ pub fn push_side(lines: &mut Vec<u8>, side: &Side, released: u8) -> Result<(), O
     ensures { OnOk result (lines.new.items ≡ lines.old.items ++ side_text side.now released) }
 {
     push_shown(lines, Shown::of(side, released))
+}
+
+/// Adds how the side of this transaction among these stands, which is idle where it is not held.
+pub fn push_held(
+    lines: &mut Vec<u8>,
+    sides: &Sides,
+    txn: &TxnId,
+    released: u8,
+) -> Result<(), OutOfMemory>
+    ensures { OnOk result (lines.new.items ≡ lines.old.items
+        ++ side_text (landed_for txn.now sides.now) released) }
+{
+    push_shown(lines, Shown::held(sides, txn, released))
 }
 
 /// Adds what is shown of a side.

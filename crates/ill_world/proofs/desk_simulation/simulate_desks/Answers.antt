@@ -1,0 +1,6 @@
+use Rattle.ill_world.specs.DeskSimulation.{two_desks}
+use Rattle.ill_world.proofs.Steps.{not_begun}
+use Rattle.ill_world.proofs.desk_simulation.simulate_desks.Goals as goal
+
+pub returns-in_err-new-clause-simulates : goal.returns-in_err-new-clause-simulates
+returns-in_err-new-clause-simulates g c = not_begun two_desks _ _ _ _ c.from_residual.result c.from_residual.ensures.1

@@ -19,6 +19,7 @@ pub fn outcome(alloc: Global, folder: &Folder<'_>, words: &mut Words<'_>) -> Opt
         "idle" => sides::idle(alloc),
         "loan" => tool::loan(alloc, words),
         "simulate" => scripts::simulates(alloc),
+        "simulate-desks" => scripts::simulates_desks(alloc),
         "decode" => codec::decodes_digits(alloc, words.word()?),
         call => call_outcome(alloc, folder, call, words),
     }
@@ -126,6 +127,7 @@ fn desk_world_outcome(alloc: Global, call: &str, words: &mut Words<'_>) -> Optio
         "new" => desk_worlds::begins(alloc),
         "step" => desk_worlds::steps(alloc, words),
         "run" => desk_worlds::runs(alloc),
+        "readers" => desk_worlds::shows(alloc),
         _ => None,
     }
 }

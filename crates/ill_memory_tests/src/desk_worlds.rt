@@ -1,6 +1,6 @@
 //! Two desks in one world: each kind of event, and what it leaves.
 
-use crate::judging::{Outcome, answered, done_if, judged, leaving};
+use crate::judging::{Outcome, answered, done_if, judged, leaving, quiet};
 use crate::marks::{begin, end};
 use crate::messages::txn;
 use crate::words::Words;
@@ -211,4 +211,32 @@ fn shown_in_turn(alloc: Global, txn: &TxnId) -> Option<[DeskShown; 2]> {
     let seen = shown(&world, txn);
     drop(world);
     Some(seen)
+}
+
+/// `requester`, `responder` and `released`, of a transaction that is held and of one that is not.
+pub fn shows(alloc: Global) -> Option<Outcome> {
+    let world = world(alloc)?;
+    let outcome = shows_of(alloc, &world);
+    drop(world);
+    outcome
+}
+
+fn shows_of(alloc: Global, world: &DeskWorld) -> Option<Outcome> {
+    let held = txn(alloc, "T1")?;
+    let other = txn(alloc, "T2")?;
+    begin(alloc);
+    let seen = shown(world, &held);
+    let nothing = shown(world, &other);
+    let refused = end(alloc);
+    let ample = [
+        one_side(Some((State::CancelPending, 1, 2))),
+        one_side(Some((State::Shipped, 1, 1))),
+    ];
+    let is_right = seen == ample && nothing == [one_side(None), one_side(None)];
+    Some(quiet(is_right, refused))
+}
+
+/// What a desk of one side shows.
+fn one_side(side: Option<(State, u8, u8)>) -> DeskShown {
+    DeskShown { sides: 1, side }
 }

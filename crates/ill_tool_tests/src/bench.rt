@@ -50,11 +50,12 @@ enum Kind {
     Texts,
 }
 
-const KINDS: [(&str, Kind); 22] = [
+const KINDS: [(&str, Kind); 23] = [
     ("ill", Kind::Ill),
     ("show", Kind::Engine(Engine::Show)),
     ("check", Kind::Engine(Engine::Check)),
     ("simulate", Kind::Engine(Engine::Simulate)),
+    ("simulate-desks", Kind::Engine(Engine::SimulateDesks)),
     ("read", Kind::Engine(Engine::Read)),
     ("write", Kind::Engine(Engine::Write)),
     ("put", Kind::File(FileCall::Put)),

@@ -5,7 +5,7 @@ use crate::names::Names;
 use crate::page::Page;
 use crate::telling::{tell_bytes, tell_line, tell_source};
 use ill_der::{ReadFault, decode, encode, read_apdu, write_apdu};
-use ill_tool::{run_check, run_show, run_simulate};
+use ill_tool::{run_check, run_show, run_simulate, run_simulate_desks};
 use ill_values::Apdu;
 use std::alloc::Global;
 
@@ -15,6 +15,7 @@ pub enum Engine {
     Show,
     Check,
     Simulate,
+    SimulateDesks,
     Read,
     Write,
 }
@@ -39,6 +40,11 @@ pub fn perform(
             Some(())
         }
         Engine::Simulate => simulate(alloc, page, names, call),
+        Engine::SimulateDesks => {
+            let answer = run_simulate_desks(alloc, &mut call.source, &mut call.output);
+            call.tell_answer(page, names, &answer);
+            Some(())
+        }
         Engine::Read => read(alloc, page, names, call),
         Engine::Write => write(alloc, page, names, call),
     }

@@ -3,14 +3,46 @@
 use crate::page::Page;
 use crate::streams::{End, TestReader, TestWriter};
 use ill_values::TxnId;
-use ill_world::{SimFault, simulate};
+use ill_world::{SimFault, simulate, simulate_desks};
 use std::alloc::Global;
+use std::io::{Read, Write};
 
 /// The most lines of a trace that is printed whole, and how many are printed of the front and the end of
 /// a longer one.
-const SHOWN: usize = 50;
+const SHOWN: usize = 100;
 
 const AT_AN_END: usize = 6;
+
+/// Which simulation performs a script.
+#[derive(Clone, Copy)]
+pub enum Simulation {
+    /// That of two sides, of the transaction of all tests.
+    Sides,
+    /// That of two desks.
+    Desks,
+}
+
+impl Simulation {
+    /// Performs what the reader gives.
+    fn run<R: Read, W: Write>(
+        self,
+        alloc: Global,
+        reader: &mut R,
+        writer: &mut W,
+    ) -> Option<Result<u32, SimFault>> {
+        match self {
+            Simulation::Sides => Some(simulate(alloc, &txn(alloc)?, reader, writer)),
+            Simulation::Desks => Some(simulate_desks(alloc, reader, writer)),
+        }
+    }
+}
+
+/// A script, and which simulation performs it.
+#[derive(Clone, Copy)]
+pub struct Script<'a> {
+    pub simulation: Simulation,
+    pub bytes: &'a [u8],
+}
 
 /// What a script was answered, and what was written.
 #[derive(Drop)]
@@ -19,20 +51,20 @@ pub struct Told {
     pub answer: Result<u32, SimFault>,
 }
 
-/// The transaction of all tests.
+/// The transaction of all tests of two sides.
 pub fn txn(alloc: Global) -> Option<TxnId> {
     TxnId::new(alloc, b"G1", b"T1").ok()
 }
 
 /// Performs a script with a reader and a writer that give and take at most so many bytes at a time.
-pub fn perform(alloc: Global, script: &[u8], at_once: usize, end: End) -> Option<Told> {
+pub fn perform(alloc: Global, script: Script<'_>, at_once: usize, end: End) -> Option<Told> {
     let mut reader = TestReader {
-        bytes: script,
+        bytes: script.bytes,
         at_once,
         end,
     };
     let mut writer = TestWriter::new(alloc, at_once, usize::MAX, End::Fails);
-    let answer = simulate(alloc, &txn(alloc)?, &mut reader, &mut writer);
+    let answer = script.simulation.run(alloc, &mut reader, &mut writer)?;
     Some(Told {
         trace: writer.taken,
         answer,
@@ -40,10 +72,10 @@ pub fn perform(alloc: Global, script: &[u8], at_once: usize, end: End) -> Option
 }
 
 /// Performs a script with a writer that takes so many bytes.
-pub fn perform_into(alloc: Global, script: &[u8], room: usize, end: End) -> Option<Told> {
-    let mut reader = script;
+pub fn perform_into(alloc: Global, script: Script<'_>, room: usize, end: End) -> Option<Told> {
+    let mut reader = script.bytes;
     let mut writer = TestWriter::new(alloc, usize::MAX, room, end);
-    let answer = simulate(alloc, &txn(alloc)?, &mut reader, &mut writer);
+    let answer = script.simulation.run(alloc, &mut reader, &mut writer)?;
     Some(Told {
         trace: writer.taken,
         answer,
@@ -51,7 +83,7 @@ pub fn perform_into(alloc: Global, script: &[u8], room: usize, end: End) -> Opti
 }
 
 /// Performs a script, whose reader then does this, and prints its trace and what is answered.
-pub fn print_script(alloc: Global, page: &mut Page, script: &[u8], end: End) -> Option<()> {
+pub fn print_script(alloc: Global, page: &mut Page, script: Script<'_>, end: End) -> Option<()> {
     let told = print_trace(alloc, page, script, end)?;
     page.text("\n");
     let slow = perform(alloc, script, 1, end)?;
@@ -65,7 +97,7 @@ pub fn print_script(alloc: Global, page: &mut Page, script: &[u8], end: End) -> 
 }
 
 /// Performs a script, and prints its trace and, without an end, the line of its answer.
-pub fn print_trace(alloc: Global, page: &mut Page, script: &[u8], end: End) -> Option<Told> {
+pub fn print_trace(alloc: Global, page: &mut Page, script: Script<'_>, end: End) -> Option<Told> {
     let told = perform(alloc, script, usize::MAX, end)?;
     print_lines(page, &told.trace);
     print_answer(page, &told.answer);

@@ -1,7 +1,7 @@
 //! Scripts whose reader or writer fails at each place in turn.
 
 use crate::page::Page;
-use crate::performing::{Told, line_count, perform, perform_into, print_answer};
+use crate::performing::{Script, Told, line_count, perform, perform_into, print_answer};
 use crate::streams::End;
 use std::alloc::Global;
 
@@ -45,7 +45,7 @@ impl Answers {
 }
 
 /// Lets the reader fail before each byte of the script in turn, and at its end; and then be interrupted.
-pub fn print_readers(alloc: Global, page: &mut Page, script: &[u8]) -> Option<()> {
+pub fn print_readers(alloc: Global, page: &mut Page, script: Script<'_>) -> Option<()> {
     print_fronts(alloc, page, script, End::Fails, "it fails, ")?;
     print_fronts(alloc, page, script, End::Interrupts, "it is interrupted, ")
 }
@@ -53,14 +53,18 @@ pub fn print_readers(alloc: Global, page: &mut Page, script: &[u8]) -> Option<()
 fn print_fronts(
     alloc: Global,
     page: &mut Page,
-    script: &[u8],
+    script: Script<'_>,
     end: End,
     label: &'static str,
 ) -> Option<()> {
     let whole = perform(alloc, script, usize::MAX, End::Stops)?;
     let mut answers = Answers::new(alloc, label);
-    for place in 0..=script.len() {
-        let told = perform(alloc, &script[..place], usize::MAX, end)?;
+    for place in 0..=script.bytes.len() {
+        let front = Script {
+            bytes: &script.bytes[..place],
+            ..script
+        };
+        let told = perform(alloc, front, usize::MAX, end)?;
         answers.push(page, place, &told, Some(line_count(&told.trace)));
         if !is_whole_lines(&told.trace) || !whole.trace.starts_with(&told.trace) {
             page.line("ANOTHER TRACE");
@@ -75,7 +79,7 @@ fn is_whole_lines(text: &[u8]) -> bool {
 
 /// Lets the writer take each count of bytes of the trace in turn, and then fail, be interrupted, or take
 /// no bytes.
-pub fn print_writers(alloc: Global, page: &mut Page, script: &[u8]) -> Option<()> {
+pub fn print_writers(alloc: Global, page: &mut Page, script: Script<'_>) -> Option<()> {
     print_rooms(alloc, page, script, End::Fails, "it fails, ")?;
     print_rooms(alloc, page, script, End::Interrupts, "it is interrupted, ")?;
     print_rooms(alloc, page, script, End::Stops, "it takes no bytes, ")
@@ -84,7 +88,7 @@ pub fn print_writers(alloc: Global, page: &mut Page, script: &[u8]) -> Option<()
 fn print_rooms(
     alloc: Global,
     page: &mut Page,
-    script: &[u8],
+    script: Script<'_>,
     end: End,
     label: &'static str,
 ) -> Option<()> {

@@ -4,8 +4,8 @@
 /// understood is none.
 pub fn push_line(script: &mut Vec<u8>, line: &str) -> Option<()> {
     let (times, line) = repeated(line).unwrap_or((1, line));
-    for _ in 0..times {
-        push_once(script, line)?;
+    for time in 1..=times {
+        push_once(script, line, time)?;
     }
     Some(())
 }
@@ -17,16 +17,17 @@ fn repeated(line: &str) -> Option<(u32, &str)> {
     Some((times, rest))
 }
 
-fn push_once(script: &mut Vec<u8>, line: &str) -> Option<()> {
+/// Adds a line that stands there for this time, counted from 1.
+fn push_once(script: &mut Vec<u8>, line: &str, time: u32) -> Option<()> {
     if let Some(line) = line.strip_suffix("[]") {
-        return push_text(script, line);
+        return push_text(script, line, time);
     }
-    push_text(script, line)?;
+    push_text(script, line, time)?;
     script.push(b'\n').ok()
 }
 
 /// Adds text, with what stands in brackets in place of it.
-fn push_text(script: &mut Vec<u8>, text: &str) -> Option<()> {
+fn push_text(script: &mut Vec<u8>, text: &str, time: u32) -> Option<()> {
     let (plain, more) = text.split_once('[').unwrap_or((text, ""));
     script.extend_from_slice(plain.as_bytes()).ok()?;
     if more.is_empty() {
@@ -34,14 +35,18 @@ fn push_text(script: &mut Vec<u8>, text: &str) -> Option<()> {
     }
     for part in more.split('[') {
         let (inside, plain) = part.split_once(']')?;
-        push_inside(script, inside)?;
+        push_inside(script, inside, time)?;
         script.extend_from_slice(plain.as_bytes()).ok()?;
     }
     Some(())
 }
 
-/// Adds an octet, or a text so often.
-fn push_inside(script: &mut Vec<u8>, inside: &str) -> Option<()> {
+/// Adds the time, an octet, or a text so often.
+fn push_inside(script: &mut Vec<u8>, inside: &str, time: u32) -> Option<()> {
+    if inside == "n" {
+        let time = time.to_string(*script.allocator()).ok()?;
+        return script.extend_from_slice(time.as_bytes()).ok();
+    }
     match inside.split_once('*') {
         Some((text, times)) => {
             let times = times.parse::<u32>().ok()?;

@@ -2,7 +2,7 @@
 
 use crate::desks::{print_desk_run, print_desk_steps};
 use crate::page::{INDENT, Page};
-use crate::performing::{print_script, print_trace};
+use crate::performing::{Script, Simulation, print_script, print_trace};
 use crate::places::{print_readers, print_writers};
 use crate::scripts::push_line;
 use crate::streams::End;
@@ -26,9 +26,9 @@ enum Block {
     /// The next line is in no block.
     Outside,
     /// Every line is a script.
-    Each,
+    Each(Simulation),
     /// The lines are a script.
-    Script(Call, Vec<u8>),
+    Script(Call, Simulation, Vec<u8>),
 }
 
 /// What the lines so far have printed, and the block that they have begun.
@@ -79,8 +79,8 @@ impl Session {
         }
         match &mut self.block {
             Block::Outside => self.begin(answers, line),
-            Block::Each => print_alone(self.alloc, answers, line),
-            Block::Script(_, script) => push_line(script, line),
+            Block::Each(simulation) => print_alone(self.alloc, answers, *simulation, line),
+            Block::Script(_, _, script) => push_line(script, line),
         }
     }
 
@@ -94,8 +94,7 @@ impl Session {
             "desk-steps" => return print_desk_steps(self.alloc, answers, name),
             "desk-run" => return print_desk_run(self.alloc, answers, name),
             "ending" => return print_ending(self.alloc, answers, name),
-            "each" => self.block = Block::Each,
-            _ => self.block = Block::Script(call_of(word)?, Vec::new(self.alloc)),
+            _ => self.block = block_of(self.alloc, word)?,
         }
         Some(())
     }
@@ -105,9 +104,24 @@ impl Session {
         let block = std::mem::replace(&mut self.block, Block::Outside);
         match block {
             Block::Outside => None,
-            Block::Each => Some(()),
-            Block::Script(call, script) => print_called(self.alloc, answers, call, &script),
+            Block::Each(_) => Some(()),
+            Block::Script(call, simulation, script) => {
+                let bytes = script.as_slice();
+                print_called(self.alloc, answers, call, Script { simulation, bytes })
+            }
         }
+    }
+}
+
+/// The block that begins with this word.
+fn block_of(alloc: Global, word: &str) -> Option<Block> {
+    let (simulation, word) = match word.strip_prefix("desk-") {
+        Some(word) => (Simulation::Desks, word),
+        None => (Simulation::Sides, word),
+    };
+    match word {
+        "each" => Some(Block::Each(simulation)),
+        _ => Some(Block::Script(call_of(word)?, simulation, Vec::new(alloc))),
     }
 }
 
@@ -121,7 +135,7 @@ fn call_of(word: &str) -> Option<Call> {
     }
 }
 
-fn print_called(alloc: Global, page: &mut Page, call: Call, script: &[u8]) -> Option<()> {
+fn print_called(alloc: Global, page: &mut Page, call: Call, script: Script<'_>) -> Option<()> {
     match call {
         Call::Script => print_script(alloc, page, script, End::Stops),
         Call::Broken => print_script(alloc, page, script, End::Fails),
@@ -131,10 +145,11 @@ fn print_called(alloc: Global, page: &mut Page, call: Call, script: &[u8]) -> Op
 }
 
 /// Performs a line as a script of its own.
-fn print_alone(alloc: Global, page: &mut Page, line: &str) -> Option<()> {
-    let mut script = Vec::new(alloc);
-    push_line(&mut script, line)?;
-    print_trace(alloc, page, &script, End::Stops)?;
+fn print_alone(alloc: Global, page: &mut Page, simulation: Simulation, line: &str) -> Option<()> {
+    let mut bytes = Vec::new(alloc);
+    push_line(&mut bytes, line)?;
+    let bytes = bytes.as_slice();
+    print_trace(alloc, page, Script { simulation, bytes }, End::Stops)?;
     page.text("\n");
     Some(())
 }

@@ -6,7 +6,7 @@ use Rattle.ill_world.specs.declared.fault.SimFault.{SimFault}
 use Rattle.ill_world.specs.Desks.{DeskParties, first_desks, desks_happen, desks_run}
 use Rattle.ill_world.specs.DeskScript.{EventIn, desk_meaning, says_in}
 use Rattle.ill_world.specs.Trace.{desk_line}
-use Rattle.ill_world.specs.Play.{Play, Said, ends, breaks_off, says_on, trace_from, Plays}
+use Rattle.ill_world.specs.Play.{Play, Said, ends, says_on, trace_from, Plays}
 
 -- Two desks: each line says what it means in the transaction in use, which is carried from line to line.
 abbrev pub two_desks : Play DeskParties EventIn (Option Qualifiers)

@@ -43,24 +43,49 @@ fn begins(alloc: Global) -> Option<Outcome> {
 /// `put` of the first side, which makes room for all that is kept of it.
 fn puts(alloc: Global) -> Option<Outcome> {
     let mut sides = Sides::new(alloc, Role::Requester).ok()?;
-    let (side, id) = (asking(alloc)?, txn(alloc, "T1")?);
+    let outcome = puts_in(alloc, &mut sides);
+    drop(sides);
+    outcome
+}
+
+fn puts_in(alloc: Global, sides: &mut Sides) -> Option<Outcome> {
+    let (side, id) = asking(alloc).zip(txn(alloc, "T1"))?;
     begin(alloc);
     let answer = sides.put(alloc, side);
     let refused = end(alloc);
-    Some(match answer {
-        Ok(()) => done_if(sides.len() == 1 && sides.get(&id).is_some()),
-        Err((SidesFault::OutOfMemory, back)) => {
-            let is_same = sides.len() == 0 && *back.txn() == id && back.issued_count() == 1;
-            leaving(judged(Outcome::Memory, refused), is_same)
+    let (fault, back) = answer.err().unzip();
+    let outcome = match fault {
+        None => done_if(sides.len() == 1 && sides.get(&id).is_some()),
+        Some(SidesFault::OutOfMemory) => {
+            leaving(
+                judged(Outcome::Memory, refused),
+                sides.len() == 0 && is_asking(&back, &id),
+            )
         }
-        Err(_) => Outcome::Wrong,
-    })
+        Some(_) => Outcome::Wrong,
+    };
+    drop((back, id));
+    Some(outcome)
+}
+
+/// Whether this is a side of the transaction that has asked.
+fn is_asking(side: &Option<Side>, txn: &TxnId) -> bool {
+    match side {
+        Some(side) => side.txn() == txn && side.issued_count() == 1,
+        None => false,
+    }
 }
 
 /// `put` of an idle side, and of one whose transaction is held.
 fn refuses(alloc: Global) -> Option<Outcome> {
     let mut sides = held(alloc)?;
-    let (again, idle) = (asking(alloc)?, idle(alloc)?);
+    let outcome = refuses_in(alloc, &mut sides);
+    drop(sides);
+    outcome
+}
+
+fn refuses_in(alloc: Global, sides: &mut Sides) -> Option<Outcome> {
+    let (again, idle) = asking(alloc).zip(idle(alloc))?;
     begin(alloc);
     let twice = fault_of(sides.put(alloc, again));
     let none = fault_of(sides.put(alloc, idle));
@@ -79,6 +104,12 @@ fn fault_of(answer: Result<(), (SidesFault, Side)>) -> Option<SidesFault> {
 /// `get`, `at`, `len` and `role`
 fn finds(alloc: Global) -> Option<Outcome> {
     let sides = held(alloc)?;
+    let outcome = finds_in(alloc, &sides);
+    drop(sides);
+    outcome
+}
+
+fn finds_in(alloc: Global, sides: &Sides) -> Option<Outcome> {
     let id = txn(alloc, "T1")?;
     begin(alloc);
     let is_found = sides.get(&id).is_some() && sides.at(0).is_some() && sides.at(1).is_none();
@@ -93,6 +124,7 @@ fn encodes(alloc: Global) -> Option<Outcome> {
     begin(alloc);
     let bytes = encode_record2(alloc, &sides);
     let refused = end(alloc);
+    drop(sides);
     Some(encoded(&bytes, RECORD, refused))
 }
 
@@ -139,11 +171,12 @@ fn fault_in(alloc: Global, record: &[u8]) -> Option<RecordFault> {
 
 /// A side that has asked, among the sides of one library.
 fn held(alloc: Global) -> Option<Sides> {
+    let side = asking(alloc)?;
     let mut sides = Sides::new(alloc, Role::Requester).ok()?;
-    match sides.put(alloc, asking(alloc)?) {
-        Ok(()) => Some(sides),
-        Err(_) => None,
-    }
+    let refused = sides.put(alloc, side).err();
+    let is_put = refused.is_none();
+    drop(refused);
+    is_put.then_some(sides)
 }
 
 fn idle(alloc: Global) -> Option<Side> {
@@ -152,9 +185,16 @@ fn idle(alloc: Global) -> Option<Side> {
 }
 
 fn asking(alloc: Global) -> Option<Side> {
-    let mut side = idle(alloc)?;
     let item = Item::new(alloc, b"Maps").ok()?;
     let request = Action::Wish(Wish::Request { expiry: None, item });
-    side.act(alloc, &request).ok()?;
-    Some(side)
+    let asking = idle(alloc).and_then(|side| acting(alloc, side, &request));
+    drop(request);
+    asking
+}
+
+/// The side behind an action, if it does that.
+fn acting(alloc: Global, side: Side, action: &Action) -> Option<Side> {
+    let mut side = side;
+    let is_done = side.act(alloc, action).is_ok();
+    is_done.then_some(side)
 }

@@ -50,7 +50,7 @@ fn request(alloc: Global, txn: TxnId) -> Option<Apdu> {
     Some(Apdu { txn, number, body })
 }
 
-/// `each`: where each side stands, in the order in which they were first seen.
+/// `each`: where each side stands, in the order in which they were begun.
 fn write_each<S: Store>(line: &mut Line, desk: &Desk<S>) -> Option<()> {
     write_held(line, desk.sides());
     for place in 0..desk.sides().len() {

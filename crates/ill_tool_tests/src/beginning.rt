@@ -28,8 +28,9 @@ pub fn begin(
         return None;
     };
     let role = who(role.text.as_bytes())?;
+    let txn = TxnId::new(alloc, b"G1", b"T1").ok()?;
     let store = store_of(alloc, memory, store)?;
-    match begin_over(alloc, store, beginning, role, &mut call.output)? {
+    match begin_over(alloc, store, beginning, role, txn, &mut call.output) {
         Ok(begun) => {
             call.tell_answer(page, names, &Ok::<(), ToolFault>(()));
             begun.tell_begun(page);
@@ -62,26 +63,27 @@ fn new_store(alloc: Global, plan: &Word) -> Option<MemoryStore> {
     Some(store)
 }
 
-/// What the engine answers over this store.
+/// What the engine answers over this store. A desk begins without the transaction.
 fn begin_over(
     alloc: Global,
     store: MemoryStore,
     beginning: Beginning,
     role: Role,
+    txn: TxnId,
     output: &mut Sink,
-) -> Option<Result<Memory, (ToolFault, MemoryStore)>> {
+) -> Result<Memory, (ToolFault, MemoryStore)> {
     match beginning {
-        Beginning::Side => {
-            let txn = TxnId::new(alloc, b"G1", b"T1").ok()?;
-            match run_new(alloc, store, role, txn, output) {
-                Ok(desk) => Some(Ok(Memory::Side(desk))),
-                Err(refused) => Some(Err(refused)),
+        Beginning::Side => match run_new(alloc, store, role, txn, output) {
+            Ok(desk) => Ok(Memory::Side(desk)),
+            Err(refused) => Err(refused),
+        },
+        Beginning::Desk => {
+            drop(txn);
+            match run_desk_new(alloc, store, role, output) {
+                Ok(desk) => Ok(Memory::Desk(desk)),
+                Err(refused) => Err(refused),
             }
         }
-        Beginning::Desk => match run_desk_new(alloc, store, role, output) {
-            Ok(desk) => Some(Ok(Memory::Desk(desk))),
-            Err(refused) => Some(Err(refused)),
-        },
     }
 }
 

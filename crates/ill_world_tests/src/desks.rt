@@ -1,99 +1,137 @@
 //! Events of two desks as values, performed one by one or as a list.
 
+use crate::list::EventList;
 use crate::page::Page;
-use crate::performing::txn;
 use ill_core::{Deed, Wish};
 use ill_values::{Day, Item, Number, TxnId};
 use ill_world::{Bytes, DeskEvent, DeskWorld, Who, push_side, run_desks};
 use std::alloc::Global;
 
+/// The transactions of both loans.
+const FIRST: &[u8] = b"T1";
+
+const SECOND: &[u8] = b"T2";
+
 /// A Cancel of another transaction than the one that is shown.
 const OTHER_CANCEL: &[u8] = b"\x66\x10\x80\x01\x01\xA1\x08\x81\x02G1\x82\x02T2\x82\x01\x02";
 
-/// The events of this name.
-fn desk_events(alloc: Global, name: &str) -> Option<Vec<DeskEvent>> {
-    match name {
-        "two-loans" => two_loans(alloc),
-        "noise" => {
-            let mut events = Vec::new(alloc);
-            let bytes = Bytes::new(Vec::from_slice(alloc, OTHER_CANCEL).ok()?);
-            events.push(DeskEvent::Noise(Who::Responder, bytes)).ok()?;
-            Some(events)
-        }
-        _ => None,
-    }
-}
+type Events = EventList<DeskEvent>;
 
-/// Two requests, of which the responder's desk forgets what it has taken, and one comes again.
-fn two_loans(alloc: Global) -> Option<Vec<DeskEvent>> {
-    let one = Number::new(1)?;
-    let today = Day::new(2025, 3, 1).ok()?;
-    let due = Day::new(2025, 3, 15).ok()?;
-    let mut events = Vec::new(alloc);
-    push_request(alloc, &mut events, txn(alloc)?, b"Maps")?;
-    push_request(alloc, &mut events, second(alloc)?, b"Atlas")?;
-    events.push(DeskEvent::Save(Who::Requester)).ok()?;
-    push_delivered(&mut events, second(alloc)?, second(alloc)?)?;
-    push_delivered(&mut events, txn(alloc)?, txn(alloc)?)?;
-    let ship = DeskEvent::Deed(txn(alloc)?, Deed::Ship { due }, today);
-    events.push(ship).ok()?;
-    events.push(DeskEvent::Restart(Who::Responder)).ok()?;
-    let again = DeskEvent::Deliver(Who::Responder, txn(alloc)?, one);
-    events.push(again).ok()?;
-    let recall = DeskEvent::Deed(second(alloc)?, Deed::Recall, today);
-    events.push(recall).ok()?;
-    let again = DeskEvent::Deliver(Who::Responder, second(alloc)?, one);
-    events.push(again).ok()?;
+/// The events of this name.
+fn desk_events(alloc: Global, name: &str) -> Option<Events> {
+    let mut events = Events::new(alloc);
+    match name {
+        "two-loans" => two_loans(&mut events, alloc),
+        "noise" => events.push(noise(alloc)),
+        _ => return None,
+    }
     Some(events)
 }
 
-/// The other transaction.
-fn second(alloc: Global) -> Option<TxnId> {
-    TxnId::new(alloc, b"G1", b"T2").ok()
+/// Two requests, of which the responder's desk forgets what it has taken, and one comes again.
+fn two_loans(events: &mut Events, alloc: Global) {
+    events.push(request(alloc, FIRST, b"Maps"));
+    events.push(request(alloc, SECOND, b"Atlas"));
+    events.push(Some(DeskEvent::Save(Who::Requester)));
+    events.push(sent(alloc, SECOND));
+    events.push(delivered(alloc, SECOND));
+    events.push(sent(alloc, FIRST));
+    events.push(delivered(alloc, FIRST));
+    events.push(ship(alloc));
+    events.push(Some(DeskEvent::Restart(Who::Responder)));
+    events.push(delivered(alloc, FIRST));
+    events.push(recall(alloc));
+    events.push(delivered(alloc, SECOND));
 }
 
-fn push_request(alloc: Global, events: &mut Vec<DeskEvent>, txn: TxnId, item: &[u8]) -> Option<()> {
+fn id(alloc: Global, transaction: &[u8]) -> Option<TxnId> {
+    TxnId::new(alloc, b"G1", transaction).ok()
+}
+
+fn request(alloc: Global, transaction: &[u8], item: &[u8]) -> Option<DeskEvent> {
     let item = Item::new(alloc, item).ok()?;
     let request = Wish::Request { expiry: None, item };
-    events.push(DeskEvent::Wish(txn, request)).ok()
+    Some(DeskEvent::Wish(id(alloc, transaction)?, request))
 }
 
-/// The request of a transaction, which is given twice, is sent, and the responder takes it.
-fn push_delivered(events: &mut Vec<DeskEvent>, txn: TxnId, same: TxnId) -> Option<()> {
+/// The requester sends its request.
+fn sent(alloc: Global, transaction: &[u8]) -> Option<DeskEvent> {
     let one = Number::new(1)?;
-    events.push(DeskEvent::Send(Who::Requester, txn, one)).ok()?;
-    events
-        .push(DeskEvent::Deliver(Who::Responder, same, one))
-        .ok()
+    Some(DeskEvent::Send(Who::Requester, id(alloc, transaction)?, one))
 }
 
-/// Performs the events of this name one by one, and prints a line for each, of the transaction that was
-/// named last: its number, what is seen of it, and both sides.
+/// The request reaches the responder.
+fn delivered(alloc: Global, transaction: &[u8]) -> Option<DeskEvent> {
+    let one = Number::new(1)?;
+    Some(DeskEvent::Deliver(Who::Responder, id(alloc, transaction)?, one))
+}
+
+fn ship(alloc: Global) -> Option<DeskEvent> {
+    let due = Day::new(2025, 3, 15).ok()?;
+    deed(alloc, FIRST, Deed::Ship { due })
+}
+
+fn recall(alloc: Global) -> Option<DeskEvent> {
+    deed(alloc, SECOND, Deed::Recall)
+}
+
+/// What the responder's library does on 1 March.
+fn deed(alloc: Global, transaction: &[u8], deed: Deed) -> Option<DeskEvent> {
+    let today = Day::new(2025, 3, 1).ok()?;
+    Some(DeskEvent::Deed(id(alloc, transaction)?, deed, today))
+}
+
+fn noise(alloc: Global) -> Option<DeskEvent> {
+    let bytes = Bytes::new(Vec::from_slice(alloc, OTHER_CANCEL).ok()?);
+    Some(DeskEvent::Noise(Who::Responder, bytes))
+}
+
+/// Performs the events of this name one by one, and prints a line for each.
 pub fn print_desk_steps(alloc: Global, page: &mut Page, name: &str) -> Option<()> {
-    let mut world = DeskWorld::new(alloc).ok()?;
-    let first = txn(alloc)?;
     let events = desk_events(alloc, name)?;
+    let mut world = DeskWorld::new(alloc).ok()?;
+    let printed = perform_steps(alloc, page, &mut world, &events);
+    drop(world);
+    printed
+}
+
+/// Performs events, and prints a line for each, of the transaction that was named last: its number, what is
+/// seen of it, and both sides.
+fn perform_steps(
+    alloc: Global,
+    page: &mut Page,
+    world: &mut DeskWorld,
+    events: &Events,
+) -> Option<()> {
+    let first = id(alloc, FIRST)?;
     let mut shown = &first;
     let mut number: u32 = 0;
-    for event in &events {
+    for event in events.all()? {
         shown = named(event).unwrap_or(shown);
         number = number.checked_add(1)?;
         let outcome = world.step(alloc, event).ok()?;
         page.show(&number);
         page.text(" ");
         page.text(outcome.word());
-        print_sides(alloc, page, &world, shown)?;
+        print_sides(alloc, page, world, shown)?;
     }
     Some(())
 }
 
 /// Performs the events of this name as a list, and prints both sides of each transaction.
 pub fn print_desk_run(alloc: Global, page: &mut Page, name: &str) -> Option<()> {
-    let world = run_desks(alloc, &desk_events(alloc, name)?).ok()?;
+    let events = desk_events(alloc, name)?;
+    let world = run_desks(alloc, events.all()?).ok()?;
+    let printed = print_both(alloc, page, &world);
+    drop(world);
+    printed
+}
+
+fn print_both(alloc: Global, page: &mut Page, world: &DeskWorld) -> Option<()> {
     page.text("T1");
-    print_sides(alloc, page, &world, &txn(alloc)?)?;
+    print_sides(alloc, page, world, &id(alloc, FIRST)?)?;
     page.text("T2");
-    print_sides(alloc, page, &world, &second(alloc)?)
+    print_sides(alloc, page, world, &id(alloc, SECOND)?)
 }
 
 /// The transaction that an event names.

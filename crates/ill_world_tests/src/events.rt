@@ -1,5 +1,6 @@
 //! Events as values.
 
+use crate::list::EventList;
 use ill_core::{Deed, Wish};
 use ill_values::{AnswerResult, Day, Item, Number};
 use ill_world::{Bytes, Event, Who};
@@ -10,114 +11,117 @@ const CANCEL: &[u8] = b"\x66\x10\x80\x01\x01\xA1\x08\x81\x02G1\x82\x02T1\x82\x01
 
 const OTHER_CANCEL: &[u8] = b"\x66\x10\x80\x01\x01\xA1\x08\x81\x02G1\x82\x02T2\x82\x01\x02";
 
+type Events = EventList<Event>;
+
 /// The events of this name.
-pub fn events(alloc: Global, name: &str) -> Option<Vec<Event>> {
+pub fn events(alloc: Global, name: &str) -> Option<Events> {
+    let mut events = Events::new(alloc);
     match name {
-        "crossing" => crossing(alloc),
-        "refused" => refused(alloc),
-        "cancelled" => cancelled(alloc),
-        "declined" => declined(alloc),
-        "promised" => promised(alloc),
-        _ => None,
+        "crossing" => crossing(&mut events, alloc),
+        "refused" => refused(&mut events, alloc),
+        "cancelled" => cancelled(&mut events, alloc),
+        "declined" => declined(&mut events, alloc),
+        "promised" => promised(&mut events, alloc),
+        _ => return None,
     }
+    Some(events)
 }
 
 /// A Cancel and a Shipped that cross.
-fn crossing(alloc: Global) -> Option<Vec<Event>> {
-    let (one, two) = (Number::new(1)?, Number::new(2)?);
-    let due = Day::new(2025, 3, 15).ok()?;
-    let mut events = requested(alloc)?;
-    push_deed(&mut events, Deed::Ship { due })?;
-    push_sent(&mut events, Who::Responder, one)?;
-    events.push(Event::Wish(Wish::Cancel)).ok()?;
-    push_sent(&mut events, Who::Requester, two)?;
-    events.push(Event::Deliver(Who::Requester, one)).ok()?;
-    events.push(Event::Deliver(Who::Responder, two)).ok()?;
-    Some(events)
-}
-
-/// The responder has taken the request.
-fn requested(alloc: Global) -> Option<Vec<Event>> {
-    let item = Item::new(alloc, b"Maps").ok()?;
-    let request = Wish::Request { expiry: None, item };
-    let mut events = Vec::new(alloc);
-    events.push(Event::Wish(request)).ok()?;
-    push_delivered(&mut events, Who::Requester, Number::new(1)?)?;
-    Some(events)
+fn crossing(events: &mut Events, alloc: Global) {
+    push_requested(events, alloc);
+    events.push(ship());
+    push_sent(events, Who::Responder, 1);
+    events.push(Some(Event::Wish(Wish::Cancel)));
+    push_sent(events, Who::Requester, 2);
+    events.push(delivered(Who::Requester, 1));
+    events.push(delivered(Who::Responder, 2));
 }
 
 /// A Cancel that is refused, and another that is accepted.
-fn cancelled(alloc: Global) -> Option<Vec<Event>> {
-    let mut events = requested(alloc)?;
-    events.push(Event::Wish(Wish::Cancel)).ok()?;
-    push_delivered(&mut events, Who::Requester, Number::new(2)?)?;
-    push_deed(&mut events, Deed::CancelReply { yes: false })?;
-    push_delivered(&mut events, Who::Responder, Number::new(1)?)?;
-    events.push(Event::Wish(Wish::Cancel)).ok()?;
-    push_delivered(&mut events, Who::Requester, Number::new(3)?)?;
-    push_deed(&mut events, Deed::CancelReply { yes: true })?;
-    push_delivered(&mut events, Who::Responder, Number::new(2)?)?;
-    Some(events)
+fn cancelled(events: &mut Events, alloc: Global) {
+    push_requested(events, alloc);
+    events.push(Some(Event::Wish(Wish::Cancel)));
+    push_delivered(events, Who::Requester, 2);
+    events.push(deed(Deed::CancelReply { yes: false }));
+    push_delivered(events, Who::Responder, 1);
+    events.push(Some(Event::Wish(Wish::Cancel)));
+    push_delivered(events, Who::Requester, 3);
+    events.push(deed(Deed::CancelReply { yes: true }));
+    push_delivered(events, Who::Responder, 2);
 }
 
 /// Conditions that are declined.
-fn declined(alloc: Global) -> Option<Vec<Event>> {
-    let mut events = requested(alloc)?;
-    let result = AnswerResult::Conditional;
-    push_deed(&mut events, Deed::Answer(result))?;
-    push_delivered(&mut events, Who::Responder, Number::new(1)?)?;
-    events.push(Event::Wish(Wish::Reply { yes: false })).ok()?;
-    push_delivered(&mut events, Who::Requester, Number::new(2)?)?;
-    push_delivered(&mut events, Who::Responder, Number::new(2)?)?;
-    Some(events)
+fn declined(events: &mut Events, alloc: Global) {
+    push_requested(events, alloc);
+    events.push(deed(Deed::Answer(AnswerResult::Conditional)));
+    push_delivered(events, Who::Responder, 1);
+    events.push(Some(Event::Wish(Wish::Reply { yes: false })));
+    push_delivered(events, Who::Requester, 2);
+    push_delivered(events, Who::Responder, 2);
 }
 
 /// A supply that is promised as often as there are numbers, and once more.
-fn promised(alloc: Global) -> Option<Vec<Event>> {
-    let mut events = requested(alloc)?;
+fn promised(events: &mut Events, alloc: Global) {
+    push_requested(events, alloc);
     for _ in 0..256 {
-        push_deed(&mut events, Deed::Answer(AnswerResult::WillSupply))?;
+        events.push(deed(Deed::Answer(AnswerResult::WillSupply)));
     }
-    Some(events)
-}
-
-fn push_deed(events: &mut Vec<Event>, deed: Deed) -> Option<()> {
-    events.push(Event::Deed(deed, first_of_march()?)).ok()
-}
-
-/// A side is saved and sends a message, and the other takes it.
-fn push_delivered(events: &mut Vec<Event>, who: Who, number: Number) -> Option<()> {
-    push_sent(events, who, number)?;
-    events.push(Event::Deliver(who.other(), number)).ok()
-}
-
-fn first_of_march() -> Option<Day> {
-    Day::new(2025, 3, 1).ok()
-}
-
-/// A side is saved, and sends a message.
-fn push_sent(events: &mut Vec<Event>, who: Who, number: Number) -> Option<()> {
-    events.push(Event::Save(who)).ok()?;
-    events.push(Event::Send(who, number)).ok()
 }
 
 /// Events that change no live side.
-fn refused(alloc: Global) -> Option<Vec<Event>> {
-    let one = Number::new(1)?;
-    let mut events = Vec::new(alloc);
-    events.push(Event::Wish(Wish::Cancel)).ok()?;
-    push_deed(&mut events, Deed::Expire)?;
-    events.push(Event::Send(Who::Responder, one)).ok()?;
-    events.push(Event::Deliver(Who::Responder, one)).ok()?;
-    events.push(noise(alloc, Who::Requester, b"")?).ok()?;
-    events.push(noise(alloc, Who::Requester, CANCEL)?).ok()?;
-    events
-        .push(noise(alloc, Who::Responder, OTHER_CANCEL)?)
-        .ok()?;
-    events.push(save_fault(Who::Requester, true)).ok()?;
-    events.push(save_fault(Who::Responder, false)).ok()?;
-    events.push(Event::Restart(Who::Responder)).ok()?;
-    Some(events)
+fn refused(events: &mut Events, alloc: Global) {
+    events.push(Some(Event::Wish(Wish::Cancel)));
+    events.push(deed(Deed::Expire));
+    events.push(sent(Who::Responder, 1));
+    events.push(delivered(Who::Responder, 1));
+    events.push(noise(alloc, Who::Requester, b""));
+    events.push(noise(alloc, Who::Requester, CANCEL));
+    events.push(noise(alloc, Who::Responder, OTHER_CANCEL));
+    events.push(Some(save_fault(Who::Requester, true)));
+    events.push(Some(save_fault(Who::Responder, false)));
+    events.push(Some(Event::Restart(Who::Responder)));
+}
+
+/// The responder takes the request.
+fn push_requested(events: &mut Events, alloc: Global) {
+    events.push(request(alloc));
+    push_delivered(events, Who::Requester, 1);
+}
+
+/// A side is saved and sends a message, and the other takes it.
+fn push_delivered(events: &mut Events, who: Who, number: u8) {
+    push_sent(events, who, number);
+    events.push(delivered(who.other(), number));
+}
+
+/// A side is saved, and sends a message.
+fn push_sent(events: &mut Events, who: Who, number: u8) {
+    events.push(Some(Event::Save(who)));
+    events.push(sent(who, number));
+}
+
+fn request(alloc: Global) -> Option<Event> {
+    let item = Item::new(alloc, b"Maps").ok()?;
+    Some(Event::Wish(Wish::Request { expiry: None, item }))
+}
+
+fn ship() -> Option<Event> {
+    let due = Day::new(2025, 3, 15).ok()?;
+    deed(Deed::Ship { due })
+}
+
+/// What the responder's library does on 1 March.
+fn deed(deed: Deed) -> Option<Event> {
+    Some(Event::Deed(deed, Day::new(2025, 3, 1).ok()?))
+}
+
+fn sent(who: Who, number: u8) -> Option<Event> {
+    Some(Event::Send(who, Number::new(number)?))
+}
+
+fn delivered(who: Who, number: u8) -> Option<Event> {
+    Some(Event::Deliver(who, Number::new(number)?))
 }
 
 fn noise(alloc: Global, who: Who, bytes: &[u8]) -> Option<Event> {

@@ -9,6 +9,7 @@
 
 mod desks;
 mod events;
+mod list;
 mod page;
 mod performing;
 mod places;

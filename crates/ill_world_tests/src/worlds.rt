@@ -1,6 +1,7 @@
 //! Events as values, performed one by one or as a list, and the world that they lead to.
 
 use crate::events::events;
+use crate::list::EventList;
 use crate::page::Page;
 use crate::performing::txn;
 use ill_core::State;
@@ -12,11 +13,23 @@ use std::alloc::Global;
 /// Performs the events of this name one by one, and prints what is seen of each, and how both sides stand
 /// in the end.
 pub fn print_steps(alloc: Global, page: &mut Page, name: &str) -> Option<()> {
+    let events = events(alloc, name)?;
     let mut world = World::new(alloc, &txn(alloc)?).ok()?;
-    for event in &events(alloc, name)? {
-        print_step(alloc, page, &mut world, event)?;
+    let printed = perform_steps(alloc, page, &mut world, &events);
+    drop(world);
+    printed
+}
+
+fn perform_steps(
+    alloc: Global,
+    page: &mut Page,
+    world: &mut World,
+    events: &EventList<Event>,
+) -> Option<()> {
+    for event in events.all()? {
+        print_step(alloc, page, world, event)?;
     }
-    print_world(alloc, page, &world)
+    print_world(alloc, page, world)
 }
 
 fn print_step(alloc: Global, page: &mut Page, world: &mut World, event: &Event) -> Option<()> {
@@ -35,14 +48,24 @@ fn print_step(alloc: Global, page: &mut Page, world: &mut World, event: &Event) 
 
 /// Performs the events of this name as a list, and prints how both sides stand in the end.
 pub fn print_run(alloc: Global, page: &mut Page, name: &str) -> Option<()> {
-    let world = run(alloc, &txn(alloc)?, &events(alloc, name)?).ok()?;
-    print_world(alloc, page, &world)
+    let world = run_named(alloc, name)?;
+    let printed = print_world(alloc, page, &world);
+    drop(world);
+    printed
+}
+
+/// The world after the events of this name.
+fn run_named(alloc: Global, name: &str) -> Option<World> {
+    let events = events(alloc, name)?;
+    run(alloc, &txn(alloc)?, events.all()?).ok()
 }
 
 /// Performs the events of this name as a list, and prints which message has ended the request.
 pub fn print_ending(alloc: Global, page: &mut Page, name: &str) -> Option<()> {
-    let world = run(alloc, &txn(alloc)?, &events(alloc, name)?).ok()?;
-    match world.responder().ending() {
+    let world = run_named(alloc, name)?;
+    let ending = world.responder().ending();
+    drop(world);
+    match ending {
         Some(number) => {
             page.text("message ");
             page.show(&number.get());

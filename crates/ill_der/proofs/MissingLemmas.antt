@@ -1,5 +1,5 @@
 -- How many more bytes an APDU needs at least: shorter bytes are short, and bytes that need no more are not.
-use Rattle.std.proofs.Common.{◌≡◌, ℕ, ◌+◌, ◌-◌, ◌<◌, ◌≤◌, Bool, true, false, cond, ltb, List, [], ◌∷◌, ◌++◌, length, take, drop, Option, Some, None, is_some, Ok, Err, inl, inr, refl, sym, ap, subst, ◌∙◌, arith}
+use Rattle.std.proofs.Common.{◌≡◌, ℕ, ◌+◌, ◌-◌, ◌<◌, ◌≤◌, Bool, true, false, cond, ltb, List, [], ◌∷◌, ◌++◌, length, take, drop, Option, Some, None, is_some, Result, Ok, Err, inl, inr, refl, sym, ap, subst, ◌∙◌, arith}
 use Rattle.std.proofs.lemmas.Bool.{cases_lt, ltb-true, ltb-false, lt-ltb}
 use Rattle.std.proofs.lemmas.List.{append-nil, length-append, length-take-le, length-drop, take-append-le, take-append-drop}
 use Rattle.std.proofs.lemmas.Slice.{take-put_mid, drop-put_mid}
@@ -7,16 +7,20 @@ use Rattle.std.proofs.Math.Seq.{take-append-add}
 use borrow.Rule.Slice.PartMut.{put_mid}
 use Rattle.ill_der.specs.declared.fault.DerFault.{DerFault}
 use Rattle.ill_der.specs.declared.fault.DerFault.TheVariants.{Short, Length, Tag, Field, OutOfMemory}
+use Rattle.ill_der.specs.declared.fault.ReadFault.{ReadFault}
+use Rattle.ill_values.specs.declared.apdu.Apdu.{Apdu}
+use Rattle.ill_der.specs.Laws.{IsBytes}
+use Rattle.std.specs.Prelude.{IsErrAnd}
 use Rattle.ill_der.specs.declared.apdu_type.ApduType.{ApduType}
 use Rattle.ill_der.specs.declared.length.LengthForm.{LengthForm}
 use Rattle.ill_der.specs.declared.length.LengthForm.TheVariants.{Truncated, Invalid, Definite}
 use Rattle.ill_der.specs.Format.{◌>>=◌, length_of, IsFew}
 use Rattle.ill_der.specs.Types.{type_with}
 use Rattle.ill_der.specs.ShortForm.{header_by, header_of, header_at, outer_at, inside_of, apdu_at, Decodes}
-use Rattle.ill_der.specs.Stream.{IsUnfinished, AreUnfinished, IfShort, missing_by, missing_of}
+use Rattle.ill_der.specs.Stream.{IsUnfinished, AreUnfinished, IfShort, IsJudged, read_fault, missing_by, missing_of}
 use Rattle.ill_der.proofs.Chains.{bind_err, chosen, no_value, tag_inside, length_inside}
 use Rattle.ill_der.proofs.Lengths.{length_few}
-use Rattle.ill_der.proofs.StreamLemmas.{decodes_err}
+use Rattle.ill_der.proofs.StreamLemmas.{decodes_err, spelled_without_memory}
 use Rattle.ill_der.proofs.ContentsLaws.{Values}
 use Rattle.ill_der.proofs.ShortFormLaws.{IsFinal, length_more, outer_with, outer_behind, outer_of, outer_is, outer_none, inside_faults}
 
@@ -133,6 +137,21 @@ refused values bytes fault other none h =
       | inl e ↦ (e, not_short values bytes fault none e)
       | inr e ↦ absurd (other e.0)
     ]
+
+-- the fault of unfinished bytes of which none is missing, as it is handed on
+judged_fault : Values → (bytes : List ℕ) (fault : DerFault) → IsBytes bytes → AreUnfinished bytes → missing_of bytes ≡ 0 → Decodes bytes (apdu_at bytes) (Err fault)
+    → IsJudged bytes (Err (read_fault fault))
+judged_fault values bytes OutOfMemory fits fronts none h = spelled_without_memory values bytes fits fronts h
+judged_fault values bytes (Short at) fits fronts none h = refused values bytes (Short at) (λ e. absurd cc) none h
+judged_fault values bytes (Tag at) fits fronts none h = refused values bytes (Tag at) (λ e. absurd cc) none h
+judged_fault values bytes (Length at) fits fronts none h = refused values bytes (Length at) (λ e. absurd cc) none h
+judged_fault values bytes (Field at) fits fronts none h = refused values bytes (Field at) (λ e. absurd cc) none h
+
+pub handed_on : Values → (bytes : List ℕ) (fault : DerFault) (r : Result (Option Apdu) ReadFault) → IsBytes bytes → AreUnfinished bytes → missing_of bytes ≡ 0
+    → Decodes bytes (apdu_at bytes) (Err fault) → IsErrAnd r (λ handed. handed ≡ read_fault fault) → IsJudged bytes r
+handed_on values bytes fault (Ok found) fits fronts none h is = absurd is
+handed_on values bytes fault (Err handed) fits fronts none h is =
+    subst (λ (f : ReadFault). IsJudged bytes (Err f)) (sym is) (judged_fault values bytes fault fits fronts none h)
 
 -- ---- no APDU is longer than 359 bytes
 

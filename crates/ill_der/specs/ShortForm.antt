@@ -30,7 +30,7 @@ txn_id = constructed 0xA1 qualifiers
 abbrev pub head : Format (Unit {0} × ((List ℕ × List ℕ) × ℕ))
 head = followed_by (required 0x80 version) (followed_by txn_id (required 0x82 number))
 
--- The further fields, by seven shapes. An ILL-Request has an expiry date, if any, and its item.
+-- The further fields, by their shapes. An ILL-Request has an expiry date, if any, and its item.
 abbrev pub request : Format (Option Date × List ℕ)
 request = followed_by (optional 0x85 date) (required 0x86 item)
 

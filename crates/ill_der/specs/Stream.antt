@@ -46,6 +46,11 @@ IsAnswer bytes left (Err faults.OutOfMemory) = SpellsOne bytes
 abbrev pub ReadsApdu : Option (List ℕ) → Option (List ℕ) → Result (Option Apdu) ReadFault → Type 0
 ReadsApdu old new result = (bytes : List ℕ) × Consumes old new bytes × IsAnswer bytes new result
 
+-- what a fault of the bytes is to the reading: want of memory is its own
+abbrev pub read_fault : DerFault → ReadFault
+read_fault OutOfMemory = faults.OutOfMemory
+read_fault other = faults.Bytes other
+
 -- What bytes say that are not short, where each proper front of them is unfinished: their APDU or
 -- their fault.
 abbrev pub IsJudged : List ℕ → Result (Option Apdu) ReadFault → Type 0

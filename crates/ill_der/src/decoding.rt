@@ -33,13 +33,8 @@ pub fn decode(alloc: Global, bytes: &[u8]) -> Result<(Apdu, usize), DerFault>
     ensures read { Decodes bytes.now (apdu_at bytes.now) result }
     ensures most { IfOk result (λ found. found.1 ≤ 359) }
 {
-    match view(bytes) {
-        Ok((apdu, size)) => match apdu.to_apdu(alloc) {
-            Ok(apdu) => Ok((apdu, size)),
-            Err(_) => Err(DerFault::OutOfMemory),
-        },
-        Err(fault) => Err(fault),
-    }
+    let (apdu, size) = view(bytes)?;
+    Ok((apdu.to_apdu(alloc)?, size))
 }
 
 /// Views the APDU at the front of the bytes, and gives its size in bytes, at most 359; what follows is

@@ -1,5 +1,12 @@
 //! Why bytes do not begin with an APDU, and why one was not read or written.
 
+ghost use Rattle.std.specs.Prelude.{◌≡◌};
+ghost use Rattle.ill_der.specs.Stream.{read_fault};
+ghost use Rattle.ill_der.specs.declared.fault.DerFault.TheVariants as ders;
+ghost use Rattle.ill_der.specs.declared.fault.ReadFault.TheVariants as reads;
+ghost use Rattle.ill_der.specs.declared.fault.WriteFault.TheVariants as writes;
+
+use std::alloc::{AllocError, AllocFailed};
 use thiserror::Error;
 
 /// The first fault of bytes that do not begin with an APDU. Offsets are in bytes from the first byte
@@ -46,4 +53,63 @@ pub enum WriteFault {
     /// Memory ran out before anything was written.
     #[error("memory")]
     OutOfMemory,
+}
+
+impl From<AllocError> for DerFault {
+    ghost from_gives = { λ _ fault. fault ≡ ders.OutOfMemory };
+
+    fn from(_error: AllocError) -> DerFault {
+        DerFault::OutOfMemory
+    }
+}
+
+impl<T: Drop> From<AllocFailed<T>> for DerFault {
+    ghost from_gives = { λ _ fault. fault ≡ ders.OutOfMemory };
+
+    fn from(_error: AllocFailed<T>) -> DerFault {
+        DerFault::OutOfMemory
+    }
+}
+
+impl From<DerFault> for ReadFault {
+    ghost from_gives = { λ bytes fault. fault ≡ read_fault bytes };
+
+    fn from(fault: DerFault) -> ReadFault {
+        match fault {
+            DerFault::OutOfMemory => ReadFault::OutOfMemory,
+            other => ReadFault::Bytes(other),
+        }
+    }
+}
+
+impl From<AllocError> for ReadFault {
+    ghost from_gives = { λ _ fault. fault ≡ reads.OutOfMemory };
+
+    fn from(_error: AllocError) -> ReadFault {
+        ReadFault::OutOfMemory
+    }
+}
+
+impl<T: Drop> From<AllocFailed<T>> for ReadFault {
+    ghost from_gives = { λ _ fault. fault ≡ reads.OutOfMemory };
+
+    fn from(_error: AllocFailed<T>) -> ReadFault {
+        ReadFault::OutOfMemory
+    }
+}
+
+impl From<AllocError> for WriteFault {
+    ghost from_gives = { λ _ fault. fault ≡ writes.OutOfMemory };
+
+    fn from(_error: AllocError) -> WriteFault {
+        WriteFault::OutOfMemory
+    }
+}
+
+impl<T: Drop> From<AllocFailed<T>> for WriteFault {
+    ghost from_gives = { λ _ fault. fault ≡ writes.OutOfMemory };
+
+    fn from(_error: AllocFailed<T>) -> WriteFault {
+        WriteFault::OutOfMemory
+    }
 }

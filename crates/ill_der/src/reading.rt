@@ -99,9 +99,6 @@ fn judge(alloc: Global, bytes: &[u8]) -> Result<Option<Apdu>, ReadFault>
 {
     date_texts();
     text_sizes();
-    match decode(alloc, bytes) {
-        Ok((apdu, _)) => Ok(Some(apdu)),
-        Err(DerFault::OutOfMemory) => Err(ReadFault::OutOfMemory),
-        Err(fault) => Err(ReadFault::Bytes(fault)),
-    }
+    let (apdu, _) = decode(alloc, bytes)?;
+    Ok(Some(apdu))
 }

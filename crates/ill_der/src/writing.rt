@@ -50,7 +50,7 @@ pub fn write_apdu_counted<W: Write, L: Ledger>(
         (spelling apdu.now) result }
     ensures writes { steps.new ≤ steps.old + 359 }
 {
-    let bytes = encode(alloc, apdu).map_err(|_| WriteFault::OutOfMemory)?;
+    let bytes = encode(alloc, apdu)?;
     write_bytes_counted(writer, &bytes, steps)
 }
 

@@ -11,10 +11,8 @@ use Rattle.ill_core.specs.declared.taking.Taking.{Taking}
 use Rattle.ill_core.specs.declared.taking.Taking.TheVariants.{Taken}
 use Rattle.std.proofs.lemmas.List.{length-drop, take-append-le, take_all}
 use Rattle.ill_der.specs.declared.fault.DerFault.{DerFault}
-use Rattle.ill_der.specs.declared.fault.DerFault.TheVariants as der
 use Rattle.ill_der.specs.ShortForm as short_form
 use Rattle.ill_der.specs.ShortForm.{spelling}
-use Rattle.ill_der.specs.Laws.{BeginsWithOne}
 use Rattle.ill_core.specs.declared.requester.Wish.{Wish}
 use Rattle.ill_core.specs.declared.responder.Deed.{Deed}
 use Rattle.ill_values.specs.TxnId.{Qualifiers}
@@ -304,13 +302,6 @@ takes_rules grows keeps honest landed kept old new released a answer takes rules
     row_rules grows keeps honest landed kept old new released (took a (ap (λ (r : Result Taking Refusal × Side). r.1) takes)) rules
 
 -- ---- one APDU
-
-memory_is : (fault : DerFault) → ◌≡◌ {A = Result (Apdu × ℕ) DerFault} (Err der.OutOfMemory) (Err fault) → fault ≡ der.OutOfMemory
-memory_is fault e = search rules
-
-pub memory_alone : (bytes : List ℕ) (read : Result (Apdu × List ℕ) DerFault) → BeginsWithOne bytes read → short_form.Decodes bytes read (Err der.OutOfMemory) → IsOneApdu read (Err faults.OutOfMemory)
-memory_alone bytes (Ok found) begins decodes = tt
-memory_alone bytes (Err fault) begins decodes = absurd (begins.0 (memory_is fault decodes))
 
 behind_one : (a : Apdu) (rest : List ℕ) → 1 ≤ length rest → IsOneApdu (Ok (a, rest)) (Err faults.Trailing)
 behind_one a [] more = absurd (omega (arith, more))

@@ -7,7 +7,9 @@ use Rattle.std.proofs.lemmas.Bool.{and_parts, and_from}
 use Rattle.std.proofs.lemmas.Slice.Eq.{bytes_eq-Decides}
 use Rattle.ill_values.specs.TxnId.{Qualifiers}
 use Rattle.ill_core.specs.Issued.{is_same_txn}
-use Rattle.ill_saved.specs.Sides.{found_by, put_by}
+use Rattle.ill_saved.specs.Side.{txn_of, idle_side}
+use Rattle.ill_saved.specs.Sides.{found_by, put_by, side_with}
+use Rattle.ill_saved.specs.Many.{Held, Holding, txn_held, idle_held, found_or, held_for, side_for, sides_held}
 
 -- two ids are the same exactly where their qualifiers are
 pub same_is : (a b : Qualifiers) → is_same_txn a b ≡ true → a ≡ b
@@ -168,3 +170,14 @@ pub position_mapped : {X Y : Type 0} (test : Y → Bool) (f : X → Y) (xs : Lis
 position_mapped test f xs =
     ap (λ n. cond (nat_lt n (length (map f xs))) (Some n) None) (prefix_mapped test f xs)
     ∙ ap (λ n. cond (nat_lt (position_or_len (λ x. test (f x)) xs) n) (Some (position_or_len (λ x. test (f x)) xs)) None) (length-map xs f)
+
+side_found : (idle : Held) (found : Option Held) → found_or idle.side (option_map (λ (held : Held). held.side) found) ≡ (found_or idle found).side
+side_found idle (Some held) = refl
+side_found idle None = refl
+
+-- the side of a transaction among those of a desk
+pub side_of_held : (txn : Qualifiers) (live : Holding) → side_for txn (sides_held live) ≡ (held_for txn live).side
+unfolding side_with
+side_of_held txn live =
+    ap (found_or (idle_side live.role txn)) (found_mapped txn_held txn_of (λ (held : Held). held.side) (λ held. refl) txn live.held)
+    ∙ side_found (idle_held live.role txn) (found_by txn_held txn live.held)

@@ -40,7 +40,7 @@ use Rattle.ill_saved.specs.declared.store.NextCall.{NextCall}
 use Rattle.ill_saved.specs.Records.{record_at, record_spelling}
 use Rattle.ill_saved.specs.Records2.{AreSides, alone, read_alone, is_version_1, unsealed, sides_at, sides_spelling, records_at, begins_as_records}
 use Rattle.ill_saved.specs.Desk.{IsBackedBy, Loads}
-use Rattle.ill_saved.specs.Many.{ManyOf, StartsMany, LoadsOrNone, Held, Holding, held_of, counts, txn_held, idle_held, whole, found_or, held_for, with_held, sides_held, whole_of, is_own, held_or_begun, reached, acted as acted_by, acts_reached, desk_acts, took as took_by, takes_reached, desk_takes, ManyActs, ManyTakesApdu, FirstActs, FirstTakes, landed_for, AreBackedBy, AreBackedByRead, landed_sides, AreBacked}
+use Rattle.ill_saved.specs.Many.{ManyOf, StartsMany, LoadsOrNone, Held, Holding, held_of, counts, txn_held, idle_held, whole, found_or, held_for, with_held, sides_held, whole_of, is_own, held_or_begun, reached, acted as acted_by, acts_reached, desk_acts, took as took_by, takes_reached, desk_takes, ManyActs, ManyTakesApdu, FirstActs, FirstTakes, side_for, AreBackedBy, AreBackedByRead, landed_sides, AreBacked}
 use Rattle.ill_saved.proofs.Desks.{RowsGrow, RefusalsStay, itself_backs, no_less, idle_consistent}
 use Rattle.ill_saved.proofs.Held.{new_to, idle_txn, idle_role, acts_row, takes_row, found_plainly}
 use Rattle.ill_saved.proofs.Finding.{same_is, same_self, found_is, found_put, put_last, put_again, found_mapped, put_length, some_is}
@@ -196,13 +196,13 @@ row_backs_held landed live held new is row backed = record {
   role = backed.role;
   each = λ txn.
       let after : Held = record { side = new; released = held.released } in
-      let here : is_same_txn txn (txn_of new) ≡ true → IsBackedBy (landed_for txn landed) new held.released =
+      let here : is_same_txn txn (txn_of new) ≡ true → IsBackedBy (side_for txn landed) new held.released =
       λ same.
       let of : txn ≡ txn_of new = same_is txn (txn_of new) same in
       let there : held_for txn live ≡ held = ap (λ t. held_for t live) of ∙ is in
-      backed_on (landed_for txn landed) held.side new held.released row (subst (λ (h : Held). IsBackedBy (landed_for txn landed) h.side h.released) there (backed.each txn)) in
-      subst (λ found. IsBackedBy (landed_for txn landed) (found_or (idle_held live.role txn) found).side (found_or (idle_held live.role txn) found).released) (sym (found_put txn_held txn after live.held))
-      (found_backs (landed_for txn landed) (idle_held live.role txn) after held (found_by txn_held txn live.held) (is_same_txn txn (txn_of new)) here (backed.each txn));
+      backed_on (side_for txn landed) held.side new held.released row (subst (λ (h : Held). IsBackedBy (side_for txn landed) h.side h.released) there (backed.each txn)) in
+      subst (λ found. IsBackedBy (side_for txn landed) (found_or (idle_held live.role txn) found).side (found_or (idle_held live.role txn) found).released) (sym (found_put txn_held txn after live.held))
+      (found_backs (side_for txn landed) (idle_held live.role txn) after held (found_by txn_held txn live.held) (is_same_txn txn (txn_of new)) here (backed.each txn));
 }
 
 -- the same, of what was read
@@ -457,7 +457,7 @@ unfolding side_with
 whole_backed all each = record {
   role = refl;
   each = λ txn.
-      subst (λ found. IsBackedBy (landed_for txn all) (found_or (idle_held all.role txn) found).side (found_or (idle_held all.role txn) found).released)
+      subst (λ found. IsBackedBy (side_for txn all) (found_or (idle_held all.role txn) found).side (found_or (idle_held all.role txn) found).released)
       (sym (found_mapped txn_of txn_held whole (λ side. refl) txn all.sides)) (found_whole all.role txn (found_by txn_of txn all.sides) (each_is IsConsistent txn all.sides each));
 }
 

@@ -9,6 +9,8 @@ use Rattle.ill_values.specs.declared.apdu.Body.TheVariants as bodies
 use Rattle.ill_values.specs.Apdu.{IsApdu}
 use Rattle.ill_values.specs.Day.{Date}
 use Rattle.ill_values.specs.Text.{IsQualifier}
+use Rattle.sha2.specs.Sha256.{sha256}
+use Rattle.sha2.proofs.Facts256.{length-sha256}
 use Rattle.ill_der.specs.declared.apdu_type.ApduType.TheVariants.{IllRequest}
 use Rattle.ill_der.specs.Types.{type_of}
 use Rattle.ill_der.specs.ShortForm.{spelling}
@@ -21,6 +23,8 @@ use Rattle.ill_saved.specs.declared.side.Side.TheVariants as sides
 use Rattle.ill_saved.specs.Layout.{apdu, ill_request, marked, counted, spell_all}
 use Rattle.ill_saved.specs.Records.{due_octets, front, requester_states, responder_states, requester_rest, responder_rest, record_spelling}
 use Rattle.ill_saved.specs.Ranges.{Each, IsSide}
+use Rattle.ill_saved.specs.Sides.{SidesOf}
+use Rattle.ill_saved.specs.Records2.{two_octets, part, body_of, sides_spelling, AreSides}
 use Rattle.ill_saved.proofs.Rules.{requester_request, responder_types}
 
 -- What the laws of the crates below say: how long a qualifier is, an APDU, and one that is no request.
@@ -108,4 +112,33 @@ record_bound bounds (sides.Responder y) is =
       request_bound bounds y.request is.1.parts.request,
       others_bound bounds y.issued is.1.issued (none_requested y.issued (responder_types y is.0)),
       is.1.few,
+    )
+
+-- ---- records of many sides
+
+-- what the law of one record says
+abbrev pub IsShort : Type 0
+IsShort = (side : Side) → IsSide side → length (record_spelling side) ≤ 41811
+
+parts_bound : IsShort → (sides : List Side) → Each IsSide sides → length (spell_all part.spell sides) ≤ 41813 * length sides
+unfolding spell_all Each
+parts_bound short [] each = omega arith
+parts_bound short (side ∷ sides) each =
+    omega (
+      arith,
+      short side each.0,
+      parts_bound short sides each.1,
+      length-append (part.spell side) (spell_all part.spell sides),
+      length-append (two_octets.spell (length (record_spelling side))) (record_spelling side),
+    )
+
+pub sides_bound : IsShort → (held : SidesOf) → AreSides held → length (sides_spelling held) ≤ 41813039
+unfolding sides_spelling
+sides_bound short held are =
+    omega (
+      arith,
+      are.few,
+      parts_bound short held.sides are.each,
+      length-append (body_of held) (sha256 (body_of held)),
+      length-sha256 (body_of held),
     )

@@ -1,4 +1,6 @@
 -- What a fault of a lower layer is to a desk: want of memory is the desk's own (this profile's own).
+use Rattle.ill_der.specs.declared.fault.DerFault.{DerFault}
+use Rattle.ill_der.specs.declared.fault.DerFault.TheVariants as ders
 use Rattle.ill_core.specs.declared.refusal.Refusal.{Refusal}
 use Rattle.ill_core.specs.declared.refusal.Refusal.TheVariants as refusals
 use Rattle.ill_saved.specs.declared.store.StoreFault.{StoreFault}
@@ -6,7 +8,11 @@ use Rattle.ill_saved.specs.declared.store.StoreFault.TheVariants as stores
 use Rattle.ill_saved.specs.declared.fault.RecordFault.{RecordFault}
 use Rattle.ill_saved.specs.declared.fault.RecordFault.TheVariants as records
 use Rattle.ill_saved.specs.declared.fault.DeskFault.{DeskFault}
-use Rattle.ill_saved.specs.declared.fault.DeskFault.TheVariants.{Core, Store, Saved, OutOfMemory}
+use Rattle.ill_saved.specs.declared.fault.DeskFault.TheVariants.{Core, Bytes, Store, Saved, OutOfMemory}
+
+abbrev pub of_bytes : DerFault → DeskFault
+of_bytes ders.OutOfMemory = OutOfMemory
+of_bytes other = Bytes other
 
 abbrev pub of_core : Refusal → DeskFault
 of_core refusals.OutOfMemory = OutOfMemory

@@ -32,7 +32,7 @@ pub record Held : Type 0 where
   pub side : Side
   pub released : ℕ
 
--- what a desk holds: sides of one role, in the order in which they were first seen
+-- what a desk holds: sides of one role, in the order in which they were begun
 pub record Holding : Type 0 where
   pub role : Role
   pub held : List Held
@@ -173,14 +173,14 @@ IsStartOfMany (Ok done) = Unit {0}
 IsStartOfMany (Err NoRecord) = Unit {0}
 IsStartOfMany (Err fault) = IsManyLoadFault fault
 
--- the side of this transaction among those that have landed, or an idle one
-abbrev pub landed_for : Qualifiers → SidesOf → Side
-landed_for txn all = found_or (idle_side all.role txn) (side_with txn all.sides)
+-- the side of this transaction among these, or an idle one
+abbrev pub side_for : Qualifiers → SidesOf → Side
+side_for txn all = found_or (idle_side all.role txn) (side_with txn all.sides)
 
 -- In each transaction the side that has landed has each released message, and the live side follows from it.
 pub record AreBackedBy (landed : SidesOf) (live : Holding) : Type 0 where
   pub role : landed.role ≡ live.role
-  pub each : (txn : Qualifiers) → IsBackedBy (landed_for txn landed) (held_for txn live).side (held_for txn live).released
+  pub each : (txn : Qualifiers) → IsBackedBy (side_for txn landed) (held_for txn live).side (held_for txn live).released
 
 abbrev pub AreBackedByRead : Result SidesOf RecordFault → Holding → Type 0
 AreBackedByRead (Ok landed) live = AreBackedBy landed live

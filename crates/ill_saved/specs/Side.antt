@@ -1,5 +1,5 @@
 -- One side of a transaction, whichever its role: what a library decides and what a message do to it
--- (this profile's own). Here, and nowhere above, the roles are told apart.
+-- (this profile's own). Here the roles are told apart, so that no desk does it.
 use Rattle.std.specs.Prelude.{◌≡◌, ◌↔◌, ℕ, Bool, not, if◌then◌else◌, List, [], ◌∷◌, ◌++◌, Option, Some, None, true, false, is_ok, Result, Ok, Err}
 use Rattle.ill_values.specs.declared.apdu.Apdu.{Apdu}
 use Rattle.ill_values.specs.Day.{Date}

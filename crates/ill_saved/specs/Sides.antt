@@ -11,7 +11,7 @@ use Rattle.ill_saved.specs.declared.fault.SidesFault.{SidesFault}
 use Rattle.ill_saved.specs.declared.fault.SidesFault.TheVariants as faults
 use Rattle.ill_saved.specs.Side.{role_of, txn_of, is_idle}
 
--- the role of all, and the sides in the order in which they were first seen
+-- the role of all, and the sides in the order in which they were begun
 pub record SidesOf : Type 0 where
   pub role : Role
   pub sides : List Side

@@ -19,8 +19,8 @@ use crate::memory_store::MemoryStore;
 use crate::side::{Action, Side};
 use crate::store::{NextCall, Store};
 use ill_core::Taking;
+use ill_der::decode;
 use ill_der::laws::prefix_or_fault;
-use ill_der::{DerFault, decode};
 use ill_values::{Apdu, Number, OutOfMemory};
 use std::alloc::Global;
 use std::marker::Model;
@@ -248,11 +248,9 @@ pub(crate) fn one_apdu(alloc: Global, bytes: &[u8]) -> Result<Apdu, DeskFault>
     ensures { IsOneApdu (apdu_at bytes.now) result }
 {
     prefix_or_fault();
-    match decode(alloc, bytes) {
-        Ok((apdu, size)) if size == bytes.len() => Ok(apdu),
-        Ok(_) => Err(DeskFault::Trailing),
-        Err(DerFault::OutOfMemory) => Err(DeskFault::OutOfMemory),
-        Err(fault) => Err(DeskFault::Bytes(fault)),
+    match decode(alloc, bytes)? {
+        (apdu, size) if size == bytes.len() => Ok(apdu),
+        _ => Err(DeskFault::Trailing),
     }
 }
 

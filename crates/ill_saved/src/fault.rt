@@ -2,10 +2,12 @@
 
 ghost use Rattle.std.specs.Prelude.{◌≡◌};
 ghost use Rattle.ill_saved.specs.Layout.{record_fault};
-ghost use Rattle.ill_saved.specs.Faults.{of_core, of_store, of_record};
+ghost use Rattle.ill_saved.specs.Faults.{of_bytes, of_core, of_store, of_record};
 ghost use Rattle.ill_saved.specs.declared.fault.RecordFault.TheVariants.{OutOfMemory};
+ghost use Rattle.ill_saved.specs.declared.fault.SidesFault.TheVariants as sides;
 ghost use Rattle.ill_saved.specs.declared.fault.DeskFault.TheVariants as desks;
 
+use crate::side::Side;
 use crate::store::StoreFault;
 use ill_core::Refusal;
 use ill_der::DerFault;
@@ -89,6 +91,31 @@ pub enum SidesFault {
     OutOfMemory,
 }
 
+impl From<AllocError> for SidesFault {
+    ghost from_gives = { λ _ fault. fault ≡ sides.OutOfMemory };
+
+    fn from(_error: AllocError) -> SidesFault {
+        SidesFault::OutOfMemory
+    }
+}
+
+impl<T: Drop> From<AllocFailed<T>> for SidesFault {
+    ghost from_gives = { λ _ fault. fault ≡ sides.OutOfMemory };
+
+    fn from(_error: AllocFailed<T>) -> SidesFault {
+        SidesFault::OutOfMemory
+    }
+}
+
+/// The fault of a `put`, without the side that it hands back.
+impl From<(SidesFault, Side)> for SidesFault {
+    ghost from_gives = { λ refused fault. fault ≡ refused.0 };
+
+    fn from((fault, _): (SidesFault, Side)) -> SidesFault {
+        fault
+    }
+}
+
 /// Why a desk did not do what it was asked.
 #[derive(Clone, Copy, Debug, PartialEq, Eq, Hash, Error)]
 pub enum DeskFault {
@@ -128,6 +155,17 @@ pub enum DeskFault {
     /// The desk holds 1,000 sides, and there is no room for one more.
     #[error("desk-full")]
     DeskFull,
+}
+
+impl From<DerFault> for DeskFault {
+    ghost from_gives = { λ bytes fault. fault ≡ of_bytes bytes };
+
+    fn from(fault: DerFault) -> DeskFault {
+        match fault {
+            DerFault::OutOfMemory => DeskFault::OutOfMemory,
+            other => DeskFault::Bytes(other),
+        }
+    }
 }
 
 impl From<Refusal> for DeskFault {
@@ -176,5 +214,14 @@ impl<T: Drop> From<AllocFailed<T>> for DeskFault {
 
     fn from(_error: AllocFailed<T>) -> DeskFault {
         DeskFault::OutOfMemory
+    }
+}
+
+/// The fault of a desk that did not begin, without the store that it hands back.
+impl<S: Drop> From<(DeskFault, S)> for DeskFault {
+    ghost from_gives = { λ refused fault. fault ≡ refused.0 };
+
+    fn from((fault, _): (DeskFault, S)) -> DeskFault {
+        fault
     }
 }

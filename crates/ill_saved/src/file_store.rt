@@ -15,6 +15,10 @@ use std::path::Path;
 use std::rt::Files;
 use std::{fs, io};
 
+/// A limit for `FileStore::at` within which every record of a desk is loaded again: none has more than
+/// 41,813,039 bytes (`laws::sides_record_is_short`).
+pub const RECORD_LIMIT: u32 = 67_108_864;
+
 /// A store in a file, for a record that outlives the program.
 ///
 /// What a file holds is not proved. That what was saved last is loaded, after a crash too, rests on
@@ -46,8 +50,8 @@ impl<'a, R: Files> FileStore<'a, R> {
     /// at most. No file is touched.
     ///
     /// The limit is that of a load alone: a save is not held to it, and a longer record that it saves
-    /// is `TooLarge` for the next load. With 65,535 or more every record of a side is loaded again
-    /// (`laws::record_is_short`).
+    /// is `TooLarge` for the next load. With `RECORD_LIMIT` every record of a desk is loaded again, and
+    /// 65,535 is enough for those of one side (`laws::record_is_short`).
     pub fn at(
         rt: &'a R,
         alloc: Global,

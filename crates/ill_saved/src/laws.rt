@@ -53,6 +53,14 @@ pub fn record_is_short()
     ill_der::laws::shorter();
 }
 
+/// A record of many sides has at most 41,813,039 bytes, so a store that takes `RECORD_LIMIT` takes every record of
+/// a desk: 39 beside the sides, of which there are 1,000, each with two for its length.
+pub fn sides_record_is_short()
+    ensures { (held : SidesOf) → AreSides held → length (sides_spelling held) ≤ 41813039 }
+{
+    record_is_short();
+}
+
 /// Sides are read from their spelling: with this, `decode_record2` gives back what `encode_record2` spelled.
 pub fn sides_read_again()
     ensures { (held : SidesOf) → AreSides held → records_at (sides_spelling held) ≡ Ok held }

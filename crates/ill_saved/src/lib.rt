@@ -26,7 +26,7 @@ pub use desk::Desk1;
 pub use encoding::encode_record;
 pub use encoding2::encode_record2;
 pub use fault::{DeskFault, RecordFault, SidesFault};
-pub use file_store::FileStore;
+pub use file_store::{FileStore, RECORD_LIMIT};
 pub use fuse_store::FuseStore;
 pub use many::Desk;
 pub use memory_store::MemoryStore;

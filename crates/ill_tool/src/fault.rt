@@ -8,7 +8,7 @@ ghost use Rattle.ill_tool.specs.declared.fault.ToolFault.TheVariants.{OutOfMemor
 use ill_der::DerFault;
 use ill_saved::DeskFault;
 use ill_world::{DeskOutcome, Outcome, SimFault};
-use std::alloc::AllocError;
+use std::alloc::{AllocError, AllocFailed};
 use thiserror::Error;
 
 /// Why a command stopped. What was written before stays written.
@@ -72,6 +72,32 @@ impl From<AllocError> for ToolFault {
 
     fn from(_error: AllocError) -> ToolFault {
         ToolFault::OutOfMemory
+    }
+}
+
+impl<T: Drop> From<AllocFailed<T>> for ToolFault {
+    ghost from_gives = { λ _ tool. tool ≡ OutOfMemory };
+
+    fn from(_error: AllocFailed<T>) -> ToolFault {
+        ToolFault::OutOfMemory
+    }
+}
+
+/// The fault of a desk that did not start, without the store that it hands back.
+impl<S: Drop> From<(DeskFault, S)> for ToolFault {
+    ghost from_gives = { λ refused tool. tool ≡ desk_fault refused.0 };
+
+    fn from((fault, _): (DeskFault, S)) -> ToolFault {
+        fault.into()
+    }
+}
+
+/// The fault of a desk that did not begin, without the store that it hands back.
+impl<S: Drop> From<(ToolFault, S)> for ToolFault {
+    ghost from_gives = { λ refused tool. tool ≡ refused.0 };
+
+    fn from((fault, _): (ToolFault, S)) -> ToolFault {
+        fault
     }
 }
 

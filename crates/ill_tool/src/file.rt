@@ -8,15 +8,12 @@ use crate::send::run_desk_send;
 use crate::simulate::id;
 use crate::status::run_desk_status;
 use crate::take::run_desk_take;
-use ill_saved::{Desk, FileStore};
+use ill_saved::{Desk, FileStore, RECORD_LIMIT};
 use ill_values::Day;
 use ill_world::words::{number, who};
 use std::alloc::Global;
 use std::io::{Read, Write};
 use std::rt::Files;
-
-/// The most bytes of a record: those of 1,000 sides that have issued 255 messages each fit.
-const MAX_RECORD: u32 = 67_108_864;
 
 /// `ill new`: begins a desk.
 pub fn new<T: Files, W: Write>(
@@ -27,8 +24,8 @@ pub fn new<T: Files, W: Write>(
     writer: &mut W,
 ) -> Result<bool, ToolFault> {
     let role = who(role.as_bytes()).ok_or(ToolFault::Arguments)?;
-    let store = FileStore::at(rt, alloc, file, MAX_RECORD)?;
-    answer_of(run_desk_new(alloc, store, role, writer))?;
+    let store = FileStore::at(rt, alloc, file, RECORD_LIMIT)?;
+    run_desk_new(alloc, store, role, writer)?;
     Ok(true)
 }
 
@@ -102,16 +99,8 @@ fn open<'a, T: Files>(
     alloc: Global,
     file: &str,
 ) -> Result<Desk<FileStore<'a, T>>, ToolFault> {
-    let store = FileStore::at(rt, alloc, file, MAX_RECORD)?;
-    Ok(answer_of(Desk::start(alloc, store))?)
-}
-
-/// An answer without the store that it hands back with a fault.
-fn answer_of<D, F, S: Drop>(answer: Result<D, (F, S)>) -> Result<D, F> {
-    match answer {
-        Ok(desk) => Ok(desk),
-        Err((fault, _)) => Err(fault),
-    }
+    let store = FileStore::at(rt, alloc, file, RECORD_LIMIT)?;
+    Ok(Desk::start(alloc, store)?)
 }
 
 /// The day that a word says, if there is a word.

@@ -33,7 +33,7 @@ pub fn run_status<S: Store, W: Write>(
     write_whole(writer, &lines)
 }
 
-/// Writes the seven lines of each transaction that a desk holds, in the order in which they were first seen.
+/// Writes the seven lines of each transaction that a desk holds, in the order in which they were begun.
 pub fn run_desk_status<S: Store, W: Write>(
     alloc: Global,
     desk: &Desk<S>,

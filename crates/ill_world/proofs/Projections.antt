@@ -19,8 +19,8 @@ use Rattle.ill_saved.specs.declared.side.Action.{Action}
 use Rattle.ill_saved.specs.declared.side.Action.TheVariants as actions
 use Rattle.ill_saved.specs.Side.{issued_of, txn_of, role_of, idle_side, acts, takes, acted, took, IsRow, role_for, begins}
 use Rattle.ill_saved.specs.Sides.{SidesOf, is_same_role, most_sides, side_with}
-use Rattle.ill_saved.specs.Many.{Held, Holding, found_by, txn_held, idle_held, whole, found_or, held_for, with_held, landed_for, sides_held, whole_of, is_own, held_or_begun, reached, acted as acted_at, acts_reached, desk_acts, took as took_at, takes_reached}
-use Rattle.ill_saved.proofs.Finding.{same_is, same_self, found_is, found_put, found_mapped}
+use Rattle.ill_saved.specs.Many.{Held, Holding, found_by, txn_held, idle_held, whole, found_or, held_for, with_held, side_for, sides_held, whole_of, is_own, held_or_begun, reached, acted as acted_at, acts_reached, desk_acts, took as took_at, takes_reached}
+use Rattle.ill_saved.proofs.Finding.{same_is, same_self, found_is, found_put, found_mapped, side_of_held}
 use Rattle.ill_world.specs.declared.event.DeskEvent.{DeskEvent}
 use Rattle.ill_world.specs.declared.event.DeskEvent.TheVariants as events
 use Rattle.ill_world.specs.declared.event.Outcome.{Outcome}
@@ -70,21 +70,10 @@ whole_found role txn (Some side) = refl
 whole_found role txn None = whole_idle role txn
 
 -- all of what has landed may be sent
-whole_for : (txn : Qualifiers) (all : SidesOf) → held_for txn (whole_of all) ≡ whole (landed_for txn all)
+whole_for : (txn : Qualifiers) (all : SidesOf) → held_for txn (whole_of all) ≡ whole (side_for txn all)
 unfolding side_with
 whole_for txn all =
     ap (found_or (idle_held all.role txn)) (found_mapped txn_of txn_held whole (λ side. refl) txn all.sides) ∙ whole_found all.role txn (found_by txn_of txn all.sides)
-
-side_found : (idle : Held) (found : Option Held) → found_or idle.side (option_map (λ (held : Held). held.side) found) ≡ (found_or idle found).side
-side_found idle (Some held) = refl
-side_found idle None = refl
-
--- what is saved is what is live
-pub side_for : (txn : Qualifiers) (live : Holding) → landed_for txn (sides_held live) ≡ (held_for txn live).side
-unfolding side_with
-side_for txn live =
-    ap (found_or (idle_side live.role txn)) (found_mapped txn_held txn_of (λ (held : Held). held.side) (λ held. refl) txn live.held)
-    ∙ side_found (idle_held live.role txn) (found_by txn_held txn live.held)
 
 idle_txn : (role : Who) (txn : Qualifiers) → txn_of (idle_side role txn) ≡ txn
 idle_txn who.Requester txn = refl
@@ -269,11 +258,11 @@ desk_sends_seen p of n (Some held) e txn =
 
 saves_seen : (p : DeskParty) (txn : Qualifiers) → party_for txn (desk_saves p) ≡ saves (party_for txn p)
 saves_seen p txn =
-    ap (λ (h : Held). record (party_for txn p) { live = h.side; landed = landed_for txn (sides_held p.live); released = h.released }) (whole_for txn (sides_held p.live))
-    ∙ ap (λ side. record (party_for txn p) { live = side; landed = side; released = length (issued_of side) }) (side_for txn p.live)
+    ap (λ (h : Held). record (party_for txn p) { live = h.side; landed = side_for txn (sides_held p.live); released = h.released }) (whole_for txn (sides_held p.live))
+    ∙ ap (λ side. record (party_for txn p) { live = side; landed = side; released = length (issued_of side) }) (side_of_held txn p.live)
 
 fault_of_save : (p : DeskParty) (txn : Qualifiers) (landed : Bool) → party_for txn (desk_fails_to_save p landed) ≡ fails_to_save (party_for txn p) landed
-fault_of_save p txn true = ap (λ side. record (party_for txn p) { landed = side }) (side_for txn p.live)
+fault_of_save p txn true = ap (λ side. record (party_for txn p) { landed = side }) (side_of_held txn p.live)
 fault_of_save p txn false = refl
 
 restarts_seen : (p : DeskParty) (txn : Qualifiers) → party_for txn (desk_restarts p) ≡ restarts (party_for txn p)

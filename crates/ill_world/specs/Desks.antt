@@ -14,7 +14,7 @@ use Rattle.ill_saved.specs.declared.role.Role.{Role as Who}
 use Rattle.ill_saved.specs.declared.role.Role.TheVariants.{Requester, Responder}
 use Rattle.ill_saved.specs.Side.{issued_of}
 use Rattle.ill_saved.specs.Sides.{SidesOf}
-use Rattle.ill_saved.specs.Many.{Held, Holding, found_by, put_by, txn_held, found_or, held_for, landed_for, sides_held, whole_of, desk_acts, desk_takes}
+use Rattle.ill_saved.specs.Many.{Held, Holding, found_by, put_by, txn_held, found_or, held_for, side_for, sides_held, whole_of, desk_acts, desk_takes}
 use Rattle.ill_world.specs.declared.event.Event.{Event}
 use Rattle.ill_world.specs.declared.event.Event.TheVariants as events
 use Rattle.ill_world.specs.declared.event.DeskEvent.{DeskEvent}
@@ -154,7 +154,7 @@ desks_run w events = run_by desks_happen w events
 abbrev pub party_for : Qualifiers → DeskParty → Party
 party_for txn p = record {
   live = (held_for txn p.live).side;
-  landed = landed_for txn p.landed;
+  landed = side_for txn p.landed;
   released = (held_for txn p.live).released;
   sent = sent_for txn p.sent;
 }

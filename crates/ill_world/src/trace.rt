@@ -3,7 +3,7 @@
 ghost use Rattle.std.specs.Prelude.{◌≡◌, ◌++◌, OnOk};
 ghost use Rattle.ill_values.specs.TxnId.{Qualifiers};
 ghost use Rattle.ill_saved.specs.declared.role.Role.{Role};
-ghost use Rattle.ill_saved.specs.Many.{landed_for};
+ghost use Rattle.ill_saved.specs.Many.{side_for};
 ghost use Rattle.ill_saved.specs.Side.{idle_side};
 ghost use Rattle.ill_world.specs.Trace.{line_of, event_text, sides_text, shown_of, shown_text, side_text, due_text};
 
@@ -38,7 +38,7 @@ impl Shown {
     /// What is shown of the side of this transaction among these, of which so many messages are released.
     /// One that is not held is shown as an idle one.
     pub(crate) fn held(sides: &Sides, txn: &TxnId, released: u8) -> Shown
-        ensures { result ≡ shown_of (landed_for txn.now sides.now) released }
+        ensures { result ≡ shown_of (side_for txn.now sides.now) released }
     {
         match sides.get(txn) {
             Some(side) => Shown::of(side, released),
@@ -115,7 +115,7 @@ pub fn push_held(
     released: u8,
 ) -> Result<(), OutOfMemory>
     ensures { OnOk result (lines.new.items ≡ lines.old.items
-        ++ side_text (landed_for txn.now sides.now) released) }
+        ++ side_text (side_for txn.now sides.now) released) }
 {
     push_shown(lines, Shown::held(sides, txn, released))
 }

@@ -4,7 +4,7 @@
 
 use anyhow::{Context, Result, bail};
 use ill_core::{Deed, Taking, Wish};
-use ill_saved::{Action, Desk, DeskFault, FileStore, Role, Side, Store};
+use ill_saved::{Action, Desk, DeskFault, FileStore, RECORD_LIMIT, Role, Side, Store};
 use ill_values::{Day, Item, Number, TxnId};
 use std::alloc::Global;
 use std::rt::Files;
@@ -18,9 +18,6 @@ const HERE: &str = "desks/here";
 
 /// The file of the library that has it.
 const THERE: &str = "desks/there";
-
-/// The most bytes of a record that is loaded: those of a desk of 1,000 loans fit.
-const MOST_BYTES: u32 = 67_108_864;
 
 fn main(rt: HostRuntime) -> Result<()> {
     fs::create_dir(&rt, FOLDER)?;
@@ -36,16 +33,15 @@ fn lend<R: Files + Print>(rt: &R, alloc: Global) -> Result<()> {
     let request = here_asks(rt, alloc, &loan)?;
     let shipped = there_ships(rt, alloc, &loan, &request)?;
     here_takes(rt, alloc, &loan, &shipped)?;
-    let here = start(rt, alloc, HERE)?;
-    show(rt, "here, from its file", &here, &loan)
+    here_looks(rt, alloc, &loan)
 }
 
 /// The library here begins its desk, and asks.
 fn here_asks<R: Files + Print>(rt: &R, alloc: Global, loan: &TxnId) -> Result<Vec<u8>> {
     let mut here = create(rt, alloc, HERE, Role::Requester)?;
-    let request = ask(rt, alloc, &mut here, loan)?;
-    show(rt, "here", &here, loan)?;
-    Ok(request)
+    let request = ask(rt, alloc, &mut here, loan);
+    drop(here);
+    request
 }
 
 /// The library there begins its desk, takes the request, and ships.
@@ -56,17 +52,25 @@ fn there_ships<R: Files + Print>(
     request: &[u8],
 ) -> Result<Vec<u8>> {
     let mut there = create(rt, alloc, THERE, Role::Responder)?;
-    take(alloc, &mut there, request)?;
-    let shipped = ship(alloc, &mut there, loan)?;
-    show(rt, "there", &there, loan)?;
-    Ok(shipped)
+    let shipped = ship(rt, alloc, &mut there, loan, request);
+    drop(there);
+    shipped
 }
 
 /// The library here opens its desk again, and takes the answer.
 fn here_takes<R: Files + Print>(rt: &R, alloc: Global, loan: &TxnId, shipped: &[u8]) -> Result<()> {
     let mut here = start(rt, alloc, HERE)?;
-    take(alloc, &mut here, shipped)?;
-    show(rt, "here", &here, loan)
+    let received = receive(rt, alloc, &mut here, loan, shipped);
+    drop(here);
+    received
+}
+
+/// The library here opens its desk once more, and looks at what it has saved.
+fn here_looks<R: Files + Print>(rt: &R, alloc: Global, loan: &TxnId) -> Result<()> {
+    let here = start(rt, alloc, HERE)?;
+    let shown = show(rt, "here, from its file", &here, loan);
+    drop(here);
+    shown
 }
 
 /// A new desk of this role, whose file is not there before its first save.
@@ -75,20 +79,19 @@ fn create<'a, R: Files>(
     alloc: Global,
     path: &str,
     role: Role,
-) -> Result<Desk<FileStore<'a, R>>> {
-    let store = FileStore::at(rt, alloc, path, MOST_BYTES)?;
-    Ok(desk_of(Desk::create(alloc, store, role))?)
+) -> Result<Desk<FileStore<'a, R>>, DeskFault> {
+    let store = FileStore::at(rt, alloc, path, RECORD_LIMIT)?;
+    Ok(Desk::create(alloc, store, role)?)
 }
 
 /// The desk that was saved in this file.
-fn start<'a, R: Files>(rt: &'a R, alloc: Global, path: &str) -> Result<Desk<FileStore<'a, R>>> {
-    let store = FileStore::at(rt, alloc, path, MOST_BYTES)?;
-    Ok(desk_of(Desk::start(alloc, store))?)
-}
-
-/// The desk, or the fault alone: with it `create` and `start` hand back the store, which `?` cannot convert.
-fn desk_of<D, S: Drop>(begun: Result<D, (DeskFault, S)>) -> Result<D, DeskFault> {
-    begun.map_err(|(fault, _)| fault)
+fn start<'a, R: Files>(
+    rt: &'a R,
+    alloc: Global,
+    path: &str,
+) -> Result<Desk<FileStore<'a, R>>, DeskFault> {
+    let store = FileStore::at(rt, alloc, path, RECORD_LIMIT)?;
+    Ok(Desk::start(alloc, store)?)
 }
 
 /// Asks for the book, and gives the message that does, which no desk gives before it is saved.
@@ -106,17 +109,38 @@ fn ask<S: Store>(
         println!(rt; "message {} before the save: {fault}", number.get())?;
     }
     desk.save(alloc)?;
+    show(rt, "here", desk, loan)?;
     Ok(desk.message(alloc, loan, number)?)
 }
 
-/// Ships the book on 1 March, due in 14 days, and gives the message that says so.
-fn ship<S: Store>(alloc: Global, desk: &mut Desk<S>, loan: &TxnId) -> Result<Vec<u8>> {
+/// Takes the request, ships the book on 1 March, due in 14 days, and gives the message that says so.
+fn ship<S: Store>(
+    rt: &impl Print,
+    alloc: Global,
+    desk: &mut Desk<S>,
+    loan: &TxnId,
+    request: &[u8],
+) -> Result<Vec<u8>> {
+    take(alloc, desk, request)?;
     let today = Day::new(2025, 3, 1)?;
     let due = today.after(14)?;
     desk.act(alloc, loan, &Action::Deed(Deed::Ship { due }, today))?;
     desk.save(alloc)?;
+    show(rt, "there", desk, loan)?;
     let number = last_number(side_of(desk, loan)?)?;
     Ok(desk.message(alloc, loan, number)?)
+}
+
+/// Takes the answer.
+fn receive<S: Store>(
+    rt: &impl Print,
+    alloc: Global,
+    desk: &mut Desk<S>,
+    loan: &TxnId,
+    shipped: &[u8],
+) -> Result<()> {
+    take(alloc, desk, shipped)?;
+    show(rt, "here", desk, loan)
 }
 
 /// Takes a message that has arrived, and saves what it did. A repeat does nothing; a person should see a conflict.

@@ -1,8 +1,8 @@
 use Rattle.std.proofs.Common.{rules}
-use Rattle.ill_world.proofs.Projections.{side_for}
+use Rattle.ill_saved.proofs.Finding.{side_of_held}
 use Rattle.ill_world.proofs.desk_party.DeskParty.shown.Goals as goal
 
 pub returns : goal.returns
 returns c =
-    let side = side_for c.args.txn.now c.args.self.now.live in
+    let side = side_of_held c.args.txn.now c.args.self.now.live in
     search (rules, side)

@@ -108,9 +108,143 @@ impl Name {
         }
     }
 
+    /// What it does, in a line.
+    fn about<'a>(self) -> &'a str {
+        match self {
+            Name::New => "Begin a desk of one role, in a file",
+            Name::Act => "Perform one action in a loan, and save it",
+            Name::Take => "Take the APDUs on standard input, and save what they change",
+            Name::Send => "Write the bytes of one message of a loan",
+            Name::Status => "Show how each loan in a file stands",
+            Name::Show => "Show each APDU on standard input",
+            Name::Check => "Check the APDUs on standard input and count them",
+            Name::Simulate => "Perform a script of both sides of a loan, from standard input",
+            Name::SimulateDesks => "Perform a script of two desks, from standard input",
+        }
+    }
+
+    /// What its help says.
+    fn help<'a>(self) -> &'a str {
+        match self {
+            Name::New => help::NEW,
+            Name::Act => help::ACT,
+            Name::Take => help::TAKE,
+            Name::Send => help::SEND,
+            Name::Status => help::STATUS,
+            Name::Show => help::SHOW,
+            Name::Check => help::CHECK,
+            Name::Simulate => help::SIMULATE,
+            Name::SimulateDesks => help::SIMULATE_DESKS,
+        }
+    }
+
+    /// The example below its help.
+    fn example<'a>(self) -> &'a str {
+        match self {
+            Name::New => help::NEW_EXAMPLE,
+            Name::Act => help::ACT_EXAMPLE,
+            Name::Take => help::TAKE_EXAMPLE,
+            Name::Send => help::SEND_EXAMPLE,
+            Name::Status => help::STATUS_EXAMPLE,
+            Name::Show => help::SHOW_EXAMPLE,
+            Name::Check => help::CHECK_EXAMPLE,
+            Name::Simulate => help::SIMULATE_EXAMPLE,
+            Name::SimulateDesks => help::SIMULATE_DESKS_EXAMPLE,
+        }
+    }
+
+    /// Its arguments, in their order.
+    fn arguments<'a>(self) -> &'a [Argument] {
+        match self {
+            Name::New => &[Argument::NewFile, Argument::Role],
+            Name::Act => &[
+                Argument::File,
+                Argument::Group,
+                Argument::Transaction,
+                Argument::Today,
+                Argument::Words,
+            ],
+            Name::Take | Name::Status => &[Argument::File],
+            Name::Send => &[
+                Argument::File,
+                Argument::Group,
+                Argument::Transaction,
+                Argument::Number,
+            ],
+            Name::Simulate => &[Argument::Group, Argument::Transaction],
+            Name::Show | Name::Check | Name::SimulateDesks => &[],
+        }
+    }
+
     /// The command that a word stands for.
     fn read(word: &str) -> Option<Name> {
         NAMES.iter().copied().find(|name| name.word() == word)
+    }
+}
+
+/// An argument of a command.
+#[derive(Clone, Copy)]
+enum Argument {
+    /// The file of a desk that begins.
+    NewFile,
+    /// The file of a desk.
+    File,
+    Role,
+    Group,
+    Transaction,
+    /// The day of an action.
+    Today,
+    /// The words of an action.
+    Words,
+    /// The number of a message.
+    Number,
+}
+
+impl Argument {
+    /// What clap calls it.
+    fn id<'a>(self) -> &'a str {
+        match self {
+            Argument::NewFile | Argument::File => "FILE",
+            Argument::Role => "ROLE",
+            Argument::Group => "GROUP",
+            Argument::Transaction => "TRANSACTION",
+            Argument::Today => "today",
+            Argument::Words => "WORDS",
+            Argument::Number => "NUMBER",
+        }
+    }
+
+    /// What the help says of it.
+    fn help<'a>(self) -> &'a str {
+        match self {
+            Argument::NewFile => "The file of the desk, which must not be there yet",
+            Argument::File => "The file of the desk",
+            Argument::Role => "requester or responder",
+            Argument::Group => "The group qualifier of the loan",
+            Argument::Transaction => "The transaction qualifier of the loan",
+            Argument::Today => "The day of the action, as 20250301; a responder needs it",
+            Argument::Words => "The words of the action",
+            Argument::Number => "The number of the message, 1 to 255",
+        }
+    }
+
+    /// How clap reads it. All but the day have to be there.
+    fn arg<'a>(self, alloc: Global) -> Arg<'a> {
+        let arg = Arg::new(alloc, self.id()).help(self.help());
+        match self {
+            Argument::Today => arg
+                .long("today")
+                .value_name("DAY")
+                .allow_hyphen_values(true),
+            Argument::Words => arg
+                .required(true)
+                .action(ArgAction::Append)
+                .num_args(1..)
+                .allow_hyphen_values(true)
+                .trailing_var_arg(true),
+            Argument::Number => arg.required(true).allow_hyphen_values(true),
+            _ => arg.required(true),
+        }
     }
 }
 
@@ -133,11 +267,11 @@ fn requested<'a>(
         Some(Name::New) => new_request(alloc, matches),
         Some(Name::Act) => act_request(alloc, matches),
         Some(Name::Take) => Ok(Request::Take {
-            file: text(alloc, matches, FILE)?,
+            file: text(alloc, matches, Argument::File)?,
         }),
         Some(Name::Send) => send_request(alloc, matches),
         Some(Name::Status) => Ok(Request::Status {
-            file: text(alloc, matches, FILE)?,
+            file: text(alloc, matches, Argument::File)?,
         }),
         Some(Name::Show) => Ok(Request::Show),
         Some(Name::Check) => Ok(Request::Check),
@@ -150,21 +284,21 @@ fn requested<'a>(
 /// What the matches of `ill new` ask for.
 fn new_request<'a>(alloc: Global, matches: &ArgMatches<'a>) -> Result<Request<'a>, Error> {
     Ok(Request::New {
-        file: text(alloc, matches, FILE)?,
-        role: text(alloc, matches, ROLE)?,
+        file: text(alloc, matches, Argument::NewFile)?,
+        role: text(alloc, matches, Argument::Role)?,
     })
 }
 
 /// What the matches of `ill act` ask for.
 fn act_request<'a>(alloc: Global, matches: &ArgMatches<'a>) -> Result<Request<'a>, Error> {
-    let Some(words) = matches.get_strs(WORDS) else {
+    let Some(words) = matches.get_strs(Argument::Words.id()) else {
         return Err(unknown(alloc)?);
     };
     Ok(Request::Act {
-        file: text(alloc, matches, FILE)?,
-        group: text(alloc, matches, GROUP)?,
-        transaction: text(alloc, matches, TRANSACTION)?,
-        today: matches.get_str(TODAY),
+        file: text(alloc, matches, Argument::File)?,
+        group: text(alloc, matches, Argument::Group)?,
+        transaction: text(alloc, matches, Argument::Transaction)?,
+        today: matches.get_str(Argument::Today.id()),
         words: Vec::from_slice(alloc, words)?,
     })
 }
@@ -172,24 +306,24 @@ fn act_request<'a>(alloc: Global, matches: &ArgMatches<'a>) -> Result<Request<'a
 /// What the matches of `ill send` ask for.
 fn send_request<'a>(alloc: Global, matches: &ArgMatches<'a>) -> Result<Request<'a>, Error> {
     Ok(Request::Send {
-        file: text(alloc, matches, FILE)?,
-        group: text(alloc, matches, GROUP)?,
-        transaction: text(alloc, matches, TRANSACTION)?,
-        number: text(alloc, matches, NUMBER)?,
+        file: text(alloc, matches, Argument::File)?,
+        group: text(alloc, matches, Argument::Group)?,
+        transaction: text(alloc, matches, Argument::Transaction)?,
+        number: text(alloc, matches, Argument::Number)?,
     })
 }
 
 /// What the matches of `ill simulate` ask for.
 fn simulate_request<'a>(alloc: Global, matches: &ArgMatches<'a>) -> Result<Request<'a>, Error> {
     Ok(Request::Simulate {
-        group: text(alloc, matches, GROUP)?,
-        transaction: text(alloc, matches, TRANSACTION)?,
+        group: text(alloc, matches, Argument::Group)?,
+        transaction: text(alloc, matches, Argument::Transaction)?,
     })
 }
 
 /// The text of an argument that the command has to have.
-fn text<'a>(alloc: Global, matches: &ArgMatches<'a>, id: &str) -> Result<&'a str, Error> {
-    match matches.get_str(id) {
+fn text<'a>(alloc: Global, matches: &ArgMatches<'a>, argument: Argument) -> Result<&'a str, Error> {
+    match matches.get_str(argument.id()) {
         Some(text) => Ok(text),
         None => Err(unknown(alloc)?),
     }
@@ -218,144 +352,12 @@ fn command<'a>(alloc: Global) -> Result<Command<'a>, Error> {
 
 /// The command line of a command.
 fn subcommand<'a>(alloc: Global, name: Name) -> Result<Command<'a>, Error> {
-    let command = Command::new(alloc, name.word());
-    match name {
-        Name::New => new(alloc, command),
-        Name::Act => act(alloc, command),
-        Name::Take => take(alloc, command),
-        Name::Send => send(alloc, command),
-        Name::Status => status(alloc, command),
-        Name::Show => Ok(show(command)),
-        Name::Check => Ok(check(command)),
-        Name::Simulate => simulate(alloc, command),
-        Name::SimulateDesks => Ok(simulate_desks(command)),
+    let mut command = Command::new(alloc, name.word())
+        .about(name.about())
+        .long_about(name.help())
+        .after_long_help(name.example());
+    for argument in name.arguments() {
+        command = command.arg(argument.arg(alloc))?;
     }
-}
-
-/// Adds what `ill new` has.
-fn new<'a>(alloc: Global, command: Command<'a>) -> Result<Command<'a>, Error> {
-    let command = command
-        .about("Begin a desk of one role, in a file")
-        .long_about(help::NEW)
-        .after_long_help(help::NEW_EXAMPLE)
-        .arg(file(alloc, "The file of the desk, which must not be there yet"))?
-        .arg(argument(alloc, ROLE, "requester or responder"))?;
     Ok(command)
 }
-
-/// Adds what `ill act` has.
-fn act<'a>(alloc: Global, command: Command<'a>) -> Result<Command<'a>, Error> {
-    let today = Arg::new(alloc, TODAY)
-        .long("today")
-        .value_name("DAY")
-        .allow_hyphen_values(true)
-        .help("The day of the action, as 20250301; a responder needs it");
-    let words = argument(alloc, WORDS, "The words of the action")
-        .action(ArgAction::Append)
-        .num_args(1..)
-        .allow_hyphen_values(true)
-        .trailing_var_arg(true);
-    let command = command
-        .about("Perform one action in a loan, and save it")
-        .long_about(help::ACT)
-        .after_long_help(help::ACT_EXAMPLE)
-        .arg(file(alloc, help::FILE))?
-        .arg(argument(alloc, GROUP, help::GROUP))?
-        .arg(argument(alloc, TRANSACTION, help::TRANSACTION))?
-        .arg(today)?
-        .arg(words)?;
-    Ok(command)
-}
-
-/// Adds what `ill take` has.
-fn take<'a>(alloc: Global, command: Command<'a>) -> Result<Command<'a>, Error> {
-    let command = command
-        .about("Take the APDUs on standard input, and save what they change")
-        .long_about(help::TAKE)
-        .after_long_help(help::TAKE_EXAMPLE)
-        .arg(file(alloc, help::FILE))?;
-    Ok(command)
-}
-
-/// Adds what `ill send` has.
-fn send<'a>(alloc: Global, command: Command<'a>) -> Result<Command<'a>, Error> {
-    let number = argument(alloc, NUMBER, "The number of the message, 1 to 255");
-    let command = command
-        .about("Write the bytes of one message of a loan")
-        .long_about(help::SEND)
-        .after_long_help(help::SEND_EXAMPLE)
-        .arg(file(alloc, help::FILE))?
-        .arg(argument(alloc, GROUP, help::GROUP))?
-        .arg(argument(alloc, TRANSACTION, help::TRANSACTION))?
-        .arg(number.allow_hyphen_values(true))?;
-    Ok(command)
-}
-
-/// Adds what `ill status` has.
-fn status<'a>(alloc: Global, command: Command<'a>) -> Result<Command<'a>, Error> {
-    let command = command
-        .about("Show how each loan in a file stands")
-        .long_about(help::STATUS)
-        .after_long_help(help::STATUS_EXAMPLE)
-        .arg(file(alloc, help::FILE))?;
-    Ok(command)
-}
-
-/// Adds what `ill show` has.
-fn show<'a>(command: Command<'a>) -> Command<'a> {
-    command
-        .about("Show each APDU on standard input")
-        .long_about(help::SHOW)
-        .after_long_help(help::SHOW_EXAMPLE)
-}
-
-/// Adds what `ill check` has.
-fn check<'a>(command: Command<'a>) -> Command<'a> {
-    command
-        .about("Check the APDUs on standard input and count them")
-        .long_about(help::CHECK)
-        .after_long_help(help::CHECK_EXAMPLE)
-}
-
-/// Adds what `ill simulate` has.
-fn simulate<'a>(alloc: Global, command: Command<'a>) -> Result<Command<'a>, Error> {
-    let command = command
-        .about("Perform a script of both sides of a loan, from standard input")
-        .long_about(help::SIMULATE)
-        .after_long_help(help::SIMULATE_EXAMPLE)
-        .arg(argument(alloc, GROUP, help::GROUP))?
-        .arg(argument(alloc, TRANSACTION, help::TRANSACTION))?;
-    Ok(command)
-}
-
-/// Adds what `ill simulate-desks` has.
-fn simulate_desks<'a>(command: Command<'a>) -> Command<'a> {
-    command
-        .about("Perform a script of two desks, from standard input")
-        .long_about(help::SIMULATE_DESKS)
-        .after_long_help(help::SIMULATE_DESKS_EXAMPLE)
-}
-
-/// The file of a desk.
-fn file<'a>(alloc: Global, help: &'a str) -> Arg<'a> {
-    argument(alloc, FILE, help)
-}
-
-/// An argument that has to be there.
-fn argument<'a>(alloc: Global, id: &'a str, help: &'a str) -> Arg<'a> {
-    Arg::new(alloc, id).required(true).help(help)
-}
-
-const FILE: &str = "FILE";
-
-const ROLE: &str = "ROLE";
-
-const GROUP: &str = "GROUP";
-
-const TRANSACTION: &str = "TRANSACTION";
-
-const TODAY: &str = "today";
-
-const WORDS: &str = "WORDS";
-
-const NUMBER: &str = "NUMBER";

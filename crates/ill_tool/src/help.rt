@@ -2,12 +2,6 @@
 
 pub const VERSION: &str = "0.2.0";
 
-pub const FILE: &str = "The file of the desk";
-
-pub const GROUP: &str = "The group qualifier of the loan";
-
-pub const TRANSACTION: &str = "The transaction qualifier of the loan";
-
 pub const ILL: &str = "\
 A desk is the loans of one library in one role, and it is kept in a file: `new`
 begins it, `act` does what the library decides in a loan, `take` takes what

@@ -1,6 +1,6 @@
 /* Stops the process that it is preloaded into at a call of the system, and keeps what the disk lacks. What
-   counts are its calls of open, openat, statx, lchown, fchmod, ftruncate, read, write, fsync, fdatasync, rename,
-   renameat, unlink and close, from 1 on. STOP is the number of the one to stop at, or its line of the log, which
+   counts are its calls of open, openat, statx, lchown, fchmod, flock, ftruncate, read, write, fsync, fdatasync,
+   rename, renameat, unlink and close, from 1 on. STOP is the number of the one to stop at, or its line of the log, which
    stands for each such call. STOP_HOW says how:
      before  it is killed before the call
      after   it is killed after the call
@@ -10,7 +10,8 @@
      EIO     or another name of the table below: the call fails so, and does nothing, but that a close closes
      broken  this call and all behind it fail with EIO, but those of standard input, output and errors
    STOP_LOG names a file that gets a line for each call before it is made: its name, and that of the file. A
-   statx that follows no link is an lstat there.
+   statx that follows no link is an lstat there, one of an open file an fstat, and an lchown of the group alone a
+   chgrp.
    STOP_DISK names a folder that says, from process to process, what a machine forgets whose power goes. In it
      name-N  is the file that the name N stood for when the folder of N was flushed last
      none-N  says that N was the name of nothing then
@@ -27,6 +28,7 @@
 #include <stdio.h>
 #include <stdlib.h>
 #include <string.h>
+#include <sys/file.h>
 #include <sys/stat.h>
 #include <unistd.h>
 
@@ -235,18 +237,24 @@ int openat(int folder, const char *path, int flags, ...) {
 }
 
 int statx(int folder, const char *path, int flags, unsigned mask, struct statx *out) {
-  int reached = is_reached(flags & AT_SYMLINK_NOFOLLOW ? "lstat" : "statx", path);
+  int reached = path && *path ? is_reached(flags & AT_SYMLINK_NOFOLLOW ? "lstat" : "statx", path)
+                              : is_reached("fstat", name_of(folder));
   return fails(reached) ? -1 : answered(reached, REAL(statx)(folder, path, flags, mask, out));
 }
 
 int lchown(const char *path, uid_t owner, gid_t group) {
-  int reached = is_reached("lchown", path);
+  int reached = is_reached(owner == (uid_t)-1 ? "chgrp" : "lchown", path);
   return fails(reached) ? -1 : answered(reached, REAL(lchown)(path, owner, group));
 }
 
 int fchmod(int file, mode_t mode) {
   int reached = is_reached("fchmod", name_of(file));
   return fails(reached) ? -1 : answered(reached, REAL(fchmod)(file, mode));
+}
+
+int flock(int file, int how) {
+  int reached = is_reached("flock", name_of(file));
+  return fails(reached) ? -1 : answered(reached, REAL(flock)(file, how));
 }
 
 int ftruncate(int file, off_t size) {

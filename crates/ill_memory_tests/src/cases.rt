@@ -38,6 +38,7 @@ fn call_outcome(
         "Feed" => feed_outcome(alloc, name),
         "MemoryStore" => store_outcome(alloc, name, words),
         "FileStore" => folder.outcome(alloc, name),
+        "FileLock" => folder.lock_outcome(alloc),
         "Sides" => held::outcome(alloc, name),
         "Desk1" => desk_outcome::<Desk1<MemoryStore>>(alloc, name, words),
         "Desk" => desk_outcome::<Desk<MemoryStore>>(alloc, name, words),

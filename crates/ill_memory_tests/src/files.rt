@@ -1,10 +1,10 @@
-//! The store in a file, in a folder of the program's own.
+//! The store in a file, and the file's lock, in a folder of the program's own.
 
 use crate::judging::{Outcome, done_if, judged, leaving};
 use crate::marks::{begin, end};
 use crate::stores::{NEW, OLD, loading, loads_as, saving};
 use crate::words::named;
-use ill_saved::{FileStore, Store, StoreFault};
+use ill_saved::{FileLock, FileStore, Store, StoreFault};
 use ill_values::OutOfMemory;
 use std::alloc::Global;
 use std::fs;
@@ -57,6 +57,22 @@ impl<'a> Folder<'a> {
             "save" | "save-failed" => self.saves(alloc, call),
             _ => self.loads(alloc, call),
         }
+    }
+
+    /// The outcome of taking the lock of a record.
+    pub fn lock_outcome(&self, alloc: Global) -> Option<Outcome> {
+        self.lay_record(alloc)?;
+        let path = self.path(alloc, "record")?;
+        begin(alloc);
+        let taken = FileLock::take(self.rt, alloc, path.as_str());
+        let refused = end(alloc);
+        let outcome = match &taken {
+            Ok(_) => Outcome::Done,
+            Err(StoreFault::OutOfMemory) => Outcome::Memory,
+            Err(_) => Outcome::Wrong,
+        };
+        drop(taken);
+        Some(leaving(judged(outcome, refused), self.has(alloc, OLD)))
     }
 
     /// Has the old record stand in its file.

@@ -4,13 +4,14 @@ ghost use Rattle.std.specs.Prelude.{◌≡◌, ◌++◌, ℕ, List, false, None,
 ghost use Rattle.ill_saved.specs.declared.store.StoreFault.TheVariants.{Failed};
 ghost use Rattle.ill_saved.specs.Store.{FileStoreState, FileLoads, FileSaves, folder_of, failed_file};
 
+use crate::regular_file;
+use crate::regular_file::Identity;
 use crate::store::{Store, StoreFault};
 use ill_values::OutOfMemory;
 use std::alloc::Global;
-use std::fs::{File, Metadata, OpenFile, OpenOptions};
+use std::fs::{Metadata, OpenFile};
 use std::io::{ErrorKind, Read, Write};
 use std::marker::Model;
-use std::os::unix::fs::{MetadataExt, OpenOptionsExt, PermissionsExt, lchown};
 use std::path::Path;
 use std::rt::Files;
 use std::{fs, io};
@@ -23,7 +24,10 @@ pub const RECORD_LIMIT: u32 = 67_108_864;
 ///
 /// What a file holds is not proved. That what was saved last is loaded, after a crash too, rests on
 /// this: the disk gives back what was written there, and nobody else writes the file. The file of the
-/// same name with `.new` behind it belongs to the store.
+/// same name with `.new` behind it belongs to the store, so a path that ends so is refused by both calls.
+///
+/// A save fails if another has replaced or changed the file since this store loaded or saved it. That
+/// finds most such changes, and not those of the same moment: whoever shares a file holds a `FileLock`.
 #[derive(Drop)]
 pub struct FileStore<'a, R: Files> {
     rt: &'a R,
@@ -31,6 +35,29 @@ pub struct FileStore<'a, R: Files> {
     new_path: String,
     limit: u32,
     failures: u64,
+    known: Known,
+}
+
+/// What a store knows of its file.
+#[derive(Clone, Copy, PartialEq, Eq)]
+enum Known {
+    /// Nothing, since it has neither loaded nor saved.
+    Nothing,
+    /// No file was there.
+    Absent,
+    /// This file was loaded or saved.
+    File(Identity),
+}
+
+impl Known {
+    /// Tells whether a file that is found now, if one is, may be the one that is known.
+    fn fits(self, found: Option<&Metadata>) -> bool {
+        match (self, found) {
+            (Known::Nothing, _) | (Known::Absent, None) => true,
+            (Known::File(known), Some(found)) => known == Identity::of(found),
+            _ => false,
+        }
+    }
 }
 
 impl<'a, R: Files> Model for FileStore<'a, R> {
@@ -62,13 +89,14 @@ impl<'a, R: Files> FileStore<'a, R> {
             store ≡ record { path = path.now; limit = limit; failures = 0 }) }
     {
         let mut new_path = String::from_str(alloc, path)?;
-        new_path.push_str(".new")?;
+        new_path.push_str(regular_file::NEW)?;
         Ok(FileStore {
             rt,
             path: String::from_str(alloc, path)?,
             new_path,
             limit,
             failures: 0,
+            known: Known::Nothing,
         })
     }
 
@@ -91,15 +119,16 @@ impl<'a, R: Files> FileStore<'a, R> {
         }
     }
 
-    /// The bytes of the record, which are read no further than one byte past the limit.
+    /// The bytes of the record, which are read no further than one byte past the limit. The disk has them
+    /// before they are given.
     fn read(&mut self, alloc: Global, file: R::File) -> Result<Option<Vec<u8>>, StoreFault>
         ensures { FileLoads (λ b. b.items) self.old result self.new }
     {
         let mut bytes = Vec::new(alloc);
-        let most = u64::from(self.limit) + 1;
-        match file.take(most).read_to_end(&mut bytes) {
+        let mut file = file.take(u64::from(self.limit) + 1);
+        match file.read_to_end(&mut bytes) {
             Ok(size) if size > self.limit as usize => Err(StoreFault::TooLarge),
-            Ok(_) => match self.flush_name() {
+            Ok(_) => match self.flush_record(file.into_inner()) {
                 Ok(()) => Ok(Some(bytes)),
                 Err(_) => Err(self.fail()),
             },
@@ -107,46 +136,65 @@ impl<'a, R: Files> FileStore<'a, R> {
         }
     }
 
-    /// Opens the record, if there is one.
-    fn open_record(&self) -> io::Result<Option<R::File>> {
-        match self.find_record()? {
-            Some(_) => fs::open(self.rt, self.path.as_str()).map(Some),
-            None => Ok(None),
-        }
+    /// Waits until the disk has the record that was opened, and has it under its name.
+    fn flush_record(&self, file: R::File) -> io::Result<()> {
+        flush(Some(file))?;
+        flush(self.open_folder()?)
     }
 
-    /// What the system says of the record, if there is one. Anything but a regular file in its place
-    /// is a fault: to open a pipe would be to wait on it, and to follow a link, to have two names for
-    /// one record.
-    fn find_record(&self) -> io::Result<Option<Metadata>> {
-        match fs::symlink_metadata(self.rt, self.path.as_str()) {
-            Ok(found) if found.is_file() => Ok(Some(found)),
-            Ok(_) => Err(ErrorKind::InvalidInput.into()),
-            Err(error) if error.kind() == ErrorKind::NotFound => Ok(None),
-            Err(error) => Err(error),
+    /// Opens the record, if there is one, and keeps in mind which file it is.
+    fn open_record(&mut self) -> io::Result<Option<R::File>>
+        ensures { self.new ≡ self.old }
+    {
+        regular_file::refuse_reserved(self.path.as_str())?;
+        match regular_file::open(self.rt, self.path.as_str())? {
+            Some((file, identity)) => {
+                self.known = Known::File(identity);
+                Ok(Some(file))
+            }
+            None => {
+                self.known = Known::Absent;
+                Ok(None)
+            }
         }
     }
 
     /// Writes the bytes beside the record, and then puts them in its place. Each step waits until the
     /// disk has what was written. An empty path is that of no file, and nothing is touched for it.
-    fn replace(&self, bytes: &[u8]) -> io::Result<()> {
+    fn replace(&mut self, bytes: &[u8]) -> io::Result<()>
+        ensures { self.new ≡ self.old }
+    {
         if self.path.is_empty() {
             return Err(ErrorKind::NotFound.into());
         }
-        let old = self.find_record()?;
+        let old = self.find_known()?;
         let folder = self.open_folder()?;
         self.remove_new()?;
-        if let Err(error) = self.place(bytes, old) {
-            let _ = self.remove_new();
-            return Err(error);
+        match self.place(bytes, old) {
+            Ok(placed) => self.known = Known::File(placed),
+            Err(error) => {
+                let _ = self.remove_new();
+                return Err(error);
+            }
         }
-        flush_names(folder)
+        flush(folder)
     }
 
-    /// Puts the bytes in the place of the record.
-    fn place(&self, bytes: &[u8], old: Option<Metadata>) -> io::Result<()> {
-        self.write_new(bytes, old)?;
-        fs::rename(self.rt, self.new_path.as_str(), self.path.as_str())
+    /// Looks up the record, if there is one. A file that is not the one that was loaded or saved last is a fault.
+    fn find_known(&self) -> io::Result<Option<Metadata>> {
+        regular_file::refuse_reserved(self.path.as_str())?;
+        let found = regular_file::find(self.rt, self.path.as_str())?;
+        if !self.known.fits(found.as_ref()) {
+            return Err(ErrorKind::AlreadyExists.into());
+        }
+        Ok(found)
+    }
+
+    /// Puts the bytes in the place of the record, and answers which file has them.
+    fn place(&self, bytes: &[u8], old: Option<Metadata>) -> io::Result<Identity> {
+        let written = self.write_new(bytes, old)?;
+        fs::rename(self.rt, self.new_path.as_str(), self.path.as_str())?;
+        Ok(written)
     }
 
     /// Removes what this save or an earlier one has left. So no link that stands there is written
@@ -158,40 +206,17 @@ impl<'a, R: Files> FileStore<'a, R> {
         }
     }
 
-    /// Writes the bytes to a file that was not there, which those may read and write who may do so
-    /// with the record. The first record has the permissions that the system gives a new file.
-    fn write_new(&self, bytes: &[u8], old: Option<Metadata>) -> io::Result<()> {
-        let mut file = match old {
-            Some(old) => self.create_like(&old)?,
-            None => File::create_new(self.rt, self.new_path.as_str())?,
-        };
+    /// Writes the bytes to a file that was not there, which belongs to those to whom the record does, as far as the
+    /// system lets it. The first record is what the system makes of a new file.
+    fn write_new(&self, bytes: &[u8], old: Option<Metadata>) -> io::Result<Identity> {
+        let new_path = self.new_path.as_str();
+        let mut file = regular_file::create(self.rt, new_path, old.as_ref())?;
+        if let Some(old) = &old {
+            regular_file::share_like(self.rt, new_path, &file, old)?;
+        }
         file.write_all(bytes)?;
-        file.sync_all()
-    }
-
-    /// Creates the new file with the group and the permissions of the record. Until it has both, it
-    /// is its owner's alone.
-    fn create_like(&self, old: &Metadata) -> io::Result<R::File> {
-        let mut options = OpenOptions::new();
-        options.write(true);
-        options.create_new(true);
-        options.mode(0o600);
-        let file = options.open(self.rt, self.new_path.as_str())?;
-        let mut permissions = old.permissions();
-        if !self.keep_group(old.gid())? {
-            permissions.set_mode(without_group(permissions.mode()));
-        }
-        file.set_permissions(permissions)?;
-        Ok(file)
-    }
-
-    /// Gives the new file the group of the record, and tells whether the system lets it have that.
-    fn keep_group(&self, group: u32) -> io::Result<bool> {
-        match lchown(self.rt, self.new_path.as_str(), None, Some(group)) {
-            Ok(()) => Ok(true),
-            Err(error) if is_refused(error.kind()) => Ok(false),
-            Err(error) => Err(error),
-        }
+        file.sync_all()?;
+        Ok(Identity::of(&file.metadata()?))
     }
 
     /// Opens the folder that holds the record. One that may not be read is passed over.
@@ -202,40 +227,18 @@ impl<'a, R: Files> FileStore<'a, R> {
             Err(error) => Err(error),
         }
     }
-
-    /// Waits until the disk has the file under the name by which it was opened.
-    fn flush_name(&self) -> io::Result<()> {
-        flush_names(self.open_folder()?)
-    }
 }
 
-/// Waits until the disk has the names in a folder. A file system that has no such flush is passed
-/// over.
-fn flush_names<F: OpenFile + Drop>(folder: Option<F>) -> io::Result<()> {
-    let Some(folder) = folder else {
+/// Waits until the disk has what was opened: the bytes of a file, or the names in a folder. A file system that has no
+/// such flush is passed over.
+fn flush<F: OpenFile + Drop>(opened: Option<F>) -> io::Result<()> {
+    let Some(opened) = opened else {
         return Ok(());
     };
-    match folder.sync_all() {
-        Err(error) if is_unsupported(error.kind()) => Ok(()),
+    match opened.sync_all() {
+        Err(error) if regular_file::is_unsupported(error.kind()) => Ok(()),
         flushed => flushed,
     }
-}
-
-/// Whether a call failed since the file system does not have it.
-fn is_unsupported(fault: ErrorKind) -> bool {
-    matches!(fault, ErrorKind::Unsupported | ErrorKind::InvalidInput)
-}
-
-/// Whether a call failed since whoever runs this may not make it, or since the file system does not have it.
-fn is_refused(fault: ErrorKind) -> bool {
-    fault == ErrorKind::PermissionDenied || is_unsupported(fault)
-}
-
-/// The permissions for a file that has another group than the record. Its group gets none. Whoever
-/// was of the record's group is one of the others now, so these keep what the group had too.
-fn without_group(mode: u32) -> u32 {
-    let of_the_group = (mode >> 3) & 0o7;
-    (mode & !0o77) | (mode & of_the_group)
 }
 
 /// The folder that holds the file at a path.

@@ -1,4 +1,4 @@
-//! The system's files, of whose calls one fails.
+//! The system's files, of whose calls one fails, or of which a lookup deceives.
 
 use std::alloc::{AllocError, Allocator, Global};
 use std::cell::Cell;
@@ -14,7 +14,20 @@ use std::rt::Files;
 pub struct Failing<'a> {
     rt: &'a HostRuntime,
     left: Left,
+    deceit: Deceit<'a>,
     made: Cell<u32>,
+    given: Cell<Option<u32>>,
+}
+
+/// How a lookup of a file deceives.
+#[derive(Clone, Copy)]
+pub enum Deceit<'a> {
+    /// It does not.
+    None,
+    /// The file becomes a link to this path, once it was looked up.
+    Swapped(&'a str),
+    /// It tells of the file at this path.
+    TellsOf(&'a str),
 }
 
 /// One of these files, which is open.
@@ -43,13 +56,45 @@ impl<'a> Failing<'a> {
         Ok(Failing {
             rt,
             left: Left { calls, fault },
+            deceit: Deceit::None,
             made: Cell::new(0),
+            given: Cell::new(None),
         })
+    }
+
+    /// These files, of which no call fails, and of which each lookup deceives.
+    pub fn deceiving(
+        rt: &'a HostRuntime,
+        alloc: Global,
+        deceit: Deceit<'a>,
+    ) -> Result<Failing<'a>, AllocError> {
+        let mut files = Failing::after(rt, alloc, u32::MAX, ErrorKind::Other)?;
+        files.deceit = deceit;
+        Ok(files)
     }
 
     /// Who might read and write the last file that was made, when it was made.
     pub fn made(&self) -> u32 {
         self.made.get()
+    }
+
+    /// The owner to whom a file was to be given last, if one was.
+    pub fn given(&self) -> Option<u32> {
+        self.given.get()
+    }
+
+    /// What a lookup of a file tells.
+    fn look_up(&self, path: &str) -> io::Result<Metadata> {
+        match self.deceit {
+            Deceit::None => self.rt.symlink_metadata(path),
+            Deceit::TellsOf(other) => self.rt.symlink_metadata(other),
+            Deceit::Swapped(target) => {
+                let found = self.rt.symlink_metadata(path)?;
+                self.rt.remove_file(path)?;
+                self.rt.symlink(target, path)?;
+                Ok(found)
+            }
+        }
     }
 }
 
@@ -101,7 +146,7 @@ impl<'a> Files for Failing<'a> {
 
     fn symlink_metadata(&self, path: &str) -> io::Result<Metadata> {
         self.left.pass()?;
-        self.rt.symlink_metadata(path)
+        self.look_up(path)
     }
 
     fn copy(&self, from: &str, to: &str) -> io::Result<u64> {
@@ -120,6 +165,7 @@ impl<'a> Files for Failing<'a> {
 
     fn lchown(&self, path: &str, owner: Option<u32>, group: Option<u32>) -> io::Result<()> {
         self.left.pass()?;
+        self.given.set(owner.or(self.given.get()));
         self.rt.lchown(path, owner, group)
     }
 

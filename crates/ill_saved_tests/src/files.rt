@@ -6,7 +6,7 @@ ghost use Rattle.ill_saved.specs.Store.{failed_file};
 
 use crate::any_desk::DeskOver;
 use crate::calls::named;
-use crate::failing::Failing;
+use crate::failing::{Deceit, Failing};
 use crate::line::Line;
 use crate::longest;
 use crate::names::Names;
@@ -77,6 +77,8 @@ impl<'a> Folder<'a> {
             "desk" => self.desk::<Desk1<HostStore<'a>>>(line, path),
             "desk-many" => self.desk::<Desk<HostStore<'a>>>(line, path),
             "making" => self.making(line, names, path, words),
+            "swapped" => self.swapped(line, path, words),
+            "owned" => self.owned(line, names, path, words),
             "damaged" => self.damaged::<Desk1<HostStore<'a>>>(line, names, path, words),
             "damaged-many" => self.damaged::<Desk<HostStore<'a>>>(line, names, path, words),
             "longest" => longest::write(self.rt, self.alloc, line, path),
@@ -209,6 +211,27 @@ impl<'a> Folder<'a> {
         Some(())
     }
 
+    /// `swapped NAME TARGET`: a load of a record that becomes a link to the target once it was looked up.
+    fn swapped(&self, line: &mut Line, path: &str, target: &str) -> Option<()> {
+        let files = Failing::deceiving(self.rt, self.alloc, Deceit::Swapped(target)).ok()?;
+        let mut store = FileStore::at(&files, self.alloc, path, 100).ok()?;
+        write_loaded(line, load(&mut store, self.alloc));
+        Some(())
+    }
+
+    /// `owned NAME OTHER BYTES`: a save over a record that seems to be the file OTHER, and to whom the new file
+    /// was to be given.
+    fn owned(&self, line: &mut Line, names: &Names, path: &str, words: &str) -> Option<()> {
+        let (other, bytes) = words.split_once(' ')?;
+        let bytes = names.bytes(bytes, 0)?;
+        let files = Failing::deceiving(self.rt, self.alloc, Deceit::TellsOf(other)).ok()?;
+        let mut store = FileStore::at(&files, self.alloc, path, 100).ok()?;
+        write_saved(line, save(&mut store, self.alloc, &bytes));
+        line.text(", given to ");
+        write_owner(line, files.given());
+        Some(())
+    }
+
     /// `damaged NAME LIMIT DAMAGE`: what a desk answers behind whose back its record was damaged. With
     /// `damaged-many` it is of many transactions.
     fn damaged<D: DeskOver<HostStore<'a>>>(
@@ -293,4 +316,12 @@ fn write_absent(line: &mut Line, fault: ErrorKind) -> Option<()> {
     }
     line.text("nothing");
     Some(())
+}
+
+/// Writes to whom a file was to be given, if it was.
+fn write_owner(line: &mut Line, owner: Option<u32>) {
+    match owner {
+        Some(owner) => line.show(&owner),
+        None => line.text("nobody"),
+    }
 }

@@ -1,5 +1,7 @@
 //! The commands that keep a desk in a file. Their words are judged before the file is opened, but for
-//! those of an action.
+//! those of an action. A command that may change the file holds its lock from before the load to its end.
+
+ghost use Rattle.std.specs.Prelude.{◌≡◌};
 
 use crate::act::run_desk_act;
 use crate::fault::ToolFault;
@@ -8,7 +10,7 @@ use crate::send::run_desk_send;
 use crate::simulate::id;
 use crate::status::run_desk_status;
 use crate::take::run_desk_take;
-use ill_saved::{Desk, FileStore, RECORD_LIMIT};
+use ill_saved::{Desk, DeskFault, FileLock, FileStore, LockFiles, RECORD_LIMIT};
 use ill_values::Day;
 use ill_world::words::{number, who};
 use std::alloc::Global;
@@ -16,7 +18,7 @@ use std::io::{Read, Write};
 use std::rt::Files;
 
 /// `ill new`: begins a desk.
-pub fn new<T: Files, W: Write>(
+pub fn new<T: LockFiles, W: Write>(
     rt: &T,
     alloc: Global,
     file: &str,
@@ -24,13 +26,16 @@ pub fn new<T: Files, W: Write>(
     writer: &mut W,
 ) -> Result<bool, ToolFault> {
     let role = who(role.as_bytes()).ok_or(ToolFault::Arguments)?;
+    let lock = lock(rt, alloc, file)?;
     let store = FileStore::at(rt, alloc, file, RECORD_LIMIT)?;
-    run_desk_new(alloc, store, role, writer)?;
+    let begun = run_desk_new(alloc, store, role, writer);
+    drop(lock);
+    begun?;
     Ok(true)
 }
 
 /// `ill act`: performs one action in the transaction with these qualifiers.
-pub fn act<T: Files, W: Write>(
+pub fn act<T: LockFiles, W: Write>(
     rt: &T,
     alloc: Global,
     file: &str,
@@ -41,24 +46,22 @@ pub fn act<T: Files, W: Write>(
 ) -> Result<bool, ToolFault> {
     let today = day(today)?;
     let txn = id(alloc, group, transaction)?;
-    let mut desk = open(rt, alloc, file)?;
+    let (lock, mut desk) = open_locked(rt, alloc, file)?;
     let acted = run_desk_act(alloc, &mut desk, &txn, today, words, writer);
-    drop(desk);
-    acted
+    release(acted, desk, lock)
 }
 
-/// `ill take`: takes the APDUs of the input.
-pub fn take<T: Files, R: Read, W: Write>(
+/// `ill take`: takes the APDUs of the input, to whose end no other command changes the file.
+pub fn take<T: LockFiles, R: Read, W: Write>(
     rt: &T,
     alloc: Global,
     file: &str,
     reader: &mut R,
     writer: &mut W,
 ) -> Result<bool, ToolFault> {
-    let mut desk = open(rt, alloc, file)?;
+    let (lock, mut desk) = open_locked(rt, alloc, file)?;
     let taken = run_desk_take(alloc, &mut desk, reader, writer);
-    drop(desk);
-    taken
+    release(taken, desk, lock)
 }
 
 /// `ill send`: gives the bytes of a message of the transaction with these qualifiers.
@@ -91,6 +94,42 @@ pub fn status<T: Files, W: Write>(
     drop(desk);
     shown?;
     Ok(true)
+}
+
+/// The lock of a file.
+fn lock<'a, T: LockFiles>(
+    rt: &'a T,
+    alloc: Global,
+    file: &str,
+) -> Result<FileLock<'a, T>, ToolFault> {
+    match FileLock::take(rt, alloc, file) {
+        Ok(lock) => Ok(lock),
+        Err(fault) => Err(DeskFault::from(fault).into()),
+    }
+}
+
+/// The desk in a file, loaded under the file's lock.
+fn open_locked<'a, T: LockFiles>(
+    rt: &'a T,
+    alloc: Global,
+    file: &str,
+) -> Result<(FileLock<'a, T>, Desk<FileStore<'a, T>>), ToolFault> {
+    let held = lock(rt, alloc, file)?;
+    let opened = open(rt, alloc, file)?;
+    Ok((held, opened))
+}
+
+/// Lets a desk go and then its lock, and hands on what a command answered.
+fn release<D: Drop, L: Drop>(
+    answer: Result<bool, ToolFault>,
+    desk: D,
+    lock: L,
+) -> Result<bool, ToolFault>
+    ensures { result ≡ answer }
+{
+    drop(desk);
+    drop(lock);
+    answer
 }
 
 /// The desk in a file.

@@ -11,11 +11,11 @@ messages are carried, by mail or by hand, is left to the libraries. `show`,
 `check`, `simulate` and `simulate-desks` keep nothing. `ill COMMAND --help`
 tells more of a command.
 
-From the start of a command on a file to its end no other may run on that file,
-while a `take` waits for its input too. No lock is taken, and one on the file
-itself is none, since each save puts a new file in its place. So lock another:
-  flock desk.lock ill act desk G1 T1 receive
-  flock there.lock ill send there G1 T1 1 > letter
+Several commands may be started at once on one file. Those that may change it,
+`new`, `act` and `take`, wait for each other: ten seconds, and then they end
+with `store failed`. A `take` holds the file until its input ends. `send` and
+`status` wait for nobody. No file of a desk may have a name that ends in `.new`
+or `.lck`: such files are the program's.
 
 The start of a loan, with the requester's desk in the file `here` and the
 responder's in the file `there`:
@@ -51,7 +51,8 @@ The exit status, and the line of a fault on standard error behind `ill: `:
   2  record bad at N      FILE has a record with a wrong byte, at N
   2  record digest        FILE was damaged: its digest is not that of its bytes
   2  record inconsistent  FILE has a record that no desk can have
-  3  store failed         FILE or its folder cannot be read or written
+  3  store failed         FILE or its folder cannot be read or written, or
+                          another command held FILE for ten seconds
   3  store too-large      FILE has more than 67,108,864 bytes
   3  read                 the input cannot be read
   3  write                the output cannot be written; a closed pipe too
@@ -133,9 +134,8 @@ changes, and OUTCOME says why:
   not-expired            `expire`, and no expiry day is past
   numbers-used           all 255 numbers are used
 
-Standard input is not read, and FILE has at most 67,108,864 bytes. From its
-start to its end no other command may run on FILE: `flock FILE.lock ill act FILE
-..` sees to it, as `ill --help` tells.
+Standard input is not read, and FILE has at most 67,108,864 bytes. While another
+command changes FILE, this one waits, as `ill --help` tells.
 
 The exit status is 0 where the action is done, 1 where it is refused or with
 `no-record`, 2 for wrong arguments or words or a bad record, and 3 with `store
@@ -164,9 +164,8 @@ Take the APDUs on standard input, and save what they change.
 The APDUs, the messages of other libraries as `ill send` gives them there, stand
 one behind another up to the end of the input: `ill take FILE < message`. Each
 is for the loan that it names. There are at most 100,000 of them. FILE has at
-most 67,108,864 bytes. From its start to its end, while it waits for its input
-too, no other command may run on FILE: `flock FILE.lock ill take FILE < message`
-sees to it, as `ill --help` tells.
+most 67,108,864 bytes. While another command changes FILE, this one waits, as
+`ill --help` tells; and it holds FILE itself until its input ends.
 
 For each of them a line is written to standard output:
   OUTCOME STATE DUE RELEASED/ISSUED
@@ -218,9 +217,7 @@ Its bytes, and nothing else, are written to standard output: 16 to 359 of them,
 which are not for a terminal. Give them to a file or another program, as in
 `ill send FILE G1 T1 1 > message`. FILE has at most 67,108,864 bytes; it is not
 changed, so nothing tells what was sent. A message may be sent again at any
-time, and has the same bytes then. From its start to its end no other command
-may run on FILE: `flock FILE.lock ill send FILE G1 T1 1 > message` sees to it,
-as `ill --help` tells. Standard input is not read.
+time, and has the same bytes then. Standard input is not read.
 
 The exit status is 0 where the message is written, 1 with `no-such-transaction`,
 `no-such-message`, `not-saved` or `no-record`, 2 for wrong arguments or a bad

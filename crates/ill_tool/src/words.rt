@@ -10,16 +10,15 @@ use crate::file::{act, new, send, status, take};
 use crate::show::run_show;
 use crate::simulate::{run_simulate, run_simulate_desks};
 use clap::error::ErrorKind;
-use ill_saved::DeskFault;
+use ill_saved::{DeskFault, LockFiles};
 use std::alloc::Global;
 use std::io::{BufWriter, Cursor, Read, Write};
-use std::rt::Files;
 
 /// Performs one command line, whose first word is the program's name, and answers the exit status.
 ///
 /// The line of a fault is written to `errors`, whose own faults are passed over. What was written
 /// to `writer` before a fault is flushed before that line.
-pub fn run_words<T: Files, R: Read, W: Write, E: Write>(
+pub fn run_words<T: LockFiles, R: Read, W: Write, E: Write>(
     rt: &T,
     alloc: Global,
     words: &[&str],
@@ -38,7 +37,7 @@ const BUFFER: usize = 65_536;
 
 /// Performs a command, with a buffer round the writer, and answers whether all went well. The commands
 /// read pieces themselves.
-fn perform<T: Files, R: Read, W: Write>(
+fn perform<T: LockFiles, R: Read, W: Write>(
     rt: &T,
     alloc: Global,
     request: &Request<'_>,
@@ -68,7 +67,7 @@ fn finish_writing<W: Write>(
 }
 
 /// Runs the engine of a command.
-fn run<T: Files, R: Read, W: Write>(
+fn run<T: LockFiles, R: Read, W: Write>(
     rt: &T,
     alloc: Global,
     request: &Request<'_>,

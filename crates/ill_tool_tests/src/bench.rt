@@ -10,8 +10,8 @@ use crate::names::Names;
 use crate::page::Page;
 use crate::texts::tell_texts;
 use crate::words::Word;
+use ill_saved::LockFiles;
 use std::alloc::Global;
-use std::rt::Files;
 
 /// What performs the calls of lines. Nothing is answered where the words are none.
 pub trait Performs {
@@ -27,7 +27,7 @@ pub trait Performs {
 
 /// A folder, and a side or a desk in memory.
 #[derive(Drop)]
-pub struct Bench<'a, R: Files> {
+pub struct Bench<'a, R: LockFiles> {
     alloc: Global,
     folder: Folder<'a, R>,
     memory: Option<Memory>,
@@ -38,6 +38,8 @@ pub struct Bench<'a, R: Files> {
 enum Kind {
     /// The command line.
     Ill,
+    /// The command line, on files that see its lock.
+    Watched,
     Engine(Engine),
     File(FileCall),
     /// A side or a desk in memory begins.
@@ -50,8 +52,9 @@ enum Kind {
     Texts,
 }
 
-const KINDS: [(&str, Kind); 23] = [
+const KINDS: [(&str, Kind); 24] = [
     ("ill", Kind::Ill),
+    ("watched", Kind::Watched),
     ("show", Kind::Engine(Engine::Show)),
     ("check", Kind::Engine(Engine::Check)),
     ("simulate", Kind::Engine(Engine::Simulate)),
@@ -85,7 +88,7 @@ fn kind_of(word: &str) -> Option<Kind> {
     None
 }
 
-impl<'a, R: Files> Bench<'a, R> {
+impl<'a, R: LockFiles> Bench<'a, R> {
     /// A bench with nothing on it but this folder.
     pub fn new(alloc: Global, folder: Folder<'a, R>) -> Bench<'a, R> {
         Bench {
@@ -100,6 +103,7 @@ impl<'a, R: Files> Bench<'a, R> {
         let mut call = Call::of(self.alloc, names, words)?;
         match kind {
             Kind::Ill => self.folder.command(page, names, &mut call),
+            Kind::Watched => self.folder.watched_command(page, names, &mut call),
             Kind::Engine(engine) => engines::perform(self.alloc, page, names, engine, &mut call),
             Kind::On(kind) => {
                 let memory = self.memory.as_mut()?;
@@ -114,7 +118,7 @@ impl<'a, R: Files> Bench<'a, R> {
     }
 }
 
-impl<'a, R: Files> Performs for Bench<'a, R> {
+impl<'a, R: LockFiles> Performs for Bench<'a, R> {
     fn begin(&mut self) -> Option<()> {
         drop(self.memory.take());
         self.folder.clear()

@@ -3,18 +3,19 @@
 use crate::call::{Call, tell_value};
 use crate::names::Names;
 use crate::page::Page;
-use crate::telling::{tell_bytes, tell_line, tell_whether};
+use crate::telling::{begin, tell_bytes, tell_line, tell_whether};
+use crate::watched::{Seen, Watched};
 use crate::words::Word;
+use ill_saved::LockFiles;
 use ill_tool::run_words;
 use std::alloc::Global;
 use std::env::Env;
 use std::io::ErrorKind;
-use std::rt::Files;
 use std::{env, fs, io};
 
 /// A folder below the system's for temporary files.
 #[derive(Drop)]
-pub struct Folder<'a, R: Files> {
+pub struct Folder<'a, R: LockFiles> {
     rt: &'a R,
     alloc: Global,
     path: String,
@@ -29,7 +30,7 @@ pub enum FileCall {
     Remove,
 }
 
-impl<'a, R: Files> Folder<'a, R> {
+impl<'a, R: LockFiles> Folder<'a, R> {
     /// A folder that was not there, with nothing in it.
     pub fn new(rt: &'a R, alloc: Global) -> io::Result<Folder<'a, R>>
     where
@@ -95,7 +96,7 @@ impl<'a, R: Files> Folder<'a, R> {
     /// Performs a command line, and tells what it leaves.
     pub fn command(&self, page: &mut Page, names: &Names, call: &mut Call<'_>) -> Option<()> {
         let line = self.command_line(call.words)?;
-        let status = self.run(&line, call)?;
+        let status = run(self.rt, self.alloc, &line, call)?;
         call.tell(page, names);
         if status != 0 || call.has_written_nothing() {
             tell_value(page, &status);
@@ -103,21 +104,24 @@ impl<'a, R: Files> Folder<'a, R> {
         Some(())
     }
 
-    /// Performs these words, and answers the exit status.
-    fn run(&self, line: &[String], call: &mut Call<'_>) -> Option<u8> {
-        let words: Vec<&str> = line
-            .iter()
-            .map(|word| word.as_str())
-            .collect(self.alloc)
-            .ok()?;
-        Some(run_words(
-            self.rt,
-            self.alloc,
-            &words,
-            &mut call.source,
-            &mut call.output,
-            &mut call.errors,
-        ))
+    /// Performs a command line on files that see its second word's record, and tells what it leaves and what they
+    /// have seen. The first word is how many tries of the lock fail.
+    pub fn watched_command(
+        &self,
+        page: &mut Page,
+        names: &Names,
+        call: &mut Call<'_>,
+    ) -> Option<()> {
+        let (held, words) = call.words.split_first()?;
+        let held = held.text.as_str().parse::<u32>().ok()?;
+        let line = self.command_line(words)?;
+        let record = line.get(2)?.as_str();
+        let lock = format!(in self.alloc; "{record}.lck").ok()?;
+        let watched = Watched::new(self.rt, record, lock.as_str(), held);
+        let status = run(&watched, self.alloc, &line, call)?;
+        call.tell_answer(page, names, &status);
+        tell_seen(page, &watched.seen());
+        Some(())
     }
 
     /// The words of a command line: the program's name, and the paths of files in place of their names.
@@ -138,6 +142,34 @@ impl<'a, R: Files> Folder<'a, R> {
             _ => String::from_str(self.alloc, text).ok(),
         }
     }
+}
+
+/// Performs these words, and answers the exit status.
+fn run<T: LockFiles>(rt: &T, alloc: Global, line: &[String], call: &mut Call<'_>) -> Option<u8> {
+    let words: Vec<&str> = line.iter().map(|word| word.as_str()).collect(alloc).ok()?;
+    Some(run_words(
+        rt,
+        alloc,
+        &words,
+        &mut call.source,
+        &mut call.output,
+        &mut call.errors,
+    ))
+}
+
+/// Tells how often the record was opened and replaced, how often the lock was free then, and how often it was waited
+/// for.
+fn tell_seen(page: &mut Page, seen: &Seen) {
+    begin(page, "=");
+    page.text("opened ");
+    page.show_parts(&seen.openings);
+    page.text(", replaced ");
+    page.show_parts(&seen.replacements);
+    page.text(", unlocked ");
+    page.show_parts(&seen.unlocked);
+    page.text(", pauses ");
+    page.show_parts(&seen.pauses);
+    page.text("\n");
 }
 
 /// Whether a folder was made, and was not there before.

@@ -32,6 +32,7 @@ mod source;
 mod telling;
 mod texts;
 mod view;
+mod watched;
 mod words;
 
 use bench::{Bench, Performs};

@@ -1,0 +1,187 @@
+//! The lock of a desk's file, which one command at a time holds.
+
+ghost use Rattle.std.specs.Prelude.{◌≡◌, ◌⊎◌, IfErr};
+ghost use Rattle.ill_saved.specs.declared.store.StoreFault.TheVariants.{Failed, OutOfMemory};
+
+use crate::regular_file;
+use crate::store::StoreFault;
+use std::alloc::Global;
+use std::fs::{File, Metadata, OpenFile, TryLockError};
+use std::io::ErrorKind;
+use std::os::unix::fs::MetadataExt;
+use std::rt::Files;
+use std::time::Duration;
+use std::{fs, io, thread};
+
+/// Files of which one may be locked, and a way to wait.
+pub trait LockFiles: Files {
+    /// Locks an open file, and tells whether it is locked now. It is not where another opening of it holds the
+    /// lock. The lock ends with the opening, however the program ends.
+    fn try_lock(&self, file: &Self::File) -> io::Result<bool>;
+
+    /// Waits a tenth of a second.
+    fn pause(&self);
+}
+
+impl LockFiles for HostRuntime {
+    fn try_lock(&self, file: &File) -> io::Result<bool> {
+        match file.try_lock() {
+            Ok(()) => Ok(true),
+            Err(TryLockError::WouldBlock) => Ok(false),
+            Err(TryLockError::Error(error)) => Err(error),
+        }
+    }
+
+    fn pause(&self) {
+        thread::sleep(self, Duration::from_millis(100));
+    }
+}
+
+/// How often a lock is tried, with a pause between: ten seconds long.
+const TRIES: u32 = 100;
+
+/// The lock of the file at a path. As long as it is held, no other one is taken.
+///
+/// It is the lock on a file beside that one, with `.lck` behind its name. Whoever takes the lock creates that file, and
+/// removes it at the end. Whoever is killed leaves the file and no lock.
+pub struct FileLock<'a, R: LockFiles> {
+    rt: &'a R,
+    path: String,
+    /// The file that is locked, or none in a folder in which nothing can be saved.
+    file: Option<R::File>,
+}
+
+impl<'a, R: LockFiles> FileLock<'a, R> {
+    /// Takes the lock of the file at a path, whether that file is there or not. While another holds it, this waits,
+    /// ten seconds at most, and then answers `Failed`.
+    ///
+    /// In a folder that is not there, or in which no file may be created, the lock is had at once: nobody can save
+    /// there who takes it so.
+    pub fn take(rt: &'a R, alloc: Global, path: &str) -> Result<FileLock<'a, R>, StoreFault>
+        ensures { IfErr result (λ fault. (fault ≡ Failed) ⊎ (fault ≡ OutOfMemory)) }
+    {
+        let mut lock_path = String::from_str(alloc, path)?;
+        lock_path.push_str(regular_file::LOCK)?;
+        match wait(rt, path, lock_path.as_str()) {
+            Ok(Attempt::Busy) | Err(_) => Err(StoreFault::Failed),
+            Ok(Attempt::Needless) => Ok(FileLock {
+                rt,
+                path: lock_path,
+                file: None,
+            }),
+            Ok(Attempt::Taken(file)) => Ok(FileLock {
+                rt,
+                path: lock_path,
+                file: Some(file),
+            }),
+        }
+    }
+}
+
+impl<R: LockFiles> Drop for FileLock<'_, R> {
+    /// Removes the file of the lock, if it stands there still, and then gives the lock back.
+    fn drop(self) {
+        let FileLock { rt, path, file } = self;
+        if let Some(file) = &file
+            && is_at(rt, path.as_str(), file).unwrap_or(false)
+        {
+            let _ = fs::remove_file(rt, path.as_str());
+        }
+        drop(file);
+    }
+}
+
+/// What came of an attempt to take a lock.
+#[derive(Drop)]
+enum Attempt<F> {
+    /// This file is open, and then locked.
+    Taken(F),
+    /// No file can be created there, so none is locked.
+    Needless,
+    /// Another one has the lock.
+    Busy,
+}
+
+/// Tries to take a lock until it is taken, or was tried often enough.
+fn wait<R: LockFiles>(rt: &R, path: &str, lock_path: &str) -> io::Result<Attempt<R::File>> {
+    regular_file::refuse_reserved(path)?;
+    if path.is_empty() {
+        return Ok(Attempt::Needless);
+    }
+    for _ in 0..TRIES {
+        match try_take(rt, path, lock_path)? {
+            Attempt::Busy => rt.pause(),
+            attempt => return Ok(attempt),
+        }
+    }
+    Ok(Attempt::Busy)
+}
+
+/// Takes a lock, if no other holds it. Whoever holds one removes its file at the end: so a lock on a file that is no
+/// longer at its path is none.
+fn try_take<R: LockFiles>(rt: &R, path: &str, lock_path: &str) -> io::Result<Attempt<R::File>> {
+    let record = regular_file::find(rt, path)?;
+    match regular_file::create(rt, lock_path, record.as_ref()) {
+        Ok(file) => lock_created(rt, lock_path, file, record.as_ref()),
+        Err(error) => match error.kind() {
+            ErrorKind::AlreadyExists => lock_existing(rt, lock_path),
+            ErrorKind::NotFound | ErrorKind::PermissionDenied | ErrorKind::ReadOnlyFilesystem => Ok(
+                Attempt::Needless,
+            ),
+            _ => Err(error),
+        },
+    }
+}
+
+/// Locks the file that was created for it, and lets those open that file who may open the record.
+fn lock_created<R: LockFiles>(
+    rt: &R,
+    lock_path: &str,
+    file: R::File,
+    record: Option<&Metadata>,
+) -> io::Result<Attempt<R::File>> {
+    if let Some(record) = record {
+        regular_file::share_like(rt, lock_path, &file, record)?;
+    }
+    lock(rt, lock_path, file)
+}
+
+/// Locks the file that another has created for it.
+fn lock_existing<R: LockFiles>(rt: &R, lock_path: &str) -> io::Result<Attempt<R::File>> {
+    match open(rt, lock_path)? {
+        Some(file) => lock(rt, lock_path, file),
+        None => Ok(Attempt::Busy),
+    }
+}
+
+/// Opens the file of a lock. There is none if its holder has just removed it, or is about to give it its permissions.
+fn open<R: LockFiles>(rt: &R, lock_path: &str) -> io::Result<Option<R::File>> {
+    if regular_file::find(rt, lock_path)?.is_none() {
+        return Ok(None);
+    }
+    match fs::open(rt, lock_path) {
+        Ok(file) => Ok(Some(file)),
+        Err(error) => match error.kind() {
+            ErrorKind::NotFound | ErrorKind::PermissionDenied => Ok(None),
+            _ => Err(error),
+        },
+    }
+}
+
+/// Locks the file that was opened or created at a path, if no other holds its lock, and it stands there still.
+fn lock<R: LockFiles>(rt: &R, lock_path: &str, file: R::File) -> io::Result<Attempt<R::File>> {
+    let is_held = rt.try_lock(&file)? && is_at(rt, lock_path, &file)?;
+    if is_held {
+        return Ok(Attempt::Taken(file));
+    }
+    Ok(Attempt::Busy)
+}
+
+/// Tells whether the file that stands at a path is the one that was opened.
+fn is_at<R: LockFiles>(rt: &R, lock_path: &str, file: &R::File) -> io::Result<bool> {
+    let opened = file.metadata()?;
+    match regular_file::find(rt, lock_path)? {
+        Some(found) => Ok(found.dev() == opened.dev() && found.ino() == opened.ino()),
+        None => Ok(false),
+    }
+}

@@ -1,0 +1,145 @@
+//! Files on which a command runs, and which see if it holds its lock.
+
+use ill_saved::LockFiles;
+use std::alloc::Allocator;
+use std::cell::Cell;
+use std::fs::{Metadata, OpenOptions};
+use std::rt::Files;
+use std::{fs, io};
+
+/// Files that see each opening and each replacement of one record, and if its lock is free then.
+#[derive(Drop)]
+pub struct Watched<'a, R: LockFiles> {
+    rt: &'a R,
+    record: &'a str,
+    lock: &'a str,
+    /// How many tries of the lock fail, as if another held it.
+    held: u32,
+    seen: Cell<Seen>,
+}
+
+/// How often something was seen.
+#[derive(Clone, Copy)]
+pub struct Seen {
+    pub openings: u32,
+    pub replacements: u32,
+    /// The openings and replacements at which the lock was free.
+    pub unlocked: u32,
+    /// The pauses before another try of the lock.
+    pub pauses: u32,
+}
+
+impl<'a, R: LockFiles> Watched<'a, R> {
+    /// Files that see the record at a path, whose lock is that of the file at another one.
+    pub fn new(rt: &'a R, record: &'a str, lock: &'a str, held: u32) -> Watched<'a, R> {
+        let seen = Seen {
+            openings: 0,
+            replacements: 0,
+            unlocked: 0,
+            pauses: 0,
+        };
+        Watched {
+            rt,
+            record,
+            lock,
+            held,
+            seen: Cell::new(seen),
+        }
+    }
+
+    /// All that was seen.
+    pub fn seen(&self) -> Seen {
+        self.seen.get()
+    }
+
+    /// Counts an opening or a replacement of the record, if this is its path.
+    fn see(&self, path: &str, openings: u32, replacements: u32) {
+        if path != self.record {
+            return;
+        }
+        let seen = self.seen.get();
+        self.seen.set(Seen {
+            openings: seen.openings.wrapping_add(openings),
+            replacements: seen.replacements.wrapping_add(replacements),
+            unlocked: seen.unlocked.wrapping_add(u32::from(self.is_free())),
+            pauses: seen.pauses,
+        });
+    }
+
+    /// Tells whether another could take the lock.
+    fn is_free(&self) -> bool {
+        match fs::open(self.rt, self.lock) {
+            Ok(file) => self.rt.try_lock(&file).unwrap_or(true),
+            Err(_) => true,
+        }
+    }
+}
+
+impl<R: LockFiles> LockFiles for Watched<'_, R> {
+    fn try_lock(&self, file: &R::File) -> io::Result<bool> {
+        if self.seen.get().pauses < self.held {
+            return Ok(false);
+        }
+        self.rt.try_lock(file)
+    }
+
+    fn pause(&self) {
+        let seen = self.seen.get();
+        self.seen.set(Seen {
+            pauses: seen.pauses.wrapping_add(1),
+            ..seen
+        });
+    }
+}
+
+impl<R: LockFiles> Files for Watched<'_, R> {
+    type File = R::File;
+
+    type Dir = R::Dir;
+
+    fn open_file(&self, how: &OpenOptions, path: &str) -> io::Result<R::File> {
+        self.see(path, 1, 0);
+        self.rt.open_file(how, path)
+    }
+
+    fn open_dir(&self, path: &str) -> io::Result<R::Dir> {
+        self.rt.open_dir(path)
+    }
+
+    fn metadata(&self, path: &str) -> io::Result<Metadata> {
+        self.rt.metadata(path)
+    }
+
+    fn symlink_metadata(&self, path: &str) -> io::Result<Metadata> {
+        self.rt.symlink_metadata(path)
+    }
+
+    fn copy(&self, from: &str, to: &str) -> io::Result<u64> {
+        self.rt.copy(from, to)
+    }
+
+    fn rename(&self, from: &str, to: &str) -> io::Result<()> {
+        self.see(to, 0, 1);
+        self.rt.rename(from, to)
+    }
+
+    fn remove_file(&self, path: &str) -> io::Result<()> {
+        self.rt.remove_file(path)
+    }
+
+    fn lchown(&self, path: &str, owner: Option<u32>, group: Option<u32>) -> io::Result<()> {
+        self.rt.lchown(path, owner, group)
+    }
+
+    fn create_dir(&self, path: &str) -> io::Result<()> {
+        self.rt.create_dir(path)
+    }
+
+    fn remove_dir(&self, path: &str) -> io::Result<()> {
+        self.rt.remove_dir(path)
+    }
+
+    fn remove_dir_all<B: Allocator>(&self, alloc: B, path: &str) -> io::Result<()> {
+        self.rt.remove_dir_all(alloc, path)
+    }
+}

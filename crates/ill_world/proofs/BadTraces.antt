@@ -22,6 +22,10 @@ no_front written trace (goes_on byte rest is) (more, front) =
 no_front written trace (differs common rest more byte other is there apart) (behind, front) =
     apart (same_behind common (rest ++ behind) more byte other (sym (append_assoc common (byte ∷ rest) behind) ∙ ap (λ l. l ++ behind) (sym is) ∙ sym front ∙ there))
 
+-- There are no first events whose trace such bytes are.
+no_events : {E : Type 0} (trace_of : List E → List ℕ) (events : List E) (written : List ℕ) → IsOfNoFront trace_of events written → (front : List E) × IsFront front events × (written ≡ trace_of front) → ⊥
+no_events trace_of events written none (front, (more, is), shown) = none front more is shown
+
 module _ {W E C : Type 0} (play : Play W E C) (c : C) (w : W) (text left written : List ℕ) where
   -- What was written when the writer failed does not leave the trace.
   pub none_leaves : Leaves written (trace_from play 1 w (says_on play (ends play) c 1 text).events) → Plays play c 1 w 0 (Some text) (Some left) (Some []) (Some written) (Err Write) → ⊥
@@ -33,5 +37,5 @@ module _ {W E C : Type 0} (play : Play W E C) (c : C) (w : W) (text left written
   -- What was written when memory ran out is the trace of first events.
   pub some_front : IsOfNoFront (trace_from play 1 w) (says_on play (ends play) c 1 text).events written → Plays play c 1 w 0 (Some text) (Some left) (Some []) (Some written) (Err OutOfMemory) → ⊥
   some_front none (read, trace, consumed, appended, answers) =
-      let shown = answers left refl in
-      none shown.0 shown.1.0 (ap (λ t. (says_on play (ends play) c 1 t).events) consumed ∙ shown.1.1) (appended ∙ shown.2)
+      no_events (trace_from play 1 w) (says_on play (ends play) c 1 (read ++ left)).events trace
+      (λ front more is shown. none front more (ap (λ t. (says_on play (ends play) c 1 t).events) consumed ∙ is) (appended ∙ shown)) (answers left refl)

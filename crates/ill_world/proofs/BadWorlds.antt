@@ -118,7 +118,7 @@ pub no_date_taken_back : (old new : Parties) (event : Event) → TakesBack old e
 no_date_taken_back old new event (in_memory other back) keeps = not_taken_back _ _ back (live_kept event old.requester new.requester other keeps.0)
 no_date_taken_back old new event (in_store back) keeps = not_taken_back _ _ back keeps.1
 
-heeded : (among : List State) (outcome : Outcome) (side : Side) → IsUnheeded among outcome side → Settles among outcome side → ⊥
+pub heeded : (among : List State) (outcome : Outcome) (side : Side) → IsUnheeded among outcome side → Settles among outcome side → ⊥
 heeded among outcome side (inl (taken, repeat)) (inl is, there) = taken is
 heeded among outcome side (inl (taken, repeat)) (inr is, there) = repeat is
 heeded among outcome side (inr elsewhere) (seen, there) = let both : true ≡ false = sym there ∙ elsewhere in cc
@@ -130,7 +130,7 @@ end_heeded w n a body arrives sent is ends unheeded =
     let after = happens w (Deliver who.Requester n) in
     heeded (settled_by body) after.0 after.1.requester.live unheeded (subst (λ b. Settles (settled_by b) after.0 after.1.requester.live) is (arrives a sent (ap is_end is ∙ ends)))
 
-final_ends : (answer : AnswerResult) → is_final answer ≡ true → is_end (IllAnswer answer) ≡ true
+pub final_ends : (answer : AnswerResult) → is_final answer ≡ true → is_end (IllAnswer answer) ≡ true
 final_ends answer is = rw is refl
 
 pub none_in_vain : (w : Parties) (event : Event) → ArrivesInVain w event → Arrives w event → ⊥

@@ -44,13 +44,13 @@ last_of_five : (idle a b c d none : Bool) → idle ≡ true → implies idle (no
 last_of_five true false false false false none is empty = empty
 last_of_five idle a b c d none is empty = search rules
 
-idle_issued : (apdus : List Apdu) (n : ℕ) (a : Apdu) → is_none apdus ≡ true → message apdus n ≡ Some a → ⊥
+pub idle_issued : (apdus : List Apdu) (n : ℕ) (a : Apdu) → is_none apdus ≡ true → message apdus n ≡ Some a → ⊥
 idle_issued [] zero a none at = true≢false (sym (ap is_some at))
 idle_issued [] (suc n) a none at = search rules
 idle_issued (b ∷ apdus) n a none at = true≢false (sym none)
 
 -- a responder that has issued anything was asked
-asked : (txn : Qualifiers) (x y : Side) (told heard : List (Option Apdu)) (n : ℕ) (a : Apdu) → RequesterSideStands txn x told → ResponderSideStands txn y heard → AreIssued heard (issued_of x)
+pub asked : (txn : Qualifiers) (x y : Side) (told heard : List (Option Apdu)) (n : ℕ) (a : Apdu) → RequesterSideStands txn x told → ResponderSideStands txn y heard → AreIssued heard (issued_of x)
     → message (issued_of y) n ≡ Some a → issued_of x ≡ [] → ⊥
 asked txn (sides.Requester x) (sides.Responder y) told heard n a requester_stands responder_stands heeded at none =
     let known = responder_stands.knows responder.Requested (begun (is_among (states.Idle ∷ []) y.state) refl) in
@@ -72,7 +72,7 @@ supplied txn (sides.Requester x) (sides.Requester y) told heard n a requester_st
 
 -- ---- what is held is reached
 
-idle_issues : (role : Who) (txn : Qualifiers) → issued_of (idle_side role txn) ≡ []
+pub idle_issues : (role : Who) (txn : Qualifiers) → issued_of (idle_side role txn) ≡ []
 idle_issues who.Requester txn = refl
 idle_issues who.Responder txn = refl
 

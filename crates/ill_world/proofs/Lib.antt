@@ -25,3 +25,6 @@ pub mod DeskArrivals
 pub mod DeskMaps
 pub mod DeskParties
 pub mod DeskSimulations
+pub mod BadDesks
+pub mod BadTraces
+pub mod DeskCounts

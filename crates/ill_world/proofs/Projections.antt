@@ -75,7 +75,7 @@ unfolding side_with
 whole_for txn all =
     ap (found_or (idle_held all.role txn)) (found_mapped txn_of txn_held whole (λ side. refl) txn all.sides) ∙ whole_found all.role txn (found_by txn_of txn all.sides)
 
-idle_txn : (role : Who) (txn : Qualifiers) → txn_of (idle_side role txn) ≡ txn
+pub idle_txn : (role : Who) (txn : Qualifiers) → txn_of (idle_side role txn) ≡ txn
 idle_txn who.Requester txn = refl
 idle_txn who.Responder txn = refl
 
@@ -87,7 +87,7 @@ found_txn role txn held None e = idle_txn role txn
 held_txn : (txn : Qualifiers) (live : Holding) → txn_held (held_for txn live) ≡ txn
 held_txn txn live = found_txn live.role txn live.held (found_by txn_held txn live.held) refl
 
-row_txn : RowsGrow → (old new : Side) → IsRow old new → txn_of new ≡ txn_of old
+pub row_txn : RowsGrow → (old new : Side) → IsRow old new → txn_of new ≡ txn_of old
 row_txn grows old new row =
     sym (idle_txn (role_of new) (txn_of new)) ∙ ap txn_of (grows old new row).0 ∙ idle_txn (role_of old) (txn_of old)
 

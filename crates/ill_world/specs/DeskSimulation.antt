@@ -6,7 +6,7 @@ use Rattle.ill_world.specs.declared.fault.SimFault.{SimFault}
 use Rattle.ill_world.specs.Desks.{DeskParties, first_desks, desks_happen, desks_run}
 use Rattle.ill_world.specs.DeskScript.{EventIn, desk_meaning, says_in}
 use Rattle.ill_world.specs.Trace.{desk_line}
-use Rattle.ill_world.specs.Play.{Play, trace_from, Plays}
+use Rattle.ill_world.specs.Play.{Play, Said, ends, says_on, trace_from, Plays}
 
 -- Two desks: each line says what it means in the transaction in use, which is carried from line to line.
 abbrev pub two_desks : Play DeskParties EventIn (Option Qualifiers)
@@ -15,6 +15,10 @@ two_desks = record {
   next = λ w e. (desks_happen w e.event).1;
   text = λ number w e. desk_line number e.txn (desks_happen w e.event).0 (desks_happen w e.event).1;
 }
+
+-- what a whole text says, at first in no transaction
+abbrev pub desk_script : List ℕ → Said EventIn
+desk_script text = says_on two_desks (ends two_desks) None 1 text
 
 -- the trace of events from two desks on that hold nothing
 abbrev pub desk_trace_of : List EventIn → List ℕ

@@ -44,6 +44,14 @@ pub record IsReadyDesk (desk : ManyOf MemoryStoreState) : Type 0 where
 
 -- ---- answers
 
+-- The faults of an action, or of a message that is exactly one APDU.
+abbrev pub CanBeSeen : DeskFault → Type 0
+CanBeSeen (faults.Core refusal) = Unit {0}
+CanBeSeen faults.DeskFull = Unit {0}
+CanBeSeen faults.NoSuchTransaction = Unit {0}
+CanBeSeen faults.OutOfMemory = Unit {0}
+CanBeSeen other = ⊥
+
 -- what is seen of a fault of an action or a message, but for want of memory
 abbrev pub FaultSeen : {M : Type 0} → DeskFault → Result DeskOutcome M → Type 0
 FaultSeen faults.OutOfMemory (Err memory) = Unit {0}

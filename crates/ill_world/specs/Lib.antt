@@ -14,6 +14,8 @@ pub mod Invariant
 pub mod DeskSafety
 pub mod Agreement
 pub mod BadWorlds
+pub mod BadDesks
+pub mod BadTraces
 pub mod Changes
 pub mod DeskChanges
 pub mod DeskView

@@ -1,17 +1,31 @@
 //! What holds of two desks of many transactions, as contracts of functions that do nothing.
 
-ghost use Rattle.std.specs.Prelude.{◌≡◌, ◌++◌, List, [], ◌∷◌, Option, None};
+ghost use Rattle.std.specs.Prelude.{◌≡◌, ◌++◌, ℕ, Bool, List, [], ◌∷◌, Option, Some, None, Err};
 ghost use Rattle.ill_values.specs.TxnId.{Qualifiers};
+ghost use Rattle.ill_saved.specs.declared.role.Role.{Role as Who};
+ghost use Rattle.ill_saved.specs.declared.role.Role.TheVariants.{Requester};
+ghost use Rattle.ill_saved.specs.Many.{found_by, txn_held};
 ghost use Rattle.ill_world.specs.declared.event.DeskEvent.{DeskEvent};
+ghost use Rattle.ill_world.specs.declared.event.DeskEvent.TheVariants.{Save, SaveFault, Deliver, Restart, Noise};
+ghost use Rattle.ill_world.specs.declared.event.DeskOutcome.{DeskOutcome};
+ghost use Rattle.ill_world.specs.declared.event.DeskOutcome.TheVariants.{Plain, DeskFull};
 ghost use Rattle.ill_world.specs.declared.event.Event.{Event};
+ghost use Rattle.ill_world.specs.declared.event.Event.TheVariants as events;
+ghost use Rattle.ill_world.specs.declared.event.Outcome.{Outcome};
+ghost use Rattle.ill_world.specs.declared.event.Outcome.TheVariants.{NotSent};
+ghost use Rattle.ill_world.specs.declared.fault.SimFault.TheVariants.{Write, OutOfMemory};
 ghost use Rattle.ill_world.specs.declared.script.Line.{Line};
 ghost use Rattle.ill_world.specs.declared.script.Line.TheVariants as lines;
-ghost use Rattle.ill_world.specs.declared.desk_script.DeskLine.TheVariants.{Plain};
+ghost use Rattle.ill_world.specs.declared.desk_script.DeskLine.TheVariants as desk_lines;
 ghost use Rattle.ill_world.specs.Play.{IsFront};
-ghost use Rattle.ill_world.specs.Desks.{DeskParties, plain, first_desks, desks_happen, project, Projects};
+ghost use Rattle.ill_world.specs.Desks.{DeskParties, plain, first_desks, desks_happen, desks_run, project, events_for, Projects};
 ghost use Rattle.ill_world.specs.DeskScript.{EventIn, in_txn, says_in, IsInTxn};
-ghost use Rattle.ill_world.specs.DeskSimulation.{desk_trace_of, desk_line_behind};
-ghost use Rattle.ill_world.specs.Agreement.{KeepsDates};
+ghost use Rattle.ill_world.specs.DeskSimulation.{desk_script, desk_trace_of, desk_line_behind, SimulatesDesks};
+ghost use Rattle.ill_world.specs.World.{Parties, run_of};
+ghost use Rattle.ill_world.specs.Safety.{Safe};
+ghost use Rattle.ill_world.specs.Agreement.{Agrees, KeepsDates};
+ghost use Rattle.ill_world.specs.BadDesks.{Names, IsNotReached, MissesHeld, ChangesUnreached, ArrivesInVainAt};
+ghost use Rattle.ill_world.specs.BadTraces.{Leaves, IsOfNoFront};
 ghost use Rattle.ill_world.specs.Changes.{KeepsSent};
 ghost use Rattle.ill_world.specs.DeskChanges.{DeskMayChange, ReachesSide, Shows};
 ghost use Rattle.ill_world.specs.DeskSafety.{ArrivesAt, DesksStand, IsRunOfEach, IsSafeDeskRun, IsAgreeingDeskRun};
@@ -123,15 +137,83 @@ pub fn sent_stays_sent_at_desks()
     sent_stays_sent();
 }
 
+/// A run of two desks is safe, and both sides of each transaction agree in it, only where that is so of each
+/// world on the way. One event more leads a transaction on by the events that it has of it.
+pub fn desk_runs_have_each_world()
+    ensures safe { (w : DeskParties) (before after : List DeskEvent) (txn : Qualifiers) →
+        IsSafeDeskRun w (before ++ after) → Safe (project txn (desks_run w before)) }
+    ensures agrees { (w : DeskParties) (before after : List DeskEvent) (txn : Qualifiers) →
+        IsAgreeingDeskRun w (before ++ after) → Agrees (project txn (desks_run w before)) }
+    ensures next { (events : List DeskEvent) (event : DeskEvent) (txn : Qualifiers) →
+        IsRunOfEach events → IsRunOfEach (events ++ event ∷ []) →
+        let w = desks_run first_desks events in
+        project txn (desks_happen w event).1 ≡ run_of (project txn w) (events_for txn w (event ∷ [])) }
+{}
+
+/// A transaction has events of the desks in their order. It has each that happens to a whole desk, and each
+/// that names it and reaches it; and none that names another or is not reached, and no noise.
+pub fn transactions_have_their_events()
+    ensures order { (txn : Qualifiers) (w : DeskParties) (before after : List DeskEvent) →
+        events_for txn w (before ++ after)
+        ≡ events_for txn w before ++ events_for txn (desks_run w before) after }
+    ensures whole { (txn : Qualifiers) (w : DeskParties) (who : Who) (landed : Bool) →
+        events_for txn w (Save who ∷ SaveFault who landed ∷ Restart who ∷ [])
+        ≡ events.Save who ∷ events.SaveFault who landed ∷ events.Restart who ∷ [] }
+    ensures named { (txn : Qualifiers) (w : DeskParties) (event : DeskEvent) (outcome : Outcome) →
+        Names txn event → (desks_happen w event).0 ≡ Plain outcome →
+        events_for txn w (event ∷ []) ≡ plain event ∷ [] }
+    ensures others { (txn another : Qualifiers) (w : DeskParties) (event : DeskEvent) →
+        Names another event → (txn ≡ another → ⊥) → events_for txn w (event ∷ []) ≡ [] }
+    ensures unreached { (txn : Qualifiers) (w : DeskParties) (event : DeskEvent) →
+        IsNotReached (desks_happen w event).0 → events_for txn w (event ∷ []) ≡ [] }
+    ensures noise { (txn : Qualifiers) (w : DeskParties) (who : Who) (bytes : List ℕ) →
+        events_for txn w (Noise who bytes ∷ []) ≡ [] }
+{}
+
+/// No event of two desks misses a transaction that its desk holds, or changes a transaction that it does not
+/// reach. Where one arrival is enough, no message arrives in vain that ends a request, and no Returned.
+pub fn no_bad_desk_event_passes()
+    ensures reaches { (w : DeskParties) (event : DeskEvent) → MissesHeld w event → ReachesSide w event → ⊥ }
+    ensures changes { (outcome : DeskOutcome) (old new : Parties) →
+        ChangesUnreached outcome old new → DeskMayChange outcome old new → ⊥ }
+    ensures arrives { (w : DeskParties) (event : DeskEvent) →
+        ArrivesInVainAt w event → ArrivesAt w event → ⊥ }
+{}
+
+/// No simulation of two desks has written bytes that leave the trace of the script, where the writer failed.
+/// Where memory ran out, none has written bytes that are the trace of no first events of the script.
+pub fn no_bad_desk_trace_is_written()
+    ensures write { (text left written : List ℕ) →
+        Leaves written (desk_trace_of (desk_script text).events) →
+        SimulatesDesks (Some text) (Some left) (Some []) (Some written) (Err Write) → ⊥ }
+    ensures memory { (text left written : List ℕ) →
+        IsOfNoFront desk_trace_of (desk_script text).events written →
+        SimulatesDesks (Some text) (Some left) (Some []) (Some written) (Err OutOfMemory) → ⊥ }
+{}
+
+/// In no run of two desks the delivery of a message is `DeskFull`. Where two desks stand, a delivery to the
+/// requester's is `NotSent` in each transaction that it does not hold.
+pub fn deliveries_find_room()
+    ensures room { (events : List DeskEvent) (who : Who) (txn : Qualifiers) (n : ℕ) →
+        (desks_happen (desks_run first_desks events) (Deliver who txn n)).0 ≡ DeskFull → ⊥ }
+    ensures unheld { (w : DeskParties) (txn : Qualifiers) (n : ℕ) → DesksStand w →
+        found_by txn_held txn w.requester.live.held ≡ None →
+        (desks_happen w (Deliver Requester txn n)).0 ≡ Plain NotSent }
+{
+    rows_grow();
+    desks_stand();
+    desks_reach_what_they_hold();
+}
+
 /// A line of a script of two desks that is no `use` leaves the transaction in use as it was. Its event is
 /// what a script of two sides says, in the transaction in use, if it is one of a transaction; and before
 /// the first `use` there is none.
 pub fn events_are_in_the_transaction_in_use()
     ensures stays { (in_use : Option Qualifiers) (line : Line Event) →
-        (says_in in_use (Plain line)).1 ≡ in_use }
+        (says_in in_use (desk_lines.Plain line)).1 ≡ in_use }
     ensures plain { (txn : Qualifiers) (event : Event) → plain (in_txn txn event) ≡ event }
     ensures named { (txn : Qualifiers) (event : Event) → IsInTxn txn (in_txn txn event) }
-    ensures none { (event : Event) → (says_in None (Plain (lines.Event event))).0 ≡ lines.Bad }
+    ensures none { (event : Event) → (says_in None (desk_lines.Plain (lines.Event event))).0 ≡ lines.Bad }
 {}
 
 /// A trace of two desks is empty at first; each event adds a line, with its number, what is seen of it at

@@ -9,7 +9,7 @@ ghost use Rattle.ill_world.specs.declared.event.DeskOutcome.TheVariants as desk_
 ghost use Rattle.ill_world.specs.declared.event.Outcome.TheVariants as outcomes;
 ghost use Rattle.ill_world.specs.PartyView.{Gives};
 ghost use Rattle.ill_world.specs.Trace.{desk_shown};
-ghost use Rattle.ill_world.specs.DeskView.{desk_party_of, FaultSeen, IsReadyDesk};
+ghost use Rattle.ill_world.specs.DeskView.{desk_party_of, CanBeSeen, FaultSeen, IsReadyDesk};
 
 use crate::desk_sent::DeskSent;
 use crate::event::{DeskOutcome, Outcome, Who};
@@ -47,7 +47,8 @@ impl DeskParty {
                 desk,
                 sent: DeskSent::nothing(alloc),
             }),
-            Err(_) => Err(OutOfMemory),
+            Err((DeskFault::OutOfMemory, _)) => Err(OutOfMemory),
+            Err(_) => unreachable!(),
         }
     }
 
@@ -141,7 +142,8 @@ impl DeskParty {
             Err(DeskFault::NoSuchMessage) => Ok(DeskOutcome::Plain(Outcome::NoSuchMessage)),
             Err(DeskFault::NotSaved) => Ok(DeskOutcome::Plain(Outcome::NotSaved)),
             Err(DeskFault::NoSuchTransaction) => Ok(DeskOutcome::NoSuchTransaction),
-            Err(_) => Err(OutOfMemory),
+            Err(DeskFault::OutOfMemory) => Err(OutOfMemory),
+            Err(_) => unreachable!(),
         }
     }
 
@@ -192,12 +194,14 @@ pub fn heard(alloc: Global, bytes: &[u8]) -> Result<Outcome, OutOfMemory>
 
 /// What is seen of a fault of an action or a message.
 fn seen(fault: DeskFault) -> Result<DeskOutcome, OutOfMemory>
+    requires { CanBeSeen fault }
     ensures { FaultSeen fault result }
 {
     match fault {
         DeskFault::Core(refusal) => Ok(DeskOutcome::Plain(Outcome::Refused(refusal))),
         DeskFault::DeskFull => Ok(DeskOutcome::DeskFull),
+        DeskFault::NoSuchTransaction => Ok(DeskOutcome::NoSuchTransaction),
         DeskFault::OutOfMemory => Err(OutOfMemory),
-        _ => Ok(DeskOutcome::NoSuchTransaction),
+        _ => unreachable!(),
     }
 }

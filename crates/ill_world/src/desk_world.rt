@@ -1,6 +1,6 @@
 //! Two desks of many transactions, with what they have sent.
 
-ghost use Rattle.std.specs.Prelude.{◌≡◌, ◌++◌, IfOk, OnOk};
+ghost use Rattle.std.specs.Prelude.{◌≡◌, ◌++◌, ℕ, take, IfOk, OnOk};
 ghost use Rattle.ill_values.specs.TxnId.{Qualifiers};
 ghost use Rattle.ill_saved.specs.Many.{held_for, sides_held};
 ghost use Rattle.ill_world.specs.World.{party, who_of};
@@ -119,7 +119,7 @@ impl DeskWorld {
 /// each, and both sides of each agree, as `run` says of one.
 pub fn run_desks(alloc: Global, events: &[DeskEvent]) -> Result<DeskWorld, OutOfMemory>
     ensures runs { IfOk result (λ world. world ≡ model.desks_run model.first_desks events.now) }
-    ensures each { IsRunOfEach events.now }
+    ensures each { (n : ℕ) → IsRunOfEach (take n events.now) }
     ensures safe { IsSafeDeskRun model.first_desks events.now }
     ensures agrees { IsAgreeingDeskRun model.first_desks events.now }
 {

@@ -1,6 +1,6 @@
 //! What holds of every world, as contracts of functions that do nothing.
 
-ghost use Rattle.std.specs.Prelude.{◌≡◌, ◌++◌, ◌∷◌, ℕ, List, [], Option, Some, Ok, true};
+ghost use Rattle.std.specs.Prelude.{◌≡◌, ◌++◌, ◌∷◌, ℕ, List, [], Option, Some, Ok, Err, true};
 ghost use Rattle.ill_values.specs.Day.{Date};
 ghost use Rattle.ill_values.specs.TxnId.{Qualifiers};
 ghost use Rattle.ill_values.specs.declared.apdu.Apdu.{Apdu};
@@ -13,12 +13,14 @@ ghost use Rattle.ill_core.specs.Responder.{ResponderRecord};
 ghost use Rattle.ill_core.specs.ResponderActions as responder_actions;
 ghost use Rattle.ill_core.specs.ResponderDeliveries as responder_deliveries;
 ghost use Rattle.ill_world.specs.declared.event.Event.{Event};
+ghost use Rattle.ill_world.specs.declared.fault.SimFault.TheVariants.{Write, OutOfMemory};
 ghost use Rattle.ill_world.specs.World.{Parties, first_world, happens, run_of};
 ghost use Rattle.ill_world.specs.Play.{IsFront};
-ghost use Rattle.ill_world.specs.Simulation.{trace_of, line_behind};
+ghost use Rattle.ill_world.specs.Simulation.{script, trace_of, line_behind, Simulates};
 ghost use Rattle.ill_world.specs.Safety.{OfBoth, EndsAlike, WasShipped, WasGranted, Safe, IsSafeRun};
 ghost use Rattle.ill_world.specs.Agreement.{Agrees, IsAgreeingRun, KeepsDates, Arrives};
 ghost use Rattle.ill_world.specs.BadWorlds.{IsUnsafe, Disagrees, TakesBack, ArrivesInVain};
+ghost use Rattle.ill_world.specs.BadTraces.{Leaves, IsOfNoFront};
 ghost use Rattle.ill_world.specs.Changes.{MayChange, OnlyLandedChanges, KeepsSent, can_be_seen};
 ghost use Rattle.ill_world.specs.Invariant.{WasSent, RequesterStands, ResponderStands, Stands};
 
@@ -181,6 +183,17 @@ pub fn traces_show_runs()
         trace_of txn (events ++ event ∷ []) ≡ trace_of txn events ++ line_behind txn events event }
     ensures front { (txn : Qualifiers) (events more : List Event) →
         IsFront (trace_of txn events) (trace_of txn (events ++ more)) }
+{}
+
+/// No simulation has written bytes that leave the trace of the script, where the writer failed. Where memory
+/// ran out, none has written bytes that are the trace of no first events of the script.
+pub fn no_bad_trace_is_written()
+    ensures write { (txn : Qualifiers) (text left written : List ℕ) →
+        Leaves written (trace_of txn (script text).events) →
+        Simulates txn (Some text) (Some left) (Some []) (Some written) (Err Write) → ⊥ }
+    ensures memory { (txn : Qualifiers) (text left written : List ℕ) →
+        IsOfNoFront (trace_of txn) (script text).events written →
+        Simulates txn (Some text) (Some left) (Some []) (Some written) (Err OutOfMemory) → ⊥ }
 {}
 
 /// Only `Done`, `Saved`, `Sent`, `Restarted`, `Answered(Taken)` and `Faulted` change the world, and

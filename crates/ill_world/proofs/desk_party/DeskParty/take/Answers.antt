@@ -1,5 +1,6 @@
-use Rattle.std.proofs.Common.{rules}
-use Rattle.ill_world.proofs.DeskParties.{takes_one, takes_role}
+use Rattle.std.proofs.Common.{rules, [], Ok, subst}
+use Rattle.ill_saved.specs.Many.{ManyTakes}
+use Rattle.ill_world.proofs.DeskParties.{takes_one, takes_role, take_faults}
 use Rattle.ill_world.proofs.desk_party.DeskParty.take.Goals as goal
 
 pub invariant_of-self : goal.invariant_of-self
@@ -15,3 +16,9 @@ returns c =
     let takes = takes_one desk.live c.take_bytes.new.self.live _ c.args.message.now c.take_bytes.result c.bytes.ensures c.take_bytes.ensures.takes in
     let role = takes_role desk.live c.take_bytes.new.self.live c.args.message.now c.take_bytes.result takes in
     search (rules, takes, role)
+
+pub seen-requires : goal.seen-requires
+seen-requires c =
+    let desk = c.self.inside.desk in
+    let takes = takes_one desk.live c.take_bytes.new.self.live _ c.args.message.now c.take_bytes.result c.bytes.ensures c.take_bytes.ensures.takes in
+    take_faults desk.live c.take_bytes.new.self.live c.args.message.now c.in-Err.fault (subst (λ answer. ManyTakes desk.live (Ok (c.args.message.now, [])) answer c.take_bytes.new.self.live) c.in-Err.is takes)

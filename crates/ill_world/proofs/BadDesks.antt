@@ -1,0 +1,181 @@
+-- What the definitions on two desks take and exclude.
+use Rattle.std.proofs.Common.{rules, ◌≡◌, inl, inr, ℕ, Bool, true, false, if◌then◌else◌, List, [], ◌∷◌, ◌++◌, length, nat_lt, take, Option, Some, None, refl, sym, ap, ◌∙◌, subst}
+use Rattle.std.proofs.lemmas.List.{take_at}
+use Rattle.ill_values.specs.TxnId.{Qualifiers}
+use Rattle.ill_values.specs.declared.apdu.Apdu.{Apdu}
+use Rattle.ill_values.specs.declared.apdu.Body.{Body}
+use Rattle.ill_core.specs.declared.state.State.{State}
+use Rattle.ill_core.specs.declared.state.State.TheVariants as states
+use Rattle.ill_core.specs.Bodies.{is_end, is_ill_request, is_returned}
+use Rattle.ill_core.specs.Issued.{is_same_txn}
+use Rattle.ill_saved.specs.declared.role.Role.{Role as Who}
+use Rattle.ill_saved.specs.declared.role.Role.TheVariants as who
+use Rattle.ill_saved.specs.Side.{other}
+use Rattle.ill_saved.specs.Many.{Held, found_by, txn_held, held_for}
+use Rattle.ill_saved.specs.declared.side.Side.{Side}
+use Rattle.ill_saved.proofs.Finding.{same_is, same_self}
+use Rattle.ill_world.specs.declared.event.Event.{Event}
+use Rattle.ill_world.specs.declared.event.DeskEvent.{DeskEvent}
+use Rattle.ill_world.specs.declared.event.DeskEvent.TheVariants as events
+use Rattle.ill_world.specs.declared.event.Outcome.{Outcome}
+use Rattle.ill_world.specs.declared.event.Outcome.TheVariants.{NotSent}
+use Rattle.ill_world.specs.declared.event.DeskOutcome.{DeskOutcome}
+use Rattle.ill_world.specs.declared.event.DeskOutcome.TheVariants.{Plain, NoSuchTransaction, DeskFull}
+use Rattle.ill_world.specs.World.{Parties, party, sent_message, run_by, run_of, happens, first_world}
+use Rattle.ill_world.specs.Desks.{DeskParty, DeskParties, sent_for, desk_receives, plain, first_desks, desks_happen, desks_run, project, concerns, if_reached, is_event_of, events_for}
+use Rattle.ill_world.specs.Agreement.{settled_by}
+use Rattle.ill_world.specs.DeskSafety.{IsRunOfEach, SettlesAt, ArrivesAt}
+use Rattle.ill_world.specs.DeskChanges.{IsPlain, Reaches, ReachesAt, ReachesSide, DeskMayChange}
+use Rattle.ill_world.specs.BadDesks.{Names, IsNotReached, MissesHeld, ChangesUnreached, EndsIn, shipped, cancelled, expired, refused, IsUnheededAt, ArrivesInVainAt, end_in_vain, returned_in_vain}
+use Rattle.ill_world.proofs.BadWorlds.{heeded, final_ends}
+
+-- ---- runs
+
+-- What is said of the desks after the first events of any number holds after these.
+pub desks_after_front : (P : DeskParties → Type 0) (w : DeskParties) (before after : List DeskEvent) → ((n : ℕ) → P (desks_run w (take n (before ++ after)))) → P (desks_run w before)
+desks_after_front P w before after each = subst (λ events. P (desks_run w events)) (take_at before after (length before) refl) (each (length before))
+
+joined : (own : Bool) (event : Event) (first rest more : List Event) → more ≡ first ++ rest → (if own then event ∷ more else more) ≡ (if own then event ∷ first else first) ++ rest
+joined true event first rest more is = ap (λ l. event ∷ l) is
+joined false event first rest more is = is
+
+-- The events of a transaction come in the order of those of the desks.
+pub events_in_order : (txn : Qualifiers) (w : DeskParties) (before after : List DeskEvent) → events_for txn w (before ++ after) ≡ events_for txn w before ++ events_for txn (desks_run w before) after
+unfolding events_for run_by
+events_in_order txn w [] after = refl
+events_in_order txn w (event ∷ before) after =
+    let next = (desks_happen w event).1 in
+    joined (is_event_of txn w event) (plain event) (events_for txn next before) (events_for txn (desks_run next before) after) (events_for txn next (before ++ after)) (events_in_order txn next before after)
+
+module _ {W E O : Type 0} (happening : W → E → O × W) where
+  -- Events lead where the second ones lead from where the first ones do.
+  pub run_both : (w : W) (first second : List E) → run_by happening w (first ++ second) ≡ run_by happening (run_by happening w first) second
+  unfolding run_by
+  run_both w [] second = refl
+  run_both w (event ∷ first) second = run_both (happening w event).1 first second
+
+  -- One event leads where it happens.
+  pub run_one : (w : W) (event : E) → run_by happening w (event ∷ []) ≡ (happening w event).1
+  unfolding run_by
+  run_one w event = refl
+
+-- One event more leads a transaction on by the events that it has of it.
+pub runs_go_on : (events : List DeskEvent) (event : DeskEvent) (txn : Qualifiers) → IsRunOfEach events → IsRunOfEach (events ++ event ∷ [])
+    → let w = desks_run first_desks events in project txn (desks_happen w event).1 ≡ run_of (project txn w) (events_for txn w (event ∷ []))
+runs_go_on events event txn before after =
+    let w = desks_run first_desks events in
+    let first = first_world txn in
+    ap (project txn) (sym (run_both desks_happen first_desks events (event ∷ []) ∙ run_one desks_happen w event))
+    ∙ after txn
+    ∙ ap (run_of first) (events_in_order txn first_desks events (event ∷ []))
+    ∙ run_both happens first (events_for txn first_desks events) (events_for txn w (event ∷ []))
+    ∙ ap (λ v. run_of v (events_for txn w (event ∷ []))) (sym (before txn))
+
+-- ---- the events of a transaction
+
+-- One event is an event of a transaction, or is none.
+pub one_event : (txn : Qualifiers) (w : DeskParties) (event : DeskEvent) → events_for txn w (event ∷ []) ≡ (if is_event_of txn w event then plain event ∷ [] else [])
+unfolding events_for
+one_event txn w event = refl
+
+pub whole_events : (txn : Qualifiers) (w : DeskParties) (role : Who) (landed : Bool)
+    → events_for txn w (events.Save role ∷ events.SaveFault role landed ∷ events.Restart role ∷ []) ≡ plain (events.Save role) ∷ plain (events.SaveFault role landed) ∷ plain (events.Restart role) ∷ []
+unfolding events_for
+whole_events txn w role landed = refl
+
+is_one : (txn : Qualifiers) (w : DeskParties) (event : DeskEvent) (own : Bool) → is_event_of txn w event ≡ own → events_for txn w (event ∷ []) ≡ (if own then plain event ∷ [] else [])
+is_one txn w event own is = one_event txn w event ∙ ap (λ b. if b then plain event ∷ [] else []) is
+
+-- An event that names a transaction concerns this one alone.
+names_own : (txn : Qualifiers) (event : DeskEvent) → Names txn event → concerns txn event ≡ true
+names_own txn (events.Wish of wish) is = ap (is_same_txn txn) is ∙ same_self txn
+names_own txn (events.Deed of deed today) is = ap (is_same_txn txn) is ∙ same_self txn
+names_own txn (events.Send role of n) is = ap (is_same_txn txn) is ∙ same_self txn
+names_own txn (events.Deliver role of n) is = ap (is_same_txn txn) is ∙ same_self txn
+names_own txn event is = absurd is
+
+apart_from : (txn another of : Qualifiers) → of ≡ another → (txn ≡ another → ⊥) → is_same_txn txn of ≡ false
+apart_from txn another of is apart = go (is_same_txn txn of) refl
+  where
+    go : (same : Bool) → is_same_txn txn of ≡ same → same ≡ false
+    go true same = absurd (apart (same_is txn of same ∙ is))
+    go false same = refl
+
+names_another : (txn another : Qualifiers) (event : DeskEvent) → Names another event → (txn ≡ another → ⊥) → concerns txn event ≡ false
+names_another txn another (events.Wish of wish) is apart = apart_from txn another of is apart
+names_another txn another (events.Deed of deed today) is apart = apart_from txn another of is apart
+names_another txn another (events.Send role of n) is apart = apart_from txn another of is apart
+names_another txn another (events.Deliver role of n) is apart = apart_from txn another of is apart
+names_another txn another event is apart = absurd is
+
+never_reached : (outcome : DeskOutcome) → if_reached outcome false ≡ false
+never_reached (Plain outcome) = refl
+never_reached other = refl
+
+pub named_event : (txn : Qualifiers) (w : DeskParties) (event : DeskEvent) (outcome : Outcome) → Names txn event → (desks_happen w event).0 ≡ Plain outcome → events_for txn w (event ∷ []) ≡ plain event ∷ []
+named_event txn w event outcome names seen = is_one txn w event true (ap (λ o. if_reached o (concerns txn event)) seen ∙ names_own txn event names)
+
+pub other_event : (txn another : Qualifiers) (w : DeskParties) (event : DeskEvent) → Names another event → (txn ≡ another → ⊥) → events_for txn w (event ∷ []) ≡ []
+other_event txn another w event names apart =
+    is_one txn w event false (ap (if_reached (desks_happen w event).0) (names_another txn another event names apart) ∙ never_reached (desks_happen w event).0)
+
+pub unreached_event : (txn : Qualifiers) (w : DeskParties) (event : DeskEvent) → IsNotReached (desks_happen w event).0 → events_for txn w (event ∷ []) ≡ []
+unreached_event txn w event (inl seen) = is_one txn w event false (ap (λ o. if_reached o (concerns txn event)) seen)
+unreached_event txn w event (inr seen) = is_one txn w event false (ap (λ o. if_reached o (concerns txn event)) seen)
+
+pub noise_event : (txn : Qualifiers) (w : DeskParties) (role : Who) (bytes : List ℕ) → events_for txn w (events.Noise role bytes ∷ []) ≡ []
+noise_event txn w role bytes = is_one txn w (events.Noise role bytes) false refl
+
+-- ---- deliveries
+
+-- What ends a request settles it in these states.
+ends_as : (body : Body) (among : List State) → EndsIn body among → (is_end body ≡ true) × (settled_by body ≡ among)
+ends_as _ _ (shipped due) = (refl, refl)
+ends_as _ _ (cancelled c) = (refl, refl)
+ends_as _ _ expired = (refl, refl)
+ends_as _ _ (refused answer final) = (final_ends answer final, refl)
+
+heeded_at : (among : List State) (outcome : DeskOutcome) (side : Side) → IsUnheededAt among outcome side → SettlesAt among outcome side → ⊥
+heeded_at among (Plain outcome) side unheeded settles = heeded among outcome side unheeded settles
+heeded_at among NoSuchTransaction side unheeded settles = settles
+heeded_at among DeskFull side unheeded settles = settles
+
+pub none_in_vain_at : (w : DeskParties) (event : DeskEvent) → ArrivesInVainAt w event → ArrivesAt w event → ⊥
+none_in_vain_at w _ (end_in_vain txn n a among sent ends unheeded) arrives =
+    let after = desks_happen w (events.Deliver who.Requester txn n) in
+    let side = (held_for txn after.1.requester.live).side in
+    let is = ends_as a.body among ends in
+    heeded_at among after.0 side unheeded (subst (λ l. SettlesAt l after.0 side) is.1 (arrives a sent is.0))
+none_in_vain_at w _ (returned_in_vain txn n a sent is unheeded) arrives =
+    let after = desks_happen w (events.Deliver who.Responder txn n) in
+    heeded_at (states.Returned ∷ states.CheckedIn ∷ []) after.0 (held_for txn after.1.responder.live).side unheeded (arrives a sent (ap is_returned is))
+
+-- ---- what is reached, and what changes
+
+not_plain : (outcome : DeskOutcome) → IsPlain outcome → IsNotReached outcome → ⊥
+not_plain (Plain outcome) plainly (inl is) = search rules
+not_plain (Plain outcome) plainly (inr is) = search rules
+not_plain NoSuchTransaction plainly missed = plainly
+not_plain DeskFull plainly missed = plainly
+
+-- A transaction that a desk holds is reached there.
+held_missed : (may_begin : Bool) (p : DeskParty) (txn of : Qualifiers) (held : Held) (outcome : DeskOutcome) → of ≡ txn → found_by txn_held txn p.live.held ≡ Some held → ReachesAt may_begin p of outcome → IsNotReached outcome → ⊥
+held_missed may_begin p txn of held outcome is found reaches missed =
+    not_plain outcome
+    (subst (λ o. Reaches may_begin (nat_lt (length p.live.held) 1000) o outcome) (ap (λ t. found_by txn_held t p.live.held) is ∙ found) reaches) missed
+
+pub none_missed : (w : DeskParties) (event : DeskEvent) → MissesHeld w event → ReachesSide w event → ⊥
+none_missed w (events.Wish of wish) (txn, held, names, found, missed) reaches = held_missed _ w.requester txn of held _ names found reaches missed
+none_missed w (events.Deed of deed today) (txn, held, names, found, missed) reaches = held_missed false w.responder txn of held _ names found reaches missed
+none_missed w (events.Send role of n) (txn, held, names, found, missed) reaches = held_missed false (party w role) txn of held _ names found reaches missed
+none_missed w (events.Deliver role of n) (txn, held, names, found, missed) reaches = go (sent_message (sent_for of (party w (other role)).sent) n) refl
+  where
+    go : (sent : Option Apdu) → sent_message (sent_for of (party w (other role)).sent) n ≡ sent → ⊥
+    go None e = not_plain (Plain NotSent) tt (subst IsNotReached (ap (λ o. (desk_receives (party w role) o).0) e) missed)
+    go (Some a) e = held_missed (is_ill_request a.body) (party w role) txn of held _ names found (reaches a e) missed
+none_missed w event (txn, held, names, found, missed) reaches = absurd names
+
+pub none_changed : (outcome : DeskOutcome) (old new : Parties) → ChangesUnreached outcome old new → DeskMayChange outcome old new → ⊥
+none_changed (Plain outcome) old new (missed, changed) may = not_plain (Plain outcome) tt missed
+none_changed NoSuchTransaction old new (missed, changed) may = changed may
+none_changed DeskFull old new (missed, changed) may = changed may

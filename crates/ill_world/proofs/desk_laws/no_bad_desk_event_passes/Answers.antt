@@ -1,0 +1,11 @@
+use Rattle.ill_world.proofs.BadDesks.{none_missed, none_changed, none_in_vain_at}
+use Rattle.ill_world.proofs.desk_laws.no_bad_desk_event_passes.Goals as goal
+
+pub returns-clause-reaches : goal.returns-clause-reaches
+returns-clause-reaches c = none_missed
+
+pub returns-clause-changes : goal.returns-clause-changes
+returns-clause-changes c = none_changed
+
+pub returns-clause-arrives : goal.returns-clause-arrives
+returns-clause-arrives c = none_in_vain_at

@@ -12,7 +12,7 @@ use Rattle.ill_der.specs.declared.fault.DerFault.TheVariants.{Short, Tag, Length
 use Rattle.ill_der.specs.Laws.{IsBytes, BeginsWithOne}
 use Rattle.ill_der.specs.ShortForm.{spelling, header_at, outer_at, apdu_at}
 use Rattle.ill_der.specs.Stream.{IsUnfinished, IfShort}
-use Rattle.ill_der.specs.Feed.{Begins, Held, Leaves, fault_of}
+use Rattle.ill_der.specs.Feed.{Begins, Held, Leaves, HasApdu, fault_of}
 use Rattle.ill_der.specs.Handling.{Handles, Handled, FailsIn, FailsAt, HandlesEach}
 use Rattle.ill_der.specs.FeedView.{held_of, closing, Holds, Fills, HandlesFirst, GoesOn}
 use Rattle.ill_der.proofs.Chains.{no_value}
@@ -48,6 +48,21 @@ begins_more bytes rest more apdus is = record {
   spelled = is.spelled;
   parts = ap (λ (x : List ℕ). x ++ more) is.parts ∙ append_assoc (flat_map spelling apdus) rest more;
 }
+
+-- the first of some APDUs stands at the front
+begins_first : (bytes : List ℕ) (apdus : List Apdu) (apdu : Apdu) (rest : List ℕ) → Begins bytes (apdus ++ apdu ∷ []) rest → (first : Apdu) × (behind : List ℕ) × Begins bytes (first ∷ []) behind
+begins_first bytes [] apdu rest begins = (apdu, rest, begins)
+begins_first bytes (first ∷ apdus) apdu rest begins =
+    let behind = flat_map spelling (apdus ++ apdu ∷ []) ++ rest in (
+      first,
+      behind,
+      record {
+        spelled = (begins.spelled.0, tt);
+        parts =
+            begins.parts ∙ append_assoc (spelling first) (flat_map spelling (apdus ++ apdu ∷ [])) rest
+            ∙ ap (λ (x : List ℕ). x ++ behind) (sym (append-nil (spelling first)));
+      },
+    )
 
 -- ---- handling one more, and one before
 
@@ -296,6 +311,11 @@ fails_first handles old new piece size filled before after was fault fills opene
     subst (λ (x : List ℕ). Begins x (first.0 ∷ []) rest) (whole_piece k held piece (take filled new) fills.parts) (begins_more (take filled new) first.1 (drop k piece) (first.0 ∷ []) first.2) in
     let failed : FailsIn handles (held ++ piece) before fault after = ([], first.0, rest, before, begins, refl, first.3) in
     subst (λ (h : Held). FailsAt handles h piece before fault after) (sym opened) failed
+
+-- handling fails only where the bytes of an open feed and of the piece begin with an APDU
+pub fails_at_apdu : {S F : Type 0} (handles : Handles S F) (old : Held) (piece : List ℕ) (before after : S) (fault : F) → FailsAt handles old piece before fault after → HasApdu old piece
+fails_at_apdu handles (Ok held) piece before after fault fails = begins_first (held ++ piece) fails.0 fails.1 fails.2 fails.4
+fails_at_apdu handles (Err closed) piece before after fault fails = fails
 
 -- ---- keeping the APDUs
 

@@ -1,5 +1,6 @@
 pub mod Chains
 pub mod Bytes
+pub mod AddingLemmas
 pub mod Lengths
 pub mod Elements
 pub mod Formats

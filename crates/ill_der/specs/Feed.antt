@@ -37,11 +37,17 @@ abbrev pub fault_of : Held → Option DerFault
 fault_of (Ok held) = None
 fault_of (Err fault) = Some fault
 
--- what a push gives: the APDUs and the fault that closed the feed; without memory it changes nothing
+-- an open feed, and a piece with which its bytes begin with an APDU
+abbrev pub HasApdu : Held → List ℕ → Type 0
+HasApdu (Ok held) piece = (apdu : Apdu) × (rest : List ℕ) × Begins (held ++ piece) (apdu ∷ []) rest
+HasApdu (Err fault) piece = ⊥
+
+-- What a push gives: the APDUs and the fault that closed the feed. Memory is wanted only for an APDU, and
+-- want of it changes nothing.
 abbrev pub Pushes : Held → List ℕ → Result Pushed AllocError → Held → Type 0
 Pushes old piece (Ok pushed) new =
     Feeds old piece pushed.apdus.items new × (pushed.fault ≡ fault_of new)
-Pushes old piece (Err refused) new = new ≡ old
+Pushes old piece (Err refused) new = (new ≡ old) × HasApdu old piece
 
 -- whether the bytes may end here: between two APDUs, and not within one
 abbrev pub end_of : Held → Result (Unit {0}) DerFault

@@ -60,8 +60,8 @@ impl Feed {
 
     /// Pushes a piece, and gives each APDU that it completes before the first fault, then that fault.
     ///
-    /// After a fault a push gives no APDU and the same fault. If memory runs out, the feed is as it
-    /// was.
+    /// After a fault a push gives no APDU and the same fault. Memory can run out only where an open feed
+    /// and the piece have an APDU; the feed is as it was then.
     pub fn push(&mut self, piece: &[u8]) -> Result<Pushed, OutOfMemory>
         ensures { Pushes self.old piece.now result self.new }
     {

@@ -20,8 +20,11 @@ const READS: usize = MAX_SIZE + 1;
 
 /// Reads one APDU, or gives `None` where the input has ended.
 ///
-/// It makes at most 360 reads, and takes no byte behind the APDU. If the bytes are no APDU, it has
-/// taken the shortest front of them that shows the fault. A later call begins a new APDU.
+/// It takes no byte behind the APDU. If the bytes are no APDU, it has taken the shortest front of them
+/// that shows the fault. A later call begins a new APDU.
+///
+/// It calls `read_apdu_counted`, and so makes at most 360 reads. Its own contract counts none of them: a
+/// further read that gave no byte would leave the reader all that it has left.
 pub fn read_apdu<R: Read>(alloc: Global, reader: &mut R) -> Result<Option<Apdu>, ReadFault>
     ensures { ReadsApdu (R.remaining reader.old) (R.remaining reader.new) result }
 {

@@ -1,5 +1,5 @@
 -- What a desk of many transactions holds.
-use Rattle.std.proofs.Common.{rules, arith, ◌≡◌, ◌⊎◌, inl, inr, ℕ, zero, suc, ◌+◌, ◌<◌, nat_lt, length, map, Bool, true, false, not, cond, List, [], ◌∷◌, ◌++◌, Option, Some, None, is_some, Result, Ok, Err, is_ok, refl, ap, sym, subst, ◌∙◌, true≢false, slice_index_or, drop, append_assoc}
+use Rattle.std.proofs.Common.{rules, arith, ◌≡◌, ◌⊎◌, inl, inr, ℕ, zero, suc, ◌+◌, ◌<◌, ◌≤◌, nat_lt, length, map, Bool, true, false, not, cond, List, [], ◌∷◌, ◌++◌, Option, Some, None, is_some, Result, Ok, Err, is_ok, refl, ap, sym, subst, ◌∙◌, true≢false, slice_index_or, drop, append_assoc}
 use Rattle.std.specs.Prelude.{option_map, IfSome, slice_get, position, find}
 use Rattle.std.specs.List.{position_or_len}
 use Rattle.std.proofs.Math.ListN.{get_or}
@@ -40,7 +40,7 @@ use Rattle.ill_saved.specs.declared.store.NextCall.{NextCall}
 use Rattle.ill_saved.specs.Records.{record_at, record_spelling}
 use Rattle.ill_saved.specs.Records2.{AreSides, alone, read_alone, is_version_1, unsealed, sides_at, sides_spelling, records_at, begins_as_records}
 use Rattle.ill_saved.specs.Desk.{IsBackedBy, Loads}
-use Rattle.ill_saved.specs.Many.{ManyOf, StartsMany, LoadsOrNone, Held, Holding, held_of, counts, txn_held, idle_held, whole, found_or, held_for, with_held, sides_held, whole_of, is_own, held_or_begun, reached, acted as acted_by, acts_reached, desk_acts, took as took_by, takes_reached, desk_takes, ManyActs, ManyTakesApdu, FirstActs, FirstTakes, side_for, AreBackedBy, AreBackedByRead, landed_sides, AreBacked}
+use Rattle.ill_saved.specs.Many.{ManyOf, StartsMany, LoadsOrNone, Held, Holding, held_of, counts, txn_held, idle_held, whole, found_or, held_for, with_held, sides_held, whole_of, is_own, held_or_begun, reached, acted as acted_by, acts_reached, desk_acts, took as took_by, takes_reached, desk_takes, ManyActs, ManyTakesApdu, FirstActs, FirstTakes, side_for, AreBackedBy, AreBackable, AreBackedByRead, landed_sides, AreBacked}
 use Rattle.ill_saved.proofs.Desks.{RowsGrow, RefusalsStay, itself_backs, no_less, idle_consistent}
 use Rattle.ill_saved.proofs.Held.{new_to, idle_txn, idle_role, acts_row, takes_row, found_plainly}
 use Rattle.ill_saved.proofs.Finding.{same_is, same_self, found_is, found_put, put_last, put_again, found_mapped, put_length, some_is}
@@ -395,6 +395,13 @@ module _ (role : Role) (sides : List Side) (counted : List ℕ) (as_many : lengt
         let to = changed_held answer new only in
         subst (AreBacked landed) (sym to.5) (changed_backs (landed_sides landed role) to.0 to.1 answer to.2 to.3 to.4 backed)
 
+    -- some sides back what is held then
+    pub still_backable : (answer : A) (new : SidesOf) → OnlyThat Does txn (record { role = role; sides = sides }) (Some answer) new
+        → AreBackable held_so → AreBackable (record { role = new.role; held = held_of new.sides counted })
+    still_backable answer new only backed =
+        let to = changed_held answer new only in
+        (backed.0, subst (AreBackedBy backed.0) (sym to.5) (changed_backs (Ok backed.0) to.0 to.1 answer to.2 to.3 to.4 backed.1))
+
   pub desk_acts_so : (grows : RowsGrow) (txn : Qualifiers) (action : Action) (answer : Result (Unit {0}) Refusal) (new : SidesOf) → is_same_role role (role_for action) ≡ true
       → OnlyThat (λ old answer new. Acts old action answer new) txn (record { role = role; sides = sides }) (Some answer) new
       → ManyActs held_so txn action (desk_answer answer) (record { role = new.role; held = held_of new.sides counted })
@@ -426,6 +433,15 @@ module _ (role : Role) (sides : List Side) (counted : List ℕ) (as_many : lengt
   more_backed grows landed new put row backed =
       subst (AreBacked landed) (sym (held_more new put))
       (row_backs_all (landed_sides landed role) (held_so role sides counted as_many) (idle_held role (txn_of side)) side (ap (found_or (idle_held role (txn_of side))) none_before) row backed)
+
+  -- some sides back what is held then
+  pub more_backable : RowsGrow → (new : SidesOf) → new ≡ put_side (record { role = role; sides = sides }) side → IsRow (idle_side role (txn_of side)) side
+      → AreBackable (held_so role sides counted as_many) → AreBackable (record { role = new.role; held = held_of new.sides (counted ++ 0 ∷ []) })
+  more_backable grows new put row backed = (
+    backed.0,
+    subst (AreBackedBy backed.0) (sym (held_more new put))
+        (row_backs_held backed.0 (held_so role sides counted as_many) (idle_held role (txn_of side)) side (ap (found_or (idle_held role (txn_of side))) none_before) row backed.1),
+  )
 
 -- ---- all that is held is whole
 
@@ -473,6 +489,17 @@ pub read_backed : (landed : Option (List ℕ)) (all : SidesOf) (counted : List �
     → AreBacked landed (record { role = all.role; held = held_of all.sides counted })
 read_backed landed all counted read each whole =
     subst (AreBacked landed) (sym (whole_held all counted whole)) (subst (λ r. AreBackedByRead r (whole_of all)) (sym read) (whole_backed all each))
+
+-- sides back themselves, where all is released that they have issued
+pub whole_backable : (all : SidesOf) (counted : List ℕ) → Each IsConsistent all.sides → counted ≡ counts all.sides → AreBackable (record { role = all.role; held = held_of all.sides counted })
+whole_backable all counted each whole = (all, subst (AreBackedBy all) (sym (whole_held all counted whole)) (whole_backed all each))
+
+-- no more messages are released than are issued
+pub few_released : ((old new : Side) → Follows old new → IsFrontOf (issued_of old) (issued_of new)) → (live : Holding) (txn : Qualifiers) → AreBackable live
+    → (held_for txn live).released ≤ length (issued_of (held_for txn live).side)
+few_released follows live txn backed =
+    let is = backed.1.each txn in
+    omega (arith, is.has-released, no_less _ _ (follows _ _ is.follows))
 
 -- one more is counted
 pub one_counted : (counted : List ℕ) (sides : List Side) (n : ℕ) (side : Side) → n < length sides → side ≡ get_or sides n side
@@ -557,10 +584,13 @@ pub loads_landed : (landed : Option (List ℕ)) (plan : Option NextCall) (all : 
 loads_landed (Some bytes) plan all loads = loads.0
 loads_landed None plan all loads = absurd loads
 
+held_is : (x y : SidesOf) → ◌≡◌ {A = Result SidesOf DeskFault} (Ok x) (Ok y) → x ≡ y
+held_is x y e = search rules
+
 -- what a restart gives
 pub restarts_with : (bytes : Option (List ℕ)) (role : Role) (all : SidesOf) → LoadsOrNone bytes role (Ok all) → landed_sides bytes role ≡ Ok all
 restarts_with (Some bytes) role all loads = loads
-restarts_with None role all loads = ap Ok (sym loads)
+restarts_with None role all loads = ap Ok (sym (held_is all _ loads))
 
 -- whatever role is asked for, the sides that are read have theirs
 pub landed_as_read : (bytes : Option (List ℕ)) (role : Role) (all : SidesOf) → landed_sides bytes role ≡ Ok all → landed_sides bytes all.role ≡ Ok all

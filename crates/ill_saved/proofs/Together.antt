@@ -17,7 +17,7 @@ use Rattle.ill_saved.specs.Side.{role_of, txn_of, is_idle}
 use Rattle.ill_saved.specs.Sides.{SidesOf, side_with, is_same_role, may_stand, are_apart, may_be_held, most_sides, put_refusal}
 use Rattle.ill_saved.specs.Layout.{counted_by, read_all, ended}
 use Rattle.ill_saved.specs.Records.{role, front, start, has_front, has_front_behind, requester_fields, responder_fields, requester_states, responder_states, read_fields, side_at, side_spelled, record_at, begins_as_record, Decodes}
-use Rattle.ill_saved.specs.Records2.{part, side_count, role_and_sides, unsealed, together, judged_together, sides_at, read_alone, is_version_1, has_count, records_at, begins_as_records, PutsRead}
+use Rattle.ill_saved.specs.Records2.{part, side_count, role_and_sides, unsealed, together, judged_together, sides_at, read_alone, is_version_1, counts_any, has_sides, records_at, begins_as_records, PutsRead}
 use Rattle.ill_saved.proofs.Steps.{bind_ok}
 use Rattle.ill_saved.proofs.Records.{judged_ok}
 use Rattle.ill_saved.proofs.Finding.{apart_back}
@@ -69,13 +69,13 @@ inconsistent false all breaks = refl
 
 -- a side that may not stand with those before it
 pub put_fails : (of_role : Role) (all : List Side) (held : SidesOf) (side : Side) (rest : List Side) (fault : RecordFault) (new : SidesOf) → held.role ≡ of_role → held.sides ++ side ∷ rest ≡ all → length all ≤ most_sides
-    → PutsRead held side (Err fault) new → Decodes (together (record { role = of_role; sides = all })) true (Err fault)
+    → PutsRead held side (Err fault) new → Decodes (together (record { role = of_role; sides = all })) (nat_lt 0 (length all)) (Err fault)
 put_fails of_role all held side rest faults.Inconsistent new same whole few puts =
     let breaks : may_be_held (record { role = of_role; sides = all }) ≡ true → ⊥ =
     λ stand. puts (stands_last held.role held.sides side rest (omega (arith, few, ap length whole))
     (ap (λ sides. may_be_held (record { role = held.role; sides = sides })) whole ∙ ap (λ r. may_be_held (record { role = r; sides = all })) same ∙ stand)) in
     inconsistent (may_be_held (record { role = of_role; sides = all })) (record { role = of_role; sides = all }) breaks
-put_fails of_role all held side rest faults.OutOfMemory new same whole few puts = refl
+put_fails of_role all held side rest faults.OutOfMemory new same whole few puts = less 0 (length all) (omega (arith, ap length whole, length-append held.sides (side ∷ rest)))
 put_fails of_role all held side rest fault new same whole few puts = absurd puts
 
 -- ---- a record of one side
@@ -119,20 +119,26 @@ alone_fails bytes side fault new read begun puts = absurd puts
 
 -- ---- a record of many sides
 
+-- the number behind the role says whether memory is taken
+count_tells : (octets : List ℕ) (first behind_role behind_count : Cursor) (of_role : Role) (n : ℕ) → first ≡ cursor_at 4 octets → role.read first ≡ Ok (of_role, behind_role)
+    → side_count.read behind_role ≡ Ok (n, behind_count) → has_sides octets ≡ nat_lt 0 n
+count_tells octets first behind_role behind_count of_role n begun read_role read_count =
+    let role_read : role.read (cursor_at 4 octets) ≡ Ok (of_role, behind_role) = ap role.read (sym begun) ∙ read_role in
+    ap (λ r. counts_any (r >>= λ a. side_count.read a.1 >>= λ b. Ok ((a.0, b.0), b.1))) role_read ∙ ap (λ r. counts_any (r >>= λ b. Ok ((of_role, b.0), b.1))) read_count
+
 -- the sides behind their count, which nothing follows
 pub all_held : (octets : List ℕ) (first behind_role behind_count last : Cursor) (of_role : Role) (n : ℕ) (sides : List Side) (x : Unit {0}) (result : Result SidesOf RecordFault) → first ≡ cursor_at 4 octets
-    → role.read first ≡ Ok (of_role, behind_role) → side_count.read behind_role ≡ Ok (n, behind_count) → read_all part n behind_count ≡ Ok (sides, last) → ended last ≡ Ok x
-    → Decodes (together (record { role = of_role; sides = sides })) true result → Decodes (sides_at octets) (has_count octets) result
-all_held octets first behind_role behind_count last of_role n sides x result begun read_role read_count read_sides at_end decodes =
+    → role.read first ≡ Ok (of_role, behind_role) → side_count.read behind_role ≡ Ok (n, behind_count) → read_all part n behind_count ≡ Ok (sides, last) → length sides ≡ n → ended last ≡ Ok x
+    → Decodes (together (record { role = of_role; sides = sides })) (nat_lt 0 (length sides)) result → Decodes (sides_at octets) (has_sides octets) result
+all_held octets first behind_role behind_count last of_role n sides x result begun read_role read_count read_sides so_many at_end decodes =
     let role_read : role.read (cursor_at 4 octets) ≡ Ok (of_role, behind_role) = ap role.read (sym begun) ∙ read_role in
     let counted : (counted_by side_count part).read behind_role ≡ Ok (sides, last) = ap (λ r. r >>= λ n. read_all part n.0 n.1) read_count ∙ read_sides in
     let whole : role_and_sides.read (cursor_at 4 octets) ≡ Ok ((of_role, sides), last) =
     ap (λ r. r >>= λ a. (counted_by side_count part).read a.1 >>= λ b. Ok ((a.0, b.0), b.1)) role_read ∙ ap (λ r. r >>= λ b. Ok ((of_role, b.0), b.1)) counted in
     let same : sides_at octets ≡ together (record { role = of_role; sides = sides }) =
     ap (λ r. judged_together (r >>= λ found. ended found.1 >>= λ _. Ok found.0)) whole ∙ ap (λ r. judged_together (r >>= λ _. Ok (of_role, sides))) at_end in
-    let begins : has_count octets ≡ true =
-    ap (λ r. is_ok {T = (Role × ℕ) × Cursor} (r >>= λ a. side_count.read a.1 >>= λ b. Ok ((a.0, b.0), b.1))) role_read ∙ ap (λ r. is_ok {T = (Role × ℕ) × Cursor} (r >>= λ b. Ok ((of_role, b.0), b.1))) read_count in
-    subst (λ r. Decodes r (has_count octets) result) (sym same) (subst (λ b. Decodes (together (record { role = of_role; sides = sides })) b result) (sym begins) decodes)
+    let begins : has_sides octets ≡ nat_lt 0 (length sides) = count_tells octets first behind_role behind_count of_role n begun read_role read_count ∙ ap (nat_lt 0) (sym so_many) in
+    subst (λ r. Decodes r (has_sides octets) result) (sym same) (subst (λ b. Decodes (together (record { role = of_role; sides = sides })) b result) (sym begins) decodes)
 
 -- what is sealed wrongly, or not at all
 pub unsealed_not : (bytes : List ℕ) (fault : RecordFault) → is_version_1 bytes ≡ false → Decodes (unsealed bytes) false (Err fault) → Decodes (records_at bytes) (begins_as_records bytes) (Err fault)

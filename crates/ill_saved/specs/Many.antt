@@ -182,6 +182,10 @@ pub record AreBackedBy (landed : SidesOf) (live : Holding) : Type 0 where
   pub role : landed.role ≡ live.role
   pub each : (txn : Qualifiers) → IsBackedBy (side_for txn landed) (held_for txn live).side (held_for txn live).released
 
+-- some sides back what is held, whatever has landed
+abbrev pub AreBackable : Holding → Type 0
+AreBackable live = (landed : SidesOf) × AreBackedBy landed live
+
 abbrev pub AreBackedByRead : Result SidesOf RecordFault → Holding → Type 0
 AreBackedByRead (Ok landed) live = AreBackedBy landed live
 AreBackedByRead (Err fault) live = ⊥
@@ -250,8 +254,7 @@ LoadsSides bytes (Err (Saved fault)) = Decodes (records_at bytes) (begins_as_rec
 LoadsSides bytes (Err OutOfMemory) = Unit {0}
 LoadsSides bytes (Err other) = ⊥
 
--- where there are no bytes, none of the role
+-- where there are no bytes, none of the role, which wants no memory
 abbrev pub LoadsOrNone : Option (List ℕ) → Role → Result SidesOf DeskFault → Type 0
 LoadsOrNone (Some bytes) role answer = LoadsSides bytes answer
-LoadsOrNone None role (Ok all) = all ≡ record { role = role; sides = [] }
-LoadsOrNone None role (Err fault) = fault ≡ OutOfMemory
+LoadsOrNone None role answer = answer ≡ Ok (record { role = role; sides = [] })

@@ -1,13 +1,13 @@
 -- The saved record of many sides, version 2: its bytes, closed by a digest (this profile's own; the digest is the
 -- SHA-256 of FIPS 180-4).
-use Rattle.std.specs.Prelude.{◌≡◌, ℕ, ◌≤◌, ◌-◌, Bool, true, false, not, nat_eq, nat_lt, nat_le, if◌then◌else◌, List, [], ◌∷◌, ◌++◌, length, take, drop, Option, Some, None, Result, Ok, Err, is_ok}
+use Rattle.std.specs.Prelude.{◌≡◌, ℕ, ◌≤◌, ◌-◌, Bool, true, false, not, nat_eq, nat_lt, nat_le, if◌then◌else◌, List, [], ◌∷◌, ◌++◌, length, take, drop, Option, Some, None, Result, Ok, Err}
 use Rattle.std.specs.Int.{w16, to_be_bytes, from_be_bytes}
 use Rattle.std.specs.List.{starts_with}
 use Rattle.std.specs.Str.{bytes_eq}
 use Rattle.std.specs.Result.{result_ok}
 use Rattle.sha2.specs.Sha256.{sha256}
 use Rattle.ill_der.specs.Contents.{Contents}
-use Rattle.ill_der.specs.Format.{◌>>=◌, cursor_at}
+use Rattle.ill_der.specs.Format.{◌>>=◌, Cursor, cursor_at}
 use Rattle.ill_saved.specs.declared.role.Role.{Role}
 use Rattle.ill_saved.specs.declared.side.Side.{Side}
 use Rattle.ill_saved.specs.declared.fault.LayoutFault.{LayoutFault}
@@ -107,17 +107,21 @@ unfoldable pub records_at : List ℕ → Result SidesOf RecordFault
 records_at bytes =
     if is_version_1 bytes then read_alone (record_at bytes) else (unsealed bytes >>= sides_at)
 
--- whether the bytes begin so that memory is taken: up to their count, and in version 1 to the qualifiers
-abbrev pub has_count : List ℕ → Bool
-has_count octets = is_ok ((followed_by role side_count).read (cursor_at 4 octets))
+-- whether the bytes begin so that memory is taken: up to a count above 0, and in version 1 to the qualifiers
+abbrev pub counts_any : Result ((Role × ℕ) × Cursor) LayoutFault → Bool
+counts_any (Ok found) = nat_lt 0 found.0.1
+counts_any (Err fault) = false
 
-abbrev pub has_count_behind : Result (List ℕ) RecordFault → Bool
-has_count_behind (Ok octets) = has_count octets
-has_count_behind (Err fault) = false
+abbrev pub has_sides : List ℕ → Bool
+has_sides octets = counts_any ((followed_by role side_count).read (cursor_at 4 octets))
+
+abbrev pub has_sides_behind : Result (List ℕ) RecordFault → Bool
+has_sides_behind (Ok octets) = has_sides octets
+has_sides_behind (Err fault) = false
 
 unfoldable pub begins_as_records : List ℕ → Bool
 begins_as_records bytes =
-    if is_version_1 bytes then begins_as_record bytes else has_count_behind (unsealed bytes)
+    if is_version_1 bytes then begins_as_record bytes else has_sides_behind (unsealed bytes)
 
 -- sides that there can be, held together
 pub record AreSides (all : SidesOf) : Type 0 where

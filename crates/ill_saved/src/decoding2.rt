@@ -1,9 +1,10 @@
 //! Decoding of many sides from one saved record.
 
-ghost use Rattle.std.specs.Prelude.{◌≡◌, ◌+◌, ◌≤◌, ◌<◌, true, false, Ok, Err, length, IfOk, IfErr, OnOk};
+ghost use Rattle.std.specs.Prelude.{◌≡◌, ◌+◌, ◌≤◌, ◌<◌, true, false, Ok, Err, length, IfOk, IfErr, OnOk, nat_lt};
+ghost use Rattle.ill_saved.specs.declared.fault.RecordFault.TheVariants.{OutOfMemory};
 ghost use Rattle.ill_saved.specs.Layout.{ReadsInMemory, read_all};
 ghost use Rattle.ill_saved.specs.Records.{record_at, begins_as_record, Decodes};
-ghost use Rattle.ill_saved.specs.Records2.{unsealed, part, together, sides_at, read_alone, has_count, records_at, begins_as_records, PutsRead};
+ghost use Rattle.ill_saved.specs.Records2.{unsealed, part, together, sides_at, read_alone, has_sides, records_at, begins_as_records, PutsRead};
 ghost use Rattle.ill_saved.specs.Sides.{most_sides};
 
 use crate::cursor::Cursor;
@@ -24,7 +25,7 @@ const SMALLEST: usize = 39;
 /// Decodes a saved record of many sides, which must take up all of the bytes, or gives their first fault.
 ///
 /// Bytes that begin with `ILL1` are a record of one side: it is alone, and where it is idle there is none.
-/// Memory is taken as decoding goes on: from the count on, and in version 1 from the qualifiers on.
+/// Memory is taken as decoding goes on: from a count above 0 on, and in version 1 from the qualifiers on.
 #[tactic(auto, unfolding(crate::specs::Records2::records_at, crate::specs::Records2::begins_as_records))]
 pub fn decode_record2(alloc: Global, bytes: &[u8]) -> Result<Sides, RecordFault>
     ensures { Decodes (records_at bytes.now) (begins_as_records bytes.now) result }
@@ -70,7 +71,7 @@ fn unsealed(bytes: &[u8]) -> Result<&[u8], RecordFault>
 
 /// The sides of a record of version 2, from what stands between its version and its digest.
 fn many_sides(alloc: Global, octets: &[u8]) -> Result<Sides, RecordFault>
-    ensures { Decodes (sides_at octets.now) (has_count octets.now) result }
+    ensures { Decodes (sides_at octets.now) (has_sides octets.now) result }
 {
     let mut cursor = Cursor::behind(4, octets);
     let role = cursor.role()?;
@@ -88,6 +89,7 @@ fn parts(alloc: Global, cursor: &mut Cursor<'_>, count: u16) -> Result<Vec<Side>
     ensures read { ReadsInMemory (λ sides. sides.items) result cursor.new
         (read_all part count cursor.old) }
     ensures few { IfOk result (λ sides. length sides.items ≡ count) }
+    ensures memory { IfErr result (λ fault. fault ≡ OutOfMemory → 0 < count) }
 {
     let mut sides = Vec::with_capacity(alloc, usize::from(count))?;
     for _ in 0..count {
@@ -120,7 +122,7 @@ fn part(alloc: Global, cursor: &mut Cursor<'_>) -> Result<Side, RecordFault>
 /// The sides, if they may be held together.
 fn held_together(alloc: Global, role: Role, read: Vec<Side>) -> Result<Sides, RecordFault>
     requires few { length read.items ≤ most_sides }
-    ensures { Decodes (together (record { role = role; sides = read.items })) true result }
+    ensures { Decodes (together (record { role = role; sides = read.items })) (nat_lt 0 (length read.items)) result }
 {
     let mut sides = Sides::new(alloc, role)?;
     for side in read {

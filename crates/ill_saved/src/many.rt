@@ -1,16 +1,16 @@
 //! A desk of many transactions: the sides of one library, with their store.
 
-ghost use Rattle.std.specs.Prelude.{◌≡◌, true, false, [], None, Ok, length, nat_lt, option_map, IfOk, IfErr, IfSome, OnOk};
+ghost use Rattle.std.specs.Prelude.{◌≡◌, ◌≤◌, true, false, [], None, Ok, length, nat_lt, option_map, IfOk, IfErr, IfSome, OnOk};
 ghost use Rattle.ill_der.specs.ShortForm.{apdu_at};
 ghost use Rattle.ill_core.specs.Bodies.{is_ill_request};
 ghost use Rattle.ill_saved.specs.declared.fault.DeskFault.TheVariants as desks;
-ghost use Rattle.ill_saved.specs.Side.{txn_of, idle_side, role_for, begins, IsConsistent, IsRow};
+ghost use Rattle.ill_saved.specs.Side.{issued_of, txn_of, idle_side, role_for, begins, IsConsistent, IsRow};
 ghost use Rattle.ill_saved.specs.Ranges.{Each};
 ghost use Rattle.ill_saved.specs.Sides.{SidesOf, is_same_role, put_refusal, most_sides, found_by};
 ghost use Rattle.ill_saved.specs.Records2.{sides_spelling, records_at, begins_as_records};
 ghost use Rattle.ill_saved.specs.Store.{spent};
 ghost use Rattle.ill_saved.specs.Desk.{SaveLands, PlanAfter, IsSaveFault, Creates, IsCreateAnswer, answer_of, CountsDeskFailure, Loads, Restarts};
-ghost use Rattle.ill_saved.specs.Many.{ManyOf, held_of, txn_held, held_for, with_held, sides_held, is_own, counts, ManyActs, ManyTakes, ManyTakesApdu, MayBegin, FirstActs, FirstTakes, SendsHeld, AreBacked, holding_after, WereSpelled, landed_sides, ManyRestartLeaves, many_store_of, StartsMany, AreWhole, IsStartOfMany, IsManyLoadFault, LoadsSides, LoadsOrNone};
+ghost use Rattle.ill_saved.specs.Many.{ManyOf, held_of, txn_held, held_for, with_held, sides_held, is_own, counts, ManyActs, ManyTakes, ManyTakesApdu, MayBegin, FirstActs, FirstTakes, SendsHeld, AreBacked, AreBackable, holding_after, WereSpelled, landed_sides, ManyRestartLeaves, many_store_of, StartsMany, AreWhole, IsStartOfMany, IsManyLoadFault, LoadsSides, LoadsOrNone};
 
 use crate::decoding2::decode_record2;
 use crate::desk::one_apdu;
@@ -51,7 +51,8 @@ impl<S: Store> Model for Desk<S> {
 
     ghost invariant = { λ d. (length d.released.items ≡ length d.sides.sides)
         × (S.is_honest d.store ≡ true → AreBacked (S.landed d.store)
-        (record { role = d.sides.role; held = held_of d.sides.sides d.released.items })) };
+        (record { role = d.sides.role; held = held_of d.sides.sides d.released.items }))
+        × AreBackable (record { role = d.sides.role; held = held_of d.sides.sides d.released.items }) };
 }
 
 impl<S: Store> Desk<S> {
@@ -284,8 +285,10 @@ impl<S: Store> Desk<S> {
     /// How many messages of this transaction may be sent: those with numbers up to this one, and none where
     /// it is not held.
     pub fn released(&self, txn: &TxnId) -> u8
-        ensures { result ≡ (held_for txn.now self.now.live).released }
+        ensures value { result ≡ (held_for txn.now self.now.live).released }
+        ensures issued { result ≤ length (issued_of (held_for txn.now self.now.live).side) }
     {
+        follows_issues();
         match self.sides.place(txn) {
             Some(place) => self.released[place],
             None => 0,

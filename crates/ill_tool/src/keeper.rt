@@ -1,6 +1,7 @@
 //! What keeps sides in a store: one side alone, or those of many transactions.
 
-ghost use Rattle.std.specs.Prelude.{◌≡◌, ◌++◌, true, option_copied, IfOk, OnOk};
+ghost use Rattle.std.specs.Prelude.{◌≡◌, ◌++◌, true, option_copied, IfOk, OnOk, OnErr};
+ghost use Rattle.ill_der.specs.Adding.{AddsFront};
 ghost use Rattle.ill_saved.specs.Side.{idle_side};
 ghost use Rattle.ill_saved.specs.Store.{spent};
 ghost use Rattle.ill_saved.specs.Desk.{Creates, IsCreateAnswer, SaveLands, PlanAfter, IsSaveFault, CountsDeskFailure, answer_of, store_after};
@@ -94,10 +95,13 @@ pub(crate) trait Keeper {
     fn key_of(apdu: &Apdu) -> &Self::Key
         ensures { result.now ≡ keeping.key_of apdu.now };
 
-    /// Adds how a side stands.
+    /// Adds how a side stands. If memory runs out, the line stays, and a front of that may stand behind
+    /// it, but never all of it.
     fn push_side(&self, line: &mut Vec<u8>, key: &Self::Key) -> Result<(), OutOfMemory>
-        ensures { OnOk result (line.new.items ≡ line.old.items
-            ++ held_text (keeping.side_for key.now (live self.now))) };
+        ensures text { OnOk result (line.new.items ≡ line.old.items
+            ++ held_text (keeping.side_for key.now (live self.now))) }
+        ensures front { OnErr result (AddsFront line.old.items line.new.items
+            (held_text (keeping.side_for key.now (live self.now)))) };
 
     /// What names the side that is there from the beginning, if one is.
     fn first_key(&self) -> Option<&Self::Key>

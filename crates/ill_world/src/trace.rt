@@ -1,7 +1,8 @@
 //! The lines of a trace, which show what is seen of each event and how both sides stand after it.
 
-ghost use Rattle.std.specs.Prelude.{◌≡◌, ◌++◌, OnOk};
+ghost use Rattle.std.specs.Prelude.{◌≡◌, ◌++◌, OnOk, OnErr};
 ghost use Rattle.ill_values.specs.TxnId.{Qualifiers};
+ghost use Rattle.ill_der.specs.Adding.{AddsFront};
 ghost use Rattle.ill_saved.specs.declared.role.Role.{Role};
 ghost use Rattle.ill_saved.specs.Many.{side_for};
 ghost use Rattle.ill_saved.specs.Side.{idle_side};
@@ -100,22 +101,28 @@ fn push_sides(lines: &mut Vec<u8>, requester: Shown, responder: Shown) -> Result
 }
 
 /// Adds how a side stands: its state, its due date or a dash, and how many of its messages are
-/// released and issued, as `SHIPPED 20250315 2/3`.
+/// released and issued, as `SHIPPED 20250315 2/3`. If memory runs out, the lines stay, and a front of
+/// that may stand behind them, but never all of it.
 pub fn push_side(lines: &mut Vec<u8>, side: &Side, released: u8) -> Result<(), OutOfMemory>
-    ensures { OnOk result (lines.new.items ≡ lines.old.items ++ side_text side.now released) }
+    ensures text { OnOk result (lines.new.items ≡ lines.old.items ++ side_text side.now released) }
+    ensures front { OnErr result (AddsFront lines.old.items lines.new.items
+        (side_text side.now released)) }
 {
     push_shown(lines, Shown::of(side, released))
 }
 
-/// Adds how the side of this transaction among these stands, which is idle where it is not held.
+/// Adds how the side of this transaction among these stands, which is idle where it is not held. If
+/// memory runs out, it leaves what `push_side` leaves.
 pub fn push_held(
     lines: &mut Vec<u8>,
     sides: &Sides,
     txn: &TxnId,
     released: u8,
 ) -> Result<(), OutOfMemory>
-    ensures { OnOk result (lines.new.items ≡ lines.old.items
+    ensures text { OnOk result (lines.new.items ≡ lines.old.items
         ++ side_text (side_for txn.now sides.now) released) }
+    ensures front { OnErr result (AddsFront lines.old.items lines.new.items
+        (side_text (side_for txn.now sides.now) released)) }
 {
     push_shown(lines, Shown::held(sides, txn, released))
 }
@@ -123,7 +130,8 @@ pub fn push_held(
 /// Adds what is shown of a side.
 #[tactic(auto, unfolding(crate::specs::Trace::shown_text))]
 fn push_shown(lines: &mut Vec<u8>, shown: Shown) -> Result<(), OutOfMemory>
-    ensures { OnOk result (lines.new.items ≡ lines.old.items ++ shown_text shown) }
+    ensures text { OnOk result (lines.new.items ≡ lines.old.items ++ shown_text shown) }
+    ensures front { OnErr result (AddsFront lines.old.items lines.new.items (shown_text shown)) }
 {
     lines.extend_from_slice(shown.state.name().as_bytes())?;
     lines.push(b' ')?;
@@ -136,7 +144,8 @@ fn push_shown(lines: &mut Vec<u8>, shown: Shown) -> Result<(), OutOfMemory>
 
 /// Adds a due date as eight digits, or a dash where there is none.
 fn push_due(lines: &mut Vec<u8>, due: Option<Day>) -> Result<(), OutOfMemory>
-    ensures { OnOk result (lines.new.items ≡ lines.old.items ++ due_text due) }
+    ensures text { OnOk result (lines.new.items ≡ lines.old.items ++ due_text due) }
+    ensures front { OnErr result (AddsFront lines.old.items lines.new.items (due_text due)) }
 {
     match due {
         None => lines.push(b'-')?,
@@ -147,7 +156,8 @@ fn push_due(lines: &mut Vec<u8>, due: Option<Day>) -> Result<(), OutOfMemory>
 
 /// Adds a number in decimal.
 fn push_number<I: Integer>(lines: &mut Vec<u8>, number: I) -> Result<(), OutOfMemory>
-    ensures { OnOk result (lines.new.items ≡ lines.old.items ++ I.text number) }
+    ensures text { OnOk result (lines.new.items ≡ lines.old.items ++ I.text number) }
+    ensures front { OnErr result (AddsFront lines.old.items lines.new.items (I.text number)) }
 {
     lines.extend_from_slice(Buffer::new().format(number).as_bytes())?;
     Ok(())

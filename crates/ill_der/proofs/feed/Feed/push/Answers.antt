@@ -3,7 +3,7 @@ use Rattle.ill_values.specs.declared.apdu.Apdu.{Apdu}
 use Rattle.ill_der.specs.declared.feed.Collector.{Collector}
 use Rattle.ill_der.specs.Feed.{Feeds}
 use Rattle.ill_der.specs.FeedView.{Keeps}
-use Rattle.ill_der.proofs.FeedLemmas.{all_kept}
+use Rattle.ill_der.proofs.FeedLemmas.{all_kept, fails_at_apdu}
 use Rattle.ill_der.proofs.feed.Feed.push.Goals as goal
 
 pub returns-in-Ok : goal.returns-in-Ok
@@ -15,3 +15,6 @@ returns-in-Ok c =
     let kept = all_kept Keeps items (λ before after apdu keeps. keeps) empty full is.1.0 is.1.2 in
     let all : c.each.new.handler.apdus.items ≡ is.1.0 = kept ∙ ap (λ (x : List Apdu). x ++ is.1.0) c.new.ensures.items in
     (subst (λ (x : List Apdu). Feeds c.args.self.now c.args.piece.now x c.each.new.self) (sym all) is.1.1, is.0)
+
+pub returns-in-Err : goal.returns-in-Err
+returns-in-Err c = (c.in-Err.ensures.0, fails_at_apdu Keeps c.args.self.now c.args.piece.now _ _ c.in-Err.fault c.in-Err.ensures.1)

@@ -1,7 +1,9 @@
-use Rattle.std.proofs.Common.{rules, ◌≡◌, true, None, [], ap, sym, ◌∙◌}
+use Rattle.std.proofs.Common.{rules, ◌≡◌, true, None, [], ap, sym, subst, ◌∙◌}
+use Rattle.ill_saved.specs.Side.{IsConsistent}
+use Rattle.ill_saved.specs.Ranges.{Each}
 use Rattle.ill_saved.specs.Sides.{SidesOf}
 use Rattle.ill_saved.specs.Many.{counts, held_of}
-use Rattle.ill_saved.proofs.Holdings.{as_many_counted, none_backed}
+use Rattle.ill_saved.proofs.Holdings.{as_many_counted, none_backed, none_are, whole_backable}
 use Rattle.ill_saved.proofs.many.Desk.create.Goals as goal
 
 pub invariant_of-result : goal.invariant_of-result
@@ -14,6 +16,7 @@ invariant_of-result g c =
     let honest : g.S.Store.is_honest c.load.new.self ≡ g.S.Store.is_honest c.args.store = search rules in (
       as_many_counted all.sides counted whole,
       λ now. none_backed (g.S.Store.landed c.load.new.self) all counted (none (sym honest ∙ now)) (ap (λ (held : SidesOf). held.sides) is) whole,
+      whole_backable all counted (subst (λ (held : SidesOf). Each IsConsistent held.sides) (sym is) (none_are IsConsistent)) whole,
     )
 
 pub returns-in-Ok-clause-begins : goal.returns-in-Ok-clause-begins

@@ -1,8 +1,8 @@
-use Rattle.std.proofs.Common.{rules, ◌≡◌, ◌++◌, ◌+◌, ◌∷◌, [], length, None, length-append, ap, sym, subst, ◌∙◌}
+use Rattle.std.proofs.Common.{rules, ◌≡◌, true, ℕ, List, ◌++◌, ◌+◌, ◌∷◌, [], length, None, length-append, ap, sym, subst, ◌∙◌}
 use Rattle.ill_saved.specs.Side.{txn_of, idle_side, IsRow}
-use Rattle.ill_saved.specs.Sides.{put_refusal, put_last}
-use Rattle.ill_saved.specs.Many.{sides_held, with_held, AreBacked, held_of}
-use Rattle.ill_saved.proofs.Holdings.{as_seen, held_more, more_backed}
+use Rattle.ill_saved.specs.Sides.{SidesOf, put_refusal, put_last}
+use Rattle.ill_saved.specs.Many.{sides_held, with_held, AreBacked, AreBackable, held_of}
+use Rattle.ill_saved.proofs.Holdings.{as_seen, held_more, more_backed, more_backable}
 use Rattle.ill_saved.proofs.many.Desk.hold.Goals as goal
 
 pub invariant_of-self-in-Ok : goal.invariant_of-self-in-Ok
@@ -19,6 +19,8 @@ invariant_of-self-in-Ok g c =
       λ honest.
           subst (λ ns. AreBacked (g.S.Store.landed c.self.inside.store) (record { role = c.put.new.self.role; held = held_of c.put.new.self.sides ns })) (sym pushed)
           (more_backed all.role all.sides counted c.self.invariant.0 c.args.side may c.rows_grow.ensures (g.S.Store.landed c.self.inside.store) c.put.new.self put row (c.self.invariant.1 honest)),
+      subst (λ ns. AreBackable (record { role = c.put.new.self.role; held = held_of c.put.new.self.sides ns })) (sym pushed)
+          (more_backable all.role all.sides counted c.self.invariant.0 c.args.side may c.rows_grow.ensures c.put.new.self put row c.self.invariant.2),
     )
 
 pub returns-in_ok-push-in-Ok-clause-held : goal.returns-in_ok-push-in-Ok-clause-held
@@ -32,3 +34,16 @@ returns-in_ok-push-in-Ok-clause-held g c =
     ap (λ ns. record { role = c.put.new.self.role; held = held_of c.put.new.self.sides ns }) pushed
     ∙ held_more all.role all.sides counted c.self.invariant.0 c.args.side may c.put.new.self put
     ∙ ap (λ desk. with_held desk.live (record { side = c.args.side; released = 0 })) c.self.view_is
+
+pub invariant_of-self-in-Err : goal.invariant_of-self-in-Err
+invariant_of-self-in-Err g c =
+    let all = c.self.inside.sides in
+    let counted = c.self.inside.released.items in
+    let rules_of =
+    λ (held : SidesOf) (ns : List ℕ).
+    (length ns ≡ length held.sides)
+    × (g.S.Store.is_honest c.self.inside.store ≡ true → AreBacked (g.S.Store.landed c.self.inside.store) (record { role = held.role; held = held_of held.sides ns }))
+    × AreBackable (record { role = held.role; held = held_of held.sides ns }) in
+    let same : c.put.new.self ≡ all = search rules in
+    let kept : c.reserve.new.self.items ≡ counted = search rules in
+    subst (λ (held : SidesOf). rules_of held c.reserve.new.self.items) (sym same) (subst (λ (ns : List ℕ). rules_of all ns) (sym kept) c.self.invariant)

@@ -1,22 +1,29 @@
-use Rattle.std.proofs.Common.{rules, ◌≡◌, ◌<◌, length, Some, None, ap, ◌∙◌}
+use Rattle.std.proofs.Common.{rules, ◌≡◌, ℕ, ◌<◌, ◌≤◌, length, Some, None, ap, sym, subst, ◌∙◌}
 use Rattle.std.specs.Prelude.{position}
 use Rattle.ill_core.specs.Issued.{is_same_txn}
-use Rattle.ill_saved.specs.Side.{txn_of}
-use Rattle.ill_saved.specs.Many.{held_for}
-use Rattle.ill_saved.proofs.Holdings.{count_there, no_count}
+use Rattle.ill_saved.specs.Side.{txn_of, issued_of}
+use Rattle.ill_saved.specs.Many.{held_for, AreBackable}
+use Rattle.ill_saved.proofs.Holdings.{count_there, no_count, few_released}
 use Rattle.ill_saved.proofs.many.Desk.released.Goals as goal
 
-pub returns-in-Some : goal.returns-in-Some
-returns-in-Some g c =
+pub returns-in-Some-clause-value : goal.returns-in-Some-clause-value
+returns-in-Some-clause-value g c =
     let all = c.self.inside.sides in
     let txn = c.args.txn.now in
     let at : Some c.in-Some.place ≡ position (λ side. is_same_txn txn (txn_of side)) all.sides = search rules in
     let within : c.in-Some.place < length all.sides = search rules in
     count_there all.role all.sides c.self.inside.released.items txn c.in-Some.place c.index.result.now c.self.invariant.0 at within c.index.ensures ∙ ap (λ desk. (held_for txn desk.live).released) c.self.view_is
 
-pub returns-in-None : goal.returns-in-None
-returns-in-None g c =
+pub returns-in-None-clause-value : goal.returns-in-None-clause-value
+returns-in-None-clause-value g c =
     let all = c.self.inside.sides in
     let txn = c.args.txn.now in
     let none : None ≡ position (λ side. is_same_txn txn (txn_of side)) all.sides = search rules in
     no_count all.role all.sides c.self.inside.released.items txn c.self.invariant.0 none ∙ ap (λ desk. (held_for txn desk.live).released) c.self.view_is
+
+pub returns-in-Some-clause-issued : goal.returns-in-Some-clause-issued
+returns-in-Some-clause-issued g c =
+    let txn = c.args.txn.now in
+    let live = c.args.self.now.live in
+    let few = few_released c.follows_issues.ensures live txn (subst (λ desk. AreBackable desk.live) c.self.view_is c.self.invariant.2) in
+    subst (λ (n : ℕ). n ≤ length (issued_of (held_for txn live).side)) (sym (returns-in-Some-clause-value g c)) few

@@ -5,7 +5,7 @@ use Rattle.ill_saved.specs.Ranges.{Each}
 use Rattle.ill_saved.specs.Many.{landed_sides, sides_held, whole_of, held_of, LoadsOrNone}
 use Rattle.ill_saved.specs.Store.{Allows}
 use Rattle.ill_saved.proofs.Desks.{allows_done}
-use Rattle.ill_saved.proofs.Holdings.{holds_sides, as_many_counted, read_backed, restarts_with, landed_as_read, whole_held}
+use Rattle.ill_saved.proofs.Holdings.{holds_sides, as_many_counted, read_backed, restarts_with, landed_as_read, whole_held, whole_backable}
 use Rattle.ill_saved.proofs.many.Desk.restart.Goals as goal
 
 pub invariant_of-self-2 : goal.invariant_of-self-2
@@ -22,6 +22,7 @@ invariant_of-self-2 g c =
           let was = sym honest ∙ now in
           read_backed (g.S.Store.landed c.load.new.self) all counted
           (ap (λ o. landed_sides o all.role) (c.load.ensures.landed was ∙ sym (c.in_ok-bytes.ensures.loaded was)) ∙ landed_as_read bytes role all (restarts_with bytes role all loads)) each c.sides.invariant,
+      whole_backable all counted each c.sides.invariant,
     )
 
 pub returns-clause-restarts : goal.returns-clause-restarts

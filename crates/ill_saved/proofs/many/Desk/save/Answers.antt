@@ -2,7 +2,7 @@ use Rattle.std.proofs.Common.{rules, ◌≡◌, ◌⊎◌, Some, ap, sym, subst,
 use Rattle.ill_saved.specs.Records2.{AreSides, sides_spelling}
 use Rattle.ill_saved.specs.Many.{sides_held, whole_of}
 use Rattle.ill_saved.proofs.Desks.{old_or_new}
-use Rattle.ill_saved.proofs.Holdings.{as_seen, as_many_counted, saved_backed, fault_backed, whole_held, each_consistent}
+use Rattle.ill_saved.proofs.Holdings.{as_seen, as_many_counted, saved_backed, fault_backed, whole_held, whole_backable, each_consistent}
 use Rattle.ill_saved.proofs.many.Desk.save.Goals as goal
 
 pub invariant_of-self : goal.invariant_of-self
@@ -19,6 +19,7 @@ invariant_of-self g c =
           let either = old_or_new (g.S.Store.plan c.self.inside.store) bytes c.in_err-save.field-0.0 old new (c.in_err-save.ensures.landed was) in
           fault_backed c.follows_issues.ensures all c.self.inside.released.items c.self.invariant.0 (each_consistent all.sides c.in_ok-record.ensures.sides.each) c.sides_read_again.ensures c.in_ok-record.ensures.sides old new
           (subst (λ b. (new ≡ old) ⊎ (new ≡ Some b)) spelled either) (c.self.invariant.1 was),
+      c.self.invariant.2,
     )
 
 pub returns-in_err-save-clause-landed : goal.returns-in_err-save-clause-landed
@@ -46,6 +47,7 @@ invariant_of-self-2 g c =
       λ now.
           let lands : g.S.Store.landed c.save.new.self ≡ Some c.deref.result.now = (c.in_ok-save.ensures.landed (sym honest ∙ now)) in
           saved_backed c.sides_read_again.ensures (g.S.Store.landed c.save.new.self) all counted c.in_ok-record.ensures.sides (lands ∙ ap Some spelled) c.in_ok-released.ensures,
+      whole_backable all counted (each_consistent all.sides c.in_ok-record.ensures.sides.each) c.in_ok-released.ensures,
     )
 
 pub returns-clause-live : goal.returns-clause-live

@@ -4,7 +4,7 @@ use Rattle.ill_saved.specs.Ranges.{Each}
 use Rattle.ill_saved.specs.Records2.{records_at, begins_as_records}
 use Rattle.ill_saved.specs.Desk.{Loads}
 use Rattle.ill_saved.specs.Many.{counts, landed_sides, whole_of, held_of}
-use Rattle.ill_saved.proofs.Holdings.{holds_sides, as_many_counted, read_backed, loads_landed, starts_with, whole_held}
+use Rattle.ill_saved.proofs.Holdings.{holds_sides, as_many_counted, read_backed, loads_landed, starts_with, whole_held, whole_backable}
 use Rattle.ill_saved.proofs.many.Desk.start.Goals as goal
 
 pub invariant_of-result : goal.invariant_of-result
@@ -22,6 +22,7 @@ invariant_of-result g c =
       λ now.
           let was = sym honest ∙ now in
           read_backed (g.S.Store.landed c.load_whole.new.store) all counted (ap (λ o. landed_sides o all.role) (lands was) ∙ loads_landed landed (g.S.Store.plan store) all (loads was)) each whole,
+      whole_backable all counted each whole,
     )
 
 pub returns-in-Ok-Some-clause-starts : goal.returns-in-Ok-Some-clause-starts

@@ -1,0 +1,37 @@
+use Rattle.std.proofs.Common.{rules, ◌≡◌, ℕ, List, ◌∷◌, ◌++◌, length}
+use Rattle.ill_values.specs.declared.apdu.Apdu.{Apdu}
+use Rattle.ill_der.specs.Adding.{AddsFront}
+use Rattle.ill_der.specs.Types.{identifier_of, type_of}
+use Rattle.ill_der.specs.Format.{element, length_octets}
+use Rattle.ill_der.specs.ShortForm.{head_of, spell_body, contents_of, spelling}
+use Rattle.ill_der.proofs.AddingLemmas.{adds_first, adds_second, adds_last, at_err}
+use Rattle.ill_der.proofs.encoding.encode_onto.Goals as goal
+
+-- what stands before the contents of an APDU
+abbrev start_of : Apdu → List ℕ
+start_of apdu = identifier_of (type_of apdu.body) ∷ length_octets (length (contents_of apdu))
+
+pub returns-in_err-push_start-clause-front : goal.returns-in_err-push_start-clause-front
+unfolding spelling element
+returns-in_err-push_start-clause-front c =
+    let apdu = c.args.apdu.now in
+    let start : AddsFront c.args.bytes.now.items c.push_start.new.bytes.items (start_of apdu) = search rules in
+    at_err c.from_residual.result (adds_first _ _ (start_of apdu) (contents_of apdu) start)
+
+pub returns-in_err-push_head-clause-front : goal.returns-in_err-push_head-clause-front
+unfolding spelling element
+returns-in_err-push_head-clause-front c =
+    let apdu = c.args.apdu.now in
+    let middle = c.push_start.new.bytes.items in
+    let start : middle ≡ c.args.bytes.now.items ++ start_of apdu = search rules in
+    at_err c.from_residual-in_err-push_head.result (adds_second _ middle _ (start_of apdu) (contents_of apdu) start (adds_first _ _ (head_of apdu) (spell_body apdu.body) c.in_err-push_head.ensures.front))
+
+pub returns-clause-front : goal.returns-clause-front
+unfolding spelling element
+returns-clause-front c =
+    let apdu = c.args.apdu.now in
+    let result = c.push_body.result in
+    let first = c.push_start.new.bytes.items in
+    let second = c.push_head.new.bytes.items in
+    let start : first ≡ c.args.bytes.now.items ++ start_of apdu = search rules in
+    adds_last result _ first _ (start_of apdu) (contents_of apdu) start (adds_last result first second _ (head_of apdu) (spell_body apdu.body) c.in_ok-push_head.ensures.bytes c.push_body.ensures.front)

@@ -1,0 +1,10 @@
+use Rattle.std.proofs.Common.{◌∷◌, length}
+use Rattle.ill_der.specs.Format.{element, length_octets}
+use Rattle.ill_der.proofs.AddingLemmas.{adds_first, at_err}
+use Rattle.ill_der.proofs.encoding.push_element.Goals as goal
+
+pub returns-in_err-push_start-clause-front : goal.returns-in_err-push_start-clause-front
+unfolding element
+returns-in_err-push_start-clause-front c =
+    let contents = c.args.contents.now in
+    at_err c.from_residual.result (adds_first _ _ (c.args.identifier ∷ length_octets (length contents)) contents c.in_err-push_start.ensures.front)

@@ -1,0 +1,28 @@
+use Rattle.std.proofs.Common.{rules, ◌≡◌, ◌++◌, OnErr, is_some, subst, append_assoc}
+use Rattle.ill_der.specs.Adding.{AddsFront}
+use Rattle.ill_der.specs.Contents.{number_octets, yes_no, date}
+use Rattle.ill_der.specs.Format.{element, optional}
+use Rattle.ill_der.proofs.AddingLemmas.{adds_first, adds_last, at_err}
+use Rattle.ill_der.proofs.encoding.push_grant.Goals as goal
+
+pub returns-in_err-push_reply-clause-front : goal.returns-in_err-push_reply-clause-front
+returns-in_err-push_reply-clause-front c =
+    let old = c.args.bytes.now.items in
+    let new = c.push_reply.new.bytes.items in
+    let answers = element 131 (number_octets c.args.answers) in
+    let yes = element 132 (yes_no.spell (is_some c.args.granted)) in
+    let day = (optional 133 date).spell c.args.granted in
+    let front : AddsFront old new (answers ++ yes) = search rules in
+    at_err c.from_residual.result (subst (AddsFront old new) (append_assoc answers yes day) (adds_first old new (answers ++ yes) day front))
+
+pub returns-clause-front : goal.returns-clause-front
+returns-clause-front c =
+    let old = c.args.bytes.now.items in
+    let middle = c.push_reply.new.bytes.items in
+    let new = c.push_optional_date.new.bytes.items in
+    let result = c.push_optional_date.result in
+    let answers = element 131 (number_octets c.args.answers) in
+    let yes = element 132 (yes_no.spell (is_some c.args.granted)) in
+    let day = (optional 133 date).spell c.args.granted in
+    let all : middle ≡ old ++ (answers ++ yes) = search rules in
+    subst (λ text. OnErr result (AddsFront old new text)) (append_assoc answers yes day) (adds_last result old middle new (answers ++ yes) day all c.push_optional_date.ensures.front)

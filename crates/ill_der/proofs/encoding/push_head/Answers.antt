@@ -1,0 +1,35 @@
+use Rattle.std.proofs.Common.{ℕ, List, [], ◌∷◌, ◌++◌}
+use Rattle.ill_values.specs.declared.apdu.Apdu.{Apdu}
+use Rattle.ill_der.specs.Contents.{number_octets}
+use Rattle.ill_der.specs.Format.{element}
+use Rattle.ill_der.specs.ShortForm.{txn_id}
+use Rattle.ill_der.proofs.AddingLemmas.{adds_first, adds_second, adds_last, at_err}
+use Rattle.ill_der.proofs.encoding.push_head.Goals as goal
+
+-- the three fields
+abbrev version_field : List ℕ
+version_field = element 128 (1 ∷ [])
+
+abbrev txn_field : Apdu → List ℕ
+txn_field apdu = txn_id.spell (apdu.txn.group, apdu.txn.transaction)
+
+abbrev number_field : Apdu → List ℕ
+number_field apdu = element 130 (number_octets apdu.number)
+
+pub returns-in_err-push_element-clause-front : goal.returns-in_err-push_element-clause-front
+returns-in_err-push_element-clause-front c =
+    let apdu = c.args.apdu.now in
+    at_err c.from_residual.result (adds_first _ _ version_field (txn_field apdu ++ number_field apdu) c.in_err-push_element.ensures.front)
+
+pub returns-in_err-push_id-clause-front : goal.returns-in_err-push_id-clause-front
+returns-in_err-push_id-clause-front c =
+    let apdu = c.args.apdu.now in
+    at_err c.from_residual-in_err-push_id.result
+    (adds_second _ _ _ version_field (txn_field apdu ++ number_field apdu) c.in_ok-push_element.ensures.bytes (adds_first _ _ (txn_field apdu) (number_field apdu) c.in_err-push_id.ensures.front))
+
+pub returns-clause-front : goal.returns-clause-front
+returns-clause-front c =
+    let apdu = c.args.apdu.now in
+    let result = c.push_number.result in
+    adds_last result _ _ _ version_field (txn_field apdu ++ number_field apdu) c.in_ok-push_element.ensures.bytes
+    (adds_last result _ _ _ (txn_field apdu) (number_field apdu) c.in_ok-push_id.ensures.bytes c.push_number.ensures.front)

@@ -6,3 +6,4 @@ pub mod ActLemmas
 pub mod StatusLemmas
 pub mod NewLemmas
 pub mod TakeLemmas
+pub mod RequestLemmas

@@ -1,7 +1,7 @@
 -- The exit status of a command: 0 where all went well; 1 where it was refused, or a message was refused or
 -- in conflict; 2 after words, input or a record that are none; 3 where the machine could not do it. Want
 -- of memory is a fault of its own, and stands in no other.
-use Rattle.std.specs.Prelude.{ℕ, Bool, true, false, Result, Ok, Err}
+use Rattle.std.specs.Prelude.{◌≡◌, ◌⊎◌, ℕ, Bool, true, false, Result, Ok, Err}
 use Rattle.ill_saved.specs.declared.fault.DeskFault.{DeskFault}
 use Rattle.ill_saved.specs.declared.fault.DeskFault.TheVariants as desks
 use Rattle.ill_tool.specs.declared.fault.ToolFault.{ToolFault}
@@ -38,3 +38,7 @@ abbrev pub exit_status : Result Bool ToolFault → ℕ
 exit_status (Ok true) = 0
 exit_status (Ok false) = 1
 exit_status (Err fault) = status_of fault
+
+-- what was done, or that the writer fails
+abbrev pub IsFlushed : Result Bool ToolFault → Result Bool ToolFault → Type 0
+IsFlushed done result = (result ≡ done) ⊎ (result ≡ Err Write)

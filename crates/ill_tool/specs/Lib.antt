@@ -15,3 +15,6 @@ pub mod Send
 pub mod Status
 pub mod New
 pub mod ExitStatus
+pub mod CommandLine
+pub mod Asked
+pub mod Commands

@@ -1,72 +1,15 @@
-//! What the words of a command line ask for.
+//! The command line of `ill`: its commands and their arguments, and what `clap` is told of them.
+
+ghost use Rattle.std.specs.Prelude.{◌≡◌};
+ghost use Rattle.ill_tool.specs.CommandLine.{word_of, name_read, id_of};
 
 use crate::help;
-use clap::error::ErrorKind;
-use clap::{Arg, ArgAction, ArgMatches, Command, Error};
-use std::alloc::{AllocError, Global};
-
-/// What a command line asks for.
-#[derive(Drop)]
-pub enum Request<'a> {
-    /// Show each APDU of the input: `ill show`.
-    Show,
-    /// Check the input and count its APDUs: `ill check`.
-    Check,
-    /// Perform a script of both sides of a transaction: `ill simulate`.
-    Simulate {
-        /// The group qualifier that is wished for.
-        group: &'a str,
-        /// The transaction qualifier that is wished for.
-        transaction: &'a str,
-    },
-    /// Perform a script of two desks: `ill simulate-desks`.
-    SimulateDesks,
-    /// Begin a desk in a file: `ill new`.
-    New {
-        /// The path of the file.
-        file: &'a str,
-        /// The role that is wished for.
-        role: &'a str,
-    },
-    /// Perform one action in a transaction: `ill act`.
-    Act {
-        /// The path of the file.
-        file: &'a str,
-        /// The group qualifier that is wished for.
-        group: &'a str,
-        /// The transaction qualifier that is wished for.
-        transaction: &'a str,
-        /// The day on which it is done, if one is said.
-        today: Option<&'a str>,
-        /// The words of the action.
-        words: Vec<&'a str>,
-    },
-    /// Take the APDUs of the input: `ill take`.
-    Take {
-        /// The path of the file.
-        file: &'a str,
-    },
-    /// Give the bytes of a message: `ill send`.
-    Send {
-        /// The path of the file.
-        file: &'a str,
-        /// The group qualifier that is wished for.
-        group: &'a str,
-        /// The transaction qualifier that is wished for.
-        transaction: &'a str,
-        /// The number of the message that is wished for.
-        number: &'a str,
-    },
-    /// Show the sides in a file: `ill status`.
-    Status {
-        /// The path of the file.
-        file: &'a str,
-    },
-}
+use clap::{Arg, ArgAction, Command, Error};
+use std::alloc::Global;
 
 /// A command of `ill`.
 #[derive(Clone, Copy)]
-enum Name {
+pub enum Name {
     New,
     Act,
     Take,
@@ -94,7 +37,9 @@ const NAMES: [Name; 9] = [
 
 impl Name {
     /// The word that stands for the command.
-    fn word<'a>(self) -> &'a str {
+    fn word<'a>(self) -> &'a str
+        ensures { result.now ≡ word_of self }
+    {
         match self {
             Name::New => "new",
             Name::Act => "act",
@@ -177,14 +122,16 @@ impl Name {
     }
 
     /// The command that a word stands for.
-    fn read(word: &str) -> Option<Name> {
+    pub fn read(word: &str) -> Option<Name>
+        ensures { result ≡ name_read word.now }
+    {
         NAMES.iter().copied().find(|name| name.word() == word)
     }
 }
 
 /// An argument of a command.
 #[derive(Clone, Copy)]
-enum Argument {
+pub enum Argument {
     /// The file of a desk that begins.
     NewFile,
     /// The file of a desk.
@@ -202,7 +149,9 @@ enum Argument {
 
 impl Argument {
     /// What clap calls it.
-    fn id<'a>(self) -> &'a str {
+    pub fn id<'a>(self) -> &'a str
+        ensures { result.now ≡ id_of self }
+    {
         match self {
             Argument::NewFile | Argument::File => "FILE",
             Argument::Role => "ROLE",
@@ -248,97 +197,8 @@ impl Argument {
     }
 }
 
-/// Reads the words of a command line, of which the first is the program's name.
-pub fn read_words<'a>(alloc: Global, words: &'a [&'a str]) -> Result<Request<'a>, Error> {
-    let matches = command(alloc)?.try_get_matches_from(words)?;
-    match matches.subcommand() {
-        Some((word, matches)) => requested(alloc, word, matches),
-        None => Err(unknown(alloc)?),
-    }
-}
-
-/// What the matches of the command with this word ask for.
-fn requested<'a>(
-    alloc: Global,
-    word: &str,
-    matches: &ArgMatches<'a>,
-) -> Result<Request<'a>, Error> {
-    match Name::read(word) {
-        Some(Name::New) => new_request(alloc, matches),
-        Some(Name::Act) => act_request(alloc, matches),
-        Some(Name::Take) => Ok(Request::Take {
-            file: text(alloc, matches, Argument::File)?,
-        }),
-        Some(Name::Send) => send_request(alloc, matches),
-        Some(Name::Status) => Ok(Request::Status {
-            file: text(alloc, matches, Argument::File)?,
-        }),
-        Some(Name::Show) => Ok(Request::Show),
-        Some(Name::Check) => Ok(Request::Check),
-        Some(Name::Simulate) => simulate_request(alloc, matches),
-        Some(Name::SimulateDesks) => Ok(Request::SimulateDesks),
-        None => Err(unknown(alloc)?),
-    }
-}
-
-/// What the matches of `ill new` ask for.
-fn new_request<'a>(alloc: Global, matches: &ArgMatches<'a>) -> Result<Request<'a>, Error> {
-    Ok(Request::New {
-        file: text(alloc, matches, Argument::NewFile)?,
-        role: text(alloc, matches, Argument::Role)?,
-    })
-}
-
-/// What the matches of `ill act` ask for.
-fn act_request<'a>(alloc: Global, matches: &ArgMatches<'a>) -> Result<Request<'a>, Error> {
-    let Some(words) = matches.get_strs(Argument::Words.id()) else {
-        return Err(unknown(alloc)?);
-    };
-    Ok(Request::Act {
-        file: text(alloc, matches, Argument::File)?,
-        group: text(alloc, matches, Argument::Group)?,
-        transaction: text(alloc, matches, Argument::Transaction)?,
-        today: matches.get_str(Argument::Today.id()),
-        words: Vec::from_slice(alloc, words)?,
-    })
-}
-
-/// What the matches of `ill send` ask for.
-fn send_request<'a>(alloc: Global, matches: &ArgMatches<'a>) -> Result<Request<'a>, Error> {
-    Ok(Request::Send {
-        file: text(alloc, matches, Argument::File)?,
-        group: text(alloc, matches, Argument::Group)?,
-        transaction: text(alloc, matches, Argument::Transaction)?,
-        number: text(alloc, matches, Argument::Number)?,
-    })
-}
-
-/// What the matches of `ill simulate` ask for.
-fn simulate_request<'a>(alloc: Global, matches: &ArgMatches<'a>) -> Result<Request<'a>, Error> {
-    Ok(Request::Simulate {
-        group: text(alloc, matches, Argument::Group)?,
-        transaction: text(alloc, matches, Argument::Transaction)?,
-    })
-}
-
-/// The text of an argument that the command has to have.
-fn text<'a>(alloc: Global, matches: &ArgMatches<'a>, argument: Argument) -> Result<&'a str, Error> {
-    match matches.get_str(argument.id()) {
-        Some(text) => Ok(text),
-        None => Err(unknown(alloc)?),
-    }
-}
-
-/// The fault of matches that lack what `command` asks for. clap lets none through that do.
-fn unknown(alloc: Global) -> Result<Error, AllocError> {
-    Command::new(alloc, "ill").error(
-        ErrorKind::MissingRequiredArgument,
-        "the words are no command",
-    )
-}
-
 /// The command line of `ill`.
-fn command<'a>(alloc: Global) -> Result<Command<'a>, Error> {
+pub fn command<'a>(alloc: Global) -> Result<Command<'a>, Error> {
     let mut command = Command::new(alloc, "ill")
         .about("Interlibrary loan by store-and-forward messages")
         .version(help::VERSION)

@@ -1,18 +1,19 @@
-//! The commands that keep a desk in a file. Their words are judged before the file is opened, but for
-//! those of an action. A command that may change the file holds its lock from before the load to its end.
+//! The commands that keep a desk in a file. Their arguments were read before, but for the words of an
+//! action. A command that may change the file holds its lock from before the load to its end.
 
-ghost use Rattle.std.specs.Prelude.{◌≡◌};
+ghost use Rattle.std.specs.Prelude.{◌≡◌, map, IfErr};
+ghost use Rattle.ill_saved.specs.Desk.{answer_of};
+ghost use Rattle.ill_tool.specs.Commands.{ActsAtFile, IsOpenFault, NewAtFile, SendsAtFile, ShowsFile, TakesAtFile, all_well};
 
 use crate::act::run_desk_act;
 use crate::fault::ToolFault;
 use crate::new::run_desk_new;
 use crate::send::run_desk_send;
-use crate::simulate::id;
 use crate::status::run_desk_status;
 use crate::take::run_desk_take;
 use ill_saved::{Desk, DeskFault, FileLock, FileStore, LockFiles, RECORD_LIMIT};
-use ill_values::Day;
-use ill_world::words::{number, who};
+use ill_values::{Day, Number, TxnId};
+use ill_world::Who;
 use std::alloc::Global;
 use std::io::{Read, Write};
 use std::rt::Files;
@@ -22,32 +23,33 @@ pub fn new<T: LockFiles, W: Write>(
     rt: &T,
     alloc: Global,
     file: &str,
-    role: &str,
+    role: Who,
     writer: &mut W,
-) -> Result<bool, ToolFault> {
-    let role = who(role.as_bytes()).ok_or(ToolFault::Arguments)?;
+) -> Result<bool, ToolFault>
+    ensures { NewAtFile (W.contents writer.old) (W.contents writer.new) result }
+{
     let lock = lock(rt, alloc, file)?;
     let store = FileStore::at(rt, alloc, file, RECORD_LIMIT)?;
     let begun = run_desk_new(alloc, store, role, writer);
     drop(lock);
-    begun?;
-    Ok(true)
+    end(begun)
 }
 
-/// `ill act`: performs one action in the transaction with these qualifiers.
+/// `ill act`: performs one action in a transaction.
 pub fn act<T: LockFiles, W: Write>(
     rt: &T,
     alloc: Global,
     file: &str,
-    (group, transaction): (&str, &str),
-    today: Option<&str>,
+    txn: &TxnId,
+    today: Option<Day>,
     words: &[&str],
     writer: &mut W,
-) -> Result<bool, ToolFault> {
-    let today = day(today)?;
-    let txn = id(alloc, group, transaction)?;
+) -> Result<bool, ToolFault>
+    ensures { ActsAtFile txn.now today (map (λ word. word.now) words.now)
+        (W.contents writer.old) (W.contents writer.new) result }
+{
     let (lock, mut desk) = open_locked(rt, alloc, file)?;
-    let acted = run_desk_act(alloc, &mut desk, &txn, today, words, writer);
+    let acted = run_desk_act(alloc, &mut desk, txn, today, words, writer);
     release(acted, desk, lock)
 }
 
@@ -58,28 +60,30 @@ pub fn take<T: LockFiles, R: Read, W: Write>(
     file: &str,
     reader: &mut R,
     writer: &mut W,
-) -> Result<bool, ToolFault> {
+) -> Result<bool, ToolFault>
+    ensures { TakesAtFile (R.remaining reader.old) (R.remaining reader.new)
+        (W.contents writer.old) (W.contents writer.new) result }
+{
     let (lock, mut desk) = open_locked(rt, alloc, file)?;
     let taken = run_desk_take(alloc, &mut desk, reader, writer);
     release(taken, desk, lock)
 }
 
-/// `ill send`: gives the bytes of a message of the transaction with these qualifiers.
+/// `ill send`: gives the bytes of a message of a transaction.
 pub fn send<T: Files, W: Write>(
     rt: &T,
     alloc: Global,
     file: &str,
-    (group, transaction): (&str, &str),
-    wanted: &str,
+    txn: &TxnId,
+    number: Number,
     writer: &mut W,
-) -> Result<bool, ToolFault> {
-    let txn = id(alloc, group, transaction)?;
-    let number = number(wanted.as_bytes()).ok_or(ToolFault::Arguments)?;
+) -> Result<bool, ToolFault>
+    ensures { SendsAtFile txn.now number (W.contents writer.old) (W.contents writer.new) result }
+{
     let desk = open(rt, alloc, file)?;
-    let sent = run_desk_send(alloc, &desk, &txn, number, writer);
+    let sent = run_desk_send(alloc, &desk, txn, number, writer);
     drop(desk);
-    sent?;
-    Ok(true)
+    all_well(sent)
 }
 
 /// `ill status`: shows the sides.
@@ -88,12 +92,33 @@ pub fn status<T: Files, W: Write>(
     alloc: Global,
     file: &str,
     writer: &mut W,
-) -> Result<bool, ToolFault> {
+) -> Result<bool, ToolFault>
+    ensures { ShowsFile (W.contents writer.old) (W.contents writer.new) result }
+{
     let desk = open(rt, alloc, file)?;
     let shown = run_desk_status(alloc, &desk, writer);
     drop(desk);
-    shown?;
-    Ok(true)
+    all_well(shown)
+}
+
+/// Answers that all went well, unless there was a fault.
+pub fn all_well<A: Drop>(answer: Result<A, ToolFault>) -> Result<bool, ToolFault>
+    ensures { result ≡ all_well answer }
+{
+    match answer {
+        Ok(_) => Ok(true),
+        Err(fault) => Err(fault),
+    }
+}
+
+/// Lets go what a beginning answered, and answers that all went well, unless there was a fault.
+fn end<D: Drop, S: Drop>(begun: Result<D, (ToolFault, S)>) -> Result<bool, ToolFault>
+    ensures { result ≡ all_well (answer_of begun) }
+{
+    match begun {
+        Ok(_) => Ok(true),
+        Err((fault, _)) => Err(fault),
+    }
 }
 
 /// The lock of a file.
@@ -101,7 +126,9 @@ fn lock<'a, T: LockFiles>(
     rt: &'a T,
     alloc: Global,
     file: &str,
-) -> Result<FileLock<'a, T>, ToolFault> {
+) -> Result<FileLock<'a, T>, ToolFault>
+    ensures { IfErr result IsOpenFault }
+{
     match FileLock::take(rt, alloc, file) {
         Ok(lock) => Ok(lock),
         Err(fault) => Err(DeskFault::from(fault).into()),
@@ -113,7 +140,9 @@ fn open_locked<'a, T: LockFiles>(
     rt: &'a T,
     alloc: Global,
     file: &str,
-) -> Result<(FileLock<'a, T>, Desk<FileStore<'a, T>>), ToolFault> {
+) -> Result<(FileLock<'a, T>, Desk<FileStore<'a, T>>), ToolFault>
+    ensures { IfErr result IsOpenFault }
+{
     let held = lock(rt, alloc, file)?;
     let opened = open(rt, alloc, file)?;
     Ok((held, opened))
@@ -137,18 +166,9 @@ fn open<'a, T: Files>(
     rt: &'a T,
     alloc: Global,
     file: &str,
-) -> Result<Desk<FileStore<'a, T>>, ToolFault> {
+) -> Result<Desk<FileStore<'a, T>>, ToolFault>
+    ensures { IfErr result IsOpenFault }
+{
     let store = FileStore::at(rt, alloc, file, RECORD_LIMIT)?;
     Ok(Desk::start(alloc, store)?)
-}
-
-/// The day that a word says, if there is a word.
-fn day(word: Option<&str>) -> Result<Option<Day>, ToolFault> {
-    match word {
-        None => Ok(None),
-        Some(word) => match Day::read(word.as_bytes()) {
-            Ok(day) => Ok(Some(day)),
-            Err(_) => Err(ToolFault::Arguments),
-        },
-    }
 }

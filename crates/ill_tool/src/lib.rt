@@ -13,6 +13,7 @@ mod keeper;
 mod lines;
 mod new;
 mod output;
+mod request;
 mod send;
 mod show;
 mod side_line;

@@ -1,14 +1,17 @@
 //! One command line, from its words to its exit status.
 
-ghost use Rattle.std.specs.Prelude.{◌≡◌};
-ghost use Rattle.ill_tool.specs.ExitStatus.{desk_status, exit_status, status_of};
+ghost use Rattle.std.specs.Prelude.{◌≡◌, ◌≤◌};
+ghost use Rattle.ill_tool.specs.Asked.{asked};
+ghost use Rattle.ill_tool.specs.Commands.{Runs};
+ghost use Rattle.ill_tool.specs.ExitStatus.{IsFlushed, desk_status, exit_status, status_of};
 
 use crate::check::run_check;
-use crate::command_line::{Request, read_words};
 use crate::fault::ToolFault;
-use crate::file::{act, new, send, status, take};
+use crate::file::{act, all_well, new, send, status, take};
+use crate::request::{Refusal, Request, read_words};
 use crate::show::run_show;
 use crate::simulate::{run_simulate, run_simulate_desks};
+use clap::Error;
 use clap::error::ErrorKind;
 use ill_saved::{DeskFault, LockFiles};
 use std::alloc::Global;
@@ -25,10 +28,12 @@ pub fn run_words<T: LockFiles, R: Read, W: Write, E: Write>(
     reader: &mut R,
     writer: &mut W,
     errors: &mut E,
-) -> u8 {
+) -> u8
+    ensures { result ≤ 3 }
+{
     match read_words(alloc, words) {
         Ok(request) => finish(perform(rt, alloc, &request, reader, writer), errors),
-        Err(error) => tell(&error, writer, errors),
+        Err(refusal) => refuse(&refusal, writer, errors),
     }
 }
 
@@ -57,13 +62,22 @@ fn finish_writing<W: Write>(
     mut writer: BufWriter<&mut W>,
     done: Result<bool, ToolFault>,
 ) -> Result<bool, ToolFault> {
-    let written = match done {
-        Err(ToolFault::Write) => Err(ToolFault::Write),
-        _ => writer.flush().map_err(|_| ToolFault::Write),
-    };
+    let flushed = flush(&mut writer, done);
     let _ = writer.into_parts();
-    written?;
-    done
+    flushed
+}
+
+/// Flushes a writer that has not failed, and answers what was done, or that the writer fails.
+fn flush<W: Write>(writer: &mut W, done: Result<bool, ToolFault>) -> Result<bool, ToolFault>
+    ensures { IsFlushed done result }
+{
+    if let Err(ToolFault::Write) = done {
+        return done;
+    }
+    match writer.flush() {
+        Ok(()) => done,
+        Err(_) => Err(ToolFault::Write),
+    }
 }
 
 /// Runs the engine of a command.
@@ -73,35 +87,44 @@ fn run<T: LockFiles, R: Read, W: Write>(
     request: &Request<'_>,
     reader: &mut R,
     writer: &mut W,
-) -> Result<bool, ToolFault> {
+) -> Result<bool, ToolFault>
+    ensures { Runs (asked request.now) (R.remaining reader.old) (R.remaining reader.new)
+        (W.contents writer.old) (W.contents writer.new) result }
+{
     match request {
-        Request::Show => run_show(alloc, reader, writer).and(Ok(true)),
-        Request::Check => run_check(alloc, reader, writer).and(Ok(true)),
+        Request::Show => all_well(run_show(alloc, reader, writer)),
+        Request::Check => all_well(run_check(alloc, reader, writer)),
         Request::Simulate { group, transaction } => {
-            run_simulate(alloc, group, transaction, reader, writer).and(Ok(true))
+            all_well(run_simulate(alloc, group, transaction, reader, writer))
         }
-        Request::SimulateDesks => run_simulate_desks(alloc, reader, writer).and(Ok(true)),
-        Request::New { file, role } => new(rt, alloc, file, role, writer),
+        Request::SimulateDesks => all_well(run_simulate_desks(alloc, reader, writer)),
+        Request::New { file, role } => new(rt, alloc, file, *role, writer),
         Request::Act {
             file,
-            group,
-            transaction,
+            txn,
             today,
             words,
-        } => act(rt, alloc, file, (group, transaction), *today, words, writer),
+        } => act(rt, alloc, file, txn, *today, words, writer),
         Request::Take { file } => take(rt, alloc, file, reader, writer),
-        Request::Send {
-            file,
-            group,
-            transaction,
-            number,
-        } => send(rt, alloc, file, (group, transaction), number, writer),
+        Request::Send { file, txn, number } => send(rt, alloc, file, txn, *number, writer),
         Request::Status { file } => status(rt, alloc, file, writer),
     }
 }
 
+/// Tells why words are no request, and answers the exit status.
+fn refuse<W: Write, E: Write>(refusal: &Refusal, writer: &mut W, errors: &mut E) -> u8
+    ensures { result ≤ 3 }
+{
+    match refusal {
+        Refusal::Usage(error) => tell(error, writer, errors),
+        Refusal::Fault(fault) => finish(flush(writer, Err(*fault)), errors),
+    }
+}
+
 /// Writes clap's text: help that was asked for to `writer`, and a refusal to `errors`.
-fn tell<W: Write, E: Write>(error: &clap::Error, writer: &mut W, errors: &mut E) -> u8 {
+fn tell<W: Write, E: Write>(error: &Error, writer: &mut W, errors: &mut E) -> u8
+    ensures { result ≤ 3 }
+{
     if error.kind() == ErrorKind::OutOfMemory {
         return finish(Err(ToolFault::OutOfMemory), errors);
     }
@@ -112,7 +135,7 @@ fn tell<W: Write, E: Write>(error: &clap::Error, writer: &mut W, errors: &mut E)
     finish(help(error, writer), errors)
 }
 
-fn help<W: Write>(error: &clap::Error, writer: &mut W) -> Result<bool, ToolFault> {
+fn help<W: Write>(error: &Error, writer: &mut W) -> Result<bool, ToolFault> {
     write!(writer, "{error}").map_err(|_| ToolFault::Write)?;
     writer.flush().map_err(|_| ToolFault::Write)?;
     Ok(true)
@@ -129,7 +152,8 @@ const FAILED: u8 = 3;
 
 /// Writes the line of a fault, if there is one, and answers the exit status.
 fn finish<E: Write>(outcome: Result<bool, ToolFault>, errors: &mut E) -> u8
-    ensures { result ≡ exit_status outcome }
+    ensures status { result ≡ exit_status outcome }
+    ensures most { result ≤ 3 }
 {
     match outcome {
         Ok(true) => 0,
@@ -155,7 +179,8 @@ fn write_fault<E: Write>(fault: ToolFault, errors: &mut E) {
 
 /// The exit status after a fault.
 fn status_after(fault: ToolFault) -> u8
-    ensures { result ≡ status_of fault }
+    ensures status { result ≡ status_of fault }
+    ensures most { result ≤ 3 }
 {
     match fault {
         ToolFault::Arguments | ToolFault::Der(_) | ToolFault::TooMany | ToolFault::Script(_) => BAD,
@@ -166,7 +191,8 @@ fn status_after(fault: ToolFault) -> u8
 
 /// The exit status after a fault of a side or its record.
 fn status_after_desk(fault: DeskFault) -> u8
-    ensures { result ≡ desk_status fault }
+    ensures status { result ≡ desk_status fault }
+    ensures most { result ≤ 3 }
 {
     match fault {
         DeskFault::Core(_)

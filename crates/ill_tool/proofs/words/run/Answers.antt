@@ -1,0 +1,11 @@
+use Rattle.std.proofs.Common.{refl, sym, subst}
+use Rattle.ill_tool.specs.declared.request.Request.{Request}
+use Rattle.ill_tool.specs.Asked.{asked}
+use Rattle.ill_tool.specs.Commands.{Runs}
+use Rattle.ill_tool.proofs.words.run.Goals as goal
+
+pub returns-in-Send : goal.returns-in-Send
+returns-in-Send g c =
+    let left = g.R.Read.remaining c.args.reader.now in
+    subst (λ (request : Request). Runs (asked request) left left (g.W.Write.contents c.args.writer.now) (g.W.Write.contents c.send.new.writer) c.send.result)
+    (sym c.in-Send.is) (refl, c.send.ensures)

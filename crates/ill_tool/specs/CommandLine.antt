@@ -1,0 +1,34 @@
+-- The words that a command line has for commands, and what `clap` calls their arguments.
+use Rattle.std.specs.Prelude.{ℕ, List, [], ◌∷◌, codes, Option, find, bytes_eq}
+use Rattle.ill_tool.specs.declared.command_line.Name.{Name}
+use Rattle.ill_tool.specs.declared.command_line.Name.TheVariants.{New, Act, Take, Send, Status, Show, Check, Simulate, SimulateDesks}
+use Rattle.ill_tool.specs.declared.command_line.Argument.{Argument}
+use Rattle.ill_tool.specs.declared.command_line.Argument.TheVariants.{NewFile, File, Role, Group, Transaction, Today, Words, Number}
+
+-- the word of a command
+abbrev pub word_of : Name → List ℕ
+word_of New = codes "new"
+word_of Act = codes "act"
+word_of Take = codes "take"
+word_of Send = codes "send"
+word_of Status = codes "status"
+word_of Show = codes "show"
+word_of Check = codes "check"
+word_of Simulate = codes "simulate"
+word_of SimulateDesks = codes "simulate-desks"
+
+-- the command that a word stands for
+abbrev pub name_read : List ℕ → Option Name
+name_read word = find (λ name. bytes_eq (word_of name) word)
+    (New ∷ Act ∷ Take ∷ Send ∷ Status ∷ Show ∷ Check ∷ Simulate ∷ SimulateDesks ∷ [])
+
+-- what an argument is called
+abbrev pub id_of : Argument → List ℕ
+id_of NewFile = codes "FILE"
+id_of File = codes "FILE"
+id_of Role = codes "ROLE"
+id_of Group = codes "GROUP"
+id_of Transaction = codes "TRANSACTION"
+id_of Today = codes "today"
+id_of Words = codes "WORDS"
+id_of Number = codes "NUMBER"

@@ -1,6 +1,6 @@
 -- What one more APDU changes in a list of issued ones.
 use Rattle.std.proofs.Common.{rules, arith, ◌≡◌, ◌⊎◌, inl, inr, ℕ, zero, suc, ◌+◌, ◌<◌, ◌≤◌, Bool, true, false, not, ◌&&◌, ◌||◌, nat_eq, List, [], ◌∷◌, ◌++◌, length, take, drop, Option, Some, None, Ok, Err, nat_lt, if◌then◌else◌, refl, ap, append-nil, length-append, eq-eqb, subst, sym, ◌∙◌}
-use Rattle.std.proofs.lemmas.Bool.{and_parts, and_from, or_from}
+use Rattle.std.proofs.lemmas.Bool.{and_parts, and_from, or_from, eqb-true}
 use Rattle.std.proofs.Math.Bool.{or-false}
 use Rattle.std.specs.List.{list_all, filter_map, cons_option, last_or}
 use Rattle.std.specs.Option.{option_or}
@@ -13,8 +13,8 @@ use Rattle.ill_values.specs.declared.apdu.Apdu.{Apdu}
 use Rattle.ill_values.specs.declared.apdu.Body.{Body}
 use Rattle.ill_core.specs.declared.refusal.Refusal.TheVariants.{NumbersUsed}
 use Rattle.ill_core.specs.Numbers.{is_the}
-use Rattle.ill_core.specs.Bodies.{is_cancel, is_ill_request}
-use Rattle.ill_core.specs.Issued.{was, number_of_cancel, next_number, with_next, next_apdu, are_numbered, is_same_txn, has, last_of}
+use Rattle.ill_core.specs.Bodies.{is_cancel, is_renew, is_ill_request}
+use Rattle.ill_core.specs.Issued.{was, number_of_cancel, number_of_renew, next_number, with_next, next_apdu, are_numbered, is_same_txn, has, last_of}
 use Rattle.ill_core.specs.Requester.{begins_with_request}
 use Rattle.ill_core.specs.Issued.{is_none}
 
@@ -74,7 +74,7 @@ numbered_front txn number (suc count) (a ∷ apdus) numbered =
 pub not_true : (b : Bool) → not b ≡ true → b ≡ false
 not_true b h = search rules
 
-next_of : (n number : ℕ) → (if nat_lt n 255 then Ok (n + 1) else Err NumbersUsed) ≡ Ok number → (number ≡ n + 1) × (n < 255)
+pub next_of : (n number : ℕ) → (if nat_lt n 255 then Ok (n + 1) else Err NumbersUsed) ≡ Ok number → (number ≡ n + 1) × (n < 255)
 next_of n number h = search rules
 
 pub same_txn : (txn : Qualifiers) → is_same_txn txn txn ≡ true
@@ -138,6 +138,28 @@ last_of_next f apdus a = ap (last_or None) (filter_map-append f apdus (a ∷ [])
 -- what is found in the APDU issued last is the last
 pub last_of_more : {X : Type 0} (f : Apdu → Option X) (apdus : List Apdu) (a : Apdu) (x : X) → f a ≡ Some x → last_of f (apdus ++ a ∷ []) ≡ Some x
 last_of_more f apdus a x there = ap (last_or None) (found_more f apdus a x there) ∙ last_more None (filter_map f apdus) x
+
+-- a number that is found in an APDU, or before it, is below the next one
+number_found : (number a_number m : ℕ) (is_one : Bool) (o : Option ℕ) → a_number ≡ number → ((m : ℕ) → o ≡ Some m → m < number)
+    → option_or (if is_one then Some a_number else None) o ≡ Some m → m < number + 1
+number_found number a_number m true o is within found = search rules
+number_found number a_number m false o is within found = omega (arith, within m found)
+
+-- the number of the last Renew is below that which comes next
+renew_below : (txn : Qualifiers) (number : ℕ) (apdus : List Apdu) (o : Option ℕ) (n : ℕ) → ((m : ℕ) → o ≡ Some m → m < number)
+    → are_numbered txn number apdus ≡ true → last_or o (filter_map number_of_renew apdus) ≡ Some n → n < number + length apdus
+renew_below txn number [] o n within numbered found = omega (arith, within n found)
+renew_below txn number (a ∷ apdus) o n within numbered found =
+    let parts : ((is_same_txn a.txn txn && nat_eq a.number number) ≡ true) × (are_numbered txn (number + 1) apdus ≡ true) = and_parts _ _ (sym (numbered_cons txn number a apdus) ∙ numbered) in
+    let same : a.number ≡ number = eqb-true a.number number (and_parts (is_same_txn a.txn txn) (nat_eq a.number number) parts.0).1 in
+    let behind : n < number + 1 + length apdus =
+    renew_below txn (number + 1) apdus (option_or (number_of_renew a) o) n (λ m. number_found number a.number m (is_renew a.body) o same within) parts.1
+    (sym (found_first o (number_of_renew a) (filter_map number_of_renew apdus)) ∙ found) in
+    omega (arith, behind)
+
+-- the number of the last Renew is one of those that were issued
+pub last_renew_within : (txn : Qualifiers) (apdus : List Apdu) (n : ℕ) → are_numbered txn 1 apdus ≡ true → last_of number_of_renew apdus ≡ Some n → n ≤ length apdus
+last_renew_within txn apdus n numbered found = let below : n < 1 + length apdus = renew_below txn 1 apdus None n (λ m no. search rules) numbered found in omega (arith, below)
 
 same_body : (a b : Apdu) → ◌≡◌ {A = List Apdu} (a ∷ []) (b ∷ []) → a.body ≡ b.body
 same_body a b same = search rules

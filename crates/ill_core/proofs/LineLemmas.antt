@@ -1,6 +1,11 @@
 -- Lines of a table of actions, of either role.
-use Rattle.std.proofs.Common.{rules, ◌≡◌, Bool, true, false, Result, Ok, Err, if◌then◌else◌, refl, subst}
+use Rattle.std.proofs.Common.{rules, arith, ◌≡◌, ℕ, ◌≤◌, Bool, true, false, List, [], ◌∷◌, length, length-append, Result, Ok, Err, if◌then◌else◌, refl, subst}
+use Rattle.ill_values.specs.TxnId.{Qualifiers}
+use Rattle.ill_values.specs.declared.apdu.Apdu.{Apdu}
+use Rattle.ill_values.specs.declared.apdu.Body.{Body}
 use Rattle.ill_core.specs.declared.refusal.Refusal.{Refusal}
+use Rattle.ill_core.specs.Issued.{next_apdu, next_number, with_next}
+use Rattle.ill_core.proofs.IssuedLemmas.{next_of}
 
 pub line_is : {R : Type 0} (here row : R) → ◌≡◌ {A = Result R Refusal} (Ok here) (Ok row) → here ≡ row
 line_is here row e = search rules
@@ -19,3 +24,10 @@ is_this P here row there e = subst P (line_is here row e) there
 -- behind the last line
 pub no_more : {R : Type 0} (P : R → Type 0) (refusal : Refusal) (row : R) → Err refusal ≡ Ok row → P row
 no_more P refusal row e = search rules
+
+-- ---- numbers
+
+-- A list to which a number is left has at most 255 APDUs with the next one.
+pub few_with_next : (txn : Qualifiers) (apdus : List Apdu) (body : Body) (number : ℕ) → next_number apdus ≡ Ok number → length (with_next txn apdus body) ≤ 255
+few_with_next txn apdus body number left =
+    omega (arith, (next_of (length apdus) number left).1, length-append apdus (next_apdu txn apdus body ∷ []))

@@ -1,5 +1,5 @@
 -- What each row of a requester's two tables changes.
-use Rattle.std.proofs.Common.{rules, ◌≡◌, ◌⊎◌, ℕ, ◌+◌, Bool, true, false, not, ◌&&◌, [], ◌∷◌, ◌++◌, length, Option, Some, None, is_some, Result, Ok, Err, if◌then◌else◌, refl, subst, ◌∙◌}
+use Rattle.std.proofs.Common.{rules, ◌≡◌, ◌⊎◌, ℕ, ◌+◌, ◌≤◌, Bool, true, false, not, ◌&&◌, [], ◌∷◌, ◌++◌, length, Option, Some, None, is_some, Result, Ok, Err, if◌then◌else◌, refl, subst, ◌∙◌}
 use Rattle.std.specs.Option.{unwrap_or}
 use Rattle.std.proofs.lemmas.Bool.{and_parts, cond_both}
 use Rattle.ill_values.specs.Day.{Date}
@@ -27,7 +27,7 @@ use Rattle.ill_core.specs.declared.refusal.Refusal.{Refusal}
 use Rattle.ill_core.specs.RequesterFacts.{Fact, Shows, Tells, KeepsDue, Holds, ShowsRefused, AnswersOnce, replied_number}
 use Rattle.ill_core.specs.RequesterFacts as facts
 use Rattle.ill_core.proofs.IssuedLemmas.{was_more, still_cancel, last_cancel_more, older_cancel}
-use Rattle.ill_core.proofs.LineLemmas.{at_line, is_this, no_more}
+use Rattle.ill_core.proofs.LineLemmas.{at_line, few_with_next, is_this, no_more}
 use Rattle.ill_core.proofs.RequesterAnswers.{silent_once, reply_once, held_number}
 
 not_both : {P : Type 0} (b : Bool) → b ≡ false → b ≡ true → P
@@ -276,3 +276,12 @@ by_row P x new (Ok row) (Ok n) leads acted = subst P (ok_is (record_after x row)
 pub of_acts : (P : RequesterRecord → Type 0) (x new : RequesterRecord) (wish : Wish)
     → ((row : Line) → line_of x wish ≡ Ok row → Issues x row → P (record_after x row)) → acts x wish ≡ Ok new → P new
 of_acts P x new wish leads acted = by_row P x new (line_of x wish) (next_number x.issued) (λ row there. leads row there (wish_row x wish row there)) acted
+
+by_few : (x new : RequesterRecord) (found : Result Line Refusal) (number : Result ℕ Refusal) → next_number x.issued ≡ number → acts_by x found number ≡ Ok new → length new.issued ≤ 255
+by_few x new (Err refusal) number next acted = search rules
+by_few x new (Ok row) (Err refusal) next acted = search rules
+by_few x new (Ok row) (Ok n) next acted = subst (λ (r : RequesterRecord). length r.issued ≤ 255) (ok_is (record_after x row) new acted) (few_with_next x.txn x.issued row.body n next)
+
+-- A wish leaves at most 255 messages.
+pub acts_few : (x new : RequesterRecord) (wish : Wish) → acts x wish ≡ Ok new → length new.issued ≤ 255
+acts_few x new wish = by_few x new (line_of x wish) (next_number x.issued) refl

@@ -75,7 +75,7 @@ takes_request y a = of_takes (KeepsRequest y) y a (λ how. how.request) (λ said
 pub acts_kept : (y new : ResponderRecord) (deed : Deed) (today : Date) → acts y deed today ≡ Ok new → IsResponder y → IsResponder new
 acts_kept y new deed today = of_acts (λ r. IsResponder y → IsResponder r) y new deed today (λ line is how h. is_responder _ (line_kept y line (responder_rules y h) is))
 
-not_both : {P : Type 0} (b : Bool) → b ≡ false → b ≡ true → P
+pub not_both : {P : Type 0} (b : Bool) → b ≡ false → b ≡ true → P
 not_both b is_false is_true = search rules
 
 -- the states that are final
@@ -167,7 +167,8 @@ pub takes_answer_last : (question : Question) (y : ResponderRecord) (a : Apdu) �
 takes_answer_last question y a =
     of_takes (AnswersLast question y) y a (λ how b n same is. not_longer y.issued _ b how.issued same) (λ said how. issues_answer question y _ _ how)
 
-last_same : (question : Question) (y : ResponderRecord) (body : Body) (next : State) → last_asked question (issues_to y body next) ≡ last_asked question y
+-- A line keeps the last question.
+pub last_same : (question : Question) (y : ResponderRecord) (body : Body) (next : State) → last_asked question (issues_to y body next) ≡ last_asked question y
 last_same MayCancel y body next = refl
 last_same MayRenew y body next = refl
 
@@ -209,7 +210,8 @@ each_answered ns n h =
       below = λ is. search rules;
     }
 
-known : (o : Option ℕ) (n : ℕ) (waiting : Bool) → implies waiting (is_some o) ≡ true → waiting ≡ true → n ≡ unwrap_or o 0 → o ≡ Some n
+-- The last question is there while it waits.
+pub known : (o : Option ℕ) (n : ℕ) (waiting : Bool) → implies waiting (is_some o) ≡ true → waiting ≡ true → n ≡ unwrap_or o 0 → o ≡ Some n
 known o n waiting there is same = search rules
 
 answer_issued : (question : Question) (y : ResponderRecord) (body : Body) (next : State) (o : Option ℕ) → answered_number question body ≡ o → Issues y body next
@@ -249,16 +251,17 @@ moves_each question y new number body same (inr asked) h =
     (subst (λ o. AnsweredOnce (answers_to question y.issued) o (waits question new.state)) (sym asked.2) (each_asked _ _ _ _ number asked.1 h))
 
 -- an ILL-Answer answers no question
+pub no_answer : (question : Question) → answered_number question (types.IllAnswer results.Unfilled) ≡ None
+no_answer MayCancel = refl
+no_answer MayRenew = refl
+
+-- an ILL-Answer keeps each question answered once
 unfilled_each : (question : Question) (y : ResponderRecord) → Issues y (types.IllAnswer results.Unfilled) NotSupplied → AnswersOnce question y
     → AnswersOnce question (issues_to y (types.IllAnswer results.Unfilled) NotSupplied)
 unfilled_each question y how h =
     subst (λ ns. AnsweredOnce ns (last_asked question (issues_to y (types.IllAnswer results.Unfilled) NotSupplied)) (waits question NotSupplied))
     (sym (found_none (λ a. answered_number question a.body) y.issued (next_apdu y.txn y.issued (types.IllAnswer results.Unfilled)) (no_answer question)))
     (subst (λ o. AnsweredOnce (answers_to question y.issued) o (waits question NotSupplied)) (sym (last_same question y _ _)) (each_kept _ _ _ _ (how.asked question) h))
-  where
-    no_answer : (q : Question) → answered_number q (types.IllAnswer results.Unfilled) ≡ None
-    no_answer MayCancel = refl
-    no_answer MayRenew = refl
 
 pub takes_once : (question : Question) (y : ResponderRecord) (a : Apdu) → AnswersOnce question y → AnswersOnce question (takes y a).1
 takes_once question y a =

@@ -1,5 +1,5 @@
 -- What each line of a responder's two tables changes.
-use Rattle.std.proofs.Common.{rules, ◌≡◌, ◌⊎◌, inl, inr, ℕ, ◌+◌, Bool, true, false, not, ◌&&◌, ◌||◌, List, [], ◌∷◌, Option, Some, None, Result, Ok, Err, if◌then◌else◌, refl, ap, sym, subst}
+use Rattle.std.proofs.Common.{rules, ◌≡◌, ◌⊎◌, inl, inr, ℕ, ◌+◌, ◌≤◌, length, Bool, true, false, not, ◌&&◌, ◌||◌, List, [], ◌∷◌, Option, Some, None, Result, Ok, Err, if◌then◌else◌, refl, ap, sym, subst}
 use Rattle.std.specs.Option.{unwrap_or}
 use Rattle.std.proofs.lemmas.Bool.{cond_both}
 use Rattle.ill_values.specs.Day.{Date}
@@ -23,6 +23,7 @@ use Rattle.ill_core.specs.Answers.{unless_refused}
 use Rattle.ill_core.specs.ResponderActions.{Line, line_of, acts, acts_by, issues_to, record_after}
 use Rattle.ill_core.specs.ResponderDeliveries.{takes, take_message, answers_no}
 use Rattle.ill_core.specs.ResponderFacts.{Tells, Requested, Accepted, CancelAsked, Arrived, SentBack, Question, KeepsRequest, KeepsLast, TakesNew, answered_number, last_asked, waits, is_unsupplied, is_cancelled, is_end, ended, ends_in}
+use Rattle.ill_core.proofs.LineLemmas.{few_with_next}
 use Rattle.ill_core.proofs.ResponderLines.{IsLine, is_line, answers, allows_cancel, refuses_cancel, ships, renews, refuses_renewal, refuses_late, reminds, reminds_renewing, recalls, checks_in, expires}
 
 -- a line that issues this, and leads to this state
@@ -225,3 +226,12 @@ of_acts P y new deed today leads done =
     by_line P y new (line_of y deed today) (next_number y.issued) (λ line there.
     let is = is_line y deed today line there in
     leads line is (issues y.txn y.state y.accepted y.last_cancel y.last_renew y.received y.request y.issued line is)) done
+
+by_few : (y new : ResponderRecord) (found : Result Line Refusal) (number : Result ℕ Refusal) → next_number y.issued ≡ number → acts_by y found number ≡ Ok new → length new.issued ≤ 255
+by_few y new (Err refusal) number next done = search rules
+by_few y new (Ok line) (Err refusal) next done = search rules
+by_few y new (Ok line) (Ok n) next done = subst (λ (r : ResponderRecord). length r.issued ≤ 255) (ok_is (record_after y line) new done) (few_with_next y.txn y.issued line.body n next)
+
+-- A deed leaves at most 255 messages.
+pub acts_few : (y new : ResponderRecord) (deed : Deed) (today : Date) → acts y deed today ≡ Ok new → length new.issued ≤ 255
+acts_few y new deed today = by_few y new (line_of y deed today) (next_number y.issued) refl

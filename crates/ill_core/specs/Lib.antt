@@ -13,9 +13,11 @@ pub mod RequesterTables
 pub mod RequesterActions
 pub mod RequesterDeliveries
 pub mod RequesterFacts
+pub mod RequesterNotices
 pub mod Responder
 pub mod ResponderRules
 pub mod ResponderActions
 pub mod ResponderTables
 pub mod ResponderDeliveries
 pub mod ResponderFacts
+pub mod ResponderNotices

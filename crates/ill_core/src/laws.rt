@@ -6,15 +6,16 @@ mod requester;
 mod responder;
 
 pub use requester::{
-    requester_answers_once, requester_follows, requester_has_begun, requester_holds,
-    requester_is_final, requester_is_quiet, requester_issues, requester_keeps_due,
-    requester_keeps_rules, requester_keeps_txn, requester_replies, requester_rules,
-    requester_shows, requester_stays_later,
+    requester_answers_once, requester_follows, requester_has_begun, requester_has_heard,
+    requester_holds, requester_is_final, requester_is_quiet, requester_issues, requester_keeps_due,
+    requester_keeps_rules, requester_keeps_txn, requester_reflects, requester_replies,
+    requester_rules, requester_shows, requester_stays_later,
 };
 pub use responder::{
     responder_answers_last, responder_answers_once, responder_ends, responder_ends_once,
-    responder_enters_by_end, responder_follows, responder_has_begun, responder_is_final,
+    responder_enters_by_end, responder_follows, responder_grants_rise, responder_has_answered_last,
+    responder_has_begun, responder_has_heard, responder_is_final, responder_is_overdue,
     responder_is_quiet, responder_issues, responder_keeps_last, responder_keeps_request,
-    responder_keeps_rules, responder_keeps_txn, responder_rules, responder_shows,
-    responder_stays_later,
+    responder_keeps_rules, responder_keeps_txn, responder_recalls, responder_rules,
+    responder_shows, responder_stays_later, responder_was_asked,
 };

@@ -1,6 +1,6 @@
 //! The requester's rows.
 
-ghost use Rattle.std.specs.Prelude.{◌≡◌, ◌↔◌, ◌⊎◌, ◌+◌, ◌&&◌, ℕ, List, [], ◌∷◌, ◌++◌, length, Option, Some, is_some, true, false, Ok};
+ghost use Rattle.std.specs.Prelude.{◌≡◌, ◌↔◌, ◌⊎◌, ◌+◌, ◌≤◌, ◌&&◌, ℕ, List, [], ◌∷◌, ◌++◌, length, Option, Some, is_some, true, false, Ok};
 ghost use Rattle.ill_values.specs.Day.{Date};
 ghost use Rattle.ill_values.specs.declared.apdu.Apdu.{Apdu};
 ghost use Rattle.ill_values.specs.declared.apdu.Body.{Body};
@@ -10,6 +10,7 @@ ghost use Rattle.ill_core.specs.declared.state.State.TheVariants as states;
 ghost use Rattle.ill_core.specs.declared.taking.Taking.TheVariants.{Taken};
 ghost use Rattle.ill_core.specs.State.{is_among};
 ghost use Rattle.ill_core.specs.Numbers.{is_the};
+ghost use Rattle.ill_core.specs.Bodies.{is_requesters};
 ghost use Rattle.ill_core.specs.Issued.{is_same_txn, IssuesNext};
 ghost use Rattle.ill_core.specs.Requester.{RequesterRecord, IsRequester, later, last_cancel};
 ghost use Rattle.ill_core.specs.RequesterRules.{RequesterRules};
@@ -17,12 +18,15 @@ ghost use Rattle.ill_core.specs.RequesterActions.{acts};
 ghost use Rattle.ill_core.specs.RequesterDeliveries.{takes};
 ghost use Rattle.ill_core.specs.RequesterFacts.{Fact, Shows, Tells, KeepsDue, Holds, Replies, LeadsTo, AnswersOnce};
 ghost use Rattle.ill_core.specs.RequesterFacts as facts;
+ghost use Rattle.ill_core.specs.RequesterNotices.{Notice, Reflects, Attests, has_heard, reopens};
 
-/// A wish issues exactly one APDU, with the next number, and a message none.
+/// A wish issues exactly one APDU, with the next number, and a message none. There are at most 255.
 pub fn requester_issues()
     ensures acts { (x new : RequesterRecord) (wish : Wish) → acts x wish ≡ Ok new →
         IssuesNext x.txn x.issued new.issued }
     ensures takes { (x : RequesterRecord) (a : Apdu) → (takes x a).1.issued ≡ x.issued }
+    ensures few { (x new : RequesterRecord) (wish : Wish) → acts x wish ≡ Ok new →
+        length new.issued ≤ 255 }
 {}
 
 /// The transaction stays.
@@ -125,4 +129,22 @@ pub fn requester_follows()
         a.body ≡ types.CancelReply c true → is_the c (last_cancel x) ≡ true →
         is_among (states.CancelPending ∷ states.Cancelled ∷ []) x.state ≡ true →
         LeadsTo (states.Cancelled ∷ []) (takes x a) }
+{}
+
+/// A record that keeps its rules reflects after a wish what it reflected before; after a message it reflects that,
+/// or what the message attests.
+pub fn requester_reflects()
+    ensures acts { (x new : RequesterRecord) (wish : Wish) (notice : Notice) → acts x wish ≡ Ok new →
+        IsRequester x → Reflects new notice → Reflects x notice }
+    ensures takes { (x : RequesterRecord) (a : Apdu) (notice : Notice) → IsRequester x →
+        Reflects (takes x a).1 notice → Reflects x notice ⊎ Attests a.number a.body notice }
+{}
+
+/// A record has heard a message of the transaction once that has come, and until one comes that reopens it.
+pub fn requester_has_heard()
+    ensures takes { (x : RequesterRecord) (a : Apdu) → is_same_txn a.txn x.txn ≡ true →
+        is_requesters a.body ≡ false → has_heard (takes x a).1 a.number a.body ≡ true }
+    ensures stays { (x : RequesterRecord) (a : Apdu) (number : ℕ) (body : Body) →
+        reopens a.body body ≡ false → has_heard x number body ≡ true →
+        has_heard (takes x a).1 number body ≡ true }
 {}

@@ -1,6 +1,6 @@
 //! The responder's rows.
 
-ghost use Rattle.std.specs.Prelude.{◌≡◌, ◌↔◌, ◌⊎◌, ℕ, [], ◌∷◌, is_some, true, false, Ok};
+ghost use Rattle.std.specs.Prelude.{◌≡◌, ◌↔◌, ◌⊎◌, ◌≤◌, ℕ, [], ◌∷◌, length, is_some, true, false, Ok};
 ghost use Rattle.ill_values.specs.Day.{Date};
 ghost use Rattle.ill_values.specs.declared.apdu.Apdu.{Apdu};
 ghost use Rattle.ill_values.specs.declared.apdu.Body.TheVariants as types;
@@ -9,20 +9,26 @@ ghost use Rattle.ill_core.specs.declared.state.State.TheVariants as states;
 ghost use Rattle.ill_core.specs.declared.taking.Taking.TheVariants.{Taken};
 ghost use Rattle.ill_core.specs.State.{is_among};
 ghost use Rattle.ill_core.specs.Rules.{implies};
-ghost use Rattle.ill_core.specs.Bodies.{is_ill_request};
+ghost use Rattle.ill_core.specs.Bodies.{is_ill_request, is_requesters};
 ghost use Rattle.ill_core.specs.Issued.{is_same_txn, IssuesNext};
 ghost use Rattle.ill_core.specs.Responder.{ResponderRecord, IsResponder, later};
 ghost use Rattle.ill_core.specs.ResponderRules.{ResponderRules};
 ghost use Rattle.ill_core.specs.ResponderActions.{acts};
 ghost use Rattle.ill_core.specs.ResponderDeliveries.{takes};
-ghost use Rattle.ill_core.specs.ResponderFacts.{Fact, Shows, Tells, KeepsRequest, IssuesUnfilled, StaysLater, Ends, EntersByEnd, EndsOnce, Question, MayCancel, waits, last_asked, AnswersLast, KeepsLast, TakesNew, AnswersOnce, LeadsTo};
+ghost use Rattle.ill_values.specs.declared.apdu.Body.{Body};
+ghost use Rattle.ill_core.specs.ResponderNotices.{WasAsked, HasAnsweredLast, RecallFits, ShipsBeforeRecall, GrantsRise, OverdueFits, GrantsBeforeOverdue, has_heard, reopens};
+ghost use Rattle.ill_core.specs.ResponderFacts.{Fact, Shows, Tells, KeepsRequest, IssuesUnfilled, StaysLater, Ends, EntersByEnd, EndsOnce, Question, MayCancel, MayRenew, asks, waits, last_asked, AnswersLast, KeepsLast, TakesNew, AnswersOnce, LeadsTo};
 
 /// A deed issues exactly one APDU, with the next number; a message none, or to a Conditional-Reply no
-/// one ILL-Answer unfilled.
+/// one ILL-Answer unfilled. There are at most 255.
 pub fn responder_issues()
     ensures acts { (y new : ResponderRecord) (deed : Deed) (today : Date) →
         acts y deed today ≡ Ok new → IssuesNext y.txn y.issued new.issued }
     ensures takes { (y : ResponderRecord) (a : Apdu) → IssuesUnfilled y a.body (takes y a).1 }
+    ensures few { (y new : ResponderRecord) (deed : Deed) (today : Date) → acts y deed today ≡ Ok new →
+        length new.issued ≤ 255 }
+    ensures few_taken { (y : ResponderRecord) (a : Apdu) → length y.issued ≤ 255 →
+        length (takes y a).1.issued ≤ 255 }
 {}
 
 /// The transaction stays.
@@ -150,4 +156,59 @@ pub fn responder_follows()
     ensures { (y : ResponderRecord) (a : Apdu) → is_same_txn a.txn y.txn ≡ true →
         a.body ≡ types.Returned → is_among later y.state ≡ true →
         LeadsTo (states.Returned ∷ states.CheckedIn ∷ []) (takes y a) }
+{}
+
+/// What was asked was asked before, or it is the message that came.
+pub fn responder_was_asked()
+    ensures acts { (question : Question) (y new : ResponderRecord) (deed : Deed) (today : Date) (number : ℕ) →
+        acts y deed today ≡ Ok new →
+        implies (waits question y.state) (is_some (last_asked question y)) ≡ true →
+        WasAsked question new number → WasAsked question y number }
+    ensures takes { (question : Question) (y : ResponderRecord) (a : Apdu) (number : ℕ) →
+        WasAsked question (takes y a).1 number →
+        WasAsked question y number ⊎ ((asks question a.body ≡ true) × (a.number ≡ number)) }
+{}
+
+/// The last Cancel and the last Renew were answered, unless they wait, or the item came back.
+pub fn responder_has_answered_last()
+    ensures acts { (question : Question) (y new : ResponderRecord) (deed : Deed) (today : Date) →
+        acts y deed today ≡ Ok new →
+        implies (waits question y.state) (is_some (last_asked question y)) ≡ true →
+        HasAnsweredLast question y → HasAnsweredLast question new }
+    ensures takes { (question : Question) (y : ResponderRecord) (a : Apdu) →
+        HasAnsweredLast question y → HasAnsweredLast question (takes y a).1 }
+{}
+
+/// A Recall is issued after the Shipped, and stands in RECALL, RETURNED and CHECKED-IN alone.
+pub fn responder_recalls()
+    ensures acts { (y new : ResponderRecord) (deed : Deed) (today : Date) → acts y deed today ≡ Ok new →
+        RecallFits y → ShipsBeforeRecall y.issued → RecallFits new × ShipsBeforeRecall new.issued }
+    ensures takes { (y : ResponderRecord) (a : Apdu) → RecallFits y → ShipsBeforeRecall y.issued →
+        RecallFits (takes y a).1 × ShipsBeforeRecall (takes y a).1.issued }
+{}
+
+/// An Overdue is issued for the due date, after the grant of it, and one for the due date stands in OVERDUE,
+/// RENEW/OVERDUE, RECALL, RETURNED and CHECKED-IN alone.
+pub fn responder_is_overdue()
+    ensures acts { (y new : ResponderRecord) (deed : Deed) (today : Date) → acts y deed today ≡ Ok new →
+        IsResponder y → OverdueFits y → GrantsBeforeOverdue y.issued →
+        OverdueFits new × GrantsBeforeOverdue new.issued }
+    ensures takes { (y : ResponderRecord) (a : Apdu) → OverdueFits y → GrantsBeforeOverdue y.issued →
+        OverdueFits (takes y a).1 × GrantsBeforeOverdue (takes y a).1.issued }
+{}
+
+/// Of two dates that were granted, the one that answers the later Renew is the later one.
+pub fn responder_grants_rise()
+    ensures acts { (y new : ResponderRecord) (deed : Deed) (today : Date) → acts y deed today ≡ Ok new →
+        IsResponder y → AnswersOnce MayRenew y → GrantsRise y.issued → GrantsRise new.issued }
+    ensures takes { (y : ResponderRecord) (a : Apdu) → GrantsRise y.issued → GrantsRise (takes y a).1.issued }
+{}
+
+/// A record has heard a message of the transaction once that has come, and until one comes that reopens it.
+pub fn responder_has_heard()
+    ensures takes { (y : ResponderRecord) (a : Apdu) → is_same_txn a.txn y.txn ≡ true →
+        is_requesters a.body ≡ true → has_heard (takes y a).1 a.number a.body ≡ true }
+    ensures stays { (y : ResponderRecord) (a : Apdu) (number : ℕ) (body : Body) →
+        reopens a.body body ≡ false → has_heard y number body ≡ true →
+        has_heard (takes y a).1 number body ≡ true }
 {}

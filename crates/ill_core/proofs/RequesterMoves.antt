@@ -1,0 +1,107 @@
+-- How a message changes a requester's record, by the rows of its table of deliveries.
+use Rattle.std.proofs.Common.{rules, ◌≡◌, ℕ, Bool, true, false, not, ◌&&◌, [], ◌∷◌, Option, Some, None, Result, if◌then◌else◌, refl}
+use Rattle.std.proofs.lemmas.Bool.{and_parts, cond_both}
+use Rattle.ill_values.specs.Day.{Date}
+use Rattle.ill_values.specs.declared.apdu.Apdu.{Apdu}
+use Rattle.ill_values.specs.declared.apdu.Body.{Body}
+use Rattle.ill_values.specs.declared.apdu.Body.TheVariants as types
+use Rattle.ill_values.specs.declared.apdu.AnswerResult.TheVariants as results
+use Rattle.ill_core.specs.declared.state.State.TheVariants.{Pending, Conditional, CancelPending, Cancelled, NotSupplied, Shipped, Received, RenewPending, Overdue, RenewOverdue, NotReceivedOverdue, Recall, Returned}
+use Rattle.ill_core.specs.declared.taking.Taking.{Taking}
+use Rattle.ill_core.specs.declared.refusal.Refusal.{Refusal}
+use Rattle.ill_core.specs.State.{is_among}
+use Rattle.ill_core.specs.Numbers.{is_at_most, is_the}
+use Rattle.ill_core.specs.Bodies.{is_cancel, is_renew, is_requesters, is_unsupplied}
+use Rattle.ill_core.specs.Dates.{is_after_due, is_due_on}
+use Rattle.ill_core.specs.Issued.{first_refusal, was}
+use Rattle.ill_core.specs.Answers.{unless_refused}
+use Rattle.ill_core.specs.Requester.{RequesterRecord, later, accepted_number, last_cancel}
+use Rattle.ill_core.specs.RequesterDeliveries.{take_message, takes, take_end, take_cancel_reply}
+use Rattle.ill_core.specs.RequesterNotices.{awaits, undecided, lent}
+
+-- A message with this number leads a requester's record to another, by a row that changes it, or nowhere.
+pub data Leads (x : RequesterRecord) (number : ℕ) : Body → RequesterRecord → Type 0 where
+  nowhere : (body : Body) → Leads x number body x
+  holds_conditions : is_among (Pending ∷ []) x.state ≡ true → Leads x number (types.IllAnswer results.Conditional) (record x { state = Conditional; held = Some number })
+  ends : (body : Body) → is_unsupplied body ≡ true → is_among undecided x.state ≡ true → Leads x number body (record x { state = NotSupplied; held = None })
+  cancels : (cancel : ℕ) → is_among (CancelPending ∷ []) x.state ≡ true → Leads x number (types.CancelReply cancel true) (record x { state = Cancelled })
+  keeps_request : (cancel : ℕ) → is_among (CancelPending ∷ []) x.state ≡ true → Leads x number (types.CancelReply cancel false) (record x { state = Pending })
+  ships : (due : Date) → is_among undecided x.state ≡ true → Leads x number (types.Shipped due) (record x { state = Shipped; due = Some due; held = None })
+  misses : (due : Date) → is_among (Shipped ∷ []) x.state ≡ true → is_due_on due x.due ≡ true → Leads x number (types.Overdue due) (record x { state = NotReceivedOverdue })
+  reminds : (due : Date) → is_among (Received ∷ []) x.state ≡ true → is_due_on due x.due ≡ true → Leads x number (types.Overdue due) (record x { state = Overdue })
+  reminds_renewing : (due : Date) → is_among (RenewPending ∷ []) x.state ≡ true → is_due_on due x.due ≡ true → Leads x number (types.Overdue due) (record x { state = RenewOverdue })
+  renews : (renew : ℕ) (due : Date) → awaits x renew ≡ true → is_after_due due x.due ≡ true
+      → Leads x number (types.RenewAnswer renew (Some due)) (record x { state = Received; due = Some due })
+  refuses_renewal : (renew : ℕ) → awaits x renew ≡ true → Leads x number (types.RenewAnswer renew None) (record x { state = (if is_among (RenewPending ∷ []) x.state then Received else Overdue) })
+  recalls : is_among lent x.state ≡ true → Leads x number types.Recall (record x { state = Recall })
+  checks_in : is_among (Returned ∷ []) x.state ≡ true → Leads x number types.CheckedIn (record x { checked_in = true })
+
+-- the first line that fits decides
+line : (x : RequesterRecord) (number : ℕ) (body : Body) (fits : Bool) (here others : Result Taking Refusal × RequesterRecord)
+    → (fits ≡ true → Leads x number body here.1) → (fits ≡ false → Leads x number body others.1) → Leads x number body (if fits then here else others).1
+line x number body fits here others = cond_both fits here others (λ r. Leads x number body r.1)
+
+-- an end of the request leads to NOT-SUPPLIED, or nowhere
+end_leads : (x : RequesterRecord) (number : ℕ) (body : Body) → is_unsupplied body ≡ true → Leads x number body (take_end x).1
+end_leads x number body is =
+    line x number _ (is_among (NotSupplied ∷ []) x.state) _ _ (λ _. nowhere body) (λ _.
+    line x number _ (is_among undecided x.state) _ _ (ends body is) (λ _. nowhere body))
+
+-- an answer to a Cancel leads where it decides, or nowhere
+cancel_reply_leads : (x : RequesterRecord) (number cancel : ℕ) (is_yes : Bool)
+    → (is_among (CancelPending ∷ []) x.state ≡ true → Leads x number (types.CancelReply cancel is_yes) (record x { state = (if is_yes then Cancelled else Pending) }))
+    → Leads x number (types.CancelReply cancel is_yes) (take_cancel_reply x cancel is_yes).1
+cancel_reply_leads x number cancel is_yes decided =
+    line x number _ (is_among (CancelPending ∷ []) x.state && is_the cancel (last_cancel x)) _ _ (λ is. decided (and_parts _ _ is).0) (λ _.
+    line x number _ (is_among (Cancelled ∷ []) x.state && (is_yes && is_the cancel (last_cancel x))) _ _ (λ _. nowhere _) (λ _.
+    line x number _ (was is_cancel x.issued cancel) _ _ (λ _. nowhere _) (λ _. nowhere _)))
+
+-- an Overdue that is not stale in SHIPPED or later is for the due date
+due_now : (x : RequesterRecord) (due : Date) → is_among later x.state ≡ true → is_among later x.state && not (is_due_on due x.due) ≡ false → is_due_on due x.due ≡ true
+due_now x due is_later stale_not = search rules
+
+-- an APDU that is not refused leads where its row says, or nowhere
+message_leads : (x : RequesterRecord) (a : Apdu) (body : Body) → Leads x a.number body (take_message x a body).1
+message_leads x a (types.IllAnswer results.Conditional) =
+    line x a.number _ (is_at_most a.number (accepted_number x)) _ _ (λ _. nowhere _) (λ _.
+    line x a.number _ (is_among (Conditional ∷ []) x.state && is_the a.number x.held) _ _ (λ _. nowhere _) (λ _.
+    line x a.number _ (is_among (Pending ∷ []) x.state) _ _ holds_conditions (λ _. nowhere _)))
+message_leads x a (types.IllAnswer results.WillSupply) = line x a.number _ (is_among (Pending ∷ []) x.state) _ _ (λ _. nowhere _) (λ _. nowhere _)
+message_leads x a (types.IllAnswer results.HoldPlaced) = line x a.number _ (is_among (Pending ∷ []) x.state) _ _ (λ _. nowhere _) (λ _. nowhere _)
+message_leads x a (types.IllAnswer other) = end_leads x a.number _ refl
+message_leads x a types.Expired = end_leads x a.number _ refl
+message_leads x a (types.CancelReply cancel true) = cancel_reply_leads x a.number cancel true (cancels cancel)
+message_leads x a (types.CancelReply cancel false) = cancel_reply_leads x a.number cancel false (keeps_request cancel)
+message_leads x a (types.Shipped due) =
+    line x a.number _ (is_among undecided x.state) _ _ (ships due) (λ _.
+    line x a.number _ (is_among later x.state) _ _ (λ _. nowhere _) (λ _. nowhere _))
+message_leads x a (types.Overdue due) =
+    line x a.number _ (is_among later x.state && not (is_due_on due x.due)) _ _ (λ _. nowhere _) (λ stale_not.
+    line x a.number _ (is_among (Shipped ∷ []) x.state) _ _ (λ is. misses due is (due_now x due (search rules) stale_not)) (λ _.
+    line x a.number _ (is_among (Received ∷ []) x.state) _ _ (λ is. reminds due is (due_now x due (search rules) stale_not)) (λ _.
+    line x a.number _ (is_among (RenewPending ∷ []) x.state) _ _ (λ is. reminds_renewing due is (due_now x due (search rules) stale_not)) (λ _.
+    line x a.number _ (is_among (NotReceivedOverdue ∷ Overdue ∷ RenewOverdue ∷ []) x.state) _ _ (λ _. nowhere _) (λ _. nowhere _)))))
+message_leads x a (types.RenewAnswer renew (Some due)) =
+    line x a.number _ (awaits x renew) _ _ (λ waits.
+    line x a.number _ (is_after_due due x.due) _ _ (renews renew due waits) (λ _. nowhere _)) (λ _.
+    line x a.number _ (was is_renew x.issued renew) _ _ (λ _. nowhere _) (λ _. nowhere _))
+message_leads x a (types.RenewAnswer renew None) =
+    line x a.number _ (awaits x renew) _ _ (refuses_renewal renew) (λ _.
+    line x a.number _ (was is_renew x.issued renew) _ _ (λ _. nowhere _) (λ _. nowhere _))
+message_leads x a types.Recall =
+    line x a.number _ (is_among lent x.state) _ _ recalls (λ _.
+    line x a.number _ (is_among (Recall ∷ []) x.state) _ _ (λ _. nowhere _) (λ _. nowhere _))
+message_leads x a types.CheckedIn =
+    line x a.number _ (is_among (Returned ∷ []) x.state && not x.checked_in) _ _ (λ is. checks_in (and_parts _ _ is).0) (λ _.
+    line x a.number _ (is_among (Returned ∷ []) x.state) _ _ (λ _. nowhere _) (λ _. nowhere _))
+message_leads x a other = nowhere _
+
+-- a refused APDU leaves the record
+admitted : (x : RequesterRecord) (number : ℕ) (body : Body) (refused : Option Refusal) (answer : Result Taking Refusal × RequesterRecord)
+    → Leads x number body answer.1 → Leads x number body (unless_refused refused x answer).1
+admitted x number body None answer leads = leads
+admitted x number body (Some refusal) answer leads = nowhere body
+
+-- An APDU leads where its row says, or nowhere.
+pub delivery_leads : (x : RequesterRecord) (a : Apdu) → Leads x a.number a.body (takes x a).1
+delivery_leads x a = admitted x a.number a.body (first_refusal x.txn (is_requesters a.body) a) (take_message x a a.body) (message_leads x a a.body)

@@ -1,0 +1,126 @@
+-- A responder issues its Recall after its Shipped, and it stands in RECALL, RETURNED and CHECKED-IN alone.
+use Rattle.std.proofs.Common.{rules, arith, ◌≡◌, ◌⊎◌, inl, inr, ℕ, ◌+◌, ◌<◌, ◌≤◌, true, false, List, [], ◌∷◌, ◌++◌, length, Some, Ok, refl, ap, sym, subst, ◌∙◌}
+use Rattle.std.proofs.lemmas.Bool.{or_cases, or_right, false_from_ne_true}
+use Rattle.ill_values.specs.Day.{Date}
+use Rattle.ill_values.specs.declared.apdu.Apdu.{Apdu}
+use Rattle.ill_values.specs.declared.apdu.Body.{Body}
+use Rattle.ill_values.specs.declared.apdu.Body.TheVariants as types
+use Rattle.ill_values.specs.declared.apdu.AnswerResult.TheVariants as results
+use Rattle.ill_core.specs.declared.state.State.{State}
+use Rattle.ill_core.specs.declared.state.State.TheVariants.{NotSupplied, Recall, Returned, CheckedIn}
+use Rattle.ill_core.specs.declared.responder.Deed.{Deed}
+use Rattle.ill_core.specs.State.{is_among}
+use Rattle.ill_core.specs.Bodies.{is_shipped}
+use Rattle.ill_core.specs.Issued.{message, has, next_apdu}
+use Rattle.ill_core.specs.Responder.{ResponderRecord}
+use Rattle.ill_core.specs.ResponderActions.{Line, acts, issues_to}
+use Rattle.ill_core.specs.ResponderDeliveries.{takes}
+use Rattle.ill_core.specs.ResponderNotices.{undecided, is_recall, RecallFits, ShipsBeforeRecall}
+use Rattle.ill_core.proofs.IssuedLemmas.{has_more}
+use Rattle.ill_core.proofs.MessageLemmas.{message_more, message_says}
+use Rattle.ill_core.proofs.ResponderLines.{IsLine, answers, allows_cancel, refuses_cancel, ships, renews, refuses_renewal, refuses_late, reminds, reminds_renewing, recalls, checks_in, expires}
+use Rattle.ill_core.proofs.ResponderRows.{of_acts}
+use Rattle.ill_core.proofs.ResponderLaws.{not_both}
+use Rattle.ill_core.proofs.ResponderMoves.{Change, takes_changes, leaves, requests, accepts, declines, cancels, arrives, returns}
+use Rattle.ill_core.proofs.ResponderMoves as changes
+
+-- the states in which a Recall may have been issued
+abbrev recalled : List State
+recalled = Recall ∷ Returned ∷ CheckedIn ∷ []
+
+-- No APDU is a Shipped and a Recall.
+one_type : {P : Type 0} (body : Body) → is_shipped body ≡ true → is_recall body ≡ true → P
+one_type (types.Shipped due) shipped recall = search rules
+one_type body shipped recall = search rules
+
+-- Every Recall of a list that has one more is after every Shipped, if a Shipped comes before any Recall.
+ships_before_more : (apdus : List Apdu) (a : Apdu) → ShipsBeforeRecall apdus → (is_shipped a.body ≡ true → has is_recall apdus ≡ false) → ShipsBeforeRecall (apdus ++ a ∷ [])
+ships_before_more apdus a h none m n b c at_m at_n shipped recall = go (message_more apdus a b m at_m) (message_more apdus a c n at_n)
+  where
+    go : ((message apdus m ≡ Some b) × (m ≤ length apdus)) ⊎ ((m ≡ length apdus + 1) × (a ≡ b))
+        → ((message apdus n ≡ Some c) × (n ≤ length apdus)) ⊎ ((n ≡ length apdus + 1) × (a ≡ c)) → m < n
+    go (inl old) (inl older) = h m n b c old.0 older.0 shipped recall
+    go (inl old) (inr new) = omega (arith, old.1, new.0)
+    go (inr new) (inl older) =
+        not_both _ (none (ap (λ (x : Apdu). is_shipped x.body) new.1 ∙ shipped)) (message_says is_recall apdus n c older.0 recall)
+    go (inr new) (inr also) = one_type a.body (ap (λ (x : Apdu). is_shipped x.body) new.1 ∙ shipped) (ap (λ (x : Apdu). is_recall x.body) also.1 ∙ recall)
+
+-- an APDU that is issued, and the state that it leads to, fit a Recall
+record FitsRecall (state : State) (body : Body) (next : State) : Type 0 where
+  leads : is_among (Recall ∷ []) next ≡ true → is_recall body ≡ true
+  after : is_recall body ≡ true → is_among recalled next ≡ true
+  stays : is_among recalled state ≡ true → is_among recalled next ≡ true
+  ships : is_shipped body ≡ true → is_among recalled state ≡ false
+
+-- A line fits a Recall.
+line_recall : (y : ResponderRecord) (line : Line) → IsLine y line → FitsRecall y.state line.body line.next
+line_recall y _ (answers answer is) = search rules
+line_recall y _ (allows_cancel is) = search rules
+line_recall y _ (refuses_cancel is) = search rules
+line_recall y _ (ships due is) = search rules
+line_recall y _ (renews due is after) = search rules
+line_recall y _ (refuses_renewal is) = search rules
+line_recall y _ (refuses_late is) = search rules
+line_recall y _ (reminds is) = search rules
+line_recall y _ (reminds_renewing is) = search rules
+line_recall y _ (recalls is) = search rules
+line_recall y _ (checks_in is) = search rules
+line_recall y _ (expires is) = search rules
+
+-- a Recall has its state, and its place behind every Shipped
+abbrev HasRecallPlace : ResponderRecord → Type 0
+HasRecallPlace y = RecallFits y × ShipsBeforeRecall y.issued
+
+-- An APDU that fits a Recall keeps its place.
+issues_recall : (y : ResponderRecord) (body : Body) (next : State) → FitsRecall y.state body next → RecallFits y → ShipsBeforeRecall y.issued → HasRecallPlace (issues_to y body next)
+issues_recall y body next fits h order =
+    let a : Apdu = next_apdu y.txn y.issued body in
+    let none : is_shipped body ≡ true → has is_recall y.issued ≡ false = λ is. false_from_ne_true _ (λ there. not_both _ (fits.ships is) (h.after there)) in (
+      record {
+        issued = λ is. has_more is_recall y.issued a ∙ or_right (has is_recall y.issued) _ (fits.leads is);
+        after = λ there. either_way (or_cases _ _ (sym (has_more is_recall y.issued a) ∙ there));
+      },
+      ships_before_more y.issued a order none,
+    )
+  where
+    either_way : (has is_recall y.issued ≡ true) ⊎ (is_recall body ≡ true) → is_among recalled next ≡ true
+    either_way (inl old) = fits.stays (h.after old)
+    either_way (inr new) = fits.after new
+
+-- A deed keeps the place of a Recall.
+pub acts_recall : (y new : ResponderRecord) (deed : Deed) (today : Date) → acts y deed today ≡ Ok new
+    → RecallFits y → ShipsBeforeRecall y.issued → RecallFits new × ShipsBeforeRecall new.issued
+acts_recall y new deed today done =
+    of_acts (λ r. RecallFits y → ShipsBeforeRecall y.issued → HasRecallPlace r) y new deed today
+    (λ line is how. issues_recall y line.body line.next (line_recall y line is)) done
+
+-- A change that issues nothing keeps the place of a Recall, if its states fit.
+moves_recall : (y new : ResponderRecord) → new.issued ≡ y.issued → (is_among (Recall ∷ []) new.state ≡ true → is_among (Recall ∷ []) y.state ≡ true)
+    → (is_among recalled y.state ≡ true → is_among recalled new.state ≡ true) → RecallFits y → ShipsBeforeRecall y.issued → HasRecallPlace new
+moves_recall y new same before after h order = (
+  record {
+    issued = λ is. ap (has is_recall) same ∙ h.issued (before is);
+    after = λ there. after (h.after (ap (has is_recall) (sym same) ∙ there));
+  },
+  subst ShipsBeforeRecall (sym same) order,
+)
+
+-- An item that is not supplied was not recalled.
+declines_fits : (y : ResponderRecord) → is_among undecided y.state ≡ true → FitsRecall y.state (types.IllAnswer results.Unfilled) NotSupplied
+declines_fits y waiting = search rules
+
+-- A change keeps the place of a Recall.
+change_recall : (y new : ResponderRecord) (number : ℕ) (body : Body) → Change y number body new → RecallFits y → ShipsBeforeRecall y.issued → HasRecallPlace new
+change_recall y _ number _ (leaves body) = λ h order. (h, order)
+change_recall y _ number _ (requests expiry item a idle) = moves_recall y _ refl (λ is. search rules) (λ is. search rules)
+change_recall y _ number _ (accepts c there) = moves_recall y _ refl (λ is. search rules) (λ is. search rules)
+change_recall y _ number _ (declines c waiting left) = issues_recall y (types.IllAnswer results.Unfilled) NotSupplied (declines_fits y waiting)
+change_recall y _ number _ (cancels above waiting) = moves_recall y _ refl (λ is. search rules) (λ is. search rules)
+change_recall y _ number _ arrives = moves_recall y _ refl (λ is. is) (λ is. is)
+change_recall y _ number _ (changes.renews wished above here) = moves_recall y _ refl (λ is. search rules) (λ is. search rules)
+change_recall y _ number _ (changes.renews_late wished above here) = moves_recall y _ refl (λ is. search rules) (λ is. search rules)
+change_recall y _ number _ (returns out) = moves_recall y _ refl (λ is. search rules) (λ is. refl)
+
+-- A message keeps the place of a Recall.
+pub takes_recall : (y : ResponderRecord) (a : Apdu) → RecallFits y → ShipsBeforeRecall y.issued → RecallFits (takes y a).1 × ShipsBeforeRecall (takes y a).1.issued
+takes_recall y a = change_recall y (takes y a).1 a.number a.body (takes_changes y a)

@@ -1,0 +1,8 @@
+use Rattle.ill_core.proofs.RequesterHearing.{takes_heard, takes_hearing}
+use Rattle.ill_core.proofs.laws.requester.requester_has_heard.Goals as goal
+
+pub returns-clause-takes : goal.returns-clause-takes
+returns-clause-takes c = takes_heard
+
+pub returns-clause-stays : goal.returns-clause-stays
+returns-clause-stays c = takes_hearing

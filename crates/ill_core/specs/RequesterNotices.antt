@@ -1,0 +1,107 @@
+-- What else a requester's record reflects, which APDU of a responder attests it, and which APDUs the record has
+-- heard (this profile's own).
+use Rattle.std.specs.Prelude.{◌≡◌, ◌⊎◌, ℕ, ◌<◌, Bool, true, false, not, ◌&&◌, ◌||◌, List, [], ◌∷◌, length, Option, Some, None}
+use Rattle.ill_values.specs.Day.{Date}
+use Rattle.ill_values.specs.declared.apdu.Body.{Body}
+use Rattle.ill_values.specs.declared.apdu.Body.TheVariants as types
+use Rattle.ill_values.specs.declared.apdu.AnswerResult.TheVariants as results
+use Rattle.ill_core.specs.declared.state.State.{State}
+use Rattle.ill_core.specs.declared.state.State.TheVariants as states
+use Rattle.ill_core.specs.State.{is_among}
+use Rattle.ill_core.specs.Rules.{implies}
+use Rattle.ill_core.specs.Dates.{is_same_day, is_due_on, is_before, is_after_due}
+use Rattle.ill_core.specs.Numbers.{is_the, is_at_most}
+use Rattle.ill_core.specs.Bodies.{is_renew}
+use Rattle.ill_core.specs.Issued.{was}
+use Rattle.ill_core.specs.Requester.{RequesterRecord, accepted_number, last_cancel, last_renew}
+
+-- ---- what a message gives notice of
+
+pub data Notice : Type 0 where
+  Recalled : Notice  -- the item is asked back
+  Named : (conditions : ℕ) → Notice  -- there are conditions with that number
+  -- the Renew with that number was answered, and grants no day after this one
+  Answered : (renew : ℕ) → (day : Date) → Notice
+  -- the item may be kept until that day, by a Shipped or by the answer to a Renew with a lower number
+  GrantedBefore : (renew : ℕ) → (due : Date) → Notice
+  PastDue : (due : Date) → Notice  -- the item was not back on that day, on which it was due
+
+-- a Renew waits for its answer
+abbrev pub awaits : RequesterRecord → ℕ → Bool
+awaits x renew =
+    is_among (states.RenewPending ∷ states.RenewOverdue ∷ []) x.state && is_the renew (last_renew x)
+
+-- a Cancel waits for its answer
+abbrev pub awaits_cancel : RequesterRecord → ℕ → Bool
+awaits_cancel x cancel = is_among (states.CancelPending ∷ []) x.state && is_the cancel (last_cancel x)
+
+-- there is a due date, and it is after this day
+abbrev pub is_due_after : Date → Option Date → Bool
+is_due_after day None = false
+is_due_after day (Some due) = is_before day due
+
+abbrev pub Reflects : RequesterRecord → Notice → Type 0
+Reflects x Recalled = x.state ≡ states.Recall
+Reflects x (Named conditions) = (x.held ≡ Some conditions) ⊎ (accepted_number x ≡ Some conditions)
+Reflects x (Answered renew day) =
+    (was is_renew x.issued renew ≡ true)
+    × (is_among (states.Recall ∷ states.Returned ∷ []) x.state ≡ false)
+    × (awaits x renew ≡ false) × (is_due_after day x.due ≡ false)
+Reflects x (GrantedBefore renew due) =
+    (x.due ≡ Some due) × ((awaits x renew ≡ true) ⊎ (length x.issued < renew))
+Reflects x (PastDue due) =
+    (x.due ≡ Some due)
+    × (is_among (states.NotReceivedOverdue ∷ states.Overdue ∷ states.RenewOverdue ∷ []) x.state ≡ true)
+
+-- An APDU with this number attests what it gives notice of.
+abbrev pub Attests : ℕ → Body → Notice → Type 0
+Attests number types.Recall Recalled = Unit {0}
+Attests number (types.IllAnswer results.Conditional) (Named conditions) = number ≡ conditions
+Attests number (types.RenewAnswer answers granted) (Answered renew day) =
+    (answers ≡ renew) × (is_due_after day granted ≡ false)
+Attests number (types.Shipped granted) (GrantedBefore renew due) = granted ≡ due
+Attests number (types.RenewAnswer answers (Some granted)) (GrantedBefore renew due) =
+    (granted ≡ due) × (answers < renew)
+Attests number (types.Overdue day) (PastDue due) = day ≡ due
+Attests number other notice = ⊥
+
+-- ---- which messages a record has heard
+
+-- the states that wait for the responder to ship, to cancel or to give up
+abbrev pub undecided : List State
+undecided = states.Pending ∷ states.Conditional ∷ states.CancelPending ∷ []
+
+-- the states in which the item is with the requester, or on its way there, and nobody has asked for it back
+abbrev pub lent : List State
+lent =
+    states.Shipped ∷ states.NotReceivedOverdue ∷ states.Received ∷ states.Overdue ∷ states.RenewPending
+    ∷ states.RenewOverdue ∷ []
+
+-- the states that an Overdue for the due date leads on from
+abbrev pub in_time : List State
+in_time = states.Shipped ∷ states.Received ∷ states.RenewPending ∷ []
+
+-- A record has heard an APDU with this number if it would not be taken now.
+abbrev pub has_heard : RequesterRecord → ℕ → Body → Bool
+has_heard x number (types.IllAnswer results.Conditional) =
+    not (is_among (states.Pending ∷ []) x.state) || is_at_most number (accepted_number x)
+has_heard x number (types.IllAnswer results.WillSupply) = true
+has_heard x number (types.IllAnswer results.HoldPlaced) = true
+has_heard x number (types.IllAnswer other) = not (is_among undecided x.state)
+has_heard x number types.Expired = not (is_among undecided x.state)
+has_heard x number (types.CancelReply answers is_yes) = not (awaits_cancel x answers)
+has_heard x number (types.Shipped due) = not (is_among undecided x.state)
+has_heard x number (types.RenewAnswer answers None) = not (awaits x answers)
+has_heard x number (types.RenewAnswer answers (Some due)) = not (awaits x answers && is_after_due due x.due)
+has_heard x number (types.Overdue day) = not (is_among in_time x.state && is_due_on day x.due)
+has_heard x number types.Recall = not (is_among lent x.state)
+has_heard x number types.CheckedIn = implies (is_among (states.Returned ∷ []) x.state) x.checked_in
+has_heard x number other = true
+
+-- The first APDU leads to a state in which the second one, though it was heard, would be taken.
+abbrev pub reopens : Body → Body → Bool
+reopens (types.CancelReply answers false) (types.IllAnswer results.Conditional) = true
+reopens (types.Shipped due) types.Recall = true
+reopens (types.Shipped due) (types.Overdue day) = is_same_day day due
+reopens (types.RenewAnswer answers (Some due)) (types.Overdue day) = is_same_day day due
+reopens first second = false

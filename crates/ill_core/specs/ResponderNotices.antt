@@ -1,0 +1,125 @@
+-- What a responder's record keeps of the questions that it was asked and of the order in which it issued, and which
+-- APDUs of a requester the record has heard (this profile's own).
+use Rattle.std.specs.Prelude.{◌≡◌, ◌⊎◌, ℕ, ◌<◌, Bool, true, false, not, ◌||◌, ◌==◌, nat_lt, List, [], ◌∷◌, length, Option, Some, None}
+use Rattle.std.specs.List.{list_any}
+use Rattle.ill_values.specs.Day.{Date}
+use Rattle.ill_values.specs.declared.apdu.Apdu.{Apdu}
+use Rattle.ill_values.specs.declared.apdu.Body.{Body}
+use Rattle.ill_values.specs.declared.apdu.Body.TheVariants as types
+use Rattle.ill_core.specs.declared.state.State.{State}
+use Rattle.ill_core.specs.declared.state.State.TheVariants as states
+use Rattle.ill_core.specs.State.{is_among}
+use Rattle.ill_core.specs.Rules.{implies}
+use Rattle.ill_core.specs.Dates.{is_same_day, is_before}
+use Rattle.ill_core.specs.Numbers.{is_the, is_at_most}
+use Rattle.ill_core.specs.Bodies.{is_shipped}
+use Rattle.ill_core.specs.Issued.{message, has}
+use Rattle.ill_core.specs.Responder.{ResponderRecord, due_of, outstanding_number, later}
+use Rattle.ill_core.specs.ResponderFacts.{Question, MayCancel, MayRenew, last_asked, answers_to}
+
+-- ---- questions
+
+-- a question with this number was answered
+abbrev pub has_answered : Question → ResponderRecord → ℕ → Bool
+has_answered question y number = list_any (λ n. n == number) (answers_to question y.issued)
+
+-- A question was asked: it is the last one, or it was answered.
+abbrev pub WasAsked : Question → ResponderRecord → ℕ → Type 0
+WasAsked question y number = (last_asked question y ≡ Some number) ⊎ (has_answered question y number ≡ true)
+
+-- the states in which the last question may have no answer: it waits, or the item came back without one
+abbrev pub unanswered : Question → List State
+unanswered MayCancel = states.CancelPending ∷ []
+unanswered MayRenew = states.RenewPending ∷ states.RenewOverdue ∷ states.Returned ∷ states.CheckedIn ∷ []
+
+-- In every other state the last question was answered.
+abbrev pub HasAnsweredLast : Question → ResponderRecord → Type 0
+HasAnsweredLast question y =
+    (number : ℕ) → last_asked question y ≡ Some number → is_among (unanswered question) y.state ≡ false →
+    has_answered question y number ≡ true
+
+-- ---- the order of what was issued
+
+abbrev pub is_recall : Body → Bool
+is_recall types.Recall = true
+is_recall other = false
+
+-- A Recall was issued in RECALL, and elsewhere only in RETURNED and CHECKED-IN.
+pub record RecallFits (y : ResponderRecord) : Type 0 where
+  pub issued : is_among (states.Recall ∷ []) y.state ≡ true → has is_recall y.issued ≡ true
+  pub after : has is_recall y.issued ≡ true →
+      is_among (states.Recall ∷ states.Returned ∷ states.CheckedIn ∷ []) y.state ≡ true
+
+-- Every Recall is issued after every Shipped.
+abbrev pub ShipsBeforeRecall : List Apdu → Type 0
+ShipsBeforeRecall apdus =
+    (m n : ℕ) (a b : Apdu) → message apdus m ≡ Some a → message apdus n ≡ Some b →
+    is_shipped a.body ≡ true → is_recall b.body ≡ true → m < n
+
+-- A due date that is granted, and by which answer: a Shipped grants as if it answered number 0.
+pub data Grant : Type 0 where
+  grant : (answers : ℕ) → (due : Date) → Grant
+
+abbrev pub grant_of : Body → Option Grant
+grant_of (types.Shipped due) = Some (grant 0 due)
+grant_of (types.RenewAnswer answers (Some due)) = Some (grant answers due)
+grant_of other = None
+
+-- Of two dates that were granted, the one that answers the higher number is the later one.
+abbrev pub GrantsRise : List Apdu → Type 0
+GrantsRise apdus =
+    (i j m n : ℕ) (a b : Apdu) (d e : Date) → message apdus i ≡ Some a → message apdus j ≡ Some b →
+    grant_of a.body ≡ Some (grant m d) → grant_of b.body ≡ Some (grant n e) → m < n → is_before d e ≡ true
+
+-- an Overdue for this due date
+abbrev pub is_overdue_of : Date → Body → Bool
+is_overdue_of due (types.Overdue day) = is_same_day day due
+is_overdue_of due other = false
+
+-- Each Overdue has a date that is not after the due date. One for the due date was issued in OVERDUE and
+-- RENEW/OVERDUE, and elsewhere only in RECALL, RETURNED and CHECKED-IN.
+pub record OverdueFits (y : ResponderRecord) : Type 0 where
+  pub dated : (n : ℕ) (a : Apdu) (day : Date) → message y.issued n ≡ Some a → a.body ≡ types.Overdue day →
+      (due : Date) × (due_of y ≡ Some due) × (is_before due day ≡ false)
+  pub issued : (due : Date) → due_of y ≡ Some due →
+      is_among (states.Overdue ∷ states.RenewOverdue ∷ []) y.state ≡ true →
+      has (is_overdue_of due) y.issued ≡ true
+  pub after : (due : Date) → due_of y ≡ Some due → has (is_overdue_of due) y.issued ≡ true →
+      is_among (states.Overdue ∷ states.RenewOverdue ∷ states.Recall ∷ states.Returned ∷ states.CheckedIn ∷ [])
+      y.state ≡ true
+
+-- Every Overdue is issued after the grant of its date.
+abbrev pub GrantsBeforeOverdue : List Apdu → Type 0
+GrantsBeforeOverdue apdus =
+    (m n c : ℕ) (a b : Apdu) (due day : Date) → message apdus m ≡ Some a → message apdus n ≡ Some b →
+    grant_of a.body ≡ Some (grant c due) → b.body ≡ types.Overdue day → is_same_day day due ≡ true → m < n
+
+-- ---- which messages a record has heard
+
+-- the states in which the request is open, and no Cancel waits
+abbrev pub undecided : List State
+undecided = states.InProcess ∷ states.Conditional ∷ []
+
+-- the states in which the item is out
+abbrev pub lent : List State
+lent =
+    states.Shipped ∷ states.RenewPending ∷ states.Overdue ∷ states.RenewOverdue ∷ states.Recall ∷ []
+
+-- A record has heard an APDU with this number if it would not be taken now, or not for want of a number.
+abbrev pub has_heard : ResponderRecord → ℕ → Body → Bool
+has_heard y number (types.IllRequest expiry item) = not (is_among (states.Idle ∷ []) y.state)
+has_heard y number (types.ConditionalReply answers true) = not (is_the answers (outstanding_number y))
+has_heard y number (types.ConditionalReply answers false) =
+    not (is_among undecided y.state) || not (nat_lt (length y.issued) 255)
+has_heard y number types.Cancel = not (is_among undecided y.state) || is_at_most number y.last_cancel
+has_heard y number types.Received = implies (is_among later y.state) y.received
+has_heard y number (types.Renew wished) =
+    not (is_among (states.Shipped ∷ states.Overdue ∷ []) y.state) || is_at_most number y.last_renew
+has_heard y number types.Returned = not (is_among lent y.state)
+has_heard y number other = true
+
+-- The first APDU leads to a state in which the second one, though it was heard, would be taken.
+abbrev pub reopens : Body → Body → Bool
+reopens (types.IllRequest expiry item) (types.ConditionalReply answers false) = true
+reopens (types.IllRequest expiry item) types.Cancel = true
+reopens first second = false

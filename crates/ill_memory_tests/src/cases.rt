@@ -118,6 +118,7 @@ fn world_outcome(alloc: Global, call: &str, words: &mut Words<'_>) -> Option<Out
         "new" => worlds::begins(alloc),
         "step" => worlds::steps(alloc, words),
         "run" => worlds::runs(alloc),
+        "exchange" => worlds::exchanges(alloc),
         "readers" => worlds::shows(alloc),
         _ => None,
     }

@@ -233,6 +233,27 @@ fn shown_in_turn(alloc: Global, txn: &TxnId) -> Option<WorldShown> {
     seen
 }
 
+/// `exchange`, after which both sides are in step. After want of memory a further one brings them there.
+pub fn exchanges(alloc: Global) -> Option<Outcome> {
+    let txn = txn(alloc, "T1")?;
+    let mut world = world(alloc, &txn)?;
+    begin(alloc);
+    let answer = world.exchange(alloc);
+    let refused = end(alloc);
+    let is_right = answer.is_ok() || world.exchange(alloc).is_ok();
+    let in_step = is_right && is_in_step(&world);
+    drop(world);
+    Some(leaving(answered(answer, (), OutOfMemory, refused), in_step))
+}
+
+/// Whether either side knows what the other has said: the Renew and the Overdue, and that the item was received.
+fn is_in_step(world: &World) -> bool {
+    world.requester().state() == State::RenewOverdue
+        && world.responder().state() == State::RenewOverdue
+        && world.responder().is_received()
+        && world.requester().due() == world.responder().due()
+}
+
 /// `requester`, `responder` and `released`.
 pub fn shows(alloc: Global) -> Option<Outcome> {
     let txn = txn(alloc, "T1")?;

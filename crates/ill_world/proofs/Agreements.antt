@@ -21,8 +21,9 @@ use Rattle.ill_world.specs.World.{Party, Parties, sent_message}
 use Rattle.ill_world.specs.Safety.{OfBoth}
 use Rattle.ill_world.specs.Agreement.{AnswersOnce, EndsOnce, Facing, AcceptedBy, IsNotLater, SaysTrue, Agrees}
 use Rattle.ill_world.specs.Invariant.{RequesterStands, ResponderStands, RequesterSideStands, ResponderSideStands, SendsSaved, Stands}
+use Rattle.ill_core.proofs.GrantLemmas.{granted_not_later}
 use Rattle.ill_world.proofs.Sendings.{front_message, message_has}
-use Rattle.ill_world.proofs.Uniqueness.{message_number, answers_once, one_end, granted_not_later, has_message}
+use Rattle.ill_world.proofs.Uniqueness.{message_number, answers_once, one_end, has_message}
 use Rattle.ill_world.proofs.Claims.{AreIssued, tells_grant, is_in_cancelled, has_issued, not_supplied_faces, shipped_by, landed_issues, live_issues}
 
 -- ---- what a message tells
@@ -39,7 +40,7 @@ pub tells_requested : (n : ℕ) (body : Body) → responder.Tells n body respond
 tells_requested n (types.IllRequest expiry item) tells = refl
 tells_requested n body tells = search rules
 
-tells_cancel : (n c : ℕ) (body : Body) → responder.Tells n body (responder.CancelAsked c) → (is_cancel body ≡ true) × (n ≡ c)
+pub tells_cancel : (n c : ℕ) (body : Body) → responder.Tells n body (responder.CancelAsked c) → (is_cancel body ≡ true) × (n ≡ c)
 tells_cancel n c types.Cancel tells = (refl, tells)
 tells_cancel n c body tells = search rules
 
@@ -52,7 +53,7 @@ tells_given_back : (body : Body) → requester.Tells body requester.GivenBack �
 tells_given_back types.CheckedIn tells = refl
 tells_given_back body tells = search rules
 
-tells_refused : (body : Body) (c : ℕ) → requester.Tells body (requester.Refused c) → body ≡ types.CancelReply c false
+pub tells_refused : (body : Body) (c : ℕ) → requester.Tells body (requester.Refused c) → body ≡ types.CancelReply c false
 tells_refused (types.CancelReply k false) c tells = ap (λ n. types.CancelReply n false) tells
 tells_refused (types.CancelReply k true) c tells = absurd tells
 tells_refused body c tells = search rules
@@ -131,7 +132,7 @@ cancel_is_open txn x y told heard requester_stands responder_stands issued heede
         let bodies : types.CancelReply c true ≡ types.CancelReply c false = sym is ∙ body_of a refused.0 same ∙ no in
         search rules
 
-says_true : PairOf SaysTrue
+pub says_true : PairOf SaysTrue
 says_true txn x y told heard requester_stands responder_stands issued heeded = record {
   returned =
       λ is.
@@ -200,7 +201,7 @@ renewals_once : (txn : Qualifiers) (side : Side) (told : List (Option Apdu)) →
 renewals_once txn (sides.Responder y) told stands = answers_once (responder.answered_number responder.MayRenew) y.issued stands.renewals.distinct
 renewals_once txn (sides.Requester x) told stands = absurd stands
 
-at_most_one : (b : Bool) → (if b then 1 else 0) ≤ 1
+pub at_most_one : (b : Bool) → (if b then 1 else 0) ≤ 1
 at_most_one true = omega arith
 at_most_one false = omega arith
 

@@ -97,7 +97,7 @@ not_unsupplied state e shipped = let no : is_among shipped_states states.NotSupp
 not_cancelled_too : (state : State) → state ≡ states.Cancelled → is_among (states.NotSupplied ∷ []) state ≡ true → ⊥
 not_cancelled_too state e ended = let no : is_among (states.NotSupplied ∷ []) states.Cancelled ≡ true = subst (λ s. is_among (states.NotSupplied ∷ []) s ≡ true) e ended in search rules
 
-not_none : (says : Body → Bool) (apdus : List Apdu) → has says apdus ≡ true → is_none apdus ≡ false
+pub not_none : (says : Body → Bool) (apdus : List Apdu) → has says apdus ≡ true → is_none apdus ≡ false
 not_none says [] is = search rules
 not_none says (a ∷ apdus) is = refl
 

@@ -28,6 +28,7 @@ use Rattle.ill_world.specs.DeskSafety.{IsRunOfEach, SettlesAt, ArrivesAt}
 use Rattle.ill_world.specs.DeskChanges.{IsPlain, Reaches, ReachesAt, ReachesSide, DeskMayChange}
 use Rattle.ill_world.specs.BadDesks.{Names, IsNotReached, MissesHeld, ChangesUnreached, EndsIn, shipped, cancelled, expired, refused, IsUnheededAt, ArrivesInVainAt, end_in_vain, returned_in_vain}
 use Rattle.ill_world.proofs.BadWorlds.{heeded, final_ends}
+use Rattle.ill_world.proofs.Runs.{run_both, run_one}
 
 -- ---- runs
 
@@ -46,18 +47,6 @@ events_in_order txn w [] after = refl
 events_in_order txn w (event ∷ before) after =
     let next = (desks_happen w event).1 in
     joined (is_event_of txn w event) (plain event) (events_for txn next before) (events_for txn (desks_run next before) after) (events_for txn next (before ++ after)) (events_in_order txn next before after)
-
-module _ {W E O : Type 0} (happening : W → E → O × W) where
-  -- Events lead where the second ones lead from where the first ones do.
-  pub run_both : (w : W) (first second : List E) → run_by happening w (first ++ second) ≡ run_by happening (run_by happening w first) second
-  unfolding run_by
-  run_both w [] second = refl
-  run_both w (event ∷ first) second = run_both (happening w event).1 first second
-
-  -- One event leads where it happens.
-  pub run_one : (w : W) (event : E) → run_by happening w (event ∷ []) ≡ (happening w event).1
-  unfolding run_by
-  run_one w event = refl
 
 -- One event more leads a transaction on by the events that it has of it.
 pub runs_go_on : (events : List DeskEvent) (event : DeskEvent) (txn : Qualifiers) → IsRunOfEach events → IsRunOfEach (events ++ event ∷ [])

@@ -25,7 +25,7 @@ use Rattle.ill_saved.specs.declared.role.Role.TheVariants as who
 use Rattle.ill_world.specs.declared.event.Event.TheVariants.{Deliver, Restart}
 use Rattle.ill_world.specs.declared.event.Outcome.{Outcome}
 use Rattle.ill_world.specs.World.{Party, Parties, happens, run_of, sent_message}
-use Rattle.ill_world.proofs.Calendar.{before_on, not_before_itself}
+use Rattle.ill_core.proofs.GrantLemmas.{before_on, not_before_itself}
 use Rattle.ill_world.specs.Safety.{EndsAlike, WasShipped, WasGranted, OfBoth, Safe}
 use Rattle.ill_world.specs.Agreement.{AnswersOnce, AnswersOnceBoth, EndsOnce, Facing, AcceptedBy, IsNotLater, SaysTrue, Agrees, KeepsLiveDate, KeepsDates, Settles, settled_by, Arrives}
 use Rattle.ill_world.specs.BadWorlds.{Has, HasMessages, TwoSay, Contradicts, IsUnsafe, Misleads, Disagrees, not_supplied, cancelled, never_shipped, never_granted, contradicted, due_later, not_returned, checked_in_unreturned, cancelled_unasked, not_received, not_checked_in, TakesBack, IsTakenBack, IsUnheeded, ArrivesInVain, in_memory, in_store, shipped_in_vain, cancelled_in_vain, expired_in_vain, refused_in_vain, returned_in_vain, conditions_twice, cancel_twice, renew_twice, ended_twice, never_accepted, acceptance_forgotten, misled}

@@ -53,12 +53,12 @@ pub is_in_cancelled : (state : State) → is_among (states.Cancelled ∷ []) sta
 is_in_cancelled states.Cancelled e = refl
 is_in_cancelled state e = search rules
 
-is_in_not_supplied : (state : State) → is_among (states.NotSupplied ∷ []) state ≡ true → state ≡ states.NotSupplied
+pub is_in_not_supplied : (state : State) → is_among (states.NotSupplied ∷ []) state ≡ true → state ≡ states.NotSupplied
 is_in_not_supplied states.NotSupplied e = refl
 is_in_not_supplied state e = search rules
 
 -- a Shipped stands before each renewal
-ships_before : (apdus : List Apdu) → ships_first apdus ≡ true → has is_renewal apdus ≡ true → has is_shipped apdus ≡ true
+pub ships_before : (apdus : List Apdu) → ships_first apdus ≡ true → has is_renewal apdus ≡ true → has is_shipped apdus ≡ true
 unfolding ships_first
 ships_before [] first renewed = search rules
 ships_before (a ∷ apdus) first renewed = go (is_shipped a.body) (is_renewal a.body) (ships_before apdus) first renewed

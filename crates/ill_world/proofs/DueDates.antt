@@ -10,7 +10,8 @@ use Rattle.ill_core.specs.Issued.{message}
 use Rattle.ill_core.specs.Requester.{RequesterRecord, later}
 use Rattle.ill_core.specs.RequesterActions as requester_actions
 use Rattle.ill_core.specs.RequesterDeliveries as requester_deliveries
-use Rattle.ill_core.specs.RequesterFacts.{KeepsDue}
+use Rattle.ill_core.specs.RequesterFacts.{KeepsDue, is_raised}
+use Rattle.ill_core.proofs.GrantLemmas.{before_on}
 use Rattle.ill_saved.specs.declared.side.Side.{Side}
 use Rattle.ill_saved.specs.declared.side.Side.TheVariants as sides
 use Rattle.ill_saved.specs.declared.side.Action.{Action}
@@ -22,7 +23,17 @@ use Rattle.ill_world.specs.declared.event.Event.TheVariants as events
 use Rattle.ill_world.specs.World.{Party, Parties, sent_message, decides, sends, receives, happens_to, happens}
 use Rattle.ill_world.specs.Invariant.{RequesterSideStands, Stands}
 use Rattle.ill_world.specs.Agreement.{KeepsDates}
-use Rattle.ill_world.proofs.Calendar.{keeps_on}
+
+-- a due date that is kept or raised, and then again
+pub keeps_on : (a b c : Option Date) → KeepsDue a b → KeepsDue b c → KeepsDue a c
+keeps_on a b c (inl none) second = inl none
+keeps_on a b c (inr (inl same)) second = subst (λ x. KeepsDue x c) same second
+keeps_on None b c (inr (inr raised)) second = inl refl
+keeps_on (Some x) None c (inr (inr raised)) second = search rules
+keeps_on (Some x) (Some y) c (inr (inr raised)) (inl none) = search rules
+keeps_on (Some x) (Some y) c (inr (inr raised)) (inr (inl same)) = inr (inr (subst (λ z. is_raised (Some x) z ≡ true) (sym same) raised))
+keeps_on (Some x) (Some y) None (inr (inr raised)) (inr (inr again)) = search rules
+keeps_on (Some x) (Some y) (Some z) (inr (inr raised)) (inr (inr again)) = inr (inr (before_on x y z raised again))
 
 -- what the rows do to a due date
 pub record RowsKeepDue : Type 0 where

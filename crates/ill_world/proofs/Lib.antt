@@ -10,11 +10,16 @@ pub mod Sendings
 pub mod Kept
 pub mod Standings
 pub mod Claims
-pub mod Calendar
 pub mod DueDates
 pub mod Uniqueness
+pub mod Finds
 pub mod Agreements
 pub mod Arrivals
+pub mod Pairs
+pub mod Rounds
+pub mod Hearing
+pub mod OneRound
+pub mod OutOfStep
 pub mod BadWorlds
 pub mod Changes
 pub mod Outcomes

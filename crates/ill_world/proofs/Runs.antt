@@ -1,6 +1,6 @@
 -- A run, one event after another.
-use Rattle.std.proofs.Common.{arith, ◌≡◌, ℕ, suc, ◌+◌, ◌<◌, ◌≤◌, List, [], ◌∷◌, length, drop, get_or, refl, sym, ap, ◌∙◌, drop-cons, add-one}
-use Rattle.std.proofs.lemmas.List.{length-drop}
+use Rattle.std.proofs.Common.{arith, ◌≡◌, ℕ, suc, ◌+◌, ◌<◌, ◌≤◌, List, [], ◌∷◌, ◌++◌, length, drop, take, get_or, refl, sym, ap, ◌∙◌, drop-cons, add-one}
+use Rattle.std.proofs.lemmas.List.{length-drop, take_more}
 use Rattle.ill_world.specs.declared.event.Event.{Event}
 use Rattle.ill_values.specs.TxnId.{Qualifiers}
 use Rattle.ill_world.specs.World.{Parties, happens, run_by, run_of}
@@ -26,6 +26,24 @@ module _ {W E O : Type 0} (happening : W → E → O × W) where
   -- no event is left
   pub run_ended : (w : W) (events : List E) (i : ℕ) → length events ≤ i → run_by happening w (drop i events) ≡ w
   run_ended w events i all = run_of_none w (drop i events) (omega (arith, length-drop i events, all))
+
+  -- Events lead where the second ones lead from where the first ones do.
+  pub run_both : (w : W) (first second : List E) → run_by happening w (first ++ second) ≡ run_by happening (run_by happening w first) second
+  unfolding run_by
+  run_both w [] second = refl
+  run_both w (event ∷ first) second = run_both (happening w event).1 first second
+
+  -- One event leads where it happens.
+  pub run_one : (w : W) (event : E) → run_by happening w (event ∷ []) ≡ (happening w event).1
+  unfolding run_by
+  run_one w event = refl
+
+  -- One event more of the first ones leads where it happens.
+  pub run_taken : (w new : W) (events : List E) (i : ℕ) (event : E) (outcome : O) → i < length events → event ≡ get_or events i event → happening (run_by happening w (take i events)) event ≡ (outcome, new)
+      → run_by happening w (take (i + 1) events) ≡ new
+  run_taken w new events i event outcome less is happened =
+      let next = take_more events i event less ∙ ap (λ e. take i events ++ e ∷ []) (sym is) in
+      ap (run_by happening w) next ∙ run_both w (take i events) (event ∷ []) ∙ run_one (run_by happening w (take i events)) event ∙ ap (λ (after : O × W). after.1) happened
 
 -- ---- what every world of a run keeps
 

@@ -30,6 +30,16 @@ still_there (slot ∷ slots) zero (suc j) a b e same = e
 still_there (slot ∷ slots) (suc i) zero a b e same = e
 still_there (slot ∷ slots) (suc i) (suc j) a b e same = still_there slots i j a b e (λ at. same (ap suc at))
 
+set_length : (slots : List (Option Apdu)) (i : ℕ) (o : Option Apdu) → length (slice_set slots i o) ≡ length slots
+set_length [] i o = refl
+set_length (slot ∷ slots) zero o = refl
+set_length (slot ∷ slots) (suc i) o = ap suc (set_length slots i o)
+
+-- Sending a message keeps the places.
+pub places_kept : (sent : List (Option Apdu)) (n : ℕ) (a : Apdu) → length (with_sent sent n a) ≡ length sent
+places_kept sent zero a = refl
+places_kept sent (suc n) a = set_length sent n (Some a)
+
 get_front : (front more : List Apdu) (i : ℕ) (a : Apdu) → slice_get front i ≡ Some a → slice_get (front ++ more) i ≡ Some a
 get_front [] more i a e = search rules
 get_front (b ∷ front) more zero a e = e
@@ -80,6 +90,7 @@ live_grows p new grows saved = record {
   landed = saved.landed;
   front = front_of_front (issued_of p.landed) (issued_of p.live) (issued_of new) saved.front grows;
   released = saved.released;
+  places = saved.places;
 }
 
 pub saved_now : (p : Party) → SendsSaved p → SendsSaved (saves p)
@@ -87,6 +98,7 @@ saved_now p saved = record {
   landed = λ n a e. front_message (issued_of p.landed) (issued_of p.live) n a saved.front (saved.landed n a e);
   front = front_of_itself (issued_of p.live);
   released = omega arith;
+  places = saved.places;
 }
 
 pub saved_by_fault : (p : Party) (landed : Bool) → SendsSaved p → SendsSaved (fails_to_save p landed)
@@ -94,11 +106,12 @@ saved_by_fault p true saved = record {
   landed = λ n a e. front_message (issued_of p.landed) (issued_of p.live) n a saved.front (saved.landed n a e);
   front = front_of_itself (issued_of p.live);
   released = omega (arith, saved.released, front_is_shorter (issued_of p.landed) (issued_of p.live) saved.front);
+  places = saved.places;
 }
 saved_by_fault p false saved = saved
 
 pub saved_at_restart : (p : Party) → SendsSaved p → SendsSaved (restarts p)
-saved_at_restart p saved = record { landed = saved.landed; front = front_of_itself (issued_of p.landed); released = omega arith }
+saved_at_restart p saved = record { landed = saved.landed; front = front_of_itself (issued_of p.landed); released = omega arith; places = saved.places }
 
 -- the message that is sent has landed
 sent_landed : (p : Party) (n : ℕ) (a : Apdu) → SendsSaved p → message (issued_of p.live) n ≡ Some a → nat_le n p.released ≡ true → message (issued_of p.landed) n ≡ Some a
@@ -125,6 +138,7 @@ saved_by_send p n (Some a) true is e saved = record {
       ];
   front = saved.front;
   released = saved.released;
+  places = places_kept p.sent n a ∙ saved.places;
 }
 
 -- what was sent stays sent, at its number

@@ -1,5 +1,5 @@
 -- What one record keeps.
-use Rattle.std.proofs.Common.{rules, arith, ◌≡◌, replicate, ℕ, zero, suc, Bool, true, false, ◌||◌, ◌==◌, List, [], ◌∷◌, Option, Some, None, Result, Ok, Err, refl, subst, inl}
+use Rattle.std.proofs.Common.{rules, arith, ◌≡◌, replicate, ℕ, zero, suc, Bool, true, false, ◌||◌, ◌==◌, List, [], ◌∷◌, Option, Some, None, is_some, Result, Ok, Err, refl, subst, inl}
 use Rattle.std.specs.Prelude.{slice_get}
 use Rattle.std.specs.Option.{option_flatten}
 use Rattle.ill_values.specs.Day.{Date}
@@ -8,18 +8,21 @@ use Rattle.ill_values.specs.declared.apdu.Apdu.{Apdu}
 use Rattle.ill_core.specs.declared.refusal.Refusal.{Refusal}
 use Rattle.ill_core.specs.declared.requester.Wish.{Wish}
 use Rattle.ill_core.specs.declared.responder.Deed.{Deed}
-use Rattle.ill_core.specs.Issued.{are_numbered}
+use Rattle.ill_core.specs.Issued.{are_numbered, message}
 use Rattle.ill_core.specs.Numbers.{are_distinct}
 use Rattle.ill_core.specs.Requester.{RequesterRecord, requester_of}
 use Rattle.ill_core.specs.RequesterRules.{RequesterRules}
 use Rattle.ill_core.specs.RequesterActions as requester_actions
 use Rattle.ill_core.specs.RequesterDeliveries as requester_deliveries
 use Rattle.ill_core.specs.RequesterFacts as requester
+use Rattle.ill_core.specs.RequesterNotices.{Notice, Recalled, Named, Answered, GrantedBefore, PastDue, Reflects}
 use Rattle.ill_core.specs.ResponderRules.{ResponderRules}
 use Rattle.ill_core.specs.Responder.{ResponderRecord, responder_of, rise_from, ships_first}
 use Rattle.ill_core.specs.ResponderActions as responder_actions
 use Rattle.ill_core.specs.ResponderDeliveries as responder_deliveries
 use Rattle.ill_core.specs.ResponderFacts as responder
+use Rattle.ill_core.specs.ResponderFacts.{Question, MayCancel, MayRenew}
+use Rattle.ill_core.specs.ResponderNotices.{WasAsked, HasAnsweredLast}
 use Rattle.ill_saved.specs.declared.side.Side.{Side}
 use Rattle.ill_saved.specs.declared.side.Side.TheVariants as sides
 use Rattle.ill_saved.specs.declared.side.Action.{Action}
@@ -46,6 +49,11 @@ cancel_is_there state there = go (place_of CancelPending == place_of state) (pla
     go true done there rule = rule
     go false done there rule = refl
 
+-- A question that waits is there.
+pub question_is_there : (y : ResponderRecord) → ResponderRules y → (question : Question) → implies (responder.waits question y.state) (is_some (responder.last_asked question y)) ≡ true
+question_is_there y rules MayCancel = cancel_is_there y.state (is_some y.last_cancel) rules.parts.cancel
+question_is_there y rules MayRenew = rules.parts.renew
+
 -- ---- before the first message
 
 requester_shows_nothing : (txn : Qualifiers) (fact : requester.Fact) → requester.Shows (requester_of txn Idle None false None []) fact → ⊥
@@ -63,6 +71,26 @@ responder_shows_nothing txn (responder.CancelAsked cancel) shows = search rules
 responder_shows_nothing txn responder.Arrived shows = search rules
 responder_shows_nothing txn responder.SentBack shows = search rules
 
+requester_reflects_nothing : (txn : Qualifiers) (notice : Notice) → Reflects (requester_of txn Idle None false None []) notice → ⊥
+requester_reflects_nothing txn Recalled reflects = search rules
+requester_reflects_nothing txn (Named conditions) reflects = search rules
+requester_reflects_nothing txn (Answered zero day) reflects = search rules
+requester_reflects_nothing txn (Answered (suc renew) day) reflects = search rules
+requester_reflects_nothing txn (GrantedBefore renew due) reflects = search rules
+requester_reflects_nothing txn (PastDue due) reflects = search rules
+
+responder_was_asked_nothing : (txn : Qualifiers) (question : Question) (number : ℕ) → WasAsked question (responder_of txn Idle None None None false None []) number → ⊥
+responder_was_asked_nothing txn MayCancel number was = search rules
+responder_was_asked_nothing txn MayRenew number was = search rules
+
+responder_answered_nothing : (txn : Qualifiers) (question : Question) → HasAnsweredLast question (responder_of txn Idle None None None false None [])
+responder_answered_nothing txn MayCancel number last left = search rules
+responder_answered_nothing txn MayRenew number last left = search rules
+
+issued_nothing : (n : ℕ) (a : Apdu) → message [] n ≡ Some a → ⊥
+issued_nothing zero a at = search rules
+issued_nothing (suc n) a at = search rules
+
 requester_rules : (txn : Qualifiers) → RequesterRules (requester_of txn Idle None false None [])
 unfolding are_numbered
 requester_rules txn = search rules
@@ -78,6 +106,8 @@ requester_first txn sent = record {
   rules = requester_rules txn;
   replies = search rules;
   knows = λ fact shows. absurd (requester_shows_nothing txn fact shows);
+  notices = λ notice reflects. absurd (requester_reflects_nothing txn notice reflects);
+  few = omega arith;
 }
 
 responder_first : (txn : Qualifiers) (sent : List (Option Apdu)) → ResponderStands txn (responder_of txn Idle None None None false None []) sent
@@ -89,6 +119,18 @@ responder_first txn sent = record {
   cancels = search rules;
   renewals = search rules;
   knows = λ fact shows. absurd (responder_shows_nothing txn fact shows);
+  asked = λ question number was. absurd (responder_was_asked_nothing txn question number was);
+  answered = responder_answered_nothing txn;
+  recall = search rules;
+  ships_first = λ m n a b at_m at_n is_a is_b. absurd (issued_nothing m a at_m);
+  grants = λ i j m n a b d e at_i at_j is_a is_b below. absurd (issued_nothing i a at_i);
+  overdue = record {
+    dated = λ n a day at is. absurd (issued_nothing n a at);
+    issued = λ due is overdue. search rules;
+    after = λ due is overdue. search rules;
+  };
+  grants_first = λ m n c a b due day at_m at_n is_a is_b same. absurd (issued_nothing m a at_m);
+  few = omega arith;
 }
 
 -- ---- the rows of either role
@@ -129,6 +171,8 @@ requester_more txn (sides.Requester x) told more stays stands = record {
   rules = stands.rules;
   replies = stands.replies;
   knows = λ fact shows. let known = stands.knows fact shows in (known.0, stays known.0 known.1, known.2);
+  notices = λ notice reflects. let known = stands.notices notice reflects in (known.0, stays known.0 known.1, known.2);
+  few = stands.few;
 }
 requester_more txn (sides.Responder y) told more stays stands = absurd stands
 
@@ -151,6 +195,14 @@ responder_more txn (sides.Responder y) told more stays stands = record {
   cancels = stands.cancels;
   renewals = stands.renewals;
   knows = λ fact shows. let known = stands.knows fact shows in (known.0, stays known.0 known.1, known.2);
+  asked = λ question number was. let known = stands.asked question number was in (known.0, stays known.0 known.1, known.2, known.3);
+  answered = stands.answered;
+  recall = stands.recall;
+  ships_first = stands.ships_first;
+  grants = stands.grants;
+  overdue = stands.overdue;
+  grants_first = stands.grants_first;
+  few = stands.few;
 }
 responder_more txn (sides.Requester x) told more stays stands = absurd stands
 
@@ -177,6 +229,7 @@ first_stands K idle told stands = record {
     landed = λ n a e. absurd (none_sent n a e);
     front = front_of_itself (issued_of idle);
     released = omega arith;
+    places = refl;
   };
   live = stands;
   landed = stands;

@@ -4,22 +4,18 @@ use Rattle.std.specs.Prelude.{slice_get}
 use Rattle.std.specs.List.{list_any, filter_map, cons_option, last_or, count_by}
 use Rattle.std.proofs.lemmas.List.Sums.{sum_by-cons}
 use Rattle.std.proofs.lemmas.Bool.{and_parts, eq-eqb, eqb-true}
-use Rattle.ill_values.specs.Day.{Date}
 use Rattle.ill_values.specs.TxnId.{Qualifiers}
 use Rattle.ill_values.specs.declared.apdu.Apdu.{Apdu}
 use Rattle.ill_values.specs.declared.apdu.Body.{Body}
 use Rattle.ill_core.specs.Bodies.{is_end}
-use Rattle.ill_core.specs.Dates.{is_before}
 use Rattle.ill_core.specs.Numbers.{are_distinct}
-use Rattle.ill_core.specs.Issued.{message, has, last_of, number_of_end, granted_day, are_numbered, is_same_txn}
-use Rattle.ill_core.specs.Responder.{are_rising, rise_from}
+use Rattle.ill_core.specs.Issued.{message, has, last_of, number_of_end, are_numbered, is_same_txn}
 use Rattle.ill_world.specs.Agreement.{AnswersOnce}
-use Rattle.ill_world.proofs.Calendar.{itself_not_before, not_before_earlier}
 
 -- ---- numbers
 
 -- the n-th APDU is of the transaction and has its number
-at_number : (txn : Qualifiers) (first : ℕ) (apdus : List Apdu) (i : ℕ) (a : Apdu) → are_numbered txn first apdus ≡ true → slice_get apdus i ≡ Some a → (is_same_txn a.txn txn ≡ true) × (a.number ≡ first + i)
+pub at_number : (txn : Qualifiers) (first : ℕ) (apdus : List Apdu) (i : ℕ) (a : Apdu) → are_numbered txn first apdus ≡ true → slice_get apdus i ≡ Some a → (is_same_txn a.txn txn ≡ true) × (a.number ≡ first + i)
 unfolding are_numbered
 at_number txn first [] i a numbered e = search rules
 at_number txn first (b ∷ apdus) zero a numbered e =
@@ -47,11 +43,11 @@ found_tail (Some m) ks k is = ap (λ (r : Bool). (m == k) || r) is ∙ or_true (
 found_head : (o : Option ℕ) (ks : List ℕ) (k : ℕ) → o ≡ Some k → list_any (λ m. m == k) (cons_option o ks) ≡ true
 found_head o ks k is = subst (λ x. list_any (λ m. m == k) (cons_option x ks) ≡ true) (sym is) (ap (λ (r : Bool). r || list_any (λ m. m == k) ks) (eq-eqb k k refl))
 
-same_apdu : (a b : Apdu) → ◌≡◌ {A = Option Apdu} (Some a) (Some b) → a ≡ b
+pub same_apdu : (a b : Apdu) → ◌≡◌ {A = Option Apdu} (Some a) (Some b) → a ≡ b
 same_apdu a b e = search rules
 
 -- what f finds in an APDU is among all that it finds
-found_among : (f : Apdu → Option ℕ) (apdus : List Apdu) (i : ℕ) (a : Apdu) (k : ℕ) → slice_get apdus i ≡ Some a → f a ≡ Some k → list_any (λ m. m == k) (filter_map f apdus) ≡ true
+pub found_among : (f : Apdu → Option ℕ) (apdus : List Apdu) (i : ℕ) (a : Apdu) (k : ℕ) → slice_get apdus i ≡ Some a → f a ≡ Some k → list_any (λ m. m == k) (filter_map f apdus) ≡ true
 found_among f [] i a k e is = search rules
 found_among f (b ∷ apdus) zero a k e is = found_head (f b) (filter_map f apdus) k (ap f (same_apdu b a e) ∙ is)
 found_among f (b ∷ apdus) (suc i) a k e is = found_tail (f b) (filter_map f apdus) k (found_among f apdus i a k e is)
@@ -131,49 +127,6 @@ pub one_end : (txn : Qualifiers) (apdus : List Apdu) (n : ℕ) (a : Apdu) → ar
     → last_of number_of_end apdus ≡ Some n
 one_end txn apdus zero a numbered most e is = search rules
 one_end txn apdus (suc i) a numbered most e is = one_last apdus i a None most e is ∙ ap Some (message_number txn apdus (suc i) a numbered e).1
-
--- ---- dates
-
--- the last date is not before the first
-rise_above : (d : Date) (dates : List Date) → rise_from (Some d) dates ≡ true → (e : Date) × (last_or (Some d) dates ≡ Some e) × (is_before e d ≡ false)
-unfolding rise_from
-rise_above d [] rises = (d, refl, itself_not_before d)
-rise_above d (c ∷ dates) rises =
-    let parts = and_parts _ _ rises in
-    let later = rise_above c dates parts.1 in
-    (later.0, later.1, not_before_earlier d c later.0 parts.0 later.2)
-
-rise_rest : (last : Option Date) (o : Option Date) (dates : List Date) → rise_from last (cons_option o dates) ≡ true → (next : Option Date) × (rise_from next dates ≡ true)
-unfolding rise_from
-rise_rest last None dates rises = (last, rises)
-rise_rest last (Some d) dates rises = (Some d, (and_parts _ _ rises).1)
-
-rise_here : (last : Option Date) (o : Option Date) (dates : List Date) (d : Date) (p : Option Date) → o ≡ Some d → rise_from last (cons_option o dates) ≡ true
-    → (e : Date) × (last_or p (cons_option o dates) ≡ Some e) × (is_before e d ≡ false)
-unfolding rise_from
-rise_here last None dates d p is rises = search rules
-rise_here last (Some c) dates d p is rises =
-    let same : c ≡ d = search rules in
-    subst (λ x. (e : Date) × (last_or (Some c) dates ≡ Some e) × (is_before e x ≡ false)) same (rise_above c dates (and_parts _ _ rises).1)
-
-last_skips : (o : Option Date) (dates : List Date) (d : Date) (p : Option Date) → ((p : Option Date) → (e : Date) × (last_or p dates ≡ Some e) × (is_before e d ≡ false))
-    → (e : Date) × (last_or p (cons_option o dates) ≡ Some e) × (is_before e d ≡ false)
-last_skips None dates d p last = last p
-last_skips (Some c) dates d p last = last (Some c)
-
--- no date that was granted is after the last one
-last_is_latest : (last : Option Date) (apdus : List Apdu) (i : ℕ) (a : Apdu) (d : Date) (p : Option Date) → rise_from last (filter_map granted_day apdus) ≡ true → slice_get apdus i ≡ Some a
-    → granted_day a ≡ Some d → (e : Date) × (last_or p (filter_map granted_day apdus) ≡ Some e) × (is_before e d ≡ false)
-last_is_latest last [] i a d p rises e is = search rules
-last_is_latest last (b ∷ apdus) zero a d p rises e is = rise_here last (granted_day b) (filter_map granted_day apdus) d p (ap granted_day (same_apdu b a e) ∙ is) rises
-last_is_latest last (b ∷ apdus) (suc i) a d p rises e is =
-    let rest = rise_rest last (granted_day b) (filter_map granted_day apdus) rises in
-    last_skips (granted_day b) (filter_map granted_day apdus) d p (λ q. last_is_latest rest.0 apdus i a d q rest.1 e is)
-
-pub granted_not_later : (apdus : List Apdu) (n : ℕ) (a : Apdu) (d : Date) → are_rising (filter_map granted_day apdus) ≡ true → message apdus n ≡ Some a → granted_day a ≡ Some d
-    → (e : Date) × (last_of granted_day apdus ≡ Some e) × (is_before e d ≡ false)
-granted_not_later apdus zero a d rises e is = search rules
-granted_not_later apdus (suc i) a d rises e is = last_is_latest None apdus i a d None rises e is
 
 -- ---- what is among them
 

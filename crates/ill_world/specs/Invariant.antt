@@ -1,6 +1,6 @@
 -- Why every world is safe: what each record keeps by itself and with what the other side has sent. No
 -- part of it joins the two sides' records.
-use Rattle.std.specs.Prelude.{◌≡◌, ℕ, ◌≤◌, List, length, Option, Some}
+use Rattle.std.specs.Prelude.{◌≡◌, ℕ, ◌≤◌, true, List, length, Option, Some}
 use Rattle.ill_values.specs.TxnId.{Qualifiers}
 use Rattle.ill_values.specs.declared.apdu.Apdu.{Apdu}
 use Rattle.ill_core.specs.Issued.{message}
@@ -10,7 +10,10 @@ use Rattle.ill_core.specs.Responder.{ResponderRecord}
 use Rattle.ill_core.specs.ResponderRules.{ResponderRules}
 use Rattle.ill_core.specs.RequesterFacts as requester
 use Rattle.ill_core.specs.RequesterFacts.{KeepsDue}
+use Rattle.ill_core.specs.RequesterNotices.{Notice, Reflects, Attests}
 use Rattle.ill_core.specs.ResponderFacts as responder
+use Rattle.ill_core.specs.ResponderFacts.{Question, asks}
+use Rattle.ill_core.specs.ResponderNotices.{WasAsked, HasAnsweredLast, RecallFits, ShipsBeforeRecall, GrantsRise, OverdueFits, GrantsBeforeOverdue}
 use Rattle.ill_saved.specs.declared.side.Side.{Side}
 use Rattle.ill_saved.specs.declared.side.Side.TheVariants as sides
 use Rattle.ill_saved.specs.Side.{issued_of, due_date_of, IsFrontOf}
@@ -31,15 +34,28 @@ abbrev pub ResponderKnows : ResponderRecord → List (Option Apdu) → Type 0
 ResponderKnows y sent =
     (fact : responder.Fact) → responder.Shows y fact → (a : Apdu) × WasSent sent a × responder.Tells a.number a.body fact
 
+-- Whatever a requester's record reflects, a message attests that the responder has sent.
+abbrev pub RequesterNotes : RequesterRecord → List (Option Apdu) → Type 0
+RequesterNotes x sent =
+    (notice : Notice) → Reflects x notice → (a : Apdu) × WasSent sent a × Attests a.number a.body notice
+
+-- Each Cancel and each Renew that a responder was asked is a message that the requester has sent.
+abbrev pub ResponderHeard : ResponderRecord → List (Option Apdu) → Type 0
+ResponderHeard y sent =
+    (question : Question) (number : ℕ) → WasAsked question y number →
+    (a : Apdu) × WasSent sent a × (asks question a.body ≡ true) × (a.number ≡ number)
+
 -- A requester's record keeps its rules, answers conditions once, and shows what was sent to it.
 pub record RequesterStands (txn : Qualifiers) (x : RequesterRecord) (sent : List (Option Apdu)) : Type 0 where
   pub same_txn : x.txn ≡ txn
   pub rules : RequesterRules x
   pub replies : requester.AnswersOnce x
   pub knows : RequesterKnows x sent
+  pub notices : RequesterNotes x sent
+  pub few : length x.issued ≤ 255
 
--- A responder's record keeps its rules, ends the request once, answers each question once, and shows
--- what was sent to it.
+-- A responder's record keeps its rules, ends the request once, answers each question once and in order, and
+-- shows what was sent to it.
 pub record ResponderStands (txn : Qualifiers) (y : ResponderRecord) (sent : List (Option Apdu)) : Type 0 where
   pub same_txn : y.txn ≡ txn
   pub rules : ResponderRules y
@@ -47,6 +63,14 @@ pub record ResponderStands (txn : Qualifiers) (y : ResponderRecord) (sent : List
   pub cancels : responder.AnswersOnce responder.MayCancel y
   pub renewals : responder.AnswersOnce responder.MayRenew y
   pub knows : ResponderKnows y sent
+  pub asked : ResponderHeard y sent
+  pub answered : (question : Question) → HasAnsweredLast question y
+  pub recall : RecallFits y
+  pub ships_first : ShipsBeforeRecall y.issued
+  pub grants : GrantsRise y.issued
+  pub overdue : OverdueFits y
+  pub grants_first : GrantsBeforeOverdue y.issued
+  pub few : length y.issued ≤ 255
 
 -- a side of the requester, and one of the responder
 abbrev pub RequesterSideStands : Qualifiers → Side → List (Option Apdu) → Type 0
@@ -60,11 +84,12 @@ ResponderSideStands txn (sides.Responder y) sent = ResponderStands txn y sent
 -- ---- a party and what it has sent
 
 -- Each message that was sent has landed; what has landed is the front of what is issued; and only
--- what has landed is released.
+-- what has landed is released. There is a place for each number.
 pub record SendsSaved (p : Party) : Type 0 where
   pub landed : (n : ℕ) (a : Apdu) → sent_message p.sent n ≡ Some a → message (issued_of p.landed) n ≡ Some a
   pub front : IsFrontOf (issued_of p.landed) (issued_of p.live)
   pub released : p.released ≤ length (issued_of p.landed)
+  pub places : length p.sent ≡ 255
 
 -- A party sends only what it has saved, and each of its records stands by what the other has sent.
 pub record PartyStands (K : Side → List (Option Apdu) → Type 0) (p : Party) (told : List (Option Apdu)) : Type 0 where

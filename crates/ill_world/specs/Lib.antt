@@ -11,6 +11,7 @@ pub mod DeskScript
 pub mod DeskSimulation
 pub mod Safety
 pub mod Invariant
+pub mod Round
 pub mod DeskSafety
 pub mod Agreement
 pub mod BadWorlds

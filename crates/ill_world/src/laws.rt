@@ -22,13 +22,17 @@ ghost use Rattle.ill_world.specs.Agreement.{Agrees, IsAgreeingRun, KeepsDates, A
 ghost use Rattle.ill_world.specs.BadWorlds.{IsUnsafe, Disagrees, TakesBack, ArrivesInVain};
 ghost use Rattle.ill_world.specs.BadTraces.{Leaves, IsOfNoFront};
 ghost use Rattle.ill_world.specs.Changes.{MayChange, OnlyLandedChanges, KeepsSent, can_be_seen};
+ghost use Rattle.ill_world.specs.Round.{round_of, CanAnswer, AreInStep, InStep, OutOfStep};
 ghost use Rattle.ill_world.specs.Invariant.{WasSent, RequesterStands, ResponderStands, Stands};
 
 use ill_core::laws::{
-    requester_answers_once, requester_follows, requester_is_quiet, requester_keeps_due,
-    requester_keeps_rules, requester_keeps_txn, requester_rules, requester_shows,
-    responder_answers_once, responder_ends_once, responder_follows, responder_is_quiet,
-    responder_keeps_rules, responder_keeps_txn, responder_rules, responder_shows,
+    requester_answers_once, requester_follows, requester_has_heard, requester_is_quiet,
+    requester_issues, requester_keeps_due, requester_keeps_rules, requester_keeps_txn,
+    requester_reflects, requester_rules, requester_shows, responder_answers_once, responder_ends,
+    responder_ends_once, responder_follows, responder_grants_rise, responder_has_answered_last,
+    responder_has_heard, responder_is_final, responder_is_overdue, responder_is_quiet,
+    responder_issues, responder_keeps_rules, responder_keeps_txn, responder_recalls,
+    responder_rules, responder_shows, responder_was_asked,
 };
 use ill_saved::laws::rows_grow;
 
@@ -46,6 +50,8 @@ pub fn requester_stands()
     requester_rules();
     requester_answers_once();
     requester_shows();
+    requester_reflects();
+    requester_issues();
 }
 
 /// A responder stands by what the requester has sent, after every deed and every message of it.
@@ -63,6 +69,12 @@ pub fn responder_stands()
     responder_ends_once();
     responder_answers_once();
     responder_shows();
+    responder_was_asked();
+    responder_has_answered_last();
+    responder_recalls();
+    responder_grants_rise();
+    responder_is_overdue();
+    responder_issues();
 }
 
 /// The world of two idle sides stands, and so does every world that an event leads to from one.
@@ -137,6 +149,31 @@ pub fn one_arrival_is_enough()
     requester_follows();
     responder_follows();
 }
+
+/// After a round both sides are in step, if the responder can answer a Conditional-Reply no: where the world stands,
+/// and so after any events of a run.
+pub fn one_round_is_enough()
+    ensures stands { (txn : Qualifiers) (w : Parties) → Stands txn w → CanAnswer w.responder.live →
+        AreInStep (run_of w (round_of w)) }
+    ensures run { (txn : Qualifiers) (events : List Event) →
+        CanAnswer (run_of (first_world txn) events).responder.live →
+        AreInStep (run_of (run_of (first_world txn) events) (round_of (run_of (first_world txn) events))) }
+{
+    world_stands();
+    requester_keeps_txn();
+    requester_issues();
+    requester_has_heard();
+    responder_keeps_txn();
+    responder_issues();
+    responder_ends();
+    responder_is_final();
+    responder_has_heard();
+}
+
+/// No two records are in step whose states do not face each other, or of which one does not know what the other does.
+pub fn no_pair_out_of_step_is_in_step()
+    ensures { (x : RequesterRecord) (y : ResponderRecord) → OutOfStep x y → InStep x y → ⊥ }
+{}
 
 /// Where the world stands, an event keeps or raises the requester's due date.
 pub fn due_dates_stay()

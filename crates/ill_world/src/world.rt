@@ -1,6 +1,6 @@
 //! Two sides, with what they have sent.
 
-ghost use Rattle.std.specs.Prelude.{◌≡◌, ◌++◌, IfOk, OnOk};
+ghost use Rattle.std.specs.Prelude.{◌≡◌, ◌++◌, ◌∷◌, IfOk, OnOk};
 ghost use Rattle.ill_values.specs.TxnId.{Qualifiers};
 ghost use Rattle.ill_saved.specs.declared.side.Side.TheVariants as sides;
 ghost use Rattle.ill_world.specs.World as model;
@@ -9,16 +9,19 @@ ghost use Rattle.ill_world.specs.Safety.{IsSafeRun};
 ghost use Rattle.ill_world.specs.Agreement.{IsAgreeingRun, KeepsDates, Arrives};
 ghost use Rattle.ill_world.specs.Invariant.{Stands};
 ghost use Rattle.ill_world.specs.PartyView.{Gives};
+ghost use Rattle.ill_world.specs.Round.{passes_on, half_of, round_of, Performs, CanAnswer, AreInStep};
+ghost use Rattle.ill_world.specs.declared.event.Event.TheVariants.{Save};
 
 use crate::event::{Event, Outcome, Who};
 use crate::laws::{
-    due_dates_stay, every_run_agrees, every_run_is_safe, one_arrival_is_enough, world_stands,
+    due_dates_stay, every_run_agrees, every_run_is_safe, one_arrival_is_enough,
+    one_round_is_enough, world_stands,
 };
 use crate::party::Party;
 use crate::trace::push_line;
 use ill_core::{Requester, Responder, Wish};
 use ill_saved::{Action, Side};
-use ill_values::{OutOfMemory, TxnId};
+use ill_values::{Number, OutOfMemory, TxnId};
 use std::alloc::Global;
 use std::marker::Model;
 
@@ -73,6 +76,41 @@ impl World {
             Who::Requester => perform(&mut self.requester, &self.responder, alloc, event),
             Who::Responder => perform(&mut self.responder, &self.requester, alloc, event),
         }
+    }
+
+    /// Performs a round: saves the requester's side, and sends and delivers all its messages in order; then those of
+    /// the responder. If memory runs out, only the first events of the round have happened.
+    ///
+    /// Then both sides are in step, if before the round the responder has ended the request, or has a number left.
+    pub fn exchange(&mut self, alloc: Global) -> Result<(), OutOfMemory>
+        ensures performs { Performs (round_of self.old) self.old result self.new }
+        ensures in_step { OnOk result (CanAnswer self.old.responder.live → AreInStep self.new) }
+    {
+        let _ = &self.requester;
+        one_round_is_enough();
+        self.pass_on(alloc, Who::Requester)?;
+        self.pass_on(alloc, Who::Responder)
+    }
+
+    /// Performs half of a round: saves a side, and sends and delivers all its messages in order.
+    fn pass_on(&mut self, alloc: Global, who: Who) -> Result<(), OutOfMemory>
+        ensures { Performs (half_of who self.old) self.old result self.new }
+    {
+        let count = match who {
+            Who::Requester => self.requester().issued_count(),
+            Who::Responder => self.responder().issued_count(),
+        };
+        self.perform_all(alloc, &half_of_round(alloc, who, count)?)
+    }
+
+    /// Performs these events, one after another. If memory runs out, only the first of them have happened.
+    fn perform_all(&mut self, alloc: Global, events: &[Event]) -> Result<(), OutOfMemory>
+        ensures { Performs events.now self.old result self.new }
+    {
+        for event in events {
+            self.step(alloc, event)?;
+        }
+        Ok(())
     }
 
     /// The requester, as it is in memory.
@@ -140,6 +178,22 @@ pub fn run(alloc: Global, txn: &TxnId, events: &[Event]) -> Result<World, OutOfM
         world.step(alloc, event)?;
     }
     Ok(world)
+}
+
+/// The events of half of a round: a side is saved, and each of its `count` messages is sent and delivered.
+fn half_of_round(alloc: Global, who: Who, count: u8) -> Result<Vec<Event>, OutOfMemory>
+    ensures { IfOk result (λ events. events.items ≡ Save who ∷ passes_on who 1 count) }
+{
+    let mut events = Vec::new(alloc);
+    events.push(Event::Save(who))?;
+    for index in 0..count {
+        let Some(number) = Number::new(index + 1) else {
+            unreachable!()
+        };
+        events.push(Event::Send(who, number))?;
+        events.push(Event::Deliver(who.other(), number))?;
+    }
+    Ok(events)
 }
 
 /// Performs an event of a party. The other one has sent what it may deliver.

@@ -1,4 +1,4 @@
-use Rattle.std.proofs.Common.{◌∙◌, inl, inr}
+use Rattle.std.proofs.Common.{◌≤◌, ◌∙◌, inl, inr, length, subst, sym}
 use Rattle.ill_world.proofs.laws.requester_stands.Goals as goal
 
 pub returns-clause-acts : goal.returns-clause-acts
@@ -8,6 +8,8 @@ returns-clause-acts c =
       rules = (c.requester_rules.ensures new).0 (c.requester_keeps_rules.ensures.acts x new wish done ((c.requester_rules.ensures x).1 stands.rules));
       replies = c.requester_answers_once.ensures.acts x new wish done stands.rules.parts.held stands.replies;
       knows = λ fact shows. stands.knows fact (c.requester_shows.ensures.acts x new wish fact done shows);
+      notices = λ notice reflects. stands.notices notice (c.requester_reflects.ensures.acts x new wish notice done ((c.requester_rules.ensures x).1 stands.rules) reflects);
+      few = c.requester_issues.ensures.few x new wish done;
     }
 
 pub returns-clause-takes : goal.returns-clause-takes
@@ -17,4 +19,10 @@ returns-clause-takes c =
       rules = (c.requester_rules.ensures _).0 (c.requester_keeps_rules.ensures.takes x a ((c.requester_rules.ensures x).1 stands.rules));
       replies = c.requester_answers_once.ensures.takes x a stands.replies;
       knows = λ fact shows. elim (c.requester_shows.ensures.takes x a fact shows) [ inl before ↦ stands.knows fact before | inr tells ↦ (a, was, tells) ];
+      notices =
+          λ notice reflects. elim (c.requester_reflects.ensures.takes x a notice ((c.requester_rules.ensures x).1 stands.rules) reflects) [
+            | inl before ↦ stands.notices notice before
+            | inr attests ↦ (a, was, attests)
+          ];
+      few = subst (λ l. length l ≤ 255) (sym (c.requester_issues.ensures.takes x a)) stands.few;
     }

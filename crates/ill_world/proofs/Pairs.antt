@@ -1,0 +1,839 @@
+-- Why the two records are in step once each has heard all messages of the other.
+use Rattle.std.proofs.Common.{rules, arith, ◌≡◌, ◌⊎◌, inl, inr, ℕ, zero, suc, ◌≤◌, ◌<◌, Bool, true, false, not, ◌&&◌, ◌||◌, nat_lt, List, [], ◌∷◌, length, Option, Some, None, is_some, refl, sym, ap, ◌∙◌, subst}
+use Rattle.std.specs.Prelude.{slice_get, ◌==◌}
+use Rattle.std.specs.List.{list_any, filter_map}
+use Rattle.std.proofs.lemmas.Bool.{and_parts, leb-true, le-leb}
+use Rattle.ill_values.specs.Day.{Date}
+use Rattle.ill_values.specs.TxnId.{Qualifiers}
+use Rattle.ill_values.specs.declared.apdu.Apdu.{Apdu}
+use Rattle.ill_values.specs.declared.apdu.Body.{Body}
+use Rattle.ill_values.specs.declared.apdu.Body.TheVariants as types
+use Rattle.ill_values.specs.declared.apdu.AnswerResult.TheVariants as results
+use Rattle.ill_core.specs.declared.state.State.{State}
+use Rattle.ill_core.specs.declared.state.State.TheVariants as states
+use Rattle.ill_core.specs.State.{is_among}
+use Rattle.ill_core.specs.Dates.{is_same_day, is_due_on, is_before, is_after_due}
+use Rattle.ill_core.specs.Numbers.{is_the, is_at_most, is_below}
+use Rattle.ill_core.specs.Bodies.{is_ill_request, is_cancel, is_received, is_renew, is_returned, is_shipped, is_checked_in, is_cancelled, is_unsupplied, is_end, is_renewal, grant_in, names_conditions, declines, accepts}
+use Rattle.ill_core.specs.Issued.{message, has, was, is_there, is_none, last_of, accepted_in, granted_day}
+use Rattle.ill_core.specs.Requester.{RequesterRecord, later, begins_with_request, is_declined, is_received_by, accepted_number, last_cancel, last_renew}
+use Rattle.ill_core.specs.RequesterFacts as requester
+use Rattle.ill_core.specs.RequesterNotices as notices
+use Rattle.ill_core.specs.RequesterNotices.{awaits, awaits_cancel, is_due_after, in_time, undecided, lent}
+use Rattle.ill_core.specs.Responder.{ResponderRecord, due_of, later as shipped_states, outstanding_number, ships_first}
+use Rattle.ill_core.specs.ResponderFacts as responder
+use Rattle.ill_core.specs.ResponderFacts.{Question, MayCancel, MayRenew, answered_number}
+use Rattle.ill_core.specs.ResponderNotices as records
+use Rattle.ill_core.specs.ResponderNotices.{is_recall, is_overdue_of, Grant, grant, grant_of}
+use Rattle.ill_world.specs.Invariant.{RequesterStands, ResponderStands}
+use Rattle.ill_world.specs.Round.{faced_in, InStep}
+use Rattle.ill_core.proofs.GrantLemmas.{itself_not_before, granted_not_later}
+use Rattle.ill_world.proofs.Sendings.{message_has}
+use Rattle.ill_world.proofs.Uniqueness.{message_number, has_message, same_apdu, found_among, answers_once, one_end}
+use Rattle.ill_world.proofs.Finds.{Finds, finds_last, finds_any, all_found, number_if, was_last, not_above_last, has_last}
+use Rattle.ill_world.proofs.Claims.{AreIssued, has_issued, is_in_cancelled, is_in_not_supplied, cancelled_faces, not_supplied_faces, shipped_by, ships_before, tells_grant}
+use Rattle.ill_world.proofs.Agreements.{says_true, cancel_is_open, cancels_with, tells_cancel, tells_refused, at_most_one}
+use Rattle.ill_world.proofs.Arrivals.{not_none}
+
+-- Each record has heard what the other has issued: a requester all but conditions, of which it has heard the last
+-- message alone; and the responder can answer a no.
+pub record HaveHeard (x : RequesterRecord) (y : ResponderRecord) : Type 0 where
+  pub requester : (n : ℕ) (a : Apdu) → message y.issued n ≡ Some a → names_conditions a.body ≡ false → notices.has_heard x a.number a.body ≡ true
+  pub last : (a : Apdu) → message y.issued (length y.issued) ≡ Some a → notices.has_heard x a.number a.body ≡ true
+  pub responder : (n : ℕ) (a : Apdu) → message x.issued n ≡ Some a → records.has_heard y a.number a.body ≡ true
+  pub can_answer : is_among records.undecided y.state ≡ true → length y.issued < 255
+
+-- ---- what it is to have heard a message
+
+not_true : (b : Bool) → not b ≡ true → b ≡ false
+not_true b is = search rules
+
+-- A Bool that is not false is true, and one that is not true is false.
+is_true : (b : Bool) → (b ≡ false → ⊥) → b ≡ true
+is_true true never = refl
+is_true false never = absurd (never refl)
+
+pub is_false : (b : Bool) → (b ≡ true → ⊥) → b ≡ false
+is_false false never = refl
+is_false true never = absurd (never refl)
+
+-- Two Bools are alike where each follows from the other.
+alike : (a b : Bool) → (a ≡ true → b ≡ true) → (b ≡ true → a ≡ true) → a ≡ b
+alike true b there back = sym (there refl)
+alike false true there back = back refl
+alike false false there back = refl
+
+not_both : (b : Bool) → b ≡ true → b ≡ false → ⊥
+not_both b is is_not = search rules
+
+-- one of two Bools is true, and the first is not
+second : (a b : Bool) → (not a || b) ≡ true → a ≡ true → b ≡ true
+second a b either is = search rules
+
+request_heard : (y : ResponderRecord) (n : ℕ) (body : Body) → is_ill_request body ≡ true → records.has_heard y n body ≡ true → is_among (states.Idle ∷ []) y.state ≡ false
+request_heard y n (types.IllRequest expiry item) is heard = not_true _ heard
+request_heard y n body is heard = search rules
+
+end_heard : (x : RequesterRecord) (n : ℕ) (body : Body) → is_unsupplied body ≡ true → notices.has_heard x n body ≡ true → is_among undecided x.state ≡ false
+end_heard x n (types.IllAnswer answer) is heard = search rules
+end_heard x n types.Expired is heard = not_true _ heard
+end_heard x n body is heard = search rules
+
+shipped_heard : (x : RequesterRecord) (n : ℕ) (body : Body) → is_shipped body ≡ true → notices.has_heard x n body ≡ true → is_among undecided x.state ≡ false
+shipped_heard x n (types.Shipped due) is heard = not_true _ heard
+shipped_heard x n body is heard = search rules
+
+cancel_heard : (y : ResponderRecord) (n : ℕ) (body : Body) → is_cancel body ≡ true → records.has_heard y n body ≡ true → is_among records.undecided y.state ≡ true → is_at_most n y.last_cancel ≡ true
+cancel_heard y n types.Cancel is heard is_open = second _ _ heard is_open
+cancel_heard y n body is heard is_open = search rules
+
+renew_heard : (y : ResponderRecord) (n : ℕ) (body : Body) → is_renew body ≡ true → records.has_heard y n body ≡ true → is_among (states.Shipped ∷ states.Overdue ∷ []) y.state ≡ true
+    → is_at_most n y.last_renew ≡ true
+renew_heard y n (types.Renew wished) is heard here = second _ _ heard here
+renew_heard y n body is heard here = search rules
+
+returned_heard : (y : ResponderRecord) (n : ℕ) (body : Body) → is_returned body ≡ true → records.has_heard y n body ≡ true → is_among records.lent y.state ≡ false
+returned_heard y n types.Returned is heard = not_true _ heard
+returned_heard y n body is heard = search rules
+
+received_heard : (y : ResponderRecord) (n : ℕ) (body : Body) → is_received body ≡ true → records.has_heard y n body ≡ true → is_among shipped_states y.state ≡ true → y.received ≡ true
+received_heard y n types.Received is heard shipped = second _ _ heard shipped
+received_heard y n body is heard shipped = search rules
+
+no_heard : (y : ResponderRecord) (n : ℕ) (body : Body) → declines body ≡ true → records.has_heard y n body ≡ true → is_among records.undecided y.state ≡ true → nat_lt (length y.issued) 255 ≡ false
+no_heard y n (types.ConditionalReply c false) is heard is_open = not_true _ (second _ _ heard is_open)
+no_heard y n (types.ConditionalReply c true) is heard is_open = search rules
+no_heard y n body is heard is_open = search rules
+
+yes_heard : (y : ResponderRecord) (n c : ℕ) (body : Body) → accepts body ≡ Some c → records.has_heard y n body ≡ true → is_the c (outstanding_number y) ≡ false
+yes_heard y n c (types.ConditionalReply k true) is heard = let same : k ≡ c = search rules in subst (λ i. is_the i (outstanding_number y) ≡ false) same (not_true _ heard)
+yes_heard y n c (types.ConditionalReply k false) is heard = search rules
+yes_heard y n c body is heard = search rules
+
+recall_heard : (x : RequesterRecord) (n : ℕ) (body : Body) → is_recall body ≡ true → notices.has_heard x n body ≡ true → is_among lent x.state ≡ false
+recall_heard x n types.Recall is heard = not_true _ heard
+recall_heard x n body is heard = search rules
+
+checked_in_heard : (x : RequesterRecord) (n : ℕ) (body : Body) → is_checked_in body ≡ true → notices.has_heard x n body ≡ true → is_among (states.Returned ∷ []) x.state ≡ true → x.checked_in ≡ true
+checked_in_heard x n types.CheckedIn is heard back = second _ _ heard back
+checked_in_heard x n body is heard back = search rules
+
+cancel_reply_heard : (x : RequesterRecord) (n c : ℕ) (body : Body) → answered_number MayCancel body ≡ Some c → notices.has_heard x n body ≡ true → awaits_cancel x c ≡ false
+cancel_reply_heard x n c (types.CancelReply k is_yes) is heard = let same : k ≡ c = search rules in subst (λ i. awaits_cancel x i ≡ false) same (not_true _ heard)
+cancel_reply_heard x n c body is heard = search rules
+
+-- ---- states
+
+-- What is known of the states of both, one of the other.
+record StatesFit (s t : State) : Type 0 where
+  role : is_among (states.InProcess ∷ states.CheckedIn ∷ []) s ≡ false
+  other_role : is_among (states.Pending ∷ states.Received ∷ states.NotReceivedOverdue ∷ []) t ≡ false
+  idle : is_among (states.Idle ∷ []) s ≡ is_among (states.Idle ∷ []) t
+  cancelled : is_among (states.Cancelled ∷ []) s ≡ is_among (states.Cancelled ∷ []) t
+  unsupplied : is_among (states.NotSupplied ∷ []) s ≡ is_among (states.NotSupplied ∷ []) t
+  cancel_waits : is_among (states.CancelPending ∷ []) s ≡ is_among (states.CancelPending ∷ []) t
+  shipped : is_among later s ≡ is_among shipped_states t
+  renew_waits : is_among (states.RenewPending ∷ states.RenewOverdue ∷ []) s ≡ is_among (states.RenewPending ∷ states.RenewOverdue ∷ []) t
+  recalled : is_among (states.Recall ∷ []) s ≡ is_among (states.Recall ∷ []) t
+  returned : is_among (states.Returned ∷ []) s ≡ is_among (states.Returned ∷ states.CheckedIn ∷ []) t
+  overdue : is_among (states.NotReceivedOverdue ∷ states.Overdue ∷ states.RenewOverdue ∷ []) s ≡ is_among (states.Overdue ∷ states.RenewOverdue ∷ []) t
+  conditions : is_among (states.Conditional ∷ []) t ≡ true → is_among (states.Conditional ∷ []) s ≡ true
+
+-- ---- what a message is not
+
+unsupplied_is_plain : (body : Body) → is_unsupplied body ≡ true → names_conditions body ≡ false
+unsupplied_is_plain (types.IllAnswer answer) is = search rules
+unsupplied_is_plain types.Expired is = refl
+unsupplied_is_plain body is = search rules
+
+shipped_is_plain : (body : Body) → is_shipped body ≡ true → names_conditions body ≡ false
+shipped_is_plain (types.Shipped due) is = refl
+shipped_is_plain body is = search rules
+
+recall_is_plain : (body : Body) → is_recall body ≡ true → names_conditions body ≡ false
+recall_is_plain types.Recall is = refl
+recall_is_plain body is = search rules
+
+checked_in_is_plain : (body : Body) → is_checked_in body ≡ true → names_conditions body ≡ false
+checked_in_is_plain types.CheckedIn is = refl
+checked_in_is_plain body is = search rules
+
+cancel_reply_is_plain : (body : Body) (c : ℕ) → answered_number MayCancel body ≡ Some c → names_conditions body ≡ false
+cancel_reply_is_plain (types.CancelReply k is_yes) c is = refl
+cancel_reply_is_plain body c is = search rules
+
+-- An answer to a Renew is a Renew-Answer.
+renew_answer : (body : Body) (c : ℕ) → answered_number MayRenew body ≡ Some c → (granted : Option Date) × (body ≡ types.RenewAnswer c granted)
+renew_answer (types.RenewAnswer k granted) c is = let same : k ≡ c = search rules in (granted, ap (λ i. types.RenewAnswer i granted) same)
+renew_answer body c is = search rules
+
+tells_requested : (n : ℕ) (body : Body) → responder.Tells n body responder.Requested → is_ill_request body ≡ true
+tells_requested n (types.IllRequest expiry item) tells = refl
+tells_requested n body tells = search rules
+
+attests_recall : (n : ℕ) (body : Body) → notices.Attests n body notices.Recalled → is_recall body ≡ true
+attests_recall n types.Recall attests = refl
+attests_recall n body attests = search rules
+
+attests_named : (n c : ℕ) (body : Body) → notices.Attests n body (notices.Named c) → n ≡ c
+attests_named n c (types.IllAnswer results.Conditional) attests = attests
+attests_named n c body attests = search rules
+
+attests_answered : (n renew : ℕ) (day : Date) (body : Body) → notices.Attests n body (notices.Answered renew day) → answered_number MayRenew body ≡ Some renew
+attests_answered n renew day (types.RenewAnswer c granted) attests = ap Some attests.0
+attests_answered n renew day body attests = search rules
+
+-- What grants a date before a Renew answers a lower number.
+attests_grant : (n renew : ℕ) (due : Date) (body : Body) → 0 < renew → notices.Attests n body (notices.GrantedBefore renew due) → (c : ℕ) × (grant_of body ≡ Some (grant c due)) × (c < renew)
+attests_grant n renew due (types.Shipped d) some attests = (0, ap (λ e. Some (grant 0 e)) attests, some)
+attests_grant n renew due (types.RenewAnswer c (Some d)) some attests = (c, ap (λ e. Some (grant c e)) attests.0, attests.1)
+attests_grant n renew due (types.RenewAnswer c None) some attests = absurd attests
+attests_grant n renew due body some attests = search rules
+
+-- ---- one state, of what it is not
+
+cancelled_left : (s : State) (the : Bool) → (is_among (states.CancelPending ∷ states.Cancelled ∷ []) s && the) ≡ true → (is_among (states.CancelPending ∷ []) s && the) ≡ false → is_among (states.Cancelled ∷ []) s ≡ true
+cancelled_left states.CancelPending true may waits = search rules
+cancelled_left states.CancelPending false may waits = search rules
+cancelled_left states.Cancelled the may waits = refl
+cancelled_left s the may waits = search rules
+
+waits_left : (s : State) → is_among (states.CancelPending ∷ states.Cancelled ∷ []) s ≡ true → is_among (states.Cancelled ∷ []) s ≡ false → is_among (states.CancelPending ∷ []) s ≡ true
+waits_left states.CancelPending may cancelled = refl
+waits_left s may cancelled = search rules
+
+-- a responder that has shipped
+out : (t : State) → is_among shipped_states t ≡ true
+    → (is_among (states.Idle ∷ []) t ≡ false) × (is_among (states.Cancelled ∷ []) t ≡ false) × (is_among (states.NotSupplied ∷ []) t ≡ false)
+out t is = search rules
+
+later_left : (s : State) → is_among (states.InProcess ∷ states.CheckedIn ∷ []) s ≡ false → is_among (states.Idle ∷ []) s ≡ false → is_among (states.Cancelled ∷ []) s ≡ false
+    → is_among (states.NotSupplied ∷ []) s ≡ false → is_among undecided s ≡ false → is_among later s ≡ true
+later_left s role idle cancelled unsupplied decided = search rules
+
+unsupplied_left : (s : State) → is_among (states.InProcess ∷ states.CheckedIn ∷ []) s ≡ false → is_among (states.Idle ∷ []) s ≡ false → is_among (states.Cancelled ∷ []) s ≡ false
+    → is_among later s ≡ false → is_among undecided s ≡ false → is_among (states.NotSupplied ∷ []) s ≡ true
+unsupplied_left states.NotSupplied role idle cancelled shipped decided = refl
+unsupplied_left s role idle cancelled shipped decided = search rules
+
+-- a responder in NOT-SUPPLIED
+given_up : (t : State) → is_among (states.NotSupplied ∷ []) t ≡ true
+    → (is_among (states.Idle ∷ []) t ≡ false) × (is_among (states.Cancelled ∷ []) t ≡ false) × (is_among shipped_states t ≡ false)
+given_up states.NotSupplied is = (refl, refl, refl)
+given_up t is = search rules
+
+-- a side in CANCEL-PENDING
+waiting : (s : State) → is_among (states.CancelPending ∷ []) s ≡ true
+    → (is_among (states.Idle ∷ []) s ≡ false) × (is_among (states.Cancelled ∷ []) s ≡ false) × (is_among (states.NotSupplied ∷ []) s ≡ false) × (is_among later s ≡ false) × (is_among shipped_states s ≡ false)
+    × (is_among (states.CancelPending ∷ states.Cancelled ∷ []) s ≡ true)
+waiting states.CancelPending is = (refl, refl, refl, refl, refl, refl)
+waiting s is = search rules
+
+-- A responder whose request is is_open and has begun waits for nothing, or for an answer to a Cancel.
+cancel_left : (t : State) → is_among (states.Pending ∷ states.Received ∷ states.NotReceivedOverdue ∷ []) t ≡ false → is_among (states.Idle ∷ []) t ≡ false → is_among (states.Cancelled ∷ []) t ≡ false
+    → is_among (states.NotSupplied ∷ []) t ≡ false → is_among shipped_states t ≡ false → is_among records.undecided t ≡ false → is_among (states.CancelPending ∷ []) t ≡ true
+cancel_left states.CancelPending role idle cancelled unsupplied shipped decided = refl
+cancel_left t role idle cancelled unsupplied shipped decided = search rules
+
+-- While the request is is_open and no Cancel waits, the last Cancel was answered.
+open_answers : (t : State) → is_among records.undecided t ≡ true → is_among (records.unanswered MayCancel) t ≡ false
+open_answers states.CancelPending is = search rules
+open_answers t is = search rules
+
+-- In SHIPPED and OVERDUE the last Renew was answered.
+settled_answers : (t : State) → is_among (states.Shipped ∷ states.Overdue ∷ []) t ≡ true → is_among (records.unanswered MayRenew) t ≡ false
+settled_answers states.Shipped is = refl
+settled_answers states.Overdue is = refl
+settled_answers t is = search rules
+
+-- A responder that waits for no Renew, and has the item neither asked back nor back, is in SHIPPED or OVERDUE.
+renew_left : (t : State) → is_among shipped_states t ≡ true → is_among (states.Recall ∷ []) t ≡ false → is_among (states.Returned ∷ states.CheckedIn ∷ []) t ≡ false
+    → is_among (states.Shipped ∷ states.Overdue ∷ []) t ≡ false → is_among (states.RenewPending ∷ states.RenewOverdue ∷ []) t ≡ true
+renew_left states.RenewPending shipped recalled returned settled = refl
+renew_left states.RenewOverdue shipped recalled returned settled = refl
+renew_left t shipped recalled returned settled = search rules
+
+-- a side that waits for an answer to a Renew
+renewing : (s : State) → is_among (states.RenewPending ∷ states.RenewOverdue ∷ []) s ≡ true
+    → (is_among later s ≡ true) × (is_among shipped_states s ≡ true) × (is_among (states.Recall ∷ []) s ≡ false) × (is_among (states.Returned ∷ []) s ≡ false)
+    × (is_among (states.Returned ∷ states.CheckedIn ∷ []) s ≡ false) × (is_among (states.Recall ∷ states.Returned ∷ []) s ≡ false)
+renewing states.RenewPending is = (refl, refl, refl, refl, refl, refl)
+renewing states.RenewOverdue is = (refl, refl, refl, refl, refl, refl)
+renewing s is = search rules
+
+returned_left : (t : State) → is_among shipped_states t ≡ true → is_among records.lent t ≡ false → is_among (states.Returned ∷ states.CheckedIn ∷ []) t ≡ true
+returned_left states.Returned shipped home = refl
+returned_left states.CheckedIn shipped home = refl
+returned_left t shipped home = search rules
+
+-- a side in RETURNED is in SHIPPED or later
+returned_is_out : (s : State) → is_among (states.Returned ∷ []) s ≡ true → is_among later s ≡ true
+returned_is_out states.Returned is = refl
+returned_is_out s is = search rules
+
+recalled_is_out : (s : State) → is_among (states.Recall ∷ []) s ≡ true
+    → (s ≡ states.Recall) × (is_among later s ≡ true) × (is_among shipped_states s ≡ true) × (is_among (states.Returned ∷ []) s ≡ false) × (is_among (states.Returned ∷ states.CheckedIn ∷ []) s ≡ false)
+recalled_is_out states.Recall is = (refl, refl, refl, refl, refl)
+recalled_is_out s is = search rules
+
+recall_left : (t : State) → is_among (states.Recall ∷ states.Returned ∷ states.CheckedIn ∷ []) t ≡ true → is_among (states.Returned ∷ states.CheckedIn ∷ []) t ≡ false → is_among (states.Recall ∷ []) t ≡ true
+recall_left states.Recall may returned = refl
+recall_left t may returned = search rules
+
+recall_at : (s : State) → is_among later s ≡ true → is_among (states.Returned ∷ []) s ≡ false → is_among lent s ≡ false → is_among (states.Recall ∷ []) s ≡ true
+recall_at states.Recall shipped returned home = refl
+recall_at s shipped returned home = search rules
+
+back_or_home : (t : State) → is_among (states.Returned ∷ states.CheckedIn ∷ []) t ≡ true → is_among shipped_states t ≡ true
+back_or_home states.Returned is = refl
+back_or_home states.CheckedIn is = refl
+back_or_home t is = search rules
+
+-- a responder in CONDITIONAL
+conditional : (t : State) → is_among (states.Conditional ∷ []) t ≡ true
+    → (is_among (states.Idle ∷ []) t ≡ false) × (is_among (states.Cancelled ∷ []) t ≡ false) × (is_among (states.NotSupplied ∷ []) t ≡ false) × (is_among (states.CancelPending ∷ []) t ≡ false)
+    × (is_among shipped_states t ≡ false)
+conditional states.Conditional is = (refl, refl, refl, refl, refl)
+conditional t is = search rules
+
+conditional_left : (s : State) → is_among (states.InProcess ∷ states.CheckedIn ∷ []) s ≡ false → is_among (states.Idle ∷ []) s ≡ false → is_among (states.Cancelled ∷ []) s ≡ false
+    → is_among (states.NotSupplied ∷ []) s ≡ false → is_among (states.CancelPending ∷ []) s ≡ false → is_among later s ≡ false → is_among (states.Pending ∷ []) s ≡ false
+    → is_among (states.Conditional ∷ []) s ≡ true
+conditional_left states.Conditional role idle cancelled unsupplied waits shipped pending = refl
+conditional_left s role idle cancelled unsupplied waits shipped pending = search rules
+
+-- A requester in CONDITIONAL faces one whose request is is_open.
+open_left : (s t : State) → is_among (states.Conditional ∷ []) s ≡ true → is_among (faced_in s) t ≡ true → is_among records.undecided t ≡ true
+open_left states.Conditional states.Conditional is faced = refl
+open_left states.Conditional states.InProcess is faced = refl
+open_left states.Conditional t is faced = search rules
+open_left s t is faced = search rules
+
+-- ---- numbers
+
+some_of : {X : Type 0} (o : Option X) → is_some o ≡ true → (v : X) × (o ≡ Some v)
+some_of None is = search rules
+some_of (Some v) is = (v, refl)
+
+most : (k : ℕ) (o : Option ℕ) → is_at_most k o ≡ true → (m : ℕ) × (o ≡ Some m) × (k ≤ m)
+most k None is = search rules
+most k (Some m) is = (m, refl, leb-true k m is)
+
+itself : (n : ℕ) (o : Option ℕ) → o ≡ Some n → is_the n o ≡ true
+itself n None is = search rules
+itself n (Some m) is = search rules
+
+not_below : (n : ℕ) (o : Option ℕ) → o ≡ Some n → is_below n o ≡ true → ⊥
+not_below n None is below = search rules
+not_below n (Some m) is below = search rules
+
+both : (a b : Bool) → a ≡ true → b ≡ true → (a && b) ≡ true
+both a b is too = search rules
+
+neither : (s : State) → is_among (states.NotSupplied ∷ []) s ≡ false → is_among later s ≡ false → is_among (states.NotSupplied ∷ later) s ≡ false
+neither states.NotSupplied unsupplied shipped = search rules
+neither s unsupplied shipped = shipped
+
+either_gone : (s : State) → is_among (states.Recall ∷ []) s ≡ false → is_among (states.Returned ∷ []) s ≡ false → is_among (states.Recall ∷ states.Returned ∷ []) s ≡ false
+either_gone states.Recall recalled returned = search rules
+either_gone s recalled returned = returned
+
+home_is_back : (t : State) → is_among (states.CheckedIn ∷ []) t ≡ true → is_among (states.Returned ∷ states.CheckedIn ∷ []) t ≡ true
+home_is_back states.CheckedIn is = refl
+home_is_back t is = search rules
+
+second_false : (a b : Bool) → (a && b) ≡ false → a ≡ true → b ≡ false
+second_false a b none is = search rules
+
+-- The last APDU names conditions where the list ends with such.
+last_names : (apdus : List Apdu) → was names_conditions apdus (length apdus) ≡ true → (a : Apdu) × (message apdus (length apdus) ≡ Some a) × (names_conditions a.body ≡ true)
+last_names apdus is = go (message apdus (length apdus)) refl is
+  where
+    go : (found : Option Apdu) → message apdus (length apdus) ≡ found → is_there names_conditions found ≡ true → (a : Apdu) × (message apdus (length apdus) ≡ Some a) × (names_conditions a.body ≡ true)
+    go None e is = search rules
+    go (Some a) e is = (a, e, is)
+
+conditions_heard : (x : RequesterRecord) (n : ℕ) (body : Body) → names_conditions body ≡ true → notices.has_heard x n body ≡ true → is_among (states.Pending ∷ []) x.state ≡ true
+    → is_at_most n (accepted_number x) ≡ true
+conditions_heard x n (types.IllAnswer results.Conditional) is heard pending = second _ _ heard pending
+conditions_heard x n body is heard pending = search rules
+
+get_within : (apdus : List Apdu) (i : ℕ) (a : Apdu) → slice_get apdus i ≡ Some a → i < length apdus
+get_within [] i a at = search rules
+get_within (b ∷ apdus) zero a at = omega arith
+get_within (b ∷ apdus) (suc i) a at = omega (arith, get_within apdus i a at)
+
+message_within : (apdus : List Apdu) (n : ℕ) (a : Apdu) → message apdus n ≡ Some a → n ≤ length apdus
+message_within apdus zero a at = search rules
+message_within apdus (suc i) a at = omega (arith, get_within apdus i a at)
+
+-- The conditions that wait in CONDITIONAL have the number of the last message.
+waits_outstanding : (y : ResponderRecord) (n : ℕ) {a : Apdu} → is_among (states.Conditional ∷ []) y.state ≡ true → n ≡ length y.issued → message y.issued (length y.issued) ≡ Some a
+    → is_the n (outstanding_number y) ≡ true
+waits_outstanding y n is same at = search rules
+
+fits_face : (s t : State) → StatesFit s t → is_among (faced_in s) t ≡ true
+fits_face s t fit = search rules
+
+-- ---- due dates
+
+-- Neither of two days is before the other, so they are the same.
+same_date : (d e : Date) → is_before d e ≡ false → is_before e d ≡ false → d ≡ e
+same_date d e first other = search rules
+
+some_date : (d e : Date) → ◌≡◌ {A = Option Date} (Some d) (Some e) → d ≡ e
+some_date d e same = search rules
+
+some_same : (i j : ℕ) → ◌≡◌ {A = Option ℕ} (Some i) (Some j) → i ≡ j
+some_same i j same = search rules
+
+-- What grants a date is a Shipped or the answer to a Renew.
+grant_kind : (body : Body) (due : Date) → grant_in body ≡ Some due → (body ≡ types.Shipped due) ⊎ ((c : ℕ) × (body ≡ types.RenewAnswer c (Some due)))
+grant_kind (types.Shipped d) due is = inl (ap types.Shipped (some_date d due is))
+grant_kind (types.RenewAnswer c (Some d)) due is = inr (c, ap (λ e. types.RenewAnswer c (Some e)) (some_date d due is))
+grant_kind (types.RenewAnswer c None) due is = search rules
+grant_kind body due is = search rules
+
+-- Where a date was granted, the item was shipped.
+grants_shipped : (apdus : List Apdu) (n : ℕ) (a : Apdu) (due : Date) → ships_first apdus ≡ true → message apdus n ≡ Some a → grant_in a.body ≡ Some due → has is_shipped apdus ≡ true
+grants_shipped apdus n a due first at is = elim (grant_kind a.body due is) [
+  | inl shipped ↦ message_has is_shipped apdus n a at (ap is_shipped shipped)
+  | inr renewal ↦ ships_before apdus first (message_has is_renewal apdus n a at (ap is_renewal renewal.1))
+]
+
+-- What answers a question is among the answers.
+is_among_answers : (apdus : List Apdu) (n : ℕ) (a : Apdu) (c : ℕ) → message apdus n ≡ Some a → answered_number MayRenew a.body ≡ Some c → list_any (λ m. m == c) (filter_map (λ b. answered_number MayRenew b.body) apdus) ≡ true
+is_among_answers apdus zero a c at answers = search rules
+is_among_answers apdus (suc i) a c at answers = found_among (λ b. answered_number MayRenew b.body) apdus i a c at answers
+
+attests_not_after : (n c : ℕ) (due granted : Date) (body : Body) → body ≡ types.RenewAnswer c (Some granted) → notices.Attests n body (notices.Answered c due) → is_before due granted ≡ false
+attests_not_after n c due granted body is attests = (subst (λ b. notices.Attests n b (notices.Answered c due)) is attests).1
+
+attests_overdue : (n : ℕ) (due : Date) (body : Body) → notices.Attests n body (notices.PastDue due) → is_overdue_of due body ≡ true
+attests_overdue n due (types.Overdue day) attests = subst (λ d. is_same_day day d ≡ true) attests (day_itself day)
+  where
+    day_itself : (d : Date) → is_same_day d d ≡ true
+    day_itself d = search rules
+attests_overdue n due body attests = search rules
+
+first_false : (a b : Bool) → (a && b) ≡ false → b ≡ true → a ≡ false
+first_false a b none is = search rules
+
+-- A requester that has heard an Overdue for its due date is not in time.
+overdue_heard : (x : RequesterRecord) (n : ℕ) (due : Date) (body : Body) → is_overdue_of due body ≡ true → x.due ≡ Some due → notices.has_heard x n body ≡ true → is_among in_time x.state ≡ false
+overdue_heard x n due (types.Overdue day) is its heard = first_false _ _ (not_true _ heard) (subst (λ o. is_due_on day o ≡ true) (sym its) is)
+overdue_heard x n due body is its heard = search rules
+
+overdue_is_plain : (due : Date) (body : Body) → is_overdue_of due body ≡ true → names_conditions body ≡ false
+overdue_is_plain due (types.Overdue day) is = refl
+overdue_is_plain due body is = search rules
+
+-- a requester that is overdue
+overdue_is_out : (s : State) → is_among (states.NotReceivedOverdue ∷ states.Overdue ∷ states.RenewOverdue ∷ []) s ≡ true
+    → (is_among later s ≡ true) × (is_among (states.Recall ∷ states.Returned ∷ []) s ≡ false) × (is_among (states.Recall ∷ []) s ≡ false) × (is_among (states.Returned ∷ []) s ≡ false)
+overdue_is_out states.NotReceivedOverdue is = (refl, refl, refl, refl)
+overdue_is_out states.Overdue is = (refl, refl, refl, refl)
+overdue_is_out states.RenewOverdue is = (refl, refl, refl, refl)
+overdue_is_out s is = search rules
+
+-- a responder that is overdue
+late_is_out : (t : State) → is_among (states.Overdue ∷ states.RenewOverdue ∷ []) t ≡ true
+    → (is_among shipped_states t ≡ true) × (is_among (states.Recall ∷ []) t ≡ false) × (is_among (states.Returned ∷ states.CheckedIn ∷ []) t ≡ false)
+late_is_out states.Overdue is = (refl, refl, refl)
+late_is_out states.RenewOverdue is = (refl, refl, refl)
+late_is_out t is = search rules
+
+overdue_left : (t : State) → is_among (states.Overdue ∷ states.RenewOverdue ∷ states.Recall ∷ states.Returned ∷ states.CheckedIn ∷ []) t ≡ true → is_among (states.Recall ∷ []) t ≡ false
+    → is_among (states.Returned ∷ states.CheckedIn ∷ []) t ≡ false → is_among (states.Overdue ∷ states.RenewOverdue ∷ []) t ≡ true
+overdue_left states.Overdue may recalled returned = refl
+overdue_left states.RenewOverdue may recalled returned = refl
+overdue_left t may recalled returned = search rules
+
+overdue_at : (s : State) → is_among later s ≡ true → is_among (states.Recall ∷ []) s ≡ false → is_among (states.Returned ∷ []) s ≡ false → is_among in_time s ≡ false
+    → is_among (states.NotReceivedOverdue ∷ states.Overdue ∷ states.RenewOverdue ∷ []) s ≡ true
+overdue_at states.NotReceivedOverdue shipped recalled returned late = refl
+overdue_at states.Overdue shipped recalled returned late = refl
+overdue_at states.RenewOverdue shipped recalled returned late = refl
+overdue_at s shipped recalled returned late = search rules
+
+-- ---- a requester's record and a responder's
+
+module _ (txn : Qualifiers) (x : RequesterRecord) (y : ResponderRecord) (told heard : List (Option Apdu)) (borrower : RequesterStands txn x told) (lender : ResponderStands txn y heard)
+    (issued : AreIssued told y.issued) (heeded : AreIssued heard x.issued) (hear : HaveHeard x y) where
+  -- ---- IDLE
+
+  -- A request is the first message of a requester that has begun.
+  first_request : (apdus : List Apdu) → is_none apdus ≡ false → begins_with_request apdus ≡ true → (a : Apdu) × (message apdus 1 ≡ Some a) × (is_ill_request a.body ≡ true)
+  first_request [] some begins = search rules
+  first_request (a ∷ apdus) some begins = (a, refl, (and_parts _ _ begins).0)
+
+  begun : is_among (states.Idle ∷ []) x.state ≡ false → is_among (states.Idle ∷ []) y.state ≡ false
+  begun is =
+      let first = first_request x.issued (borrower.rules.issued.idle ∙ is) borrower.rules.request in
+      request_heard y first.0.number first.0.body first.2 (hear.responder 1 first.0 first.1)
+
+  was_asked : is_among (states.Idle ∷ []) y.state ≡ false → is_among (states.Idle ∷ []) x.state ≡ false
+  was_asked is =
+      let known = lender.knows responder.Requested is in
+      sym borrower.rules.issued.idle ∙ not_none is_ill_request x.issued (has_issued x.issued heard is_ill_request known.0 heeded known.1 (tells_requested known.0.number known.0.body known.2))
+
+  idle_alike : is_among (states.Idle ∷ []) x.state ≡ is_among (states.Idle ∷ []) y.state
+  idle_alike =
+      alike _ _ (λ is. is_true _ (λ is_not. not_both _ is (was_asked is_not))) (λ is. is_true _ (λ is_not. not_both _ is (begun is_not)))
+
+  -- ---- CANCELLED
+
+  cancelled_there : is_among (states.Cancelled ∷ []) x.state ≡ true → is_among (states.Cancelled ∷ []) y.state ≡ true
+  cancelled_there is = ap (is_among (states.Cancelled ∷ [])) (cancelled_faces txn x y told heard borrower lender issued (is_in_cancelled x.state is))
+
+  cancelled_here : is_among (states.Cancelled ∷ []) y.state ≡ true → is_among (states.Cancelled ∷ []) x.state ≡ true
+  cancelled_here is =
+      let at = has_message is_cancelled y.issued (lender.ends.cancelled ∙ is) in
+      let by = cancels_with at.1.body at.3 in
+      let is_open = cancel_is_open txn x y told heard borrower lender issued heeded at.0 by.0 at.1 at.2 by.1 in
+      let answers : answered_number MayCancel at.1.body ≡ Some by.0 = ap (answered_number MayCancel) by.1 in
+      cancelled_left x.state _ is_open (cancel_reply_heard x at.1.number by.0 at.1.body answers (hear.requester at.0 at.1 at.2 (cancel_reply_is_plain at.1.body by.0 answers)))
+
+  cancelled_alike : is_among (states.Cancelled ∷ []) x.state ≡ is_among (states.Cancelled ∷ []) y.state
+  cancelled_alike = alike _ _ cancelled_there cancelled_here
+
+  -- ---- SHIPPED or later, and NOT-SUPPLIED
+
+  later_there : is_among later x.state ≡ true → is_among shipped_states y.state ≡ true
+  later_there is = sym lender.ends.shipped ∙ shipped_by txn x y told heard x.due borrower lender issued refl (borrower.rules.parts.due ∙ is)
+
+  unsupplied_there : is_among (states.NotSupplied ∷ []) x.state ≡ true → is_among (states.NotSupplied ∷ []) y.state ≡ true
+  unsupplied_there is = ap (is_among (states.NotSupplied ∷ [])) (not_supplied_faces txn x y told heard borrower lender issued (is_in_not_supplied x.state is))
+
+  later_here : is_among shipped_states y.state ≡ true → is_among later x.state ≡ true
+  later_here is =
+      let at = has_message is_shipped y.issued (lender.ends.shipped ∙ is) in
+      let no = out y.state is in
+      later_left x.state borrower.rules.parts.role (idle_alike ∙ no.0) (cancelled_alike ∙ no.1) (is_false _ (λ ended. not_both _ (unsupplied_there ended) no.2))
+      (shipped_heard x at.1.number at.1.body at.3 (hear.requester at.0 at.1 at.2 (shipped_is_plain at.1.body at.3)))
+
+  later_alike : is_among later x.state ≡ is_among shipped_states y.state
+  later_alike = alike _ _ later_there later_here
+
+  unsupplied_here : is_among (states.NotSupplied ∷ []) y.state ≡ true → is_among (states.NotSupplied ∷ []) x.state ≡ true
+  unsupplied_here is =
+      let at = has_message is_unsupplied y.issued (lender.ends.unsupplied ∙ is) in
+      let no = given_up y.state is in
+      unsupplied_left x.state borrower.rules.parts.role (idle_alike ∙ no.0) (cancelled_alike ∙ no.1) (later_alike ∙ no.2)
+      (end_heard x at.1.number at.1.body at.3 (hear.requester at.0 at.1 at.2 (unsupplied_is_plain at.1.body at.3)))
+
+  unsupplied_alike : is_among (states.NotSupplied ∷ []) x.state ≡ is_among (states.NotSupplied ∷ []) y.state
+  unsupplied_alike = alike _ _ unsupplied_there unsupplied_here
+
+  -- ---- questions
+
+  -- The number of the last question that the requester asked is not below that of the last one that came.
+  asked_last : (question : Question) (says : Body → Bool) (m n : ℕ) → ((body : Body) → responder.asks question body ≡ true → says body ≡ true) → responder.last_asked question y ≡ Some m
+      → last_of (number_if says) x.issued ≡ Some n → m ≤ n
+  asked_last question says m n is_so last own =
+      let asked = lender.asked question m (inl last) in
+      let at = heeded asked.0 asked.1 in
+      subst (λ k. k ≤ n) asked.3 (not_above_last says x.txn x.issued at.0 n asked.0 borrower.rules.numbered at.1 (is_so asked.0.body asked.2) own)
+
+  -- An answer to the last question that came, where it was answered.
+  answer_to : (question : Question) (n : ℕ) → responder.last_asked question y ≡ Some n → is_among (records.unanswered question) y.state ≡ false
+      → Finds (λ a. answered_number question a.body) y.issued n
+  answer_to question n last left = finds_any (λ a. answered_number question a.body) y.issued n (lender.answered question n last left)
+
+  -- ---- CANCEL-PENDING
+
+  -- No Cancel waits that the responder has answered.
+  cancel_answered : (n : ℕ) → is_among (states.CancelPending ∷ []) x.state ≡ true → last_cancel x ≡ Some n → Finds (λ a. answered_number MayCancel a.body) y.issued n → ⊥
+  cancel_answered n is last found =
+      not_both _ (both _ _ is (itself n (last_cancel x) last))
+      (cancel_reply_heard x found.1.number n found.1.body found.3 (hear.requester found.0 found.1 found.2 (cancel_reply_is_plain found.1.body n found.3)))
+
+  not_open : is_among (states.CancelPending ∷ []) x.state ≡ true → is_among records.undecided y.state ≡ true → ⊥
+  not_open is is_open =
+      let own = has_last is_cancel None x.issued (second _ _ borrower.rules.issued.cancel (waiting x.state is).5) in
+      let there = was_last is_cancel x.txn x.issued own.0 borrower.rules.numbered own.1 in
+      let heard_it = most there.0.number y.last_cancel (cancel_heard y there.0.number there.0.body there.2 (hear.responder own.0 there.0 there.1) is_open) in
+      let not_after = asked_last MayCancel is_cancel heard_it.0 own.0 (λ body asks. asks) heard_it.1 own.1 in
+      let same : heard_it.0 ≡ own.0 = omega (arith, not_after, heard_it.2, there.3) in
+      cancel_answered own.0 is own.1 (answer_to MayCancel own.0 (heard_it.1 ∙ ap Some same) (open_answers y.state is_open))
+
+  waits_there : is_among (states.CancelPending ∷ []) x.state ≡ true → is_among (states.CancelPending ∷ []) y.state ≡ true
+  waits_there is =
+      let no = waiting x.state is in
+      cancel_left y.state lender.rules.parts.role (sym idle_alike ∙ no.0) (sym cancelled_alike ∙ no.1) (sym unsupplied_alike ∙ no.2) (sym later_alike ∙ no.3) (is_false _ (not_open is))
+
+  -- A Cancel that waits at the responder waits at the requester.
+  cancel_is_waiting : (c : ℕ) → is_among (states.CancelPending ∷ []) y.state ≡ true → y.last_cancel ≡ Some c → requester.is_open x c ≡ true
+  cancel_is_waiting c is last =
+      let no = waiting y.state is in
+      let known = lender.knows (responder.CancelAsked c) (inl last) in
+      let at = heeded known.0 known.1 in
+      let says = tells_cancel known.0.number c known.0.body known.2 in
+      let number = sym (message_number x.txn x.issued at.0 known.0 borrower.rules.numbered at.1).1 ∙ says.1 in
+      let issued_it : was is_cancel x.issued c ≡ true = ap (is_there is_cancel) (ap (message x.issued) (sym number) ∙ at.1) ∙ says.0 in
+      is_true _ (λ closed.
+      let refused = borrower.knows (requester.Refused c) (issued_it, neither x.state (unsupplied_alike ∙ no.2) (later_alike ∙ no.4), closed) in
+      let there = issued refused.0 refused.1 in
+      not_below c y.last_cancel last (all_found (λ a. answered_number MayCancel a.body) (λ n. is_below n y.last_cancel) y.issued there.0 refused.0 c (lender.cancels.below is) there.1
+      (ap (answered_number MayCancel) (tells_refused refused.0.body c refused.2))))
+
+  waits_here : is_among (states.CancelPending ∷ []) y.state ≡ true → is_among (states.CancelPending ∷ []) x.state ≡ true
+  waits_here is =
+      let no = waiting y.state is in
+      let last = some_of y.last_cancel (second _ _ lender.rules.parts.cancel no.5) in
+      waits_left x.state (and_parts _ _ (cancel_is_waiting last.0 is last.1)).0 (cancelled_alike ∙ no.1)
+
+  waits_alike : is_among (states.CancelPending ∷ []) x.state ≡ is_among (states.CancelPending ∷ []) y.state
+  waits_alike = alike _ _ waits_there waits_here
+
+  -- ---- RETURNED
+
+  returned_there : is_among (states.Returned ∷ []) x.state ≡ true → is_among (states.Returned ∷ states.CheckedIn ∷ []) y.state ≡ true
+  returned_there is =
+      let at = has_message is_returned x.issued (borrower.rules.issued.returned ∙ is) in
+      returned_left y.state (sym later_alike ∙ returned_is_out x.state is) (returned_heard y at.1.number at.1.body at.3 (hear.responder at.0 at.1 at.2))
+
+  returned_here : is_among (states.Returned ∷ states.CheckedIn ∷ []) y.state ≡ true → is_among (states.Returned ∷ []) x.state ≡ true
+  returned_here is = ap (is_among (states.Returned ∷ [])) ((says_true txn x y told heard borrower lender issued heeded).returned is)
+
+  returned_alike : is_among (states.Returned ∷ []) x.state ≡ is_among (states.Returned ∷ states.CheckedIn ∷ []) y.state
+  returned_alike = alike _ _ returned_there returned_here
+
+  -- ---- RECALL
+
+  recalled_there : is_among (states.Recall ∷ []) x.state ≡ true → is_among (states.Recall ∷ []) y.state ≡ true
+  recalled_there is =
+      let no = recalled_is_out x.state is in
+      let known = borrower.notices notices.Recalled no.0 in
+      recall_left y.state (lender.recall.after (has_issued y.issued told is_recall known.0 issued known.1 (attests_recall known.0.number known.0.body known.2))) (sym returned_alike ∙ no.3)
+
+  recalled_here : is_among (states.Recall ∷ []) y.state ≡ true → is_among (states.Recall ∷ []) x.state ≡ true
+  recalled_here is =
+      let no = recalled_is_out y.state is in
+      let at = has_message is_recall y.issued (lender.recall.issued is) in
+      recall_at x.state (later_alike ∙ no.2) (returned_alike ∙ no.4) (recall_heard x at.1.number at.1.body at.3 (hear.requester at.0 at.1 at.2 (recall_is_plain at.1.body at.3)))
+
+  recalled_alike : is_among (states.Recall ∷ []) x.state ≡ is_among (states.Recall ∷ []) y.state
+  recalled_alike = alike _ _ recalled_there recalled_here
+
+  -- ---- RENEW/PENDING and RENEW/OVERDUE
+
+  -- A Renew that waits was not answered yes: the date of such an answer is after every date that was granted before.
+  not_granted : (n : ℕ) (due granted : Date) (i : ℕ) (a : Apdu) → 0 < n → awaits x n ≡ true → x.due ≡ Some due → message y.issued i ≡ Some a → a.body ≡ types.RenewAnswer n (Some granted) → ⊥
+  not_granted n due granted i a some waits is at body =
+      let known = borrower.notices (notices.GrantedBefore n due) (is, inl waits) in
+      let there = issued known.0 known.1 in
+      let before = attests_grant known.0.number n due known.0.body some known.2 in
+      let rises = lender.grants there.0 i before.0 n known.0 a due granted there.1 at before.1 (ap grant_of body) before.2 in
+      let unheard : not (awaits x n && is_after_due granted x.due) ≡ true = ap (notices.has_heard x a.number) (sym body) ∙ hear.requester i a at (ap names_conditions body) in
+      not_both _ rises (subst (λ o. is_after_due granted o ≡ false) is (second_false _ _ (not_true _ unheard) waits))
+
+  -- No Renew waits that the responder has answered.
+  renew_answered : (n : ℕ) (due : Date) → 0 < n → awaits x n ≡ true → x.due ≡ Some due → Finds (λ a. answered_number MayRenew a.body) y.issued n → ⊥
+  renew_answered n due some waits is (i, a, at, answers) = go (renew_answer a.body n answers)
+    where
+      go : (granted : Option Date) × (a.body ≡ types.RenewAnswer n granted) → ⊥
+      go (None, body) =
+          let unheard : not (awaits x n) ≡ true = ap (notices.has_heard x a.number) (sym body) ∙ hear.requester i a at (ap names_conditions body) in
+          not_both _ waits (not_true _ unheard)
+      go (Some granted, body) = not_granted n due granted i a some waits is at body
+
+  message_some : (apdus : List Apdu) (n : ℕ) (a : Apdu) → message apdus n ≡ Some a → 0 < n
+  message_some apdus zero a at = search rules
+  message_some apdus (suc n) a at = omega arith
+
+  not_settled : is_among (states.RenewPending ∷ states.RenewOverdue ∷ []) x.state ≡ true → is_among (states.Shipped ∷ states.Overdue ∷ []) y.state ≡ true → ⊥
+  not_settled is settled =
+      let due = some_of x.due (borrower.rules.parts.due ∙ (renewing x.state is).0) in
+      let own = has_last is_renew None x.issued (second _ _ borrower.rules.issued.renew is) in
+      let there = was_last is_renew x.txn x.issued own.0 borrower.rules.numbered own.1 in
+      let heard_it = most there.0.number y.last_renew (renew_heard y there.0.number there.0.body there.2 (hear.responder own.0 there.0 there.1) settled) in
+      let not_after = asked_last MayRenew is_renew heard_it.0 own.0 (λ body asks. asks) heard_it.1 own.1 in
+      let same : heard_it.0 ≡ own.0 = omega (arith, not_after, heard_it.2, there.3) in
+      renew_answered own.0 due.0 (message_some x.issued own.0 there.0 there.1) (both _ _ is (itself own.0 (last_renew x) own.1)) due.1
+      (answer_to MayRenew own.0 (heard_it.1 ∙ ap Some same) (settled_answers y.state settled))
+
+  renew_there : is_among (states.RenewPending ∷ states.RenewOverdue ∷ []) x.state ≡ true → is_among (states.RenewPending ∷ states.RenewOverdue ∷ []) y.state ≡ true
+  renew_there is =
+      let no = renewing x.state is in
+      renew_left y.state (sym later_alike ∙ no.0) (sym recalled_alike ∙ no.2) (sym returned_alike ∙ no.3) (is_false _ (not_settled is))
+
+  -- A Renew that waits at the responder waits at the requester.
+  renew_is_waiting : (n : ℕ) → is_among (states.RenewPending ∷ states.RenewOverdue ∷ []) y.state ≡ true → y.last_renew ≡ Some n → awaits x n ≡ true
+  renew_is_waiting n is last =
+      let no = renewing y.state is in
+      let due = some_of x.due (borrower.rules.parts.due ∙ (later_alike ∙ no.1)) in
+      let asked = lender.asked MayRenew n (inl last) in
+      let at = heeded asked.0 asked.1 in
+      let number = sym (message_number x.txn x.issued at.0 asked.0 borrower.rules.numbered at.1).1 ∙ asked.3 in
+      let issued_it : was is_renew x.issued n ≡ true = ap (is_there is_renew) (ap (message x.issued) (sym number) ∙ at.1) ∙ asked.2 in
+      is_true _ (λ over.
+      let not_past : is_due_after due.0 x.due ≡ false = subst (λ o. is_due_after due.0 o ≡ false) (sym due.1) (itself_not_before due.0) in
+      let known = borrower.notices (notices.Answered n due.0) (issued_it, either_gone x.state (recalled_alike ∙ no.2) (returned_alike ∙ no.4), over, not_past) in
+      let there = issued known.0 known.1 in
+      not_below n y.last_renew last (all_found (λ a. answered_number MayRenew a.body) (λ k. is_below k y.last_renew) y.issued there.0 known.0 n (lender.renewals.below is) there.1
+      (attests_answered known.0.number n due.0 known.0.body known.2)))
+
+  renew_here : is_among (states.RenewPending ∷ states.RenewOverdue ∷ []) y.state ≡ true → is_among (states.RenewPending ∷ states.RenewOverdue ∷ []) x.state ≡ true
+  renew_here is =
+      let last = some_of y.last_renew (second _ _ lender.rules.parts.renew is) in
+      (and_parts _ _ (renew_is_waiting last.0 is last.1)).0
+
+  renew_alike : is_among (states.RenewPending ∷ states.RenewOverdue ∷ []) x.state ≡ is_among (states.RenewPending ∷ states.RenewOverdue ∷ []) y.state
+  renew_alike = alike _ _ renew_there renew_here
+
+  -- ---- due dates
+
+  -- The answer to a Renew that does not wait grants no date after the due date.
+  answer_not_after : (c : ℕ) (due granted : Date) (j : ℕ) (b : Apdu) → x.due ≡ Some due → is_among (states.Recall ∷ states.Returned ∷ []) x.state ≡ false → message y.issued j ≡ Some b
+      → b.body ≡ types.RenewAnswer c (Some granted) → is_before due granted ≡ false
+  answer_not_after c due granted j b is out_there at body =
+      let answers : answered_number MayRenew b.body ≡ Some c = ap (answered_number MayRenew) body in
+      let asked = lender.asked MayRenew c (inr (is_among_answers y.issued j b c at answers)) in
+      let own = heeded asked.0 asked.1 in
+      let number = sym (message_number x.txn x.issued own.0 asked.0 borrower.rules.numbered own.1).1 ∙ asked.3 in
+      let there : message x.issued c ≡ Some asked.0 = ap (message x.issued) (sym number) ∙ own.1 in
+      let issued_it : was is_renew x.issued c ≡ true = ap (is_there is_renew) there ∙ asked.2 in
+      let over : awaits x c ≡ false = is_false _ (λ waits. renew_answered c due (message_some x.issued c asked.0 there) waits is (j, b, at, answers)) in
+      let not_past : is_due_after due x.due ≡ false = subst (λ o. is_due_after due o ≡ false) (sym is) (itself_not_before due) in
+      let known = borrower.notices (notices.Answered c due) (issued_it, out_there, over, not_past) in
+      let told_at = issued known.0 known.1 in
+      let place : told_at.0 ≡ j = answers_once (answered_number MayRenew) y.issued lender.renewals.distinct told_at.0 j c known.0 b told_at.1 at (attests_answered known.0.number c due known.0.body known.2) answers in
+      let same : ◌≡◌ {A = Option Apdu} (Some known.0) (Some b) = sym told_at.1 ∙ ap (message y.issued) place ∙ at in
+      attests_not_after known.0.number c due granted known.0.body (ap (λ (o : Apdu). o.body) (same_apdu known.0 b same) ∙ body) known.2
+
+  -- No date that was granted is after the due date of the requester.
+  last_not_after : (due granted : Date) (i j : ℕ) (a b : Apdu) → x.due ≡ Some due → is_among (states.Recall ∷ states.Returned ∷ []) x.state ≡ false → message y.issued i ≡ Some a
+      → grant_in a.body ≡ Some due → message y.issued j ≡ Some b → grant_in b.body ≡ Some granted → is_before granted due ≡ false → is_before due granted ≡ false
+  last_not_after due granted i j a b is out_there at_i is_a at_j is_b not_earlier = go (grant_kind a.body due is_a) (grant_kind b.body granted is_b)
+    where
+      go : (a.body ≡ types.Shipped due) ⊎ ((c : ℕ) × (a.body ≡ types.RenewAnswer c (Some due))) → (b.body ≡ types.Shipped granted) ⊎ ((c : ℕ) × (b.body ≡ types.RenewAnswer c (Some granted)))
+          → is_before due granted ≡ false
+      go kind (inr (c, body)) = answer_not_after c due granted j b is out_there at_j body
+      go (inl first) (inl last) =
+          let one = one_end y.txn y.issued j b lender.rules.numbered (omega (arith, lender.ends.once, at_most_one (is_among responder.ended y.state))) at_j (ap is_end last) in
+          let two = one_end y.txn y.issued i a lender.rules.numbered (omega (arith, lender.ends.once, at_most_one (is_among responder.ended y.state))) at_i (ap is_end first) in
+          let place : i ≡ j = some_same i j (sym two ∙ one) in
+          let same : ◌≡◌ {A = Option Apdu} (Some a) (Some b) = sym at_i ∙ ap (message y.issued) place ∙ at_j in
+          let dates : due ≡ granted = some_date due granted (sym is_a ∙ ap (λ (o : Apdu). grant_in o.body) (same_apdu a b same) ∙ is_b) in
+          subst (λ d. is_before due d ≡ false) dates (itself_not_before due)
+      go (inr (c, body)) (inl last) =
+          let answers : answered_number MayRenew a.body ≡ Some c = ap (answered_number MayRenew) body in
+          let asked = lender.asked MayRenew c (inr (is_among_answers y.issued i a c at_i answers)) in
+          let own = heeded asked.0 asked.1 in
+          let number = sym (message_number x.txn x.issued own.0 asked.0 borrower.rules.numbered own.1).1 ∙ asked.3 in
+          let some : 0 < c = subst (λ k. 0 < k) number (message_some x.issued own.0 asked.0 own.1) in
+          absurd (not_both _ (lender.grants j i 0 c b a granted due at_j at_i (ap grant_of last) (ap grant_of body) some) not_earlier)
+
+  same_due : is_among (states.Recall ∷ states.Returned ∷ []) x.state ≡ false → x.due ≡ due_of y
+  same_due out_there = go x.due refl
+    where
+      nothing : (o : Option Date) → due_of y ≡ o → x.due ≡ None → None ≡ o
+      nothing None e is = refl
+      nothing (Some d) e is =
+          let found = finds_last granted_day y.issued d e in
+          let shipped : has is_shipped y.issued ≡ true = grants_shipped y.issued found.0 found.1 d lender.rules.ships_first found.2 found.3 in
+          let not_some : is_some x.due ≡ true = borrower.rules.parts.due ∙ (later_alike ∙ (sym lender.ends.shipped ∙ shipped)) in
+          absurd (not_both _ not_some (ap is_some is))
+
+      go : (o : Option Date) → x.due ≡ o → x.due ≡ due_of y
+      go None is = is ∙ nothing (due_of y) refl is
+      go (Some due) is =
+          let known = borrower.knows (requester.Granted due) is in
+          let at = issued known.0 known.1 in
+          let grants = tells_grant known.0.body due known.2 in
+          let last = granted_not_later y.issued at.0 known.0 due lender.rules.rising at.1 grants in
+          let found = finds_last granted_day y.issued last.0 last.1 in
+          let not_after = last_not_after due last.0 at.0 found.0 known.0 found.1 is out_there at.1 grants found.2 found.3 last.2 in
+          is ∙ (ap Some (same_date due last.0 not_after last.2) ∙ sym last.1)
+
+  -- ---- overdue
+
+  overdue_there : is_among (states.NotReceivedOverdue ∷ states.Overdue ∷ states.RenewOverdue ∷ []) x.state ≡ true → is_among (states.Overdue ∷ states.RenewOverdue ∷ []) y.state ≡ true
+  overdue_there is =
+      let late = overdue_is_out x.state is in
+      let due = some_of x.due (borrower.rules.parts.due ∙ late.0) in
+      let known = borrower.notices (notices.PastDue due.0) (due.1, is) in
+      let of_due : is_overdue_of due.0 known.0.body ≡ true = attests_overdue known.0.number due.0 known.0.body known.2 in
+      let its : due_of y ≡ Some due.0 = sym (same_due late.1) ∙ due.1 in
+      overdue_left y.state (lender.overdue.after due.0 its (has_issued y.issued told (is_overdue_of due.0) known.0 issued known.1 of_due)) (sym recalled_alike ∙ late.2) (sym returned_alike ∙ late.3)
+
+  overdue_here : is_among (states.Overdue ∷ states.RenewOverdue ∷ []) y.state ≡ true → is_among (states.NotReceivedOverdue ∷ states.Overdue ∷ states.RenewOverdue ∷ []) x.state ≡ true
+  overdue_here is =
+      let late = late_is_out y.state is in
+      let out_there = either_gone x.state (recalled_alike ∙ late.1) (returned_alike ∙ late.2) in
+      let due = some_of x.due (borrower.rules.parts.due ∙ (later_alike ∙ late.0)) in
+      let its : due_of y ≡ Some due.0 = sym (same_due out_there) ∙ due.1 in
+      let at = has_message (is_overdue_of due.0) y.issued (lender.overdue.issued due.0 its is) in
+      overdue_at x.state (later_alike ∙ late.0) (recalled_alike ∙ late.1) (returned_alike ∙ late.2)
+      (overdue_heard x at.1.number due.0 at.1.body at.3 due.1 (hear.requester at.0 at.1 at.2 (overdue_is_plain due.0 at.1.body at.3)))
+
+  overdue_alike : is_among (states.NotReceivedOverdue ∷ states.Overdue ∷ states.RenewOverdue ∷ []) x.state ≡ is_among (states.Overdue ∷ states.RenewOverdue ∷ []) y.state
+  overdue_alike = alike _ _ overdue_there overdue_here
+
+  -- ---- CONDITIONAL
+
+  -- The conditions that wait were not accepted.
+  not_accepted : is_among (states.Conditional ∷ []) y.state ≡ true → is_among (states.Pending ∷ []) x.state ≡ true → ⊥
+  not_accepted is pending =
+      let at = last_names y.issued (second _ _ lender.rules.issued.conditions is) in
+      let number = message_number y.txn y.issued (length y.issued) at.0 lender.rules.numbered at.1 in
+      let heard_it = most at.0.number (accepted_number x) (conditions_heard x at.0.number at.0.body at.2 (hear.last at.0 at.1) pending) in
+      let named = borrower.notices (notices.Named heard_it.0) (inr heard_it.1) in
+      let there = issued named.0 named.1 in
+      let its = message_number y.txn y.issued there.0 named.0 lender.rules.numbered there.1 in
+      let within = message_within y.issued there.0 named.0 there.1 in
+      let same : heard_it.0 ≡ length y.issued = omega (arith, heard_it.2, number.1, its.1, within, attests_named named.0.number heard_it.0 named.0.body named.2) in
+      let yes = finds_last accepted_in x.issued heard_it.0 heard_it.1 in
+      not_both _ (waits_outstanding y heard_it.0 is same at.1) (yes_heard y yes.1.number heard_it.0 yes.1.body yes.3 (hear.responder yes.0 yes.1 yes.2))
+
+  conditions_here : is_among (states.Conditional ∷ []) y.state ≡ true → is_among (states.Conditional ∷ []) x.state ≡ true
+  conditions_here is =
+      let no = conditional y.state is in
+      conditional_left x.state borrower.rules.parts.role (idle_alike ∙ no.0) (cancelled_alike ∙ no.1) (unsupplied_alike ∙ no.2) (waits_alike ∙ no.3) (later_alike ∙ no.4)
+      (is_false _ (not_accepted is))
+
+  -- ---- in step
+
+  states_fit : StatesFit x.state y.state
+  states_fit = record {
+    role = borrower.rules.parts.role;
+    other_role = lender.rules.parts.role;
+    idle = idle_alike;
+    cancelled = cancelled_alike;
+    unsupplied = unsupplied_alike;
+    cancel_waits = waits_alike;
+    shipped = later_alike;
+    renew_waits = renew_alike;
+    recalled = recalled_alike;
+    returned = returned_alike;
+    overdue = overdue_alike;
+    conditions = conditions_here;
+  }
+
+  face : is_among (faced_in x.state) y.state ≡ true
+  face = fits_face x.state y.state states_fit
+
+  not_declined : is_declined x ≡ true → ⊥
+  not_declined is =
+      let parts = and_parts _ _ is in
+      let at = has_message declines x.issued parts.1 in
+      let is_open = open_left x.state y.state parts.0 face in
+      let used = no_heard y at.1.number at.1.body at.3 (hear.responder at.0 at.1 at.2) is_open in
+      not_both _ (le-leb _ _ (hear.can_answer is_open)) used
+
+  marked : is_among shipped_states y.state ≡ true → y.received ≡ is_received_by x
+  marked is =
+      alike _ _ (says_true txn x y told heard borrower lender issued heeded).received (λ has_it.
+      let at = has_message is_received x.issued has_it in
+      received_heard y at.1.number at.1.body at.3 (hear.responder at.0 at.1 at.2) is)
+
+  checked : x.checked_in ≡ is_among (states.CheckedIn ∷ []) y.state
+  checked =
+      alike _ _ (λ is. ap (is_among (states.CheckedIn ∷ [])) ((says_true txn x y told heard borrower lender issued heeded).checked_in is)) (λ is.
+      let at = has_message is_checked_in y.issued (lender.rules.issued.checked_in ∙ is) in
+      checked_in_heard x at.1.number at.1.body at.3 (hear.requester at.0 at.1 at.2 (checked_in_is_plain at.1.body at.3)) (returned_alike ∙ home_is_back y.state is))
+
+  -- The two records are in step.
+  pub in_step : InStep x y
+  in_step = record { faced = face; undeclined = is_false _ not_declined; received = marked; checked_in = checked; due = same_due }

@@ -1,0 +1,180 @@
+-- The events of a round: each side takes all messages of the other, one after another.
+use Rattle.std.proofs.Common.{rules, arith, ◌≡◌, ℕ, zero, suc, ◌+◌, ◌≤◌, ◌<◌, Bool, true, false, nat_le, List, [], ◌∷◌, ◌++◌, length, Option, Some, None, Result, Ok, Err, refl, sym, ap, ◌∙◌, subst, append_assoc, append-nil, length-append}
+use Rattle.std.specs.Prelude.{slice_get}
+use Rattle.std.specs.List.{slice_set}
+use Rattle.std.specs.Option.{option_flatten}
+use Rattle.std.proofs.lemmas.Bool.{le-leb}
+use Rattle.ill_values.specs.declared.apdu.Apdu.{Apdu}
+use Rattle.ill_core.specs.Issued.{message}
+use Rattle.ill_saved.specs.declared.side.Side.{Side}
+use Rattle.ill_saved.specs.Side.{issued_of, takes, other}
+use Rattle.ill_saved.specs.declared.role.Role.{Role as Who}
+use Rattle.ill_saved.specs.declared.role.Role.TheVariants as who
+use Rattle.ill_world.specs.declared.event.Event.{Event}
+use Rattle.ill_world.specs.declared.event.Event.TheVariants as events
+use Rattle.ill_world.specs.World.{Party, Parties, party, saves, sends, receives, sent_message, with_sent, happens, run_of, run_by}
+use Rattle.std.specs.Prelude.{IsErr}
+use Rattle.ill_world.specs.Play.{IsFront}
+use Rattle.ill_world.specs.Round.{passes_on, half_of, round_of, Performs}
+use Rattle.ill_world.proofs.Runs.{run_both}
+use Rattle.ill_world.proofs.Sendings.{places_kept}
+
+-- a side that takes these APDUs, one after another
+unfoldable pub takes_all : Side → List Apdu → Side
+takes_all side [] = side
+takes_all side (a ∷ apdus) = takes_all (takes side a).1 apdus
+
+-- ---- one message
+
+-- What was put at a place of a list stands there.
+put_here : (slots : List (Option Apdu)) (i : ℕ) (a : Apdu) → i < length slots → option_flatten (slice_get (slice_set slots i (Some a)) i) ≡ Some a
+put_here [] i a within = absurd (omega (arith, within))
+put_here (slot ∷ slots) zero a within = refl
+put_here (slot ∷ slots) (suc i) a within = put_here slots i a (omega (arith, within))
+
+at_front : (front more : List Apdu) (a : Apdu) → slice_get (front ++ a ∷ more) (length front) ≡ Some a
+at_front [] more a = refl
+at_front (b ∷ front) more a = at_front front more a
+
+sent_is : (p : Party) (n : ℕ) (a : Apdu) (found : Option Apdu) (released : Bool) → found ≡ Some a → released ≡ true → (sends p n found released).1 ≡ record p { sent = with_sent p.sent n a }
+sent_is p n a (Some b) true is free = let same : b ≡ a = search rules in ap (λ c. record p { sent = with_sent p.sent n c }) same
+sent_is p n a (Some b) false is free = search rules
+sent_is p n a None released is free = search rules
+
+taken_is : (q : Party) (a : Apdu) (found : Option Apdu) → found ≡ Some a → (receives q found).1 ≡ record q { live = (takes q.live a).1 }
+taken_is q a (Some b) is = let same : b ≡ a = search rules in ap (λ c. record q { live = (takes q.live c).1 }) same
+taken_is q a None is = search rules
+
+-- the world after message n, which is a, was sent by a party and delivered to the other
+abbrev passed : Parties → Who → ℕ → Apdu → Parties
+passed w who.Requester n a = record { requester = record w.requester { sent = with_sent w.requester.sent n a }; responder = record w.responder { live = (takes w.responder.live a).1 } }
+passed w who.Responder n a = record { requester = record w.requester { live = (takes w.requester.live a).1 }; responder = record w.responder { sent = with_sent w.responder.sent n a } }
+
+-- A message that is sent and delivered is taken.
+passes : (of : Who) (w : Parties) (n : ℕ) (a : Apdu) → message (issued_of (party w of).live) n ≡ Some a → nat_le n (party w of).released ≡ true → sent_message (with_sent (party w of).sent n a) n ≡ Some a
+    → (happens (happens w (events.Send of n)).1 (events.Deliver (other of) n)).1 ≡ passed w of n a
+passes who.Requester w n a at free there =
+    let p = w.requester in
+    let first : (happens w (events.Send who.Requester n)).1 ≡ record w { requester = record p { sent = with_sent p.sent n a } } =
+    ap (λ q. record w { requester = q }) (sent_is p n a (message (issued_of p.live) n) (nat_le n p.released) at free) in
+    ap (λ v. (happens v (events.Deliver who.Responder n)).1) first
+    ∙ ap (λ q. record { requester = record p { sent = with_sent p.sent n a }; responder = q }) (taken_is w.responder a (sent_message (with_sent p.sent n a) n) there)
+passes who.Responder w n a at free there =
+    let p = w.responder in
+    let first : (happens w (events.Send who.Responder n)).1 ≡ record w { responder = record p { sent = with_sent p.sent n a } } =
+    ap (λ q. record w { responder = q }) (sent_is p n a (message (issued_of p.live) n) (nat_le n p.released) at free) in
+    ap (λ v. (happens v (events.Deliver who.Requester n)).1) first
+    ∙ ap (λ q. record { requester = q; responder = record p { sent = with_sent p.sent n a } }) (taken_is w.requester a (sent_message (with_sent p.sent n a) n) there)
+
+-- ---- all messages of a party
+
+-- A party has issued these, and may send them all.
+record MaySend (p : Party) (apdus : List Apdu) : Type 0 where
+  issued : issued_of p.live ≡ apdus
+  released : length apdus ≤ p.released
+  few : length apdus ≤ 255
+  places : length p.sent ≡ 255
+
+-- The party that passed its messages on is as it was, and the other one has taken them.
+pub record HasPassed (of : Who) (old new : Parties) (apdus : List Apdu) : Type 0 where
+  pub live : (party new of).live ≡ (party old of).live
+  pub taken : (party new (other of)).live ≡ takes_all (party old (other of)).live apdus
+
+may_still : (of : Who) (w : Parties) (n : ℕ) (a : Apdu) (apdus : List Apdu) → MaySend (party w of) apdus → MaySend (party (passed w of n a) of) apdus
+may_still who.Requester w n a apdus may = record { issued = may.issued; released = may.released; few = may.few; places = places_kept w.requester.sent n a ∙ may.places }
+may_still who.Responder w n a apdus may = record { issued = may.issued; released = may.released; few = may.few; places = places_kept w.responder.sent n a ∙ may.places }
+
+passed_on : (of : Who) (w new : Parties) (n : ℕ) (a : Apdu) (apdus : List Apdu) → HasPassed of (passed w of n a) new apdus → HasPassed of w new (a ∷ apdus)
+unfolding takes_all
+passed_on who.Requester w new n a apdus has = record { live = has.live; taken = has.taken }
+passed_on who.Responder w new n a apdus has = record { live = has.live; taken = has.taken }
+
+pass_all : (of : Who) (w : Parties) (n : ℕ) (front rest : List Apdu) → n ≡ length front + 1 → MaySend (party w of) (front ++ rest) → HasPassed of w (run_of w (passes_on of n (length rest))) rest
+unfolding passes_on run_by takes_all
+pass_all of w n front [] is may = record { live = refl; taken = refl }
+pass_all of w n front (a ∷ rest) is may =
+    let p = party w of in
+    let size = length-append front (a ∷ rest) in
+    let place : n ≡ suc (length front) = omega (arith, is) in
+    let at : message (issued_of p.live) n ≡ Some a = ap (λ l. message l n) may.issued ∙ ap (message (front ++ a ∷ rest)) place ∙ at_front front rest a in
+    let free : nat_le n p.released ≡ true = le-leb n p.released (omega (arith, is, size, may.released)) in
+    let there : sent_message (with_sent p.sent n a) n ≡ Some a = subst (λ k. sent_message (with_sent p.sent k a) k ≡ Some a) (sym place) (put_here p.sent (length front) a (omega (arith, size, may.few, may.places))) in
+    let may_more = subst (MaySend (party (passed w of n a) of)) (sym (append_assoc front (a ∷ []) rest)) (may_still of w n a (front ++ a ∷ rest) may) in
+    let more = pass_all of (passed w of n a) (n + 1) (front ++ a ∷ []) rest (omega (arith, is, length-append front (a ∷ []))) may_more in
+    subst (λ v. HasPassed of w (run_of v (passes_on of (n + 1) (length rest))) (a ∷ rest)) (sym (passes of w n a at free there))
+    (passed_on of w (run_of (passed w of n a) (passes_on of (n + 1) (length rest))) n a rest more)
+
+-- ---- a half of a round
+
+-- A party that saves may send all that it has issued.
+may_after : (p : Party) → length (issued_of p.live) ≤ 255 → length p.sent ≡ 255 → MaySend (saves p) (issued_of p.live)
+may_after p few places = record { issued = refl; released = omega arith; few = few; places = places }
+
+-- In a half of a round the other party takes all messages of this one.
+pub half_passes : (of : Who) (w : Parties) → length (issued_of (party w of).live) ≤ 255 → length (party w of).sent ≡ 255 → HasPassed of w (run_of w (half_of of w)) (issued_of (party w of).live)
+unfolding run_by
+half_passes who.Requester w few places =
+    let p = w.requester in
+    let has = pass_all who.Requester (record w { requester = saves p }) 1 [] (issued_of p.live) refl (may_after p few places) in
+    record { live = has.live; taken = has.taken }
+half_passes who.Responder w few places =
+    let p = w.responder in
+    let has = pass_all who.Responder (record w { responder = saves p }) 1 [] (issued_of p.live) refl (may_after p few places) in
+    record { live = has.live; taken = has.taken }
+
+-- What a round does to both: the responder takes all messages of the requester, and the requester then takes all
+-- messages of the responder.
+pub record Rounds (w new : Parties) : Type 0 where
+  pub responder : new.responder.live ≡ takes_all w.responder.live (issued_of w.requester.live)
+  pub requester : new.requester.live ≡ takes_all w.requester.live (issued_of new.responder.live)
+
+pub round_passes : (w : Parties) → let between = run_of w (half_of who.Requester w) in length (issued_of w.requester.live) ≤ 255 → length w.requester.sent ≡ 255 → length (issued_of between.responder.live) ≤ 255
+    → length between.responder.sent ≡ 255 → Rounds w (run_of w (round_of w))
+round_passes w few places few_more places_more =
+    let between : Parties = run_of w (half_of who.Requester w) in
+    let first = half_passes who.Requester w few places in
+    let second = half_passes who.Responder between few_more places_more in
+    let after : Parties = run_of between (half_of who.Responder between) in
+    let whole : run_of w (round_of w) ≡ after = run_both happens w (half_of who.Requester w) (half_of who.Responder between) in
+    subst (Rounds w) (sym whole) (record {
+      responder = second.live ∙ first.taken;
+      requester = second.taken ∙ (ap (λ side. takes_all side (issued_of between.responder.live)) first.live ∙ ap (λ side. takes_all w.requester.live (issued_of side)) (sym second.live));
+    })
+
+-- ---- the events of a half as a list that grows
+
+-- The events of a message are added, and those of the messages that are left are one message fewer.
+pub passes_grow : (of partner : Who) (n number size left : ℕ) (before sent delivered all : List Event) → partner ≡ other of → number ≡ n → size ≡ suc left → sent ≡ before ++ events.Send of number ∷ []
+    → delivered ≡ sent ++ events.Deliver partner number ∷ [] → before ++ passes_on of n size ≡ all → delivered ++ passes_on of (n + 1) left ≡ all
+unfolding passes_on
+passes_grow of partner n number size left before sent delivered all is_other is_n is_size is_sent is_delivered is_all =
+    let rest = passes_on of (n + 1) left in
+    let two : delivered ≡ before ++ events.Send of n ∷ events.Deliver (other of) n ∷ [] =
+    is_delivered ∙ ap (λ l. l ++ events.Deliver partner number ∷ []) is_sent ∙ append_assoc before (events.Send of number ∷ []) (events.Deliver partner number ∷ [])
+    ∙ ap (λ k. before ++ events.Send of k ∷ events.Deliver partner k ∷ []) is_n ∙ ap (λ w. before ++ events.Send of n ∷ events.Deliver w n ∷ []) is_other in
+    let whole : before ++ passes_on of n (suc left) ≡ all = subst (λ k. before ++ passes_on of n k ≡ all) is_size is_all in
+    ap (λ l. l ++ rest) two ∙ append_assoc before (events.Send of n ∷ events.Deliver (other of) n ∷ []) rest ∙ whole
+
+-- Of no message there are no events.
+pub passes_none : (before : List Event) (of : Who) (n count : ℕ) → count ≡ 0 → before ≡ before ++ passes_on of n count
+unfolding passes_on
+passes_none before of n zero none = sym (append-nil before)
+passes_none before of n (suc count) none = absurd (omega (arith, none))
+
+-- ---- events that are performed
+
+-- Where memory ran out, the first events of some were performed.
+pub performs_front : {M : Type 0} (events first : List Event) (old new : Parties) (result : Result (Unit {0}) M) → IsErr result → IsFront first events → new ≡ run_of old first → Performs events old result new
+performs_front events first old new (Ok done) failed front is = search rules
+performs_front events first old new (Err memory) failed front is = (first, front, is)
+
+-- What is performed behind other events is performed with them.
+pub performs_both : {M : Type 0} (first second : List Event) (old between new : Parties) (result : Result (Unit {0}) M) → between ≡ run_of old first → Performs second between result new
+    → Performs (first ++ second) old result new
+performs_both first second old between new (Ok done) led performs = performs ∙ ap (λ w. run_of w second) led ∙ sym (run_both happens old first second)
+performs_both first second old between new (Err memory) led (some, front, is) =
+    (first ++ some, (front.0, ap (λ l. first ++ l) front.1 ∙ sym (append_assoc first some front.0)), is ∙ ap (λ w. run_of w some) led ∙ sym (run_both happens old first some))
+
+-- The first events of some are the first of more.
+pub front_further : (first events more : List Event) → IsFront first events → IsFront first (events ++ more)
+front_further first events more front = (front.0 ++ more, ap (λ l. l ++ more) front.1 ∙ append_assoc first front.0 more)

@@ -1,0 +1,25 @@
+use Rattle.ill_world.specs.World.{first_world}
+use Rattle.ill_world.proofs.OneRound.{RowsHear, one_round}
+use Rattle.ill_world.proofs.Runs.{run_stands}
+use Rattle.ill_world.proofs.laws.one_round_is_enough.Goals as goal
+
+pub returns-clause-stands : goal.returns-clause-stands
+returns-clause-stands c =
+    let rows : RowsHear = record {
+      requester_txn = c.requester_keeps_txn.ensures.takes;
+      requester_issues = c.requester_issues.ensures.takes;
+      requester_takes = c.requester_has_heard.ensures.takes;
+      requester_stays = c.requester_has_heard.ensures.stays;
+      responder_txn = c.responder_keeps_txn.ensures.takes;
+      responder_issues = c.responder_issues.ensures.takes;
+      responder_ends = c.responder_ends.ensures.takes;
+      responder_final = c.responder_is_final.ensures.takes;
+      responder_takes = c.responder_has_heard.ensures.takes;
+      responder_stays = c.responder_has_heard.ensures.stays;
+    } in
+    λ txn w stands can. one_round rows txn (c.world_stands.ensures.after txn) w stands can
+
+pub returns-clause-run : goal.returns-clause-run
+returns-clause-run c =
+    λ txn events can.
+    returns-clause-stands c txn _ (run_stands txn (c.world_stands.ensures.after txn) (first_world txn) events (c.world_stands.ensures.first txn)) can

@@ -1,0 +1,111 @@
+-- A round, and what holds after it (this profile's own): all messages of the requester reach the responder, and
+-- then all messages of the responder reach the requester, each side's in order.
+use Rattle.std.specs.Prelude.{◌≡◌, ◌⊎◌, ℕ, zero, suc, ◌+◌, ◌<◌, true, false, List, [], ◌∷◌, ◌++◌, length, Result, Ok, Err}
+use Rattle.ill_core.specs.declared.state.State.{State}
+use Rattle.ill_core.specs.declared.state.State.TheVariants as states
+use Rattle.ill_core.specs.State.{is_among}
+use Rattle.ill_core.specs.Bodies.{is_end, is_received, declines}
+use Rattle.ill_core.specs.Issued.{has}
+use Rattle.ill_core.specs.Requester.{RequesterRecord, is_declined, is_received_by}
+use Rattle.ill_core.specs.Responder.{ResponderRecord, due_of, later}
+use Rattle.ill_saved.specs.declared.side.Side.{Side}
+use Rattle.ill_saved.specs.Side.{issued_of, other}
+use Rattle.ill_saved.specs.declared.role.Role.{Role as Who}
+use Rattle.ill_saved.specs.declared.role.Role.TheVariants.{Requester, Responder}
+use Rattle.ill_world.specs.declared.event.Event.{Event}
+use Rattle.ill_world.specs.declared.event.Event.TheVariants.{Save, Send, Deliver}
+use Rattle.ill_world.specs.World.{Parties, party, run_of}
+use Rattle.ill_world.specs.Play.{IsFront}
+use Rattle.ill_world.specs.Agreement.{Facing}
+
+-- ---- the events of a round
+
+-- So many messages, from this number on, are sent and delivered, one after another.
+unfoldable pub passes_on : Who → ℕ → ℕ → List Event
+passes_on who number zero = []
+passes_on who number (suc count) =
+    Send who number ∷ Deliver (other who) number ∷ passes_on who (number + 1) count
+
+-- A party saves, and all its messages are passed on.
+abbrev pub half_of : Who → Parties → List Event
+half_of who w = Save who ∷ passes_on who 1 (length (issued_of (party w who).live))
+
+-- the requester's half, and then the responder's
+abbrev pub round_of : Parties → List Event
+round_of w = half_of Requester w ++ half_of Responder (run_of w (half_of Requester w))
+
+-- These events were performed, one after another; or memory ran out, and only the first of them were.
+abbrev pub Performs : {M : Type 0} → List Event → Parties → Result (Unit {0}) M → Parties → Type 0
+Performs events old (Ok done) new = new ≡ run_of old events
+Performs events old (Err memory) new = (first : List Event) × IsFront first events × (new ≡ run_of old first)
+
+-- ---- the two records after it
+
+-- the states of a responder that a requester in this state faces
+abbrev pub faced_in : State → List State
+faced_in states.Idle = states.Idle ∷ []
+faced_in states.Pending = states.InProcess ∷ []
+faced_in states.Conditional = states.Conditional ∷ states.InProcess ∷ []
+faced_in states.CancelPending = states.CancelPending ∷ []
+faced_in states.Cancelled = states.Cancelled ∷ []
+faced_in states.NotSupplied = states.NotSupplied ∷ []
+faced_in states.Shipped = states.Shipped ∷ []
+faced_in states.Received = states.Shipped ∷ []
+faced_in states.RenewPending = states.RenewPending ∷ []
+faced_in states.NotReceivedOverdue = states.Overdue ∷ []
+faced_in states.Overdue = states.Overdue ∷ []
+faced_in states.RenewOverdue = states.RenewOverdue ∷ []
+faced_in states.Recall = states.Recall ∷ []
+faced_in states.Returned = states.Returned ∷ states.CheckedIn ∷ []
+faced_in other = []
+
+-- The two are in step: their states face each other, no conditions stand that were declined, either side knows of
+-- the other whether the item was received, and whether it was checked in, and the due dates are equal, unless the
+-- item was recalled or returned.
+pub record InStep (x : RequesterRecord) (y : ResponderRecord) : Type 0 where
+  pub faced : is_among (faced_in x.state) y.state ≡ true
+  pub undeclined : is_declined x ≡ false
+  pub received : is_among later y.state ≡ true → y.received ≡ is_received_by x
+  pub checked_in : x.checked_in ≡ is_among (states.CheckedIn ∷ []) y.state
+  pub due : is_among (states.Recall ∷ states.Returned ∷ []) x.state ≡ false → x.due ≡ due_of y
+
+-- So are the live records of both sides.
+abbrev pub AreInStep : Parties → Type 0
+AreInStep w = Facing InStep w.requester.live w.responder.live
+
+-- The responder can answer a Conditional-Reply no: it has ended the request, or a number is left.
+abbrev pub CanAnswer : Side → Type 0
+CanAnswer side = (has is_end (issued_of side) ≡ true) ⊎ (length (issued_of side) < 255)
+
+-- ---- two records that are not in step, each by what is wrong in it
+
+-- the states of a requester that a responder in this state may face
+abbrev pub facing_in : State → List State
+facing_in states.Idle = states.Idle ∷ []
+facing_in states.InProcess = states.Pending ∷ states.Conditional ∷ []
+facing_in states.Conditional = states.Conditional ∷ []
+facing_in states.CancelPending = states.CancelPending ∷ []
+facing_in states.Cancelled = states.Cancelled ∷ []
+facing_in states.NotSupplied = states.NotSupplied ∷ []
+facing_in states.Shipped = states.Shipped ∷ states.Received ∷ []
+facing_in states.RenewPending = states.RenewPending ∷ []
+facing_in states.Overdue = states.NotReceivedOverdue ∷ states.Overdue ∷ []
+facing_in states.RenewOverdue = states.RenewOverdue ∷ []
+facing_in states.Recall = states.Recall ∷ []
+facing_in states.Returned = states.Returned ∷ []
+facing_in states.CheckedIn = states.Returned ∷ []
+facing_in other = []
+
+pub data OutOfStep (x : RequesterRecord) (y : ResponderRecord) : Type 0 where
+  unfaced : is_among (facing_in y.state) x.state ≡ false → OutOfStep x y
+  -- the conditions were declined, and the request goes on
+  declined : x.state ≡ states.Conditional → has declines x.issued ≡ true → OutOfStep x y
+  -- the item was received, and the responder does not know it; or it was not, and the responder says so
+  unmarked : is_among later y.state ≡ true → has is_received x.issued ≡ true → y.received ≡ false → OutOfStep x y
+  unreceived : is_among later y.state ≡ true → has is_received x.issued ≡ false → y.received ≡ true → OutOfStep x y
+  -- the item was checked in, and the requester does not know it; or it was not, and the requester says so
+  not_told : y.state ≡ states.CheckedIn → x.checked_in ≡ false → OutOfStep x y
+  told_early : (y.state ≡ states.CheckedIn → ⊥) → x.checked_in ≡ true → OutOfStep x y
+  -- the due dates differ, and the item was neither recalled nor returned
+  due_apart : is_among (states.Recall ∷ states.Returned ∷ []) x.state ≡ false → (x.due ≡ due_of y → ⊥) →
+      OutOfStep x y

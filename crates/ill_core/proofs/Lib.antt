@@ -25,3 +25,4 @@ pub mod ResponderQuestions
 pub mod ResponderRecalls
 pub mod ResponderGrants
 pub mod ResponderOverdue
+pub mod TurnLemmas

@@ -21,3 +21,4 @@ pub mod ResponderTables
 pub mod ResponderDeliveries
 pub mod ResponderFacts
 pub mod ResponderNotices
+pub mod Verbs

@@ -4,6 +4,7 @@
 
 mod requester;
 mod responder;
+mod turns;
 
 pub use requester::{
     requester_answers_once, requester_follows, requester_has_begun, requester_has_heard,
@@ -18,4 +19,7 @@ pub use responder::{
     responder_is_quiet, responder_issues, responder_keeps_last, responder_keeps_request,
     responder_keeps_rules, responder_keeps_txn, responder_recalls, responder_rules,
     responder_shows, responder_stays_later, responder_was_asked,
+};
+pub use turns::{
+    requester_verbs_are_exact, responder_verbs_are_exact, turns_have_verbs, what_is_over_stays,
 };

@@ -16,6 +16,8 @@ mod responder;
 mod state;
 mod table;
 mod taking;
+mod turn;
+mod verb;
 
 pub use body::{is_ill_request, is_requesters};
 pub use refusal::Refusal;
@@ -25,3 +27,5 @@ pub use responder::standing::Standing as ResponderStanding;
 pub use responder::{Deed, Responder};
 pub use state::State;
 pub use taking::Taking;
+pub use turn::Turn;
+pub use verb::Verb;

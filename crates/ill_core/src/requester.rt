@@ -11,14 +11,18 @@ ghost use Rattle.ill_core.specs.declared.refusal.Refusal.TheVariants as refusals
 ghost use Rattle.ill_core.specs.State.{is_among};
 ghost use Rattle.ill_core.specs.Issued.{message};
 ghost use Rattle.ill_core.specs.Requester.{RequesterRecord, requester_of, standing_of, back_to, IsRequester, accepted_number, is_declined, is_received_by, later};
-ghost use Rattle.ill_core.specs.RequesterActions.{Acts};
+ghost use Rattle.ill_core.specs.RequesterActions.{Acts, acts};
 ghost use Rattle.ill_core.specs.RequesterDeliveries.{Takes};
+ghost use Rattle.ill_core.specs.declared.turn.Turn.TheVariants.{Mine};
+ghost use Rattle.ill_core.specs.Verbs.{wish_verb, is_verb_among, is_now, requester_verbs, requester_turn};
 
 use crate::body::is_requesters;
 use crate::issued::{Issued, Sought, are_numbered, has_declined, has_received};
 use crate::refusal::Refusal;
 use crate::state::State;
 use crate::taking::Taking;
+use crate::turn::Turn;
+use crate::verb::Verb;
 use ill_values::{Apdu, Day, Item, Number, TxnId};
 use standing::Standing;
 use std::alloc::Global;
@@ -57,6 +61,22 @@ pub enum Wish {
     },
     /// Tell the responder that the item was sent back.
     Return,
+}
+
+impl Wish {
+    /// The verb of the wish, without what it is about.
+    pub fn verb(&self) -> Verb
+        ensures { result ≡ wish_verb self.now }
+    {
+        match self {
+            Wish::Request { .. } => Verb::Request,
+            Wish::Cancel => Verb::Cancel,
+            Wish::Reply { .. } => Verb::Reply,
+            Wish::Receive => Verb::Receive,
+            Wish::Renew { .. } => Verb::Renew,
+            Wish::Return => Verb::Return,
+        }
+    }
 }
 
 impl Model for Requester {
@@ -255,6 +275,48 @@ impl Requester {
         ensures { result ≡ self.now.checked_in }
     {
         self.standing.checked_in
+    }
+
+    /// The verbs of all wishes that `act` does not refuse as `NotNow`. It may still refuse them: for
+    /// 255 messages that were issued, or for want of memory.
+    pub fn verbs(&self) -> &'static [Verb]
+        ensures value { result.now ≡ requester_verbs self.now }
+        ensures exact { (wish : Wish) →
+            is_verb_among result.now (wish_verb wish) ≡ is_now (acts self.now wish) }
+    {
+        match self.standing.state {
+            State::Idle => &[Verb::Request],
+            State::Pending => &[Verb::Cancel],
+            State::Conditional if !self.is_declined() => &[Verb::Reply],
+            State::Shipped | State::NotReceivedOverdue => &[Verb::Receive],
+            State::Received | State::Overdue => &[Verb::Renew, Verb::Return],
+            State::RenewPending | State::RenewOverdue => &[Verb::Return],
+            State::Recall if self.is_received() => &[Verb::Return],
+            State::Recall => &[Verb::Receive],
+            _ => &[],
+        }
+    }
+
+    /// Who acts next, as far as the requester knows. When it is the requester's turn, it has a verb.
+    pub fn turn(&self) -> Turn
+        ensures value { result ≡ requester_turn self.now }
+        ensures mine { result ≡ Mine → requester_verbs self.now ≡ [] → ⊥ }
+    {
+        match self.standing.state {
+            State::Conditional if self.is_declined() => Turn::Theirs,
+            State::Idle
+            | State::Conditional
+            | State::Shipped
+            | State::Received
+            | State::Overdue
+            | State::NotReceivedOverdue
+            | State::Recall => Turn::Mine,
+            State::Pending | State::CancelPending | State::RenewPending | State::RenewOverdue => {
+                Turn::Theirs
+            }
+            State::Returned if !self.standing.checked_in => Turn::Theirs,
+            _ => Turn::Over,
+        }
     }
 }
 

@@ -10,14 +10,19 @@ ghost use Rattle.ill_core.specs.declared.state.State.TheVariants as State;
 ghost use Rattle.ill_core.specs.State.{is_among};
 ghost use Rattle.ill_core.specs.Issued.{message};
 ghost use Rattle.ill_core.specs.Responder.{ResponderRecord, responder_of, standing_of, back_to, request_in, IsResponder, due_of, outstanding_number, end_number, later};
-ghost use Rattle.ill_core.specs.ResponderActions.{Acts};
+ghost use Rattle.ill_core.specs.ResponderActions.{Acts, acts};
 ghost use Rattle.ill_core.specs.ResponderDeliveries.{Takes};
+ghost use Rattle.ill_values.specs.Day.{Date};
+ghost use Rattle.ill_core.specs.declared.turn.Turn.TheVariants.{Mine};
+ghost use Rattle.ill_core.specs.Verbs.{deed_verb, is_verb_among, is_now, responder_verbs, responder_turn};
 
 use crate::body::is_requesters;
 use crate::issued::{Issued, Sought, are_numbered};
 use crate::refusal::Refusal;
 use crate::state::State;
 use crate::taking::Taking;
+use crate::turn::Turn;
+use crate::verb::Verb;
 use ill_values::{AnswerResult, Apdu, Body, Day, Number, TxnId};
 use standing::Standing;
 use std::alloc::Global;
@@ -59,6 +64,24 @@ pub enum Deed {
     CheckIn,
     /// End a request whose expiry date has passed.
     Expire,
+}
+
+impl Deed {
+    /// The verb of the deed, without what it is about.
+    pub fn verb(&self) -> Verb
+        ensures { result ≡ deed_verb self.now }
+    {
+        match self {
+            Deed::Answer(_) => Verb::Answer,
+            Deed::CancelReply { .. } => Verb::CancelReply,
+            Deed::Ship { .. } => Verb::Ship,
+            Deed::RenewAnswer { .. } => Verb::RenewAnswer,
+            Deed::Overdue => Verb::Overdue,
+            Deed::Recall => Verb::Recall,
+            Deed::CheckIn => Verb::CheckIn,
+            Deed::Expire => Verb::Expire,
+        }
+    }
 }
 
 impl Model for Responder {
@@ -293,6 +316,43 @@ impl Responder {
         ensures { option_map (λ a. a.now) result ≡ self.now.request }
     {
         self.request.as_ref()
+    }
+
+    /// The verbs of all deeds that `act` does not refuse as `NotNow`. It may still refuse them: for a
+    /// date, for 255 messages that were issued, or for want of memory.
+    pub fn verbs(&self) -> &'static [Verb]
+        ensures value { result.now ≡ responder_verbs self.now }
+        ensures exact { (deed : Deed) (today : Date) →
+            is_verb_among result.now (deed_verb deed) ≡ is_now (acts self.now deed today) }
+    {
+        match self.standing.state {
+            State::InProcess => &[Verb::Answer, Verb::Ship, Verb::Expire],
+            State::Conditional => &[Verb::Expire],
+            State::CancelPending => &[Verb::CancelReply],
+            State::Shipped => &[Verb::Overdue, Verb::Recall],
+            State::RenewPending => &[Verb::RenewAnswer, Verb::Overdue],
+            State::Overdue => &[Verb::Recall],
+            State::RenewOverdue => &[Verb::RenewAnswer],
+            State::Returned => &[Verb::CheckIn],
+            _ => &[],
+        }
+    }
+
+    /// Who acts next, as far as the responder knows. When it is the responder's turn, it has a verb.
+    pub fn turn(&self) -> Turn
+        ensures value { result ≡ responder_turn self.now }
+        ensures mine { result ≡ Mine → responder_verbs self.now ≡ [] → ⊥ }
+    {
+        match self.standing.state {
+            State::InProcess
+            | State::CancelPending
+            | State::RenewPending
+            | State::RenewOverdue
+            | State::Returned => Turn::Mine,
+            State::Idle | State::Conditional | State::Shipped | State::Overdue | State::Recall =>
+                Turn::Theirs,
+            _ => Turn::Over,
+        }
     }
 }
 

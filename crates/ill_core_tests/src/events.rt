@@ -1,14 +1,35 @@
 //! What a side is told to do, and what comes to it.
 
 use crate::messages::{body_of, day, message};
-use ill_core::{Deed, Wish};
+use ill_core::{Deed, Verb, Wish};
 use ill_values::{Apdu, Body, Day};
 use std::alloc::Global;
+
+const VERBS: [Verb; 14] = [
+    Verb::Request,
+    Verb::Cancel,
+    Verb::Reply,
+    Verb::Receive,
+    Verb::Renew,
+    Verb::Return,
+    Verb::Answer,
+    Verb::CancelReply,
+    Verb::Ship,
+    Verb::RenewAnswer,
+    Verb::Overdue,
+    Verb::Recall,
+    Verb::CheckIn,
+    Verb::Expire,
+];
 
 /// What happens to a side.
 pub enum Event {
     /// Nothing: its readers are asked.
     Reading,
+    /// Nothing: it is asked whose turn it is.
+    Turn,
+    /// Nothing: it is asked whether it has this verb.
+    May(Verb),
     Wish(Wish),
     /// A deed, and the day of it.
     Deed(Deed, Day),
@@ -22,6 +43,8 @@ impl Drop for Event {
     fn drop(self) {
         match self {
             Event::Reading => {}
+            Event::Turn => {}
+            Event::May(_) => {}
             Event::Wish(_wish) => {}
             Event::Deed(_, _) => {}
             Event::Delivery(_apdu) => {}
@@ -31,15 +54,17 @@ impl Drop for Event {
 }
 
 impl Event {
-    /// The event that a text names: a reading, a message that comes, a wish by the message that it
-    /// issues, or a deed by its day and the message that it issues.
+    /// The event that a text names: a reading, a question after the turn or a verb, a message that comes,
+    /// a wish by the message that it issues, or a deed by its day and the message that it issues.
     pub fn read(alloc: Global, text: &str) -> Event {
-        let (verb, rest) = text.split_once(' ').unwrap_or((text, ""));
-        let event = match verb {
+        let (word, rest) = text.split_once(' ').unwrap_or((text, ""));
+        let event = match word {
             "read" => Some(Event::Reading),
+            "turn" => Some(Event::Turn),
+            "may" => verb_of(rest).map(Event::May),
             "take" => delivery(alloc, rest),
             "do" => wish(alloc, rest),
-            _ => deed(alloc, day(verb), rest),
+            _ => deed(alloc, day(word), rest),
         };
         event.unwrap_or(Event::Unknown)
     }
@@ -51,6 +76,16 @@ impl Event {
             _ => ".",
         }
     }
+}
+
+/// The verb of this name.
+fn verb_of(name: &str) -> Option<Verb> {
+    for verb in &VERBS {
+        if verb.name() == name {
+            return Some(*verb);
+        }
+    }
+    None
 }
 
 fn delivery(alloc: Global, word: &str) -> Option<Event> {

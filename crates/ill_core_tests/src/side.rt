@@ -3,7 +3,7 @@
 use crate::events::Event;
 use crate::record::{Readings, Record};
 use crate::states::Role;
-use ill_core::{Refusal, Requester, Responder, State, Taking};
+use ill_core::{Refusal, Requester, Responder, State, Taking, Turn, Verb};
 use ill_values::{Apdu, Number, TxnId};
 use std::alloc::Global;
 
@@ -47,16 +47,43 @@ impl Side {
         }
     }
 
-    /// Lets something happen to it, and gives the letter of the answer. What is done is `T`, as what is
-    /// taken.
+    fn turn(&self) -> Turn {
+        match self {
+            Side::Requester(side) => side.turn(),
+            Side::Responder(side) => side.turn(),
+        }
+    }
+
+    /// Whether it has this verb.
+    fn may(&self, verb: Verb) -> bool {
+        match self {
+            Side::Requester(side) => side.verbs().contains(&verb),
+            Side::Responder(side) => side.verbs().contains(&verb),
+        }
+    }
+
+    /// Lets something happen to it, or asks it, and gives the letter of the answer. What is done is `T`, as
+    /// what is taken.
     pub fn answer(&mut self, alloc: Global, event: &Event) -> &'static str {
+        match event {
+            Event::Reading => "y",
+            Event::Turn => turn_letter(self.turn()),
+            Event::May(verb) => if self.may(*verb) { "y" } else { "n" },
+            _ => self.happens(alloc, event),
+        }
+    }
+
+    fn happens(&mut self, alloc: Global, event: &Event) -> &'static str {
         let state = self.state();
         match (self, event) {
-            (_, Event::Reading) => "y",
-            (Side::Requester(side), Event::Wish(wish)) => done(side.act(alloc, wish), state),
+            (Side::Requester(side), Event::Wish(wish)) => {
+                let is_listed = side.verbs().contains(&wish.verb());
+                done(side.act(alloc, wish), state, is_listed)
+            }
             (Side::Requester(side), Event::Delivery(apdu)) => taken(side.take(apdu), state),
             (Side::Responder(side), Event::Deed(deed, today)) => {
-                done(side.act(alloc, deed, *today), state)
+                let is_listed = side.verbs().contains(&deed.verb());
+                done(side.act(alloc, deed, *today), state, is_listed)
             }
             (Side::Responder(side), Event::Delivery(apdu)) => taken(side.take(alloc, apdu), state),
             _ => "NO CASE",
@@ -152,11 +179,25 @@ fn is_own(txn: &TxnId) -> bool {
     txn.group() == b"G1".as_slice() && txn.transaction() == b"T1".as_slice()
 }
 
-/// The letter of what an action is answered in this state.
-fn done(answer: Result<(), Refusal>, state: State) -> &'static str {
-    match answer {
+/// The letter of what an action is answered in this state. It is not now exactly where its verb was not
+/// listed before.
+fn done(answer: Result<(), Refusal>, state: State, is_listed: bool) -> &'static str {
+    let letter = match answer {
         Ok(()) => "T",
         Err(refusal) => refused(refusal, state),
+    };
+    if is_listed == (letter == "N") {
+        "V"
+    } else {
+        letter
+    }
+}
+
+fn turn_letter(turn: Turn) -> &'static str {
+    match turn {
+        Turn::Over => "o",
+        Turn::Mine => "m",
+        Turn::Theirs => "t",
     }
 }
 

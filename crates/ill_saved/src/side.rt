@@ -1,12 +1,15 @@
 //! One side of a transaction, whichever its role.
 
-ghost use Rattle.std.specs.Prelude.{◌≡◌, ◌≤◌, length, option_map, IfOk};
+ghost use Rattle.std.specs.Prelude.{◌≡◌, ◌≤◌, [], length, option_map, IfOk};
+ghost use Rattle.ill_core.specs.declared.turn.Turn.TheVariants.{Mine};
 ghost use Rattle.ill_core.specs.Issued.{message};
-ghost use Rattle.ill_saved.specs.Side.{role_for, begins, Acts, Takes, IsConsistent, issued_of, standing_of, back_to, GoesBack, idle_of, idle_side, is_idle, role_of, txn_of, state_of, due_date_of};
+ghost use Rattle.ill_core.specs.Verbs.{is_verb_among, is_now};
+ghost use Rattle.ill_saved.specs.Side.{role_for, begins, verb_of, verbs_of, turn_of, acts, Acts, Takes, IsConsistent, issued_of, standing_of, back_to, GoesBack, idle_of, idle_side, is_idle, role_of, txn_of, state_of, due_date_of};
 
 use crate::role::Role;
 use ill_core::{
-    Deed, Refusal, Requester, RequesterStanding, Responder, ResponderStanding, State, Taking, Wish,
+    Deed, Refusal, Requester, RequesterStanding, Responder, ResponderStanding, State, Taking, Turn,
+    Verb, Wish,
 };
 use ill_values::{Apdu, Day, Number, OutOfMemory, TxnId};
 use std::alloc::Global;
@@ -46,6 +49,16 @@ impl Action {
         match self {
             Action::Wish(_) => Role::Requester,
             Action::Deed(_, _) => Role::Responder,
+        }
+    }
+
+    /// The verb of the action, without what it is about.
+    pub fn verb(&self) -> Verb
+        ensures { result ≡ verb_of self.now }
+    {
+        match self {
+            Action::Wish(wish) => wish.verb(),
+            Action::Deed(deed, _) => deed.verb(),
         }
     }
 
@@ -138,6 +151,30 @@ impl Side {
         match self {
             Side::Requester(requester) => requester.due(),
             Side::Responder(responder) => responder.due(),
+        }
+    }
+
+    /// The verbs of all actions that `act` does not refuse as `NotNow` or `WrongRole`. It may still
+    /// refuse them: for a date, for 255 messages that were issued, or for want of memory.
+    pub fn verbs(&self) -> &'static [Verb]
+        ensures value { result.now ≡ verbs_of self.now }
+        ensures exact { (action : Action) →
+            is_verb_among result.now (verb_of action) ≡ is_now (acts self.now action) }
+    {
+        match self {
+            Side::Requester(requester) => requester.verbs(),
+            Side::Responder(responder) => responder.verbs(),
+        }
+    }
+
+    /// Who acts next, as far as this side knows. When it is this side's turn, it has a verb.
+    pub fn turn(&self) -> Turn
+        ensures value { result ≡ turn_of self.now }
+        ensures mine { result ≡ Mine → verbs_of self.now ≡ [] → ⊥ }
+    {
+        match self {
+            Side::Requester(requester) => requester.turn(),
+            Side::Responder(responder) => responder.turn(),
         }
     }
 

@@ -1,0 +1,56 @@
+-- What is over stays over.
+use Rattle.std.proofs.Common.{rules, ◌≡◌, ℕ, true, [], ◌∷◌, ap, sym, refl}
+use Rattle.ill_values.specs.declared.apdu.Apdu.{Apdu}
+use Rattle.ill_values.specs.declared.apdu.Body.{Body}
+use Rattle.ill_core.specs.declared.state.State.TheVariants.{Returned}
+use Rattle.ill_core.specs.declared.turn.Turn.TheVariants.{Over}
+use Rattle.ill_core.specs.State.{is_among}
+use Rattle.ill_core.specs.Requester.{RequesterRecord}
+use Rattle.ill_core.specs.RequesterDeliveries as requester
+use Rattle.ill_core.specs.Responder.{ResponderRecord}
+use Rattle.ill_core.specs.ResponderDeliveries as responder
+use Rattle.ill_core.specs.Verbs.{requester_turn, responder_turn}
+use Rattle.ill_core.proofs.RequesterMoves as moves
+use Rattle.ill_core.proofs.RequesterMoves.{Leads, delivery_leads}
+use Rattle.ill_core.proofs.ResponderMoves as changes
+use Rattle.ill_core.proofs.ResponderMoves.{Change, takes_changes}
+
+-- A requester in RETURNED that says that it is over knows that the item was checked in.
+is_marked : (x : RequesterRecord) → is_among (Returned ∷ []) x.state ≡ true → requester_turn x ≡ Over → x.checked_in ≡ true
+is_marked x back over = search rules
+
+-- A requester that says that it is over is led nowhere.
+led_nowhere : (x new : RequesterRecord) (number : ℕ) (body : Body) → Leads x number body new → requester_turn x ≡ Over → new ≡ x
+led_nowhere x new number body (moves.nowhere _) over = refl
+led_nowhere x new number body (moves.holds_conditions at) over = search rules
+led_nowhere x new number body (moves.ends _ is at) over = search rules
+led_nowhere x new number body (moves.cancels cancel at) over = search rules
+led_nowhere x new number body (moves.keeps_request cancel at) over = search rules
+led_nowhere x new number body (moves.ships due at) over = search rules
+led_nowhere x new number body (moves.misses due at is) over = search rules
+led_nowhere x new number body (moves.reminds due at is) over = search rules
+led_nowhere x new number body (moves.reminds_renewing due at is) over = search rules
+led_nowhere x new number body (moves.renews renew due at is) over = search rules
+led_nowhere x new number body (moves.refuses_renewal renew at) over = search rules
+led_nowhere x new number body (moves.recalls at) over = search rules
+led_nowhere x new number body (moves.checks_in at) over = ap (λ marked. record x { checked_in = marked }) (sym (is_marked x at over))
+
+-- A message leaves a requester that says that it is over.
+pub requester_stays : (x : RequesterRecord) (a : Apdu) → requester_turn x ≡ Over → (requester.takes x a).1 ≡ x
+requester_stays x a = led_nowhere x _ a.number a.body (delivery_leads x a)
+
+-- A responder that says that it is over keeps its state.
+keeps_state : (y new : ResponderRecord) (number : ℕ) (body : Body) → Change y number body new → responder_turn y ≡ Over → new.state ≡ y.state
+keeps_state y new number body (changes.leaves _) over = refl
+keeps_state y new number body (changes.requests expiry item a at) over = search rules
+keeps_state y new number body (changes.accepts c at) over = search rules
+keeps_state y new number body (changes.declines c at few) over = search rules
+keeps_state y new number body (changes.cancels later at) over = search rules
+keeps_state y new number body changes.arrives over = refl
+keeps_state y new number body (changes.renews wished later at) over = search rules
+keeps_state y new number body (changes.renews_late wished later at) over = search rules
+keeps_state y new number body (changes.returns at) over = search rules
+
+-- A message leaves the state of a responder that says that it is over.
+pub responder_stays : (y : ResponderRecord) (a : Apdu) → responder_turn y ≡ Over → (responder.takes y a).1.state ≡ y.state
+responder_stays y a = keeps_state y _ a.number a.body (takes_changes y a)

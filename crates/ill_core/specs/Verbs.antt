@@ -1,0 +1,178 @@
+-- What each side may do now, by its verbs, and whose turn it is (this profile's own). A verb is the first word of an
+-- action, without what it is about; a turn says whose library acts next, so far as the record of a side tells.
+use Rattle.std.specs.Prelude.{ℕ, Bool, true, false, ◌==◌, List, [], ◌∷◌, Result, Ok, Err, codes}
+use Rattle.std.specs.List.{list_any}
+use Rattle.ill_core.specs.declared.state.State.{State}
+use Rattle.ill_core.specs.declared.state.State.TheVariants as states
+use Rattle.ill_core.specs.declared.refusal.Refusal.{Refusal}
+use Rattle.ill_core.specs.declared.refusal.Refusal.TheVariants as refusals
+use Rattle.ill_core.specs.declared.verb.Verb.{Verb}
+use Rattle.ill_core.specs.declared.verb.Verb.TheVariants.{Request, Cancel, Reply, Receive, Renew, Return, Answer, CancelReply, Ship, RenewAnswer, Overdue, Recall, CheckIn, Expire}
+use Rattle.ill_core.specs.declared.turn.Turn.{Turn}
+use Rattle.ill_core.specs.declared.turn.Turn.TheVariants.{Over, Mine, Theirs}
+use Rattle.ill_core.specs.declared.requester.Wish.{Wish}
+use Rattle.ill_core.specs.declared.requester.Wish.TheVariants as wishes
+use Rattle.ill_core.specs.declared.responder.Deed.{Deed}
+use Rattle.ill_core.specs.declared.responder.Deed.TheVariants as deeds
+use Rattle.ill_core.specs.Requester.{RequesterRecord, is_declined, is_received_by}
+use Rattle.ill_core.specs.Responder.{ResponderRecord}
+
+-- ---- verbs
+
+abbrev pub wish_verb : Wish → Verb
+wish_verb (wishes.Request expiry item) = Request
+wish_verb wishes.Cancel = Cancel
+wish_verb (wishes.Reply is_yes) = Reply
+wish_verb wishes.Receive = Receive
+wish_verb (wishes.Renew wished) = Renew
+wish_verb wishes.Return = Return
+
+abbrev pub deed_verb : Deed → Verb
+deed_verb (deeds.Answer answer) = Answer
+deed_verb (deeds.CancelReply is_yes) = CancelReply
+deed_verb (deeds.Ship due) = Ship
+deed_verb (deeds.RenewAnswer granted) = RenewAnswer
+deed_verb deeds.Overdue = Overdue
+deed_verb deeds.Recall = Recall
+deed_verb deeds.CheckIn = CheckIn
+deed_verb deeds.Expire = Expire
+
+-- the name of a verb
+abbrev pub verb_name : Verb → List ℕ
+verb_name Request = codes "request"
+verb_name Cancel = codes "cancel"
+verb_name Reply = codes "reply"
+verb_name Receive = codes "receive"
+verb_name Renew = codes "renew"
+verb_name Return = codes "return"
+verb_name Answer = codes "answer"
+verb_name CancelReply = codes "cancel-reply"
+verb_name Ship = codes "ship"
+verb_name RenewAnswer = codes "renew-answer"
+verb_name Overdue = codes "overdue"
+verb_name Recall = codes "recall"
+verb_name CheckIn = codes "check-in"
+verb_name Expire = codes "expire"
+
+-- the place of a verb in their order
+abbrev pub verb_place : Verb → ℕ
+verb_place Request = 0
+verb_place Cancel = 1
+verb_place Reply = 2
+verb_place Receive = 3
+verb_place Renew = 4
+verb_place Return = 5
+verb_place Answer = 6
+verb_place CancelReply = 7
+verb_place Ship = 8
+verb_place RenewAnswer = 9
+verb_place Overdue = 10
+verb_place Recall = 11
+verb_place CheckIn = 12
+verb_place Expire = 13
+
+-- whether a verb is one of these
+abbrev pub is_verb_among : List Verb → Verb → Bool
+is_verb_among verbs verb = list_any (λ v. verb_place v == verb_place verb) verbs
+
+-- ---- what may be done now
+
+-- An action has a place now: it is not refused for the state or the role. A date may forbid it, all numbers may be
+-- used, and memory may be wanting.
+abbrev pub is_now : {R : Type 0} → Result R Refusal → Bool
+is_now (Ok done) = true
+is_now (Err (refusals.NotNow state)) = false
+is_now (Err refusals.WrongRole) = false
+is_now (Err other) = true
+
+-- if conditions stand that were not declined
+abbrev pub reply_verbs : Bool → List Verb
+reply_verbs true = []
+reply_verbs false = Reply ∷ []
+
+-- of an item that was recalled, and was received or not
+abbrev pub recalled_verbs : Bool → List Verb
+recalled_verbs true = Return ∷ []
+recalled_verbs false = Receive ∷ []
+
+-- in this state, with conditions that were declined or not, and an item that was received or not
+abbrev pub requester_verbs_in : State → Bool → Bool → List Verb
+requester_verbs_in states.Idle declined received = Request ∷ []
+requester_verbs_in states.Pending declined received = Cancel ∷ []
+requester_verbs_in states.Conditional declined received = reply_verbs declined
+requester_verbs_in states.Shipped declined received = Receive ∷ []
+requester_verbs_in states.Received declined received = Renew ∷ Return ∷ []
+requester_verbs_in states.RenewPending declined received = Return ∷ []
+requester_verbs_in states.Overdue declined received = Renew ∷ Return ∷ []
+requester_verbs_in states.RenewOverdue declined received = Return ∷ []
+requester_verbs_in states.NotReceivedOverdue declined received = Receive ∷ []
+requester_verbs_in states.Recall declined received = recalled_verbs received
+requester_verbs_in other declined received = []
+
+-- the verbs of the wishes that have a place now
+abbrev pub requester_verbs : RequesterRecord → List Verb
+requester_verbs x = requester_verbs_in x.state (is_declined x) (is_received_by x)
+
+abbrev pub responder_verbs_in : State → List Verb
+responder_verbs_in states.InProcess = Answer ∷ Ship ∷ Expire ∷ []
+responder_verbs_in states.Conditional = Expire ∷ []
+responder_verbs_in states.CancelPending = CancelReply ∷ []
+responder_verbs_in states.Shipped = Overdue ∷ Recall ∷ []
+responder_verbs_in states.RenewPending = RenewAnswer ∷ Overdue ∷ []
+responder_verbs_in states.Overdue = Recall ∷ []
+responder_verbs_in states.RenewOverdue = RenewAnswer ∷ []
+responder_verbs_in states.Returned = CheckIn ∷ []
+responder_verbs_in other = []
+
+-- the verbs of the deeds that have a place now
+abbrev pub responder_verbs : ResponderRecord → List Verb
+responder_verbs y = responder_verbs_in y.state
+
+-- ---- whose turn it is
+
+-- in CONDITIONAL the requester replies; once it has declined, the responder ends the request or goes on with it
+abbrev pub reply_turn : Bool → Turn
+reply_turn true = Theirs
+reply_turn false = Mine
+
+-- in RETURNED the responder checks the item in; once the requester knows that, it is over
+abbrev pub returned_turn : Bool → Turn
+returned_turn true = Over
+returned_turn false = Theirs
+
+-- in this state, with conditions that were declined or not, and an item that was checked in or not
+abbrev pub requester_turn_in : State → Bool → Bool → Turn
+requester_turn_in states.Idle declined checked_in = Mine
+requester_turn_in states.Pending declined checked_in = Theirs
+requester_turn_in states.Conditional declined checked_in = reply_turn declined
+requester_turn_in states.CancelPending declined checked_in = Theirs
+requester_turn_in states.Shipped declined checked_in = Mine
+requester_turn_in states.Received declined checked_in = Mine
+requester_turn_in states.RenewPending declined checked_in = Theirs
+requester_turn_in states.Overdue declined checked_in = Mine
+requester_turn_in states.RenewOverdue declined checked_in = Theirs
+requester_turn_in states.NotReceivedOverdue declined checked_in = Mine
+requester_turn_in states.Recall declined checked_in = Mine
+requester_turn_in states.Returned declined checked_in = returned_turn checked_in
+requester_turn_in other declined checked_in = Over
+
+-- whose turn it is, as far as a requester knows
+abbrev pub requester_turn : RequesterRecord → Turn
+requester_turn x = requester_turn_in x.state (is_declined x) x.checked_in
+
+abbrev pub responder_turn_in : State → Turn
+responder_turn_in states.Idle = Theirs
+responder_turn_in states.InProcess = Mine
+responder_turn_in states.Conditional = Theirs
+responder_turn_in states.CancelPending = Mine
+responder_turn_in states.Shipped = Theirs
+responder_turn_in states.RenewPending = Mine
+responder_turn_in states.Overdue = Theirs
+responder_turn_in states.RenewOverdue = Mine
+responder_turn_in states.Recall = Theirs
+responder_turn_in states.Returned = Mine
+responder_turn_in other = Over
+
+-- whose turn it is, as far as a responder knows
+abbrev pub responder_turn : ResponderRecord → Turn
+responder_turn y = responder_turn_in y.state

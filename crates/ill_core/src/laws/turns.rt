@@ -1,0 +1,48 @@
+//! The verbs and the turns of both roles.
+
+ghost use Rattle.std.specs.Prelude.{◌≡◌, []};
+ghost use Rattle.ill_values.specs.Day.{Date};
+ghost use Rattle.ill_values.specs.declared.apdu.Apdu.{Apdu};
+ghost use Rattle.ill_core.specs.declared.requester.Wish.{Wish};
+ghost use Rattle.ill_core.specs.declared.responder.Deed.{Deed};
+ghost use Rattle.ill_core.specs.declared.turn.Turn.TheVariants.{Over, Mine};
+ghost use Rattle.ill_core.specs.Requester.{RequesterRecord};
+ghost use Rattle.ill_core.specs.RequesterActions as requester_actions;
+ghost use Rattle.ill_core.specs.RequesterDeliveries as requester_deliveries;
+ghost use Rattle.ill_core.specs.Responder.{ResponderRecord};
+ghost use Rattle.ill_core.specs.ResponderActions as responder_actions;
+ghost use Rattle.ill_core.specs.ResponderDeliveries as responder_deliveries;
+ghost use Rattle.ill_core.specs.Verbs.{wish_verb, deed_verb, is_verb_among, is_now, requester_verbs, responder_verbs, requester_turn, responder_turn};
+
+/// The verbs of a requester are those of the wishes that have a place now.
+pub fn requester_verbs_are_exact()
+    ensures { (x : RequesterRecord) (wish : Wish) →
+        is_verb_among (requester_verbs x) (wish_verb wish) ≡ is_now (requester_actions.acts x wish) }
+{}
+
+/// The verbs of a responder are those of the deeds that have a place now, though a date may forbid them.
+pub fn responder_verbs_are_exact()
+    ensures { (y : ResponderRecord) (deed : Deed) (today : Date) →
+        is_verb_among (responder_verbs y) (deed_verb deed)
+        ≡ is_now (responder_actions.acts y deed today) }
+{}
+
+/// Whoever's turn it is has a verb, and nobody has one when it is over.
+pub fn turns_have_verbs()
+    ensures requester_acts { (x : RequesterRecord) → requester_turn x ≡ Mine →
+        requester_verbs x ≡ [] → ⊥ }
+    ensures requester_is_done { (x : RequesterRecord) → requester_turn x ≡ Over →
+        requester_verbs x ≡ [] }
+    ensures responder_acts { (y : ResponderRecord) → responder_turn y ≡ Mine →
+        responder_verbs y ≡ [] → ⊥ }
+    ensures responder_is_done { (y : ResponderRecord) → responder_turn y ≡ Over →
+        responder_verbs y ≡ [] }
+{}
+
+/// A message changes no requester that says that it is over, and leads no responder that says so to another state.
+pub fn what_is_over_stays()
+    ensures requester { (x : RequesterRecord) (a : Apdu) → requester_turn x ≡ Over →
+        (requester_deliveries.takes x a).1 ≡ x }
+    ensures responder { (y : ResponderRecord) (a : Apdu) → responder_turn y ≡ Over →
+        (responder_deliveries.takes y a).1.state ≡ y.state }
+{}

@@ -1,0 +1,74 @@
+//! What a library may do, by the first word of it.
+
+ghost use Rattle.std.specs.Prelude.{◌≡◌, Some};
+ghost use Rattle.std.specs.Fmt.{padded};
+ghost use Rattle.ill_core.specs.Verbs.{verb_name};
+
+use std::fmt;
+
+/// What a library may do, without what it is about. It is displayed by its name, as `cancel-reply`.
+#[derive(Clone, Copy, Debug, PartialEq, Eq, Hash)]
+pub enum Verb {
+    /// A requester asks for an item.
+    Request,
+    /// A requester asks to cancel the request.
+    Cancel,
+    /// A requester accepts or declines conditions.
+    Reply,
+    /// A requester tells that the item has arrived.
+    Receive,
+    /// A requester asks for a later due date.
+    Renew,
+    /// A requester tells that the item was sent back.
+    Return,
+    /// A responder answers the request.
+    Answer,
+    /// A responder agrees to a Cancel or refuses it.
+    CancelReply,
+    /// A responder sends the item.
+    Ship,
+    /// A responder grants a Renew or refuses it.
+    RenewAnswer,
+    /// A responder tells that the due date has passed.
+    Overdue,
+    /// A responder asks for the item back.
+    Recall,
+    /// A responder tells that the item is back.
+    CheckIn,
+    /// A responder ends a request whose expiry date has passed.
+    Expire,
+}
+
+impl Verb {
+    /// The name of the verb, as `cancel-reply`.
+    pub fn name(self) -> &'static str
+        ensures { result.now ≡ verb_name self }
+    {
+        match self {
+            Verb::Request => "request",
+            Verb::Cancel => "cancel",
+            Verb::Reply => "reply",
+            Verb::Receive => "receive",
+            Verb::Renew => "renew",
+            Verb::Return => "return",
+            Verb::Answer => "answer",
+            Verb::CancelReply => "cancel-reply",
+            Verb::Ship => "ship",
+            Verb::RenewAnswer => "renew-answer",
+            Verb::Overdue => "overdue",
+            Verb::Recall => "recall",
+            Verb::CheckIn => "check-in",
+            Verb::Expire => "expire",
+        }
+    }
+}
+
+impl fmt::Display for Verb {
+    ghost output = { λ verb. Some (verb_name verb) };
+
+    ghost styled_output = { λ verb spec. Some (padded spec (verb_name verb)) };
+
+    fn fmt<W: fmt::Write>(&self, f: &mut fmt::Formatter<W>) -> fmt::Result {
+        f.pad(self.name())
+    }
+}

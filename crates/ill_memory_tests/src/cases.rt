@@ -129,6 +129,7 @@ fn desk_world_outcome(alloc: Global, call: &str, words: &mut Words<'_>) -> Optio
         "new" => desk_worlds::begins(alloc),
         "step" => desk_worlds::steps(alloc, words),
         "run" => desk_worlds::runs(alloc),
+        "exchange" => desk_worlds::exchanges(alloc),
         "readers" => desk_worlds::shows(alloc),
         _ => None,
     }

@@ -213,6 +213,24 @@ fn shown_in_turn(alloc: Global, txn: &TxnId) -> Option<[DeskShown; 2]> {
     Some(seen)
 }
 
+/// `exchange`, after which the Shipped has come, and the Cancel was of no use. After want of memory a further one
+/// brings both sides there.
+pub fn exchanges(alloc: Global) -> Option<Outcome> {
+    let txn = txn(alloc, "T1")?;
+    let mut world = world(alloc)?;
+    begin(alloc);
+    let answer = world.exchange(alloc);
+    let refused = end(alloc);
+    let is_right = answer.is_ok() || world.exchange(alloc).is_ok();
+    let ample = [
+        one_side(Some((State::Shipped, 2, 2))),
+        one_side(Some((State::Shipped, 1, 1))),
+    ];
+    let in_step = is_right && shown(&world, &txn) == ample;
+    drop(world);
+    Some(leaving(answered(answer, (), OutOfMemory, refused), in_step))
+}
+
 /// `requester`, `responder` and `released`, of a transaction that is held and of one that is not.
 pub fn shows(alloc: Global) -> Option<Outcome> {
     let world = world(alloc)?;

@@ -22,8 +22,9 @@ use Rattle.ill_world.specs.Safety.{OfBoth}
 use Rattle.ill_world.specs.Agreement.{AnswersOnce, EndsOnce, Facing, AcceptedBy, IsNotLater, SaysTrue, Agrees}
 use Rattle.ill_world.specs.Invariant.{RequesterStands, ResponderStands, RequesterSideStands, ResponderSideStands, SendsSaved, Stands}
 use Rattle.ill_core.proofs.GrantLemmas.{granted_not_later}
-use Rattle.ill_world.proofs.Sendings.{front_message, message_has}
-use Rattle.ill_world.proofs.Uniqueness.{message_number, answers_once, one_end, has_message}
+use Rattle.ill_core.proofs.MessageLemmas.{message_says, says_message}
+use Rattle.ill_world.proofs.Sendings.{front_message}
+use Rattle.ill_world.proofs.Uniqueness.{message_number, answers_once, one_end}
 use Rattle.ill_world.proofs.Claims.{AreIssued, tells_grant, is_in_cancelled, has_issued, not_supplied_faces, shipped_by, landed_issues, live_issues}
 
 -- ---- what a message tells
@@ -109,9 +110,9 @@ pub cancel_is_open : (txn : Qualifiers) (x : RequesterRecord) (y : ResponderReco
     → AreIssued heard x.issued → (m c : ℕ) (a : Apdu) → message y.issued m ≡ Some a → a.body ≡ types.CancelReply c true → requester.is_open x c ≡ true
 cancel_is_open txn x y told heard requester_stands responder_stands issued heeded m c a at is =
     let ends : is_cancelled a.body ≡ true = ap is_cancelled is in
-    let cancelled : y.state ≡ states.Cancelled = is_in_cancelled y.state (sym responder_stands.ends.cancelled ∙ message_has is_cancelled y.issued m a at ends) in
+    let cancelled : y.state ≡ states.Cancelled = is_in_cancelled y.state (sym responder_stands.ends.cancelled ∙ message_says is_cancelled y.issued m a at ends) in
     let cancels_it : responder.cancels c a.body ≡ true = ap (responder.cancels c) is ∙ eq-eqb c c refl in
-    let asked_for = responder_stands.knows (responder.CancelAsked c) (inr (message_has (responder.cancels c) y.issued m a at cancels_it)) in
+    let asked_for = responder_stands.knows (responder.CancelAsked c) (inr (message_says (responder.cancels c) y.issued m a at cancels_it)) in
     let there = heeded asked_for.0 asked_for.1 in
     let says = tells_cancel asked_for.0.number c asked_for.0.body asked_for.2 in
     let number : there.0 ≡ c = sym (message_number x.txn x.issued there.0 asked_for.0 requester_stands.rules.numbered there.1).1 ∙ says.1 in
@@ -141,7 +142,7 @@ says_true txn x y told heard requester_stands responder_stands issued heeded = r
   cancelled =
       λ e.
       let ended : has is_cancelled y.issued ≡ true = responder_stands.ends.cancelled ∙ ap (is_among (states.Cancelled ∷ [])) e in
-      let at = has_message is_cancelled y.issued ended in
+      let at = says_message is_cancelled y.issued ended in
       let by = cancels_with at.1.body at.3 in
       (and_parts _ _ (cancel_is_open txn x y told heard requester_stands responder_stands issued heeded at.0 by.0 at.1 at.2 by.1)).0;
   received =

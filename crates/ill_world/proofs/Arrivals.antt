@@ -30,7 +30,7 @@ use Rattle.ill_world.specs.declared.event.Outcome.TheVariants.{Answered}
 use Rattle.ill_world.specs.World.{Party, Parties, sent_message, answer_to, receives}
 use Rattle.ill_world.specs.Agreement.{settled_by, Settles, Arrives}
 use Rattle.ill_world.specs.Invariant.{RequesterStands, ResponderStands, RequesterSideStands, ResponderSideStands, Stands}
-use Rattle.ill_world.proofs.Sendings.{message_has}
+use Rattle.ill_core.proofs.MessageLemmas.{message_says}
 use Rattle.ill_world.proofs.Uniqueness.{message_number}
 use Rattle.ill_world.proofs.Claims.{AreIssued, has_issued, cancelled_faces, not_supplied_faces, shipped_by, landed_issues, live_issues}
 use Rattle.ill_world.proofs.Agreements.{tells_requested, cancel_is_open}
@@ -125,7 +125,7 @@ shipped_arrives : RowsFollow → (txn : Qualifiers) (x : RequesterRecord) (y : R
     → ResponderStands txn y heard → AreIssued told y.issued → AreIssued heard x.issued → message y.issued n ≡ Some a → a.body ≡ types.Shipped due
     → requester.LeadsTo later (requester_deliveries.takes x a)
 shipped_arrives rows txn x y told heard n a due requester_stands responder_stands issued heeded at is =
-    let shipped : is_among shipped_states y.state ≡ true = sym responder_stands.ends.shipped ∙ message_has is_shipped y.issued n a at (ap is_shipped is) in
+    let shipped : is_among shipped_states y.state ≡ true = sym responder_stands.ends.shipped ∙ message_says is_shipped y.issued n a at (ap is_shipped is) in
     rows.shipped x a due (same_txn_as txn x y told heard n a requester_stands responder_stands at) is
     (may_ship x.state requester_stands.rules.parts.role (was_asked txn x y told heard requester_stands responder_stands heeded (shipped_is_ended y.state shipped))
     (λ e. not_cancelled y.state (cancelled_faces txn x y told heard requester_stands responder_stands issued e) shipped)
@@ -135,7 +135,7 @@ end_arrives : RowsFollow → (txn : Qualifiers) (x : RequesterRecord) (y : Respo
     → ResponderStands txn y heard → AreIssued told y.issued → AreIssued heard x.issued → message y.issued n ≡ Some a → is_unsupplied a.body ≡ true
     → requester.LeadsTo (states.NotSupplied ∷ []) (requester_deliveries.takes x a)
 end_arrives rows txn x y told heard n a requester_stands responder_stands issued heeded at is =
-    let ended : is_among (states.NotSupplied ∷ []) y.state ≡ true = sym responder_stands.ends.unsupplied ∙ message_has is_unsupplied y.issued n a at is in
+    let ended : is_among (states.NotSupplied ∷ []) y.state ≡ true = sym responder_stands.ends.unsupplied ∙ message_says is_unsupplied y.issued n a at is in
     rows.ended x a (same_txn_as txn x y told heard n a requester_stands responder_stands at) (tells_end a.body is)
     (may_end x.state requester_stands.rules.parts.role (was_asked txn x y told heard requester_stands responder_stands heeded (unsupplied_is_ended y.state ended))
     (λ e. not_cancelled_too y.state (cancelled_faces txn x y told heard requester_stands responder_stands issued e) ended)
@@ -204,7 +204,7 @@ returned_is_later state is = search rules
 pub shipped_before : (txn : Qualifiers) (x : RequesterRecord) (y : ResponderRecord) (told heard : List (Option Apdu)) (n : ℕ) (a : Apdu) → RequesterStands txn x told → ResponderStands txn y heard
     → AreIssued told y.issued → message x.issued n ≡ Some a → is_returned a.body ≡ true → has is_shipped y.issued ≡ true
 shipped_before txn x y told heard n a requester_stands responder_stands issued at is =
-    let returned = sym requester_stands.rules.issued.returned ∙ message_has is_returned x.issued n a at is in
+    let returned = sym requester_stands.rules.issued.returned ∙ message_says is_returned x.issued n a at is in
     shipped_by txn x y told heard x.due requester_stands responder_stands issued refl (requester_stands.rules.parts.due ∙ returned_is_later x.state returned)
 
 returned_arrives : RowsFollow → (txn : Qualifiers) (x : RequesterRecord) (y : ResponderRecord) (told heard : List (Option Apdu)) (n : ℕ) (a : Apdu) → RequesterStands txn x told

@@ -20,7 +20,8 @@ use Rattle.ill_saved.specs.Side.{issued_of}
 use Rattle.ill_world.specs.World.{Party, Parties}
 use Rattle.ill_world.specs.Safety.{OfBoth, EndsAlike, WasShipped, WasGranted}
 use Rattle.ill_world.specs.Invariant.{WasSent, RequesterStands, ResponderStands, RequesterSideStands, ResponderSideStands, SendsSaved, Stands}
-use Rattle.ill_world.proofs.Sendings.{front_message, message_has}
+use Rattle.ill_core.proofs.MessageLemmas.{message_says}
+use Rattle.ill_world.proofs.Sendings.{front_message}
 
 -- ---- what a message tells
 
@@ -79,7 +80,7 @@ Pair P = (txn : Qualifiers) (x y : Side) (told heard : List (Option Apdu)) → R
 
 -- a message that was sent tells what the responder has issued
 pub has_issued : (apdus : List Apdu) (told : List (Option Apdu)) (says : Body → Bool) (a : Apdu) → AreIssued told apdus → WasSent told a → says a.body ≡ true → has says apdus ≡ true
-has_issued apdus told says a issued was is = let at = issued a was in message_has says apdus at.0 a at.1 is
+has_issued apdus told says a issued was is = let at = issued a was in message_says says apdus at.0 a at.1 is
 
 pub cancelled_faces : (txn : Qualifiers) (x : RequesterRecord) (y : ResponderRecord) (told heard : List (Option Apdu)) → RequesterStands txn x told → ResponderStands txn y heard → AreIssued told y.issued
     → x.state ≡ states.Cancelled → y.state ≡ states.Cancelled

@@ -1,7 +1,6 @@
 -- Why the delivery of a message finds room: the responder's desk holds no transaction that the requester's does not
 -- hold, which holds 1,000 at most.
 use Rattle.std.proofs.Common.{arith, rules, ◌≡◌, ◌⊎◌, inl, inr, ℕ, suc, ◌+◌, ◌≤◌, nat_lt, Bool, true, false, cond, if◌then◌else◌, ◌||◌, List, [], ◌∷◌, ◌++◌, length, map, Option, Some, None, is_some, Result, Ok, Err, refl, sym, ap, ◌∙◌, subst, true≢false, length-append}
-use Rattle.std.specs.List.{list_any}
 use Rattle.std.proofs.lemmas.Bool.{ltb-true, ltb-false, or_parts, or_from, or_left, or_right}
 use Rattle.std.proofs.lemmas.List.{length-map, map-append}
 use Rattle.std.proofs.lemmas.List.Folds.{list_any-append}
@@ -29,60 +28,51 @@ use Rattle.ill_world.specs.declared.event.DeskEvent.TheVariants as desk_events
 use Rattle.ill_world.specs.declared.event.DeskOutcome.{DeskOutcome}
 use Rattle.ill_world.specs.declared.event.DeskOutcome.TheVariants.{Plain, DeskFull}
 use Rattle.ill_world.specs.declared.event.Outcome.TheVariants.{NotSent}
-use Rattle.ill_world.specs.World.{sent_message, sends_by, happens_at, party, who_of, run_by}
-use Rattle.ill_world.specs.Desks.{DeskParty, DeskParties, Sending, sent_for, plain, desk_decides, desk_sends, desk_receives, desk_happens_to, desks_happen, desks_run, first_desks, project}
+use Rattle.ill_world.specs.World.{sent_message, sends_by, happens_at, party, who_of}
+use Rattle.ill_world.specs.Desks.{DeskParty, DeskParties, Sending, sent_for, plain, desk_decides, desk_sends, desk_receives, desk_happens_to, desks_happen, first_desks, project}
+use Rattle.ill_world.specs.DeskCounts.{is_one_of, AreAmong, AreApart, live_txns, landed_txns, Counts, DesksCount}
 use Rattle.ill_world.specs.DeskSafety.{DesksStand}
 use Rattle.ill_world.specs.DeskChanges.{Reaches}
 use Rattle.ill_world.proofs.Parties.{RowsGrow}
 use Rattle.ill_world.proofs.Claims.{live_issues}
 use Rattle.ill_world.proofs.Projections.{row_txn, idle_txn}
-use Rattle.ill_world.proofs.Desks.{EachStands, keeps_to}
+use Rattle.ill_world.proofs.Desks.{keeps_to}
 use Rattle.ill_world.proofs.DeskArrivals.{EachReaches, asked, idle_issued, idle_issues}
 
 -- ---- lists of transactions
 
-abbrev has : Qualifiers → List Qualifiers → Bool
-has txn txns = list_any (is_same_txn txn) txns
-
--- the first ones are among the second ones
-abbrev AreAmong : List Qualifiers → List Qualifiers → Type 0
-AreAmong these those = (txn : Qualifiers) → has txn these ≡ true → has txn those ≡ true
-
--- no two of them are the same
-abbrev AreApart : List Qualifiers → Type 0
-AreApart [] = Unit {0}
-AreApart (txn ∷ txns) = (has txn txns ≡ false) × AreApart txns
-
+-- One of two is true, if either is.
 one_of : (a b : Bool) → (a || b) ≡ true → (a ≡ true) ⊎ (b ≡ true)
 one_of true b is = inl refl
 one_of false b is = inr is
 
+-- The second of two may give way to what follows from it.
 or_as : (a b c : Bool) → (a || b) ≡ true → (b ≡ true → c ≡ true) → (a || c) ≡ true
 or_as true b c is follows = refl
 or_as false b c is follows = follows is
 
--- What is among transactions is among these and one more.
-has_still : (txn new : Qualifiers) (txns : List Qualifiers) → has txn txns ≡ true → has txn (txns ++ new ∷ []) ≡ true
-has_still txn new txns is = list_any-append (is_same_txn txn) txns (new ∷ []) ∙ or_left (has txn txns) (has txn (new ∷ [])) is
+-- A transaction that is one of these is one of these and one more.
+has_still : (txn new : Qualifiers) (txns : List Qualifiers) → is_one_of txn txns ≡ true → is_one_of txn (txns ++ new ∷ []) ≡ true
+has_still txn new txns is = list_any-append (is_same_txn txn) txns (new ∷ []) ∙ or_left (is_one_of txn txns) (is_one_of txn (new ∷ [])) is
 
--- What is among these and one more is among these, or is this one.
-has_either : (txn new : Qualifiers) (txns : List Qualifiers) → has txn (txns ++ new ∷ []) ≡ true → (has txn txns ≡ true) ⊎ (txn ≡ new)
+-- A transaction that is one of these and one more is one of these, or this one.
+has_either : (txn new : Qualifiers) (txns : List Qualifiers) → is_one_of txn (txns ++ new ∷ []) ≡ true → (is_one_of txn txns ≡ true) ⊎ (txn ≡ new)
 has_either txn new txns is =
-    elim (one_of (has txn txns) (has txn (new ∷ [])) (sym (list_any-append (is_same_txn txn) txns (new ∷ [])) ∙ is)) [
+    elim (one_of (is_one_of txn txns) (is_one_of txn (new ∷ [])) (sym (list_any-append (is_same_txn txn) txns (new ∷ [])) ∙ is)) [
       | inl there ↦ inl there
       | inr last ↦ inr (elim (one_of (is_same_txn txn new) false last) [ inl same ↦ same_is txn new same | inr none ↦ absurd (true≢false (sym none)) ])
     ]
 
--- What is not among these and is not one more is not among both.
-has_not : (txn new : Qualifiers) (txns : List Qualifiers) → has txn txns ≡ false → is_same_txn txn new ≡ false → has txn (txns ++ new ∷ []) ≡ false
+-- A transaction that is none of these, and not one more, is none of both.
+has_not : (txn new : Qualifiers) (txns : List Qualifiers) → is_one_of txn txns ≡ false → is_same_txn txn new ≡ false → is_one_of txn (txns ++ new ∷ []) ≡ false
 has_not txn new txns none other =
-    list_any-append (is_same_txn txn) txns (new ∷ []) ∙ or_from (has txn txns) (has txn (new ∷ [])) none (or_from (is_same_txn txn new) false other refl)
+    list_any-append (is_same_txn txn) txns (new ∷ []) ∙ or_from (is_one_of txn txns) (is_one_of txn (new ∷ [])) none (or_from (is_same_txn txn new) false other refl)
 
 -- One more that is not among them leaves them apart.
-apart_still : (new : Qualifiers) (txns : List Qualifiers) → AreApart txns → has new txns ≡ false → AreApart (txns ++ new ∷ [])
+apart_still : (new : Qualifiers) (txns : List Qualifiers) → AreApart txns → is_one_of new txns ≡ false → AreApart (txns ++ new ∷ [])
 apart_still new [] apart none = (refl, tt)
 apart_still new (first ∷ txns) apart none =
-    let parts = or_parts (is_same_txn new first) (has new txns) none in
+    let parts = or_parts (is_same_txn new first) (is_one_of new txns) none in
     (has_not first new txns apart.0 (apart_back new first parts.0), apart_still new txns apart.1 parts.1)
 
 -- the transactions without this one
@@ -90,66 +80,63 @@ abbrev without : Qualifiers → List Qualifiers → List Qualifiers
 without txn [] = []
 without txn (first ∷ txns) = cond (is_same_txn txn first) txns (first ∷ without txn txns)
 
+-- They are one less without the first one, or without one of the others.
 one_less : (first : Qualifiers) (txns rest : List Qualifiers) (same there : Bool) → (same || there) ≡ true → (there ≡ true → suc (length rest) ≡ length txns) → suc (length (cond same txns (first ∷ rest))) ≡ suc (length txns)
 one_less first txns rest true there is further = refl
 one_less first txns rest false there is further = ap suc (further is)
 
 -- They are one less without one that is among them.
-length_without : (txn : Qualifiers) (txns : List Qualifiers) → has txn txns ≡ true → suc (length (without txn txns)) ≡ length txns
+length_without : (txn : Qualifiers) (txns : List Qualifiers) → is_one_of txn txns ≡ true → suc (length (without txn txns)) ≡ length txns
 length_without txn [] is = absurd (true≢false (sym is))
-length_without txn (first ∷ txns) is = one_less first txns (without txn txns) (is_same_txn txn first) (has txn txns) is (length_without txn txns)
+length_without txn (first ∷ txns) is = one_less first txns (without txn txns) (is_same_txn txn first) (is_one_of txn txns) is (length_without txn txns)
 
 -- Another one is among them without this one too.
-has_without : (txn another : Qualifiers) (txns : List Qualifiers) → is_same_txn another txn ≡ false → has another txns ≡ true → has another (without txn txns) ≡ true
+has_without : (txn another : Qualifiers) (txns : List Qualifiers) → is_same_txn another txn ≡ false → is_one_of another txns ≡ true → is_one_of another (without txn txns) ≡ true
 has_without txn another [] apart is = is
 has_without txn another (first ∷ txns) apart is = go (is_same_txn txn first) refl (has_without txn another txns apart)
   where
-    go : (same : Bool) → is_same_txn txn first ≡ same → (has another txns ≡ true → has another (without txn txns) ≡ true) → has another (cond same txns (first ∷ without txn txns)) ≡ true
+    go : (same : Bool) → is_same_txn txn first ≡ same → (is_one_of another txns ≡ true → is_one_of another (without txn txns) ≡ true) → is_one_of another (cond same txns (first ∷ without txn txns)) ≡ true
     go true same further =
-        elim (one_of (is_same_txn another first) (has another txns) is) [
+        elim (one_of (is_same_txn another first) (is_one_of another txns) is) [
           | inl here ↦ absurd (true≢false (sym here ∙ ap (is_same_txn another) (sym (same_is txn first same)) ∙ apart))
           | inr there ↦ there
         ]
-    go false same further = or_as (is_same_txn another first) (has another txns) (has another (without txn txns)) is further
+    go false same further = or_as (is_same_txn another first) (is_one_of another txns) (is_one_of another (without txn txns)) is further
 
-not_both : (txn another : Qualifiers) (txns : List Qualifiers) → has txn txns ≡ false → has another txns ≡ true → is_same_txn another txn ≡ false
+-- A transaction that is one of these is not another that is none of them.
+not_both : (txn another : Qualifiers) (txns : List Qualifiers) → is_one_of txn txns ≡ false → is_one_of another txns ≡ true → is_same_txn another txn ≡ false
 not_both txn another txns none is = go (is_same_txn another txn) refl
   where
     go : (same : Bool) → is_same_txn another txn ≡ same → same ≡ false
-    go true same = absurd (true≢false (sym (subst (λ t. has t txns ≡ true) (same_is another txn same) is) ∙ none))
+    go true same = absurd (true≢false (sym (subst (λ t. is_one_of t txns ≡ true) (same_is another txn same) is) ∙ none))
     go false same = refl
 
 -- Transactions that are apart are no more than those that they are among.
 no_more : (these those : List Qualifiers) → AreApart these → AreAmong these those → length these ≤ length those
 no_more [] those apart among = omega arith
 no_more (txn ∷ these) those apart among =
-    let here = among txn (or_left (is_same_txn txn txn) (has txn these) (same_self txn)) in
+    let here = among txn (or_left (is_same_txn txn txn) (is_one_of txn these) (same_self txn)) in
     let less = no_more these (without txn those) apart.1
-    (λ another is. has_without txn another those (not_both txn another these apart.0 is) (among another (or_right (is_same_txn another txn) (has another these) is))) in
+    (λ another is. has_without txn another those (not_both txn another these apart.0 is) (among another (or_right (is_same_txn another txn) (is_one_of another these) is))) in
     omega (arith, less, length_without txn those here)
 
 -- ---- the transactions of a desk
 
+-- An item is found if it is the first one, or if one is found behind it.
 either_some : {X : Type 0} (same there : Bool) (item : X) (found : Option X) → is_some found ≡ there → is_some (cond same (Some item) found) ≡ (same || there)
 either_some true there item found is = refl
 either_some false there item found is = is
 
 -- The item of a transaction is found where the transaction is among theirs.
-has_found : {X : Type 0} (key : X → Qualifiers) (txn : Qualifiers) (items : List X) → is_some (found_by key txn items) ≡ has txn (map key items)
+has_found : {X : Type 0} (key : X → Qualifiers) (txn : Qualifiers) (items : List X) → is_some (found_by key txn items) ≡ is_one_of txn (map key items)
 has_found key txn [] = refl
-has_found key txn (item ∷ items) = either_some (is_same_txn txn (key item)) (has txn (map key items)) item (found_by key txn items) (has_found key txn items)
-
-abbrev live_txns : DeskParty → List Qualifiers
-live_txns p = map txn_held p.live.held
-
-abbrev landed_txns : DeskParty → List Qualifiers
-landed_txns p = map txn_of p.landed.sides
+has_found key txn (item ∷ items) = either_some (is_same_txn txn (key item)) (is_one_of txn (map key items)) item (found_by key txn items) (has_found key txn items)
 
 -- What an event leaves of the transactions that a desk holds, and of those that have landed: the same; one more
 -- that may begin; those held, which have landed; or those that had landed.
 data Leads (May : Qualifiers → Type 0) (live landed new_live new_landed : List Qualifiers) : Type 0 where
   stays : new_live ≡ live → new_landed ≡ landed → Leads May live landed new_live new_landed
-  begun : (txn : Qualifiers) → has txn live ≡ false → length live + 1 ≤ 1000 → May txn → new_live ≡ live ++ txn ∷ [] → new_landed ≡ landed → Leads May live landed new_live new_landed
+  begun : (txn : Qualifiers) → is_one_of txn live ≡ false → length live + 1 ≤ 1000 → May txn → new_live ≡ live ++ txn ∷ [] → new_landed ≡ landed → Leads May live landed new_live new_landed
   lands : new_live ≡ live → new_landed ≡ live → Leads May live landed new_live new_landed
   returns : new_live ≡ landed → new_landed ≡ landed → Leads May live landed new_live new_landed
 
@@ -173,11 +160,12 @@ module _ (May : Qualifiers → Type 0) (p : DeskParty) (of : Qualifiers) where
       few : nat_lt (length p.live.held) most_sides ≡ true → length (live_txns p) + 1 ≤ 1000
       few room = omega (arith, ltb-true (length p.live.held) 1000 room, length-map p.live.held txn_held)
 
+  -- A desk that puts a side, or stays, leads on.
   puts_lead : (new : DeskParty) → Puts of p new → (found : Option Held) → found_by txn_held of p.live.held ≡ found → (found ≡ None → (nat_lt (length p.live.held) most_sides ≡ true) × May of) → LeadsTo May p new
   puts_lead new (inl is) found e may = subst (LeadsTo May p) (sym is) (stays refl refl)
   puts_lead new (inr (held, is, put)) found e may = subst (LeadsTo May p) (sym put) (put_leads held is found e may)
 
-  -- Where a side is reached, it is put or the desk stays as it was; where none is reached, the desk stays.
+  -- A desk at which a side is reached puts it or stays; one at which none is stays.
   reach_leads : (seen : Result Held DeskFault → DeskParty) → ((held : Held) → txn_held held ≡ of → Puts of p (seen (Ok held))) → ((fault : DeskFault) → seen (Err fault) ≡ p) → txn_held (idle_held p.live.role of) ≡ of
       → (may_begin : Bool) → (may_begin ≡ true → May of) → (has_room : Bool) → nat_lt (length p.live.held) most_sides ≡ has_room → (found : Option Held) → found_by txn_held of p.live.held ≡ found
       → LeadsTo May p (seen (held_or_begun may_begin has_room (idle_held p.live.role of) found))
@@ -194,10 +182,12 @@ Permits May told (desk_events.Deliver role of n) = (a : Apdu) → sent_message (
 Permits May told other = Unit {0}
 
 module _ (grows : RowsGrow) (May : Qualifiers → Type 0) (p : DeskParty) where
+  -- A decision puts its side, or the desk stays.
   decided_puts : (of : Qualifiers) (action : Action) (held : Held) → txn_held held ≡ of → (result : Result Side Refusal) → acts held.side action ≡ result → Puts of p (desk_decides p (acted_at p.live held result)).1
   decided_puts of action held is (Ok new) e = inr (record { side = new; released = held.released }, row_txn grows held.side new (acted action e) ∙ is, refl)
   decided_puts of action held is (Err refusal) e = inl refl
 
+  -- A decision leads on.
   decides_leads : (of : Qualifiers) (action : Action) → (begins action ≡ true → May of) → (may : Bool)
       → LeadsTo May p (desk_decides p (if may then acts_reached p.live action (reached p.live of (begins action)) else Err (faults.Core WrongRole))).1
   decides_leads of action may true =
@@ -205,10 +195,12 @@ module _ (grows : RowsGrow) (May : Qualifiers → Type 0) (p : DeskParty) where
       (begins action) may (nat_lt (length p.live.held) most_sides) refl (found_by txn_held of p.live.held) refl
   decides_leads of action may false = stays refl refl
 
+  -- A message that comes puts its side, or the desk stays.
   took_puts : (a : Apdu) (held : Held) → txn_held held ≡ a.txn → (answer : Result Taking Refusal) (new : Side) → takes held.side a ≡ (answer, new) → Puts a.txn p (record p { live = (took_at p.live held (answer, new)).1 })
   took_puts a held is (Ok _) new e = inr (record { side = new; released = held.released }, row_txn grows held.side new (took a (ap (λ (r : Result Taking Refusal × Side). r.1) e)) ∙ is, refl)
   took_puts a held is (Err refusal) new e = inl refl
 
+  -- A message that comes leads on.
   takes_leads : (a : Apdu) → May a.txn → (own : Bool)
       → LeadsTo May p (record p { live = (if own then (Err (faults.Core WrongRole), p.live) else takes_reached p.live a (reached p.live a.txn (is_ill_request a.body))).1 })
   takes_leads a may true = stays refl refl
@@ -216,15 +208,18 @@ module _ (grows : RowsGrow) (May : Qualifiers → Type 0) (p : DeskParty) where
       reach_leads May p a.txn (λ found. record p { live = (takes_reached p.live a found).1 }) (λ held is. took_puts a held is (takes held.side a).0 (takes held.side a).1 refl) (λ fault. refl) (idle_txn p.live.role a.txn)
       (is_ill_request a.body) (λ begins. may) (nat_lt (length p.live.held) most_sides) refl (found_by txn_held a.txn p.live.held) refl
 
+  -- A delivery leads on.
   receives_leads : (found : Option Apdu) → ((a : Apdu) → found ≡ Some a → May a.txn) → LeadsTo May p (desk_receives p found).1
   receives_leads None may = stays refl refl
   receives_leads (Some a) may = takes_leads a (may a refl) (is_own p.live.role a.body)
 
+  -- A message that is sent leads on, if the desk after it does.
   sends_leads : (after : Apdu → DeskParty) (issued : Option Apdu) (released : Bool) → ((a : Apdu) → LeadsTo May p (after a)) → LeadsTo May p (sends_by p after issued released).1
   sends_leads after None released leads = stays refl refl
   sends_leads after (Some a) false leads = stays refl refl
   sends_leads after (Some a) true leads = leads a
 
+  -- A sending leads on.
   send_leads : (of : Qualifiers) (n : ℕ) (found : Option Held) → LeadsTo May p (desk_sends p of n found).1
   send_leads of n None = stays refl refl
   send_leads of n (Some held) = sends_leads _ _ _ (λ a. stays refl refl)
@@ -233,6 +228,7 @@ module _ (grows : RowsGrow) (May : Qualifiers → Type 0) (p : DeskParty) where
   held_txns : map txn_of (map (λ (held : Held). held.side) p.live.held) ≡ live_txns p
   held_txns = map-map txn_of (λ (held : Held). held.side) p.live.held
 
+  -- An event leads on.
   event_leads : (told : List Sending) (event : DeskEvent) → Permits May told event → LeadsTo May p (desk_happens_to p told event).1
   event_leads told (desk_events.Wish of wish) may = decides_leads of (actions.Wish wish) (λ is. may) (is_same_role p.live.role who.Requester)
   event_leads told (desk_events.Deed of deed today) may = decides_leads of (actions.Deed deed today) (λ is. absurd (true≢false (sym is))) (is_same_role p.live.role who.Responder)
@@ -244,23 +240,13 @@ module _ (grows : RowsGrow) (May : Qualifiers → Type 0) (p : DeskParty) where
   event_leads told (desk_events.Noise role bytes) may = stays refl refl
   event_leads told (desk_events.Restart role) may = returns (map-map txn_held whole p.landed.sides) refl
 
--- ---- what every run of two desks keeps
+-- ---- what every event of two desks keeps
 
--- Transactions of the responder's are apart, and the requester's desk holds each, live and landed.
-abbrev AreKnown : List Qualifiers → List Qualifiers → List Qualifiers → Type 0
-AreKnown live landed txns = AreApart txns × AreAmong txns live × AreAmong txns landed
-
--- The requester's desk holds few enough, and knows all of the responder's.
-abbrev Counts : List Qualifiers → List Qualifiers → List Qualifiers → List Qualifiers → Type 0
-Counts live landed others others_landed =
-    (length live ≤ 1000) × (length landed ≤ 1000) × AreKnown live landed others × AreKnown live landed others_landed
-
-abbrev DesksCount : DeskParties → Type 0
-DesksCount w = Counts (live_txns w.requester) (landed_txns w.requester) (live_txns w.responder) (landed_txns w.responder)
-
+-- A fact of two lists holds of those that are the same.
 both_are : (P : List Qualifiers → List Qualifiers → Type 0) (live landed new_live new_landed : List Qualifiers) → new_live ≡ live → new_landed ≡ landed → P live landed → P new_live new_landed
 both_are P live landed new_live new_landed is there holds = subst (λ l. P l new_landed) (sym is) (subst (P live) (sym there) holds)
 
+-- The requester's desk keeps the counts.
 requester_counts : (live landed new_live new_landed others others_landed : List Qualifiers) → Leads (λ txn. Unit {0}) live landed new_live new_landed → Counts live landed others others_landed → Counts new_live new_landed others others_landed
 requester_counts live landed new_live new_landed others others_landed leads (few, few_landed, known, known_landed) = go leads
   where
@@ -270,23 +256,28 @@ requester_counts live landed new_live new_landed others others_landed leads (few
     go : Leads (λ txn. Unit {0}) live landed new_live new_landed → P new_live new_landed
     go (stays is there) = both_are P live landed new_live new_landed is there (few, few_landed, known, known_landed)
     go (begun txn none room may is there) =
-        both_are P (live ++ txn ∷ []) landed new_live new_landed is there
-        (omega (arith, room, length-append live (txn ∷ [])), few_landed, (known.0, (λ t among. has_still t txn live (known.1 t among)), known.2), (known_landed.0, (λ t among. has_still t txn live (known_landed.1 t among)), known_landed.2))
+        both_are P (live ++ txn ∷ []) landed new_live new_landed is there (
+          (apart_still txn live few.0 none, omega (arith, room, length-append live (txn ∷ []))),
+          few_landed,
+          (known.0, (λ t among. has_still t txn live (known.1 t among)), known.2),
+          (known_landed.0, (λ t among. has_still t txn live (known_landed.1 t among)), known_landed.2),
+        )
     go (lands is there) = both_are P live live new_live new_landed is there (few, few, (known.0, known.1, known.1), (known_landed.0, known_landed.1, known_landed.1))
     go (returns is there) = both_are P landed landed new_live new_landed is there (few_landed, few_landed, (known.0, known.2, known.2), (known_landed.0, known_landed.2, known_landed.2))
 
 -- what a responder may begin, the requester's desk holds, live and landed
 abbrev IsKnown : List Qualifiers → List Qualifiers → Qualifiers → Type 0
-IsKnown live landed txn = (has txn live ≡ true) × (has txn landed ≡ true)
+IsKnown live landed txn = (is_one_of txn live ≡ true) × (is_one_of txn landed ≡ true)
 
+-- The responder's desk keeps the counts.
 responder_counts : (live landed others others_landed new new_landed : List Qualifiers) → Leads (IsKnown live landed) others others_landed new new_landed → Counts live landed others others_landed → Counts live landed new new_landed
 responder_counts live landed others others_landed new new_landed leads (few, few_landed, known, known_landed) = go leads
   where
     P : List Qualifiers → List Qualifiers → Type 0
     P l m = Counts live landed l m
 
-    with_one : (those : List Qualifiers) (txn : Qualifiers) → has txn those ≡ true → AreAmong others those → AreAmong (others ++ txn ∷ []) those
-    with_one those txn here among t is = elim (has_either t txn others is) [ inl there ↦ among t there | inr same ↦ subst (λ u. has u those ≡ true) (sym same) here ]
+    with_one : (those : List Qualifiers) (txn : Qualifiers) → is_one_of txn those ≡ true → AreAmong others those → AreAmong (others ++ txn ∷ []) those
+    with_one those txn here among t is = elim (has_either t txn others is) [ inl there ↦ among t there | inr same ↦ subst (λ u. is_one_of u those ≡ true) (sym same) here ]
 
     go : Leads (IsKnown live landed) others others_landed new new_landed → P new new_landed
     go (stays is there) = both_are P others others_landed new new_landed is there (few, few_landed, known, known_landed)
@@ -301,7 +292,7 @@ issued_found : {X : Type 0} (side : X → Side) (idle : X) (found : Option X) (n
 issued_found side idle (Some there) n a none at = refl
 issued_found side idle None n a none at = absurd (idle_issued [] n a refl (subst (λ l. message l n ≡ Some a) none at))
 
--- What the requester has sent is of a transaction that its desk holds, live and landed.
+-- The requester's desk has each transaction in which it has sent, held and landed.
 sent_known : (w : DeskParties) → DesksStand w → (of : Qualifiers) (n : ℕ) (a : Apdu) → sent_message (sent_for of w.requester.sent) n ≡ Some a → IsKnown (live_txns w.requester) (landed_txns w.requester) of
 unfolding side_with
 sent_known w stands of n a sent =
@@ -312,39 +303,37 @@ sent_known w stands of n a sent =
       sym (has_found txn_of of p.landed.sides) ∙ issued_found (λ side. side) (idle_side p.landed.role of) (found_by txn_of of p.landed.sides) n a (idle_issues p.landed.role of) (saved.landed n a sent),
     )
 
+-- The requester's desk may begin every transaction.
 all_permitted : (told : List Sending) (event : DeskEvent) → Permits (λ txn. Unit {0}) told event
 all_permitted told (desk_events.Wish of wish) = tt
 all_permitted told (desk_events.Deliver role of n) = λ a sent. tt
 all_permitted told event = tt
 
--- What begins at the responder's desk, the requester's holds.
+-- An event begins at the responder's desk only a transaction that the requester's has.
 known_permitted : (w : DeskParties) → DesksStand w → (event : DeskEvent) → who_of (plain event) ≡ who.Responder → Permits (IsKnown (live_txns w.requester) (landed_txns w.requester)) w.requester.sent event
 known_permitted w stands (desk_events.Wish of wish) is = search rules
 known_permitted w stands (desk_events.Deliver role of n) is =
     λ a sent. subst (IsKnown (live_txns w.requester) (landed_txns w.requester)) ((keeps_to w who.Responder stands).told_of of n a sent) (sent_known w stands of n a sent)
 known_permitted w stands event is = tt
 
-count_at : RowsGrow → (w : DeskParties) (event : DeskEvent) → DesksStand w → DesksCount w → (role : Who) → who_of (plain event) ≡ role → DesksCount (happens_at w role (λ p partner. desk_happens_to p partner.sent event)).1
-count_at grows w event stands counts who.Requester is =
+-- An event leaves the transactions of two desks few and known.
+pub count_at : RowsGrow → (w : DeskParties) (event : DeskEvent) → DesksStand w → (role : Who) → who_of (plain event) ≡ role → DesksCount (happens_at w role (λ p partner. desk_happens_to p partner.sent event)).1
+count_at grows w event stands who.Requester is =
     let new = (desk_happens_to w.requester w.responder.sent event).1 in
     requester_counts (live_txns w.requester) (landed_txns w.requester) (live_txns new) (landed_txns new) (live_txns w.responder) (landed_txns w.responder)
-    (event_leads grows (λ txn. Unit {0}) w.requester w.responder.sent event (all_permitted w.responder.sent event)) counts
-count_at grows w event stands counts who.Responder is =
+    (event_leads grows (λ txn. Unit {0}) w.requester w.responder.sent event (all_permitted w.responder.sent event)) stands.counts
+count_at grows w event stands who.Responder is =
     let new = (desk_happens_to w.responder w.requester.sent event).1 in
     responder_counts (live_txns w.requester) (landed_txns w.requester) (live_txns w.responder) (landed_txns w.responder) (live_txns new) (landed_txns new)
-    (event_leads grows (IsKnown (live_txns w.requester) (landed_txns w.requester)) w.responder w.requester.sent event (known_permitted w stands event is)) counts
+    (event_leads grows (IsKnown (live_txns w.requester) (landed_txns w.requester)) w.responder w.requester.sent event (known_permitted w stands event is)) stands.counts
 
-run_counts : RowsGrow → EachStands → (w : DeskParties) (events : List DeskEvent) → DesksStand w → DesksCount w → DesksStand (desks_run w events) × DesksCount (desks_run w events)
-unfolding run_by
-run_counts grows after w [] stands counts = (stands, counts)
-run_counts grows after w (event ∷ events) stands counts =
-    run_counts grows after (desks_happen w event).1 events (after w event stands) (count_at grows w event stands counts (who_of (plain event)) refl)
-
-first_counts : DesksCount first_desks
-first_counts = (omega arith, omega arith, (tt, (λ t is. is), (λ t is. is)), (tt, (λ t is. is), (λ t is. is)))
+-- Desks that hold nothing have few transactions, all known.
+pub first_counts : DesksCount first_desks
+first_counts = ((tt, omega arith), (tt, omega arith), (tt, (λ t is. is), (λ t is. is)), (tt, (λ t is. is), (λ t is. is)))
 
 -- ---- deliveries
 
+-- A delivery that is never without room is not to a full desk.
 never_full : (may_begin has_room : Bool) (found : Option Held) → (found ≡ None → has_room ≡ false → ⊥) → Reaches may_begin has_room found DeskFull → ⊥
 never_full may_begin has_room (Some held) room reaches = reaches
 never_full true true None room reaches = reaches
@@ -364,13 +353,14 @@ none_full reaches w stands role txn n room full = go (sent_message (sent_for txn
         (subst (Reaches (is_ill_request a.body) (nat_lt (length (party w role).live.held) 1000) (found_by txn_held txn (party w role).live.held)) full (reaches w (desk_events.Deliver role txn n) stands a e))
 
 -- Nothing was sent to the requester in a transaction that its desk does not hold.
-none_sent : (w : DeskParties) → DesksStand w → (txn : Qualifiers) (n : ℕ) (a : Apdu) → sent_message (sent_for txn w.responder.sent) n ≡ Some a → found_by txn_held txn w.requester.live.held ≡ None → ⊥
+pub none_sent : (w : DeskParties) → DesksStand w → (txn : Qualifiers) (n : ℕ) (a : Apdu) → sent_message (sent_for txn w.responder.sent) n ≡ Some a → found_by txn_held txn w.requester.live.held ≡ None → ⊥
 none_sent w stands txn n a sent none =
     let shown = stands.each txn in
     let v = project txn w in
     asked txn v.requester.live v.responder.landed v.responder.sent v.requester.sent n a shown.requester.live shown.responder.landed (live_issues v.requester shown.requester.saved) (shown.responder.saved.landed n a sent)
     (ap (λ o. issued_of (found_or (idle_held w.requester.live.role txn) o).side) none ∙ idle_issues w.requester.live.role txn)
 
+-- A delivery to the requester's desk is not sent in a transaction that it does not hold.
 pub unheld_is_not_sent : (w : DeskParties) (txn : Qualifiers) (n : ℕ) → DesksStand w → found_by txn_held txn w.requester.live.held ≡ None → (desks_happen w (desk_events.Deliver who.Requester txn n)).0 ≡ Plain NotSent
 unheld_is_not_sent w txn n stands none = go (sent_message (sent_for txn w.responder.sent) n) refl
   where
@@ -378,26 +368,20 @@ unheld_is_not_sent w txn n stands none = go (sent_message (sent_for txn w.respon
     go None e = ap (λ o. (desk_receives w.requester o).0) e
     go (Some a) e = absurd (none_sent w stands txn n a e none)
 
--- The responder's desk has room for a transaction that it does not hold, and in which the requester has sent.
-responder_room : (w : DeskParties) → DesksStand w → DesksCount w → (txn : Qualifiers) (n : ℕ) (a : Apdu) → sent_message (sent_for txn w.requester.sent) n ≡ Some a → found_by txn_held txn w.responder.live.held ≡ None
+-- The responder's desk has room for a transaction that is not held, if the requester has sent in it.
+responder_room : (w : DeskParties) → DesksStand w → (txn : Qualifiers) (n : ℕ) (a : Apdu) → sent_message (sent_for txn w.requester.sent) n ≡ Some a → found_by txn_held txn w.responder.live.held ≡ None
     → nat_lt (length w.responder.live.held) 1000 ≡ false → ⊥
-responder_room w stands (few, few_landed, known, known_landed) txn n a sent none full =
+responder_room w stands txn n a sent none full =
+    let few = stands.counts.0.1 in
+    let known = stands.counts.2 in
     let here = (sent_known w stands txn n a sent).0 in
-    let absent : has txn (live_txns w.responder) ≡ false = sym (has_found txn_held txn w.responder.live.held) ∙ ap is_some none in
+    let absent : is_one_of txn (live_txns w.responder) ≡ false = sym (has_found txn_held txn w.responder.live.held) ∙ ap is_some none in
     let all : AreAmong (txn ∷ live_txns w.responder) (live_txns w.requester) =
-    λ t is. elim (one_of (is_same_txn t txn) (has t (live_txns w.responder)) is) [ inl same ↦ subst (λ u. has u (live_txns w.requester) ≡ true) (sym (same_is t txn same)) here | inr there ↦ known.1 t there ] in
+    λ t is. elim (one_of (is_same_txn t txn) (is_one_of t (live_txns w.responder)) is) [ inl same ↦ subst (λ u. is_one_of u (live_txns w.requester) ≡ true) (sym (same_is t txn same)) here | inr there ↦ known.1 t there ] in
     let more = no_more (txn ∷ live_txns w.responder) (live_txns w.requester) (absent, known.0) all in
     omega (arith, few, more, ltb-false (length w.responder.live.held) 1000 full, length-map w.responder.live.held txn_held)
 
-pub finds_room : RowsGrow → EachStands → EachReaches → DesksStand first_desks → (events : List DeskEvent) (role : Who) (txn : Qualifiers) (n : ℕ) → (desks_happen (desks_run first_desks events) (desk_events.Deliver role txn n)).0 ≡ DeskFull → ⊥
-finds_room grows after reaches first events role txn n = go role
-  where
-    w : DeskParties
-    w = desks_run first_desks events
-
-    keeps : DesksStand w × DesksCount w
-    keeps = run_counts grows after first_desks events first first_counts
-
-    go : (role : Who) → (desks_happen w (desk_events.Deliver role txn n)).0 ≡ DeskFull → ⊥
-    go who.Requester = none_full reaches w keeps.0 who.Requester txn n (λ a sent none full. none_sent w keeps.0 txn n a sent none)
-    go who.Responder = none_full reaches w keeps.0 who.Responder txn n (responder_room w keeps.0 keeps.1 txn n)
+-- A delivery finds room where two desks stand.
+pub finds_room : EachReaches → (w : DeskParties) (role : Who) (txn : Qualifiers) (n : ℕ) → DesksStand w → (desks_happen w (desk_events.Deliver role txn n)).0 ≡ DeskFull → ⊥
+finds_room reaches w who.Requester txn n stands = none_full reaches w stands who.Requester txn n (λ a sent none full. none_sent w stands txn n a sent none)
+finds_room reaches w who.Responder txn n stands = none_full reaches w stands who.Responder txn n (responder_room w stands txn n)

@@ -30,6 +30,7 @@ use Rattle.ill_world.specs.Invariant.{RequesterSideStands, ResponderSideStands, 
 use Rattle.ill_world.specs.Changes.{MayChange, OnlyLandedChanges, KeepsSent}
 use Rattle.ill_world.specs.DeskChanges.{DeskMayChange}
 use Rattle.ill_world.specs.declared.event.DeskOutcome.TheVariants.{Plain, NoSuchTransaction, DeskFull}
+use Rattle.ill_world.specs.DeskCounts.{DesksCount}
 use Rattle.ill_world.specs.DeskSafety.{IsDeskOf, DesksStand}
 use Rattle.ill_world.proofs.Parties.{RowsGrow}
 use Rattle.ill_world.proofs.Changes.{Quiet, After, same_changes}
@@ -158,19 +159,23 @@ seen_keeps : {P : Type 0} (F : P → Type 0) (own : Bool) (expected : Outcome ×
 seen_keeps F true expected old new outcome seen before after = subst F (sym seen.1) after
 seen_keeps F false expected old new outcome seen before after = subst F (sym seen) before
 
-pub desks_first : ((txn : Qualifiers) → Stands txn (first_world txn)) → DesksStand first_desks
-desks_first stands = record {
+-- Two desks that hold nothing stand.
+pub desks_first : DesksCount first_desks → ((txn : Qualifiers) → Stands txn (first_world txn)) → DesksStand first_desks
+desks_first counts stands = record {
   requester = (refl, refl);
   responder = (refl, refl);
+  counts = counts;
   each = λ txn. subst (Stands txn) (sym (first_project txn)) (stands txn);
 }
 
-pub desks_after : RowsGrow → Quiet → ((txn : Qualifiers) → After txn) → (w : DeskParties) (event : DeskEvent) → DesksStand w → DesksStand (desks_happen w event).1
-desks_after grows rows after w event stands =
+-- An event leads two desks that stand to such.
+pub desks_after : RowsGrow → Quiet → ((txn : Qualifiers) → After txn) → (w : DeskParties) (event : DeskEvent) → DesksStand w → DesksCount (desks_happen w event).1 → DesksStand (desks_happen w event).1
+desks_after grows rows after w event stands counts =
     let roles = roles_kept w (who_of (plain event)) event stands.requester stands.responder in
     record {
       requester = roles.0;
       responder = roles.1;
+      counts = counts;
       each = λ txn.
           seen_keeps (Stands txn) (is_event_of txn w event) (happens (project txn w) (plain event)) (project txn w) _ _ (desk_projects grows rows txn w event stands) (stands.each txn)
           (after txn (project txn w) (plain event) (stands.each txn));
@@ -189,6 +194,12 @@ leads_on : (own : Bool) (w : Parties) (event : Event) (more : List Event) (new :
 unfolding run_by
 leads_on true w event more new outcome seen = ap (λ v. run_of v more) seen.1
 leads_on false w event more new outcome seen = ap (λ v. run_of v more) seen
+
+-- Events lead two desks that stand to such.
+pub desks_stand_on : EachStands → (w : DeskParties) (events : List DeskEvent) → DesksStand w → DesksStand (desks_run w events)
+unfolding run_by
+desks_stand_on after w [] stands = stands
+desks_stand_on after w (event ∷ events) stands = desks_stand_on after (desks_happen w event).1 events (after w event stands)
 
 -- what the desks show after events is a run
 pub run_projects : EachProjects → EachStands → (txn : Qualifiers) (w : DeskParties) (events : List DeskEvent) → DesksStand w → project txn (desks_run w events) ≡ run_of (project txn w) (events_for txn w events)

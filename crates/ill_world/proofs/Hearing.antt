@@ -11,13 +11,13 @@ module _ {R : Type 0} (take : R → Apdu → R) where
   taking r [] = r
   taking r (a ∷ apdus) = taking (take r a) apdus
 
-  -- Whatever each APDU keeps, all keep.
+  -- A fact that each APDU keeps is kept by all.
   pub keeps_all : (P : R → Type 0) → ((r : R) (a : Apdu) → P r → P (take r a)) → (r : R) (apdus : List Apdu) → P r → P (taking r apdus)
   unfolding taking
   keeps_all P keeps r [] holds = holds
   keeps_all P keeps r (a ∷ apdus) holds = keeps_all P keeps (take r a) apdus (keeps r a holds)
 
-  -- What is heard at once, and stays heard unless it is reopened; of records and of APDUs of which this holds.
+  -- An APDU is heard at once, and stays heard unless it is reopened: of such records, and of such APDUs.
   pub record Hears (Is : R → Type 0) (Of : Apdu → Type 0) (has_heard : R → ℕ → Body → Bool) (reopens : Body → Body → Bool) : Type 0 where
     pub keeps : (r : R) (a : Apdu) → Is r → Is (take r a)
     pub takes : (r : R) (a : Apdu) → Is r → Of a → has_heard (take r a) a.number a.body ≡ true

@@ -20,6 +20,7 @@ pub mod Rounds
 pub mod Hearing
 pub mod OneRound
 pub mod OutOfStep
+pub mod BadRounds
 pub mod BadWorlds
 pub mod Changes
 pub mod Outcomes
@@ -33,3 +34,5 @@ pub mod DeskSimulations
 pub mod BadDesks
 pub mod BadTraces
 pub mod DeskCounts
+pub mod DeskRounds
+pub mod DeskPasses

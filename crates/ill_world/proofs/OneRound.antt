@@ -2,7 +2,7 @@
 use Rattle.std.proofs.Common.{rules, arith, ◌≡◌, ◌⊎◌, inl, inr, ℕ, zero, suc, ◌≤◌, ◌<◌, Bool, true, false, not, ◌&&◌, ◌||◌, List, [], ◌∷◌, length, Option, Some, refl, sym, ap, ◌∙◌, subst, append-nil}
 use Rattle.std.specs.Prelude.{slice_get}
 use Rattle.std.specs.List.{list_all}
-use Rattle.std.proofs.lemmas.Bool.{and_parts}
+use Rattle.std.proofs.lemmas.Bool.{and_parts, not-true, false_from_ne_true}
 use Rattle.std.proofs.lemmas.Option.{slice_get_within}
 use Rattle.std.proofs.lemmas.List.Folds.{list_any-append}
 use Rattle.ill_values.specs.Day.{Date}
@@ -34,13 +34,14 @@ use Rattle.ill_world.specs.World.{Parties, happens, run_of}
 use Rattle.ill_world.specs.Agreement.{Facing}
 use Rattle.ill_world.specs.Invariant.{RequesterStands, ResponderStands, RequesterSideStands, ResponderSideStands, Stands}
 use Rattle.ill_world.specs.Round.{half_of, round_of, InStep, AreInStep, CanAnswer}
+use Rattle.ill_core.proofs.MessageLemmas.{message_says, says_message}
 use Rattle.ill_world.proofs.Claims.{AreIssued, live_issues}
 use Rattle.ill_world.proofs.Hearing.{taking, keeps_all, heard_behind}
-use Rattle.ill_world.proofs.Pairs.{HaveHeard, in_step, is_false}
+use Rattle.ill_world.proofs.Pairs.{HaveHeard, in_step}
 use Rattle.ill_world.proofs.Rounds.{takes_all, round_passes}
 use Rattle.ill_world.proofs.Runs.{run_stands}
-use Rattle.ill_world.proofs.Sendings.{message_has, front_of_front, front_of_itself}
-use Rattle.ill_world.proofs.Uniqueness.{message_number, has_message}
+use Rattle.ill_world.proofs.Sendings.{front_of_front, front_of_itself}
+use Rattle.ill_world.proofs.Uniqueness.{message_number}
 
 -- a requester that takes an APDU, and a responder
 abbrev asks : RequesterRecord → Apdu → RequesterRecord
@@ -64,50 +65,55 @@ pub record RowsHear : Type 0 where
 
 -- ---- a side and its record
 
+-- A side of a requester takes APDUs as its record does.
 requester_taking : (x : RequesterRecord) (apdus : List Apdu) → takes_all (sides.Requester x) apdus ≡ sides.Requester (taking asks x apdus)
 unfolding takes_all taking
 requester_taking x [] = refl
 requester_taking x (a ∷ apdus) = requester_taking (asks x a) apdus
 
+-- A side of a responder takes APDUs as its record does.
 responder_taking : (y : ResponderRecord) (apdus : List Apdu) → takes_all (sides.Responder y) apdus ≡ sides.Responder (taking lends y apdus)
 unfolding takes_all taking
 responder_taking y [] = refl
 responder_taking y (a ∷ apdus) = responder_taking (lends y a) apdus
 
+-- Equal sides of requesters have equal records.
 same_requester : (x z : RequesterRecord) → sides.Requester x ≡ sides.Requester z → x ≡ z
 same_requester x z same = search rules
 
+-- Equal sides of responders have equal records.
 same_responder : (y z : ResponderRecord) → sides.Responder y ≡ sides.Responder z → y ≡ z
 same_responder y z same = search rules
 
 -- ---- lists
 
+-- A test that all APDUs pass is passed by each.
 each : (p : Body → Bool) (apdus : List Apdu) (i : ℕ) (a : Apdu) → list_all (λ b. p b.body) apdus ≡ true → slice_get apdus i ≡ Some a → p a.body ≡ true
 each p [] i a all at = search rules
 each p (b ∷ apdus) zero a all at = let same : b ≡ a = search rules in subst (λ (c : Apdu). p c.body ≡ true) same (and_parts _ _ all).0
 each p (b ∷ apdus) (suc i) a all at = each p apdus i a (and_parts _ _ all).1 at
 
+-- No message says it if the list of APDUs does not.
 none_there : (says : Body → Bool) (apdus : List Apdu) (i : ℕ) (a : Apdu) → has says apdus ≡ false → slice_get apdus i ≡ Some a → says a.body ≡ false
 none_there says apdus i a none at = go (says a.body) refl
   where
     go : (b : Bool) → says a.body ≡ b → b ≡ false
     go false e = refl
-    go true e = let both : true ≡ false = sym (message_has says apdus (suc i) a at e) ∙ none in search rules
+    go true e = let both : true ≡ false = sym (message_says says apdus (suc i) a at e) ∙ none in search rules
 
 -- No message but the first is an ILL-Request.
 first_alone : (apdus : List Apdu) (j : ℕ) (b : Apdu) → begins_with_request apdus ≡ true → slice_get apdus (suc j) ≡ Some b → is_ill_request b.body ≡ false
 first_alone [] j b begins at = search rules
-first_alone (a ∷ apdus) j b begins at = none_there is_ill_request apdus j b (not_true _ (and_parts _ _ begins).1) at
-  where
-    not_true : (b : Bool) → not b ≡ true → b ≡ false
-    not_true b is = search rules
+first_alone (a ∷ apdus) j b begins at = none_there is_ill_request apdus j b (not-true _ (and_parts _ _ begins).1) at
 
+-- A list says all that a front of it says.
 has_front : (says : Body → Bool) (front apdus : List Apdu) → IsFrontOf front apdus → has says front ≡ true → has says apdus ≡ true
 has_front says front apdus is there =
     ap (has says) is.1 ∙ (list_any-append (λ (a : Apdu). says a.body) front is.0 ∙ ap (λ (b : Bool). b || has says is.0) there)
 
 -- ---- what reopens what
 
+-- No APDU but an ILL-Request reopens another one at a responder.
 only_request : (first second : Body) → is_ill_request first ≡ false → records.reopens first second ≡ false
 only_request (types.IllRequest expiry item) second is = search rules
 only_request first second is = refl
@@ -116,20 +122,21 @@ only_request first second is = refl
 abbrev GrantsOverdue : Body → Body → Type 0
 GrantsOverdue first second = (c : ℕ) × (due day : Date) × (grant_of first ≡ Some (grant c due)) × (second ≡ types.Overdue day) × (is_same_day day due ≡ true)
 
--- A plain message is reopened only by a Shipped, if it is a Recall, or by the grant of its date, if it is an Overdue.
+-- A plain APDU is reopened only as a Recall by a Shipped, or as an Overdue by its grant.
 plain_reopens : (first second : Body) → names_conditions second ≡ false → (is_shipped first ≡ true → is_recall second ≡ true → ⊥) → (GrantsOverdue first second → ⊥) → notices.reopens first second ≡ false
 plain_reopens (types.CancelReply c false) (types.IllAnswer results.Conditional) plain order dates = search rules
 plain_reopens (types.CancelReply c false) second plain order dates = search rules
 plain_reopens (types.Shipped due) types.Recall plain order dates = absurd (order refl refl)
-plain_reopens (types.Shipped due) (types.Overdue day) plain order dates = is_false _ (λ same. dates (0, due, day, refl, refl, same))
+plain_reopens (types.Shipped due) (types.Overdue day) plain order dates = false_from_ne_true _ (λ same. dates (0, due, day, refl, refl, same))
 plain_reopens (types.Shipped due) second plain order dates = search rules
-plain_reopens (types.RenewAnswer c (Some due)) (types.Overdue day) plain order dates = is_false _ (λ same. dates (c, due, day, refl, refl, same))
+plain_reopens (types.RenewAnswer c (Some due)) (types.Overdue day) plain order dates = false_from_ne_true _ (λ same. dates (c, due, day, refl, refl, same))
 plain_reopens (types.RenewAnswer c (Some due)) second plain order dates = search rules
 plain_reopens first second plain order dates = search rules
 
 -- ---- the responder, while it takes what the requester has issued
 
 module _ (rows : RowsHear) where
+  -- A responder that takes APDUs keeps all that it has issued.
   responder_grows : (y : ResponderRecord) (apdus : List Apdu) → IsFrontOf y.issued (taking lends y apdus).issued
   unfolding taking
   responder_grows y [] = front_of_itself y.issued
@@ -139,6 +146,7 @@ module _ (rows : RowsHear) where
       grown (inl same) = ([], same ∙ sym (append-nil y.issued))
       grown (inr more) = (next_apdu y.txn y.issued (types.IllAnswer results.Unfilled) ∷ [], more.1)
 
+  -- A responder in NOT-SUPPLIED stays there.
   unsupplied_stays : (y : ResponderRecord) (apdus : List Apdu) → is_among (states.NotSupplied ∷ []) y.state ≡ true → is_among (states.NotSupplied ∷ []) (taking lends y apdus).state ≡ true
   unsupplied_stays y apdus is =
       keeps_all lends (λ r. is_among (states.NotSupplied ∷ []) r.state ≡ true) (λ r a ended. ap (is_among (states.NotSupplied ∷ [])) (rows.responder_final r a (final_too r.state ended)) ∙ ended) y apdus is
@@ -147,15 +155,17 @@ module _ (rows : RowsHear) where
       final_too states.NotSupplied is = refl
       final_too s is = search rules
 
+  -- A responder in NOT-SUPPLIED is not undecided.
   not_undecided : {P : Type 0} (s : State) → is_among (states.NotSupplied ∷ []) s ≡ true → is_among records.undecided s ≡ true → P
   not_undecided states.NotSupplied is undecided = search rules
   not_undecided s is undecided = search rules
 
+  -- A state that the ILL-Answer unfilled ends in is NOT-SUPPLIED.
   ends_there : (s : State) → (true && is_among (states.NotSupplied ∷ []) s || (false && is_among (states.Cancelled ∷ []) s || false && is_among later s)) ≡ true → is_among (states.NotSupplied ∷ []) s ≡ true
   ends_there states.NotSupplied is = refl
   ends_there s is = search rules
 
-  -- While the request stays open, nothing is issued.
+  -- A responder that is undecided after it took APDUs has issued nothing meanwhile.
   issues_nothing : (y : ResponderRecord) (apdus : List Apdu) → is_among records.undecided (taking lends y apdus).state ≡ true → (taking lends y apdus).issued ≡ y.issued
   unfolding taking
   issues_nothing y [] undecided = refl
@@ -170,31 +180,30 @@ module _ (rows : RowsHear) where
   -- ---- both
 
   module _ (txn : Qualifiers) (x : RequesterRecord) (y : ResponderRecord) (heard told told_after : List (Option Apdu)) where
-    abbrev lent : ResponderRecord
-    lent = taking lends y x.issued
+    -- the responder, which has taken all messages of the requester
+    abbrev lender_new : ResponderRecord
+    lender_new = taking lends y x.issued
 
-    abbrev asked : RequesterRecord
-    asked = taking asks x lent.issued
+    -- the requester, which has then taken all messages of the responder
+    abbrev borrower_new : RequesterRecord
+    borrower_new = taking asks x lender_new.issued
 
-    module _ (borrower : RequesterStands txn x heard) (lender : ResponderStands txn y told) (lender_after : ResponderStands txn lent told_after) where
+    module _ (borrower : RequesterStands txn x heard) (lender : ResponderStands txn y told) (lender_after : ResponderStands txn lender_new told_after) where
       -- The requester has heard message i + 1, unless a later one reopens it.
-      requester_heard : (i : ℕ) (a : Apdu) → slice_get lent.issued i ≡ Some a → ((j : ℕ) (b : Apdu) → slice_get lent.issued j ≡ Some b → i < j → notices.reopens b.body a.body ≡ false)
-          → notices.has_heard asked a.number a.body ≡ true
+      requester_heard : (i : ℕ) (a : Apdu) → slice_get lender_new.issued i ≡ Some a → ((j : ℕ) (b : Apdu) → slice_get lender_new.issued j ≡ Some b → i < j → notices.reopens b.body a.body ≡ false)
+          → notices.has_heard borrower_new a.number a.body ≡ true
       requester_heard i a at none =
           heard_behind asks (λ r. r.txn ≡ txn) (λ b. (is_same_txn b.txn txn ≡ true) × (is_requesters b.body ≡ false)) notices.has_heard notices.reopens (record {
             keeps = λ r b is. rows.requester_txn r b ∙ is;
             takes = λ r b is of. rows.requester_takes r b (subst (λ t. is_same_txn b.txn t ≡ true) (sym is) of.0) of.1;
             stays = rows.requester_stays;
-          }) x lent.issued i a borrower.same_txn at (
-            subst (λ t. is_same_txn a.txn t ≡ true) lender_after.same_txn (message_number lent.txn lent.issued (suc i) a lender_after.rules.numbered at).0,
-            not_true _ (each (λ body. not (is_requesters body)) lent.issued i a lender_after.rules.role at),
+          }) x lender_new.issued i a borrower.same_txn at (
+            subst (λ t. is_same_txn a.txn t ≡ true) lender_after.same_txn (message_number lender_new.txn lender_new.issued (suc i) a lender_after.rules.numbered at).0,
+            not-true _ (each (λ body. not (is_requesters body)) lender_new.issued i a lender_after.rules.role at),
           ) none
-        where
-          not_true : (b : Bool) → not b ≡ true → b ≡ false
-          not_true b is = search rules
 
       -- The responder has heard message i + 1 of the requester.
-      responder_heard : (i : ℕ) (a : Apdu) → slice_get x.issued i ≡ Some a → records.has_heard lent a.number a.body ≡ true
+      responder_heard : (i : ℕ) (a : Apdu) → slice_get x.issued i ≡ Some a → records.has_heard lender_new a.number a.body ≡ true
       responder_heard i a at =
           heard_behind lends (λ r. r.txn ≡ txn) (λ b. (is_same_txn b.txn txn ≡ true) × (is_requesters b.body ≡ true)) records.has_heard records.reopens (record {
             keeps = λ r b is. rows.responder_txn r b ∙ is;
@@ -205,21 +214,24 @@ module _ (rows : RowsHear) where
             each is_requesters x.issued i a borrower.rules.role at,
           ) (λ j b there later. later_request j b there later)
         where
+          -- No later message of the requester is an ILL-Request that reopens this one.
           later_request : (j : ℕ) (b : Apdu) → slice_get x.issued j ≡ Some b → i < j → records.reopens b.body a.body ≡ false
           later_request zero b there later = absurd (omega (arith, later))
           later_request (suc j) b there later = only_request b.body a.body (first_alone x.issued j b borrower.rules.request there)
 
-      requester_same : asked.issued ≡ x.issued
-      requester_same = keeps_all asks (λ r. r.issued ≡ x.issued) (λ r a is. rows.requester_issues r a ∙ is) x lent.issued refl
+      -- The requester has issued nothing meanwhile.
+      requester_same : borrower_new.issued ≡ x.issued
+      requester_same = keeps_all asks (λ r. r.issued ≡ x.issued) (λ r a is. rows.requester_issues r a ∙ is) x lender_new.issued refl
 
-      ended_decides : has is_end lent.issued ≡ true → is_among records.undecided lent.state ≡ true → ⊥
+      -- A responder that has issued an end is not undecided.
+      ended_decides : has is_end lender_new.issued ≡ true → is_among records.undecided lender_new.state ≡ true → ⊥
       ended_decides ended undecided =
-          let at = has_message is_end lent.issued ended in
           go (is_unsupplied at.1.body) (is_cancelled at.1.body) (is_shipped at.1.body) refl refl refl at.3
         where
-          at : (n : ℕ) × (a : Apdu) × (message lent.issued n ≡ Some a) × (is_end a.body ≡ true)
-          at = has_message is_end lent.issued ended
+          at : (n : ℕ) × (a : Apdu) × (message lender_new.issued n ≡ Some a) × (is_end a.body ≡ true)
+          at = says_message is_end lender_new.issued ended
 
+          -- A state of an end is not undecided.
           apart : {P : Type 0} (s : State) → (is_among (states.NotSupplied ∷ []) s ≡ true) ⊎ (is_among (states.Cancelled ∷ []) s ≡ true) ⊎ (is_among later s ≡ true) → is_among records.undecided s ≡ true → P
           apart states.InProcess (inl is) undecided = search rules
           apart states.InProcess (inr (inl is)) undecided = search rules
@@ -230,19 +242,22 @@ module _ (rows : RowsHear) where
           apart s is undecided = search rules
 
           go : (unsupplied cancelled shipped : Bool) → is_unsupplied at.1.body ≡ unsupplied → is_cancelled at.1.body ≡ cancelled → is_shipped at.1.body ≡ shipped → (unsupplied || (cancelled || shipped)) ≡ true → ⊥
-          go true cancelled shipped a b c is = apart lent.state (inl (sym lender_after.ends.unsupplied ∙ message_has is_unsupplied lent.issued at.0 at.1 at.2 a)) undecided
-          go false true shipped a b c is = apart lent.state (inr (inl (sym lender_after.ends.cancelled ∙ message_has is_cancelled lent.issued at.0 at.1 at.2 b))) undecided
-          go false false true a b c is = apart lent.state (inr (inr (sym lender_after.ends.shipped ∙ message_has is_shipped lent.issued at.0 at.1 at.2 c))) undecided
+          go true cancelled shipped a b c is = apart lender_new.state (inl (sym lender_after.ends.unsupplied ∙ message_says is_unsupplied lender_new.issued at.0 at.1 at.2 a)) undecided
+          go false true shipped a b c is = apart lender_new.state (inr (inl (sym lender_after.ends.cancelled ∙ message_says is_cancelled lender_new.issued at.0 at.1 at.2 b))) undecided
+          go false false true a b c is = apart lender_new.state (inr (inr (sym lender_after.ends.shipped ∙ message_says is_shipped lender_new.issued at.0 at.1 at.2 c))) undecided
           go false false false a b c is = search rules
 
-      number_left : (has is_end y.issued ≡ true) ⊎ (length y.issued < 255) → is_among records.undecided lent.state ≡ true → length lent.issued < 255
-      number_left (inl ended) undecided = absurd (ended_decides (has_front is_end y.issued lent.issued (responder_grows y x.issued) ended) undecided)
+      -- An undecided responder has a number left.
+      number_left : (has is_end y.issued ≡ true) ⊎ (length y.issued < 255) → is_among records.undecided lender_new.state ≡ true → length lender_new.issued < 255
+      number_left (inl ended) undecided = absurd (ended_decides (has_front is_end y.issued lender_new.issued (responder_grows y x.issued) ended) undecided)
       number_left (inr left) undecided = subst (λ l. length l < 255) (sym (issues_nothing y x.issued undecided)) left
 
-      pub have_heard : (has is_end y.issued ≡ true) ⊎ (length y.issued < 255) → HaveHeard asked lent
+      -- Each record has heard what the other has issued.
+      pub have_heard : (has is_end y.issued ≡ true) ⊎ (length y.issued < 255) → HaveHeard borrower_new lender_new
       have_heard can = record { requester = plain_heard; last = last_heard; responder = all_heard; can_answer = number_left can }
         where
-          plain_heard : (n : ℕ) (a : Apdu) → message lent.issued n ≡ Some a → names_conditions a.body ≡ false → notices.has_heard asked a.number a.body ≡ true
+          -- The requester has heard each plain message.
+          plain_heard : (n : ℕ) (a : Apdu) → message lender_new.issued n ≡ Some a → names_conditions a.body ≡ false → notices.has_heard borrower_new a.number a.body ≡ true
           plain_heard zero a at plain = search rules
           plain_heard (suc i) a at plain =
               requester_heard i a at (λ j b there later. plain_reopens b.body a.body plain (λ ships recalls. before_itself (lender_after.ships_first (suc j) (suc i) b a there at ships recalls) later)
@@ -251,27 +266,32 @@ module _ (rows : RowsHear) where
               before_itself : {i j : ℕ} → suc j < suc i → i < j → ⊥
               before_itself first later = omega (arith, first, later)
 
-          last_heard : (a : Apdu) → message lent.issued (length lent.issued) ≡ Some a → notices.has_heard asked a.number a.body ≡ true
-          last_heard a at = go (length lent.issued) refl at
+          -- The requester has heard the last message.
+          last_heard : (a : Apdu) → message lender_new.issued (length lender_new.issued) ≡ Some a → notices.has_heard borrower_new a.number a.body ≡ true
+          last_heard a at = go (length lender_new.issued) refl at
             where
-              go : (n : ℕ) → length lent.issued ≡ n → message lent.issued n ≡ Some a → notices.has_heard asked a.number a.body ≡ true
+              go : (n : ℕ) → length lender_new.issued ≡ n → message lender_new.issued n ≡ Some a → notices.has_heard borrower_new a.number a.body ≡ true
               go zero is at = search rules
-              go (suc i) is at = requester_heard i a at (λ j b there later. absurd (omega (arith, is, later, slice_get_within lent.issued j b there)))
+              go (suc i) is at = requester_heard i a at (λ j b there later. absurd (omega (arith, is, later, slice_get_within lender_new.issued j b there)))
 
-          all_heard : (n : ℕ) (a : Apdu) → message asked.issued n ≡ Some a → records.has_heard lent a.number a.body ≡ true
+          -- The responder has heard each message.
+          all_heard : (n : ℕ) (a : Apdu) → message borrower_new.issued n ≡ Some a → records.has_heard lender_new a.number a.body ≡ true
           all_heard zero a at = search rules
           all_heard (suc i) a at = responder_heard i a (subst (λ l. slice_get l i ≡ Some a) requester_same at)
 
   -- ---- worlds
 
+  -- A requester that stands has issued at most 255 messages.
   requester_few : (txn : Qualifiers) (side : Side) (told : List (Option Apdu)) → RequesterSideStands txn side told → length (issued_of side) ≤ 255
   requester_few txn (sides.Requester x) told stands = stands.few
   requester_few txn (sides.Responder y) told stands = absurd stands
 
+  -- A responder that stands has issued at most 255 messages.
   responder_few : (txn : Qualifiers) (side : Side) (told : List (Option Apdu)) → ResponderSideStands txn side told → length (issued_of side) ≤ 255
   responder_few txn (sides.Responder y) told stands = stands.few
   responder_few txn (sides.Requester x) told stands = absurd stands
 
+  -- Two sides are in step if each has taken all messages of the other.
   sides_in_step : (txn : Qualifiers) (requester responder requester_after responder_after : Side) (heard told heard_after told_after : List (Option Apdu)) → RequesterSideStands txn requester heard
       → ResponderSideStands txn responder told → RequesterSideStands txn requester_after heard_after → ResponderSideStands txn responder_after told_after → AreIssued heard_after (issued_of responder_after)
       → AreIssued told_after (issued_of requester_after) → CanAnswer responder → responder_after ≡ takes_all responder (issued_of requester) → requester_after ≡ takes_all requester (issued_of responder_after)
@@ -288,7 +308,7 @@ module _ (rows : RowsHear) where
   sides_in_step txn (sides.Requester x) (sides.Responder y) (sides.Responder z) responder_after heard told heard_after told_after borrower lender borrower_after lender_after issued heeded can lends_it asks_it = absurd borrower_after
   sides_in_step txn (sides.Requester x) (sides.Responder y) (sides.Requester x_after) (sides.Requester z) heard told heard_after told_after borrower lender borrower_after lender_after issued heeded can lends_it asks_it = absurd lender_after
 
-  -- After a round of a world that stands both sides are in step.
+  -- Both sides of a world that stands are in step after a round.
   pub one_round : (txn : Qualifiers) → ((w : Parties) (event : Event) → Stands txn w → Stands txn (happens w event).1) → (w : Parties) → Stands txn w → CanAnswer w.responder.live → AreInStep (run_of w (round_of w))
   one_round txn after w stands can =
       let between : Parties = run_of w (half_of who.Requester w) in

@@ -1,33 +1,28 @@
 -- Why no two records are in step that are out of step.
-use Rattle.std.proofs.Common.{rules, ◌≡◌, Bool, true, false, ◌&&◌, [], ◌∷◌, sym, ap, ◌∙◌}
+use Rattle.std.proofs.Common.{rules, ◌≡◌, true, [], ◌∷◌, sym, ap, ◌∙◌}
+use Rattle.std.proofs.lemmas.Bool.{true≢false, and_from}
 use Rattle.ill_core.specs.declared.state.State.{State}
 use Rattle.ill_core.specs.declared.state.State.TheVariants as states
 use Rattle.ill_core.specs.State.{is_among}
-use Rattle.ill_core.specs.Bodies.{declines}
-use Rattle.ill_core.specs.Issued.{has}
 use Rattle.ill_core.specs.Requester.{RequesterRecord}
 use Rattle.ill_core.specs.Responder.{ResponderRecord}
 use Rattle.ill_world.specs.Round.{faced_in, facing_in, InStep, OutOfStep, unfaced, declined, unmarked, unreceived, not_told, told_early, due_apart}
-
-true_is_not_false : true ≡ false → ⊥
-true_is_not_false same = search rules
 
 -- A state is faced in each state that it faces.
 faces_back : (s t : State) → is_among (faced_in s) t ≡ true → is_among (facing_in t) s ≡ true
 faces_back s t faced = search rules
 
+-- A state that is among CHECKED-IN alone is CHECKED-IN.
 checked_in_only : (t : State) → is_among (states.CheckedIn ∷ []) t ≡ true → t ≡ states.CheckedIn
 checked_in_only states.CheckedIn is = search rules
 checked_in_only t is = search rules
 
-both : (a b : Bool) → a ≡ true → b ≡ true → (a && b) ≡ true
-both a b is too = search rules
-
+-- No two records that are out of step are in step.
 pub none_in_step : (x : RequesterRecord) (y : ResponderRecord) → OutOfStep x y → InStep x y → ⊥
-none_in_step x y (unfaced apart) step = true_is_not_false (sym (faces_back x.state y.state step.faced) ∙ apart)
-none_in_step x y (declined is refused) step = true_is_not_false (sym (both _ _ (ap (is_among (states.Conditional ∷ [])) is) refused) ∙ step.undeclined)
-none_in_step x y (unmarked out has_it unknown) step = true_is_not_false (sym has_it ∙ sym (step.received out) ∙ unknown)
-none_in_step x y (unreceived out lacks_it known) step = true_is_not_false (sym known ∙ step.received out ∙ lacks_it)
-none_in_step x y (not_told is untold) step = true_is_not_false (sym (ap (is_among (states.CheckedIn ∷ [])) is) ∙ sym step.checked_in ∙ untold)
+none_in_step x y (unfaced apart) step = true≢false (sym (faces_back x.state y.state step.faced) ∙ apart)
+none_in_step x y (declined is refused) step = true≢false (sym (and_from _ _ (ap (is_among (states.Conditional ∷ [])) is) refused) ∙ step.undeclined)
+none_in_step x y (unmarked out has_it unknown) step = true≢false (sym has_it ∙ sym (step.received out) ∙ unknown)
+none_in_step x y (unreceived out lacks_it known) step = true≢false (sym known ∙ step.received out ∙ lacks_it)
+none_in_step x y (not_told is untold) step = true≢false (sym (ap (is_among (states.CheckedIn ∷ [])) is) ∙ sym step.checked_in ∙ untold)
 none_in_step x y (told_early apart told) step = apart (checked_in_only y.state (sym step.checked_in ∙ told))
 none_in_step x y (due_apart out apart) step = apart (step.due out)

@@ -1,8 +1,9 @@
 -- Why the two records are in step once each has heard all messages of the other.
-use Rattle.std.proofs.Common.{rules, arith, ◌≡◌, ◌⊎◌, inl, inr, ℕ, zero, suc, ◌≤◌, ◌<◌, Bool, true, false, not, ◌&&◌, ◌||◌, nat_lt, List, [], ◌∷◌, length, Option, Some, None, is_some, refl, sym, ap, ◌∙◌, subst}
-use Rattle.std.specs.Prelude.{slice_get, ◌==◌}
+use Rattle.std.proofs.Common.{rules, arith, ◌≡◌, ◌⊎◌, inl, inr, ℕ, zero, suc, ◌≤◌, ◌<◌, Bool, true, false, not, ◌&&◌, nat_lt, List, [], ◌∷◌, length, Option, Some, None, is_some, refl, sym, ap, ◌∙◌, subst}
+use Rattle.std.specs.Prelude.{◌==◌}
 use Rattle.std.specs.List.{list_any, filter_map}
-use Rattle.std.proofs.lemmas.Bool.{and_parts, leb-true, le-leb}
+use Rattle.std.proofs.lemmas.Bool.{and_parts, and_from, not-true, false_from_ne_true, true_from_ne_false, both_ways, leb-true, le-leb}
+use Rattle.std.proofs.lemmas.Option.{same_Some, slice_get_within}
 use Rattle.ill_values.specs.Day.{Date}
 use Rattle.ill_values.specs.TxnId.{Qualifiers}
 use Rattle.ill_values.specs.declared.apdu.Apdu.{Apdu}
@@ -13,6 +14,7 @@ use Rattle.ill_core.specs.declared.state.State.{State}
 use Rattle.ill_core.specs.declared.state.State.TheVariants as states
 use Rattle.ill_core.specs.State.{is_among}
 use Rattle.ill_core.specs.Dates.{is_same_day, is_due_on, is_before, is_after_due}
+use Rattle.ill_core.specs.Rules.{implies}
 use Rattle.ill_core.specs.Numbers.{is_the, is_at_most, is_below}
 use Rattle.ill_core.specs.Bodies.{is_ill_request, is_cancel, is_received, is_renew, is_returned, is_shipped, is_checked_in, is_cancelled, is_unsupplied, is_end, is_renewal, grant_in, names_conditions, declines, accepts}
 use Rattle.ill_core.specs.Issued.{message, has, was, is_there, is_none, last_of, accepted_in, granted_day}
@@ -24,12 +26,12 @@ use Rattle.ill_core.specs.Responder.{ResponderRecord, due_of, later as shipped_s
 use Rattle.ill_core.specs.ResponderFacts as responder
 use Rattle.ill_core.specs.ResponderFacts.{Question, MayCancel, MayRenew, answered_number}
 use Rattle.ill_core.specs.ResponderNotices as records
-use Rattle.ill_core.specs.ResponderNotices.{is_recall, is_overdue_of, Grant, grant, grant_of}
+use Rattle.ill_core.specs.ResponderNotices.{is_recall, is_overdue_of, grant, grant_of}
 use Rattle.ill_world.specs.Invariant.{RequesterStands, ResponderStands}
 use Rattle.ill_world.specs.Round.{faced_in, InStep}
-use Rattle.ill_core.proofs.GrantLemmas.{itself_not_before, granted_not_later}
-use Rattle.ill_world.proofs.Sendings.{message_has}
-use Rattle.ill_world.proofs.Uniqueness.{message_number, has_message, same_apdu, found_among, answers_once, one_end}
+use Rattle.ill_core.proofs.MessageLemmas.{message_says, says_message}
+use Rattle.ill_core.proofs.GrantLemmas.{same_itself, itself_not_before, granted_not_later}
+use Rattle.ill_world.proofs.Uniqueness.{message_number, same_apdu, found_among, answers_once, one_end}
 use Rattle.ill_world.proofs.Finds.{Finds, finds_last, finds_any, all_found, number_if, was_last, not_above_last, has_last}
 use Rattle.ill_world.proofs.Claims.{AreIssued, has_issued, is_in_cancelled, is_in_not_supplied, cancelled_faces, not_supplied_faces, shipped_by, ships_before, tells_grant}
 use Rattle.ill_world.proofs.Agreements.{says_true, cancel_is_open, cancels_with, tells_cancel, tells_refused, at_most_one}
@@ -43,88 +45,87 @@ pub record HaveHeard (x : RequesterRecord) (y : ResponderRecord) : Type 0 where
   pub responder : (n : ℕ) (a : Apdu) → message x.issued n ≡ Some a → records.has_heard y a.number a.body ≡ true
   pub can_answer : is_among records.undecided y.state ≡ true → length y.issued < 255
 
--- ---- what it is to have heard a message
+-- ---- Bools
 
-not_true : (b : Bool) → not b ≡ true → b ≡ false
-not_true b is = search rules
-
--- A Bool that is not false is true, and one that is not true is false.
-is_true : (b : Bool) → (b ≡ false → ⊥) → b ≡ true
-is_true true never = refl
-is_true false never = absurd (never refl)
-
-pub is_false : (b : Bool) → (b ≡ true → ⊥) → b ≡ false
-is_false false never = refl
-is_false true never = absurd (never refl)
-
--- Two Bools are alike where each follows from the other.
+-- Two Bools are alike if each follows from the other.
 alike : (a b : Bool) → (a ≡ true → b ≡ true) → (b ≡ true → a ≡ true) → a ≡ b
 alike true b there back = sym (there refl)
 alike false true there back = back refl
 alike false false there back = refl
 
-not_both : (b : Bool) → b ≡ true → b ≡ false → ⊥
-not_both b is is_not = search rules
+-- A Bool is true if a true one implies it.
+implied : (a b : Bool) → implies a b ≡ true → a ≡ true → b ≡ true
+implied a b implies_it is = search rules
 
--- one of two Bools is true, and the first is not
-second : (a b : Bool) → (not a || b) ≡ true → a ≡ true → b ≡ true
-second a b either is = search rules
+-- ---- what it is to have heard a message
 
+-- A responder that has heard the ILL-Request is not in IDLE.
 request_heard : (y : ResponderRecord) (n : ℕ) (body : Body) → is_ill_request body ≡ true → records.has_heard y n body ≡ true → is_among (states.Idle ∷ []) y.state ≡ false
-request_heard y n (types.IllRequest expiry item) is heard = not_true _ heard
+request_heard y n (types.IllRequest expiry item) is heard = not-true _ heard
 request_heard y n body is heard = search rules
 
+-- A requester that has heard that the item is not supplied is in no undecided state.
 end_heard : (x : RequesterRecord) (n : ℕ) (body : Body) → is_unsupplied body ≡ true → notices.has_heard x n body ≡ true → is_among undecided x.state ≡ false
 end_heard x n (types.IllAnswer answer) is heard = search rules
-end_heard x n types.Expired is heard = not_true _ heard
+end_heard x n types.Expired is heard = not-true _ heard
 end_heard x n body is heard = search rules
 
+-- A requester that has heard a Shipped is in no undecided state.
 shipped_heard : (x : RequesterRecord) (n : ℕ) (body : Body) → is_shipped body ≡ true → notices.has_heard x n body ≡ true → is_among undecided x.state ≡ false
-shipped_heard x n (types.Shipped due) is heard = not_true _ heard
+shipped_heard x n (types.Shipped due) is heard = not-true _ heard
 shipped_heard x n body is heard = search rules
 
+-- An undecided responder that has heard a Cancel has taken that one or a later one.
 cancel_heard : (y : ResponderRecord) (n : ℕ) (body : Body) → is_cancel body ≡ true → records.has_heard y n body ≡ true → is_among records.undecided y.state ≡ true → is_at_most n y.last_cancel ≡ true
-cancel_heard y n types.Cancel is heard is_open = second _ _ heard is_open
+cancel_heard y n types.Cancel is heard is_open = implied _ _ heard is_open
 cancel_heard y n body is heard is_open = search rules
 
+-- A responder in SHIPPED or OVERDUE that has heard a Renew has taken that one or a later one.
 renew_heard : (y : ResponderRecord) (n : ℕ) (body : Body) → is_renew body ≡ true → records.has_heard y n body ≡ true → is_among (states.Shipped ∷ states.Overdue ∷ []) y.state ≡ true
     → is_at_most n y.last_renew ≡ true
-renew_heard y n (types.Renew wished) is heard here = second _ _ heard here
+renew_heard y n (types.Renew wished) is heard here = implied _ _ heard here
 renew_heard y n body is heard here = search rules
 
+-- A responder that has heard a Returned is in no lent state.
 returned_heard : (y : ResponderRecord) (n : ℕ) (body : Body) → is_returned body ≡ true → records.has_heard y n body ≡ true → is_among records.lent y.state ≡ false
-returned_heard y n types.Returned is heard = not_true _ heard
+returned_heard y n types.Returned is heard = not-true _ heard
 returned_heard y n body is heard = search rules
 
+-- A responder in SHIPPED or later that has heard a Received has the received mark.
 received_heard : (y : ResponderRecord) (n : ℕ) (body : Body) → is_received body ≡ true → records.has_heard y n body ≡ true → is_among shipped_states y.state ≡ true → y.received ≡ true
-received_heard y n types.Received is heard shipped = second _ _ heard shipped
+received_heard y n types.Received is heard shipped = implied _ _ heard shipped
 received_heard y n body is heard shipped = search rules
 
+-- An undecided responder that has heard a Conditional-Reply no has no number left.
 no_heard : (y : ResponderRecord) (n : ℕ) (body : Body) → declines body ≡ true → records.has_heard y n body ≡ true → is_among records.undecided y.state ≡ true → nat_lt (length y.issued) 255 ≡ false
-no_heard y n (types.ConditionalReply c false) is heard is_open = not_true _ (second _ _ heard is_open)
+no_heard y n (types.ConditionalReply c false) is heard is_open = not-true _ (implied _ _ heard is_open)
 no_heard y n (types.ConditionalReply c true) is heard is_open = search rules
 no_heard y n body is heard is_open = search rules
 
+-- A responder that has heard a Conditional-Reply yes does not wait for an answer to those conditions.
 yes_heard : (y : ResponderRecord) (n c : ℕ) (body : Body) → accepts body ≡ Some c → records.has_heard y n body ≡ true → is_the c (outstanding_number y) ≡ false
-yes_heard y n c (types.ConditionalReply k true) is heard = let same : k ≡ c = search rules in subst (λ i. is_the i (outstanding_number y) ≡ false) same (not_true _ heard)
+yes_heard y n c (types.ConditionalReply k true) is heard = let same : k ≡ c = search rules in subst (λ i. is_the i (outstanding_number y) ≡ false) same (not-true _ heard)
 yes_heard y n c (types.ConditionalReply k false) is heard = search rules
 yes_heard y n c body is heard = search rules
 
+-- A requester that has heard a Recall is in no lent state.
 recall_heard : (x : RequesterRecord) (n : ℕ) (body : Body) → is_recall body ≡ true → notices.has_heard x n body ≡ true → is_among lent x.state ≡ false
-recall_heard x n types.Recall is heard = not_true _ heard
+recall_heard x n types.Recall is heard = not-true _ heard
 recall_heard x n body is heard = search rules
 
+-- A requester in RETURNED that has heard a Checked-In has the checked-in mark.
 checked_in_heard : (x : RequesterRecord) (n : ℕ) (body : Body) → is_checked_in body ≡ true → notices.has_heard x n body ≡ true → is_among (states.Returned ∷ []) x.state ≡ true → x.checked_in ≡ true
-checked_in_heard x n types.CheckedIn is heard back = second _ _ heard back
+checked_in_heard x n types.CheckedIn is heard back = implied _ _ heard back
 checked_in_heard x n body is heard back = search rules
 
+-- A requester that has heard an answer to a Cancel does not wait for it.
 cancel_reply_heard : (x : RequesterRecord) (n c : ℕ) (body : Body) → answered_number MayCancel body ≡ Some c → notices.has_heard x n body ≡ true → awaits_cancel x c ≡ false
-cancel_reply_heard x n c (types.CancelReply k is_yes) is heard = let same : k ≡ c = search rules in subst (λ i. awaits_cancel x i ≡ false) same (not_true _ heard)
+cancel_reply_heard x n c (types.CancelReply k is_yes) is heard = let same : k ≡ c = search rules in subst (λ i. awaits_cancel x i ≡ false) same (not-true _ heard)
 cancel_reply_heard x n c body is heard = search rules
 
 -- ---- states
 
--- What is known of the states of both, one of the other.
+-- The state of a requester fits that of a responder, in all that one tells of the other.
 record StatesFit (s t : State) : Type 0 where
   role : is_among (states.InProcess ∷ states.CheckedIn ∷ []) s ≡ false
   other_role : is_among (states.Pending ∷ states.Received ∷ states.NotReceivedOverdue ∷ []) t ≡ false
@@ -141,23 +142,28 @@ record StatesFit (s t : State) : Type 0 where
 
 -- ---- what a message is not
 
+-- A message that the item is not supplied names no conditions.
 unsupplied_is_plain : (body : Body) → is_unsupplied body ≡ true → names_conditions body ≡ false
 unsupplied_is_plain (types.IllAnswer answer) is = search rules
 unsupplied_is_plain types.Expired is = refl
 unsupplied_is_plain body is = search rules
 
+-- A Shipped names no conditions.
 shipped_is_plain : (body : Body) → is_shipped body ≡ true → names_conditions body ≡ false
 shipped_is_plain (types.Shipped due) is = refl
 shipped_is_plain body is = search rules
 
+-- A Recall names no conditions.
 recall_is_plain : (body : Body) → is_recall body ≡ true → names_conditions body ≡ false
 recall_is_plain types.Recall is = refl
 recall_is_plain body is = search rules
 
+-- A Checked-In names no conditions.
 checked_in_is_plain : (body : Body) → is_checked_in body ≡ true → names_conditions body ≡ false
 checked_in_is_plain types.CheckedIn is = refl
 checked_in_is_plain body is = search rules
 
+-- An answer to a Cancel names no conditions.
 cancel_reply_is_plain : (body : Body) (c : ℕ) → answered_number MayCancel body ≡ Some c → names_conditions body ≡ false
 cancel_reply_is_plain (types.CancelReply k is_yes) c is = refl
 cancel_reply_is_plain body c is = search rules
@@ -167,23 +173,27 @@ renew_answer : (body : Body) (c : ℕ) → answered_number MayRenew body ≡ Som
 renew_answer (types.RenewAnswer k granted) c is = let same : k ≡ c = search rules in (granted, ap (λ i. types.RenewAnswer i granted) same)
 renew_answer body c is = search rules
 
+-- A message that tells of the request is an ILL-Request.
 tells_requested : (n : ℕ) (body : Body) → responder.Tells n body responder.Requested → is_ill_request body ≡ true
 tells_requested n (types.IllRequest expiry item) tells = refl
 tells_requested n body tells = search rules
 
+-- A message that attests a recall is a Recall.
 attests_recall : (n : ℕ) (body : Body) → notices.Attests n body notices.Recalled → is_recall body ≡ true
 attests_recall n types.Recall attests = refl
 attests_recall n body attests = search rules
 
+-- A message that attests conditions has their number.
 attests_named : (n c : ℕ) (body : Body) → notices.Attests n body (notices.Named c) → n ≡ c
 attests_named n c (types.IllAnswer results.Conditional) attests = attests
 attests_named n c body attests = search rules
 
+-- A message that attests that a Renew was answered is an answer to it.
 attests_answered : (n renew : ℕ) (day : Date) (body : Body) → notices.Attests n body (notices.Answered renew day) → answered_number MayRenew body ≡ Some renew
 attests_answered n renew day (types.RenewAnswer c granted) attests = ap Some attests.0
 attests_answered n renew day body attests = search rules
 
--- What grants a date before a Renew answers a lower number.
+-- A message that attests a date granted before a Renew grants it, and answers a lower number.
 attests_grant : (n renew : ℕ) (due : Date) (body : Body) → 0 < renew → notices.Attests n body (notices.GrantedBefore renew due) → (c : ℕ) × (grant_of body ≡ Some (grant c due)) × (c < renew)
 attests_grant n renew due (types.Shipped d) some attests = (0, ap (λ e. Some (grant 0 e)) attests, some)
 attests_grant n renew due (types.RenewAnswer c (Some d)) some attests = (c, ap (λ e. Some (grant c e)) attests.0, attests.1)
@@ -192,68 +202,72 @@ attests_grant n renew due body some attests = search rules
 
 -- ---- one state, of what it is not
 
+-- A requester with an open Cancel for which it does not wait is in CANCELLED.
 cancelled_left : (s : State) (the : Bool) → (is_among (states.CancelPending ∷ states.Cancelled ∷ []) s && the) ≡ true → (is_among (states.CancelPending ∷ []) s && the) ≡ false → is_among (states.Cancelled ∷ []) s ≡ true
 cancelled_left states.CancelPending true may waits = search rules
 cancelled_left states.CancelPending false may waits = search rules
 cancelled_left states.Cancelled the may waits = refl
 cancelled_left s the may waits = search rules
 
+-- A state with an open Cancel that is not CANCELLED is CANCEL-PENDING.
 waits_left : (s : State) → is_among (states.CancelPending ∷ states.Cancelled ∷ []) s ≡ true → is_among (states.Cancelled ∷ []) s ≡ false → is_among (states.CancelPending ∷ []) s ≡ true
 waits_left states.CancelPending may cancelled = refl
 waits_left s may cancelled = search rules
 
--- a responder that has shipped
+-- A responder in SHIPPED or later is in none of IDLE, CANCELLED and NOT-SUPPLIED.
 out : (t : State) → is_among shipped_states t ≡ true
     → (is_among (states.Idle ∷ []) t ≡ false) × (is_among (states.Cancelled ∷ []) t ≡ false) × (is_among (states.NotSupplied ∷ []) t ≡ false)
 out t is = search rules
 
+-- A requester in none of IDLE, CANCELLED, NOT-SUPPLIED and the undecided states is in SHIPPED or later.
 later_left : (s : State) → is_among (states.InProcess ∷ states.CheckedIn ∷ []) s ≡ false → is_among (states.Idle ∷ []) s ≡ false → is_among (states.Cancelled ∷ []) s ≡ false
     → is_among (states.NotSupplied ∷ []) s ≡ false → is_among undecided s ≡ false → is_among later s ≡ true
 later_left s role idle cancelled unsupplied decided = search rules
 
+-- A requester in no undecided state, and in none of IDLE, CANCELLED, SHIPPED or later, is in NOT-SUPPLIED.
 unsupplied_left : (s : State) → is_among (states.InProcess ∷ states.CheckedIn ∷ []) s ≡ false → is_among (states.Idle ∷ []) s ≡ false → is_among (states.Cancelled ∷ []) s ≡ false
     → is_among later s ≡ false → is_among undecided s ≡ false → is_among (states.NotSupplied ∷ []) s ≡ true
 unsupplied_left states.NotSupplied role idle cancelled shipped decided = refl
 unsupplied_left s role idle cancelled shipped decided = search rules
 
--- a responder in NOT-SUPPLIED
+-- A responder in NOT-SUPPLIED is in none of IDLE, CANCELLED, SHIPPED or later.
 given_up : (t : State) → is_among (states.NotSupplied ∷ []) t ≡ true
     → (is_among (states.Idle ∷ []) t ≡ false) × (is_among (states.Cancelled ∷ []) t ≡ false) × (is_among shipped_states t ≡ false)
 given_up states.NotSupplied is = (refl, refl, refl)
 given_up t is = search rules
 
--- a side in CANCEL-PENDING
+-- A side in CANCEL-PENDING has an open Cancel, and is in no other state.
 waiting : (s : State) → is_among (states.CancelPending ∷ []) s ≡ true
     → (is_among (states.Idle ∷ []) s ≡ false) × (is_among (states.Cancelled ∷ []) s ≡ false) × (is_among (states.NotSupplied ∷ []) s ≡ false) × (is_among later s ≡ false) × (is_among shipped_states s ≡ false)
     × (is_among (states.CancelPending ∷ states.Cancelled ∷ []) s ≡ true)
 waiting states.CancelPending is = (refl, refl, refl, refl, refl, refl)
 waiting s is = search rules
 
--- A responder whose request is is_open and has begun waits for nothing, or for an answer to a Cancel.
+-- A responder that has begun, not ended, not shipped and is not undecided is in CANCEL-PENDING.
 cancel_left : (t : State) → is_among (states.Pending ∷ states.Received ∷ states.NotReceivedOverdue ∷ []) t ≡ false → is_among (states.Idle ∷ []) t ≡ false → is_among (states.Cancelled ∷ []) t ≡ false
     → is_among (states.NotSupplied ∷ []) t ≡ false → is_among shipped_states t ≡ false → is_among records.undecided t ≡ false → is_among (states.CancelPending ∷ []) t ≡ true
 cancel_left states.CancelPending role idle cancelled unsupplied shipped decided = refl
 cancel_left t role idle cancelled unsupplied shipped decided = search rules
 
--- While the request is is_open and no Cancel waits, the last Cancel was answered.
+-- An undecided responder has left no Cancel unanswered.
 open_answers : (t : State) → is_among records.undecided t ≡ true → is_among (records.unanswered MayCancel) t ≡ false
 open_answers states.CancelPending is = search rules
 open_answers t is = search rules
 
--- In SHIPPED and OVERDUE the last Renew was answered.
+-- A responder in SHIPPED or OVERDUE has left no Renew unanswered.
 settled_answers : (t : State) → is_among (states.Shipped ∷ states.Overdue ∷ []) t ≡ true → is_among (records.unanswered MayRenew) t ≡ false
 settled_answers states.Shipped is = refl
 settled_answers states.Overdue is = refl
 settled_answers t is = search rules
 
--- A responder that waits for no Renew, and has the item neither asked back nor back, is in SHIPPED or OVERDUE.
+-- A responder that has shipped, and is in none of SHIPPED, OVERDUE, RECALL, RETURNED, CHECKED-IN, has a waiting Renew.
 renew_left : (t : State) → is_among shipped_states t ≡ true → is_among (states.Recall ∷ []) t ≡ false → is_among (states.Returned ∷ states.CheckedIn ∷ []) t ≡ false
     → is_among (states.Shipped ∷ states.Overdue ∷ []) t ≡ false → is_among (states.RenewPending ∷ states.RenewOverdue ∷ []) t ≡ true
 renew_left states.RenewPending shipped recalled returned settled = refl
 renew_left states.RenewOverdue shipped recalled returned settled = refl
 renew_left t shipped recalled returned settled = search rules
 
--- a side that waits for an answer to a Renew
+-- A side with a waiting Renew is in SHIPPED or later, and in none of RECALL, RETURNED, CHECKED-IN.
 renewing : (s : State) → is_among (states.RenewPending ∷ states.RenewOverdue ∷ []) s ≡ true
     → (is_among later s ≡ true) × (is_among shipped_states s ≡ true) × (is_among (states.Recall ∷ []) s ≡ false) × (is_among (states.Returned ∷ []) s ≡ false)
     × (is_among (states.Returned ∷ states.CheckedIn ∷ []) s ≡ false) × (is_among (states.Recall ∷ states.Returned ∷ []) s ≡ false)
@@ -261,48 +275,48 @@ renewing states.RenewPending is = (refl, refl, refl, refl, refl, refl)
 renewing states.RenewOverdue is = (refl, refl, refl, refl, refl, refl)
 renewing s is = search rules
 
+-- A responder that has shipped, and is in no lent state, is in RETURNED or CHECKED-IN.
 returned_left : (t : State) → is_among shipped_states t ≡ true → is_among records.lent t ≡ false → is_among (states.Returned ∷ states.CheckedIn ∷ []) t ≡ true
 returned_left states.Returned shipped home = refl
 returned_left states.CheckedIn shipped home = refl
 returned_left t shipped home = search rules
 
--- a side in RETURNED is in SHIPPED or later
+-- A requester in RETURNED is in SHIPPED or later.
 returned_is_out : (s : State) → is_among (states.Returned ∷ []) s ≡ true → is_among later s ≡ true
 returned_is_out states.Returned is = refl
 returned_is_out s is = search rules
 
+-- A side in RECALL is in SHIPPED or later, and in neither RETURNED nor CHECKED-IN.
 recalled_is_out : (s : State) → is_among (states.Recall ∷ []) s ≡ true
     → (s ≡ states.Recall) × (is_among later s ≡ true) × (is_among shipped_states s ≡ true) × (is_among (states.Returned ∷ []) s ≡ false) × (is_among (states.Returned ∷ states.CheckedIn ∷ []) s ≡ false)
 recalled_is_out states.Recall is = (refl, refl, refl, refl, refl)
 recalled_is_out s is = search rules
 
+-- A responder in RECALL, RETURNED or CHECKED-IN, and in none of the last two, is in RECALL.
 recall_left : (t : State) → is_among (states.Recall ∷ states.Returned ∷ states.CheckedIn ∷ []) t ≡ true → is_among (states.Returned ∷ states.CheckedIn ∷ []) t ≡ false → is_among (states.Recall ∷ []) t ≡ true
 recall_left states.Recall may returned = refl
 recall_left t may returned = search rules
 
+-- A requester in SHIPPED or later, in no lent state and not in RETURNED, is in RECALL.
 recall_at : (s : State) → is_among later s ≡ true → is_among (states.Returned ∷ []) s ≡ false → is_among lent s ≡ false → is_among (states.Recall ∷ []) s ≡ true
 recall_at states.Recall shipped returned home = refl
 recall_at s shipped returned home = search rules
 
-back_or_home : (t : State) → is_among (states.Returned ∷ states.CheckedIn ∷ []) t ≡ true → is_among shipped_states t ≡ true
-back_or_home states.Returned is = refl
-back_or_home states.CheckedIn is = refl
-back_or_home t is = search rules
-
--- a responder in CONDITIONAL
+-- A responder in CONDITIONAL is in no other state.
 conditional : (t : State) → is_among (states.Conditional ∷ []) t ≡ true
     → (is_among (states.Idle ∷ []) t ≡ false) × (is_among (states.Cancelled ∷ []) t ≡ false) × (is_among (states.NotSupplied ∷ []) t ≡ false) × (is_among (states.CancelPending ∷ []) t ≡ false)
     × (is_among shipped_states t ≡ false)
 conditional states.Conditional is = (refl, refl, refl, refl, refl)
 conditional t is = search rules
 
+-- A requester in no other state of a requester is in CONDITIONAL.
 conditional_left : (s : State) → is_among (states.InProcess ∷ states.CheckedIn ∷ []) s ≡ false → is_among (states.Idle ∷ []) s ≡ false → is_among (states.Cancelled ∷ []) s ≡ false
     → is_among (states.NotSupplied ∷ []) s ≡ false → is_among (states.CancelPending ∷ []) s ≡ false → is_among later s ≡ false → is_among (states.Pending ∷ []) s ≡ false
     → is_among (states.Conditional ∷ []) s ≡ true
 conditional_left states.Conditional role idle cancelled unsupplied waits shipped pending = refl
 conditional_left s role idle cancelled unsupplied waits shipped pending = search rules
 
--- A requester in CONDITIONAL faces one whose request is is_open.
+-- A requester in CONDITIONAL faces an undecided responder.
 open_left : (s t : State) → is_among (states.Conditional ∷ []) s ≡ true → is_among (faced_in s) t ≡ true → is_among records.undecided t ≡ true
 open_left states.Conditional states.Conditional is faced = refl
 open_left states.Conditional states.InProcess is faced = refl
@@ -311,41 +325,46 @@ open_left s t is faced = search rules
 
 -- ---- numbers
 
+-- An option that is not empty has a value.
 some_of : {X : Type 0} (o : Option X) → is_some o ≡ true → (v : X) × (o ≡ Some v)
 some_of None is = search rules
 some_of (Some v) is = (v, refl)
 
+-- A number that is at most an option is at most the number in it.
 most : (k : ℕ) (o : Option ℕ) → is_at_most k o ≡ true → (m : ℕ) × (o ≡ Some m) × (k ≤ m)
 most k None is = search rules
 most k (Some m) is = (m, refl, leb-true k m is)
 
+-- A number is that of an option that has it.
 itself : (n : ℕ) (o : Option ℕ) → o ≡ Some n → is_the n o ≡ true
 itself n None is = search rules
 itself n (Some m) is = search rules
 
+-- No number is below an option that has it.
 not_below : (n : ℕ) (o : Option ℕ) → o ≡ Some n → is_below n o ≡ true → ⊥
 not_below n None is below = search rules
 not_below n (Some m) is below = search rules
 
-both : (a b : Bool) → a ≡ true → b ≡ true → (a && b) ≡ true
-both a b is too = search rules
-
+-- A state that is not NOT-SUPPLIED, and not SHIPPED or later, is none of these.
 neither : (s : State) → is_among (states.NotSupplied ∷ []) s ≡ false → is_among later s ≡ false → is_among (states.NotSupplied ∷ later) s ≡ false
 neither states.NotSupplied unsupplied shipped = search rules
 neither s unsupplied shipped = shipped
 
+-- A state that is neither RECALL nor RETURNED is none of the two.
 either_gone : (s : State) → is_among (states.Recall ∷ []) s ≡ false → is_among (states.Returned ∷ []) s ≡ false → is_among (states.Recall ∷ states.Returned ∷ []) s ≡ false
 either_gone states.Recall recalled returned = search rules
 either_gone s recalled returned = returned
 
+-- A responder in CHECKED-IN is in RETURNED or CHECKED-IN.
 home_is_back : (t : State) → is_among (states.CheckedIn ∷ []) t ≡ true → is_among (states.Returned ∷ states.CheckedIn ∷ []) t ≡ true
 home_is_back states.CheckedIn is = refl
 home_is_back t is = search rules
 
+-- The second of two Bools is false if the first is true and not both are.
 second_false : (a b : Bool) → (a && b) ≡ false → a ≡ true → b ≡ false
 second_false a b none is = search rules
 
--- The last APDU names conditions where the list ends with such.
+-- A list that ends with conditions has a last message, and that names them.
 last_names : (apdus : List Apdu) → was names_conditions apdus (length apdus) ≡ true → (a : Apdu) × (message apdus (length apdus) ≡ Some a) × (names_conditions a.body ≡ true)
 last_names apdus is = go (message apdus (length apdus)) refl is
   where
@@ -353,82 +372,75 @@ last_names apdus is = go (message apdus (length apdus)) refl is
     go None e is = search rules
     go (Some a) e is = (a, e, is)
 
+-- A requester in PENDING that has heard conditions has accepted these or later ones.
 conditions_heard : (x : RequesterRecord) (n : ℕ) (body : Body) → names_conditions body ≡ true → notices.has_heard x n body ≡ true → is_among (states.Pending ∷ []) x.state ≡ true
     → is_at_most n (accepted_number x) ≡ true
-conditions_heard x n (types.IllAnswer results.Conditional) is heard pending = second _ _ heard pending
+conditions_heard x n (types.IllAnswer results.Conditional) is heard pending = implied _ _ heard pending
 conditions_heard x n body is heard pending = search rules
 
-get_within : (apdus : List Apdu) (i : ℕ) (a : Apdu) → slice_get apdus i ≡ Some a → i < length apdus
-get_within [] i a at = search rules
-get_within (b ∷ apdus) zero a at = omega arith
-get_within (b ∷ apdus) (suc i) a at = omega (arith, get_within apdus i a at)
-
+-- The number of a message is at most the length of the list.
 message_within : (apdus : List Apdu) (n : ℕ) (a : Apdu) → message apdus n ≡ Some a → n ≤ length apdus
 message_within apdus zero a at = search rules
-message_within apdus (suc i) a at = omega (arith, get_within apdus i a at)
+message_within apdus (suc i) a at = omega (arith, slice_get_within apdus i a at)
 
 -- The conditions that wait in CONDITIONAL have the number of the last message.
 waits_outstanding : (y : ResponderRecord) (n : ℕ) {a : Apdu} → is_among (states.Conditional ∷ []) y.state ≡ true → n ≡ length y.issued → message y.issued (length y.issued) ≡ Some a
     → is_the n (outstanding_number y) ≡ true
 waits_outstanding y n is same at = search rules
 
+-- The state of a requester faces each state that fits it.
 fits_face : (s t : State) → StatesFit s t → is_among (faced_in s) t ≡ true
 fits_face s t fit = search rules
 
 -- ---- due dates
 
--- Neither of two days is before the other, so they are the same.
+-- Two days of which neither is before the other are the same.
 same_date : (d e : Date) → is_before d e ≡ false → is_before e d ≡ false → d ≡ e
 same_date d e first other = search rules
 
-some_date : (d e : Date) → ◌≡◌ {A = Option Date} (Some d) (Some e) → d ≡ e
-some_date d e same = search rules
-
-some_same : (i j : ℕ) → ◌≡◌ {A = Option ℕ} (Some i) (Some j) → i ≡ j
-some_same i j same = search rules
-
--- What grants a date is a Shipped or the answer to a Renew.
+-- A message that grants a date is a Shipped or an answer to a Renew.
 grant_kind : (body : Body) (due : Date) → grant_in body ≡ Some due → (body ≡ types.Shipped due) ⊎ ((c : ℕ) × (body ≡ types.RenewAnswer c (Some due)))
-grant_kind (types.Shipped d) due is = inl (ap types.Shipped (some_date d due is))
-grant_kind (types.RenewAnswer c (Some d)) due is = inr (c, ap (λ e. types.RenewAnswer c (Some e)) (some_date d due is))
+grant_kind (types.Shipped d) due is = inl (ap types.Shipped (same_Some d due is))
+grant_kind (types.RenewAnswer c (Some d)) due is = inr (c, ap (λ e. types.RenewAnswer c (Some e)) (same_Some d due is))
 grant_kind (types.RenewAnswer c None) due is = search rules
 grant_kind body due is = search rules
 
--- Where a date was granted, the item was shipped.
+-- A responder that has granted a date has issued a Shipped.
 grants_shipped : (apdus : List Apdu) (n : ℕ) (a : Apdu) (due : Date) → ships_first apdus ≡ true → message apdus n ≡ Some a → grant_in a.body ≡ Some due → has is_shipped apdus ≡ true
 grants_shipped apdus n a due first at is = elim (grant_kind a.body due is) [
-  | inl shipped ↦ message_has is_shipped apdus n a at (ap is_shipped shipped)
-  | inr renewal ↦ ships_before apdus first (message_has is_renewal apdus n a at (ap is_renewal renewal.1))
+  | inl shipped ↦ message_says is_shipped apdus n a at (ap is_shipped shipped)
+  | inr renewal ↦ ships_before apdus first (message_says is_renewal apdus n a at (ap is_renewal renewal.1))
 ]
 
--- What answers a question is among the answers.
+-- A message that answers a Renew is among the answers.
 is_among_answers : (apdus : List Apdu) (n : ℕ) (a : Apdu) (c : ℕ) → message apdus n ≡ Some a → answered_number MayRenew a.body ≡ Some c → list_any (λ m. m == c) (filter_map (λ b. answered_number MayRenew b.body) apdus) ≡ true
 is_among_answers apdus zero a c at answers = search rules
 is_among_answers apdus (suc i) a c at answers = found_among (λ b. answered_number MayRenew b.body) apdus i a c at answers
 
+-- A Renew-Answer that attests that nothing after a date was granted grants no later one.
 attests_not_after : (n c : ℕ) (due granted : Date) (body : Body) → body ≡ types.RenewAnswer c (Some granted) → notices.Attests n body (notices.Answered c due) → is_before due granted ≡ false
 attests_not_after n c due granted body is attests = (subst (λ b. notices.Attests n b (notices.Answered c due)) is attests).1
 
+-- A message that attests that a due date has passed is an Overdue for it.
 attests_overdue : (n : ℕ) (due : Date) (body : Body) → notices.Attests n body (notices.PastDue due) → is_overdue_of due body ≡ true
-attests_overdue n due (types.Overdue day) attests = subst (λ d. is_same_day day d ≡ true) attests (day_itself day)
-  where
-    day_itself : (d : Date) → is_same_day d d ≡ true
-    day_itself d = search rules
+attests_overdue n due (types.Overdue day) attests = subst (λ d. is_same_day day d ≡ true) attests (same_itself day)
 attests_overdue n due body attests = search rules
 
+-- The first of two Bools is false if the second is true and not both are.
 first_false : (a b : Bool) → (a && b) ≡ false → b ≡ true → a ≡ false
 first_false a b none is = search rules
 
 -- A requester that has heard an Overdue for its due date is not in time.
 overdue_heard : (x : RequesterRecord) (n : ℕ) (due : Date) (body : Body) → is_overdue_of due body ≡ true → x.due ≡ Some due → notices.has_heard x n body ≡ true → is_among in_time x.state ≡ false
-overdue_heard x n due (types.Overdue day) is its heard = first_false _ _ (not_true _ heard) (subst (λ o. is_due_on day o ≡ true) (sym its) is)
+overdue_heard x n due (types.Overdue day) is its heard = first_false _ _ (not-true _ heard) (subst (λ o. is_due_on day o ≡ true) (sym its) is)
 overdue_heard x n due body is its heard = search rules
 
+-- An Overdue names no conditions.
 overdue_is_plain : (due : Date) (body : Body) → is_overdue_of due body ≡ true → names_conditions body ≡ false
 overdue_is_plain due (types.Overdue day) is = refl
 overdue_is_plain due body is = search rules
 
--- a requester that is overdue
+-- A requester that is overdue is in SHIPPED or later, and in neither RECALL nor RETURNED.
 overdue_is_out : (s : State) → is_among (states.NotReceivedOverdue ∷ states.Overdue ∷ states.RenewOverdue ∷ []) s ≡ true
     → (is_among later s ≡ true) × (is_among (states.Recall ∷ states.Returned ∷ []) s ≡ false) × (is_among (states.Recall ∷ []) s ≡ false) × (is_among (states.Returned ∷ []) s ≡ false)
 overdue_is_out states.NotReceivedOverdue is = (refl, refl, refl, refl)
@@ -436,19 +448,21 @@ overdue_is_out states.Overdue is = (refl, refl, refl, refl)
 overdue_is_out states.RenewOverdue is = (refl, refl, refl, refl)
 overdue_is_out s is = search rules
 
--- a responder that is overdue
+-- A responder that is overdue is in SHIPPED or later, and in none of RECALL, RETURNED, CHECKED-IN.
 late_is_out : (t : State) → is_among (states.Overdue ∷ states.RenewOverdue ∷ []) t ≡ true
     → (is_among shipped_states t ≡ true) × (is_among (states.Recall ∷ []) t ≡ false) × (is_among (states.Returned ∷ states.CheckedIn ∷ []) t ≡ false)
 late_is_out states.Overdue is = (refl, refl, refl)
 late_is_out states.RenewOverdue is = (refl, refl, refl)
 late_is_out t is = search rules
 
+-- A responder in OVERDUE or later, and in none of RECALL, RETURNED, CHECKED-IN, is overdue.
 overdue_left : (t : State) → is_among (states.Overdue ∷ states.RenewOverdue ∷ states.Recall ∷ states.Returned ∷ states.CheckedIn ∷ []) t ≡ true → is_among (states.Recall ∷ []) t ≡ false
     → is_among (states.Returned ∷ states.CheckedIn ∷ []) t ≡ false → is_among (states.Overdue ∷ states.RenewOverdue ∷ []) t ≡ true
 overdue_left states.Overdue may recalled returned = refl
 overdue_left states.RenewOverdue may recalled returned = refl
 overdue_left t may recalled returned = search rules
 
+-- A requester in SHIPPED or later, not in time, and in neither RECALL nor RETURNED, is overdue.
 overdue_at : (s : State) → is_among later s ≡ true → is_among (states.Recall ∷ []) s ≡ false → is_among (states.Returned ∷ []) s ≡ false → is_among in_time s ≡ false
     → is_among (states.NotReceivedOverdue ∷ states.Overdue ∷ states.RenewOverdue ∷ []) s ≡ true
 overdue_at states.NotReceivedOverdue shipped recalled returned late = refl
@@ -462,66 +476,78 @@ module _ (txn : Qualifiers) (x : RequesterRecord) (y : ResponderRecord) (told he
     (issued : AreIssued told y.issued) (heeded : AreIssued heard x.issued) (hear : HaveHeard x y) where
   -- ---- IDLE
 
-  -- A request is the first message of a requester that has begun.
+  -- The first message of a requester that has begun is an ILL-Request.
   first_request : (apdus : List Apdu) → is_none apdus ≡ false → begins_with_request apdus ≡ true → (a : Apdu) × (message apdus 1 ≡ Some a) × (is_ill_request a.body ≡ true)
   first_request [] some begins = search rules
   first_request (a ∷ apdus) some begins = (a, refl, (and_parts _ _ begins).0)
 
+  -- The responder is not in IDLE if the requester is not.
   begun : is_among (states.Idle ∷ []) x.state ≡ false → is_among (states.Idle ∷ []) y.state ≡ false
   begun is =
       let first = first_request x.issued (borrower.rules.issued.idle ∙ is) borrower.rules.request in
       request_heard y first.0.number first.0.body first.2 (hear.responder 1 first.0 first.1)
 
+  -- The requester is not in IDLE if the responder is not.
   was_asked : is_among (states.Idle ∷ []) y.state ≡ false → is_among (states.Idle ∷ []) x.state ≡ false
   was_asked is =
       let known = lender.knows responder.Requested is in
       sym borrower.rules.issued.idle ∙ not_none is_ill_request x.issued (has_issued x.issued heard is_ill_request known.0 heeded known.1 (tells_requested known.0.number known.0.body known.2))
 
+  -- The requester is in IDLE exactly if the responder is.
   idle_alike : is_among (states.Idle ∷ []) x.state ≡ is_among (states.Idle ∷ []) y.state
   idle_alike =
-      alike _ _ (λ is. is_true _ (λ is_not. not_both _ is (was_asked is_not))) (λ is. is_true _ (λ is_not. not_both _ is (begun is_not)))
+      alike _ _ (λ is. true_from_ne_false _ (λ is_not. both_ways _ (was_asked is_not) is)) (λ is. true_from_ne_false _ (λ is_not. both_ways _ (begun is_not) is))
 
   -- ---- CANCELLED
 
+  -- The responder is in CANCELLED if the requester is.
   cancelled_there : is_among (states.Cancelled ∷ []) x.state ≡ true → is_among (states.Cancelled ∷ []) y.state ≡ true
   cancelled_there is = ap (is_among (states.Cancelled ∷ [])) (cancelled_faces txn x y told heard borrower lender issued (is_in_cancelled x.state is))
 
+  -- The requester is in CANCELLED if the responder is.
   cancelled_here : is_among (states.Cancelled ∷ []) y.state ≡ true → is_among (states.Cancelled ∷ []) x.state ≡ true
   cancelled_here is =
-      let at = has_message is_cancelled y.issued (lender.ends.cancelled ∙ is) in
+      let at = says_message is_cancelled y.issued (lender.ends.cancelled ∙ is) in
       let by = cancels_with at.1.body at.3 in
       let is_open = cancel_is_open txn x y told heard borrower lender issued heeded at.0 by.0 at.1 at.2 by.1 in
       let answers : answered_number MayCancel at.1.body ≡ Some by.0 = ap (answered_number MayCancel) by.1 in
       cancelled_left x.state _ is_open (cancel_reply_heard x at.1.number by.0 at.1.body answers (hear.requester at.0 at.1 at.2 (cancel_reply_is_plain at.1.body by.0 answers)))
 
+  -- The requester is in CANCELLED exactly if the responder is.
   cancelled_alike : is_among (states.Cancelled ∷ []) x.state ≡ is_among (states.Cancelled ∷ []) y.state
   cancelled_alike = alike _ _ cancelled_there cancelled_here
 
   -- ---- SHIPPED or later, and NOT-SUPPLIED
 
+  -- The responder is in SHIPPED or later if the requester is.
   later_there : is_among later x.state ≡ true → is_among shipped_states y.state ≡ true
   later_there is = sym lender.ends.shipped ∙ shipped_by txn x y told heard x.due borrower lender issued refl (borrower.rules.parts.due ∙ is)
 
+  -- The responder is in NOT-SUPPLIED if the requester is.
   unsupplied_there : is_among (states.NotSupplied ∷ []) x.state ≡ true → is_among (states.NotSupplied ∷ []) y.state ≡ true
   unsupplied_there is = ap (is_among (states.NotSupplied ∷ [])) (not_supplied_faces txn x y told heard borrower lender issued (is_in_not_supplied x.state is))
 
+  -- The requester is in SHIPPED or later if the responder is.
   later_here : is_among shipped_states y.state ≡ true → is_among later x.state ≡ true
   later_here is =
-      let at = has_message is_shipped y.issued (lender.ends.shipped ∙ is) in
+      let at = says_message is_shipped y.issued (lender.ends.shipped ∙ is) in
       let no = out y.state is in
-      later_left x.state borrower.rules.parts.role (idle_alike ∙ no.0) (cancelled_alike ∙ no.1) (is_false _ (λ ended. not_both _ (unsupplied_there ended) no.2))
+      later_left x.state borrower.rules.parts.role (idle_alike ∙ no.0) (cancelled_alike ∙ no.1) (false_from_ne_true _ (λ ended. both_ways _ no.2 (unsupplied_there ended)))
       (shipped_heard x at.1.number at.1.body at.3 (hear.requester at.0 at.1 at.2 (shipped_is_plain at.1.body at.3)))
 
+  -- The requester is in SHIPPED or later exactly if the responder is.
   later_alike : is_among later x.state ≡ is_among shipped_states y.state
   later_alike = alike _ _ later_there later_here
 
+  -- The requester is in NOT-SUPPLIED if the responder is.
   unsupplied_here : is_among (states.NotSupplied ∷ []) y.state ≡ true → is_among (states.NotSupplied ∷ []) x.state ≡ true
   unsupplied_here is =
-      let at = has_message is_unsupplied y.issued (lender.ends.unsupplied ∙ is) in
+      let at = says_message is_unsupplied y.issued (lender.ends.unsupplied ∙ is) in
       let no = given_up y.state is in
       unsupplied_left x.state borrower.rules.parts.role (idle_alike ∙ no.0) (cancelled_alike ∙ no.1) (later_alike ∙ no.2)
       (end_heard x at.1.number at.1.body at.3 (hear.requester at.0 at.1 at.2 (unsupplied_is_plain at.1.body at.3)))
 
+  -- The requester is in NOT-SUPPLIED exactly if the responder is.
   unsupplied_alike : is_among (states.NotSupplied ∷ []) x.state ≡ is_among (states.NotSupplied ∷ []) y.state
   unsupplied_alike = alike _ _ unsupplied_there unsupplied_here
 
@@ -535,7 +561,7 @@ module _ (txn : Qualifiers) (x : RequesterRecord) (y : ResponderRecord) (told he
       let at = heeded asked.0 asked.1 in
       subst (λ k. k ≤ n) asked.3 (not_above_last says x.txn x.issued at.0 n asked.0 borrower.rules.numbered at.1 (is_so asked.0.body asked.2) own)
 
-  -- An answer to the last question that came, where it was answered.
+  -- The responder has issued an answer to the last question that came, if it left none unanswered.
   answer_to : (question : Question) (n : ℕ) → responder.last_asked question y ≡ Some n → is_among (records.unanswered question) y.state ≡ false
       → Finds (λ a. answered_number question a.body) y.issued n
   answer_to question n last left = finds_any (λ a. answered_number question a.body) y.issued n (lender.answered question n last left)
@@ -545,24 +571,26 @@ module _ (txn : Qualifiers) (x : RequesterRecord) (y : ResponderRecord) (told he
   -- No Cancel waits that the responder has answered.
   cancel_answered : (n : ℕ) → is_among (states.CancelPending ∷ []) x.state ≡ true → last_cancel x ≡ Some n → Finds (λ a. answered_number MayCancel a.body) y.issued n → ⊥
   cancel_answered n is last found =
-      not_both _ (both _ _ is (itself n (last_cancel x) last))
-      (cancel_reply_heard x found.1.number n found.1.body found.3 (hear.requester found.0 found.1 found.2 (cancel_reply_is_plain found.1.body n found.3)))
+      both_ways _ (cancel_reply_heard x found.1.number n found.1.body found.3 (hear.requester found.0 found.1 found.2 (cancel_reply_is_plain found.1.body n found.3)))
+      (and_from _ _ is (itself n (last_cancel x) last))
 
+  -- An undecided responder faces no requester in CANCEL-PENDING.
   not_open : is_among (states.CancelPending ∷ []) x.state ≡ true → is_among records.undecided y.state ≡ true → ⊥
   not_open is is_open =
-      let own = has_last is_cancel None x.issued (second _ _ borrower.rules.issued.cancel (waiting x.state is).5) in
+      let own = has_last is_cancel None x.issued (implied _ _ borrower.rules.issued.cancel (waiting x.state is).5) in
       let there = was_last is_cancel x.txn x.issued own.0 borrower.rules.numbered own.1 in
       let heard_it = most there.0.number y.last_cancel (cancel_heard y there.0.number there.0.body there.2 (hear.responder own.0 there.0 there.1) is_open) in
       let not_after = asked_last MayCancel is_cancel heard_it.0 own.0 (λ body asks. asks) heard_it.1 own.1 in
       let same : heard_it.0 ≡ own.0 = omega (arith, not_after, heard_it.2, there.3) in
       cancel_answered own.0 is own.1 (answer_to MayCancel own.0 (heard_it.1 ∙ ap Some same) (open_answers y.state is_open))
 
+  -- The responder is in CANCEL-PENDING if the requester is.
   waits_there : is_among (states.CancelPending ∷ []) x.state ≡ true → is_among (states.CancelPending ∷ []) y.state ≡ true
   waits_there is =
       let no = waiting x.state is in
-      cancel_left y.state lender.rules.parts.role (sym idle_alike ∙ no.0) (sym cancelled_alike ∙ no.1) (sym unsupplied_alike ∙ no.2) (sym later_alike ∙ no.3) (is_false _ (not_open is))
+      cancel_left y.state lender.rules.parts.role (sym idle_alike ∙ no.0) (sym cancelled_alike ∙ no.1) (sym unsupplied_alike ∙ no.2) (sym later_alike ∙ no.3) (false_from_ne_true _ (not_open is))
 
-  -- A Cancel that waits at the responder waits at the requester.
+  -- A Cancel that waits at the responder is open at the requester.
   cancel_is_waiting : (c : ℕ) → is_among (states.CancelPending ∷ []) y.state ≡ true → y.last_cancel ≡ Some c → requester.is_open x c ≡ true
   cancel_is_waiting c is last =
       let no = waiting y.state is in
@@ -571,54 +599,62 @@ module _ (txn : Qualifiers) (x : RequesterRecord) (y : ResponderRecord) (told he
       let says = tells_cancel known.0.number c known.0.body known.2 in
       let number = sym (message_number x.txn x.issued at.0 known.0 borrower.rules.numbered at.1).1 ∙ says.1 in
       let issued_it : was is_cancel x.issued c ≡ true = ap (is_there is_cancel) (ap (message x.issued) (sym number) ∙ at.1) ∙ says.0 in
-      is_true _ (λ closed.
+      true_from_ne_false _ (λ closed.
       let refused = borrower.knows (requester.Refused c) (issued_it, neither x.state (unsupplied_alike ∙ no.2) (later_alike ∙ no.4), closed) in
       let there = issued refused.0 refused.1 in
       not_below c y.last_cancel last (all_found (λ a. answered_number MayCancel a.body) (λ n. is_below n y.last_cancel) y.issued there.0 refused.0 c (lender.cancels.below is) there.1
       (ap (answered_number MayCancel) (tells_refused refused.0.body c refused.2))))
 
+  -- The requester is in CANCEL-PENDING if the responder is.
   waits_here : is_among (states.CancelPending ∷ []) y.state ≡ true → is_among (states.CancelPending ∷ []) x.state ≡ true
   waits_here is =
       let no = waiting y.state is in
-      let last = some_of y.last_cancel (second _ _ lender.rules.parts.cancel no.5) in
+      let last = some_of y.last_cancel (implied _ _ lender.rules.parts.cancel no.5) in
       waits_left x.state (and_parts _ _ (cancel_is_waiting last.0 is last.1)).0 (cancelled_alike ∙ no.1)
 
+  -- The requester is in CANCEL-PENDING exactly if the responder is.
   waits_alike : is_among (states.CancelPending ∷ []) x.state ≡ is_among (states.CancelPending ∷ []) y.state
   waits_alike = alike _ _ waits_there waits_here
 
   -- ---- RETURNED
 
+  -- The responder is in RETURNED or CHECKED-IN if the requester is in RETURNED.
   returned_there : is_among (states.Returned ∷ []) x.state ≡ true → is_among (states.Returned ∷ states.CheckedIn ∷ []) y.state ≡ true
   returned_there is =
-      let at = has_message is_returned x.issued (borrower.rules.issued.returned ∙ is) in
+      let at = says_message is_returned x.issued (borrower.rules.issued.returned ∙ is) in
       returned_left y.state (sym later_alike ∙ returned_is_out x.state is) (returned_heard y at.1.number at.1.body at.3 (hear.responder at.0 at.1 at.2))
 
+  -- The requester is in RETURNED if the responder is in RETURNED or CHECKED-IN.
   returned_here : is_among (states.Returned ∷ states.CheckedIn ∷ []) y.state ≡ true → is_among (states.Returned ∷ []) x.state ≡ true
   returned_here is = ap (is_among (states.Returned ∷ [])) ((says_true txn x y told heard borrower lender issued heeded).returned is)
 
+  -- The requester is in RETURNED exactly if the responder is in RETURNED or CHECKED-IN.
   returned_alike : is_among (states.Returned ∷ []) x.state ≡ is_among (states.Returned ∷ states.CheckedIn ∷ []) y.state
   returned_alike = alike _ _ returned_there returned_here
 
   -- ---- RECALL
 
+  -- The responder is in RECALL if the requester is.
   recalled_there : is_among (states.Recall ∷ []) x.state ≡ true → is_among (states.Recall ∷ []) y.state ≡ true
   recalled_there is =
       let no = recalled_is_out x.state is in
       let known = borrower.notices notices.Recalled no.0 in
       recall_left y.state (lender.recall.after (has_issued y.issued told is_recall known.0 issued known.1 (attests_recall known.0.number known.0.body known.2))) (sym returned_alike ∙ no.3)
 
+  -- The requester is in RECALL if the responder is.
   recalled_here : is_among (states.Recall ∷ []) y.state ≡ true → is_among (states.Recall ∷ []) x.state ≡ true
   recalled_here is =
       let no = recalled_is_out y.state is in
-      let at = has_message is_recall y.issued (lender.recall.issued is) in
+      let at = says_message is_recall y.issued (lender.recall.issued is) in
       recall_at x.state (later_alike ∙ no.2) (returned_alike ∙ no.4) (recall_heard x at.1.number at.1.body at.3 (hear.requester at.0 at.1 at.2 (recall_is_plain at.1.body at.3)))
 
+  -- The requester is in RECALL exactly if the responder is.
   recalled_alike : is_among (states.Recall ∷ []) x.state ≡ is_among (states.Recall ∷ []) y.state
   recalled_alike = alike _ _ recalled_there recalled_here
 
   -- ---- RENEW/PENDING and RENEW/OVERDUE
 
-  -- A Renew that waits was not answered yes: the date of such an answer is after every date that was granted before.
+  -- The responder has granted no Renew that waits.
   not_granted : (n : ℕ) (due granted : Date) (i : ℕ) (a : Apdu) → 0 < n → awaits x n ≡ true → x.due ≡ Some due → message y.issued i ≡ Some a → a.body ≡ types.RenewAnswer n (Some granted) → ⊥
   not_granted n due granted i a some waits is at body =
       let known = borrower.notices (notices.GrantedBefore n due) (is, inl waits) in
@@ -626,7 +662,7 @@ module _ (txn : Qualifiers) (x : RequesterRecord) (y : ResponderRecord) (told he
       let before = attests_grant known.0.number n due known.0.body some known.2 in
       let rises = lender.grants there.0 i before.0 n known.0 a due granted there.1 at before.1 (ap grant_of body) before.2 in
       let unheard : not (awaits x n && is_after_due granted x.due) ≡ true = ap (notices.has_heard x a.number) (sym body) ∙ hear.requester i a at (ap names_conditions body) in
-      not_both _ rises (subst (λ o. is_after_due granted o ≡ false) is (second_false _ _ (not_true _ unheard) waits))
+      both_ways _ (subst (λ o. is_after_due granted o ≡ false) is (second_false _ _ (not-true _ unheard) waits)) rises
 
   -- No Renew waits that the responder has answered.
   renew_answered : (n : ℕ) (due : Date) → 0 < n → awaits x n ≡ true → x.due ≡ Some due → Finds (λ a. answered_number MayRenew a.body) y.issued n → ⊥
@@ -635,28 +671,31 @@ module _ (txn : Qualifiers) (x : RequesterRecord) (y : ResponderRecord) (told he
       go : (granted : Option Date) × (a.body ≡ types.RenewAnswer n granted) → ⊥
       go (None, body) =
           let unheard : not (awaits x n) ≡ true = ap (notices.has_heard x a.number) (sym body) ∙ hear.requester i a at (ap names_conditions body) in
-          not_both _ waits (not_true _ unheard)
+          both_ways _ (not-true _ unheard) waits
       go (Some granted, body) = not_granted n due granted i a some waits is at body
 
+  -- The number of a message is not 0.
   message_some : (apdus : List Apdu) (n : ℕ) (a : Apdu) → message apdus n ≡ Some a → 0 < n
   message_some apdus zero a at = search rules
   message_some apdus (suc n) a at = omega arith
 
+  -- A responder in SHIPPED or OVERDUE faces no requester with a waiting Renew.
   not_settled : is_among (states.RenewPending ∷ states.RenewOverdue ∷ []) x.state ≡ true → is_among (states.Shipped ∷ states.Overdue ∷ []) y.state ≡ true → ⊥
   not_settled is settled =
       let due = some_of x.due (borrower.rules.parts.due ∙ (renewing x.state is).0) in
-      let own = has_last is_renew None x.issued (second _ _ borrower.rules.issued.renew is) in
+      let own = has_last is_renew None x.issued (implied _ _ borrower.rules.issued.renew is) in
       let there = was_last is_renew x.txn x.issued own.0 borrower.rules.numbered own.1 in
       let heard_it = most there.0.number y.last_renew (renew_heard y there.0.number there.0.body there.2 (hear.responder own.0 there.0 there.1) settled) in
       let not_after = asked_last MayRenew is_renew heard_it.0 own.0 (λ body asks. asks) heard_it.1 own.1 in
       let same : heard_it.0 ≡ own.0 = omega (arith, not_after, heard_it.2, there.3) in
-      renew_answered own.0 due.0 (message_some x.issued own.0 there.0 there.1) (both _ _ is (itself own.0 (last_renew x) own.1)) due.1
+      renew_answered own.0 due.0 (message_some x.issued own.0 there.0 there.1) (and_from _ _ is (itself own.0 (last_renew x) own.1)) due.1
       (answer_to MayRenew own.0 (heard_it.1 ∙ ap Some same) (settled_answers y.state settled))
 
+  -- A Renew waits at the responder if one waits at the requester.
   renew_there : is_among (states.RenewPending ∷ states.RenewOverdue ∷ []) x.state ≡ true → is_among (states.RenewPending ∷ states.RenewOverdue ∷ []) y.state ≡ true
   renew_there is =
       let no = renewing x.state is in
-      renew_left y.state (sym later_alike ∙ no.0) (sym recalled_alike ∙ no.2) (sym returned_alike ∙ no.3) (is_false _ (not_settled is))
+      renew_left y.state (sym later_alike ∙ no.0) (sym recalled_alike ∙ no.2) (sym returned_alike ∙ no.3) (false_from_ne_true _ (not_settled is))
 
   -- A Renew that waits at the responder waits at the requester.
   renew_is_waiting : (n : ℕ) → is_among (states.RenewPending ∷ states.RenewOverdue ∷ []) y.state ≡ true → y.last_renew ≡ Some n → awaits x n ≡ true
@@ -667,24 +706,26 @@ module _ (txn : Qualifiers) (x : RequesterRecord) (y : ResponderRecord) (told he
       let at = heeded asked.0 asked.1 in
       let number = sym (message_number x.txn x.issued at.0 asked.0 borrower.rules.numbered at.1).1 ∙ asked.3 in
       let issued_it : was is_renew x.issued n ≡ true = ap (is_there is_renew) (ap (message x.issued) (sym number) ∙ at.1) ∙ asked.2 in
-      is_true _ (λ over.
+      true_from_ne_false _ (λ over.
       let not_past : is_due_after due.0 x.due ≡ false = subst (λ o. is_due_after due.0 o ≡ false) (sym due.1) (itself_not_before due.0) in
       let known = borrower.notices (notices.Answered n due.0) (issued_it, either_gone x.state (recalled_alike ∙ no.2) (returned_alike ∙ no.4), over, not_past) in
       let there = issued known.0 known.1 in
       not_below n y.last_renew last (all_found (λ a. answered_number MayRenew a.body) (λ k. is_below k y.last_renew) y.issued there.0 known.0 n (lender.renewals.below is) there.1
       (attests_answered known.0.number n due.0 known.0.body known.2)))
 
+  -- A Renew waits at the requester if one waits at the responder.
   renew_here : is_among (states.RenewPending ∷ states.RenewOverdue ∷ []) y.state ≡ true → is_among (states.RenewPending ∷ states.RenewOverdue ∷ []) x.state ≡ true
   renew_here is =
-      let last = some_of y.last_renew (second _ _ lender.rules.parts.renew is) in
+      let last = some_of y.last_renew (implied _ _ lender.rules.parts.renew is) in
       (and_parts _ _ (renew_is_waiting last.0 is last.1)).0
 
+  -- A Renew waits at the requester exactly if one waits at the responder.
   renew_alike : is_among (states.RenewPending ∷ states.RenewOverdue ∷ []) x.state ≡ is_among (states.RenewPending ∷ states.RenewOverdue ∷ []) y.state
   renew_alike = alike _ _ renew_there renew_here
 
   -- ---- due dates
 
-  -- The answer to a Renew that does not wait grants no date after the due date.
+  -- The answer to a Renew grants no date after the due date of the requester.
   answer_not_after : (c : ℕ) (due granted : Date) (j : ℕ) (b : Apdu) → x.due ≡ Some due → is_among (states.Recall ∷ states.Returned ∷ []) x.state ≡ false → message y.issued j ≡ Some b
       → b.body ≡ types.RenewAnswer c (Some granted) → is_before due granted ≡ false
   answer_not_after c due granted j b is out_there at body =
@@ -694,7 +735,7 @@ module _ (txn : Qualifiers) (x : RequesterRecord) (y : ResponderRecord) (told he
       let number = sym (message_number x.txn x.issued own.0 asked.0 borrower.rules.numbered own.1).1 ∙ asked.3 in
       let there : message x.issued c ≡ Some asked.0 = ap (message x.issued) (sym number) ∙ own.1 in
       let issued_it : was is_renew x.issued c ≡ true = ap (is_there is_renew) there ∙ asked.2 in
-      let over : awaits x c ≡ false = is_false _ (λ waits. renew_answered c due (message_some x.issued c asked.0 there) waits is (j, b, at, answers)) in
+      let over : awaits x c ≡ false = false_from_ne_true _ (λ waits. renew_answered c due (message_some x.issued c asked.0 there) waits is (j, b, at, answers)) in
       let not_past : is_due_after due x.due ≡ false = subst (λ o. is_due_after due o ≡ false) (sym is) (itself_not_before due) in
       let known = borrower.notices (notices.Answered c due) (issued_it, out_there, over, not_past) in
       let told_at = issued known.0 known.1 in
@@ -713,9 +754,9 @@ module _ (txn : Qualifiers) (x : RequesterRecord) (y : ResponderRecord) (told he
       go (inl first) (inl last) =
           let one = one_end y.txn y.issued j b lender.rules.numbered (omega (arith, lender.ends.once, at_most_one (is_among responder.ended y.state))) at_j (ap is_end last) in
           let two = one_end y.txn y.issued i a lender.rules.numbered (omega (arith, lender.ends.once, at_most_one (is_among responder.ended y.state))) at_i (ap is_end first) in
-          let place : i ≡ j = some_same i j (sym two ∙ one) in
+          let place : i ≡ j = same_Some i j (sym two ∙ one) in
           let same : ◌≡◌ {A = Option Apdu} (Some a) (Some b) = sym at_i ∙ ap (message y.issued) place ∙ at_j in
-          let dates : due ≡ granted = some_date due granted (sym is_a ∙ ap (λ (o : Apdu). grant_in o.body) (same_apdu a b same) ∙ is_b) in
+          let dates : due ≡ granted = same_Some due granted (sym is_a ∙ ap (λ (o : Apdu). grant_in o.body) (same_apdu a b same) ∙ is_b) in
           subst (λ d. is_before due d ≡ false) dates (itself_not_before due)
       go (inr (c, body)) (inl last) =
           let answers : answered_number MayRenew a.body ≡ Some c = ap (answered_number MayRenew) body in
@@ -723,18 +764,20 @@ module _ (txn : Qualifiers) (x : RequesterRecord) (y : ResponderRecord) (told he
           let own = heeded asked.0 asked.1 in
           let number = sym (message_number x.txn x.issued own.0 asked.0 borrower.rules.numbered own.1).1 ∙ asked.3 in
           let some : 0 < c = subst (λ k. 0 < k) number (message_some x.issued own.0 asked.0 own.1) in
-          absurd (not_both _ (lender.grants j i 0 c b a granted due at_j at_i (ap grant_of last) (ap grant_of body) some) not_earlier)
+          absurd (both_ways _ not_earlier (lender.grants j i 0 c b a granted due at_j at_i (ap grant_of last) (ap grant_of body) some))
 
+  -- The due dates of both are equal if the requester is in neither RECALL nor RETURNED.
   same_due : is_among (states.Recall ∷ states.Returned ∷ []) x.state ≡ false → x.due ≡ due_of y
   same_due out_there = go x.due refl
     where
+      -- The responder has granted no date if the requester has none.
       nothing : (o : Option Date) → due_of y ≡ o → x.due ≡ None → None ≡ o
       nothing None e is = refl
       nothing (Some d) e is =
           let found = finds_last granted_day y.issued d e in
           let shipped : has is_shipped y.issued ≡ true = grants_shipped y.issued found.0 found.1 d lender.rules.ships_first found.2 found.3 in
           let not_some : is_some x.due ≡ true = borrower.rules.parts.due ∙ (later_alike ∙ (sym lender.ends.shipped ∙ shipped)) in
-          absurd (not_both _ not_some (ap is_some is))
+          absurd (both_ways _ (ap is_some is) not_some)
 
       go : (o : Option Date) → x.due ≡ o → x.due ≡ due_of y
       go None is = is ∙ nothing (due_of y) refl is
@@ -749,6 +792,7 @@ module _ (txn : Qualifiers) (x : RequesterRecord) (y : ResponderRecord) (told he
 
   -- ---- overdue
 
+  -- The responder is overdue if the requester is.
   overdue_there : is_among (states.NotReceivedOverdue ∷ states.Overdue ∷ states.RenewOverdue ∷ []) x.state ≡ true → is_among (states.Overdue ∷ states.RenewOverdue ∷ []) y.state ≡ true
   overdue_there is =
       let late = overdue_is_out x.state is in
@@ -758,25 +802,27 @@ module _ (txn : Qualifiers) (x : RequesterRecord) (y : ResponderRecord) (told he
       let its : due_of y ≡ Some due.0 = sym (same_due late.1) ∙ due.1 in
       overdue_left y.state (lender.overdue.after due.0 its (has_issued y.issued told (is_overdue_of due.0) known.0 issued known.1 of_due)) (sym recalled_alike ∙ late.2) (sym returned_alike ∙ late.3)
 
+  -- The requester is overdue if the responder is.
   overdue_here : is_among (states.Overdue ∷ states.RenewOverdue ∷ []) y.state ≡ true → is_among (states.NotReceivedOverdue ∷ states.Overdue ∷ states.RenewOverdue ∷ []) x.state ≡ true
   overdue_here is =
       let late = late_is_out y.state is in
       let out_there = either_gone x.state (recalled_alike ∙ late.1) (returned_alike ∙ late.2) in
       let due = some_of x.due (borrower.rules.parts.due ∙ (later_alike ∙ late.0)) in
       let its : due_of y ≡ Some due.0 = sym (same_due out_there) ∙ due.1 in
-      let at = has_message (is_overdue_of due.0) y.issued (lender.overdue.issued due.0 its is) in
+      let at = says_message (is_overdue_of due.0) y.issued (lender.overdue.issued due.0 its is) in
       overdue_at x.state (later_alike ∙ late.0) (recalled_alike ∙ late.1) (returned_alike ∙ late.2)
       (overdue_heard x at.1.number due.0 at.1.body at.3 due.1 (hear.requester at.0 at.1 at.2 (overdue_is_plain due.0 at.1.body at.3)))
 
+  -- The requester is overdue exactly if the responder is.
   overdue_alike : is_among (states.NotReceivedOverdue ∷ states.Overdue ∷ states.RenewOverdue ∷ []) x.state ≡ is_among (states.Overdue ∷ states.RenewOverdue ∷ []) y.state
   overdue_alike = alike _ _ overdue_there overdue_here
 
   -- ---- CONDITIONAL
 
-  -- The conditions that wait were not accepted.
+  -- A responder in CONDITIONAL faces no requester in PENDING.
   not_accepted : is_among (states.Conditional ∷ []) y.state ≡ true → is_among (states.Pending ∷ []) x.state ≡ true → ⊥
   not_accepted is pending =
-      let at = last_names y.issued (second _ _ lender.rules.issued.conditions is) in
+      let at = last_names y.issued (implied _ _ lender.rules.issued.conditions is) in
       let number = message_number y.txn y.issued (length y.issued) at.0 lender.rules.numbered at.1 in
       let heard_it = most at.0.number (accepted_number x) (conditions_heard x at.0.number at.0.body at.2 (hear.last at.0 at.1) pending) in
       let named = borrower.notices (notices.Named heard_it.0) (inr heard_it.1) in
@@ -785,16 +831,18 @@ module _ (txn : Qualifiers) (x : RequesterRecord) (y : ResponderRecord) (told he
       let within = message_within y.issued there.0 named.0 there.1 in
       let same : heard_it.0 ≡ length y.issued = omega (arith, heard_it.2, number.1, its.1, within, attests_named named.0.number heard_it.0 named.0.body named.2) in
       let yes = finds_last accepted_in x.issued heard_it.0 heard_it.1 in
-      not_both _ (waits_outstanding y heard_it.0 is same at.1) (yes_heard y yes.1.number heard_it.0 yes.1.body yes.3 (hear.responder yes.0 yes.1 yes.2))
+      both_ways _ (yes_heard y yes.1.number heard_it.0 yes.1.body yes.3 (hear.responder yes.0 yes.1 yes.2)) (waits_outstanding y heard_it.0 is same at.1)
 
+  -- The requester is in CONDITIONAL if the responder is.
   conditions_here : is_among (states.Conditional ∷ []) y.state ≡ true → is_among (states.Conditional ∷ []) x.state ≡ true
   conditions_here is =
       let no = conditional y.state is in
       conditional_left x.state borrower.rules.parts.role (idle_alike ∙ no.0) (cancelled_alike ∙ no.1) (unsupplied_alike ∙ no.2) (waits_alike ∙ no.3) (later_alike ∙ no.4)
-      (is_false _ (not_accepted is))
+      (false_from_ne_true _ (not_accepted is))
 
   -- ---- in step
 
+  -- The states of both fit each other.
   states_fit : StatesFit x.state y.state
   states_fit = record {
     role = borrower.rules.parts.role;
@@ -811,29 +859,33 @@ module _ (txn : Qualifiers) (x : RequesterRecord) (y : ResponderRecord) (told he
     conditions = conditions_here;
   }
 
+  -- The state of the requester faces that of the responder.
   face : is_among (faced_in x.state) y.state ≡ true
   face = fits_face x.state y.state states_fit
 
+  -- No conditions stand that were declined.
   not_declined : is_declined x ≡ true → ⊥
   not_declined is =
       let parts = and_parts _ _ is in
-      let at = has_message declines x.issued parts.1 in
+      let at = says_message declines x.issued parts.1 in
       let is_open = open_left x.state y.state parts.0 face in
       let used = no_heard y at.1.number at.1.body at.3 (hear.responder at.0 at.1 at.2) is_open in
-      not_both _ (le-leb _ _ (hear.can_answer is_open)) used
+      both_ways _ used (le-leb _ _ (hear.can_answer is_open))
 
+  -- A responder that has shipped has the received mark exactly if a Received was issued.
   marked : is_among shipped_states y.state ≡ true → y.received ≡ is_received_by x
   marked is =
       alike _ _ (says_true txn x y told heard borrower lender issued heeded).received (λ has_it.
-      let at = has_message is_received x.issued has_it in
+      let at = says_message is_received x.issued has_it in
       received_heard y at.1.number at.1.body at.3 (hear.responder at.0 at.1 at.2) is)
 
+  -- The requester has the checked-in mark exactly if the responder is in CHECKED-IN.
   checked : x.checked_in ≡ is_among (states.CheckedIn ∷ []) y.state
   checked =
       alike _ _ (λ is. ap (is_among (states.CheckedIn ∷ [])) ((says_true txn x y told heard borrower lender issued heeded).checked_in is)) (λ is.
-      let at = has_message is_checked_in y.issued (lender.rules.issued.checked_in ∙ is) in
+      let at = says_message is_checked_in y.issued (lender.rules.issued.checked_in ∙ is) in
       checked_in_heard x at.1.number at.1.body at.3 (hear.requester at.0 at.1 at.2 (checked_in_is_plain at.1.body at.3)) (returned_alike ∙ home_is_back y.state is))
 
   -- The two records are in step.
   pub in_step : InStep x y
-  in_step = record { faced = face; undeclined = is_false _ not_declined; received = marked; checked_in = checked; due = same_due }
+  in_step = record { faced = face; undeclined = false_from_ne_true _ not_declined; received = marked; checked_in = checked; due = same_due }

@@ -13,7 +13,7 @@ use Rattle.ill_saved.specs.declared.role.Role.TheVariants as who
 use Rattle.ill_world.specs.declared.event.Event.{Event}
 use Rattle.ill_world.specs.declared.event.Event.TheVariants as events
 use Rattle.ill_world.specs.World.{Party, Parties, party, saves, sends, receives, sent_message, with_sent, happens, run_of, run_by}
-use Rattle.std.specs.Prelude.{IsErr}
+use Rattle.std.specs.Prelude.{IsErr, OnOk}
 use Rattle.ill_world.specs.Play.{IsFront}
 use Rattle.ill_world.specs.Round.{passes_on, half_of, round_of, Performs}
 use Rattle.ill_world.proofs.Runs.{run_both}
@@ -163,18 +163,24 @@ passes_none before of n (suc count) none = absurd (omega (arith, none))
 
 -- ---- events that are performed
 
--- Where memory ran out, the first events of some were performed.
-pub performs_front : {M : Type 0} (events first : List Event) (old new : Parties) (result : Result (Unit {0}) M) → IsErr result → IsFront first events → new ≡ run_of old first → Performs events old result new
-performs_front events first old new (Ok done) failed front is = search rules
-performs_front events first old new (Err memory) failed front is = (first, front, is)
+module _ {W E O M : Type 0} (happening : W → E → O × W) where
+  -- Events are performed if memory ran out and the first of them have led here.
+  pub performs_front : (events first : List E) (old new : W) (result : Result (Unit {0}) M) → IsErr result → IsFront first events → new ≡ run_by happening old first → Performs (run_by happening) events old result new
+  performs_front events first old new (Ok done) failed front is = search rules
+  performs_front events first old new (Err memory) failed front is = (first, front, is)
 
--- What is performed behind other events is performed with them.
-pub performs_both : {M : Type 0} (first second : List Event) (old between new : Parties) (result : Result (Unit {0}) M) → between ≡ run_of old first → Performs second between result new
-    → Performs (first ++ second) old result new
-performs_both first second old between new (Ok done) led performs = performs ∙ ap (λ w. run_of w second) led ∙ sym (run_both happens old first second)
-performs_both first second old between new (Err memory) led (some, front, is) =
-    (first ++ some, (front.0, ap (λ l. first ++ l) front.1 ∙ sym (append_assoc first some front.0)), is ∙ ap (λ w. run_of w some) led ∙ sym (run_both happens old first some))
+  -- Events that are performed behind others are performed together with these.
+  pub performs_both : (first second : List E) (old between new : W) (result : Result (Unit {0}) M) → between ≡ run_by happening old first → Performs (run_by happening) second between result new
+      → Performs (run_by happening) (first ++ second) old result new
+  performs_both first second old between new (Ok done) led performs = performs ∙ ap (λ w. run_by happening w second) led ∙ sym (run_both happening old first second)
+  performs_both first second old between new (Err memory) led (some, front, is) =
+      (first ++ some, (front.0, ap (λ l. first ++ l) front.1 ∙ sym (append_assoc first some front.0)), is ∙ ap (λ w. run_by happening w some) led ∙ sym (run_both happening old first some))
+
+  -- A fact of the world that events lead to holds after they were performed.
+  pub performed : (P : W → Type 0) (events : List E) (old new : W) (result : Result (Unit {0}) M) → Performs (run_by happening) events old result new → P (run_by happening old events) → OnOk result (P new)
+  performed P events old new (Ok done) performs there = subst P (sym performs) there
+  performed P events old new (Err memory) performs there = tt
 
 -- The first events of some are the first of more.
-pub front_further : (first events more : List Event) → IsFront first events → IsFront first (events ++ more)
+pub front_further : {E : Type 0} (first events more : List E) → IsFront first events → IsFront first (events ++ more)
 front_further first events more front = (front.0 ++ more, ap (λ l. l ++ more) front.1 ∙ append_assoc first front.0 more)

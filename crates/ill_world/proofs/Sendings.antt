@@ -1,12 +1,11 @@
 -- What a party has sent, issued and saved.
-use Rattle.std.proofs.Common.{rules, arith, ◌≡◌, ◌⊎◌, inl, inr, ℕ, zero, suc, ◌+◌, ◌≤◌, Bool, true, false, ◌||◌, nat_le, List, [], ◌∷◌, ◌++◌, length, Option, Some, None, refl, sym, ap, ◌∙◌, subst, append_assoc, append-nil, length-append}
+use Rattle.std.proofs.Common.{rules, arith, ◌≡◌, ◌⊎◌, inl, inr, ℕ, zero, suc, ◌+◌, ◌≤◌, Bool, true, false, nat_le, List, [], ◌∷◌, ◌++◌, length, Option, Some, None, refl, sym, ap, ◌∙◌, subst, append_assoc, append-nil, length-append}
 use Rattle.std.specs.Prelude.{slice_get}
 use Rattle.std.specs.List.{slice_set}
 use Rattle.std.specs.Option.{option_flatten}
 use Rattle.std.proofs.lemmas.Bool.{leb-true}
 use Rattle.ill_values.specs.declared.apdu.Apdu.{Apdu}
-use Rattle.ill_values.specs.declared.apdu.Body.{Body}
-use Rattle.ill_core.specs.Issued.{message, has}
+use Rattle.ill_core.specs.Issued.{message}
 use Rattle.ill_saved.specs.declared.side.Side.{Side}
 use Rattle.ill_saved.specs.Side.{issued_of, IsFrontOf}
 use Rattle.ill_world.specs.World.{Party, sent_message, with_sent, saves, fails_to_save, restarts, sends}
@@ -71,17 +70,6 @@ front_is_shorter a b is = omega (arith, ap length is.1, length-append a is.0)
 
 some_is : (a b : Apdu) → ◌≡◌ {A = Option Apdu} (Some a) (Some b) → a ≡ b
 some_is a b e = search rules
-
-or_true : (b : Bool) → (b || true) ≡ true
-or_true true = refl
-or_true false = refl
-
--- a message is one of those that were issued
-pub message_has : (says : Body → Bool) (apdus : List Apdu) (n : ℕ) (a : Apdu) → message apdus n ≡ Some a → says a.body ≡ true → has says apdus ≡ true
-message_has says apdus zero a e is = search rules
-message_has says [] (suc n) a e is = search rules
-message_has says (b ∷ apdus) (suc zero) a e is = ap (λ (r : Bool). r || has says apdus) (subst (λ (x : Apdu). says x.body ≡ true) (sym (some_is b a e)) is)
-message_has says (b ∷ apdus) (suc (suc n)) a e is = ap (λ (r : Bool). says b.body || r) (message_has says apdus (suc n) a e is) ∙ or_true (says b.body)
 
 -- ---- a party
 

@@ -3,13 +3,13 @@ use Rattle.std.proofs.Common.{rules, arith, ◌≡◌, ℕ, zero, suc, ◌+◌, 
 use Rattle.std.specs.Prelude.{slice_get}
 use Rattle.std.specs.List.{list_any, filter_map, cons_option, last_or, count_by}
 use Rattle.std.proofs.lemmas.List.Sums.{sum_by-cons}
-use Rattle.std.proofs.lemmas.Bool.{and_parts, eq-eqb, eqb-true}
+use Rattle.std.proofs.lemmas.Bool.{and_parts, or_right, eq-eqb, eqb-true}
 use Rattle.ill_values.specs.TxnId.{Qualifiers}
 use Rattle.ill_values.specs.declared.apdu.Apdu.{Apdu}
 use Rattle.ill_values.specs.declared.apdu.Body.{Body}
 use Rattle.ill_core.specs.Bodies.{is_end}
 use Rattle.ill_core.specs.Numbers.{are_distinct}
-use Rattle.ill_core.specs.Issued.{message, has, last_of, number_of_end, are_numbered, is_same_txn}
+use Rattle.ill_core.specs.Issued.{message, last_of, number_of_end, are_numbered, is_same_txn}
 use Rattle.ill_world.specs.Agreement.{AnswersOnce}
 
 -- ---- numbers
@@ -32,13 +32,9 @@ message_number txn apdus (suc i) a numbered e = let at = at_number txn 1 apdus i
 
 -- ---- answers
 
-or_true : (b : Bool) → (b || true) ≡ true
-or_true true = refl
-or_true false = refl
-
 found_tail : (o : Option ℕ) (ks : List ℕ) (k : ℕ) → list_any (λ m. m == k) ks ≡ true → list_any (λ m. m == k) (cons_option o ks) ≡ true
 found_tail None ks k is = is
-found_tail (Some m) ks k is = ap (λ (r : Bool). (m == k) || r) is ∙ or_true (m == k)
+found_tail (Some m) ks k is = or_right (m == k) _ is
 
 found_head : (o : Option ℕ) (ks : List ℕ) (k : ℕ) → o ≡ Some k → list_any (λ m. m == k) (cons_option o ks) ≡ true
 found_head o ks k is = subst (λ x. list_any (λ m. m == k) (cons_option x ks) ≡ true) (sym is) (ap (λ (r : Bool). r || list_any (λ m. m == k) ks) (eq-eqb k k refl))
@@ -127,18 +123,3 @@ pub one_end : (txn : Qualifiers) (apdus : List Apdu) (n : ℕ) (a : Apdu) → ar
     → last_of number_of_end apdus ≡ Some n
 one_end txn apdus zero a numbered most e is = search rules
 one_end txn apdus (suc i) a numbered most e is = one_last apdus i a None most e is ∙ ap Some (message_number txn apdus (suc i) a numbered e).1
-
--- ---- what is among them
-
-here_or_there : (says : Body → Bool) (apdus : List Apdu) → has says apdus ≡ true → (i : ℕ) × (a : Apdu) × (slice_get apdus i ≡ Some a) × (says a.body ≡ true)
-here_or_there says [] is = search rules
-here_or_there says (b ∷ apdus) is = go (says b.body) refl is (here_or_there says apdus)
-  where
-    go : (here : Bool) → says b.body ≡ here → (here || has says apdus) ≡ true → (has says apdus ≡ true → (i : ℕ) × (a : Apdu) × (slice_get apdus i ≡ Some a) × (says a.body ≡ true))
-        → (i : ℕ) × (a : Apdu) × (slice_get (b ∷ apdus) i ≡ Some a) × (says a.body ≡ true)
-    go true e is there = (0, b, refl, e)
-    go false e is there = let at = there is in (suc at.0, at.1, at.2, at.3)
-
--- there is a message that says so
-pub has_message : (says : Body → Bool) (apdus : List Apdu) → has says apdus ≡ true → (n : ℕ) × (a : Apdu) × (message apdus n ≡ Some a) × (says a.body ≡ true)
-has_message says apdus is = let at = here_or_there says apdus is in (suc at.0, at.1, at.2, at.3)

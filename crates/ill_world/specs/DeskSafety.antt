@@ -15,6 +15,7 @@ use Rattle.ill_world.specs.declared.event.DeskOutcome.{DeskOutcome}
 use Rattle.ill_world.specs.declared.event.DeskOutcome.TheVariants.{Plain}
 use Rattle.ill_world.specs.World.{sent_message, first_world, run_of}
 use Rattle.ill_world.specs.Desks.{DeskParty, DeskParties, first_desks, sent_for, desks_happen, desks_run, project, events_for}
+use Rattle.ill_world.specs.DeskCounts.{DesksCount}
 use Rattle.ill_world.specs.Safety.{Safe}
 use Rattle.ill_world.specs.Agreement.{Agrees, Settles, settled_by}
 use Rattle.ill_world.specs.Invariant.{Stands}
@@ -25,10 +26,12 @@ use Rattle.ill_world.specs.Invariant.{Stands}
 abbrev pub IsDeskOf : Who → DeskParty → Type 0
 IsDeskOf role p = (p.live.role ≡ role) × (p.landed.role ≡ role)
 
--- Each desk is of its role, and what both show of each transaction stands.
+-- Each desk is of its role and has no transaction twice, the requester's has each of the responder's, and 1,000 at
+-- most; and what both show of each transaction stands.
 pub record DesksStand (w : DeskParties) : Type 0 where
   pub requester : IsDeskOf Requester w.requester
   pub responder : IsDeskOf Responder w.responder
+  pub counts : DesksCount w
   pub each : (txn : Qualifiers) → Stands txn (project txn w)
 
 -- ---- runs

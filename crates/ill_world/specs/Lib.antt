@@ -12,11 +12,14 @@ pub mod DeskSimulation
 pub mod Safety
 pub mod Invariant
 pub mod Round
+pub mod DeskRound
+pub mod DeskCounts
 pub mod DeskSafety
 pub mod Agreement
 pub mod BadWorlds
 pub mod BadDesks
 pub mod BadTraces
+pub mod BadRounds
 pub mod Changes
 pub mod DeskChanges
 pub mod DeskView

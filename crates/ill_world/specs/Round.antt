@@ -34,10 +34,10 @@ half_of who w = Save who ∷ passes_on who 1 (length (issued_of (party w who).li
 abbrev pub round_of : Parties → List Event
 round_of w = half_of Requester w ++ half_of Responder (run_of w (half_of Requester w))
 
--- These events were performed, one after another; or memory ran out, and only the first of them were.
-abbrev pub Performs : {M : Type 0} → List Event → Parties → Result (Unit {0}) M → Parties → Type 0
-Performs events old (Ok done) new = new ≡ run_of old events
-Performs events old (Err memory) new = (first : List Event) × IsFront first events × (new ≡ run_of old first)
+-- Events were performed, one after another, that lead on by a run; or memory ran out, and only the first of them were.
+abbrev pub Performs : {W E M : Type 0} → (W → List E → W) → List E → W → Result (Unit {0}) M → W → Type 0
+Performs run events old (Ok done) new = new ≡ run old events
+Performs {E = E} run events old (Err memory) new = (first : List E) × IsFront first events × (new ≡ run old first)
 
 -- ---- the two records after it
 
@@ -69,7 +69,7 @@ pub record InStep (x : RequesterRecord) (y : ResponderRecord) : Type 0 where
   pub checked_in : x.checked_in ≡ is_among (states.CheckedIn ∷ []) y.state
   pub due : is_among (states.Recall ∷ states.Returned ∷ []) x.state ≡ false → x.due ≡ due_of y
 
--- So are the live records of both sides.
+-- The live records of both sides are in step.
 abbrev pub AreInStep : Parties → Type 0
 AreInStep w = Facing InStep w.requester.live w.responder.live
 

@@ -28,11 +28,13 @@ ghost use Rattle.ill_world.specs.BadDesks.{Names, IsNotReached, MissesHeld, Chan
 ghost use Rattle.ill_world.specs.BadTraces.{Leaves, IsOfNoFront};
 ghost use Rattle.ill_world.specs.Changes.{KeepsSent};
 ghost use Rattle.ill_world.specs.DeskChanges.{DeskMayChange, ReachesSide, Shows};
+ghost use Rattle.ill_world.specs.Round.{round_of, CanAnswer, AreInStep};
+ghost use Rattle.ill_world.specs.DeskRound.{desk_round_of};
 ghost use Rattle.ill_world.specs.DeskSafety.{ArrivesAt, DesksStand, IsRunOfEach, IsSafeDeskRun, IsAgreeingDeskRun};
 
 use crate::laws::{
     due_dates_stay, every_world_agrees, every_world_is_safe, few_outcomes_change,
-    one_arrival_is_enough, sent_stays_sent, world_stands,
+    one_arrival_is_enough, one_round_is_enough, sent_stays_sent, world_stands,
 };
 use ill_core::laws::{requester_is_quiet, responder_is_quiet};
 use ill_saved::laws::rows_grow;
@@ -191,18 +193,35 @@ pub fn no_bad_desk_trace_is_written()
         SimulatesDesks (Some text) (Some left) (Some []) (Some written) (Err OutOfMemory) → ⊥ }
 {}
 
-/// In no run of two desks the delivery of a message is `DeskFull`. Where two desks stand, a delivery to the
+/// Where two desks stand, the delivery of a message is never `DeskFull`, and so in no run; and a delivery to the
 /// requester's is `NotSent` in each transaction that it does not hold.
 pub fn deliveries_find_room()
-    ensures room { (events : List DeskEvent) (who : Who) (txn : Qualifiers) (n : ℕ) →
+    ensures room { (w : DeskParties) (who : Who) (txn : Qualifiers) (n : ℕ) → DesksStand w →
+        (desks_happen w (Deliver who txn n)).0 ≡ DeskFull → ⊥ }
+    ensures run { (events : List DeskEvent) (who : Who) (txn : Qualifiers) (n : ℕ) →
         (desks_happen (desks_run first_desks events) (Deliver who txn n)).0 ≡ DeskFull → ⊥ }
     ensures unheld { (w : DeskParties) (txn : Qualifiers) (n : ℕ) → DesksStand w →
         found_by txn_held txn w.requester.live.held ≡ None →
         (desks_happen w (Deliver Requester txn n)).0 ≡ Plain NotSent }
 {
-    rows_grow();
     desks_stand();
     desks_reach_what_they_hold();
+}
+
+/// A round of two desks is a round of both sides in each transaction. After it both sides are in step in each in which
+/// the responder can answer a Conditional-Reply no: where two desks stand, and so after any events of a run.
+pub fn one_desk_round_is_enough()
+    ensures each { (txn : Qualifiers) (w : DeskParties) → DesksStand w →
+        project txn (desks_run w (desk_round_of w)) ≡ run_of (project txn w) (round_of (project txn w)) }
+    ensures in_step { (txn : Qualifiers) (w : DeskParties) → DesksStand w →
+        CanAnswer (project txn w).responder.live → AreInStep (project txn (desks_run w (desk_round_of w))) }
+    ensures run { (txn : Qualifiers) (events : List DeskEvent) → let w = desks_run first_desks events in
+        CanAnswer (project txn w).responder.live → AreInStep (project txn (desks_run w (desk_round_of w))) }
+{
+    desks_stand();
+    desk_events_are_events();
+    desks_reach_what_they_hold();
+    one_round_is_enough();
 }
 
 /// A line of a script of two desks that is no `use` leaves the transaction in use as it was. Its event is

@@ -10,16 +10,19 @@ ghost use Rattle.ill_world.specs.Agreement.{KeepsDates};
 ghost use Rattle.ill_world.specs.DeskSafety.{DesksStand, ArrivesAt, IsRunOfEach, IsSafeDeskRun, IsAgreeingDeskRun};
 ghost use Rattle.ill_world.specs.PartyView.{Gives};
 ghost use Rattle.ill_world.specs.Trace.{desk_line};
+ghost use Rattle.ill_world.specs.Round.{Performs, CanAnswer, AreInStep};
+ghost use Rattle.ill_world.specs.DeskRound.{passes_side, saves_and_passes, desk_half_of, desk_round_of};
 
 use crate::desk_laws::{
     desk_events_are_events, desk_runs_are_runs, desks_stand, due_dates_stay_at_desks,
     every_desk_run_agrees, every_desk_run_is_safe, one_arrival_at_a_desk_is_enough,
+    one_desk_round_is_enough,
 };
 use crate::desk_party::{DeskParty, heard};
 use crate::event::{DeskEvent, DeskOutcome, Outcome, Who};
 use crate::trace::push_line;
-use crate::world::copy;
-use ill_saved::{Action, Sides};
+use crate::world::{copy, passes_on};
+use ill_saved::{Action, Side, Sides};
 use ill_values::{OutOfMemory, TxnId};
 use std::alloc::Global;
 use std::marker::Model;
@@ -71,6 +74,40 @@ impl DeskWorld {
         happen(&mut self.requester, &mut self.responder, alloc, event)
     }
 
+    /// Performs a round: saves the requester's desk, and sends and delivers all messages of each side that it holds, in
+    /// order; then those of the responder's desk. If memory runs out, only the first events of the round have happened.
+    ///
+    /// Then both sides of each transaction are in step, in which before the round the responder has ended the request,
+    /// or has a number left.
+    pub fn exchange(&mut self, alloc: Global) -> Result<(), OutOfMemory>
+        ensures performs { Performs model.desks_run (desk_round_of self.old) self.old result self.new }
+        ensures in_step { OnOk result ((txn : Qualifiers) →
+            CanAnswer (project txn self.old).responder.live → AreInStep (project txn self.new)) }
+    {
+        let _ = &self.requester; // makes the invariant of these desks known
+        one_desk_round_is_enough();
+        self.pass_on(alloc, Who::Requester)?;
+        self.pass_on(alloc, Who::Responder)
+    }
+
+    /// Performs half of a round: saves a desk, and sends and delivers all messages of each side that it holds, in order.
+    fn pass_on(&mut self, alloc: Global, who: Who) -> Result<(), OutOfMemory>
+        ensures { Performs model.desks_run (desk_half_of who self.old) self.old result self.new }
+    {
+        let events = half_of_desk_round(alloc, who, self.sides(who))?;
+        self.perform_all(alloc, &events)
+    }
+
+    /// Performs these events, one after another. If memory runs out, only the first of them have happened.
+    fn perform_all(&mut self, alloc: Global, events: &[DeskEvent]) -> Result<(), OutOfMemory>
+        ensures { Performs model.desks_run events.now self.old result self.new }
+    {
+        for event in events {
+            self.step(alloc, event)?;
+        }
+        Ok(())
+    }
+
     /// The sides that the requester's desk holds, as they are in memory.
     pub fn requester(&self) -> &Sides
         ensures { result.now ≡ sides_held self.now.requester.live }
@@ -83,6 +120,16 @@ impl DeskWorld {
         ensures { result.now ≡ sides_held self.now.responder.live }
     {
         self.responder.sides()
+    }
+
+    /// The sides that a desk holds, as they are in memory.
+    fn sides(&self, who: Who) -> &Sides
+        ensures { result.now ≡ sides_held (party self.now who).live }
+    {
+        match who {
+            Who::Requester => self.requester(),
+            Who::Responder => self.responder(),
+        }
     }
 
     /// How many messages of a transaction are released at a desk: those with numbers up to this one may be
@@ -131,6 +178,37 @@ pub fn run_desks(alloc: Global, events: &[DeskEvent]) -> Result<DeskWorld, OutOf
         world.step(alloc, event)?;
     }
     Ok(world)
+}
+
+/// The events of half of a round: a desk is saved, and all messages of each of these sides are sent and delivered.
+fn half_of_desk_round(alloc: Global, who: Who, sides: &Sides) -> Result<Vec<DeskEvent>, OutOfMemory>
+    ensures { IfOk result (λ events. events.items ≡ saves_and_passes who sides.now.sides) }
+{
+    let mut events = Vec::new(alloc);
+    events.push(DeskEvent::Save(who))?;
+    for place in 0..sides.len() {
+        let Some(side) = sides.at(place) else {
+            unreachable!()
+        };
+        push_passes(&mut events, alloc, who, side)?;
+    }
+    Ok(events)
+}
+
+/// Adds the events by which all messages of a side are sent and delivered, one after another.
+fn push_passes(
+    events: &mut Vec<DeskEvent>,
+    alloc: Global,
+    who: Who,
+    side: &Side,
+) -> Result<(), OutOfMemory>
+    ensures { OnOk result (events.new.items ≡ events.old.items ++ passes_side who side.now) }
+{
+    let passes = passes_on(alloc, who, side.issued_count())?;
+    for event in passes {
+        events.push(event.in_txn(alloc, side.txn())?)?;
+    }
+    Ok(())
 }
 
 /// Performs an event of two desks.

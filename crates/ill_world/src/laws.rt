@@ -1,17 +1,21 @@
 //! What holds of every world, as contracts of functions that do nothing.
 
-ghost use Rattle.std.specs.Prelude.{◌≡◌, ◌++◌, ◌∷◌, ℕ, List, [], Option, Some, Ok, Err, true};
+ghost use Rattle.std.specs.Prelude.{◌≡◌, ◌↔◌, ◌⊎◌, ◌++◌, ◌∷◌, ℕ, List, [], Option, Some, Ok, Err, true};
 ghost use Rattle.ill_values.specs.Day.{Date};
 ghost use Rattle.ill_values.specs.TxnId.{Qualifiers};
 ghost use Rattle.ill_values.specs.declared.apdu.Apdu.{Apdu};
 ghost use Rattle.ill_core.specs.declared.requester.Wish.{Wish};
 ghost use Rattle.ill_core.specs.declared.responder.Deed.{Deed};
+ghost use Rattle.ill_core.specs.declared.state.State.TheVariants as states;
+ghost use Rattle.ill_core.specs.declared.turn.Turn.TheVariants.{Over, Mine};
 ghost use Rattle.ill_core.specs.Requester.{RequesterRecord};
 ghost use Rattle.ill_core.specs.RequesterActions as requester_actions;
 ghost use Rattle.ill_core.specs.RequesterDeliveries as requester_deliveries;
 ghost use Rattle.ill_core.specs.Responder.{ResponderRecord};
 ghost use Rattle.ill_core.specs.ResponderActions as responder_actions;
 ghost use Rattle.ill_core.specs.ResponderDeliveries as responder_deliveries;
+ghost use Rattle.ill_core.specs.Verbs.{requester_turn, responder_turn, requester_verbs, responder_verbs};
+ghost use Rattle.ill_saved.specs.declared.role.Role.{Role as Who};
 ghost use Rattle.ill_world.specs.declared.event.Event.{Event};
 ghost use Rattle.ill_world.specs.declared.fault.SimFault.TheVariants.{Write, OutOfMemory};
 ghost use Rattle.ill_world.specs.World.{Parties, first_world, happens, run_of};
@@ -21,6 +25,7 @@ ghost use Rattle.ill_world.specs.Safety.{OfBoth, EndsAlike, WasShipped, WasGrant
 ghost use Rattle.ill_world.specs.Agreement.{Agrees, IsAgreeingRun, KeepsDates, Arrives};
 ghost use Rattle.ill_world.specs.BadWorlds.{IsUnsafe, Disagrees, TakesBack, ArrivesInVain};
 ghost use Rattle.ill_world.specs.BadTraces.{Leaves, IsOfNoFront};
+ghost use Rattle.ill_world.specs.BadRounds.{cut_round, last_unheard};
 ghost use Rattle.ill_world.specs.Changes.{MayChange, OnlyLandedChanges, KeepsSent, can_be_seen};
 ghost use Rattle.ill_world.specs.Round.{round_of, CanAnswer, AreInStep, InStep, OutOfStep};
 ghost use Rattle.ill_world.specs.Invariant.{WasSent, RequesterStands, ResponderStands, Stands};
@@ -32,7 +37,7 @@ use ill_core::laws::{
     responder_ends_once, responder_follows, responder_grants_rise, responder_has_answered_last,
     responder_has_heard, responder_is_final, responder_is_overdue, responder_is_quiet,
     responder_issues, responder_keeps_rules, responder_keeps_txn, responder_recalls,
-    responder_rules, responder_shows, responder_was_asked,
+    responder_rules, responder_shows, responder_was_asked, turns_have_verbs,
 };
 use ill_saved::laws::rows_grow;
 
@@ -170,10 +175,36 @@ pub fn one_round_is_enough()
     responder_has_heard();
 }
 
+/// A round that leaves out the last message of a side does not bring every two sides in step that a
+/// run leads to: of either side there is a world, and there a whole round does.
+#[tactic(auto, using(crate::proofs::BadRounds::cut_leaves_apart, crate::proofs::BadRounds::whole_brings_in_step))]
+pub fn no_round_may_be_cut_short()
+    ensures cut { (who : Who) →
+        AreInStep (run_of (last_unheard who) (cut_round who (last_unheard who))) → ⊥ }
+    ensures whole { (who : Who) →
+        AreInStep (run_of (last_unheard who) (round_of (last_unheard who))) }
+{}
+
 /// No two records are in step whose states do not face each other, or of which one does not know what the other does.
 pub fn no_pair_out_of_step_is_in_step()
     ensures { (x : RequesterRecord) (y : ResponderRecord) → OutOfStep x y → InStep x y → ⊥ }
 {}
+
+/// Two records in step both say that it is over, or neither does, and then one has the turn and a verb. Both have the
+/// turn only while conditions stand that were withdrawn.
+pub fn one_of_two_in_step_acts()
+    ensures over { (x : RequesterRecord) (y : ResponderRecord) → InStep x y →
+        (requester_turn x ≡ Over) ↔ (responder_turn y ≡ Over) }
+    ensures acts { (x : RequesterRecord) (y : ResponderRecord) → InStep x y →
+        (requester_turn x ≡ Over → ⊥) →
+        ((requester_turn x ≡ Mine) × (requester_verbs x ≡ [] → ⊥))
+        ⊎ ((responder_turn y ≡ Mine) × (responder_verbs y ≡ [] → ⊥)) }
+    ensures both { (x : RequesterRecord) (y : ResponderRecord) → InStep x y →
+        requester_turn x ≡ Mine → responder_turn y ≡ Mine →
+        (x.state ≡ states.Conditional) × (y.state ≡ states.InProcess) }
+{
+    turns_have_verbs();
+}
 
 /// Where the world stands, an event keeps or raises the requester's due date.
 pub fn due_dates_stay()

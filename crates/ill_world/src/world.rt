@@ -83,10 +83,10 @@ impl World {
     ///
     /// Then both sides are in step, if before the round the responder has ended the request, or has a number left.
     pub fn exchange(&mut self, alloc: Global) -> Result<(), OutOfMemory>
-        ensures performs { Performs (round_of self.old) self.old result self.new }
+        ensures performs { Performs model.run_of (round_of self.old) self.old result self.new }
         ensures in_step { OnOk result (CanAnswer self.old.responder.live → AreInStep self.new) }
     {
-        let _ = &self.requester;
+        let _ = &self.requester; // makes the invariant of this world known
         one_round_is_enough();
         self.pass_on(alloc, Who::Requester)?;
         self.pass_on(alloc, Who::Responder)
@@ -94,7 +94,7 @@ impl World {
 
     /// Performs half of a round: saves a side, and sends and delivers all its messages in order.
     fn pass_on(&mut self, alloc: Global, who: Who) -> Result<(), OutOfMemory>
-        ensures { Performs (half_of who self.old) self.old result self.new }
+        ensures { Performs model.run_of (half_of who self.old) self.old result self.new }
     {
         let count = match who {
             Who::Requester => self.requester().issued_count(),
@@ -105,7 +105,7 @@ impl World {
 
     /// Performs these events, one after another. If memory runs out, only the first of them have happened.
     fn perform_all(&mut self, alloc: Global, events: &[Event]) -> Result<(), OutOfMemory>
-        ensures { Performs events.now self.old result self.new }
+        ensures { Performs model.run_of events.now self.old result self.new }
     {
         for event in events {
             self.step(alloc, event)?;
@@ -186,6 +186,15 @@ fn half_of_round(alloc: Global, who: Who, count: u8) -> Result<Vec<Event>, OutOf
 {
     let mut events = Vec::new(alloc);
     events.push(Event::Save(who))?;
+    events.append(&mut passes_on(alloc, who, count)?)?;
+    Ok(events)
+}
+
+/// The events by which the first `count` messages of a side are sent and delivered, one after another.
+pub(crate) fn passes_on(alloc: Global, who: Who, count: u8) -> Result<Vec<Event>, OutOfMemory>
+    ensures { IfOk result (λ events. events.items ≡ passes_on who 1 count) }
+{
+    let mut events = Vec::new(alloc);
     for index in 0..count {
         let Some(number) = Number::new(index + 1) else {
             unreachable!()

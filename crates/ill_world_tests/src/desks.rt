@@ -22,6 +22,7 @@ fn desk_events(alloc: Global, name: &str) -> Option<Events> {
     let mut events = Events::new(alloc);
     match name {
         "two-loans" => two_loans(&mut events, alloc),
+        "two-losses" => two_losses(&mut events, alloc),
         "noise" => events.push(noise(alloc)),
         _ => return None,
     }
@@ -33,15 +34,28 @@ fn two_loans(events: &mut Events, alloc: Global) {
     events.push(request(alloc, FIRST, b"Maps"));
     events.push(request(alloc, SECOND, b"Atlas"));
     events.push(Some(DeskEvent::Save(Who::Requester)));
-    events.push(sent(alloc, SECOND));
+    events.push(sent(alloc, Who::Requester, SECOND));
     events.push(delivered(alloc, SECOND));
-    events.push(sent(alloc, FIRST));
+    events.push(sent(alloc, Who::Requester, FIRST));
     events.push(delivered(alloc, FIRST));
-    events.push(ship(alloc));
+    events.push(ship(alloc, FIRST));
     events.push(Some(DeskEvent::Restart(Who::Responder)));
     events.push(delivered(alloc, FIRST));
     events.push(recall(alloc));
     events.push(delivered(alloc, SECOND));
+}
+
+/// Two requests, of which one is lost, and of the other the Shipped.
+fn two_losses(events: &mut Events, alloc: Global) {
+    events.push(request(alloc, FIRST, b"Maps"));
+    events.push(request(alloc, SECOND, b"Atlas"));
+    events.push(Some(DeskEvent::Save(Who::Requester)));
+    events.push(sent(alloc, Who::Requester, FIRST));
+    events.push(sent(alloc, Who::Requester, SECOND));
+    events.push(delivered(alloc, SECOND));
+    events.push(ship(alloc, SECOND));
+    events.push(Some(DeskEvent::Save(Who::Responder)));
+    events.push(sent(alloc, Who::Responder, SECOND));
 }
 
 fn id(alloc: Global, transaction: &[u8]) -> Option<TxnId> {
@@ -54,10 +68,10 @@ fn request(alloc: Global, transaction: &[u8], item: &[u8]) -> Option<DeskEvent> 
     Some(DeskEvent::Wish(id(alloc, transaction)?, request))
 }
 
-/// The requester sends its request.
-fn sent(alloc: Global, transaction: &[u8]) -> Option<DeskEvent> {
+/// A side sends its first message.
+fn sent(alloc: Global, who: Who, transaction: &[u8]) -> Option<DeskEvent> {
     let one = Number::new(1)?;
-    Some(DeskEvent::Send(Who::Requester, id(alloc, transaction)?, one))
+    Some(DeskEvent::Send(who, id(alloc, transaction)?, one))
 }
 
 /// The request reaches the responder.
@@ -66,9 +80,9 @@ fn delivered(alloc: Global, transaction: &[u8]) -> Option<DeskEvent> {
     Some(DeskEvent::Deliver(Who::Responder, id(alloc, transaction)?, one))
 }
 
-fn ship(alloc: Global) -> Option<DeskEvent> {
+fn ship(alloc: Global, transaction: &[u8]) -> Option<DeskEvent> {
     let due = Day::new(2025, 3, 15).ok()?;
-    deed(alloc, FIRST, Deed::Ship { due })
+    deed(alloc, transaction, Deed::Ship { due })
 }
 
 fn recall(alloc: Global) -> Option<DeskEvent> {
@@ -125,6 +139,20 @@ pub fn print_desk_run(alloc: Global, page: &mut Page, name: &str) -> Option<()> 
     let printed = print_both(alloc, page, &world);
     drop(world);
     printed
+}
+
+/// Performs the events of this name as a list, and then a round, and prints both sides of each transaction.
+pub fn print_desk_exchange(alloc: Global, page: &mut Page, name: &str) -> Option<()> {
+    let events = desk_events(alloc, name)?;
+    let mut world = run_desks(alloc, events.all()?).ok()?;
+    let printed = exchange(alloc, page, &mut world);
+    drop(world);
+    printed
+}
+
+fn exchange(alloc: Global, page: &mut Page, world: &mut DeskWorld) -> Option<()> {
+    world.exchange(alloc).ok()?;
+    print_both(alloc, page, world)
 }
 
 fn print_both(alloc: Global, page: &mut Page, world: &DeskWorld) -> Option<()> {

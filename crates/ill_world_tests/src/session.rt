@@ -1,6 +1,6 @@
 //! The lines of the input, one after another.
 
-use crate::desks::{print_desk_run, print_desk_steps};
+use crate::desks::{print_desk_exchange, print_desk_run, print_desk_steps};
 use crate::page::{INDENT, Page};
 use crate::performing::{Script, Simulation, print_script, print_trace};
 use crate::places::{print_readers, print_writers};
@@ -93,6 +93,7 @@ impl Session {
             "run" => return print_run(self.alloc, answers, name),
             "desk-steps" => return print_desk_steps(self.alloc, answers, name),
             "desk-run" => return print_desk_run(self.alloc, answers, name),
+            "desk-exchange" => return print_desk_exchange(self.alloc, answers, name),
             "ending" => return print_ending(self.alloc, answers, name),
             _ => self.block = block_of(self.alloc, word)?,
         }

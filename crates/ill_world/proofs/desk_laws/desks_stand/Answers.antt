@@ -1,9 +1,15 @@
+use Rattle.std.proofs.Common.{refl}
+use Rattle.ill_world.specs.World.{who_of}
+use Rattle.ill_world.specs.Desks.{plain}
 use Rattle.ill_world.proofs.Desks.{desks_first, desks_after}
+use Rattle.ill_world.proofs.DeskCounts.{first_counts, count_at}
 use Rattle.ill_world.proofs.desk_laws.desks_stand.Goals as goal
 
 pub returns-clause-first : goal.returns-clause-first
-returns-clause-first c = desks_first c.world_stands.ensures.first
+returns-clause-first c = desks_first first_counts c.world_stands.ensures.first
 
 pub returns-clause-after : goal.returns-clause-after
 returns-clause-after c =
-    desks_after c.rows_grow.ensures (record { requester = c.requester_is_quiet.ensures; responder = c.responder_is_quiet.ensures }) c.world_stands.ensures.after
+    λ w event stands.
+    desks_after c.rows_grow.ensures (record { requester = c.requester_is_quiet.ensures; responder = c.responder_is_quiet.ensures }) c.world_stands.ensures.after w event stands
+    (count_at c.rows_grow.ensures w event stands (who_of (plain event)) refl)

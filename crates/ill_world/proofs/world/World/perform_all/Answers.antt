@@ -18,5 +18,5 @@ pub returns-in_err-step : goal.returns-in_err-step
 returns-in_err-step c =
     let events = c.args.events.now in
     let first = take c.loop-event.event-index events in
-    performs_front events first c.args.self.now c.step.new.self c.from_residual.result c.from_residual.ensures.0 (drop c.loop-event.event-index events, sym (take-append-drop c.loop-event.event-index events))
+    performs_front happens events first c.args.self.now c.step.new.self c.from_residual.result c.from_residual.ensures.0 (drop c.loop-event.event-index events, sym (take-append-drop c.loop-event.event-index events))
     (c.in_err-step.ensures.gives ∙ c.loop-event.invariant)

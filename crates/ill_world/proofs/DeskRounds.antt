@@ -1,0 +1,308 @@
+-- Why a round of two desks is a round of both sides in each transaction.
+use Rattle.std.proofs.Common.{rules, ◌≡◌, ℕ, zero, suc, ◌+◌, nat_le, nat_lt, Bool, true, false, not, cond, List, [], ◌∷◌, length, map, Option, Some, None, refl, sym, ap, ◌∙◌, subst, true≢false}
+use Rattle.std.specs.Prelude.{flat_map}
+use Rattle.std.proofs.lemmas.Bool.{or_parts}
+use Rattle.std.proofs.lemmas.Simd.{map-map}
+use Rattle.ill_values.specs.TxnId.{Qualifiers}
+use Rattle.ill_values.specs.declared.apdu.Apdu.{Apdu}
+use Rattle.ill_values.specs.declared.apdu.Body.{Body}
+use Rattle.ill_values.specs.declared.apdu.Body.TheVariants as types
+use Rattle.ill_core.specs.declared.refusal.Refusal.{Refusal}
+use Rattle.ill_core.specs.declared.state.State.TheVariants as states
+use Rattle.ill_core.specs.Answers.{unless_refused}
+use Rattle.ill_core.specs.Bodies.{is_ill_request, is_requesters}
+use Rattle.ill_core.specs.Issued.{message, is_same_txn, first_refusal}
+use Rattle.ill_core.specs.Responder.{ResponderRecord, responder_of}
+use Rattle.ill_core.specs.ResponderDeliveries.{take_message}
+use Rattle.ill_saved.specs.declared.role.Role.{Role as Who}
+use Rattle.ill_saved.specs.declared.role.Role.TheVariants as who
+use Rattle.ill_saved.specs.declared.side.Side.{Side}
+use Rattle.ill_saved.specs.declared.side.Side.TheVariants as sides
+use Rattle.ill_saved.specs.Side.{issued_of, txn_of, idle_side, other, takes}
+use Rattle.ill_saved.specs.Sides.{found_by, side_with}
+use Rattle.ill_saved.specs.Many.{Held, Holding, txn_held, idle_held, found_or, held_for, sides_held}
+use Rattle.ill_saved.proofs.Finding.{same_is, same_self, side_of_held}
+use Rattle.ill_world.specs.declared.event.Event.TheVariants as events
+use Rattle.ill_world.specs.declared.event.DeskEvent.{DeskEvent}
+use Rattle.ill_world.specs.declared.event.DeskEvent.TheVariants as desk_events
+use Rattle.ill_world.specs.declared.event.Outcome.{Outcome}
+use Rattle.ill_world.specs.declared.event.DeskOutcome.{DeskOutcome}
+use Rattle.ill_world.specs.declared.event.DeskOutcome.TheVariants.{Plain, NoSuchTransaction, DeskFull}
+use Rattle.ill_world.specs.World.{Party, Parties, party, with_party, sent_message, sends, receives, happens, run_by, run_of}
+use Rattle.ill_world.specs.Desks.{DeskParties, sent_for, plain, desks_happen, desks_run, party_for, project, concerns, if_reached, IsSeenAs}
+use Rattle.ill_world.specs.DeskScript.{in_txn}
+use Rattle.ill_world.specs.DeskChanges.{Reaches}
+use Rattle.ill_world.specs.DeskCounts.{is_one_of, AreApart}
+use Rattle.ill_world.specs.DeskSafety.{DesksStand}
+use Rattle.ill_world.specs.Round.{passes_on, half_of, round_of}
+use Rattle.ill_world.specs.DeskRound.{passes_side, desk_half_of, desk_round_of}
+use Rattle.ill_world.proofs.Runs.{run_both}
+use Rattle.ill_world.proofs.Desks.{EachProjects, EachStands, desks_stand_on}
+use Rattle.ill_world.proofs.DeskArrivals.{EachReaches, idle_issues}
+use Rattle.ill_world.proofs.DeskCounts.{none_sent, finds_room}
+
+-- ---- an idle side
+
+-- A side that has issued nothing sends nothing.
+idle_sends : (p : Party) (n : ℕ) (released : Bool) → issued_of p.live ≡ [] → (sends p n (message (issued_of p.live) n) released).1 ≡ p
+idle_sends p n released none = ap (λ apdus. (sends p n (message apdus n) released).1) none ∙ go n
+  where
+    go : (m : ℕ) → (sends p n (message [] m) released).1 ≡ p
+    go zero = refl
+    go (suc m) = refl
+
+-- A record that an answer leaves, a refusal leaves too.
+refused_or_same : (refusal : Option Refusal) (y : ResponderRecord) (answer : _ × ResponderRecord) → answer.1 ≡ y → (unless_refused refusal y answer).1 ≡ y
+refused_or_same (Some refusal) y answer same = refl
+refused_or_same None y answer same = same
+
+-- a responder that has issued and taken nothing
+abbrev idle_responder : Qualifiers → ResponderRecord
+idle_responder txn = responder_of txn states.Idle None None None false None []
+
+-- No message but an ILL-Request changes an idle responder.
+idle_message : (txn : Qualifiers) (a : Apdu) (body : Body) → is_ill_request body ≡ false → (take_message (idle_responder txn) a body).1 ≡ idle_responder txn
+idle_message txn a (types.IllRequest expiry item) is = absurd (true≢false is)
+idle_message txn a (types.ConditionalReply zero true) is = refl
+idle_message txn a (types.ConditionalReply (suc c) true) is = refl
+idle_message txn a (types.ConditionalReply c false) is = refl
+idle_message txn a body is = refl
+
+-- An idle responder takes no message that is no ILL-Request.
+idle_takes : (txn : Qualifiers) (a : Apdu) → is_ill_request a.body ≡ false → (takes (idle_side who.Responder txn) a).1 ≡ idle_side who.Responder txn
+idle_takes txn a is =
+    ap sides.Responder
+    (refused_or_same (first_refusal txn (not (is_requesters a.body)) a) (idle_responder txn) (take_message (idle_responder txn) a a.body) (idle_message txn a a.body is))
+
+-- A side that is not held has issued nothing.
+unheld_issues : (txn : Qualifiers) (live : Holding) → found_by txn_held txn live.held ≡ None → issued_of (held_for txn live).side ≡ []
+unheld_issues txn live none = ap (λ o. issued_of (found_or (idle_held live.role txn) o).side) none ∙ idle_issues live.role txn
+
+-- ---- one event
+
+-- The party of a role is the one that the desk of this role shows.
+shown : (txn : Qualifiers) (w : DeskParties) (role : Who) → party (project txn w) role ≡ party_for txn (party w role)
+shown txn w who.Requester = refl
+shown txn w who.Responder = refl
+
+-- A party in its own place changes nothing.
+same_party : (v : Parties) (role : Who) → with_party v role (party v role) ≡ v
+same_party v who.Requester = refl
+same_party v who.Responder = refl
+
+-- An event of the transaction, if it changes nothing where it is not reached, leads on as in it alone.
+seen_alike : (own : Bool) → own ≡ true → (expected : Outcome × Parties) (old new : Parties) (outcome : DeskOutcome) → IsSeenAs (if_reached outcome own) expected old outcome new
+    → (outcome ≡ DeskFull → ⊥) → (outcome ≡ NoSuchTransaction → expected.1 ≡ old) → new ≡ expected.1
+seen_alike true is expected old new (Plain outcome) seen room stays = seen.1
+seen_alike true is expected old new NoSuchTransaction seen room stays = seen ∙ sym (stays refl)
+seen_alike true is expected old new DeskFull seen room stays = absurd (room refl)
+seen_alike false is expected old new outcome seen room stays = absurd (true≢false (sym is))
+
+-- An event of another transaction changes nothing, whatever is seen of it.
+seen_elsewhere : (own : Bool) → own ≡ false → (expected : Outcome × Parties) (old new : Parties) (outcome : DeskOutcome) → IsSeenAs (if_reached outcome own) expected old outcome new → new ≡ old
+seen_elsewhere true is expected old new outcome seen = absurd (true≢false is)
+seen_elsewhere false is expected old new (Plain outcome) seen = seen
+seen_elsewhere false is expected old new NoSuchTransaction seen = seen
+seen_elsewhere false is expected old new DeskFull seen = seen
+
+-- A transaction that is not reached is not held, and the event may not begin it.
+not_reached : (may_begin has_room : Bool) (found : Option Held) → Reaches may_begin has_room found NoSuchTransaction → (found ≡ None) × (may_begin ≡ false)
+not_reached may_begin has_room (Some held) reaches = absurd reaches
+not_reached true true None reaches = absurd reaches
+not_reached true false None reaches = search rules
+not_reached false has_room None reaches = (refl, refl)
+
+-- An event that begins nothing finds no desk full.
+begins_in_room : (has_room : Bool) (found : Option Held) → Reaches false has_room found DeskFull → ⊥
+begins_in_room has_room (Some held) reaches = reaches
+begins_in_room has_room None reaches = search rules
+
+module _ (projects : EachProjects) (reaches : EachReaches) (after : EachStands) (txn : Qualifiers) where
+  -- An event does to a transaction at two desks what it does to the two sides of it.
+  abbrev HappensAlike : DeskParties → DeskEvent → Type 0
+  HappensAlike w event = project txn (desks_happen w event).1 ≡ (happens (project txn w) (plain event)).1
+
+  -- An event of another transaction changes nothing.
+  other_stays : (w : DeskParties) (event : DeskEvent) → concerns txn event ≡ false → DesksStand w → project txn (desks_happen w event).1 ≡ project txn w
+  other_stays w event is stands =
+      seen_elsewhere (concerns txn event) is (happens (project txn w) (plain event)) (project txn w) (project txn (desks_happen w event).1) (desks_happen w event).0 (projects txn w event stands)
+
+  -- An event of the transaction, if it changes nothing where it is not reached, happens alike.
+  alike : (w : DeskParties) (event : DeskEvent) → concerns txn event ≡ true → DesksStand w → ((desks_happen w event).0 ≡ DeskFull → ⊥)
+      → ((desks_happen w event).0 ≡ NoSuchTransaction → (happens (project txn w) (plain event)).1 ≡ project txn w) → HappensAlike w event
+  alike w event is stands room stays =
+      seen_alike (concerns txn event) is (happens (project txn w) (plain event)) (project txn w) (project txn (desks_happen w event).1) (desks_happen w event).0 (projects txn w event stands) room stays
+
+  -- A message is sent alike.
+  send_alike : (w : DeskParties) (role : Who) (n : ℕ) → DesksStand w → HappensAlike w (desk_events.Send role txn n)
+  send_alike w role n stands = alike w event (same_self txn) stands (λ full. begins_in_room has_room found (reached DeskFull full)) stays
+    where
+      event : DeskEvent
+      event = desk_events.Send role txn n
+
+      v : Parties
+      v = project txn w
+
+      has_room : Bool
+      has_room = nat_lt (length (party w role).live.held) 1000
+
+      found : Option Held
+      found = found_by txn_held txn (party w role).live.held
+
+      reached : (outcome : DeskOutcome) → (desks_happen w event).0 ≡ outcome → Reaches false has_room found outcome
+      reached outcome seen = subst (Reaches false has_room found) seen (reaches w event stands)
+
+      stays : (desks_happen w event).0 ≡ NoSuchTransaction → (happens v (events.Send role n)).1 ≡ v
+      stays missed =
+          let nothing : issued_of (party v role).live ≡ [] =
+          ap (λ (p : Party). issued_of p.live) (shown txn w role) ∙ unheld_issues txn (party w role).live (not_reached false has_room found (reached NoSuchTransaction missed)).0 in
+          ap (with_party v role) (idle_sends (party v role) n (nat_le n (party v role).released) nothing) ∙ same_party v role
+
+  -- A message that does not reach its transaction changes nothing of the side that is shown.
+  idle_stays : (w : DeskParties) (role : Who) (n : ℕ) (a : Apdu) → DesksStand w → sent_message (sent_for txn (party w (other role)).sent) n ≡ Some a
+      → (desks_happen w (desk_events.Deliver role txn n)).0 ≡ NoSuchTransaction → (receives (party (project txn w) role) (Some a)).1 ≡ party (project txn w) role
+  idle_stays w role n a stands sent missed =
+      go role sent (not_reached (is_ill_request a.body) has_room found (subst (Reaches (is_ill_request a.body) has_room found) missed (reaches w (desk_events.Deliver role txn n) stands a sent)))
+    where
+      has_room : Bool
+      has_room = nat_lt (length (party w role).live.held) 1000
+
+      found : Option Held
+      found = found_by txn_held txn (party w role).live.held
+
+      go : (to : Who) → sent_message (sent_for txn (party w (other to)).sent) n ≡ Some a → (found_by txn_held txn (party w to).live.held ≡ None) × (is_ill_request a.body ≡ false)
+          → (receives (party (project txn w) to) (Some a)).1 ≡ party (project txn w) to
+      go who.Requester sent missed = absurd (none_sent w stands txn n a sent missed.0)
+      go who.Responder sent missed =
+          let live = w.responder.live in
+          let idle : (held_for txn live).side ≡ idle_side who.Responder txn =
+          ap (λ o. (found_or (idle_held live.role txn) o).side) missed.0 ∙ ap (λ role. idle_side role txn) stands.responder.0 in
+          ap (λ side. record (party_for txn w.responder) { live = side }) (ap (λ side. (takes side a).1) idle ∙ idle_takes txn a missed.1 ∙ sym idle)
+
+  -- A message arrives alike.
+  deliver_alike : (w : DeskParties) (role : Who) (n : ℕ) → DesksStand w → HappensAlike w (desk_events.Deliver role txn n)
+  deliver_alike w role n stands = alike w event (same_self txn) stands (λ full. finds_room reaches w role txn n stands full) stays
+    where
+      event : DeskEvent
+      event = desk_events.Deliver role txn n
+
+      v : Parties
+      v = project txn w
+
+      received : (found : Option Apdu) → sent_message (sent_for txn (party w (other role)).sent) n ≡ found → (desks_happen w event).0 ≡ NoSuchTransaction → (receives (party v role) found).1 ≡ party v role
+      received None e missed = refl
+      received (Some a) e missed = idle_stays w role n a stands e missed
+
+      stays : (desks_happen w event).0 ≡ NoSuchTransaction → (happens v (events.Deliver role n)).1 ≡ v
+      stays missed =
+          ap (λ (p : Party). with_party v role (receives (party v role) (sent_message p.sent n)).1) (shown txn w (other role))
+          ∙ ap (with_party v role) (received (sent_message (sent_for txn (party w (other role)).sent) n) refl missed)
+          ∙ same_party v role
+
+  -- ---- the messages of a side
+
+  -- Messages of the transaction are passed on alike.
+  passes_alike : (w : DeskParties) (role : Who) (n count : ℕ) → DesksStand w → project txn (desks_run w (map (in_txn txn) (passes_on role n count))) ≡ run_of (project txn w) (passes_on role n count)
+  unfolding passes_on run_by
+  passes_alike w role n zero stands = refl
+  passes_alike w role n (suc count) stands =
+      let send = desk_events.Send role txn n in
+      let deliver = desk_events.Deliver (other role) txn n in
+      let sent = (desks_happen w send).1 in
+      let sent_stands = after w send stands in
+      passes_alike (desks_happen sent deliver).1 role (n + 1) count (after sent deliver sent_stands)
+      ∙ ap (λ v. run_of v (passes_on role (n + 1) count)) (deliver_alike sent (other role) n sent_stands ∙ ap (λ v. (happens v (events.Deliver (other role) n)).1) (send_alike w role n stands))
+
+  -- Messages of another transaction change nothing.
+  others_stay : (of : Qualifiers) → is_same_txn txn of ≡ false → (w : DeskParties) (role : Who) (n count : ℕ) → DesksStand w → project txn (desks_run w (map (in_txn of) (passes_on role n count))) ≡ project txn w
+  unfolding passes_on run_by
+  others_stay of apart w role n zero stands = refl
+  others_stay of apart w role n (suc count) stands =
+      let send = desk_events.Send role of n in
+      let deliver = desk_events.Deliver (other role) of n in
+      let sent = (desks_happen w send).1 in
+      let sent_stands = after w send stands in
+      others_stay of apart (desks_happen sent deliver).1 role (n + 1) count (after sent deliver sent_stands)
+      ∙ other_stays sent deliver apart sent_stands
+      ∙ other_stays w send apart stands
+
+  -- ---- the messages of a desk
+
+  -- A desk's messages are those of its first side, and then those of the others.
+  passes_both : (w : DeskParties) (role : Who) (side : Side) (more : List Side) → desks_run w (flat_map (passes_side role) (side ∷ more)) ≡ desks_run (desks_run w (passes_side role side)) (flat_map (passes_side role) more)
+  passes_both w role side more = run_both desks_happen w (passes_side role side) (flat_map (passes_side role) more)
+
+  -- Messages of sides of other transactions change nothing.
+  sides_stay : (w : DeskParties) (role : Who) (all : List Side) → is_one_of txn (map txn_of all) ≡ false → DesksStand w → project txn (desks_run w (flat_map (passes_side role) all)) ≡ project txn w
+  unfolding run_by
+  sides_stay w role [] none stands = refl
+  sides_stay w role (side ∷ more) none stands =
+      let parts = or_parts (is_same_txn txn (txn_of side)) (is_one_of txn (map txn_of more)) none in
+      ap (project txn) (passes_both w role side more)
+      ∙ sides_stay (desks_run w (passes_side role side)) role more parts.1 (desks_stand_on after w (passes_side role side) stands)
+      ∙ others_stay (txn_of side) parts.0 w role 1 (length (issued_of side)) stands
+
+  -- Messages of sides that are apart are, of the transaction, those of its side.
+  sides_alike : (w : DeskParties) (role : Who) (idle : Side) → issued_of idle ≡ [] → (all : List Side) → AreApart (map txn_of all) → DesksStand w
+      → project txn (desks_run w (flat_map (passes_side role) all)) ≡ run_of (project txn w) (passes_on role 1 (length (issued_of (found_or idle (found_by txn_of txn all)))))
+  unfolding run_by passes_on
+  sides_alike w role idle nothing [] apart stands = ap (λ apdus. run_of (project txn w) (passes_on role 1 (length apdus))) (sym nothing)
+  sides_alike w role idle nothing (side ∷ more) apart stands = ap (project txn) (passes_both w role side more) ∙ go (is_same_txn txn (txn_of side)) refl (sides_alike next role idle nothing more apart.1 next_stands)
+    where
+      next : DeskParties
+      next = desks_run w (passes_side role side)
+
+      next_stands : DesksStand next
+      next_stands = desks_stand_on after w (passes_side role side) stands
+
+      go : (same : Bool) → is_same_txn txn (txn_of side) ≡ same
+          → project txn (desks_run next (flat_map (passes_side role) more)) ≡ run_of (project txn next) (passes_on role 1 (length (issued_of (found_or idle (found_by txn_of txn more)))))
+          → project txn (desks_run next (flat_map (passes_side role) more)) ≡ run_of (project txn w) (passes_on role 1 (length (issued_of (found_or idle (cond same (Some side) (found_by txn_of txn more))))))
+      go true e further =
+          let is = same_is txn (txn_of side) e in
+          let none : is_one_of txn (map txn_of more) ≡ false = subst (λ t. is_one_of t (map txn_of more) ≡ false) (sym is) apart.0 in
+          sides_stay next role more none next_stands
+          ∙ subst (λ t. project txn (desks_run w (map (in_txn t) (passes_on role 1 (length (issued_of side))))) ≡ run_of (project txn w) (passes_on role 1 (length (issued_of side)))) is
+          (passes_alike w role 1 (length (issued_of side)) stands)
+      go false e further =
+          further
+          ∙ ap (λ v. run_of v (passes_on role 1 (length (issued_of (found_or idle (found_by txn_of txn more)))))) (others_stay (txn_of side) e w role 1 (length (issued_of side)) stands)
+
+  -- ---- a round
+
+  -- No two sides of a desk are of one transaction.
+  held_apart : (w : DeskParties) (role : Who) → DesksStand w → AreApart (map txn_of (sides_held (party w role).live).sides)
+  held_apart w who.Requester stands = subst AreApart (sym (map-map txn_of (λ (held : Held). held.side) w.requester.live.held)) stands.counts.0.0
+  held_apart w who.Responder stands = subst AreApart (sym (map-map txn_of (λ (held : Held). held.side) w.responder.live.held)) stands.counts.2.0
+
+  -- The half of a desk is, of the transaction, the half of its side.
+  half_alike : (w : DeskParties) (role : Who) → DesksStand w → project txn (desks_run w (desk_half_of role w)) ≡ run_of (project txn w) (half_of role (project txn w))
+  unfolding run_by side_with
+  half_alike w role stands = saved_alike ∙ ap (λ (p : Party). run_of (project txn w) (events.Save role ∷ passes_on role 1 (length (issued_of p.live)))) (sym (shown txn w role))
+    where
+      live : Holding
+      live = (party w role).live
+
+      idle : Side
+      idle = idle_side live.role txn
+
+      saved : DeskParties
+      saved = (desks_happen w (desk_events.Save role)).1
+
+      saved_alike : project txn (desks_run w (desk_half_of role w)) ≡ run_of (project txn w) (events.Save role ∷ passes_on role 1 (length (issued_of (held_for txn live).side)))
+      saved_alike =
+          sides_alike saved role idle (idle_issues live.role txn) (sides_held live).sides (held_apart w role stands) (after w (desk_events.Save role) stands)
+          ∙ ap (λ side. run_of (project txn saved) (passes_on role 1 (length (issued_of side)))) (side_of_held txn live)
+          ∙ ap (λ v. run_of v (passes_on role 1 (length (issued_of (held_for txn live).side)))) (projects txn w (desk_events.Save role) stands).1
+
+  -- A round of two desks is a round of both sides in the transaction.
+  pub round_alike : (w : DeskParties) → DesksStand w → project txn (desks_run w (desk_round_of w)) ≡ run_of (project txn w) (round_of (project txn w))
+  round_alike w stands =
+      let first = desk_half_of who.Requester w in
+      let next = desks_run w first in
+      let v = project txn w in
+      let v_first = half_of who.Requester v in
+      ap (project txn) (run_both desks_happen w first (desk_half_of who.Responder next))
+      ∙ half_alike next who.Responder (desks_stand_on after w first stands)
+      ∙ ap (λ u. run_of u (half_of who.Responder u)) (half_alike w who.Requester stands)
+      ∙ sym (run_both happens v v_first (half_of who.Responder (run_of v v_first)))

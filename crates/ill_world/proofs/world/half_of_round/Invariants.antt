@@ -1,9 +1,0 @@
-use Rattle.std.proofs.Common.{◌≡◌, ◌++◌, ◌∷◌, ◌+◌, ◌-◌}
-use Rattle.ill_world.specs.declared.event.Event.TheVariants.{Save}
-use Rattle.ill_world.specs.Round.{passes_on}
-use Rattle.ill_world.proofs.world.half_of_round.Given as goal
-
--- the events so far, and those of the messages that are left, are those of all
-abbrev pub invariant-loop-index : goal.invariant-loop-index
-invariant-loop-index l =
-    l.events.items ++ passes_on l.fn.who (l.index + 1) (l.fn.count - l.index) ≡ Save l.fn.who ∷ passes_on l.fn.who 1 l.fn.count

@@ -53,17 +53,18 @@ _ill_offer_loans() {
 }
 
 # Sets `arguments` to those that stand between the command and the cursor, options left out, and `wanted` to
-# what may come next: `any` (an option too), `argument` (no option any more) or `day` (that of --today).
+# what may come next: `any` (an option too), `argument` (no option any more), `day` or `state` (the value of an option).
 _ill_read() {
   local at word
   arguments=() wanted=any
   for ((at = 2; at < COMP_CWORD; at++)); do
     word=${COMP_WORDS[at]}
     case $wanted-$word in
-      day-=) ;;     # bash takes --today=DAY for three words
-      day-*) wanted=any ;;
+      day-= | state-=) ;;     # bash takes --today=DAY for three words
+      day-* | state-*) wanted=any ;;
       any---) wanted=argument ;;
-      any---today) wanted=day ;;
+      any---today | any---due-before) wanted=day ;;
+      any---state) wanted=state ;;
       any--*) ;;
       *)
         arguments+=("$word")
@@ -72,24 +73,41 @@ _ill_read() {
   done
 }
 
+# Takes the option away that may stand before the command.
+_ill_skip() {
+  if [ "${COMP_WORDS[1]}" = --explain ] && [ "$COMP_CWORD" -gt 1 ]; then
+    COMP_WORDS=("${COMP_WORDS[0]}" "${COMP_WORDS[@]:2}")
+    ((COMP_CWORD--))
+  fi
+}
+
 _ill() {
-  local commands='new act take send status show check simulate simulate-desks help'
+  _ill_skip
+  local commands='new act take send list status loan verify report show check simulate simulate-desks help'
   local word=${COMP_WORDS[COMP_CWORD]} command=${COMP_WORDS[1]} offered= arguments wanted
   COMPREPLY=()
   _ill_read
   if [ "$COMP_CWORD" = 1 ]; then command=; fi
   case $wanted-$command-${#arguments[@]}-$word in
-    any--0--*) offered='--help --version' ;;
+    any--0--*) offered='--explain --help --version' ;;
     any--0-* | *-help-0-[!-]* | *-help-0-) offered=$commands ;;
     day-* | any-help-*) ;;
     any-act-[0-9]--*) offered='--today --help' ;;
+    state-*) offered='IDLE PENDING IN-PROCESS CONDITIONAL CANCEL-PENDING CANCELLED NOT-SUPPLIED SHIPPED
+      RECEIVED RENEW/PENDING OVERDUE RENEW/OVERDUE NOT-RECEIVED/OVERDUE RECALL RETURNED CHECKED-IN' ;;
+    any-list-[0-9]*--*) offered='--open --mine --today --due-before --state --help' ;;
+    any-take-[0-9]--*) offered='--long --keep --help' ;;
+    any-loan-[0-9]--*) offered='--picture --json --help' ;;
+    any-report-[0-9]*--*) offered='--today --help' ;;
+    any-status-[0-9]--* | any-show-[0-9]--*) offered='--json --help' ;;
     any-*-[0-9]--*) offered=--help ;;
-    *-new-0-* | *-act-0-* | *-take-0-* | *-send-0-* | *-status-0-*)
+    *-new-0-* | *-act-0-* | *-take-0-* | *-send-0-* | *-list-* | *-report-* | *-status-0-* | *-loan-0-* | \
+      *-verify-0-*)
       compopt -o filenames 2> /dev/null
       mapfile -t COMPREPLY < <(compgen -f -- "$word")
       return ;;
     *-new-1-*) offered='requester responder' ;;
-    *-act-[12]-* | *-send-[12]-*)
+    *-act-[12]-* | *-send-[12]-* | *-loan-[12]-*)
       _ill_offer_loans "${arguments[@]}"
       return ;;
     *-act-3-*) offered=$(_ill_words "${arguments[0]}") ;;

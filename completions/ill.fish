@@ -1,22 +1,33 @@
 # Completion of ill(1) in fish: commands, options, roles, files, their loans, and the first words of actions.
 
-set -l commands new act take send status show check simulate simulate-desks help
+set -l commands new act take send list status loan verify report show check simulate simulate-desks help
+
+# The words before the cursor, without the option that may stand before the command.
+function __ill_typed
+    set -l words (commandline -opc)
+    if test "$words[2]" = --explain
+        set -e words[2]
+    end
+    string join \n -- $words
+end
 
 # What may come next, a line, the command, a line, and the arguments that stand between the command and the
 # cursor, options left out, a line each. What may come next is `any` (an option too), `argument` (no option
-# any more) or `day` (that of --today).
+# any more), `day` or `state` (the value of an option).
 function __ill_read
-    set -l words (commandline -opc)
+    set -l words (__ill_typed)
     set -l wanted any
     set -l arguments
     for word in $words[3..-1]
         switch $wanted-$word
-            case 'day-*'
+            case 'day-*' 'state-*'
                 set wanted any
             case any---
                 set wanted argument
-            case any---today
+            case any---today any---due-before
                 set wanted day
+            case any---state
+                set wanted state
             case 'any--*'
             case '*'
                 set -a arguments $word
@@ -31,8 +42,15 @@ end
 # __ill_at COUNT COMMAND..: whether an argument of one of these commands comes next, behind so many.
 function __ill_at
     set -l read (__ill_read)
-    test $read[1] != day -a (count $read[3..-1]) = $argv[1]
+    not contains -- $read[1] day state; and test (count $read[3..-1]) = $argv[1]
     and contains -- "$read[2]" $argv[2..-1]
+end
+
+# __ill_further COMMAND..: whether one more argument of one of these commands comes next, behind others.
+function __ill_further
+    set -l read (__ill_read)
+    not contains -- $read[1] day state; and test (count $read[3..-1]) -gt 0
+    and contains -- "$read[2]" $argv
 end
 
 # __ill_option COMMAND..: whether an option of one of these commands may come next.
@@ -83,20 +101,38 @@ end
 complete -c ill -f
 complete -c ill -n "__ill_option '' (string match -v help -- $commands)" -s h -l help -d 'Print help'
 complete -c ill -n "__ill_option ''" -s V -l version -d 'Print the version'
+complete -c ill -n "__ill_option ''" -l explain -d 'Say more of what is wrong'
 complete -c ill -n "__ill_at 0 ''" -a new -d 'Begin a desk of one role, in a file'
 complete -c ill -n "__ill_at 0 ''" -a act -d 'Perform one action in a loan, and save it'
 complete -c ill -n "__ill_at 0 ''" -a take -d 'Take the APDUs on standard input'
 complete -c ill -n "__ill_at 0 ''" -a send -d 'Write the bytes of one message of a loan'
+complete -c ill -n "__ill_at 0 ''" -a list -d 'List the loans of desks, a line for each'
 complete -c ill -n "__ill_at 0 ''" -a status -d 'Show how each loan in a file stands'
+complete -c ill -n "__ill_at 0 ''" -a loan -d 'Show all of one loan'
+complete -c ill -n "__ill_at 0 ''" -a report -d 'Write a page for a browser of the loans of desks'
+complete -c ill -n "__ill_at 0 ''" -a verify -d 'Read a desk, and tell what it has or what is wrong'
 complete -c ill -n "__ill_at 0 ''" -a show -d 'Show each APDU on standard input'
 complete -c ill -n "__ill_at 0 ''" -a check -d 'Check and count the APDUs on standard input'
 complete -c ill -n "__ill_at 0 ''" -a simulate -d 'Perform a script of both sides'
 complete -c ill -n "__ill_at 0 ''" -a simulate-desks -d 'Perform a script of two desks'
 complete -c ill -n "__ill_at 0 ''" -a help -d 'Print the help of a command'
-complete -c ill -n '__ill_at 0 new act take send status' -F
+complete -c ill -n '__ill_at 0 new act take send list status loan verify report' -F
 complete -c ill -n '__ill_at 1 new' -a 'requester responder'
 complete -c ill -n '__ill_option act' -l today -x -d 'The day of the action'
-complete -c ill -n '__ill_at 1 act send' -a '(__ill_loans)'
-complete -c ill -n '__ill_at 2 act send' -a '(__ill_loans)'
+complete -c ill -n '__ill_option report' -l today -x -d 'The day of the report'
+complete -c ill -n '__ill_option take' -l long -d 'Tell which message each was, and what it said'
+complete -c ill -n '__ill_option status' -l json -d 'Write objects of JSON, one on a line'
+complete -c ill -n '__ill_option loan' -l json -d 'Write objects of JSON, one on a line'
+complete -c ill -n '__ill_option show' -l json -d 'Write objects of JSON, one on a line'
+complete -c ill -n '__ill_option take' -l keep -d 'Keep each message that is taken, in FILE.came'
+complete -c ill -n '__ill_option loan' -l picture -d 'Draw the messages of the loan, for Mermaid'
+complete -c ill -n '__ill_option list' -l open -d 'Leave out the loans that are over'
+complete -c ill -n '__ill_option list' -l mine -d 'List only the loans that wait for this library'
+complete -c ill -n '__ill_option list' -l today -x -d 'The day on which they wait'
+complete -c ill -n '__ill_option list' -l due-before -x -d 'List only the loans that are due before this day'
+complete -c ill -n '__ill_option list' -l state -x -a 'IDLE PENDING IN-PROCESS CONDITIONAL CANCEL-PENDING CANCELLED NOT-SUPPLIED SHIPPED RECEIVED RENEW/PENDING OVERDUE RENEW/OVERDUE NOT-RECEIVED/OVERDUE RECALL RETURNED CHECKED-IN' -d 'List only the loans in this state'
+complete -c ill -n '__ill_further list report' -F
+complete -c ill -n '__ill_at 1 act send loan' -a '(__ill_loans)'
+complete -c ill -n '__ill_at 2 act send loan' -a '(__ill_loans)'
 complete -c ill -n '__ill_at 3 act' -a '(__ill_words)'
 complete -c ill -n '__ill_at 0 help' -a "$commands"

@@ -26,3 +26,4 @@ pub mod ResponderRecalls
 pub mod ResponderGrants
 pub mod ResponderOverdue
 pub mod TurnLemmas
+pub mod NameLemmas

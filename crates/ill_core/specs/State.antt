@@ -1,6 +1,7 @@
 -- The states of one side of a transaction (ISO 10161-1; which of them this profile keeps is its own).
-use Rattle.std.specs.Prelude.{ℕ, Bool, ◌==◌, List, codes}
+use Rattle.std.specs.Prelude.{ℕ, Bool, ◌==◌, List, [], ◌∷◌, Option, codes}
 use Rattle.std.specs.List.{list_any}
+use Rattle.ill_values.specs.Names.{named_by}
 use Rattle.ill_core.specs.declared.state.State.{State}
 use Rattle.ill_core.specs.declared.state.State.TheVariants.{Idle, Pending, InProcess, Conditional, CancelPending, Cancelled, NotSupplied, Shipped, Received, RenewPending, Overdue, RenewOverdue, NotReceivedOverdue, Recall, Returned, CheckedIn}
 
@@ -45,3 +46,12 @@ state_name NotReceivedOverdue = codes "NOT-RECEIVED/OVERDUE"
 state_name Recall = codes "RECALL"
 state_name Returned = codes "RETURNED"
 state_name CheckedIn = codes "CHECKED-IN"
+
+abbrev pub all_states : List State
+all_states =
+    Idle ∷ Pending ∷ InProcess ∷ Conditional ∷ CancelPending ∷ Cancelled ∷ NotSupplied ∷ Shipped
+    ∷ Received ∷ RenewPending ∷ Overdue ∷ RenewOverdue ∷ NotReceivedOverdue ∷ Recall ∷ Returned ∷ CheckedIn ∷ []
+
+-- the state with a name
+abbrev pub state_named : List ℕ → Option State
+state_named = named_by state_name all_states

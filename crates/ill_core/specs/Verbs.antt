@@ -1,7 +1,8 @@
 -- What each side may do now, by its verbs, and whose turn it is (this profile's own). A verb is the first word of an
 -- action, without what it is about; a turn says whose library acts next, so far as the record of a side tells.
-use Rattle.std.specs.Prelude.{ℕ, Bool, true, false, ◌==◌, List, [], ◌∷◌, Result, Ok, Err, codes}
+use Rattle.std.specs.Prelude.{ℕ, Bool, true, false, ◌==◌, List, [], ◌∷◌, Option, Result, Ok, Err, codes}
 use Rattle.std.specs.List.{list_any}
+use Rattle.ill_values.specs.Names.{named_by}
 use Rattle.ill_core.specs.declared.state.State.{State}
 use Rattle.ill_core.specs.declared.state.State.TheVariants as states
 use Rattle.ill_core.specs.declared.refusal.Refusal.{Refusal}
@@ -53,6 +54,15 @@ verb_name Overdue = codes "overdue"
 verb_name Recall = codes "recall"
 verb_name CheckIn = codes "check-in"
 verb_name Expire = codes "expire"
+
+abbrev pub all_verbs : List Verb
+all_verbs =
+    Request ∷ Cancel ∷ Reply ∷ Receive ∷ Renew ∷ Return ∷ Answer ∷ CancelReply ∷ Ship ∷ RenewAnswer ∷ Overdue ∷ Recall
+    ∷ CheckIn ∷ Expire ∷ []
+
+-- the verb with a name
+abbrev pub verb_named : List ℕ → Option Verb
+verb_named = named_by verb_name all_verbs
 
 -- the place of a verb in their order
 abbrev pub verb_place : Verb → ℕ

@@ -2,10 +2,12 @@
 //!
 //! They are over the definitions alone, and of every record unless a premise says otherwise.
 
+mod names;
 mod requester;
 mod responder;
 mod turns;
 
+pub use names::{state_names_are_read, verb_names_are_read};
 pub use requester::{
     requester_answers_once, requester_follows, requester_has_begun, requester_has_heard,
     requester_holds, requester_is_final, requester_is_quiet, requester_issues, requester_keeps_due,

@@ -2,7 +2,7 @@
 
 ghost use Rattle.std.specs.Prelude.{◌≡◌, Some};
 ghost use Rattle.std.specs.Fmt.{padded};
-ghost use Rattle.ill_core.specs.State.{state_name};
+ghost use Rattle.ill_core.specs.State.{state_name, state_named};
 
 use std::fmt;
 
@@ -45,6 +45,26 @@ pub enum State {
     CheckedIn,
 }
 
+/// All states.
+const STATES: [State; 16] = [
+    State::Idle,
+    State::Pending,
+    State::InProcess,
+    State::Conditional,
+    State::CancelPending,
+    State::Cancelled,
+    State::NotSupplied,
+    State::Shipped,
+    State::Received,
+    State::RenewPending,
+    State::Overdue,
+    State::RenewOverdue,
+    State::NotReceivedOverdue,
+    State::Recall,
+    State::Returned,
+    State::CheckedIn,
+];
+
 impl State {
     /// The name of the state, as `NOT-SUPPLIED`.
     pub fn name(self) -> &'static str
@@ -68,6 +88,16 @@ impl State {
             State::Returned => "RETURNED",
             State::CheckedIn => "CHECKED-IN",
         }
+    }
+
+    /// The state with this name, if it is one.
+    pub fn read(text: &[u8]) -> Option<State>
+        ensures { result ≡ state_named text.now }
+    {
+        STATES
+            .iter()
+            .copied()
+            .find(|state| state.name().as_bytes() == text)
     }
 }
 

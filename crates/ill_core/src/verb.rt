@@ -2,7 +2,7 @@
 
 ghost use Rattle.std.specs.Prelude.{◌≡◌, Some};
 ghost use Rattle.std.specs.Fmt.{padded};
-ghost use Rattle.ill_core.specs.Verbs.{verb_name};
+ghost use Rattle.ill_core.specs.Verbs.{verb_name, verb_named};
 
 use std::fmt;
 
@@ -39,6 +39,24 @@ pub enum Verb {
     Expire,
 }
 
+/// All verbs.
+const VERBS: [Verb; 14] = [
+    Verb::Request,
+    Verb::Cancel,
+    Verb::Reply,
+    Verb::Receive,
+    Verb::Renew,
+    Verb::Return,
+    Verb::Answer,
+    Verb::CancelReply,
+    Verb::Ship,
+    Verb::RenewAnswer,
+    Verb::Overdue,
+    Verb::Recall,
+    Verb::CheckIn,
+    Verb::Expire,
+];
+
 impl Verb {
     /// The name of the verb, as `cancel-reply`.
     pub fn name(self) -> &'static str
@@ -60,6 +78,16 @@ impl Verb {
             Verb::CheckIn => "check-in",
             Verb::Expire => "expire",
         }
+    }
+
+    /// The verb with this name, if it is one.
+    pub fn read(text: &[u8]) -> Option<Verb>
+        ensures { result ≡ verb_named text.now }
+    {
+        VERBS
+            .iter()
+            .copied()
+            .find(|verb| verb.name().as_bytes() == text)
     }
 }
 

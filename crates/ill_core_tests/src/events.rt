@@ -5,23 +5,6 @@ use ill_core::{Deed, Verb, Wish};
 use ill_values::{Apdu, Body, Day};
 use std::alloc::Global;
 
-const VERBS: [Verb; 14] = [
-    Verb::Request,
-    Verb::Cancel,
-    Verb::Reply,
-    Verb::Receive,
-    Verb::Renew,
-    Verb::Return,
-    Verb::Answer,
-    Verb::CancelReply,
-    Verb::Ship,
-    Verb::RenewAnswer,
-    Verb::Overdue,
-    Verb::Recall,
-    Verb::CheckIn,
-    Verb::Expire,
-];
-
 /// What happens to a side.
 pub enum Event {
     /// Nothing: its readers are asked.
@@ -61,7 +44,7 @@ impl Event {
         let event = match word {
             "read" => Some(Event::Reading),
             "turn" => Some(Event::Turn),
-            "may" => verb_of(rest).map(Event::May),
+            "may" => Verb::read(rest.as_bytes()).map(Event::May),
             "take" => delivery(alloc, rest),
             "do" => wish(alloc, rest),
             _ => deed(alloc, day(word), rest),
@@ -76,16 +59,6 @@ impl Event {
             _ => ".",
         }
     }
-}
-
-/// The verb of this name.
-fn verb_of(name: &str) -> Option<Verb> {
-    for verb in &VERBS {
-        if verb.name() == name {
-            return Some(*verb);
-        }
-    }
-    None
 }
 
 fn delivery(alloc: Global, word: &str) -> Option<Event> {

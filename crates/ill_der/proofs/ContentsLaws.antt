@@ -13,7 +13,8 @@ use Rattle.ill_values.specs.Day.{Date, IsDate, date_text, read_date}
 use Rattle.ill_values.specs.Text.{qualifier_check, IsQualifier, item_check, IsItem}
 use Rattle.ill_values.specs.declared.apdu.AnswerResult.{AnswerResult}
 use Rattle.ill_values.specs.declared.apdu.AnswerResult.TheVariants.{Conditional, Retry, Unfilled, LocationsProvided, WillSupply, HoldPlaced, Estimate}
-use Rattle.ill_der.specs.Contents.{code_of, all_results, result_from, answer_result, yes_no_from, yes_no, number_octets, number_from, number, version, version_from, qualifier, qualifier_from, item, item_from, date}
+use Rattle.ill_values.specs.Results.{all_results}
+use Rattle.ill_der.specs.Contents.{code_of, result_from, answer_result, yes_no_from, yes_no, number_octets, number_from, number, version, version_from, qualifier, qualifier_from, item, item_from, date}
 use Rattle.ill_der.proofs.Chains.{chosen}
 use Rattle.ill_der.specs.Laws.{IsBytes}
 use Rattle.ill_der.proofs.Formats.{IsContents}

@@ -11,7 +11,7 @@ use Rattle.ill_der.specs.declared.fault.ReadFault.{ReadFault}
 use Rattle.ill_values.specs.declared.apdu.Apdu.{Apdu}
 use Rattle.ill_der.specs.Laws.{IsBytes}
 use Rattle.std.specs.Prelude.{IsErrAnd}
-use Rattle.ill_der.specs.declared.apdu_type.ApduType.{ApduType}
+use Rattle.ill_values.specs.declared.apdu_type.ApduType.{ApduType}
 use Rattle.ill_der.specs.declared.length.LengthForm.{LengthForm}
 use Rattle.ill_der.specs.declared.length.LengthForm.TheVariants.{Truncated, Invalid, Definite}
 use Rattle.ill_der.specs.Format.{◌>>=◌, length_of, IsFew}

@@ -12,13 +12,14 @@ use Rattle.ill_values.specs.Day.{Date, IsDate}
 use Rattle.ill_values.specs.Text.{IsQualifier, IsItem}
 use Rattle.ill_der.specs.declared.fault.DerFault.{DerFault}
 use Rattle.ill_der.specs.declared.fault.DerFault.TheVariants.{Short, Tag, Length, OutOfMemory}
-use Rattle.ill_der.specs.declared.apdu_type.ApduType.{ApduType}
-use Rattle.ill_der.specs.declared.apdu_type.ApduType.TheVariants as types
+use Rattle.ill_values.specs.declared.apdu_type.ApduType.{ApduType}
+use Rattle.ill_values.specs.declared.apdu_type.ApduType.TheVariants as types
 use Rattle.ill_der.specs.declared.length.LengthForm.{LengthForm}
 use Rattle.ill_der.specs.declared.length.LengthForm.TheVariants.{Truncated, Invalid, Definite}
 use Rattle.ill_der.specs.Contents.{version, number, qualifier, date, item, answer_result, yes_no}
 use Rattle.ill_der.specs.Format.{◌>>=◌, length_octets, length_of, IsFew, element, Cursor, cursor_at, begins_with, ended, required, optional, followed_by, where_yes, Format, one_octet_length, two_octet_length}
-use Rattle.ill_der.specs.Types.{identifier_of, all_types, type_with, type_of}
+use Rattle.ill_values.specs.Types.{all_types, type_of}
+use Rattle.ill_der.specs.Types.{identifier_of, type_with}
 use Rattle.ill_der.specs.ShortForm.{txn_id, head, request, due_date, answer, reply, wish, grant, spell_body, made_of, read_body, contents_of, spelling, Outer, header_by, header_of, header_at, outer_by, outer_at, body_of, inside_of, apdu_at}
 use Rattle.ill_der.proofs.Chains.{bind_ok, bind_err, went_on, chosen, done, ok_is, no_value, short_is, short_or_memory, IsInside, tag_inside, length_inside, fault_is}
 use Rattle.ill_der.specs.Laws.{IsBytes}

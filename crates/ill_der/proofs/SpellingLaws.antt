@@ -11,9 +11,10 @@ use Rattle.ill_values.specs.Day.{Date, IsDate}
 use Rattle.ill_values.specs.TxnId.{Qualifiers}
 use Rattle.ill_values.specs.Apdu.{IsApdu}
 use Rattle.ill_der.specs.declared.fault.DerFault.{DerFault}
-use Rattle.ill_der.specs.declared.apdu_type.ApduType.TheVariants.{IllRequest}
+use Rattle.ill_values.specs.declared.apdu_type.ApduType.TheVariants.{IllRequest}
 use Rattle.ill_der.specs.Format.{element, length_octets}
-use Rattle.ill_der.specs.Types.{identifier_of, type_of}
+use Rattle.ill_values.specs.Types.{type_of}
+use Rattle.ill_der.specs.Types.{identifier_of}
 use Rattle.ill_der.specs.ShortForm.{contents_of, spelling, apdu_at}
 use Rattle.ill_der.specs.Laws.{IsBytes, BeginsWithOne}
 use Rattle.ill_der.proofs.Chains.{ok_is, no_value}

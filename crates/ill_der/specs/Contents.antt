@@ -5,6 +5,7 @@ use Rattle.std.specs.Result.{result_ok}
 use Rattle.ill_values.specs.declared.apdu.AnswerResult.{AnswerResult}
 use Rattle.ill_values.specs.declared.apdu.AnswerResult.TheVariants.{Conditional, Retry, Unfilled, LocationsProvided, WillSupply, HoldPlaced, Estimate}
 use Rattle.ill_values.specs.Day.{Date, date_text, read_date}
+use Rattle.ill_values.specs.Results.{all_results}
 use Rattle.ill_values.specs.Text.{qualifier_check, item_check}
 
 -- how one kind of contents stands for values: the contents of a value, and the value of contents
@@ -59,10 +60,6 @@ code_of LocationsProvided = 4
 code_of WillSupply = 5
 code_of HoldPlaced = 6
 code_of Estimate = 7
-
-abbrev pub all_results : List AnswerResult
-all_results =
-    Conditional ∷ Retry ∷ Unfilled ∷ LocationsProvided ∷ WillSupply ∷ HoldPlaced ∷ Estimate ∷ []
 
 abbrev pub result_from : List ℕ → Option AnswerResult
 result_from [] = None

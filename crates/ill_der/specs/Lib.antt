@@ -1,4 +1,5 @@
 pub mod Types
+pub mod Faults
 pub mod Adding
 pub mod Contents
 pub mod Format

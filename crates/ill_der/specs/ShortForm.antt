@@ -7,13 +7,14 @@ use Rattle.ill_values.specs.declared.apdu.AnswerResult.{AnswerResult}
 use Rattle.ill_values.specs.Day.{Date}
 use Rattle.ill_der.specs.declared.fault.DerFault.{DerFault}
 use Rattle.ill_der.specs.declared.fault.DerFault.TheVariants.{Short, Tag, Length, OutOfMemory}
-use Rattle.ill_der.specs.declared.apdu_type.ApduType.{ApduType}
-use Rattle.ill_der.specs.declared.apdu_type.ApduType.TheVariants as types
+use Rattle.ill_values.specs.declared.apdu_type.ApduType.{ApduType}
+use Rattle.ill_values.specs.declared.apdu_type.ApduType.TheVariants as types
 use Rattle.ill_der.specs.declared.length.LengthForm.{LengthForm}
 use Rattle.ill_der.specs.declared.length.LengthForm.TheVariants.{Truncated, Invalid, Definite}
 use Rattle.ill_der.specs.declared.header.Header.{Header}
 use Rattle.ill_der.specs.declared.decoding.Outer as decoding
-use Rattle.ill_der.specs.Types.{identifier_of, type_with, type_of}
+use Rattle.ill_values.specs.Types.{type_of}
+use Rattle.ill_der.specs.Types.{identifier_of, type_with}
 use Rattle.ill_der.specs.Contents.{version, number, qualifier, date, item, answer_result, yes_no}
 use Rattle.ill_der.specs.Format.{◌>>=◌, element, length_of, Cursor, cursor_at, ended, Format, required, optional, followed_by, where_yes, constructed}
 

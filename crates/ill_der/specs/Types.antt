@@ -1,10 +1,9 @@
--- The table of the fourteen types of APDU: the identifier octet of each (application tags, which are
--- this profile's own, in the constructed form of X.690 8.1.2).
-use Rattle.std.specs.Prelude.{ℕ, ◌==◌, List, [], ◌∷◌, Option, find}
-use Rattle.ill_values.specs.declared.apdu.Body.{Body}
-use Rattle.ill_values.specs.declared.apdu.Body.TheVariants as bodies
-use Rattle.ill_der.specs.declared.apdu_type.ApduType.{ApduType}
-use Rattle.ill_der.specs.declared.apdu_type.ApduType.TheVariants.{IllRequest, Shipped, IllAnswer, ConditionalReply, Cancel, CancelReply, Received, Recall, Returned, CheckedIn, Overdue, Renew, RenewAnswer, Expired}
+-- The identifier octets of the fourteen types of APDU: application tags, which are this profile's own, in the
+-- constructed form of X.690 8.1.2.
+use Rattle.std.specs.Prelude.{ℕ, ◌==◌, Option, find}
+use Rattle.ill_values.specs.declared.apdu_type.ApduType.{ApduType}
+use Rattle.ill_values.specs.declared.apdu_type.ApduType.TheVariants.{IllRequest, Shipped, IllAnswer, ConditionalReply, Cancel, CancelReply, Received, Recall, Returned, CheckedIn, Overdue, Renew, RenewAnswer, Expired}
+use Rattle.ill_values.specs.Types.{all_types}
 
 -- the identifier octet of a type
 abbrev pub identifier_of : ApduType → ℕ
@@ -23,28 +22,6 @@ identifier_of Renew = 0x6D
 identifier_of RenewAnswer = 0x6E
 identifier_of Expired = 0x74
 
-abbrev pub all_types : List ApduType
-all_types =
-    IllRequest ∷ Shipped ∷ IllAnswer ∷ ConditionalReply ∷ Cancel ∷ CancelReply ∷ Received ∷ Recall
-    ∷ Returned ∷ CheckedIn ∷ Overdue ∷ Renew ∷ RenewAnswer ∷ Expired ∷ []
-
 -- the type with an identifier octet
 abbrev pub type_with : ℕ → Option ApduType
 type_with identifier = find (λ apdu_type. identifier == identifier_of apdu_type) all_types
-
--- the type of a body
-abbrev pub type_of : Body → ApduType
-type_of (bodies.IllRequest expiry item) = IllRequest
-type_of (bodies.Shipped due) = Shipped
-type_of (bodies.IllAnswer result) = IllAnswer
-type_of (bodies.ConditionalReply answers is_yes) = ConditionalReply
-type_of bodies.Cancel = Cancel
-type_of (bodies.CancelReply answers is_yes) = CancelReply
-type_of bodies.Received = Received
-type_of bodies.Recall = Recall
-type_of bodies.Returned = Returned
-type_of bodies.CheckedIn = CheckedIn
-type_of (bodies.Overdue due) = Overdue
-type_of (bodies.Renew wished) = Renew
-type_of (bodies.RenewAnswer answers granted) = RenewAnswer
-type_of bodies.Expired = Expired

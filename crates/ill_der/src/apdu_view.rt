@@ -3,9 +3,10 @@
 ghost use Rattle.std.specs.Prelude.{◌≡◌, IfOk};
 ghost use Rattle.ill_values.specs.declared.apdu.Apdu.{Apdu};
 ghost use Rattle.ill_values.specs.Text.{IsQualifier};
+ghost use Rattle.ill_values.specs.Types.{type_of, type_name};
 ghost use Rattle.ill_der.specs.View.{apdu_of, body_in, HasItem};
 
-use ill_values::{AnswerResult, Apdu, Body, Day, Item, Number, OutOfMemory, TxnId};
+use ill_values::{AnswerResult, Apdu, ApduType, Body, Day, Item, Number, OutOfMemory, TxnId};
 use std::alloc::Global;
 use std::marker::Model;
 
@@ -136,6 +137,35 @@ impl<'a> ApduView<'a> {
 }
 
 impl BodyView<'_> {
+    /// The type of the message.
+    pub fn apdu_type(&self) -> ApduType
+        ensures { result ≡ type_of (body_in self.now) }
+    {
+        match self {
+            BodyView::IllRequest { .. } => ApduType::IllRequest,
+            BodyView::Shipped { .. } => ApduType::Shipped,
+            BodyView::IllAnswer { .. } => ApduType::IllAnswer,
+            BodyView::ConditionalReply { .. } => ApduType::ConditionalReply,
+            BodyView::Cancel => ApduType::Cancel,
+            BodyView::CancelReply { .. } => ApduType::CancelReply,
+            BodyView::Received => ApduType::Received,
+            BodyView::Recall => ApduType::Recall,
+            BodyView::Returned => ApduType::Returned,
+            BodyView::CheckedIn => ApduType::CheckedIn,
+            BodyView::Overdue { .. } => ApduType::Overdue,
+            BodyView::Renew { .. } => ApduType::Renew,
+            BodyView::RenewAnswer { .. } => ApduType::RenewAnswer,
+            BodyView::Expired => ApduType::Expired,
+        }
+    }
+
+    /// The name of the type of the message, as `ILL-Request`.
+    pub fn type_name(&self) -> &'static str
+        ensures { result.now ≡ type_name (body_in self.now) }
+    {
+        self.apdu_type().name()
+    }
+
     /// The body, its text on its own memory.
     fn to_body(&self, alloc: Global) -> Result<Body, OutOfMemory>
         ensures { IfOk result (λ body. body ≡ body_in self.now) }

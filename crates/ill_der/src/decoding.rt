@@ -7,14 +7,13 @@ ghost use Rattle.ill_der.specs.Format.{Reads, required, where_yes};
 ghost use Rattle.ill_der.specs.ShortForm.{outer_view, outer_at, read_body, reply, body_of, inside_of, apdu_at, Finds, Views, Decodes};
 ghost use Rattle.ill_der.specs.View.{body_in, HasItem};
 
-use crate::apdu_type::ApduType;
 use crate::apdu_view::{ApduView, BodyView};
 use crate::cursor::Cursor;
 use crate::fault::DerFault;
 use crate::header::header_at;
 use crate::laws::prefix_or_fault;
 use crate::tags;
-use ill_values::{Apdu, Day, Number};
+use ill_values::{Apdu, ApduType, Day, Number};
 use std::alloc::Global;
 
 /// A complete APDU: its type, its contents, and its size in bytes.

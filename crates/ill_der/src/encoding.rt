@@ -9,10 +9,10 @@ ghost use Rattle.ill_der.specs.Contents.{answer_result, code_of, date, number, n
 ghost use Rattle.ill_der.specs.Format.{element, length_octets, optional, required};
 ghost use Rattle.ill_der.specs.ShortForm.{due_date, grant, head_of, reply, spell_body, spelling, txn_id};
 
-use crate::apdu_type::ApduType;
+use crate::identifier::identifier_of;
 use crate::sizing::{contents_size, qualifiers_size, size};
 use crate::tags;
-use ill_values::{AnswerResult, Apdu, Body, Day, Number, OutOfMemory, TxnId};
+use ill_values::{AnswerResult, Apdu, ApduType, Body, Day, Number, OutOfMemory, TxnId};
 use std::alloc::Global;
 
 /// Encodes an APDU: its one spelling, at most 359 bytes. It takes memory once.
@@ -36,7 +36,7 @@ pub fn encode_onto(bytes: &mut Vec<u8>, apdu: &Apdu) -> Result<(), OutOfMemory>
 {
     push_start(
         bytes,
-        ApduType::of(&apdu.body).identifier(),
+        identifier_of(ApduType::of(&apdu.body)),
         contents_size(apdu),
     )?;
     push_head(bytes, apdu)?;

@@ -1,6 +1,7 @@
 //! Why bytes do not begin with an APDU, and why one was not read or written.
 
 ghost use Rattle.std.specs.Prelude.{◌≡◌};
+ghost use Rattle.ill_der.specs.Faults.{place_of};
 ghost use Rattle.ill_der.specs.Stream.{read_fault};
 ghost use Rattle.ill_der.specs.declared.fault.DerFault.TheVariants as ders;
 ghost use Rattle.ill_der.specs.declared.fault.ReadFault.TheVariants as reads;
@@ -28,6 +29,19 @@ pub enum DerFault {
     /// The bytes begin with an APDU, but memory ran out.
     #[error("memory")]
     OutOfMemory,
+}
+
+impl DerFault {
+    /// The offset of the fault, if it has one. Bytes that are short have it at their end.
+    pub fn at(self) -> Option<u16>
+        ensures { result ≡ place_of self }
+    {
+        match self {
+            DerFault::Short(at) | DerFault::Tag(at) | DerFault::Length(at) | DerFault::Field(at) =>
+                Some(at),
+            DerFault::OutOfMemory => None,
+        }
+    }
 }
 
 /// Why no APDU was read.

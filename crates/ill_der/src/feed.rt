@@ -10,7 +10,7 @@ ghost use Rattle.ill_der.specs.FeedView.{held_of, closing, Holds, Fills, GoesOn,
 use crate::apdu_view::ApduView;
 use crate::fault::DerFault;
 use crate::handling::{Handler, handle_all, handle_first};
-use crate::header::MAX_SIZE;
+use crate::header::APDU_LIMIT;
 use crate::laws::{read_again, short_has_the_size};
 use ill_values::{Apdu, OutOfMemory};
 use std::alloc::Global;
@@ -23,7 +23,7 @@ use std::marker::Model;
 #[derive(Debug, Drop)]
 pub struct Feed {
     alloc: Global,
-    buffer: [u8; MAX_SIZE],
+    buffer: [u8; APDU_LIMIT],
     size: usize,
     closed: Option<DerFault>,
 }
@@ -52,7 +52,7 @@ impl Feed {
     {
         Feed {
             alloc,
-            buffer: [0; MAX_SIZE],
+            buffer: [0; APDU_LIMIT],
             size: 0,
             closed: None,
         }
@@ -201,11 +201,11 @@ fn closing(fault: DerFault) -> Option<DerFault>
 
 /// Copies as many bytes of the piece behind the first of the buffer as there is room for, and gives how
 /// many bytes the buffer has then.
-fn fill(buffer: &mut [u8; MAX_SIZE], size: usize, piece: &[u8]) -> usize
+fn fill(buffer: &mut [u8; APDU_LIMIT], size: usize, piece: &[u8]) -> usize
     requires { size ≤ 359 }
     ensures { Fills buffer.old buffer.new size piece.now result }
 {
-    let count = piece.len().min(MAX_SIZE - size);
+    let count = piece.len().min(APDU_LIMIT - size);
     buffer[size..size + count].copy_from_slice(&piece[..count]);
     size + count
 }

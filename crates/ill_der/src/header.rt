@@ -4,15 +4,16 @@ ghost use Rattle.std.specs.Prelude.{◌≡◌, ◌+◌, ◌≤◌, length, IfOk}
 ghost use Rattle.ill_der.specs.Format.{length_of};
 ghost use Rattle.ill_der.specs.ShortForm.{header_at, header_by};
 
-use crate::apdu_type::ApduType;
 use crate::fault::DerFault;
+use crate::identifier::type_with;
 use crate::length::{LengthForm, length_of};
+use ill_values::ApduType;
 
 /// The largest number of contents octets of an APDU.
 const MAX_CONTENTS: u16 = 355;
 
-/// How many bytes the longest APDU has.
-pub const MAX_SIZE: usize = 359;
+/// The most bytes of an APDU.
+pub const APDU_LIMIT: usize = 359;
 
 /// What the identifier and the length of an APDU say.
 #[derive(Clone, Copy, Debug)]
@@ -21,7 +22,7 @@ pub struct Header {
     pub apdu_type: ApduType,
     /// Where the contents begin, in bytes from the first byte of the APDU.
     pub start: u16,
-    /// How many bytes the APDU has: at most `MAX_SIZE`.
+    /// How many bytes the APDU has: at most `APDU_LIMIT`.
     pub size: u16,
 }
 
@@ -36,7 +37,7 @@ pub fn header_at(bytes: &[u8]) -> Result<Header, DerFault>
 {
     match bytes {
         [] => Err(DerFault::Short(0)),
-        [identifier, behind @ ..] => match ApduType::with_identifier(*identifier) {
+        [identifier, behind @ ..] => match type_with(*identifier) {
             Some(apdu_type) => header_by(apdu_type, behind),
             None => Err(DerFault::Tag(0)),
         },

@@ -1,7 +1,6 @@
 //! The short form of interlibrary loan messages: DER (X.690) with this profile's application tags.
 #![tactic(auto)]
 
-mod apdu_type;
 mod apdu_view;
 mod counted;
 mod cursor;
@@ -11,6 +10,7 @@ mod fault;
 mod feed;
 mod handling;
 mod header;
+mod identifier;
 pub mod laws;
 mod length;
 mod reading;
@@ -25,6 +25,7 @@ pub use encoding::{encode, encode_onto};
 pub use fault::{DerFault, ReadFault, WriteFault};
 pub use feed::{Feed, Pushed};
 pub use handling::Handler;
+pub use header::APDU_LIMIT;
 pub use reading::{read_apdu, read_apdu_counted};
 pub use sizing::size;
 pub use steps::Steps;

@@ -6,7 +6,7 @@ ghost use Rattle.ill_der.specs.Stream.{AreUnfinished, IsJudged, ReadsApdu, missi
 use crate::counted::CountedRead;
 use crate::decoding::decode;
 use crate::fault::{DerFault, ReadFault};
-use crate::header::{MAX_SIZE, header_at};
+use crate::header::{APDU_LIMIT, header_at};
 use crate::steps::Steps;
 use ill_values::Apdu;
 use ill_values::laws::{date_texts, text_sizes};
@@ -16,7 +16,7 @@ use std::marker::Brand;
 use std::sync::ledger::{Blank, Ledger};
 
 /// A read for each byte, and one that finds the end.
-const READS: usize = MAX_SIZE + 1;
+const READS: usize = APDU_LIMIT + 1;
 
 /// Reads one APDU, or gives `None` where the input has ended.
 ///
@@ -65,7 +65,7 @@ fn read_counted<R: CountedRead, L: Ledger>(
     ensures read { ReadsApdu (R.remaining reader.old) (R.remaining reader.new) result }
     ensures reads { steps.new ≤ steps.old + 360 }
 {
-    let mut bytes = [0; MAX_SIZE];
+    let mut bytes = [0; APDU_LIMIT];
     let mut size = 0;
     for _ in 0..READS {
         let missing = missing(&bytes[..size]);

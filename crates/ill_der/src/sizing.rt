@@ -4,7 +4,8 @@ ghost use Rattle.std.specs.Prelude.{◌≡◌, ◌+◌, ◌≤◌, ◌<◌, ◌+
 ghost use Rattle.ill_values.specs.Day.{Date};
 ghost use Rattle.ill_der.specs.Contents.{number_octets, yes_no, date};
 ghost use Rattle.ill_der.specs.Format.{length_octets, element, required, optional, where_yes};
-ghost use Rattle.ill_der.specs.Types.{identifier_of, type_of};
+ghost use Rattle.ill_values.specs.Types.{type_of};
+ghost use Rattle.ill_der.specs.Types.{identifier_of};
 ghost use Rattle.ill_der.specs.ShortForm.{qualifiers, txn_id, head, head_of, spell_body, contents_of, spelling};
 
 use ill_values::{Apdu, Body, Day, Number, TxnId};

@@ -1,11 +1,11 @@
 //! APDUs in words.
 
 use crate::buffer::Buffer;
-use ill_values::{AnswerResult, Apdu, Body, Day, Number};
+use ill_values::{Apdu, Body, Day, Number};
 
 /// Adds an APDU in words: its type, and the names of its fields with their values.
 pub fn push_apdu(words: &mut Buffer, apdu: &Apdu) {
-    words.push(name(&apdu.body));
+    words.push(apdu.body.type_name().as_bytes());
     push_text(words, b", group ", apdu.txn.group());
     push_text(words, b", transaction ", apdu.txn.transaction());
     push_number(words, b", number ", apdu.number);
@@ -19,7 +19,10 @@ fn push_fields(words: &mut Buffer, body: &Body) {
             push_day(words, b", expiry ", *expiry);
             push_text(words, b", item ", item.text());
         }
-        Body::IllAnswer { result } => words.push(answer(*result)),
+        Body::IllAnswer { result } => {
+            words.push(b", result ");
+            words.push(result.name().as_bytes());
+        }
         Body::ConditionalReply { answers, yes } => push_reply(words, *answers, *yes),
         Body::CancelReply { answers, yes } => push_reply(words, *answers, *yes),
         Body::Shipped { due } => push_day(words, b", due date ", Some(*due)),
@@ -62,35 +65,4 @@ fn push_text(words: &mut Buffer, name: &[u8], text: &[u8]) {
     words.push_octet(b'"');
     words.push(text);
     words.push_octet(b'"');
-}
-
-fn name(body: &Body) -> &'static [u8] {
-    match body {
-        Body::IllRequest { .. } => b"ILL-Request",
-        Body::Shipped { .. } => b"Shipped",
-        Body::IllAnswer { .. } => b"ILL-Answer",
-        Body::ConditionalReply { .. } => b"Conditional-Reply",
-        Body::Cancel => b"Cancel",
-        Body::CancelReply { .. } => b"Cancel-Reply",
-        Body::Received => b"Received",
-        Body::Recall => b"Recall",
-        Body::Returned => b"Returned",
-        Body::CheckedIn => b"Checked-In",
-        Body::Overdue { .. } => b"Overdue",
-        Body::Renew { .. } => b"Renew",
-        Body::RenewAnswer { .. } => b"Renew-Answer",
-        Body::Expired => b"Expired",
-    }
-}
-
-fn answer(found: AnswerResult) -> &'static [u8] {
-    match found {
-        AnswerResult::Conditional => b", result conditional",
-        AnswerResult::Retry => b", result retry",
-        AnswerResult::Unfilled => b", result unfilled",
-        AnswerResult::LocationsProvided => b", result locations-provided",
-        AnswerResult::WillSupply => b", result will-supply",
-        AnswerResult::HoldPlaced => b", result hold-placed",
-        AnswerResult::Estimate => b", result estimate",
-    }
 }

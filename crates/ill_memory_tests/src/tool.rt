@@ -9,7 +9,7 @@ use crate::stores::store;
 use crate::words::{Words, named};
 use ill_core::State;
 use ill_saved::{Desk1, DeskFault, MemoryStore, NextCall, StoreFault};
-use ill_tool::{ToolFault, run_act, run_send, run_status, run_take};
+use ill_tool::{ToolFault, run_act, run_loan, run_long_take, run_send, run_status, run_take};
 use ill_values::{Day, Number};
 use std::alloc::Global;
 
@@ -20,9 +20,12 @@ enum Command {
     Act(&'static [&'static str]),
     /// It takes these bytes.
     Take(&'static [u8]),
+    /// It takes these bytes, and its lines are long.
+    LongTake(&'static [u8]),
     /// It sends the message with this number.
     Send(u8),
     Status,
+    Loan,
     /// What has landed is loaded again. No engine does so but the desk.
     Restart,
 }
@@ -127,12 +130,17 @@ fn run(
             let mut reader = bytes;
             run_take(alloc, desk, &mut reader, output)
         }
+        Command::LongTake(bytes) => {
+            let mut reader = bytes;
+            run_long_take(alloc, desk, &mut reader, output)
+        }
         Command::Send(number) => match Number::new(number) {
             Some(number) => run_send(alloc, desk, number, output).and(Ok(true)),
             None => Ok(false),
         },
         Command::Restart => Ok(desk.restart(alloc).and(Ok(true))?),
         Command::Status => run_status(alloc, desk, output).and(Ok(true)),
+        Command::Loan => run_loan(alloc, desk, output).and(Ok(true)),
     }
 }
 
@@ -145,7 +153,7 @@ fn case_of(command: &str, role: Role) -> Option<Case> {
 }
 
 /// The commands on a requester in CONDITIONAL, which has issued its request.
-static ON_REQUESTER: [(&str, Case); 4] = [
+static ON_REQUESTER: [(&str, Case); 6] = [
     (
         "run_act",
         Case {
@@ -164,6 +172,17 @@ static ON_REQUESTER: [(&str, Case); 4] = [
             plan: NextCall::Works,
             answer: Ok(true),
             output: b"taken SHIPPED 20250315 1/1\n",
+            after: (State::Shipped, 1),
+            landed: (State::Shipped, 1),
+        },
+    ),
+    (
+        "run_long_take",
+        Case {
+            command: Command::LongTake(SHIPPED),
+            plan: NextCall::Works,
+            answer: Ok(true),
+            output: b"G1 T1 Shipped 1 taken SHIPPED 20250315 1/1\n  date 20250315\n",
             after: (State::Shipped, 1),
             landed: (State::Shipped, 1),
         },
@@ -190,10 +209,21 @@ static ON_REQUESTER: [(&str, Case); 4] = [
             landed: (State::Conditional, 1),
         },
     ),
+    (
+        "run_loan",
+        Case {
+            command: Command::Loan,
+            plan: NextCall::Works,
+            answer: Ok(true),
+            output: b"role requester\ngroup G1\ntransaction T1\nstate CONDITIONAL\ndue -\nmessages 1/1\nmarks -\nnext mine\nnow reply\nitem Maps\nexpiry -\nheld 1\n\napdu ILL-Request\ngroup G1\ntransaction T1\nnumber 1\nitem Maps\nleaves yes\n",
+            after: (State::Conditional, 1),
+            landed: (State::Conditional, 1),
+        },
+    ),
 ];
 
 /// The commands on a responder in IN-PROCESS, which has issued two messages.
-static ON_RESPONDER: [(&str, Case); 4] = [
+static ON_RESPONDER: [(&str, Case); 5] = [
     (
         "run_act",
         Case {
@@ -234,6 +264,17 @@ static ON_RESPONDER: [(&str, Case); 4] = [
             plan: NextCall::Works,
             answer: Ok(true),
             output: b"role responder\ngroup G1\ntransaction T1\nstate IN-PROCESS\ndue -\nmessages 2/2\nmarks -\n",
+            after: (State::InProcess, 2),
+            landed: (State::InProcess, 2),
+        },
+    ),
+    (
+        "run_loan",
+        Case {
+            command: Command::Loan,
+            plan: NextCall::Works,
+            answer: Ok(true),
+            output: b"role responder\ngroup G1\ntransaction T1\nstate IN-PROCESS\ndue -\nmessages 2/2\nmarks -\nnext mine\nnow answer ship expire\nitem Maps\nexpiry -\naccepted 1\nlast-cancel -\nlast-renew -\n\napdu ILL-Answer\ngroup G1\ntransaction T1\nnumber 1\nresult conditional\nleaves yes\n\napdu ILL-Answer\ngroup G1\ntransaction T1\nnumber 2\nresult will-supply\nleaves yes\n",
             after: (State::InProcess, 2),
             landed: (State::InProcess, 2),
         },

@@ -11,8 +11,8 @@ use Rattle.ill_values.specs.Day.{Date}
 use Rattle.ill_values.specs.Text.{IsQualifier}
 use Rattle.sha2.specs.Sha256.{sha256}
 use Rattle.sha2.proofs.Facts256.{length-sha256}
-use Rattle.ill_der.specs.declared.apdu_type.ApduType.TheVariants.{IllRequest}
-use Rattle.ill_der.specs.Types.{type_of}
+use Rattle.ill_values.specs.declared.apdu_type.ApduType.TheVariants.{IllRequest}
+use Rattle.ill_values.specs.Types.{type_of}
 use Rattle.ill_der.specs.ShortForm.{spelling}
 use Rattle.ill_core.specs.declared.state.State.{State}
 use Rattle.ill_core.specs.Bodies.{is_ill_request, is_requesters}

@@ -1,4 +1,6 @@
--- What a fault of a lower layer is to a desk: want of memory is the desk's own (this profile's own).
+-- What a fault of a lower layer is to a desk: want of memory is the desk's own (this profile's own); and the place
+-- of a fault of a record.
+use Rattle.std.specs.Prelude.{ℕ, Option, Some, None}
 use Rattle.ill_der.specs.declared.fault.DerFault.{DerFault}
 use Rattle.ill_der.specs.declared.fault.DerFault.TheVariants as ders
 use Rattle.ill_core.specs.declared.refusal.Refusal.{Refusal}
@@ -25,3 +27,8 @@ of_store other = Store other
 abbrev pub of_record : RecordFault → DeskFault
 of_record records.OutOfMemory = OutOfMemory
 of_record other = Saved other
+
+-- the offset of a fault, if it has one
+abbrev pub place_of : RecordFault → Option ℕ
+place_of (records.Bad at) = Some at
+place_of other = None

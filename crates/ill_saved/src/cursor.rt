@@ -12,10 +12,10 @@ ghost use Rattle.ill_saved.specs.Sides.{most_sides};
 
 use crate::fault::{LayoutFault, RecordFault};
 use crate::role::Role;
-use crate::sides::MOST_SIDES;
+use crate::sides::SIDES_LIMIT;
 use ill_core::State;
 use ill_der::{DerFault, decode};
-use ill_values::{Apdu, Body, Day, Number, TxnId};
+use ill_values::{Apdu, Body, Day, Number, QUALIFIER_LIMIT, TxnId};
 use std::alloc::Global;
 use std::marker::Model;
 
@@ -118,7 +118,7 @@ impl<'a> Cursor<'a> {
         let at = self.at;
         let octets = self.bytes(2)?;
         let count = u16::from_be_bytes([octets[0], octets[1]]);
-        if count > MOST_SIDES as u16 {
+        if count > SIDES_LIMIT as u16 {
             Err(LayoutFault::Bad(at))
         } else {
             Ok(count)
@@ -251,11 +251,11 @@ impl<'a> Cursor<'a> {
         ensures near { OnOk result (self.new.at ≡ self.old.at + 1) }
     {
         let at = self.at;
-        let size = self.octet()?;
-        if size == 0 || size > 64 {
+        let size = usize::from(self.octet()?);
+        if size == 0 || size > QUALIFIER_LIMIT {
             Err(LayoutFault::Bad(at))
         } else {
-            Ok(usize::from(size))
+            Ok(size)
         }
     }
 

@@ -2,7 +2,7 @@
 
 ghost use Rattle.std.specs.Prelude.{◌≡◌};
 ghost use Rattle.ill_saved.specs.Layout.{record_fault};
-ghost use Rattle.ill_saved.specs.Faults.{of_bytes, of_core, of_store, of_record};
+ghost use Rattle.ill_saved.specs.Faults.{of_bytes, of_core, of_store, of_record, place_of};
 ghost use Rattle.ill_saved.specs.declared.fault.RecordFault.TheVariants.{OutOfMemory};
 ghost use Rattle.ill_saved.specs.declared.fault.SidesFault.TheVariants as sides;
 ghost use Rattle.ill_saved.specs.declared.fault.DeskFault.TheVariants as desks;
@@ -33,6 +33,18 @@ pub enum RecordFault {
     /// many sides has a digest.
     #[error("digest")]
     Digest,
+}
+
+impl RecordFault {
+    /// The offset of the fault, if it has one.
+    pub fn at(self) -> Option<u32>
+        ensures { result ≡ place_of self }
+    {
+        match self {
+            RecordFault::Bad(at) => Some(at),
+            _ => None,
+        }
+    }
 }
 
 /// The first fault of bytes that have not the layout of a record.

@@ -35,5 +35,5 @@ pub use many::Desk;
 pub use memory_store::MemoryStore;
 pub use role::Role;
 pub use side::{Action, Side};
-pub use sides::Sides;
+pub use sides::{SIDES_LIMIT, Sides};
 pub use store::{NextCall, Store, StoreFault};

@@ -22,7 +22,7 @@ use crate::laws::{
 use crate::memory_store::MemoryStore;
 use crate::role::Role;
 use crate::side::{Action, Side};
-use crate::sides::{MOST_SIDES, Sides};
+use crate::sides::{SIDES_LIMIT, Sides};
 use crate::store::{NextCall, Store};
 use ill_core::laws::responder_has_begun;
 use ill_core::{Refusal, Taking, is_ill_request, is_requesters};
@@ -188,7 +188,7 @@ impl<S: Store> Desk<S> {
         if !begins {
             return Err(DeskFault::NoSuchTransaction);
         }
-        if self.sides.len() < MOST_SIDES {
+        if self.sides.len() < SIDES_LIMIT {
             Ok(())
         } else {
             Err(DeskFault::DeskFull)

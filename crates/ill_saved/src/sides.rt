@@ -16,8 +16,8 @@ use indexmap::IndexMap;
 use std::alloc::Global;
 use std::marker::Model;
 
-/// The most sides that are held.
-pub const MOST_SIDES: usize = 1000;
+/// The most sides of one library that are held.
+pub const SIDES_LIMIT: usize = 1000;
 
 /// The sides of one library, all of one role, in the order in which they were put: none is idle, no two
 /// are of one transaction, and they are 1,000 at most.
@@ -78,7 +78,7 @@ impl Sides {
         if self.get(side.txn()).is_some() {
             return Some(SidesFault::Twice);
         }
-        if self.len() < MOST_SIDES {
+        if self.len() < SIDES_LIMIT {
             None
         } else {
             Some(SidesFault::Full)

@@ -4,6 +4,16 @@ pub mod ActionLemmas
 pub mod KeepingLemmas
 pub mod ActLemmas
 pub mod StatusLemmas
+pub mod ListLemmas
+pub mod WaitingLemmas
+pub mod DesksLemmas
+pub mod EscapeLemmas
+pub mod LoanLemmas
+pub mod JsonLemmas
 pub mod NewLemmas
 pub mod TakeLemmas
+pub mod LongLemmas
 pub mod RequestLemmas
+pub mod HtmlLemmas
+pub mod ReportLemmas
+pub mod VerifyLemmas

@@ -11,7 +11,8 @@ use Rattle.ill_tool.specs.Input.{StopsReading, ReadsInput}
 use Rattle.ill_tool.specs.declared.take.TakesEach.{TakesEach}
 use Rattle.ill_tool.specs.Keeping.{Keeping}
 use Rattle.ill_tool.specs.Performing.{View, ToolFailsCounted}
-use Rattle.ill_tool.specs.Take.{KeepsDesk, Progress, progress, takes_each, answer_of, RunsTake}
+use Rattle.ill_tool.specs.Telling.{Wording}
+use Rattle.ill_tool.specs.Take.{KeepsDesk, Progress, progress, takes_each, answer_of, RunsTaking}
 use Rattle.ill_tool.proofs.InputLemmas.{reads_as}
 
 -- ---- what each message keeps, an input keeps
@@ -31,49 +32,56 @@ unfailing : (fault : ToolFault) (count : ℕ) (bytes ahead : List ℕ) (left : O
 unfailing (Desk fault) count bytes ahead left before after stops = absurd stops
 unfailing other count bytes ahead left before after stops = tt
 
--- the desk that is lent, and the count of its store's failures
-module _ {S N : Type 0} (handles : Handles S ToolFault) (name : S → N) (failures : S → ℕ)
-    (keeps : (s t : S) (apdu : Apdu) (r : Result (Unit {0}) ToolFault) → handles s apdu r t → KeepsDesk r (name s) (name t) (failures s) (failures t)) where
-  handled_keeps : (before after : S) (apdus : List Apdu) → Handled handles before apdus after → (name after ≡ name before) × (failures before ≤ failures after)
-  handled_keeps before after [] is = (ap name is, omega (arith, ap failures is))
+-- the desk that is lent, what keeps messages, and the count of the store's failures
+module _ {S N M : Type 0} (is_kept : Bool) (handles : Handles S ToolFault) (name : S → N) (came : S → M) (failures : S → ℕ)
+    (keeps : (s t : S) (apdu : Apdu) (r : Result (Unit {0}) ToolFault) → handles s apdu r t → KeepsDesk is_kept r (name s) (name t) (came s) (came t) (failures s) (failures t)) where
+  handled_keeps : (before after : S) (apdus : List Apdu) → Handled handles before apdus after → ((name after ≡ name before) × (came after ≡ came before)) × (failures before ≤ failures after)
+  handled_keeps before after [] is = ((ap name is, ap came is), omega (arith, ap failures is))
   handled_keeps before after (apdu ∷ apdus) is =
       let one = keeps before is.0 apdu (Ok tt) is.1 in
       let on = handled_keeps is.0 after apdus is.2 in
-      (on.0 ∙ one.0, omega (arith, one.1.0, on.1))
+      ((on.0.0 ∙ one.0.0, on.0.1 ∙ one.0.1), omega (arith, one.1.0, on.1))
 
-  pub input_keeps : (old new : Option (List ℕ)) (before after : S) (result : Result ℕ ToolFault) → ReadsInput handles old new before result after → KeepsDesk result (name before) (name after) (failures before) (failures after)
+  pub input_keeps : (old new : Option (List ℕ)) (before after : S) (result : Result ℕ ToolFault) → ReadsInput handles old new before result after
+      → KeepsDesk is_kept result (name before) (name after) (came before) (came after) (failures before) (failures after)
   input_keeps old new before after (Ok n) is =
       let so_far = handled_keeps before is.3 is.0 is.4.handled in
       let same = is.4.ended.3 in
-      (ap name same ∙ so_far.0, (omega (arith, so_far.1, ap failures same), tt))
+      ((ap name same ∙ so_far.0.0, ap came same ∙ so_far.0.1), (omega (arith, so_far.1, ap failures same), λ none. tt))
   input_keeps old new before after (Err fault) is =
       let so_far = handled_keeps before is.3 is.0 is.4.handled in elim is.4.ended [
         | inl stops ↦ (
-          ap name stops.1 ∙ so_far.0,
-          (omega (arith, so_far.1, ap failures stops.1), unfailing fault _ is.1 is.2 new (failures before) (failures after) stops.0),
+          (ap name stops.1 ∙ so_far.0.0, ap came stops.1 ∙ so_far.0.1),
+          (omega (arith, so_far.1, ap failures stops.1), λ none. unfailing fault _ is.1 is.2 new (failures before) (failures after) stops.0),
         )
         | inr hand ↦
-            let one = keeps is.3 after hand.0 (Err fault) hand.4 in
-            (one.0 ∙ so_far.0, (omega (arith, so_far.1, one.1.0), fails_from fault (failures before) (failures is.3) (failures after) so_far.1 one.1.1))
+            let one = keeps is.3 after hand.0 (Err fault) hand.4 in (
+              (one.0.0 ∙ so_far.0.0, one.0.1 ∙ so_far.0.1),
+              (omega (arith, so_far.1, one.1.0), λ none. fails_from fault (failures before) (failures is.3) (failures after) so_far.1 (one.1.1 none)),
+            )
       ]
 
 -- ---- the command
 
--- an input whose messages are taken on a keeper that is lent
-module _ {T A B C L N W : Type 0} (keeping : Keeping L N) (view : T → View L) (failures : T → ℕ) (contents : W → Option (List ℕ)) where
-  abbrev how_far : TakesEach T A B C × W → Progress L
-  how_far s = progress (view s.0.keeper.now) (contents s.1) s.0.all_fine
+-- an input whose messages are taken on a keeper that is lent, and kept where they are
+module _ {T D A B C L N W : Type 0} {n m : ℕ} (is_kept : Bool) (told : Wording) (keeping : Keeping L N) (view : T → View L) (failures : T → ℕ) (kept : D → Option (List ℕ))
+    (contents : W → Option (List ℕ)) where
+  abbrev how_far : TakesEach T D n m A B C × W → Progress L
+  how_far s = progress (view s.0.keeper.now) (kept s.0.came.now) (contents s.1) s.0.all_fine
 
   -- what is done with each
-  abbrev pub TakesOn : Handles (TakesEach T A B C × W) ToolFault
-  TakesOn s apdu r t = takes_each keeping (how_far s) apdu r (how_far t) × KeepsDesk r s.0.keeper.ghost_name t.0.keeper.ghost_name (failures s.0.keeper.now) (failures t.0.keeper.now)
+  abbrev pub TakesOn : Handles (TakesEach T D n m A B C × W) ToolFault
+  TakesOn s apdu r t =
+      takes_each is_kept told keeping (how_far s) apdu r (how_far t)
+      × KeepsDesk is_kept r s.0.keeper.ghost_name t.0.keeper.ghost_name s.0.came.ghost_name t.0.came.ghost_name (failures s.0.keeper.now) (failures t.0.keeper.now)
 
-  pub input_taken : (old new : Option (List ℕ)) (before after : TakesEach T A B C × W) (result : Result ℕ ToolFault) → before.0.all_fine ≡ true → ReadsInput TakesOn old new before result after
-      → RunsTake keeping old new (contents before.1) (contents after.1) (view before.0.keeper.now) (answer_of result after.0.all_fine) (view after.0.keeper.now)
-      × KeepsDesk result before.0.keeper.ghost_name after.0.keeper.ghost_name (failures before.0.keeper.now) (failures after.0.keeper.now)
+  pub input_taken : (old new : Option (List ℕ)) (before after : TakesEach T D n m A B C × W) (result : Result ℕ ToolFault) → before.0.all_fine ≡ true → ReadsInput TakesOn old new before result after
+      → RunsTaking is_kept told keeping old new (kept before.0.came.now) (kept after.0.came.now) (contents before.1) (contents after.1) (view before.0.keeper.now) (answer_of result after.0.all_fine)
+      (view after.0.keeper.now)
+      × KeepsDesk is_kept result before.0.keeper.ghost_name after.0.keeper.ghost_name before.0.came.ghost_name after.0.came.ghost_name (failures before.0.keeper.now) (failures after.0.keeper.now)
   input_taken old new before after result fine is =
-      let taken = reads_as TakesOn (takes_each keeping) how_far (λ s t apdu r h. h.0) old new before after result is in
-      let first = progress (view before.0.keeper.now) (contents before.1) in (
-        (result, after.0.all_fine, refl, subst (λ (b : Bool). ReadsInput (takes_each keeping) old new (first b) result (how_far after)) fine taken),
-        input_keeps TakesOn (λ s. s.0.keeper.ghost_name) (λ s. failures s.0.keeper.now) (λ s t apdu r h. h.1) old new before after result is,
+      let taken = reads_as TakesOn (takes_each is_kept told keeping) how_far (λ s t apdu r h. h.0) old new before after result is in
+      let first = progress (view before.0.keeper.now) (kept before.0.came.now) (contents before.1) in (
+        (result, after.0.all_fine, refl, subst (λ (b : Bool). ReadsInput (takes_each is_kept told keeping) old new (first b) result (how_far after)) fine taken),
+        input_keeps is_kept TakesOn (λ s. s.0.keeper.ghost_name) (λ s. s.0.came.ghost_name) (λ s. failures s.0.keeper.now) (λ s t apdu r h. h.1) old new before after result is,
       )

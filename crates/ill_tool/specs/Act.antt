@@ -7,7 +7,7 @@ use Rattle.ill_tool.specs.declared.fault.ToolFault.{ToolFault}
 use Rattle.ill_tool.specs.declared.fault.ToolFault.TheVariants.{Arguments, OutOfMemory}
 use Rattle.ill_tool.specs.Keeping.{Keeping}
 use Rattle.ill_tool.specs.Performing.{View, acted, Performs}
-use Rattle.ill_tool.specs.Telling.{Reports}
+use Rattle.ill_tool.specs.Telling.{side_line, Reports}
 
 -- What an action did: it was done and saved; it was refused, and nothing changed; it was done, and the
 -- save failed; or memory ran out before it was done, or before it was saved.
@@ -23,6 +23,6 @@ abbrev pub RunsAct : {L K : Type 0} → Keeping L K → K → Option Action → 
 RunsAct keeping key (Some action) old before after result new =
     (performed : Result DeskOutcome ToolFault) × (text : List ℕ)
     × ActsAndSaves keeping key old action performed new × Appends before after text
-    × Reports performed (keeping.side_for key new.live) text result
+    × Reports side_line performed (keeping.side_for key new.live) text result
 RunsAct keeping key None old before after result new =
     ((result ≡ Err Arguments) ⊎ (result ≡ Err OutOfMemory)) × (new ≡ old) × Appends before after []

@@ -1,12 +1,19 @@
 -- What a command line asks for, by what it says behind the word of a command (this profile's own).
-use Rattle.std.specs.Prelude.{◌≡◌, ℕ, Bool, true, List, map, Option, None, Some, option_map, is_none, Result, Ok, Err}
+use Rattle.std.specs.Prelude.{◌≡◌, ℕ, Bool, true, false, if◌then◌else◌, List, map, codes, Option, None, Some, option_map, is_none, Result, Ok, Err}
 use Rattle.std.specs.Result.{result_ok}
+use Rattle.std.specs.Str.{bytes_eq}
 use Rattle.clap.specs.Words.{Row, Text, first_of, all_of}
 use Rattle.ill_values.specs.Day.{Date}
 use Rattle.ill_values.specs.TxnId.{Qualifiers, txn_id_of}
+use Rattle.ill_core.specs.declared.state.State.{State}
 use Rattle.ill_saved.specs.declared.role.Role.{Role as Who}
 use Rattle.ill_world.specs.Words.{◌>>=◌, who_named, day_of, number_of}
 use Rattle.ill_tool.specs.declared.fault.ToolFault.TheVariants.{Arguments, OutOfMemory}
+use Rattle.ill_tool.specs.declared.form.Form.{Form}
+use Rattle.ill_tool.specs.declared.form.Form.TheVariants as forms
+use Rattle.ill_tool.specs.declared.list.Which.{Which}
+use Rattle.ill_tool.specs.declared.list.Which.TheVariants as loans
+use Rattle.ill_tool.specs.declared.list.Wanted.{Wanted}
 use Rattle.ill_tool.specs.declared.request.Refusal.{Refusal}
 use Rattle.ill_tool.specs.declared.request.Refusal.TheVariants.{Usage, Fault}
 use Rattle.ill_tool.specs.declared.request.Request.{Request}
@@ -14,8 +21,9 @@ use Rattle.ill_tool.specs.declared.request.Request.TheVariants as requests
 use Rattle.ill_tool.specs.declared.command_line.Name.{Name}
 use Rattle.ill_tool.specs.declared.command_line.Name.TheVariants as names
 use Rattle.ill_tool.specs.declared.command_line.Argument.{Argument}
-use Rattle.ill_tool.specs.declared.command_line.Argument.TheVariants.{NewFile, File, Role, Group, Transaction, Today, Words, Number}
+use Rattle.ill_tool.specs.declared.command_line.Argument.TheVariants.{NewFile, File, Role, Group, Transaction, Today, Words, Number, Long, Keep, Picture, Open, Mine, Json, Paths, OnDay, DueBefore, InState, ReportDay}
 use Rattle.ill_tool.specs.CommandLine.{name_read, id_of}
+use Rattle.ill_core.specs.State.{state_named}
 
 -- ---- the arguments
 
@@ -38,52 +46,98 @@ loan_of found = do
   transaction ← text_of Transaction found
   result_ok (txn_id_of group transaction)
 
+-- the texts of an argument that has one or more
+abbrev pub texts_of : Argument → Found → Option (List (List ℕ))
+texts_of argument found = all_of (id_of argument) found
+
 -- a day, or none where none is said
 abbrev pub day_said : Option (List ℕ) → Option (Option Date)
 day_said None = Some None
 day_said (Some word) = option_map Some (day_of word)
 
--- the day of an action, which may be left out
-abbrev pub today_of : Found → Option (Option Date)
-today_of found = day_said (text_of Today found)
+-- a day, which may be left out
+abbrev pub day_in : Argument → Found → Option (Option Date)
+day_in argument found = day_said (text_of argument found)
 
--- the words of an action
-abbrev pub words_of : Found → Option (List (List ℕ))
-words_of found = all_of (id_of Words) found
+-- the day of a report
+abbrev pub report_day_of : Found → Option Date
+report_day_of found = text_of ReportDay found >>= day_of
+
+-- a state, or none where none is said
+abbrev pub state_said : Option (List ℕ) → Option (Option State)
+state_said None = Some None
+state_said (Some word) = option_map Some (state_named word)
+
+-- a state, which may be left out
+abbrev pub state_in : Found → Option (Option State)
+state_in found = state_said (text_of InState found)
 
 -- the number of a message
 abbrev pub number_of_message : Found → Option ℕ
 number_of_message found = text_of Number found >>= number_of
 
+-- the text of a flag is `true`, as that of one that stands in the words
+abbrev pub is_true : Option (List ℕ) → Bool
+is_true None = false
+is_true (Some text) = bytes_eq text (codes "true")
+
+abbrev pub is_set : Argument → Found → Bool
+is_set flag found = is_true (text_of flag found)
+
+-- those whose turn it is that are listed: of both flags the narrower one holds
+abbrev pub which_of : Found → Which
+which_of found =
+    if is_set Mine found then loans.Mine else (if is_set Open found then loans.Open else loans.All)
+
+-- the loans that are listed: all that is said of them holds
+abbrev pub wanted_of : Found → Option Wanted
+wanted_of found = do
+  today ← day_in OnDay found
+  due_before ← day_in DueBefore found
+  state ← state_in found
+  Some (record { which = which_of found; today = today; due_before = due_before; state = state })
+
+-- the form in which a command writes
+abbrev pub form_of : Found → Form
+form_of found = if is_set Json found then forms.Json else forms.Lines
+
 -- ---- the commands
 
 -- what is asked for
 pub data Asked : Type 0 where
-  Show : Asked
+  Show : (form : Form) → Asked
   Check : Asked
   Simulate : (group transaction : List ℕ) → Asked
   SimulateDesks : Asked
   New : (file : List ℕ) → (role : Who) → Asked
   Act : (file : List ℕ) → (txn : Qualifiers) → (today : Option Date) → (words : List (List ℕ)) → Asked
-  Take : (file : List ℕ) → Asked
+  Take : (file : List ℕ) → (is_long is_kept : Bool) → Asked
   Send : (file : List ℕ) → (txn : Qualifiers) → (number : ℕ) → Asked
-  Status : (file : List ℕ) → Asked
+  Listing : (paths : List (List ℕ)) → (wanted : Wanted) → Asked
+  Status : (file : List ℕ) → (form : Form) → Asked
+  Loan : (file : List ℕ) → (txn : Qualifiers) → (form : Form) → (is_picture : Bool) → Asked
+  Report : (paths : List (List ℕ)) → (today : Date) → Asked
+  Verify : (file : List ℕ) → Asked
 
 -- what a request asks for
 abbrev pub asked : Request → Asked
-asked requests.Show = Show
+asked (requests.Show form) = Show form
 asked requests.Check = Check
 asked (requests.Simulate group transaction) = Simulate group.now transaction.now
 asked requests.SimulateDesks = SimulateDesks
 asked (requests.New file role) = New file.now role
 asked (requests.Act file txn today words) = Act file.now txn today (map (λ word. word.now) words.items)
-asked (requests.Take file) = Take file.now
+asked (requests.Take file is_long is_kept) = Take file.now is_long is_kept
 asked (requests.Send file txn number) = Send file.now txn number
-asked (requests.Status file) = Status file.now
+asked (requests.List paths wanted) = Listing (map (λ path. path.now) paths.items) wanted
+asked (requests.Status file form) = Status file.now form
+asked (requests.Loan file txn form is_picture) = Loan file.now txn form is_picture
+asked (requests.Report paths today) = Report (map (λ path. path.now) paths.items) today
+asked (requests.Verify file) = Verify file.now
 
 -- what a command asks for with these arguments, if each is what it has to be
 abbrev pub asked_of : Name → Found → Option Asked
-asked_of names.Show found = Some Show
+asked_of names.Show found = Some (Show (form_of found))
 asked_of names.Check found = Some Check
 asked_of names.Simulate found = do
   group ← text_of Group found
@@ -96,21 +150,36 @@ asked_of names.New found = do
   Some (New file role)
 asked_of names.Act found = do
   file ← text_of File found
-  today ← today_of found
+  today ← day_in Today found
   txn ← loan_of found
-  words ← words_of found
+  words ← texts_of Words found
   Some (Act file txn today words)
 asked_of names.Take found = do
   file ← text_of File found
-  Some (Take file)
+  Some (Take file (is_set Long found) (is_set Keep found))
 asked_of names.Send found = do
   file ← text_of File found
   txn ← loan_of found
   number ← number_of_message found
   Some (Send file txn number)
+asked_of names.List found = do
+  paths ← texts_of Paths found
+  wanted ← wanted_of found
+  Some (Listing paths wanted)
 asked_of names.Status found = do
   file ← text_of File found
-  Some (Status file)
+  Some (Status file (form_of found))
+asked_of names.Loan found = do
+  file ← text_of File found
+  txn ← loan_of found
+  Some (Loan file txn (form_of found) (is_set Picture found))
+asked_of names.Report found = do
+  paths ← texts_of Paths found
+  today ← report_day_of found
+  Some (Report paths today)
+asked_of names.Verify found = do
+  file ← text_of File found
+  Some (Verify file)
 
 -- what is asked for by a word and the arguments behind it
 abbrev pub asked_by : List ℕ → Found → Option Asked

@@ -1,9 +1,10 @@
 -- The words that a command line has for commands, and what `clap` calls their arguments.
 use Rattle.std.specs.Prelude.{ℕ, List, [], ◌∷◌, codes, Option, find, bytes_eq}
 use Rattle.ill_tool.specs.declared.command_line.Name.{Name}
-use Rattle.ill_tool.specs.declared.command_line.Name.TheVariants.{New, Act, Take, Send, Status, Show, Check, Simulate, SimulateDesks}
+use Rattle.ill_tool.specs.declared.command_line.Name.TheVariants.{New, Act, Take, Send, Status, Loan, Report, Verify, Show, Check, Simulate, SimulateDesks}
+use Rattle.ill_tool.specs.declared.command_line.Name.TheVariants as names
 use Rattle.ill_tool.specs.declared.command_line.Argument.{Argument}
-use Rattle.ill_tool.specs.declared.command_line.Argument.TheVariants.{NewFile, File, Role, Group, Transaction, Today, Words, Number}
+use Rattle.ill_tool.specs.declared.command_line.Argument.TheVariants.{NewFile, File, Role, Group, Transaction, Today, Words, Number, Long, Keep, Picture, Open, Mine, Json, Paths, OnDay, DueBefore, InState, ReportDay}
 
 -- the word of a command
 abbrev pub word_of : Name → List ℕ
@@ -11,7 +12,11 @@ word_of New = codes "new"
 word_of Act = codes "act"
 word_of Take = codes "take"
 word_of Send = codes "send"
+word_of names.List = codes "list"
 word_of Status = codes "status"
+word_of Loan = codes "loan"
+word_of Report = codes "report"
+word_of Verify = codes "verify"
 word_of Show = codes "show"
 word_of Check = codes "check"
 word_of Simulate = codes "simulate"
@@ -20,7 +25,7 @@ word_of SimulateDesks = codes "simulate-desks"
 -- the command that a word stands for
 abbrev pub name_read : List ℕ → Option Name
 name_read word = find (λ name. bytes_eq (word_of name) word)
-    (New ∷ Act ∷ Take ∷ Send ∷ Status ∷ Show ∷ Check ∷ Simulate ∷ SimulateDesks ∷ [])
+    (New ∷ Act ∷ Take ∷ Send ∷ names.List ∷ Status ∷ Loan ∷ Report ∷ Verify ∷ Show ∷ Check ∷ Simulate ∷ SimulateDesks ∷ [])
 
 -- what an argument is called
 abbrev pub id_of : Argument → List ℕ
@@ -32,3 +37,14 @@ id_of Transaction = codes "TRANSACTION"
 id_of Today = codes "today"
 id_of Words = codes "WORDS"
 id_of Number = codes "NUMBER"
+id_of Long = codes "long"
+id_of Keep = codes "keep"
+id_of Picture = codes "picture"
+id_of Open = codes "open"
+id_of Mine = codes "mine"
+id_of Json = codes "json"
+id_of Paths = codes "PATH"
+id_of OnDay = codes "today"
+id_of DueBefore = codes "due-before"
+id_of InState = codes "state"
+id_of ReportDay = codes "today"

@@ -1,8 +1,11 @@
 -- What each command does, by what is asked for. A desk is that which was loaded from a file: nothing is
 -- known of what a file holds.
-use Rattle.std.specs.Prelude.{◌≡◌, ◌⊎◌, ℕ, Bool, true, List, codes, Option, Result, Ok, Err, IsErrAnd}
+use Rattle.std.specs.Prelude.{◌≡◌, ◌⊎◌, ℕ, Bool, true, nat_lt, List, ◌++◌, length, map, codes, Option, None, Result, Ok, Err, IsErrAnd}
+use Rattle.std.specs.Io.KnownBytes.{Appends}
 use Rattle.ill_values.specs.Day.{Date}
 use Rattle.ill_values.specs.TxnId.{Qualifiers, txn_id_of}
+use Rattle.ill_saved.specs.declared.side.Side.{Side}
+use Rattle.ill_saved.specs.declared.store.StoreFault.{StoreFault}
 use Rattle.ill_saved.specs.Many.{Held, Holding, found_by, txn_held}
 use Rattle.ill_tool.specs.declared.fault.ToolFault.{ToolFault}
 use Rattle.ill_tool.specs.declared.fault.ToolFault.TheVariants.{Desk, OutOfMemory}
@@ -15,9 +18,19 @@ use Rattle.ill_tool.specs.Check.{Checks}
 use Rattle.ill_tool.specs.Simulate.{Performs, PerformsDesks}
 use Rattle.ill_tool.specs.New.{RunsNew}
 use Rattle.ill_tool.specs.Act.{RunsAct}
-use Rattle.ill_tool.specs.Take.{RunsTake}
+use Rattle.ill_tool.specs.Telling.{wording}
+use Rattle.ill_tool.specs.Take.{RunsTaking}
 use Rattle.ill_tool.specs.Send.{RunsSend}
-use Rattle.ill_tool.specs.Status.{desk_lines}
+use Rattle.ill_tool.specs.Loan.{RunsLoan}
+use Rattle.ill_tool.specs.Kept.{RunsKeptLoan}
+use Rattle.ill_tool.specs.Picture.{drawn_or_shown}
+use Rattle.ill_tool.specs.Verify.{VerifiesLoaded}
+use Rattle.ill_tool.specs.declared.list.Wanted.{Wanted}
+use Rattle.ill_tool.specs.List.{list_lines, desks_text}
+use Rattle.ill_tool.specs.Report.{report_page}
+use Rattle.ill_tool.specs.declared.form.Form.{Form}
+use Rattle.ill_tool.specs.declared.form.Form.TheVariants.{Json, Lines}
+use Rattle.ill_tool.specs.Objects.{desk_text, loan_text}
 use Rattle.ill_tool.specs.Asked.{Asked}
 use Rattle.ill_tool.specs.Asked as asks
 
@@ -37,7 +50,7 @@ IsOpenFault OutOfMemory = Unit {0}
 IsOpenFault other = ⊥
 
 -- the file was not opened, or its lock was not had, and nothing was written
-abbrev pub IsShut : Option (List ℕ) → Option (List ℕ) → Result Bool ToolFault → Type 0
+abbrev pub IsShut : {A : Type 0} → Option (List ℕ) → Option (List ℕ) → Result A ToolFault → Type 0
 IsShut before after result = IsErrAnd result IsOpenFault × (after ≡ before)
 
 -- a desk was begun
@@ -53,13 +66,13 @@ ActsAtFile txn today words before after result =
     ⊎ ((old : View Holding) × (new : View Holding)
     × RunsAct many_sides txn (action_named old.live.role today words) old before after result new)
 
--- the APDUs of the input were taken at a desk
-abbrev pub TakesAtFile : Option (List ℕ) → Option (List ℕ) → Option (List ℕ) → Option (List ℕ) →
+-- the APDUs of the input were taken at a desk, and kept where that is asked for, and told in long words or short ones
+abbrev pub TakesAtFile : Bool → Bool → Option (List ℕ) → Option (List ℕ) → Option (List ℕ) → Option (List ℕ) →
     Result Bool ToolFault → Type 0
-TakesAtFile left rest before after result =
+TakesAtFile is_kept is_long left rest before after result =
     (IsShut before after result × (rest ≡ left))
     ⊎ ((old : View Holding) × (new : View Holding)
-    × RunsTake many_sides left rest before after old result new)
+    × RunsTaking is_kept (wording is_long) many_sides left rest None None before after old result new)
 
 -- the message with this number was written, of this transaction at a desk
 abbrev pub SendsAtFile : Qualifiers → ℕ → Option (List ℕ) → Option (List ℕ) → Result Bool ToolFault → Type 0
@@ -67,17 +80,66 @@ SendsAtFile txn number before after result =
     IsShut before after result
     ⊎ ((held : List Held) × GoesWell (RunsSend (found_by txn_held txn held) number before after) result)
 
--- the lines of what a desk holds were written
-abbrev pub ShowsFile : Option (List ℕ) → Option (List ℕ) → Result Bool ToolFault → Type 0
-ShowsFile before after result =
+-- what a desk holds was written in this form
+abbrev pub ShowsFile : Form → Option (List ℕ) → Option (List ℕ) → Result Bool ToolFault → Type 0
+ShowsFile form before after result =
     IsShut before after result
-    ⊎ ((held : List Held) × GoesWell (WritesText before after (desk_lines held)) result)
+    ⊎ ((held : List Held) × GoesWell (WritesText before after (desk_text form held)) result)
+
+-- the sides of a desk that are wanted were listed behind a heading
+abbrev pub ListsDesk : Wanted → List ℕ → Option (List ℕ) → Option (List ℕ) → Result (Unit {0}) ToolFault → Type 0
+ListsDesk wanted heading before after result =
+    IsShut before after result
+    ⊎ ((sides : List Side) × WritesText before after (heading ++ list_lines wanted sides) result)
+
+-- several desks are listed
+abbrev pub are_several : List (List ℕ) → Bool
+are_several files = nat_lt 1 (length files)
+
+-- The desks in these files were listed, one behind another; or some of them, and the next was not.
+abbrev pub ListsDesks : Wanted → List (List ℕ) → Option (List ℕ) → Option (List ℕ) →
+    Result (Unit {0}) ToolFault → Type 0
+ListsDesks wanted files before after (Ok done) =
+    (desks : List (List ℕ × List Side)) × (map (λ desk. desk.0) desks ≡ files)
+    × Appends before after (desks_text (are_several files) wanted desks)
+ListsDesks wanted files before after (Err fault) =
+    (desks : List (List ℕ × List Side)) × (between : Option (List ℕ)) × (heading : List ℕ)
+    × Appends before between (desks_text (are_several files) wanted desks)
+    × ListsDesk wanted heading between after (Err fault)
+
+-- the desks at paths were listed: those in these files
+abbrev pub ListsPaths : Wanted → Option (List ℕ) → Option (List ℕ) → Result Bool ToolFault → Type 0
+ListsPaths wanted before after result =
+    IsShut before after result
+    ⊎ ((files : List (List ℕ)) × GoesWell (ListsDesks wanted files before after) result)
+
+-- This transaction at a desk was written as an object; or it was shown, or drawn, with the messages that came.
+abbrev pub LoanAtFile : Form → Bool → Qualifiers → Option (List ℕ) → Option (List ℕ) → Result Bool ToolFault → Type 0
+LoanAtFile Json is_picture txn before after result =
+    IsShut before after result
+    ⊎ ((held : List Held) × GoesWell (RunsLoan (loan_text Json) (found_by txn_held txn held) before after) result)
+LoanAtFile Lines is_picture txn before after result =
+    IsShut before after result
+    ⊎ ((held : List Held) × (came : List ℕ)
+    × GoesWell (RunsKeptLoan (drawn_or_shown is_picture) (found_by txn_held txn held) came before after) result)
+
+-- what the record in a file has was written, or the fault of what its store gave
+abbrev pub VerifiesFile : Option (List ℕ) → Option (List ℕ) → Result Bool ToolFault → Type 0
+VerifiesFile before after result =
+    IsShut before after result
+    ⊎ ((loaded : Result (Option (List ℕ)) StoreFault) × GoesWell (VerifiesLoaded loaded before after) result)
+
+-- a page of the desks at paths was written
+abbrev pub ReportsPaths : Date → Option (List ℕ) → Option (List ℕ) → Result Bool ToolFault → Type 0
+ReportsPaths today before after result =
+    IsShut before after result
+    ⊎ ((desks : List (List ℕ × List Side)) × GoesWell (WritesText before after (report_page today desks)) result)
 
 -- A command, from what the reader had left to what it has left, and from what the writer held to what it
 -- holds.
 abbrev pub Runs : Asked → Option (List ℕ) → Option (List ℕ) → Option (List ℕ) → Option (List ℕ) →
     Result Bool ToolFault → Type 0
-Runs asks.Show left rest before after result = GoesWell (Shows left rest before after) result
+Runs (asks.Show form) left rest before after result = GoesWell (Shows form left rest before after) result
 Runs asks.Check left rest before after result = GoesWell (Checks left rest before after) result
 Runs (asks.Simulate group transaction) left rest before after result =
     GoesWell (Performs (txn_id_of group transaction) left rest before after) result
@@ -85,7 +147,14 @@ Runs asks.SimulateDesks left rest before after result = GoesWell (PerformsDesks 
 Runs (asks.New file role) left rest before after result = (rest ≡ left) × NewAtFile before after result
 Runs (asks.Act file txn today words) left rest before after result =
     (rest ≡ left) × ActsAtFile txn today words before after result
-Runs (asks.Take file) left rest before after result = TakesAtFile left rest before after result
+Runs (asks.Take file is_long is_kept) left rest before after result =
+    TakesAtFile is_kept is_long left rest before after result
 Runs (asks.Send file txn number) left rest before after result =
     (rest ≡ left) × SendsAtFile txn number before after result
-Runs (asks.Status file) left rest before after result = (rest ≡ left) × ShowsFile before after result
+Runs (asks.Listing paths wanted) left rest before after result =
+    (rest ≡ left) × ListsPaths wanted before after result
+Runs (asks.Status file form) left rest before after result = (rest ≡ left) × ShowsFile form before after result
+Runs (asks.Loan file txn form is_picture) left rest before after result =
+    (rest ≡ left) × LoanAtFile form is_picture txn before after result
+Runs (asks.Report paths today) left rest before after result = (rest ≡ left) × ReportsPaths today before after result
+Runs (asks.Verify file) left rest before after result = (rest ≡ left) × VerifiesFile before after result

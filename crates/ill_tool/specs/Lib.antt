@@ -1,3 +1,5 @@
+pub mod Escape
+pub mod Json
 pub mod Lines
 pub mod Input
 pub mod Output
@@ -8,11 +10,21 @@ pub mod Actions
 pub mod Keeping
 pub mod Performing
 pub mod Keeper
+pub mod LongLines
 pub mod Telling
 pub mod Act
 pub mod Take
 pub mod Send
 pub mod Status
+pub mod Loan
+pub mod Waiting
+pub mod Kept
+pub mod Picture
+pub mod Verify
+pub mod List
+pub mod Html
+pub mod Report
+pub mod Objects
 pub mod New
 pub mod ExitStatus
 pub mod CommandLine

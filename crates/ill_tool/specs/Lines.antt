@@ -4,40 +4,14 @@ use Rattle.std.specs.Fmt.{decimal}
 use Rattle.ill_values.specs.declared.apdu.Apdu.{Apdu}
 use Rattle.ill_values.specs.declared.apdu.Body.{Body}
 use Rattle.ill_values.specs.declared.apdu.Body.TheVariants.{IllRequest, IllAnswer, ConditionalReply, Cancel, CancelReply, Shipped, Received, Recall, Returned, CheckedIn, Overdue, Renew, RenewAnswer, Expired}
-use Rattle.ill_values.specs.declared.apdu.AnswerResult.{AnswerResult}
-use Rattle.ill_values.specs.declared.apdu.AnswerResult.TheVariants.{Conditional, Retry, Unfilled, LocationsProvided, WillSupply, HoldPlaced, Estimate}
 use Rattle.ill_values.specs.Day.{Date, date_text}
+use Rattle.ill_values.specs.Results.{result_name}
+use Rattle.ill_values.specs.Types.{type_name}
+use Rattle.ill_tool.specs.Escape.{escaped}
 
 -- a line: a label, a space, a value and a line feed
 unfoldable pub line : List ℕ → List ℕ → List ℕ
 line label value = label ++ 32 ∷ value ++ 10 ∷ []
-
--- the name of a type of APDU
-abbrev pub name_of : Body → List ℕ
-name_of (IllRequest expiry item) = codes "ILL-Request"
-name_of (IllAnswer result) = codes "ILL-Answer"
-name_of (ConditionalReply answers is_yes) = codes "Conditional-Reply"
-name_of Cancel = codes "Cancel"
-name_of (CancelReply answers is_yes) = codes "Cancel-Reply"
-name_of (Shipped due) = codes "Shipped"
-name_of Received = codes "Received"
-name_of Recall = codes "Recall"
-name_of Returned = codes "Returned"
-name_of CheckedIn = codes "Checked-In"
-name_of (Overdue due) = codes "Overdue"
-name_of (Renew wished) = codes "Renew"
-name_of (RenewAnswer answers granted) = codes "Renew-Answer"
-name_of Expired = codes "Expired"
-
--- the word of a result
-abbrev pub word_of : AnswerResult → List ℕ
-word_of Conditional = codes "conditional"
-word_of Retry = codes "retry"
-word_of Unfilled = codes "unfilled"
-word_of LocationsProvided = codes "locations-provided"
-word_of WillSupply = codes "will-supply"
-word_of HoldPlaced = codes "hold-placed"
-word_of Estimate = codes "estimate"
 
 abbrev pub reply_word : Bool → List ℕ
 reply_word true = codes "yes"
@@ -65,7 +39,7 @@ grant_lines answers (Some d) = reply_lines answers true ++ date_line d
 -- the lines of the further fields
 abbrev pub field_lines : Body → List ℕ
 field_lines (IllRequest expiry item) = optional_date_line expiry ++ line (codes "item") item
-field_lines (IllAnswer result) = line (codes "result") (word_of result)
+field_lines (IllAnswer result) = line (codes "result") (result_name result)
 field_lines (ConditionalReply answers is_yes) = reply_lines answers is_yes
 field_lines Cancel = []
 field_lines (CancelReply answers is_yes) = reply_lines answers is_yes
@@ -86,12 +60,20 @@ id_lines group transaction = line (codes "group") group ++ line (codes "transact
 -- the lines of what each APDU has: its type, its transaction and its number
 abbrev pub head_lines : Apdu → List ℕ
 head_lines apdu =
-    line (codes "apdu") (name_of apdu.body)
+    line (codes "apdu") (type_name apdu.body)
     ++ (id_lines apdu.txn.group apdu.txn.transaction ++ number_line (codes "number") apdu.number)
 
 -- the lines of an APDU
 unfoldable pub lines_of : Apdu → List ℕ
 lines_of apdu = head_lines apdu ++ field_lines apdu.body
+
+-- the same for a screen: with its item escaped
+abbrev pub shown_fields : Body → List ℕ
+shown_fields (IllRequest expiry item) = optional_date_line expiry ++ line (codes "item") (escaped item)
+shown_fields other = field_lines other
+
+unfoldable pub shown_lines : Apdu → List ℕ
+shown_lines apdu = head_lines apdu ++ shown_fields apdu.body
 
 -- the line of how many APDUs there are
 abbrev pub count_line : ℕ → List ℕ

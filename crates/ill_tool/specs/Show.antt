@@ -1,17 +1,24 @@
 -- Showing all APDUs of an input.
-use Rattle.std.specs.Prelude.{ℕ, List, Option, Result}
+use Rattle.std.specs.Prelude.{ℕ, Bool, true, false, List, Option, Result}
 use Rattle.ill_der.specs.Handling.{Handles}
 use Rattle.ill_tool.specs.declared.fault.ToolFault.{ToolFault}
 use Rattle.ill_tool.specs.Input.{ReadsInput}
-use Rattle.ill_tool.specs.Lines.{lines_of}
 use Rattle.ill_tool.specs.Output.{WritesText}
+use Rattle.ill_tool.specs.declared.form.Form.{Form}
+use Rattle.ill_tool.specs.declared.form.Form.TheVariants.{Lines, Json}
+use Rattle.ill_tool.specs.Objects.{apdu_text}
 
--- An APDU is shown: its lines are written. A state is what the writer holds.
-abbrev pub shows : Handles (Option (List ℕ)) ToolFault
-shows before apdu result after = WritesText before after (lines_of apdu) result
+-- objects, or lines
+abbrev pub form_of : Bool → Form
+form_of true = Json
+form_of false = Lines
+
+-- An APDU is shown: its text is written. A state is what the writer holds.
+abbrev pub shows : Form → Handles (Option (List ℕ)) ToolFault
+shows form before apdu result after = WritesText before after (apdu_text form apdu) result
 
 -- Showing, from what the reader had left to what it has left, and from what the writer held to what
 -- it holds.
-abbrev pub Shows : Option (List ℕ) → Option (List ℕ) → Option (List ℕ) → Option (List ℕ) →
+abbrev pub Shows : Form → Option (List ℕ) → Option (List ℕ) → Option (List ℕ) → Option (List ℕ) →
     Result ℕ ToolFault → Type 0
-Shows old new before after result = ReadsInput shows old new before result after
+Shows form old new before after result = ReadsInput (shows form) old new before result after

@@ -1,21 +1,23 @@
 -- The command `status`: seven lines that show a side.
-use Rattle.std.specs.Prelude.{ℕ, Bool, true, false, List, [], ◌∷◌, ◌++◌, length, Option, Some, None, codes}
+use Rattle.std.specs.Prelude.{ℕ, Bool, true, false, List, [], ◌∷◌, ◌++◌, length, codes}
 use Rattle.std.specs.List.{flat_map}
 use Rattle.std.specs.Fmt.{decimal}
 use Rattle.ill_core.specs.State.{state_name}
 use Rattle.ill_core.specs.Requester.{is_received_by, is_declined}
 use Rattle.ill_saved.specs.declared.side.Side.{Side}
 use Rattle.ill_saved.specs.declared.side.Side.TheVariants.{Requester, Responder}
-use Rattle.ill_saved.specs.Side.{issued_of, txn_of, state_of, due_date_of}
+use Rattle.ill_saved.specs.declared.role.Role.{Role}
+use Rattle.ill_saved.specs.declared.role.Role.TheVariants as roles
+use Rattle.ill_saved.specs.Side.{role_of, issued_of, txn_of, state_of, due_date_of}
 use Rattle.ill_saved.specs.Many.{Held}
 use Rattle.ill_world.specs.Words.{spaced}
 use Rattle.ill_world.specs.Trace.{due_text}
 use Rattle.ill_tool.specs.Lines.{line, id_lines}
 
--- the word of a role
-abbrev pub role_word : Side → List ℕ
-role_word (Requester x) = codes "requester"
-role_word (Responder y) = codes "responder"
+-- the name of a role
+abbrev pub role_name : Role → List ℕ
+role_name roles.Requester = codes "requester"
+role_name roles.Responder = codes "responder"
 
 -- a mark, if it holds
 abbrev pub mark : Bool → List ℕ → List (List ℕ)
@@ -41,7 +43,7 @@ counts_text side released = decimal released ++ codes "/" ++ decimal (length (is
 -- the lines of a side
 unfoldable pub status_lines : Side → ℕ → List ℕ
 status_lines side released =
-    line (codes "role") (role_word side) ++ id_lines (txn_of side).group (txn_of side).transaction
+    line (codes "role") (role_name (role_of side)) ++ id_lines (txn_of side).group (txn_of side).transaction
     ++ line (codes "state") (state_name (state_of side)) ++ line (codes "due") (due_text (due_date_of side))
     ++ line (codes "messages") (counts_text side released)
     ++ line (codes "marks") (spaced_or_dash (marks_of side))
@@ -49,10 +51,6 @@ status_lines side released =
 -- the lines of each side that is held, in their order
 abbrev pub held_lines : Held → List ℕ
 held_lines held = status_lines held.side held.released
-
-abbrev pub lines_of_one : Option Held → List ℕ
-lines_of_one (Some held) = held_lines held
-lines_of_one None = []
 
 abbrev pub desk_lines : List Held → List ℕ
 desk_lines held = flat_map held_lines held

@@ -1,16 +1,19 @@
 -- The command `take`: each APDU of an input is handed to the side that it is for, and saved where it was taken.
-use Rattle.std.specs.Prelude.{◌≡◌, ◌⊎◌, ℕ, Bool, true, ◌&&◌, List, Option, Result, Ok, Err}
+use Rattle.std.specs.Prelude.{◌≡◌, ◌⊎◌, ℕ, ◌≤◌, Bool, true, false, ◌&&◌, List, [], take, Option, None, Result, Ok, Err}
 use Rattle.std.specs.Io.KnownBytes.{Appends}
 use Rattle.ill_values.specs.declared.apdu.Apdu.{Apdu}
 use Rattle.ill_world.specs.declared.event.DeskOutcome.{DeskOutcome}
 use Rattle.ill_tool.specs.declared.fault.ToolFault.{ToolFault}
-use Rattle.ill_tool.specs.declared.fault.ToolFault.TheVariants.{OutOfMemory}
+use Rattle.ill_tool.specs.declared.fault.ToolFault.TheVariants.{Desk, OutOfMemory}
+use Rattle.ill_saved.specs.declared.fault.DeskFault.TheVariants as desks
+use Rattle.ill_saved.specs.declared.store.StoreFault.TheVariants.{Failed}
+use Rattle.ill_der.specs.ShortForm.{spelling}
 use Rattle.ill_der.specs.Handling.{Handles}
 use Rattle.ill_tool.specs.Input.{ReadsInput}
 use Rattle.ill_tool.specs.Keeping.{Keeping}
-use Rattle.ill_tool.specs.Performing.{View, handed, Performs, CountsToolFailure}
+use Rattle.ill_tool.specs.Performing.{View, handed, is_change, saved, IsFaulted, Performs, ToolFailsCounted}
 use Rattle.ill_tool.specs.Keeper.{WantsMemory}
-use Rattle.ill_tool.specs.Telling.{is_fine, side_line, Reports}
+use Rattle.ill_tool.specs.Telling.{is_fine, Wording, Reports}
 
 -- ---- one message
 
@@ -21,44 +24,108 @@ abbrev pub TakesAndSaves : {L K : Type 0} → Keeping L K → View L → Apdu �
 TakesAndSaves keeping old a result new =
     Performs keeping (WantsMemory keeping old.live a) old (handed keeping old.live a) result new
 
+-- ---- what is kept of it
+
+-- the bytes of a message, where it is kept
+abbrev pub kept_text : Bool → Apdu → List ℕ
+kept_text true a = spelling a
+kept_text false a = []
+
+-- A text was written and flushed; or a front of it was written, and that is a failure of the store; or memory ran
+-- out for it.
+abbrev pub KeepsFront : List ℕ → Option (List ℕ) → Option (List ℕ) → Result (Unit {0}) ToolFault → Type 0
+KeepsFront text before after (Ok done) = Appends before after text
+KeepsFront text before after (Err (Desk (desks.Store Failed))) = (size : ℕ) × Appends before after (take size text)
+KeepsFront text before after (Err OutOfMemory) = Appends before after []
+KeepsFront text before after (Err other) = ⊥
+
+-- A text is kept before more has landed: all of it is, or a front of it, and nothing more has landed.
+abbrev pub KeepsBefore : {L X : Type 0} → List ℕ → Result X ToolFault → Option (List ℕ) → Option (List ℕ) →
+    View L → View L → Type 0
+KeepsBefore text (Ok done) before after old new = Appends before after text
+KeepsBefore text (Err fault) before after old new =
+    Appends before after text
+    ⊎ ((size : ℕ) × Appends before after (take size text) × (new.landed ≡ old.landed))
+
+-- What is kept of a message: its bytes where it was taken, and else nothing. Where there was a fault, it was to be
+-- taken, and was kept before that landed.
+abbrev pub KeepsTaken : {L : Type 0} → Bool → Apdu → Result DeskOutcome ToolFault → Option (List ℕ) →
+    Option (List ℕ) → View L → View L → Type 0
+KeepsTaken is_kept a (Ok outcome) before after old new =
+    Appends before after (kept_text (is_change outcome && is_kept) a)
+KeepsTaken is_kept a (Err fault) before after old new =
+    KeepsBefore {X = Unit {0}} (kept_text is_kept a) (Err fault) before after old new
+
+-- What was taken is saved, or the save failed, or memory ran out for it.
+abbrev pub SavesTaken : {L K : Type 0} → Keeping L K → View L → Result (Unit {0}) ToolFault → View L → Type 0
+SavesTaken keeping old (Ok done) new = new ≡ saved keeping old
+SavesTaken keeping old (Err (Desk (desks.Store Failed))) new = IsFaulted keeping old new
+SavesTaken keeping old (Err OutOfMemory) new = new ≡ old
+SavesTaken keeping old (Err other) new = ⊥
+
+-- The count of the store's failures never falls. Where nothing is kept, a failure is answered only where it has
+-- risen, or can rise no more.
+abbrev pub CountsTaking : {X : Type 0} → Bool → Result X ToolFault → ℕ → ℕ → Type 0
+CountsTaking is_kept answer old new = (old ≤ new) × (is_kept ≡ false → ToolFailsCounted answer old new)
+
 -- ---- the command
 
--- how far the command is: what is known, what the writer holds, and whether all went well so far
+-- how far the command is: what is known, what is kept, what the writer holds, and whether all went well so far
 pub record Progress (L : Type 0) : Type 0 where
   pub view : View L
+  pub came : Option (List ℕ)
   pub written : Option (List ℕ)
   pub fine : Bool
 
-abbrev pub progress : {L : Type 0} → View L → Option (List ℕ) → Bool → Progress L
-progress view written fine = record { view = view; written = written; fine = fine }
+abbrev pub progress : {L : Type 0} → View L → Option (List ℕ) → Option (List ℕ) → Bool → Progress L
+progress view came written fine = record { view = view; came = came; written = written; fine = fine }
 
--- A message is taken: it was handed to its side, saved where it was taken, and told; or memory ran out
+-- A message is taken: it was handed to its side, kept, saved where it was taken, and told; or memory ran out
 -- to read it, and nothing changed; or it was performed as far as the fault let it, and told.
-abbrev pub takes_each : {L K : Type 0} → Keeping L K → Handles (Progress L) ToolFault
-takes_each keeping old a (Ok done) new =
+abbrev pub takes_each : {L K : Type 0} → Bool → Wording → Keeping L K → Handles (Progress L) ToolFault
+takes_each is_kept told keeping old a (Ok done) new =
     (outcome : DeskOutcome) × TakesAndSaves keeping old.view a (Ok outcome) new.view
-    × Appends old.written new.written (side_line outcome (keeping.side_for (keeping.key_of a) new.view.live))
+    × KeepsTaken is_kept a (Ok outcome) old.came new.came old.view new.view
+    × Appends old.written new.written (told a outcome (keeping.side_for (keeping.key_of a) new.view.live))
     × (new.fine ≡ old.fine && is_fine outcome)
-takes_each keeping old a (Err fault) new =
+takes_each is_kept told keeping old a (Err fault) new =
     ((fault ≡ OutOfMemory) × (new ≡ old))
     ⊎ ((performed : Result DeskOutcome ToolFault) × (text : List ℕ)
-    × TakesAndSaves keeping old.view a performed new.view × Appends old.written new.written text
-    × Reports performed (keeping.side_for (keeping.key_of a) new.view.live) text (Err fault))
+    × TakesAndSaves keeping old.view a performed new.view
+    × KeepsTaken is_kept a performed old.came new.came old.view new.view
+    × Appends old.written new.written text
+    × Reports (told a) performed (keeping.side_for (keeping.key_of a) new.view.live) text (Err fault))
 
 -- what is answered, at the end of the input or before it
 abbrev pub answer_of : Result ℕ ToolFault → Bool → Result Bool ToolFault
 answer_of (Ok count) fine = Ok fine
 answer_of (Err fault) fine = Err fault
 
--- Taking, from what the reader had left to what it has left, from what the writer held to what it
--- holds, and from what was known to what is known. At the end of the input it is answered whether
--- all went well.
-abbrev pub RunsTake : {L K : Type 0} → Keeping L K → Option (List ℕ) → Option (List ℕ) → Option (List ℕ) →
-    Option (List ℕ) → View L → Result Bool ToolFault → View L → Type 0
-RunsTake keeping old new before after from result to =
+-- Taking, told in these words, from what the reader had left to what it has left, from what is kept to what is,
+-- from what the writer held to what it holds, and from what was known to what is known. At the end of the input it
+-- is answered whether all went well.
+abbrev pub RunsTaking : {L K : Type 0} → Bool → Wording → Keeping L K → Option (List ℕ) → Option (List ℕ) →
+    Option (List ℕ) → Option (List ℕ) → Option (List ℕ) → Option (List ℕ) → View L → Result Bool ToolFault →
+    View L → Type 0
+RunsTaking is_kept told keeping old new kept_before kept_after before after from result to =
     (ended : Result ℕ ToolFault) × (fine : Bool) × (result ≡ answer_of ended fine)
-    × ReadsInput (takes_each keeping) old new (progress from before true) ended (progress to after fine)
+    × ReadsInput (takes_each is_kept told keeping) old new (progress from kept_before before true) ended
+    (progress to kept_after after fine)
 
--- the same keeper is lent, and its store's failures are counted
-abbrev pub KeepsDesk : {X N : Type 0} → Result X ToolFault → N → N → ℕ → ℕ → Type 0
-KeepsDesk result old new before after = (new ≡ old) × CountsToolFailure result before after
+-- the same, where no message is kept
+abbrev pub RunsTake : {L K : Type 0} → Wording → Keeping L K → Option (List ℕ) → Option (List ℕ) →
+    Option (List ℕ) → Option (List ℕ) → View L → Result Bool ToolFault → View L → Type 0
+RunsTake told keeping old new before after from result to =
+    RunsTaking false told keeping old new None None before after from result to
+
+-- the same, where each is kept that was taken
+abbrev pub RunsKeptTake : {L K : Type 0} → Wording → Keeping L K → Option (List ℕ) → Option (List ℕ) →
+    Option (List ℕ) → Option (List ℕ) → Option (List ℕ) → Option (List ℕ) → View L → Result Bool ToolFault →
+    View L → Type 0
+RunsKeptTake told keeping old new kept_before kept_after before after from result to =
+    RunsTaking true told keeping old new kept_before kept_after before after from result to
+
+-- what is lent is the same, and the failures of the store are counted
+abbrev pub KeepsDesk : {X N M : Type 0} → Bool → Result X ToolFault → N → N → M → M → ℕ → ℕ → Type 0
+KeepsDesk is_kept result old new old_came new_came before after =
+    ((new ≡ old) × (new_came ≡ old_came)) × CountsTaking is_kept result before after

@@ -1,6 +1,7 @@
--- The line of an outcome and of how a side stands, and what is answered with it (this profile's own).
+-- What is written of an outcome and of how a side stands, and what is answered with it (this profile's own).
 use Rattle.std.specs.Prelude.{◌≡◌, ℕ, Bool, true, false, List, [], ◌++◌, take, Option, codes, Result, Ok, Err}
 use Rattle.std.specs.Io.KnownBytes.{Appends}
+use Rattle.ill_values.specs.declared.apdu.Apdu.{Apdu}
 use Rattle.ill_core.specs.declared.taking.Taking.TheVariants.{Conflict}
 use Rattle.ill_saved.specs.Many.{Held}
 use Rattle.ill_world.specs.declared.event.Outcome.TheVariants as outcomes
@@ -9,6 +10,7 @@ use Rattle.ill_world.specs.declared.event.DeskOutcome.TheVariants.{Plain, NoSuch
 use Rattle.ill_world.specs.Trace.{desk_outcome_word, side_text}
 use Rattle.ill_tool.specs.declared.fault.ToolFault.{ToolFault}
 use Rattle.ill_tool.specs.declared.fault.ToolFault.TheVariants.{Write, OutOfMemory}
+use Rattle.ill_tool.specs.LongLines.{heading, said}
 
 -- whether all went well: nothing was refused, and no message was in conflict
 abbrev pub is_fine : DeskOutcome → Bool
@@ -30,17 +32,42 @@ side_line outcome now = desk_outcome_word outcome ++ codes " " ++ held_text now 
 abbrev pub done_line : Held → List ℕ
 done_line now = side_line (Plain outcomes.Done) now
 
--- What is written and answered of an outcome: its line, and whether all went well; a front of the line
--- where the writer failed; nothing without memory for the line, or where a fault stands in its place.
-abbrev pub Reports : Result DeskOutcome ToolFault → Held → List ℕ → Result Bool ToolFault → Type 0
-Reports (Ok outcome) now text (Ok fine) = (fine ≡ is_fine outcome) × (text ≡ side_line outcome now)
-Reports (Ok outcome) now text (Err Write) = (size : ℕ) × (text ≡ take size (side_line outcome now))
-Reports (Ok outcome) now text (Err OutOfMemory) = text ≡ []
-Reports (Ok outcome) now text (Err other) = ⊥
-Reports (Err fault) now text result = (result ≡ Err fault) × (text ≡ [])
+-- ---- messages
 
--- The line of an outcome was written, and whether all went well was answered; or a front of it, where
--- the writer failed; or nothing, without memory for it.
-abbrev pub Tells : Option (List ℕ) → Option (List ℕ) → DeskOutcome → Held → Result Bool ToolFault → Type 0
-Tells before after outcome now result =
-    (text : List ℕ) × Appends before after text × Reports (Ok outcome) now text result
+-- what is written of an outcome, and of how the side stands after it
+abbrev pub Words : Type 0
+Words = DeskOutcome → Held → List ℕ
+
+-- the same, of the outcome of a message
+abbrev pub Wording : Type 0
+Wording = Apdu → Words
+
+-- the line alone
+abbrev pub short : Wording
+short a = side_line
+
+-- which message it was, the line, and what it said
+abbrev pub long : Wording
+long a outcome now = heading a ++ side_line outcome now ++ said a
+
+-- the long words or the short ones
+abbrev pub wording : Bool → Wording
+wording true = long
+wording false = short
+
+-- ---- what is written and answered
+
+-- What is written and answered of an outcome: its words, and whether all went well; a front of them where
+-- the writer failed; nothing without memory for them, or where a fault stands in their place.
+abbrev pub Reports : Words → Result DeskOutcome ToolFault → Held → List ℕ → Result Bool ToolFault → Type 0
+Reports words (Ok outcome) now text (Ok fine) = (fine ≡ is_fine outcome) × (text ≡ words outcome now)
+Reports words (Ok outcome) now text (Err Write) = (size : ℕ) × (text ≡ take size (words outcome now))
+Reports words (Ok outcome) now text (Err OutOfMemory) = text ≡ []
+Reports words (Ok outcome) now text (Err other) = ⊥
+Reports words (Err fault) now text result = (result ≡ Err fault) × (text ≡ [])
+
+-- The words of an outcome were written, and whether all went well was answered; or a front of them, where
+-- the writer failed; or nothing, without memory for them.
+abbrev pub Tells : Words → Option (List ℕ) → Option (List ℕ) → DeskOutcome → Held → Result Bool ToolFault → Type 0
+Tells words before after outcome now result =
+    (text : List ℕ) × Appends before after text × Reports words (Ok outcome) now text result

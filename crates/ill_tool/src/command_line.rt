@@ -14,7 +14,11 @@ pub enum Name {
     Act,
     Take,
     Send,
+    List,
     Status,
+    Loan,
+    Report,
+    Verify,
     Show,
     Check,
     Simulate,
@@ -23,12 +27,16 @@ pub enum Name {
 
 /// All commands, in the order in which the help lists them: those that keep a desk in a file, and those
 /// that read standard input and keep nothing. clap is told of these and of no others.
-const NAMES: [Name; 9] = [
+const NAMES: [Name; 13] = [
     Name::New,
     Name::Act,
     Name::Take,
     Name::Send,
+    Name::List,
     Name::Status,
+    Name::Loan,
+    Name::Report,
+    Name::Verify,
     Name::Show,
     Name::Check,
     Name::Simulate,
@@ -37,7 +45,7 @@ const NAMES: [Name; 9] = [
 
 impl Name {
     /// The word that stands for the command.
-    fn word<'a>(self) -> &'a str
+    pub fn word<'a>(self) -> &'a str
         ensures { result.now ≡ word_of self }
     {
         match self {
@@ -45,7 +53,11 @@ impl Name {
             Name::Act => "act",
             Name::Take => "take",
             Name::Send => "send",
+            Name::List => "list",
             Name::Status => "status",
+            Name::Loan => "loan",
+            Name::Report => "report",
+            Name::Verify => "verify",
             Name::Show => "show",
             Name::Check => "check",
             Name::Simulate => "simulate",
@@ -60,7 +72,11 @@ impl Name {
             Name::Act => "Perform one action in a loan, and save it",
             Name::Take => "Take the APDUs on standard input, and save what they change",
             Name::Send => "Write the bytes of one message of a loan",
+            Name::List => "List the loans of desks, a line for each",
             Name::Status => "Show how each loan in a file stands",
+            Name::Loan => "Show all of one loan: request, messages, what may be done",
+            Name::Report => "Write a page for a browser of the loans of desks",
+            Name::Verify => "Read a desk, and tell what it has or what is wrong with it",
             Name::Show => "Show each APDU on standard input",
             Name::Check => "Check the APDUs on standard input and count them",
             Name::Simulate => "Perform a script of both sides of a loan, from standard input",
@@ -75,7 +91,11 @@ impl Name {
             Name::Act => help::ACT,
             Name::Take => help::TAKE,
             Name::Send => help::SEND,
+            Name::List => help::LIST,
             Name::Status => help::STATUS,
+            Name::Loan => help::LOAN,
+            Name::Report => help::REPORT,
+            Name::Verify => help::VERIFY,
             Name::Show => help::SHOW,
             Name::Check => help::CHECK,
             Name::Simulate => help::SIMULATE,
@@ -90,7 +110,11 @@ impl Name {
             Name::Act => help::ACT_EXAMPLE,
             Name::Take => help::TAKE_EXAMPLE,
             Name::Send => help::SEND_EXAMPLE,
+            Name::List => help::LIST_EXAMPLE,
             Name::Status => help::STATUS_EXAMPLE,
+            Name::Loan => help::LOAN_EXAMPLE,
+            Name::Report => help::REPORT_EXAMPLE,
+            Name::Verify => help::VERIFY_EXAMPLE,
             Name::Show => help::SHOW_EXAMPLE,
             Name::Check => help::CHECK_EXAMPLE,
             Name::Simulate => help::SIMULATE_EXAMPLE,
@@ -99,7 +123,7 @@ impl Name {
     }
 
     /// Its arguments, in their order.
-    fn arguments<'a>(self) -> &'a [Argument] {
+    pub fn arguments<'a>(self) -> &'a [Argument] {
         match self {
             Name::New => &[Argument::NewFile, Argument::Role],
             Name::Act => &[
@@ -109,15 +133,34 @@ impl Name {
                 Argument::Today,
                 Argument::Words,
             ],
-            Name::Take | Name::Status => &[Argument::File],
+            Name::Take => &[Argument::File, Argument::Long, Argument::Keep],
+            Name::Status => &[Argument::File, Argument::Json],
+            Name::Verify => &[Argument::File],
             Name::Send => &[
                 Argument::File,
                 Argument::Group,
                 Argument::Transaction,
                 Argument::Number,
             ],
+            Name::Loan => &[
+                Argument::File,
+                Argument::Group,
+                Argument::Transaction,
+                Argument::Picture,
+                Argument::Json,
+            ],
+            Name::Report => &[Argument::Paths, Argument::ReportDay],
+            Name::List => &[
+                Argument::Paths,
+                Argument::Open,
+                Argument::Mine,
+                Argument::OnDay,
+                Argument::DueBefore,
+                Argument::InState,
+            ],
             Name::Simulate => &[Argument::Group, Argument::Transaction],
-            Name::Show | Name::Check | Name::SimulateDesks => &[],
+            Name::Show => &[Argument::Json],
+            Name::Check | Name::SimulateDesks => &[],
         }
     }
 
@@ -145,6 +188,28 @@ pub enum Argument {
     Words,
     /// The number of a message.
     Number,
+    /// Whether `take` tells which message each was, and what it said.
+    Long,
+    /// Whether `take` keeps each message that was taken.
+    Keep,
+    /// Whether `loan` draws a loan.
+    Picture,
+    /// Whether the loans that are over are left out.
+    Open,
+    /// Whether the loans that wait for the other library are left out too.
+    Mine,
+    /// Whether objects of JSON are written.
+    Json,
+    /// The paths of desks, or of folders of them.
+    Paths,
+    /// The day on which it is found out which loans wait for this library.
+    OnDay,
+    /// The day before which the loans are due that are listed.
+    DueBefore,
+    /// The state of the loans that are listed.
+    InState,
+    /// The day of a report.
+    ReportDay,
 }
 
 impl Argument {
@@ -157,9 +222,18 @@ impl Argument {
             Argument::Role => "ROLE",
             Argument::Group => "GROUP",
             Argument::Transaction => "TRANSACTION",
-            Argument::Today => "today",
+            Argument::Today | Argument::OnDay | Argument::ReportDay => "today",
             Argument::Words => "WORDS",
             Argument::Number => "NUMBER",
+            Argument::Long => "long",
+            Argument::Keep => "keep",
+            Argument::Picture => "picture",
+            Argument::Open => "open",
+            Argument::Mine => "mine",
+            Argument::Json => "json",
+            Argument::Paths => "PATH",
+            Argument::DueBefore => "due-before",
+            Argument::InState => "state",
         }
     }
 
@@ -174,17 +248,29 @@ impl Argument {
             Argument::Today => "The day of the action, as 20250301; a responder needs it",
             Argument::Words => "The words of the action",
             Argument::Number => "The number of the message, 1 to 255",
+            Argument::Long => "Tell which message each was, and what it said",
+            Argument::Keep => "Keep each message that is taken, in FILE.came",
+            Argument::Picture => "Draw the messages of the loan, for Mermaid",
+            Argument::Open => "Leave out the loans that are over",
+            Argument::Mine => "List only the loans that wait for this library",
+            Argument::Json => "Write objects of JSON, one on a line",
+            Argument::Paths => "The file of a desk, or a folder of them",
+            Argument::OnDay => "The day, as 20250301: what is past its last day waits then",
+            Argument::DueBefore => "List only the loans that are due before this day",
+            Argument::InState => "List only the loans in this state, as SHIPPED",
+            Argument::ReportDay => "The day of the report, as 20250301",
         }
     }
 
-    /// How clap reads it. All but the day have to be there.
+    /// How clap reads it. All but the options and the flags have to be there.
     fn arg<'a>(self, alloc: Global) -> Arg<'a> {
         let arg = Arg::new(alloc, self.id()).help(self.help());
         match self {
-            Argument::Today => arg
-                .long("today")
-                .value_name("DAY")
-                .allow_hyphen_values(true),
+            Argument::Today | Argument::OnDay => valued(arg, "today", "DAY"),
+            Argument::DueBefore => valued(arg, "due-before", "DAY"),
+            Argument::InState => valued(arg, "state", "STATE"),
+            Argument::ReportDay => valued(arg, "today", "DAY").required(true),
+            Argument::Paths => arg.required(true).action(ArgAction::Append).num_args(1..),
             Argument::Words => arg
                 .required(true)
                 .action(ArgAction::Append)
@@ -192,9 +278,20 @@ impl Argument {
                 .allow_hyphen_values(true)
                 .trailing_var_arg(true),
             Argument::Number => arg.required(true).allow_hyphen_values(true),
+            Argument::Long => arg.long("long").action(ArgAction::SetTrue),
+            Argument::Keep => arg.long("keep").action(ArgAction::SetTrue),
+            Argument::Picture => arg.long("picture").action(ArgAction::SetTrue),
+            Argument::Open => arg.long("open").action(ArgAction::SetTrue),
+            Argument::Mine => arg.long("mine").action(ArgAction::SetTrue),
+            Argument::Json => arg.long("json").action(ArgAction::SetTrue),
             _ => arg.required(true),
         }
     }
+}
+
+/// An option with a value.
+fn valued<'a>(arg: Arg<'a>, name: &'a str, value: &'a str) -> Arg<'a> {
+    arg.long(name).value_name(value).allow_hyphen_values(true)
 }
 
 /// The command line of `ill`.
@@ -203,11 +300,20 @@ pub fn command<'a>(alloc: Global) -> Result<Command<'a>, Error> {
         .about("Interlibrary loan by store-and-forward messages")
         .version(help::VERSION)
         .subcommand_required(true)
-        .after_long_help(help::ILL);
+        .after_long_help(help::ILL)
+        .arg(explain(alloc))?;
     for name in &NAMES {
         command = command.subcommand(subcommand(alloc, *name)?)?;
     }
     Ok(command)
+}
+
+/// The option by which a person is told more of a fault. It stands before the command.
+fn explain<'a>(alloc: Global) -> Arg<'a> {
+    Arg::new(alloc, "explain")
+        .long("explain")
+        .help("Say more of what is wrong")
+        .action(ArgAction::SetTrue)
 }
 
 /// The command line of a command.

@@ -1,17 +1,38 @@
 //! The commands that keep a desk in a file. Their arguments were read before, but for the words of an
 //! action. A command that may change the file holds its lock from before the load to its end.
 
-ghost use Rattle.std.specs.Prelude.{◌≡◌, map, IfErr};
+ghost use Rattle.std.specs.Prelude.{◌≡◌, ◌++◌, true, false, map, string_bytes, IfErr, OnOk};
 ghost use Rattle.ill_saved.specs.Desk.{answer_of};
-ghost use Rattle.ill_tool.specs.Commands.{ActsAtFile, IsOpenFault, NewAtFile, SendsAtFile, ShowsFile, TakesAtFile, all_well};
+ghost use Rattle.ill_saved.specs.Many.{found_by, txn_held};
+ghost use Rattle.ill_tool.specs.Report.{AddsDesks};
+ghost use Rattle.ill_tool.specs.Commands.{ActsAtFile, IsOpenFault, ListsDesk, ListsDesks, ListsPaths, LoanAtFile, NewAtFile, ReportsPaths, SendsAtFile, ShowsFile, TakesAtFile, VerifiesFile, all_well};
+ghost use Rattle.ill_tool.specs.List.{gap, heading};
+ghost use Rattle.ill_tool.specs.Keeping.{many_sides};
+ghost use Rattle.ill_tool.specs.Kept.{RunsKeptLoan};
+ghost use Rattle.ill_tool.specs.Picture.{drawn_or_shown};
+ghost use Rattle.ill_tool.specs.declared.form.Form.TheVariants.{Json, Lines};
+ghost use Rattle.ill_tool.specs.Performing.{many_view};
+ghost use Rattle.ill_tool.specs.Take.{RunsTake};
+ghost use Rattle.ill_tool.specs.Telling.{wording};
 
 use crate::act::run_desk_act;
+use crate::came::{came_bytes, open_came};
 use crate::fault::ToolFault;
+use crate::folder::desk_paths;
+use crate::form::Form;
+use crate::kept::run_desk_kept_loan;
+use crate::list::{Wanted, heading, run_desk_list};
+use crate::loan::run_desk_loan_as;
 use crate::new::run_desk_new;
+use crate::picture::run_desk_picture;
+use crate::report::{end_page, push_desk, push_head};
 use crate::send::run_desk_send;
-use crate::status::run_desk_status;
-use crate::take::run_desk_take;
-use ill_saved::{Desk, DeskFault, FileLock, FileStore, LockFiles, RECORD_LIMIT};
+use crate::status::run_desk_status_as;
+use crate::take::{run_desk_kept_take, run_desk_long_take, run_desk_take};
+use crate::verify::run_desk_verify;
+use ill_saved::{
+    Desk, DeskFault, FileLock, FileStore, LockFiles, RECORD_LIMIT, SIDES_LIMIT, Store,
+};
 use ill_values::{Day, Number, TxnId};
 use ill_world::Who;
 use std::alloc::Global;
@@ -58,15 +79,74 @@ pub fn take<T: LockFiles, R: Read, W: Write>(
     rt: &T,
     alloc: Global,
     file: &str,
+    is_long: bool,
+    is_kept: bool,
     reader: &mut R,
     writer: &mut W,
 ) -> Result<bool, ToolFault>
-    ensures { TakesAtFile (R.remaining reader.old) (R.remaining reader.new)
+    ensures { TakesAtFile is_kept is_long (R.remaining reader.old) (R.remaining reader.new)
+        (W.contents writer.old) (W.contents writer.new) result }
+{
+    if is_kept {
+        return take_kept(rt, alloc, file, is_long, reader, writer);
+    }
+    let (lock, mut desk) = open_locked(rt, alloc, file)?;
+    let taken = take_told(alloc, &mut desk, is_long, reader, writer);
+    release(taken, desk, lock)
+}
+
+/// `ill take --keep`: the same, and each message that was taken is kept in the file beside that of the desk.
+fn take_kept<T: LockFiles, R: Read, W: Write>(
+    rt: &T,
+    alloc: Global,
+    file: &str,
+    is_long: bool,
+    reader: &mut R,
+    writer: &mut W,
+) -> Result<bool, ToolFault>
+    ensures { TakesAtFile true is_long (R.remaining reader.old) (R.remaining reader.new)
         (W.contents writer.old) (W.contents writer.new) result }
 {
     let (lock, mut desk) = open_locked(rt, alloc, file)?;
-    let taken = run_desk_take(alloc, &mut desk, reader, writer);
+    let taken = take_and_keep(rt, alloc, file, &mut desk, is_long, reader, writer);
     release(taken, desk, lock)
+}
+
+/// Takes the APDUs of the input at a desk, and keeps each that was taken beside its file, if that can be opened.
+fn take_and_keep<T: Files, S: Store, R: Read, W: Write>(
+    rt: &T,
+    alloc: Global,
+    file: &str,
+    desk: &mut Desk<S>,
+    is_long: bool,
+    reader: &mut R,
+    writer: &mut W,
+) -> Result<bool, ToolFault>
+    ensures { TakesAtFile true is_long (R.remaining reader.old) (R.remaining reader.new)
+        (W.contents writer.old) (W.contents writer.new) result }
+{
+    let mut came = open_came(rt, alloc, file)?;
+    run_desk_kept_take(alloc, desk, is_long, &mut came, reader, writer)
+}
+
+/// Takes the APDUs of the input at a desk, and tells of them in long words or short ones.
+fn take_told<S: Store, R: Read, W: Write>(
+    alloc: Global,
+    desk: &mut Desk<S>,
+    is_long: bool,
+    reader: &mut R,
+    writer: &mut W,
+) -> Result<bool, ToolFault>
+    ensures { RunsTake (wording is_long) many_sides (R.remaining reader.old) (R.remaining reader.new)
+        (W.contents writer.old) (W.contents writer.new)
+        (many_view S.is_honest S.landed desk.old) result
+        (many_view S.is_honest S.landed desk.new) }
+{
+    if is_long {
+        run_desk_long_take(alloc, desk, reader, writer)
+    } else {
+        run_desk_take(alloc, desk, reader, writer)
+    }
 }
 
 /// `ill send`: gives the bytes of a message of a transaction.
@@ -86,19 +166,245 @@ pub fn send<T: Files, W: Write>(
     all_well(sent)
 }
 
+/// `ill list`: lists the loans that are wanted of the desks at paths.
+pub fn list<T: Files, W: Write, E: Write>(
+    rt: &T,
+    alloc: Global,
+    paths: &[&str],
+    wanted: &Wanted,
+    writer: &mut W,
+    errors: &mut E,
+) -> Result<bool, ToolFault>
+    ensures { ListsPaths wanted.now (W.contents writer.old) (W.contents writer.new) result }
+{
+    let files = match desk_paths(rt, alloc, paths) {
+        Ok(files) => files,
+        Err(fault) => return Err(fault),
+    };
+    all_well(list_files(rt, alloc, &files, wanted, writer, errors))
+}
+
+/// Lists the desks in files, one behind another.
+fn list_files<T: Files, W: Write, E: Write>(
+    rt: &T,
+    alloc: Global,
+    files: &[String],
+    wanted: &Wanted,
+    writer: &mut W,
+    errors: &mut E,
+) -> Result<(), ToolFault>
+    ensures { ListsDesks wanted.now (map (λ file. string_bytes file) files.now)
+        (W.contents writer.old) (W.contents writer.new) result }
+{
+    for place in 0..files.len() {
+        let file = files[place].as_str();
+        let is_headed = files.len() > 1;
+        if let Err(fault) = list_file(
+            rt,
+            alloc,
+            file,
+            is_headed,
+            place == 0,
+            wanted,
+            writer,
+            errors,
+        ) {
+            return Err(fault);
+        }
+    }
+    Ok(())
+}
+
+/// Lists the desk in a file, behind a heading.
+fn list_file<T: Files, W: Write, E: Write>(
+    rt: &T,
+    alloc: Global,
+    file: &str,
+    is_headed: bool,
+    is_first: bool,
+    wanted: &Wanted,
+    writer: &mut W,
+    errors: &mut E,
+) -> Result<(), ToolFault>
+    ensures { ListsDesk wanted.now (gap is_first ++ heading is_headed file.now)
+        (W.contents writer.old) (W.contents writer.new) result }
+{
+    let heading = heading(alloc, file, is_headed, is_first)?;
+    let desk = open(rt, alloc, file)?;
+    let listed = run_desk_list(alloc, &desk, &heading, wanted, writer);
+    warn(alloc, file, desk.sides().len(), errors);
+    drop(desk);
+    listed
+}
+
+/// How many loans of a desk are so many that a person is told how much room is left.
+const MANY: usize = 900;
+
+/// Writes how much room a desk has, if it has many loans.
+fn warn<E: Write>(alloc: Global, file: &str, loans: usize, errors: &mut E) {
+    if loans < MANY {
+        return;
+    }
+    let room = SIDES_LIMIT.saturating_sub(loans);
+    if let Ok(line) = format!(in alloc; "ill: {file} has room for {room} more loans\n") {
+        let _ = errors.write_all(line.as_bytes());
+    }
+}
+
 /// `ill status`: shows the sides.
 pub fn status<T: Files, W: Write>(
     rt: &T,
     alloc: Global,
     file: &str,
+    form: Form,
     writer: &mut W,
 ) -> Result<bool, ToolFault>
-    ensures { ShowsFile (W.contents writer.old) (W.contents writer.new) result }
+    ensures { ShowsFile form (W.contents writer.old) (W.contents writer.new) result }
 {
     let desk = open(rt, alloc, file)?;
-    let shown = run_desk_status(alloc, &desk, writer);
+    let shown = run_desk_status_as(alloc, &desk, form, writer);
     drop(desk);
     all_well(shown)
+}
+
+/// `ill loan`: shows all that is known of a transaction.
+pub fn loan<T: Files, W: Write>(
+    rt: &T,
+    alloc: Global,
+    file: &str,
+    txn: &TxnId,
+    form: Form,
+    is_picture: bool,
+    writer: &mut W,
+) -> Result<bool, ToolFault>
+    ensures { LoanAtFile form is_picture txn.now (W.contents writer.old) (W.contents writer.new) result }
+{
+    match form {
+        Form::Json => loan_object(rt, alloc, file, txn, writer),
+        Form::Lines => loan_with_came(rt, alloc, file, txn, is_picture, writer),
+    }
+}
+
+/// Shows all that the record knows of a transaction, as an object.
+fn loan_object<T: Files, W: Write>(
+    rt: &T,
+    alloc: Global,
+    file: &str,
+    txn: &TxnId,
+    writer: &mut W,
+) -> Result<bool, ToolFault>
+    ensures { LoanAtFile Json false txn.now (W.contents writer.old) (W.contents writer.new) result }
+{
+    let desk = open(rt, alloc, file)?;
+    let shown = run_desk_loan_as(alloc, &desk, txn, Form::Json, writer);
+    drop(desk);
+    all_well(shown)
+}
+
+/// Shows all that is known of a transaction, or draws it, with the messages that came.
+fn loan_with_came<T: Files, W: Write>(
+    rt: &T,
+    alloc: Global,
+    file: &str,
+    txn: &TxnId,
+    is_picture: bool,
+    writer: &mut W,
+) -> Result<bool, ToolFault>
+    ensures { LoanAtFile Lines is_picture txn.now (W.contents writer.old) (W.contents writer.new) result }
+{
+    let desk = open(rt, alloc, file)?;
+    let came = came_bytes(rt, alloc, file)?;
+    let shown = shown_loan(alloc, &desk, txn, is_picture, &came, writer);
+    drop(desk);
+    all_well(shown)
+}
+
+/// Shows all that is known of a transaction, or draws it, with these bytes of the messages that came.
+fn shown_loan<S: Store, W: Write>(
+    alloc: Global,
+    desk: &Desk<S>,
+    txn: &TxnId,
+    is_picture: bool,
+    came: &[u8],
+    writer: &mut W,
+) -> Result<(), ToolFault>
+    ensures { RunsKeptLoan (drawn_or_shown is_picture) (found_by txn_held txn.now desk.now.live.held) came.now
+        (W.contents writer.old) (W.contents writer.new) result }
+{
+    if is_picture {
+        run_desk_picture(alloc, desk, txn, came, writer)
+    } else {
+        run_desk_kept_loan(alloc, desk, txn, came, writer)
+    }
+}
+
+/// `ill verify`: tells what a file has.
+pub fn verify<T: Files, W: Write>(
+    rt: &T,
+    alloc: Global,
+    file: &str,
+    writer: &mut W,
+) -> Result<bool, ToolFault>
+    ensures { VerifiesFile (W.contents writer.old) (W.contents writer.new) result }
+{
+    let mut store = FileStore::at(rt, alloc, file, RECORD_LIMIT)?;
+    let verified = run_desk_verify(alloc, &mut store, writer);
+    drop(store);
+    all_well(verified)
+}
+
+/// `ill report`: writes a page of the desks at paths.
+pub fn report<T: Files, W: Write>(
+    rt: &T,
+    alloc: Global,
+    paths: &[&str],
+    today: Day,
+    writer: &mut W,
+) -> Result<bool, ToolFault>
+    ensures { ReportsPaths today (W.contents writer.old) (W.contents writer.new) result }
+{
+    let files = desk_paths(rt, alloc, paths)?;
+    let mut page = Vec::new(alloc);
+    push_head(&mut page, today)?;
+    push_files(rt, alloc, &mut page, today, &files)?;
+    all_well(end_page(page, writer))
+}
+
+/// Adds what a page tells of the desks in files.
+fn push_files<T: Files>(
+    rt: &T,
+    alloc: Global,
+    page: &mut Vec<u8>,
+    today: Day,
+    files: &[String],
+) -> Result<(), ToolFault>
+    ensures told { OnOk result (AddsDesks today page.old.items page.new.items) }
+    ensures fault { IfErr result IsOpenFault }
+{
+    for file in files {
+        push_file(rt, alloc, page, today, file.as_str())?;
+    }
+    Ok(())
+}
+
+/// Adds what a page tells of the desk in a file.
+fn push_file<T: Files>(
+    rt: &T,
+    alloc: Global,
+    page: &mut Vec<u8>,
+    today: Day,
+    file: &str,
+) -> Result<(), ToolFault>
+    ensures told { OnOk result (AddsDesks today page.old.items page.new.items) }
+    ensures fault { IfErr result IsOpenFault }
+{
+    let desk = open(rt, alloc, file)?;
+    let told = push_desk(page, today, file, desk.sides());
+    drop(desk);
+    match told {
+        Ok(()) => Ok(()),
+        Err(_) => Err(ToolFault::OutOfMemory),
+    }
 }
 
 /// Answers that all went well, unless there was a fault.
@@ -162,7 +468,7 @@ fn release<D: Drop, L: Drop>(
 }
 
 /// The desk in a file.
-fn open<'a, T: Files>(
+pub fn open<'a, T: Files>(
     rt: &'a T,
     alloc: Global,
     file: &str,

@@ -5,17 +5,24 @@ pub const VERSION: &str = "0.2.0";
 pub const ILL: &str = "\
 A desk is the loans of one library in one role, and it is kept in a file: `new`
 begins it, `act` does what the library decides in a loan, `take` takes what
-comes from other libraries, `send` gives a message to carry there, and `status`
-tells how each loan stands. A loan is named by its GROUP and TRANSACTION. How
-messages are carried, by mail or by hand, is left to the libraries. `show`,
-`check`, `simulate` and `simulate-desks` keep nothing. `ill COMMAND --help`
-tells more of a command.
+comes from other libraries, and `send` gives a message to carry there. `list`
+lists the loans, those first that wait for the library, `status` tells how each
+of them stands, `loan` tells all of one, `verify` tells whether a file is well,
+and `report` writes a page of the loans for a browser. A loan is named by its
+GROUP and TRANSACTION. How messages are carried, by mail or by hand, is left to
+the libraries. `show`, `check`, `simulate` and `simulate-desks` keep nothing.
+`ill COMMAND --help` tells more of a command.
+
+With `--explain` before the command, lines behind that of a fault tell which
+word, file or message is wrong, and what would be right. They begin with spaces,
+and no program may rest on them.
 
 Several commands may be started at once on one file. Those that may change it,
 `new`, `act` and `take`, wait for each other: ten seconds, and then they end
-with `store failed`. A `take` holds the file until its input ends. `send` and
-`status` wait for nobody. No file of a desk may have a name that ends in `.new`
-or `.lck`: such files are the program's.
+with `store failed`. A `take` holds the file until its input ends. `send`,
+`list`, `status`, `loan`, `report` and `verify` wait for nobody. No file of a
+desk may have a name that ends in `.new` or `.lck`: such files are the
+program's.
 
 The start of a loan, with the requester's desk in the file `here` and the
 responder's in the file `there`:
@@ -180,6 +187,17 @@ OUTCOME is one of these; behind it the line says how its loan stands, as that of
   wrong-role             it is of a kind that this desk sends
   numbers-used           it wants an answer, and all 255 numbers are used
 
+With --long the line begins with what the message is, and its further fields
+stand behind it, as `ill show` has them, each on an indented line of its own:
+  GROUP TRANSACTION TYPE NUMBER OUTCOME STATE DUE RELEASED/ISSUED
+A character on which a terminal may act is shown by its number, as \\u{202e}.
+
+With --keep each message that is taken is kept as it came, in FILE.came, before
+that it was taken is saved. `ill show < FILE.came` shows all of them, and `ill
+loan` those of a loan. Nothing is decided by that file: it may be put away. If a
+message cannot be kept, it is `store failed`, and the message is not saved. Then
+or after a crash it may be kept twice.
+
 Only what is taken changes the desk, and it is saved in FILE before its line is
 written. To take a message twice does no harm.
 
@@ -204,7 +222,12 @@ pub const TAKE_EXAMPLE: &str = "Example:
   $ ill take there < message
   taken IN-PROCESS - 0/0
   $ ill take there < message
-  repeat IN-PROCESS - 0/0";
+  repeat IN-PROCESS - 0/0
+  $ ill act there G1 T1 --today 20250301 ship +14
+  done SHIPPED 20250315 1/1
+  $ ill send there G1 T1 1 | ill take here --long
+  G1 T1 Shipped 1 taken SHIPPED 20250315 1/1
+    date 20250315";
 
 pub const SEND: &str = "\
 Write the bytes of one message of a loan.
@@ -238,6 +261,63 @@ pub const SEND_EXAMPLE: &str = "Example:
   $ ill send box G1 T1 2
   ill: no-such-message";
 
+pub const LIST: &str = "\
+List the loans of desks, a line for each.
+
+The loans that wait for this library come first. Behind them stand those that
+wait for the other one, then those that are over. Of each kind the most urgent
+come first: those whose due date, or else the last day of their request, comes
+first. The columns of a line:
+  turn                   mine, theirs or over: which library acts next
+  state                  the state of the loan
+  due                    the day on which the item is due, or `-`
+  group                  the group qualifier of the loan
+  transaction            the transaction qualifier of the loan
+  actions                with --mine: the first words of the actions that `act`
+                         takes now, with commas between them
+  title                  the item that is asked for, or `-`
+
+A character of a title on which a terminal may act is shown by its number, as
+\\u{202e}. These options say which loans are listed; all that are given hold:
+  --open                 leaves out the loans that are over
+  --mine                 leaves out also those that wait for the other library
+  --today DAY            on this day a loan also waits for this library if its
+                         due date, or else the last day of its request, is past,
+                         and `act` takes an action of it now
+  --due-before DAY       only those that are due before this day
+  --state STATE          only those in this state, as SHIPPED
+
+The last line counts all loans of the desk, whichever are listed. It says for
+how many more there is room. From 900 loans on a line on standard error says so
+too.
+
+PATH is the file of a desk, or a folder of desks. A folder's desks are listed in
+the order of their names: all regular files, but for those that begin with a dot
+or end in .new, .lck or .came. Where several desks are listed, a line `PATH:`
+stands before each, and an empty line between each and the next.
+
+A desk has at most 67,108,864 bytes and is not changed. Standard input is not
+read. The exit status is 0 where the loans are listed, 1 with `no-record`, 2 for
+wrong arguments or a bad record, and 3 with `store failed`, `store too-large`,
+`write` or `memory`. The desks before a fault are listed.";
+
+pub const LIST_EXAMPLE: &str = "Example:
+  $ ill new here requester
+  done
+  $ ill act here G1 T1 request none Maps
+  done PENDING - 1/1
+  $ ill list here
+  theirs  PENDING               -         G1  T1  Maps
+  loans 1, open 1, mine 0, room for 999
+  $ ill send here G1 T1 1 > message
+  $ ill new there responder
+  done
+  $ ill take there < message
+  taken IN-PROCESS - 0/0
+  $ ill list there --mine
+  mine    IN-PROCESS            -         G1  T1  answer,ship,expire  Maps
+  loans 1, open 1, mine 1, room for 999";
+
 pub const STATUS: &str = "\
 Show how each loan in a file stands.
 
@@ -252,6 +332,9 @@ the loans were begun; none, where the desk has no loan:
                          and how many it has issued
   marks                  those that are set of `received` (a Received was
                          issued, or taken), `checked-in` and `declined`, or `-`
+
+With --json each loan is an object of JSON on a line, with these labels. It has
+`released` and `issued` in place of `messages`.
 
 FILE has at most 67,108,864 bytes and is not changed. From its start to its end
 no other command may run on FILE, as `ill --help` tells. Standard input is not
@@ -272,13 +355,149 @@ pub const STATUS_EXAMPLE: &str = "Example:
   messages 1/1
   marks -";
 
+pub const LOAN: &str = "\
+Show all of one loan: its request, its messages, what comes next.
+
+The first seven lines on standard output are those of `ill status`. Behind them
+come these:
+  next                   who acts next: `mine`, this library; `theirs`, the
+                         other one; or `over`, nobody
+  now                    the first words of the actions that have a place now,
+                         or `-`; a date may still forbid one
+  item                   what the request asks for
+  expiry                 the last day of the request, or `-`
+
+A loan without a request has no line `item` and no line `expiry`. Then a
+responder tells what it has taken, by the numbers of messages, each a number or
+`-`:
+  accepted               the conditions that were accepted last
+  last-cancel            the last Cancel
+  last-renew             the last Renew
+
+A requester tells this in their place:
+  held                   the conditions that stand, by their number, or `-`
+
+Then come the messages that the loan has issued, in order. An empty line stands
+before each. A message has the lines of `ill show`, and one more:
+  leaves                 `yes` where `send` gives it, or `no` while it is not
+                         saved
+
+Behind them come the messages that `take` has kept with --keep, in the order in
+which they came, each once. Before each stands an empty line, behind it this:
+  came                   `yes`
+
+With --picture the messages are drawn in place of all this, as a sequence chart
+in the language of Mermaid. The order of each side is right, and so is what
+answers a message; how both orders lay in time, nobody knows.
+
+In an item, a control character from U+0080 to U+009F is shown as an escape,
+such as `\\u{9f}`. So is a mark that turns the direction of a text.
+
+With --json the loan is an object of JSON on one line, with these labels and
+those of `ill status --json`. Its `messages` are an array of objects, none of
+which came from the other side. With --picture too it is the object.
+
+FILE has at most 67,108,864 bytes and is not changed. Standard input is not
+read. The exit status is 0 where the loan is shown, 1 with `no-such-transaction`
+or `no-record`, 2 for wrong arguments or a bad record, and 3 with `store
+failed`, `store too-large`, `write` or `memory`.";
+
+pub const LOAN_EXAMPLE: &str = "Example:
+  $ ill new box requester
+  done
+  $ ill act box G1 T1 request none Maps
+  done PENDING - 1/1
+  $ ill loan box G1 T1
+  role requester
+  group G1
+  transaction T1
+  state PENDING
+  due -
+  messages 1/1
+  marks -
+  next theirs
+  now cancel
+  item Maps
+  expiry -
+  held -
+
+  apdu ILL-Request
+  group G1
+  transaction T1
+  number 1
+  item Maps
+  leaves yes";
+
+pub const VERIFY: &str = "\
+Read a desk, and tell what it has or what is wrong with it.
+
+These lines are written to standard output:
+  version                that of its record
+  role                   requester or responder
+  loans                  how many loans it has
+  messages               how many messages these have issued, all together
+  room                   for how many more loans there is room
+
+A record that is none, or was damaged, is a fault, which tells the place of the
+first wrong byte where there is one. FILE has at most 67,108,864 bytes and is
+not changed. Standard input is not read. The exit status is 0 where it is a
+desk, 1 with `no-record`, 2 for a bad record, and 3 with `store failed`, `store
+too-large`, `write` or `memory`.";
+
+pub const VERIFY_EXAMPLE: &str = "Example:
+  $ ill new box requester
+  done
+  $ ill act box G1 T1 request none Maps
+  done PENDING - 1/1
+  $ ill verify box
+  version 2
+  role requester
+  loans 1
+  messages 1
+  room 999";
+
+pub const REPORT: &str = "\
+Write a page for a browser of the loans of desks.
+
+The page is one file of HTML, on standard output. It has no scripts, and it
+needs nothing from elsewhere. Each PATH is as for `list`. The page has of each
+desk, with how many they are, and the most urgent first:
+  Waits for us today     the loans that wait for this library on DAY, and what
+                         it may do in them, in plain words
+  Open loans             all loans that are not over, each with a chart of the
+                         messages that it has issued
+  Over                   the others, likewise, folded away
+
+A loan has its title, its group and transaction, its state, the day on which it
+is due, and the day after which its request may expire. A day is YYYY-MM-DD, and
+a dash stands for none. DAY is eight digits, as 20250315. What waits on DAY is
+what `list` lists with --mine and --today.
+
+What a person wrote, titles, groups, transactions and names of files, stands
+there as text, whatever its characters. One that may turn the direction of a
+text is shown by its number, as \\u{202e}.
+
+FILE has at most 67,108,864 bytes and is not changed. From its start to its end
+no other command may run on FILE, as `ill --help` tells. Standard input is not
+read. Nothing is written unless all desks can be read. The exit status is 0
+where the page is written, 1 with `no-record`, 2 for wrong arguments or a bad
+record, and 3 with `store failed`, `store too-large`, `write` or `memory`.";
+
+pub const REPORT_EXAMPLE: &str = "Example:
+  $ ill new here requester
+  done
+  $ ill act here G1 T1 request none Maps
+  done PENDING - 1/1
+  $ ill report here --today 20250301 > page.html";
+
 pub const SHOW: &str = "\
 Show each APDU on standard input.
 
 The APDUs stand one behind another, in the short form, up to the end of the
 input, as in `ill show < FILE`: at most 100,000 of them, each of 359 bytes at
 most. For each of them its type, its transaction, its number and its further
-fields are written to standard output, a line for each.
+fields are written to standard output, a line for each. With --json each APDU is
+an object of JSON on a line, with the same labels.
 
 The exit status is 0 where all of them are shown. It is 2 where one has a fault
 or there are too many, and 3 with `read`, `write` or `memory`. The APDUs before

@@ -1,11 +1,14 @@
 //! The lines that the commands write.
 
-ghost use Rattle.std.specs.Prelude.{◌≡◌, ◌++◌, OnOk};
-ghost use Rattle.ill_der.specs.View.{body_in};
-ghost use Rattle.ill_tool.specs.Lines.{line, name_of, word_of, reply_word, number_line, date_line, optional_date_line, reply_lines, grant_lines, field_lines, id_lines, head_lines, lines_of, count_line};
+ghost use Rattle.std.specs.Prelude.{◌≡◌, ◌++◌, codes, OnOk};
+ghost use Rattle.ill_values.specs.declared.apdu.Body.TheVariants.{IllRequest};
+ghost use Rattle.ill_der.specs.View.{apdu_of, body_in};
+ghost use Rattle.ill_tool.specs.Escape.{escaped};
+ghost use Rattle.ill_tool.specs.Lines.{line, shown_fields, shown_lines, reply_word, number_line, date_line, optional_date_line, reply_lines, grant_lines, field_lines, id_lines, head_lines, lines_of, count_line};
 
+use crate::escape::push_escaped;
 use ill_der::{ApduView, BodyView};
-use ill_values::{AnswerResult, Day, Number, OutOfMemory};
+use ill_values::{Apdu, Body, Day, Number, OutOfMemory};
 use itoa::Buffer;
 
 /// Adds the lines of an APDU.
@@ -13,17 +16,46 @@ use itoa::Buffer;
 pub fn push_apdu(lines: &mut Vec<u8>, apdu: &ApduView<'_>) -> Result<(), OutOfMemory>
     ensures { OnOk result (lines.new.items ≡ lines.old.items ++ lines_of apdu.now) }
 {
-    push_head(lines, apdu)?;
+    push_head(
+        lines,
+        apdu.body(),
+        apdu.group(),
+        apdu.transaction(),
+        apdu.number(),
+    )?;
     push_fields(lines, apdu.body())
 }
 
-/// Adds the lines of what each APDU has.
-fn push_head(lines: &mut Vec<u8>, apdu: &ApduView<'_>) -> Result<(), OutOfMemory>
-    ensures { OnOk result (lines.new.items ≡ lines.old.items ++ head_lines apdu.now) }
+/// Adds the lines of an APDU for a screen, with its item escaped.
+#[tactic(auto, unfolding(crate::specs::Lines::shown_lines))]
+pub fn push_shown(lines: &mut Vec<u8>, apdu: &Apdu) -> Result<(), OutOfMemory>
+    ensures { OnOk result (lines.new.items ≡ lines.old.items ++ shown_lines apdu.now) }
 {
-    push_line(lines, "apdu", name(apdu.body()).as_bytes())?;
-    push_id(lines, apdu.group(), apdu.transaction())?;
-    push_number(lines, "number", apdu.number())
+    let body = view(&apdu.body);
+    push_head(
+        lines,
+        &body,
+        apdu.txn.group(),
+        apdu.txn.transaction(),
+        apdu.number,
+    )?;
+    push_shown_fields(lines, &body)
+}
+
+/// Adds the lines of what each APDU has.
+fn push_head(
+    lines: &mut Vec<u8>,
+    body: &BodyView<'_>,
+    group: &[u8],
+    transaction: &[u8],
+    number: Number,
+) -> Result<(), OutOfMemory>
+    ensures { OnOk result (lines.new.items ≡ lines.old.items
+        ++ head_lines (apdu_of group.now transaction.now number (body_in body.now))) }
+{
+    push_line(lines, "apdu", body.type_name().as_bytes())?;
+    push_id(lines, group, transaction)?;
+    push_number(lines, "number", number)
 }
 
 /// Adds the lines of a transaction id.
@@ -34,8 +66,39 @@ pub fn push_id(lines: &mut Vec<u8>, group: &[u8], transaction: &[u8]) -> Result<
     push_line(lines, "transaction", transaction)
 }
 
+/// Adds the lines of the further fields, with an item escaped.
+pub fn push_shown_fields(lines: &mut Vec<u8>, body: &BodyView<'_>) -> Result<(), OutOfMemory>
+    ensures { OnOk result (lines.new.items ≡ lines.old.items ++ shown_fields (body_in body.now)) }
+{
+    match body {
+        BodyView::IllRequest { expiry, item } => push_shown_request(lines, *expiry, item),
+        other => push_fields(lines, other),
+    }
+}
+
+fn push_shown_request(
+    lines: &mut Vec<u8>,
+    expiry: Option<Day>,
+    item: &[u8],
+) -> Result<(), OutOfMemory>
+    ensures { OnOk result (lines.new.items ≡ lines.old.items
+        ++ shown_fields (IllRequest expiry item.now)) }
+{
+    push_optional_date(lines, expiry)?;
+    push_item(lines, item)
+}
+
+/// Adds the line of an item, which is escaped.
+pub fn push_item(lines: &mut Vec<u8>, item: &[u8]) -> Result<(), OutOfMemory>
+    ensures { OnOk result (lines.new.items ≡ lines.old.items ++ line (codes "item") (escaped item.now)) }
+{
+    let mut shown = Vec::new(*lines.allocator());
+    push_escaped(&mut shown, item)?;
+    push_line(lines, "item", &shown)
+}
+
 /// Adds the lines of the further fields.
-fn push_fields(lines: &mut Vec<u8>, body: &BodyView<'_>) -> Result<(), OutOfMemory>
+pub fn push_fields(lines: &mut Vec<u8>, body: &BodyView<'_>) -> Result<(), OutOfMemory>
     ensures { OnOk result (lines.new.items ≡ lines.old.items ++ field_lines (body_in body.now)) }
 {
     match body {
@@ -43,7 +106,7 @@ fn push_fields(lines: &mut Vec<u8>, body: &BodyView<'_>) -> Result<(), OutOfMemo
             push_optional_date(lines, *expiry)?;
             push_line(lines, "item", item)
         }
-        BodyView::IllAnswer { result } => push_line(lines, "result", word(*result).as_bytes()),
+        BodyView::IllAnswer { result } => push_line(lines, "result", result.name().as_bytes()),
         BodyView::ConditionalReply { answers, yes } => push_reply(lines, *answers, *yes),
         BodyView::CancelReply { answers, yes } => push_reply(lines, *answers, *yes),
         BodyView::Shipped { due } => push_date(lines, *due),
@@ -75,7 +138,14 @@ fn push_reply(lines: &mut Vec<u8>, answers: Number, yes: bool) -> Result<(), Out
     ensures { OnOk result (lines.new.items ≡ lines.old.items ++ reply_lines answers yes) }
 {
     push_number(lines, "answers", answers)?;
-    push_line(lines, "reply", if yes { b"yes" } else { b"no" })
+    push_whether(lines, "reply", yes)
+}
+
+/// Adds the line of whether something is so: `yes` or `no`.
+pub fn push_whether(lines: &mut Vec<u8>, label: &str, yes: bool) -> Result<(), OutOfMemory>
+    ensures { OnOk result (lines.new.items ≡ lines.old.items ++ line label.now (reply_word yes)) }
+{
+    push_line(lines, label, if yes { b"yes" } else { b"no" })
 }
 
 fn push_optional_date(lines: &mut Vec<u8>, day: Option<Day>) -> Result<(), OutOfMemory>
@@ -93,10 +163,18 @@ fn push_date(lines: &mut Vec<u8>, day: Day) -> Result<(), OutOfMemory>
     push_line(lines, "date", &day.digits())
 }
 
-fn push_number(lines: &mut Vec<u8>, label: &str, number: Number) -> Result<(), OutOfMemory>
+/// Adds the line of a number of a message.
+pub fn push_number(lines: &mut Vec<u8>, label: &str, number: Number) -> Result<(), OutOfMemory>
     ensures { OnOk result (lines.new.items ≡ lines.old.items ++ number_line label.now number) }
 {
-    push_line(lines, label, Buffer::new().format(number.get()).as_bytes())
+    push_decimal(lines, label, usize::from(number.get()))
+}
+
+/// Adds the line of a number, of whatever it is.
+pub fn push_decimal(lines: &mut Vec<u8>, label: &str, number: usize) -> Result<(), OutOfMemory>
+    ensures { OnOk result (lines.new.items ≡ lines.old.items ++ number_line label.now number) }
+{
+    push_line(lines, label, Buffer::new().format(number).as_bytes())
 }
 
 /// Adds the line of how many APDUs there are.
@@ -118,39 +196,36 @@ pub fn push_line(lines: &mut Vec<u8>, label: &str, value: &[u8]) -> Result<(), O
     Ok(())
 }
 
-/// The name of a type of APDU.
-fn name(body: &BodyView<'_>) -> &'static str
-    ensures { result.now ≡ name_of (body_in body.now) }
+/// A view of what an APDU says.
+pub(crate) fn view(body: &Body) -> BodyView<'_>
+    ensures { body_in result ≡ body.now }
 {
     match body {
-        BodyView::IllRequest { .. } => "ILL-Request",
-        BodyView::IllAnswer { .. } => "ILL-Answer",
-        BodyView::ConditionalReply { .. } => "Conditional-Reply",
-        BodyView::Cancel => "Cancel",
-        BodyView::CancelReply { .. } => "Cancel-Reply",
-        BodyView::Shipped { .. } => "Shipped",
-        BodyView::Received => "Received",
-        BodyView::Recall => "Recall",
-        BodyView::Returned => "Returned",
-        BodyView::CheckedIn => "Checked-In",
-        BodyView::Overdue { .. } => "Overdue",
-        BodyView::Renew { .. } => "Renew",
-        BodyView::RenewAnswer { .. } => "Renew-Answer",
-        BodyView::Expired => "Expired",
-    }
-}
-
-/// The word of a result.
-fn word(answer: AnswerResult) -> &'static str
-    ensures { result.now ≡ word_of answer }
-{
-    match answer {
-        AnswerResult::Conditional => "conditional",
-        AnswerResult::Retry => "retry",
-        AnswerResult::Unfilled => "unfilled",
-        AnswerResult::LocationsProvided => "locations-provided",
-        AnswerResult::WillSupply => "will-supply",
-        AnswerResult::HoldPlaced => "hold-placed",
-        AnswerResult::Estimate => "estimate",
+        Body::IllRequest { expiry, item } => BodyView::IllRequest {
+            expiry: *expiry,
+            item: item.text(),
+        },
+        Body::IllAnswer { result } => BodyView::IllAnswer { result: *result },
+        Body::ConditionalReply { answers, yes } => BodyView::ConditionalReply {
+            answers: *answers,
+            yes: *yes,
+        },
+        Body::Cancel => BodyView::Cancel,
+        Body::CancelReply { answers, yes } => BodyView::CancelReply {
+            answers: *answers,
+            yes: *yes,
+        },
+        Body::Shipped { due } => BodyView::Shipped { due: *due },
+        Body::Received => BodyView::Received,
+        Body::Recall => BodyView::Recall,
+        Body::Returned => BodyView::Returned,
+        Body::CheckedIn => BodyView::CheckedIn,
+        Body::Overdue { due } => BodyView::Overdue { due: *due },
+        Body::Renew { wished } => BodyView::Renew { wished: *wished },
+        Body::RenewAnswer { answers, granted } => BodyView::RenewAnswer {
+            answers: *answers,
+            granted: *granted,
+        },
+        Body::Expired => BodyView::Expired,
     }
 }

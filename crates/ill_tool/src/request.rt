@@ -5,13 +5,16 @@ ghost use Rattle.clap.specs.Words.{found_of, rows_of, subcommand_rows_of};
 ghost use Rattle.ill_tool.specs.declared.request.Refusal.TheVariants.{Usage, Fault};
 ghost use Rattle.ill_tool.specs.declared.fault.ToolFault.TheVariants.{OutOfMemory};
 ghost use Rattle.ill_tool.specs.declared.command_line.Name.TheVariants as names;
-ghost use Rattle.ill_tool.specs.Asked.{Gives, IsRefusal, asked_by, asked_in, asked_of, text_of, role_of, loan_of, today_of, number_of_message, words_of, asked};
+ghost use Rattle.ill_tool.specs.Asked.{Gives, IsRefusal, asked_by, asked_in, asked_of, text_of, texts_of, role_of, loan_of, day_in, state_in, number_of_message, is_set, which_of, form_of, wanted_of, report_day_of, asked};
 
 use crate::command_line::{Argument, Name, command};
 use crate::fault::ToolFault;
+use crate::form::Form;
+use crate::list::{Wanted, Which};
 use crate::simulate::id;
 use clap::error::ErrorKind;
 use clap::{ArgMatches, Command, Error};
+use ill_core::State;
 use ill_values::{Day, Number, TxnId};
 use ill_world::Who;
 use ill_world::words::{number, who};
@@ -21,7 +24,10 @@ use std::alloc::{AllocError, Global};
 #[derive(Drop)]
 pub enum Request<'a> {
     /// Show each APDU of the input: `ill show`.
-    Show,
+    Show {
+        /// The form in which they are shown.
+        form: Form,
+    },
     /// Check the input and count its APDUs: `ill check`.
     Check,
     /// Perform a script of both sides of a transaction: `ill simulate`.
@@ -55,6 +61,10 @@ pub enum Request<'a> {
     Take {
         /// The path of the file.
         file: &'a str,
+        /// Whether to tell which message each was, and what it said.
+        is_long: bool,
+        /// Whether to keep each message that is taken.
+        is_kept: bool,
     },
     /// Give the bytes of a message: `ill send`.
     Send {
@@ -65,10 +75,42 @@ pub enum Request<'a> {
         /// The number of the message.
         number: Number,
     },
+    /// List the loans of desks: `ill list`.
+    List {
+        /// The paths of the desks, or of folders of them.
+        paths: Vec<&'a str>,
+        /// Which loans are listed.
+        wanted: Wanted,
+    },
     /// Show the sides in a file: `ill status`.
     Status {
         /// The path of the file.
         file: &'a str,
+        /// The form in which they are shown.
+        form: Form,
+    },
+    /// Show all that is known of a transaction: `ill loan`.
+    Loan {
+        /// The path of the file.
+        file: &'a str,
+        /// The transaction.
+        txn: TxnId,
+        /// The form in which it is shown.
+        form: Form,
+        /// Whether to draw its messages in place of that.
+        is_picture: bool,
+    },
+    /// Tell what a file has: `ill verify`.
+    Verify {
+        /// The path of the file.
+        file: &'a str,
+    },
+    /// Write a page of the loans of desks: `ill report`.
+    Report {
+        /// The paths of the desks, or of folders of them.
+        paths: Vec<&'a str>,
+        /// The day of the report.
+        today: Day,
     },
 }
 
@@ -144,8 +186,14 @@ fn requested<'a>(
         Name::Act => act_request(alloc, matches),
         Name::Take => take_request(alloc, matches),
         Name::Send => send_request(alloc, matches),
+        Name::List => list_request(alloc, matches),
         Name::Status => status_request(alloc, matches),
-        Name::Show => Ok(Request::Show),
+        Name::Loan => loan_request(alloc, matches),
+        Name::Verify => verify_request(alloc, matches),
+        Name::Report => report_request(alloc, matches),
+        Name::Show => Ok(Request::Show {
+            form: form(matches),
+        }),
         Name::Check => Ok(Request::Check),
         Name::Simulate => simulate_request(alloc, matches),
         Name::SimulateDesks => Ok(Request::SimulateDesks),
@@ -166,9 +214,9 @@ fn act_request<'a>(alloc: Global, matches: &ArgMatches<'a>) -> Result<Request<'a
     ensures { Gives asked (asked_of names.Act (rows_of (found_of matches.now))) result }
 {
     let file = text(alloc, matches, Argument::File)?;
-    let today = today(matches)?;
+    let today = day(matches, Argument::Today)?;
     let txn = loan(alloc, matches)?;
-    let words = words(alloc, matches)?;
+    let words = texts(alloc, matches, Argument::Words)?;
     Ok(Request::Act {
         file,
         txn,
@@ -182,7 +230,13 @@ fn take_request<'a>(alloc: Global, matches: &ArgMatches<'a>) -> Result<Request<'
     ensures { Gives asked (asked_of names.Take (rows_of (found_of matches.now))) result }
 {
     let file = text(alloc, matches, Argument::File)?;
-    Ok(Request::Take { file })
+    let is_long = is_set(matches, Argument::Long);
+    let is_kept = is_set(matches, Argument::Keep);
+    Ok(Request::Take {
+        file,
+        is_long,
+        is_kept,
+    })
 }
 
 /// The request of `ill send`.
@@ -195,12 +249,58 @@ fn send_request<'a>(alloc: Global, matches: &ArgMatches<'a>) -> Result<Request<'
     Ok(Request::Send { file, txn, number })
 }
 
+/// The request of `ill list`.
+fn list_request<'a>(alloc: Global, matches: &ArgMatches<'a>) -> Result<Request<'a>, Refusal>
+    ensures { Gives asked (asked_of names.List (rows_of (found_of matches.now))) result }
+{
+    let paths = texts(alloc, matches, Argument::Paths)?;
+    let wanted = match wanted(matches) {
+        Ok(wanted) => wanted,
+        Err(refusal) => return Err(refusal),
+    };
+    Ok(Request::List { paths, wanted })
+}
+
 /// The request of `ill status`.
 fn status_request<'a>(alloc: Global, matches: &ArgMatches<'a>) -> Result<Request<'a>, Refusal>
     ensures { Gives asked (asked_of names.Status (rows_of (found_of matches.now))) result }
 {
     let file = text(alloc, matches, Argument::File)?;
-    Ok(Request::Status { file })
+    let form = form(matches);
+    Ok(Request::Status { file, form })
+}
+
+/// The request of `ill loan`.
+fn loan_request<'a>(alloc: Global, matches: &ArgMatches<'a>) -> Result<Request<'a>, Refusal>
+    ensures { Gives asked (asked_of names.Loan (rows_of (found_of matches.now))) result }
+{
+    let file = text(alloc, matches, Argument::File)?;
+    let txn = loan(alloc, matches)?;
+    let form = form(matches);
+    let is_picture = is_set(matches, Argument::Picture);
+    Ok(Request::Loan {
+        file,
+        txn,
+        form,
+        is_picture,
+    })
+}
+
+/// The request of `ill verify`.
+fn verify_request<'a>(alloc: Global, matches: &ArgMatches<'a>) -> Result<Request<'a>, Refusal>
+    ensures { Gives asked (asked_of names.Verify (rows_of (found_of matches.now))) result }
+{
+    let file = text(alloc, matches, Argument::File)?;
+    Ok(Request::Verify { file })
+}
+
+/// The request of `ill report`.
+fn report_request<'a>(alloc: Global, matches: &ArgMatches<'a>) -> Result<Request<'a>, Refusal>
+    ensures { Gives asked (asked_of names.Report (rows_of (found_of matches.now))) result }
+{
+    let paths = texts(alloc, matches, Argument::Paths)?;
+    let today = report_day(alloc, matches)?;
+    Ok(Request::Report { paths, today })
 }
 
 /// The request of `ill simulate`.
@@ -235,16 +335,96 @@ fn loan(alloc: Global, matches: &ArgMatches<'_>) -> Result<TxnId, Refusal>
     }
 }
 
-/// The day of an action, if one is said.
-fn today(matches: &ArgMatches<'_>) -> Result<Option<Day>, Refusal>
-    ensures { Gives (λ today. today) (today_of (rows_of (found_of matches.now))) result }
+/// The loans that are listed.
+fn wanted(matches: &ArgMatches<'_>) -> Result<Wanted, Refusal>
+    ensures { Gives (λ wanted. wanted) (wanted_of (rows_of (found_of matches.now))) result }
 {
-    match matches.get_str(Argument::Today.id()) {
+    let which = which(matches);
+    let today = day(matches, Argument::OnDay)?;
+    let due_before = match day(matches, Argument::DueBefore) {
+        Ok(day) => day,
+        Err(refusal) => return Err(refusal),
+    };
+    let state = match state(matches) {
+        Ok(state) => state,
+        Err(refusal) => return Err(refusal),
+    };
+    Ok(Wanted {
+        which,
+        today,
+        due_before,
+        state,
+    })
+}
+
+/// The state of an option, if one is said.
+fn state(matches: &ArgMatches<'_>) -> Result<Option<State>, Refusal>
+    ensures { Gives (λ state. state) (state_in (rows_of (found_of matches.now))) result }
+{
+    match matches.get_str(Argument::InState.id()) {
+        Some(word) => match State::read(word.as_bytes()) {
+            Some(state) => Ok(Some(state)),
+            None => Err(Refusal::Fault(ToolFault::Arguments)),
+        },
+        None => Ok(None),
+    }
+}
+
+/// The day of an option, if one is said.
+fn day(matches: &ArgMatches<'_>, argument: Argument) -> Result<Option<Day>, Refusal>
+    ensures { Gives (λ day. day) (day_in argument (rows_of (found_of matches.now))) result }
+{
+    match matches.get_str(argument.id()) {
         Some(word) => match Day::read(word.as_bytes()) {
             Ok(day) => Ok(Some(day)),
             Err(_) => Err(Refusal::Fault(ToolFault::Arguments)),
         },
         None => Ok(None),
+    }
+}
+
+/// The day of a report.
+fn report_day(alloc: Global, matches: &ArgMatches<'_>) -> Result<Day, Refusal>
+    ensures { Gives (λ today. today) (report_day_of (rows_of (found_of matches.now))) result }
+{
+    let word = text(alloc, matches, Argument::ReportDay)?;
+    match Day::read(word.as_bytes()) {
+        Ok(day) => Ok(day),
+        Err(_) => Err(Refusal::Fault(ToolFault::Arguments)),
+    }
+}
+
+/// Those whose turn it is that are listed.
+fn which(matches: &ArgMatches<'_>) -> Which
+    ensures { result ≡ which_of (rows_of (found_of matches.now)) }
+{
+    if is_set(matches, Argument::Mine) {
+        return Which::Mine;
+    }
+    if is_set(matches, Argument::Open) {
+        return Which::Open;
+    }
+    Which::All
+}
+
+/// The form in which a command writes.
+fn form(matches: &ArgMatches<'_>) -> Form
+    ensures { result ≡ form_of (rows_of (found_of matches.now)) }
+{
+    if is_set(matches, Argument::Json) {
+        Form::Json
+    } else {
+        Form::Lines
+    }
+}
+
+/// Whether a flag is set. It has a text, which is `true` where it stands in the words.
+fn is_set(matches: &ArgMatches<'_>, flag: Argument) -> bool
+    ensures { result ≡ is_set flag (rows_of (found_of matches.now)) }
+{
+    match matches.get_str(flag.id()) {
+        Some(text) => text == "true",
+        None => false,
     }
 }
 
@@ -259,14 +439,18 @@ fn message_number(alloc: Global, matches: &ArgMatches<'_>) -> Result<Number, Ref
     }
 }
 
-/// The words of an action.
-fn words<'a>(alloc: Global, matches: &ArgMatches<'a>) -> Result<Vec<&'a str>, Refusal>
-    ensures { Gives (λ words. map (λ word. word.now) words.items)
-        (words_of (rows_of (found_of matches.now))) result }
+/// The texts of an argument that has one or more.
+fn texts<'a>(
+    alloc: Global,
+    matches: &ArgMatches<'a>,
+    argument: Argument,
+) -> Result<Vec<&'a str>, Refusal>
+    ensures { Gives (λ texts. map (λ text. text.now) texts.items)
+        (texts_of argument (rows_of (found_of matches.now))) result }
 {
-    match matches.get_strs(Argument::Words.id()) {
-        Some(words) => match Vec::from_slice(alloc, words) {
-            Ok(words) => Ok(words),
+    match matches.get_strs(argument.id()) {
+        Some(texts) => match Vec::from_slice(alloc, texts) {
+            Ok(texts) => Ok(texts),
             Err(_) => Err(Refusal::Fault(ToolFault::OutOfMemory)),
         },
         None => Err(unknown(alloc)),

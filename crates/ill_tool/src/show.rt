@@ -1,12 +1,18 @@
 //! The command `show`.
 
-ghost use Rattle.ill_tool.specs.Show.{shows, Shows};
+ghost use Rattle.std.specs.Prelude.{◌≡◌, ◌++◌, OnOk};
+ghost use Rattle.ill_tool.specs.declared.form.Form.TheVariants.{Lines};
+ghost use Rattle.ill_tool.specs.Objects.{apdu_text};
+ghost use Rattle.ill_tool.specs.Show.{form_of, shows, Shows};
 
 use crate::fault::ToolFault;
+use crate::form::Form;
 use crate::input::{Counted, handle_input};
 use crate::lines::push_apdu;
+use crate::objects::push_apdu_object;
 use crate::output::write_whole;
 use ill_der::{ApduView, Handler};
+use ill_values::OutOfMemory;
 use std::alloc::Global;
 use std::io::{Read, Write};
 
@@ -20,24 +26,52 @@ pub fn run_show<R: Read, W: Write>(
     reader: &mut R,
     writer: &mut W,
 ) -> Result<u32, ToolFault>
-    ensures { Shows (R.remaining reader.old) (R.remaining reader.new)
+    ensures { Shows Lines (R.remaining reader.old) (R.remaining reader.new)
+        (W.contents writer.old) (W.contents writer.new) result }
+{
+    run_show_as(alloc, Form::Lines, reader, writer)
+}
+
+/// The same, in this form.
+pub fn run_show_as<R: Read, W: Write>(
+    alloc: Global,
+    form: Form,
+    reader: &mut R,
+    writer: &mut W,
+) -> Result<u32, ToolFault>
+    ensures { Shows form (R.remaining reader.old) (R.remaining reader.new)
+        (W.contents writer.old) (W.contents writer.new) result }
+{
+    match form {
+        Form::Lines => show::<R, W, false>(alloc, reader, writer),
+        Form::Json => show::<R, W, true>(alloc, reader, writer),
+    }
+}
+
+/// The same, in objects or in lines.
+fn show<R: Read, W: Write, const JSON: bool>(
+    alloc: Global,
+    reader: &mut R,
+    writer: &mut W,
+) -> Result<u32, ToolFault>
+    ensures { Shows (form_of JSON) (R.remaining reader.old) (R.remaining reader.new)
         (W.contents writer.old) (W.contents writer.new) result }
 {
     let lines = Vec::new(alloc);
-    let mut shown = Counted::new(Showing { lines });
+    let mut shown = Counted::new(Showing::<JSON> { lines });
     handle_input(alloc, reader, writer, &mut shown)
 }
 
-/// Writes the lines of each APDU, by way of a buffer.
+/// Writes the text of each APDU, by way of a buffer.
 #[derive(Drop)]
-struct Showing {
+struct Showing<const JSON: bool> {
     lines: Vec<u8>,
 }
 
-impl<W: Write> Handler<W> for Showing {
+impl<W: Write, const JSON: bool> Handler<W> for Showing<JSON> {
     type Fault = ToolFault;
 
-    ghost handles = { λ old apdu result new. shows (W.contents old.1) apdu result (W.contents new.1) };
+    ghost handles = { λ old apdu result new. shows (form_of JSON) (W.contents old.1) apdu result (W.contents new.1) };
 
     fn handle(
         &mut self,
@@ -46,7 +80,18 @@ impl<W: Write> Handler<W> for Showing {
         apdu: &ApduView<'_>,
     ) -> Result<(), ToolFault> {
         self.lines.clear();
-        push_apdu(&mut self.lines, apdu)?;
+        push_text::<JSON>(&mut self.lines, apdu)?;
         write_whole(writer, &self.lines)
+    }
+}
+
+/// Adds the text of an APDU.
+fn push_text<const JSON: bool>(text: &mut Vec<u8>, apdu: &ApduView<'_>) -> Result<(), OutOfMemory>
+    ensures { OnOk result (text.new.items ≡ text.old.items ++ apdu_text (form_of JSON) apdu.now) }
+{
+    if JSON {
+        push_apdu_object(text, apdu)
+    } else {
+        push_apdu(text, apdu)
     }
 }

@@ -1,12 +1,14 @@
-//! The line of how a side stands.
+//! The line of how a side stands, alone or with what a message was and said.
 
 ghost use Rattle.std.specs.Prelude.{◌≡◌, ◌++◌, OnOk};
-ghost use Rattle.ill_tool.specs.Telling.{is_fine, side_line, Tells};
+ghost use Rattle.ill_tool.specs.Telling.{is_fine, long, side_line, wording, Tells};
 
 use crate::fault::ToolFault;
 use crate::keeper::Keeper;
+use crate::long_lines::{push_heading, push_said};
 use crate::output::write_whole;
 use ill_core::Taking;
+use ill_der::ApduView;
 use ill_values::OutOfMemory;
 use ill_world::{DeskOutcome, Outcome};
 use std::alloc::Global;
@@ -21,13 +23,66 @@ pub(crate) fn report<K: Keeper, W: Write>(
     keeper: &K,
     key: &K::Key,
 ) -> Result<bool, ToolFault>
-    ensures { Tells (W.contents writer.old) (W.contents writer.new) outcome
+    ensures { Tells side_line (W.contents writer.old) (W.contents writer.new) outcome
         (K.keeping.side_for key.now (K.live keeper.now)) result }
 {
     let mut line = Vec::new(alloc);
     push_line(&mut line, outcome, keeper, key)?;
     write_whole(writer, &line)?;
     Ok(is_fine(outcome))
+}
+
+/// The same, of a message: where it is told at length, which message it was goes before the line, and what it said
+/// behind it.
+pub(crate) fn report_message<K: Keeper, W: Write, const LONG: bool>(
+    alloc: Global,
+    writer: &mut W,
+    apdu: &ApduView<'_>,
+    outcome: DeskOutcome,
+    keeper: &K,
+    key: &K::Key,
+) -> Result<bool, ToolFault>
+    ensures { Tells (wording LONG apdu.now) (W.contents writer.old) (W.contents writer.new) outcome
+        (K.keeping.side_for key.now (K.live keeper.now)) result }
+{
+    let mut lines = Vec::new(alloc);
+    push_words::<K, LONG>(&mut lines, apdu, outcome, keeper, key)?;
+    write_whole(writer, &lines)?;
+    Ok(is_fine(outcome))
+}
+
+/// Adds the words of the outcome of a message.
+fn push_words<K: Keeper, const LONG: bool>(
+    lines: &mut Vec<u8>,
+    apdu: &ApduView<'_>,
+    outcome: DeskOutcome,
+    keeper: &K,
+    key: &K::Key,
+) -> Result<(), OutOfMemory>
+    ensures { OnOk result (lines.new.items ≡ lines.old.items
+        ++ wording LONG apdu.now outcome (K.keeping.side_for key.now (K.live keeper.now))) }
+{
+    if LONG {
+        push_long(lines, apdu, outcome, keeper, key)
+    } else {
+        push_line(lines, outcome, keeper, key)
+    }
+}
+
+/// Adds which message it was, the line, and what it said.
+fn push_long<K: Keeper>(
+    lines: &mut Vec<u8>,
+    apdu: &ApduView<'_>,
+    outcome: DeskOutcome,
+    keeper: &K,
+    key: &K::Key,
+) -> Result<(), OutOfMemory>
+    ensures { OnOk result (lines.new.items ≡ lines.old.items
+        ++ long apdu.now outcome (K.keeping.side_for key.now (K.live keeper.now))) }
+{
+    push_heading(lines, apdu)?;
+    push_line(lines, outcome, keeper, key)?;
+    push_said(lines, apdu)
 }
 
 /// Adds the line of an outcome and of how the side stands after it.

@@ -8,13 +8,16 @@ ghost use Rattle.ill_saved.specs.Sides.{are_apart};
 ghost use Rattle.ill_saved.specs.Many.{sides_held};
 ghost use Rattle.ill_world.specs.Trace.{due_text};
 ghost use Rattle.ill_tool.specs.Lines.{line};
-ghost use Rattle.ill_tool.specs.Status.{status_lines, held_lines, lines_of_one, desk_lines, role_word, marks_of, mark, counts_text, spaced_or_dash};
+ghost use Rattle.ill_tool.specs.Objects.{desk_text, status_text, text_of_one};
+ghost use Rattle.ill_tool.specs.Status.{status_lines, held_lines, desk_lines, role_name, marks_of, mark, counts_text, spaced_or_dash};
 
 use crate::fault::ToolFault;
+use crate::form::Form;
 use crate::lines::{push_id, push_line};
+use crate::objects::push_status_object;
 use crate::output::write_whole;
-use ill_saved::{Desk, Desk1, Side, Store};
-use ill_values::OutOfMemory;
+use ill_saved::{Desk, Desk1, Role, Side, Store};
+use ill_values::{Day, OutOfMemory};
 use std::alloc::Global;
 use std::io::Write;
 
@@ -42,43 +45,72 @@ pub fn run_desk_status<S: Store, W: Write>(
     ensures { WritesText (W.contents writer.old) (W.contents writer.new)
         (desk_lines desk.now.live.held) result }
 {
+    run_desk_status_as(alloc, desk, Form::Lines, writer)
+}
+
+/// The same, in this form: an object of each transaction in place of the seven lines.
+pub fn run_desk_status_as<S: Store, W: Write>(
+    alloc: Global,
+    desk: &Desk<S>,
+    form: Form,
+    writer: &mut W,
+) -> Result<(), ToolFault>
+    ensures { WritesText (W.contents writer.old) (W.contents writer.new)
+        (desk_text form desk.now.live.held) result }
+{
     let mut lines = Vec::new(alloc);
-    push_desk(&mut lines, desk)?;
+    push_desk(&mut lines, desk, form)?;
     write_whole(writer, &lines)
 }
 
-/// Adds the lines of each side that a desk holds.
-fn push_desk<S: Store>(lines: &mut Vec<u8>, desk: &Desk<S>) -> Result<(), OutOfMemory>
-    ensures { OnOk result (lines.new.items ≡ lines.old.items ++ desk_lines desk.now.live.held) }
+/// Adds the text of each side that a desk holds.
+fn push_desk<S: Store>(lines: &mut Vec<u8>, desk: &Desk<S>, form: Form) -> Result<(), OutOfMemory>
+    ensures { OnOk result (lines.new.items ≡ lines.old.items ++ desk_text form desk.now.live.held) }
 {
     for place in 0..desk.sides().len() {
-        push_status_at(lines, desk, place)?;
+        push_status_at(lines, desk, form, place)?;
     }
     Ok(())
 }
 
-/// Adds the lines of the side at this place of a desk, if there is one.
+/// Adds the text of the side at this place of a desk, if there is one.
 fn push_status_at<S: Store>(
     lines: &mut Vec<u8>,
     desk: &Desk<S>,
+    form: Form,
     place: usize,
 ) -> Result<(), OutOfMemory>
     requires apart { are_apart (sides_held desk.now.live).sides ≡ true }
     ensures { OnOk result (lines.new.items ≡ lines.old.items
-        ++ lines_of_one (slice_get desk.now.live.held place)) }
+        ++ text_of_one form (slice_get desk.now.live.held place)) }
 {
     match desk.sides().at(place) {
-        Some(side) => push_status(lines, side, desk.released(side.txn())),
+        Some(side) => push_status_as(lines, form, side, desk.released(side.txn())),
         None => Ok(()),
+    }
+}
+
+/// Adds the text of a side.
+fn push_status_as(
+    lines: &mut Vec<u8>,
+    form: Form,
+    side: &Side,
+    released: u8,
+) -> Result<(), OutOfMemory>
+    ensures { OnOk result (lines.new.items ≡ lines.old.items ++ status_text form side.now released) }
+{
+    match form {
+        Form::Lines => push_status(lines, side, released),
+        Form::Json => push_status_object(lines, side, released),
     }
 }
 
 /// Adds the lines of a side.
 #[tactic(auto, unfolding(crate::specs::Status::status_lines))]
-fn push_status(lines: &mut Vec<u8>, side: &Side, released: u8) -> Result<(), OutOfMemory>
+pub(crate) fn push_status(lines: &mut Vec<u8>, side: &Side, released: u8) -> Result<(), OutOfMemory>
     ensures { OnOk result (lines.new.items ≡ lines.old.items ++ status_lines side.now released) }
 {
-    push_line(lines, "role", role(side).as_bytes())?;
+    push_line(lines, "role", role_name(side.role()).as_bytes())?;
     push_id(lines, side.txn().group(), side.txn().transaction())?;
     push_state_and_due(lines, side)?;
     push_counts(lines, side, released)?;
@@ -92,9 +124,20 @@ fn push_state_and_due(lines: &mut Vec<u8>, side: &Side) -> Result<(), OutOfMemor
         ++ line (codes "due") (due_text (due_date_of side.now)))) }
 {
     push_line(lines, "state", side.state().name().as_bytes())?;
-    match side.due() {
-        None => push_line(lines, "due", b"-"),
-        Some(day) => push_line(lines, "due", &day.digits()),
+    push_day_or_dash(lines, "due", side.due())
+}
+
+/// Adds the line of a day, which is a dash where there is none.
+pub(crate) fn push_day_or_dash(
+    lines: &mut Vec<u8>,
+    label: &str,
+    day: Option<Day>,
+) -> Result<(), OutOfMemory>
+    ensures { OnOk result (lines.new.items ≡ lines.old.items ++ line label.now (due_text day)) }
+{
+    match day {
+        None => push_line(lines, label, b"-"),
+        Some(day) => push_line(lines, label, &day.digits()),
     }
 }
 
@@ -113,26 +156,38 @@ fn push_marks(lines: &mut Vec<u8>, side: &Side) -> Result<(), OutOfMemory>
     ensures { OnOk result (lines.new.items ≡ lines.old.items
         ++ line (codes "marks") (spaced_or_dash (marks_of side.now))) }
 {
-    let alloc = *lines.allocator();
-    let marks = marks(alloc, side)?;
-    if marks.is_empty() {
-        return push_line(lines, "marks", b"-");
-    }
-    let text = marks.join(alloc, " ")?;
-    push_line(lines, "marks", text.as_bytes())
+    let marks = marks(*lines.allocator(), side)?;
+    push_words(lines, "marks", &marks)
 }
 
-fn role(side: &Side) -> &'static str
-    ensures { result.now ≡ role_word side.now }
+/// Adds the line of words, which is a dash where there are none.
+pub(crate) fn push_words(
+    lines: &mut Vec<u8>,
+    label: &str,
+    words: &[&str],
+) -> Result<(), OutOfMemory>
+    ensures { OnOk result (lines.new.items ≡ lines.old.items
+        ++ line label.now (spaced_or_dash (map (λ word. word.now) words.now))) }
 {
-    match side {
-        Side::Requester(_) => "requester",
-        Side::Responder(_) => "responder",
+    if words.is_empty() {
+        return push_line(lines, label, b"-");
+    }
+    let text = words.join(*lines.allocator(), " ")?;
+    push_line(lines, label, text.as_bytes())
+}
+
+/// The name of a role.
+pub(crate) fn role_name(role: Role) -> &'static str
+    ensures { result.now ≡ role_name role }
+{
+    match role {
+        Role::Requester => "requester",
+        Role::Responder => "responder",
     }
 }
 
 /// The marks of a side that hold.
-fn marks<'a>(alloc: Global, side: &Side) -> Result<Vec<&'a str>, OutOfMemory>
+pub(crate) fn marks<'a>(alloc: Global, side: &Side) -> Result<Vec<&'a str>, OutOfMemory>
     ensures { IfOk result (λ marks. map (λ mark. mark.now) marks.items ≡ marks_of side.now) }
 {
     let mut marks = Vec::new(alloc);

@@ -1,21 +1,25 @@
 //! The command `take`.
 
-ghost use Rattle.std.specs.Prelude.{◌≡◌, true};
+ghost use Rattle.std.specs.Prelude.{◌≡◌, ◌≤◌, true};
+ghost use Rattle.ill_der.specs.ShortForm.{spelling};
 ghost use Rattle.ill_tool.specs.Keeping.{many_sides, one_side};
 ghost use Rattle.ill_tool.specs.Performing.{many_view, one_view, view_of, CountsToolFailure};
-ghost use Rattle.ill_tool.specs.Take.{RunsTake, TakesAndSaves, KeepsDesk, progress, takes_each};
+ghost use Rattle.ill_tool.specs.Take.{CountsTaking, KeepsBefore, KeepsDesk, KeepsFront, KeepsTaken, RunsKeptTake, RunsTake, RunsTaking, SavesTaken, TakesAndSaves, kept_text, progress, takes_each};
+ghost use Rattle.ill_tool.specs.Telling.{long, short, wording};
 
+use crate::came::STORE_FAILED;
 use crate::fault::{ToolFault, refused};
 use crate::input::{Counted, handle_input};
 use crate::keeper::Keeper;
-use crate::side_line::report;
+use crate::output::write_whole;
+use crate::side_line::report_message;
 use ill_core::Taking;
-use ill_der::{ApduView, Handler};
+use ill_der::{ApduView, Handler, encode};
 use ill_saved::{Desk, Desk1, Store};
 use ill_values::Apdu;
 use ill_world::{DeskOutcome, Outcome};
 use std::alloc::Global;
-use std::io::{Read, Write};
+use std::io::{Read, Sink, Write, sink};
 
 /// Takes each APDU of the input, up to its end, and writes a line of what each did and how the side
 /// stands after it. One that was taken is saved before its line is written; no other saves. It answers
@@ -30,14 +34,14 @@ pub fn run_take<S: Store, R: Read, W: Write>(
     reader: &mut R,
     writer: &mut W,
 ) -> Result<bool, ToolFault>
-    ensures runs { RunsTake one_side (R.remaining reader.old) (R.remaining reader.new)
+    ensures runs { RunsTake short one_side (R.remaining reader.old) (R.remaining reader.new)
         (W.contents writer.old) (W.contents writer.new)
         (one_view S.is_honest S.landed desk.old) result
         (one_view S.is_honest S.landed desk.new) }
     ensures counted { CountsToolFailure result (S.failures desk.old.store)
         (S.failures desk.new.store) }
 {
-    take_on(alloc, desk, reader, writer)
+    take_on::<Desk1<S>, Sink, R, W, false, false>(alloc, desk, &mut sink(), reader, writer)
 }
 
 /// The same, at a desk: each APDU is for the side of its own transaction, whose line is written. Where it is not
@@ -49,52 +53,117 @@ pub fn run_desk_take<S: Store, R: Read, W: Write>(
     reader: &mut R,
     writer: &mut W,
 ) -> Result<bool, ToolFault>
-    ensures runs { RunsTake many_sides (R.remaining reader.old) (R.remaining reader.new)
+    ensures runs { RunsTake short many_sides (R.remaining reader.old) (R.remaining reader.new)
         (W.contents writer.old) (W.contents writer.new)
         (many_view S.is_honest S.landed desk.old) result
         (many_view S.is_honest S.landed desk.new) }
     ensures counted { CountsToolFailure result (S.failures desk.old.store)
         (S.failures desk.new.store) }
 {
-    take_on(alloc, desk, reader, writer)
+    take_on::<Desk<S>, Sink, R, W, false, false>(alloc, desk, &mut sink(), reader, writer)
 }
 
-/// The same, on the sides of what keeps them.
-fn take_on<K: Keeper, R: Read, W: Write>(
+/// The same, and each line tells which message it was, as `GROUP TRANSACTION TYPE NUMBER OUTCOME STATE DUE
+/// RELEASED/ISSUED`. Behind it stand the lines of its further fields, each after two spaces.
+pub fn run_long_take<S: Store, R: Read, W: Write>(
     alloc: Global,
-    keeper: &mut K,
+    desk: &mut Desk1<S>,
     reader: &mut R,
     writer: &mut W,
 ) -> Result<bool, ToolFault>
-    ensures runs { RunsTake K.keeping (R.remaining reader.old) (R.remaining reader.new)
+    ensures runs { RunsTake long one_side (R.remaining reader.old) (R.remaining reader.new)
         (W.contents writer.old) (W.contents writer.new)
+        (one_view S.is_honest S.landed desk.old) result
+        (one_view S.is_honest S.landed desk.new) }
+    ensures counted { CountsToolFailure result (S.failures desk.old.store)
+        (S.failures desk.new.store) }
+{
+    take_on::<Desk1<S>, Sink, R, W, true, false>(alloc, desk, &mut sink(), reader, writer)
+}
+
+/// `run_desk_take`, told as `run_long_take` tells.
+pub fn run_desk_long_take<S: Store, R: Read, W: Write>(
+    alloc: Global,
+    desk: &mut Desk<S>,
+    reader: &mut R,
+    writer: &mut W,
+) -> Result<bool, ToolFault>
+    ensures runs { RunsTake long many_sides (R.remaining reader.old) (R.remaining reader.new)
+        (W.contents writer.old) (W.contents writer.new)
+        (many_view S.is_honest S.landed desk.old) result
+        (many_view S.is_honest S.landed desk.new) }
+    ensures counted { CountsToolFailure result (S.failures desk.old.store)
+        (S.failures desk.new.store) }
+{
+    take_on::<Desk<S>, Sink, R, W, true, false>(alloc, desk, &mut sink(), reader, writer)
+}
+
+/// `run_desk_long_take`, or `run_desk_take`, that keeps each message which was taken: its bytes are written to `came`,
+/// and flushed there, before that it was taken is saved. A message that is kept but not saved comes to be kept twice,
+/// when it is taken again; none that is saved is lost.
+///
+/// If a message cannot be kept, that is a failure of the store: it is taken in memory, and not saved.
+pub fn run_desk_kept_take<S: Store, F: Write, R: Read, W: Write>(
+    alloc: Global,
+    desk: &mut Desk<S>,
+    is_long: bool,
+    came: &mut F,
+    reader: &mut R,
+    writer: &mut W,
+) -> Result<bool, ToolFault>
+    ensures runs { RunsKeptTake (wording is_long) many_sides (R.remaining reader.old) (R.remaining reader.new)
+        (F.contents came.old) (F.contents came.new) (W.contents writer.old) (W.contents writer.new)
+        (many_view S.is_honest S.landed desk.old) result
+        (many_view S.is_honest S.landed desk.new) }
+    ensures never_fewer { S.failures desk.old.store ≤ S.failures desk.new.store }
+{
+    if is_long {
+        take_on::<Desk<S>, F, R, W, true, true>(alloc, desk, came, reader, writer)
+    } else {
+        take_on::<Desk<S>, F, R, W, false, true>(alloc, desk, came, reader, writer)
+    }
+}
+
+/// The same, on the sides of what keeps them.
+fn take_on<K: Keeper, F: Write, R: Read, W: Write, const LONG: bool, const KEEP: bool>(
+    alloc: Global,
+    keeper: &mut K,
+    came: &mut F,
+    reader: &mut R,
+    writer: &mut W,
+) -> Result<bool, ToolFault>
+    ensures runs { RunsTaking KEEP (wording LONG) K.keeping (R.remaining reader.old) (R.remaining reader.new)
+        (F.contents came.old) (F.contents came.new) (W.contents writer.old) (W.contents writer.new)
         (view_of K.Kept.is_honest K.Kept.landed (K.live keeper.old) (K.store keeper.old)) result
         (view_of K.Kept.is_honest K.Kept.landed (K.live keeper.new) (K.store keeper.new)) }
-    ensures counted { CountsToolFailure result (K.Kept.failures (K.store keeper.old))
+    ensures counted { CountsTaking KEEP result (K.Kept.failures (K.store keeper.old))
         (K.Kept.failures (K.store keeper.new)) }
 {
-    let mut taken = Counted::new(TakesEach {
+    let mut taken = Counted::new(TakesEach::<'_, '_, K, F, LONG, KEEP> {
         keeper,
+        came,
         all_fine: true,
     });
     take_input(alloc, &mut taken, reader, writer)
 }
 
 /// The same, on a keeper that is lent, before the first APDU.
-fn take_input<K: Keeper, R: Read, W: Write>(
+fn take_input<K: Keeper, F: Write, R: Read, W: Write, const LONG: bool, const KEEP: bool>(
     alloc: Global,
-    taken: &mut Counted<TakesEach<'_, K>>,
+    taken: &mut Counted<TakesEach<'_, '_, K, F, LONG, KEEP>>,
     reader: &mut R,
     writer: &mut W,
 ) -> Result<bool, ToolFault>
     requires none { taken.old.count ≡ 0 }
     requires fine { taken.old.handler.all_fine ≡ true }
-    ensures runs { RunsTake K.keeping (R.remaining reader.old) (R.remaining reader.new)
+    ensures runs { RunsTaking KEEP (wording LONG) K.keeping (R.remaining reader.old) (R.remaining reader.new)
+        (F.contents taken.old.handler.came.now) (F.contents taken.new.handler.came.now)
         (W.contents writer.old) (W.contents writer.new)
         (view_of K.Kept.is_honest K.Kept.landed (K.live taken.old.handler.keeper.now) (K.store taken.old.handler.keeper.now)) result
         (view_of K.Kept.is_honest K.Kept.landed (K.live taken.new.handler.keeper.now) (K.store taken.new.handler.keeper.now)) }
     ensures same_keeper { taken.new.handler.keeper.ghost_name ≡ taken.old.handler.keeper.ghost_name }
-    ensures counted { CountsToolFailure result (K.Kept.failures (K.store taken.old.handler.keeper.now))
+    ensures same_came { taken.new.handler.came.ghost_name ≡ taken.old.handler.came.ghost_name }
+    ensures counted { CountsTaking KEEP result (K.Kept.failures (K.store taken.old.handler.keeper.now))
         (K.Kept.failures (K.store taken.new.handler.keeper.now)) }
 {
     match handle_input(alloc, reader, writer, taken) {
@@ -103,32 +172,44 @@ fn take_input<K: Keeper, R: Read, W: Write>(
     }
 }
 
-/// Takes each APDU on the keeper that is lent, and keeps in mind whether all went well.
+/// Takes each APDU on the keeper that is lent, keeps it where messages are kept, tells of it in long words or short
+/// ones, and keeps in mind whether all went well.
 #[derive(Drop)]
-struct TakesEach<'a, K: Keeper> {
+struct TakesEach<'a, 'b, K: Keeper, F: Write, const LONG: bool, const KEEP: bool> {
     keeper: &'a mut K,
+    came: &'b mut F,
     all_fine: bool,
 }
 
-impl<K: Keeper> TakesEach<'_, K> {
-    /// Takes an APDU, saves it if it was taken, and writes the line of it.
+impl<K: Keeper, F: Write, const LONG: bool, const KEEP: bool> TakesEach<'_, '_, K, F, LONG, KEEP> {
+    /// Takes an APDU, which was read as this view, saves it if it was taken, and tells of it.
     fn take_and_tell<W: Write>(
         &mut self,
         alloc: Global,
         writer: &mut W,
         apdu: &Apdu,
+        read: &ApduView<'_>,
     ) -> Result<(), ToolFault>
-        ensures takes { takes_each K.keeping
+        requires same { read.now ≡ apdu.now }
+        ensures takes { takes_each KEEP (wording LONG) K.keeping
             (progress (view_of K.Kept.is_honest K.Kept.landed (K.live self.old.keeper.now) (K.store self.old.keeper.now))
-            (W.contents writer.old) self.old.all_fine)
+            (F.contents self.old.came.now) (W.contents writer.old) self.old.all_fine)
             apdu.now result
             (progress (view_of K.Kept.is_honest K.Kept.landed (K.live self.new.keeper.now) (K.store self.new.keeper.now))
-            (W.contents writer.new) self.new.all_fine) }
-        ensures keeps { KeepsDesk result self.old.keeper.ghost_name self.new.keeper.ghost_name
+            (F.contents self.new.came.now) (W.contents writer.new) self.new.all_fine) }
+        ensures keeps { KeepsDesk KEEP result self.old.keeper.ghost_name self.new.keeper.ghost_name
+            self.old.came.ghost_name self.new.came.ghost_name
             (K.Kept.failures (K.store self.old.keeper.now)) (K.Kept.failures (K.store self.new.keeper.now)) }
     {
-        match take_and_save(alloc, self.keeper, apdu) {
-            Ok(outcome) => match report(alloc, writer, outcome, self.keeper, K::key_of(apdu)) {
+        match take_and_save::<K, F, KEEP>(alloc, self.keeper, self.came, apdu) {
+            Ok(outcome) => match report_message::<K, W, LONG>(
+                alloc,
+                writer,
+                read,
+                outcome,
+                self.keeper,
+                K::key_of(apdu),
+            ) {
                 Ok(fine) => {
                     self.all_fine &= fine;
                     Ok(())
@@ -140,16 +221,18 @@ impl<K: Keeper> TakesEach<'_, K> {
     }
 }
 
-impl<K: Keeper, W: Write> Handler<W> for TakesEach<'_, K> {
+impl<K: Keeper, F: Write, W: Write, const LONG: bool, const KEEP: bool> Handler<W>
+    for TakesEach<'_, '_, K, F, LONG, KEEP> {
     type Fault = ToolFault;
 
-    ghost handles = { λ old apdu result new. takes_each K.keeping
+    ghost handles = { λ old apdu result new. takes_each KEEP (wording LONG) K.keeping
         (progress (view_of K.Kept.is_honest K.Kept.landed (K.live old.0.keeper.now) (K.store old.0.keeper.now))
-        (W.contents old.1) old.0.all_fine)
+        (F.contents old.0.came.now) (W.contents old.1) old.0.all_fine)
         apdu result
         (progress (view_of K.Kept.is_honest K.Kept.landed (K.live new.0.keeper.now) (K.store new.0.keeper.now))
-        (W.contents new.1) new.0.all_fine)
-        × KeepsDesk result old.0.keeper.ghost_name new.0.keeper.ghost_name
+        (F.contents new.0.came.now) (W.contents new.1) new.0.all_fine)
+        × KeepsDesk KEEP result old.0.keeper.ghost_name new.0.keeper.ghost_name
+        old.0.came.ghost_name new.0.came.ghost_name
         (K.Kept.failures (K.store old.0.keeper.now)) (K.Kept.failures (K.store new.0.keeper.now)) };
 
     fn handle(
@@ -159,31 +242,74 @@ impl<K: Keeper, W: Write> Handler<W> for TakesEach<'_, K> {
         apdu: &ApduView<'_>,
     ) -> Result<(), ToolFault> {
         match apdu.to_apdu(alloc) {
-            Ok(apdu) => self.take_and_tell(alloc, writer, &apdu),
+            Ok(owned) => self.take_and_tell(alloc, writer, &owned, apdu),
             Err(_) => Err(ToolFault::OutOfMemory),
         }
     }
 }
 
-/// Takes an APDU and, if it was taken, saves that.
-fn take_and_save<K: Keeper>(
+/// Takes an APDU and, if it was taken, keeps it where messages are kept, and then saves that.
+fn take_and_save<K: Keeper, F: Write, const KEEP: bool>(
     alloc: Global,
     keeper: &mut K,
+    came: &mut F,
     apdu: &Apdu,
 ) -> Result<DeskOutcome, ToolFault>
     ensures takes { TakesAndSaves K.keeping
         (view_of K.Kept.is_honest K.Kept.landed (K.live keeper.old) (K.store keeper.old))
         apdu.now result
         (view_of K.Kept.is_honest K.Kept.landed (K.live keeper.new) (K.store keeper.new)) }
-    ensures counted { CountsToolFailure result (K.Kept.failures (K.store keeper.old))
+    ensures keeps { KeepsTaken KEEP apdu.now result (F.contents came.old) (F.contents came.new)
+        (view_of K.Kept.is_honest K.Kept.landed (K.live keeper.old) (K.store keeper.old))
+        (view_of K.Kept.is_honest K.Kept.landed (K.live keeper.new) (K.store keeper.new)) }
+    ensures counted { CountsTaking KEEP result (K.Kept.failures (K.store keeper.old))
         (K.Kept.failures (K.store keeper.new)) }
 {
     match keeper.take(alloc, apdu) {
-        Ok(Taking::Taken) => match keeper.save(alloc) {
+        Ok(Taking::Taken) => match keep_and_save::<K, F, KEEP>(alloc, keeper, came, apdu) {
             Ok(()) => Ok(DeskOutcome::Plain(Outcome::Answered(Taking::Taken))),
-            Err(fault) => Err(fault.into()),
+            Err(fault) => Err(fault),
         },
         Ok(taking) => Ok(DeskOutcome::Plain(Outcome::Answered(taking))),
         Err(fault) => refused(fault),
+    }
+}
+
+/// Keeps a message that was taken, where messages are kept, and then saves that it was.
+fn keep_and_save<K: Keeper, F: Write, const KEEP: bool>(
+    alloc: Global,
+    keeper: &mut K,
+    came: &mut F,
+    apdu: &Apdu,
+) -> Result<(), ToolFault>
+    ensures saves { SavesTaken K.keeping
+        (view_of K.Kept.is_honest K.Kept.landed (K.live keeper.old) (K.store keeper.old)) result
+        (view_of K.Kept.is_honest K.Kept.landed (K.live keeper.new) (K.store keeper.new)) }
+    ensures keeps { KeepsBefore (kept_text KEEP apdu.now) result (F.contents came.old) (F.contents came.new)
+        (view_of K.Kept.is_honest K.Kept.landed (K.live keeper.old) (K.store keeper.old))
+        (view_of K.Kept.is_honest K.Kept.landed (K.live keeper.new) (K.store keeper.new)) }
+    ensures counted { CountsTaking KEEP result (K.Kept.failures (K.store keeper.old))
+        (K.Kept.failures (K.store keeper.new)) }
+{
+    if KEEP {
+        keep(alloc, came, apdu)?;
+    }
+    match keeper.save(alloc) {
+        Ok(()) => Ok(()),
+        Err(fault) => Err(fault.into()),
+    }
+}
+
+/// Keeps a message: its bytes are written and flushed.
+fn keep<F: Write>(alloc: Global, came: &mut F, apdu: &Apdu) -> Result<(), ToolFault>
+    ensures { KeepsFront (spelling apdu.now) (F.contents came.old) (F.contents came.new) result }
+{
+    let bytes = encode(alloc, apdu)?;
+    match write_whole(came, &bytes) {
+        Ok(()) => match came.flush() {
+            Ok(()) => Ok(()),
+            Err(_) => Err(STORE_FAILED),
+        },
+        Err(_) => Err(STORE_FAILED),
     }
 }

@@ -6,10 +6,11 @@ ghost use Rattle.ill_tool.specs.Commands.{Runs};
 ghost use Rattle.ill_tool.specs.ExitStatus.{IsFlushed, desk_status, exit_status, status_of};
 
 use crate::check::run_check;
+use crate::explain::{Passed, Watched, explain, is_asked};
 use crate::fault::ToolFault;
-use crate::file::{act, all_well, new, send, status, take};
+use crate::file::{act, all_well, list, loan, new, report, send, status, take, verify};
 use crate::request::{Refusal, Request, read_words};
-use crate::show::run_show;
+use crate::show::run_show_as;
 use crate::simulate::{run_simulate, run_simulate_desks};
 use clap::Error;
 use clap::error::ErrorKind;
@@ -19,8 +20,8 @@ use std::io::{BufWriter, Cursor, Read, Write};
 
 /// Performs one command line, whose first word is the program's name, and answers the exit status.
 ///
-/// The line of a fault is written to `errors`, whose own faults are passed over. What was written
-/// to `writer` before a fault is flushed before that line.
+/// The line of a fault is written to `errors`, whose own faults are passed over, and with `--explain` further
+/// lines behind it. What was written to `writer` before a fault is flushed before that line.
 pub fn run_words<T: LockFiles, R: Read, W: Write, E: Write>(
     rt: &T,
     alloc: Global,
@@ -32,9 +33,36 @@ pub fn run_words<T: LockFiles, R: Read, W: Write, E: Write>(
     ensures { result ≤ 3 }
 {
     match read_words(alloc, words) {
-        Ok(request) => finish(perform(rt, alloc, &request, reader, writer), errors),
-        Err(refusal) => refuse(&refusal, writer, errors),
+        Ok(request) => {
+            let mut reader = Watched::new(alloc, reader, is_asked(words));
+            let done = perform(rt, alloc, &request, &mut reader, writer, errors);
+            conclude(rt, alloc, words, done, reader.passed(), errors)
+        }
+        Err(Refusal::Usage(error)) => tell(&error, writer, errors),
+        Err(Refusal::Fault(fault)) => {
+            let done = flush(writer, Err(fault));
+            conclude(rt, alloc, words, done, None, errors)
+        }
     }
+}
+
+/// Writes the line of a fault, if there is one, and behind it why, if the words ask for that. It answers the exit
+/// status.
+fn conclude<T: LockFiles, E: Write>(
+    rt: &T,
+    alloc: Global,
+    words: &[&str],
+    done: Result<bool, ToolFault>,
+    passed: Option<Passed>,
+    errors: &mut E,
+) -> u8
+    ensures { result ≤ 3 }
+{
+    let status = finish(done, errors);
+    if let Err(fault) = done {
+        explain(rt, alloc, words, fault, passed, errors);
+    }
+    status
 }
 
 /// How many bytes the buffer has that stands between a command and its output.
@@ -42,17 +70,18 @@ const BUFFER: usize = 65_536;
 
 /// Performs a command, with a buffer round the writer, and answers whether all went well. The commands
 /// read pieces themselves.
-fn perform<T: LockFiles, R: Read, W: Write>(
+fn perform<T: LockFiles, R: Read, W: Write, E: Write>(
     rt: &T,
     alloc: Global,
     request: &Request<'_>,
     reader: &mut R,
     writer: &mut W,
+    errors: &mut E,
 ) -> Result<bool, ToolFault> {
     let mut writer = BufWriter::with_capacity(alloc, BUFFER, writer).map_err(
         |_| ToolFault::OutOfMemory,
     )?;
-    let done = run(rt, alloc, request, reader, &mut writer);
+    let done = run(rt, alloc, request, reader, &mut writer, errors);
     finish_writing(writer, done)
 }
 
@@ -80,19 +109,20 @@ fn flush<W: Write>(writer: &mut W, done: Result<bool, ToolFault>) -> Result<bool
     }
 }
 
-/// Runs the engine of a command.
-fn run<T: LockFiles, R: Read, W: Write>(
+/// Runs the engine of a command. What is to be told that is no fault goes to `errors`.
+fn run<T: LockFiles, R: Read, W: Write, E: Write>(
     rt: &T,
     alloc: Global,
     request: &Request<'_>,
     reader: &mut R,
     writer: &mut W,
+    errors: &mut E,
 ) -> Result<bool, ToolFault>
     ensures { Runs (asked request.now) (R.remaining reader.old) (R.remaining reader.new)
         (W.contents writer.old) (W.contents writer.new) result }
 {
     match request {
-        Request::Show => all_well(run_show(alloc, reader, writer)),
+        Request::Show { form } => all_well(run_show_as(alloc, *form, reader, writer)),
         Request::Check => all_well(run_check(alloc, reader, writer)),
         Request::Simulate { group, transaction } => {
             all_well(run_simulate(alloc, group, transaction, reader, writer))
@@ -105,19 +135,22 @@ fn run<T: LockFiles, R: Read, W: Write>(
             today,
             words,
         } => act(rt, alloc, file, txn, *today, words, writer),
-        Request::Take { file } => take(rt, alloc, file, reader, writer),
+        Request::Take {
+            file,
+            is_long,
+            is_kept,
+        } => take(rt, alloc, file, *is_long, *is_kept, reader, writer),
         Request::Send { file, txn, number } => send(rt, alloc, file, txn, *number, writer),
-        Request::Status { file } => status(rt, alloc, file, writer),
-    }
-}
-
-/// Tells why words are no request, and answers the exit status.
-fn refuse<W: Write, E: Write>(refusal: &Refusal, writer: &mut W, errors: &mut E) -> u8
-    ensures { result ≤ 3 }
-{
-    match refusal {
-        Refusal::Usage(error) => tell(error, writer, errors),
-        Refusal::Fault(fault) => finish(flush(writer, Err(*fault)), errors),
+        Request::List { paths, wanted } => list(rt, alloc, paths, wanted, writer, errors),
+        Request::Status { file, form } => status(rt, alloc, file, *form, writer),
+        Request::Loan {
+            file,
+            txn,
+            form,
+            is_picture,
+        } => loan(rt, alloc, file, txn, *form, *is_picture, writer),
+        Request::Verify { file } => verify(rt, alloc, file, writer),
+        Request::Report { paths, today } => report(rt, alloc, paths, *today, writer),
     }
 }
 

@@ -52,7 +52,7 @@ enum Kind {
     Texts,
 }
 
-const KINDS: [(&str, Kind); 24] = [
+const KINDS: [(&str, Kind); 25] = [
     ("ill", Kind::Ill),
     ("watched", Kind::Watched),
     ("show", Kind::Engine(Engine::Show)),
@@ -76,6 +76,7 @@ const KINDS: [(&str, Kind); 24] = [
     ("take", Kind::On(MemoryCall::Take)),
     ("send", Kind::On(MemoryCall::Send)),
     ("status", Kind::On(MemoryCall::Status)),
+    ("loan", Kind::On(MemoryCall::Loan)),
     ("texts", Kind::Texts),
 ];
 

@@ -3,6 +3,7 @@
 use crate::call::{Call, tell_value};
 use crate::names::Names;
 use crate::page::Page;
+use crate::sink::Sink;
 use crate::telling::{begin, tell_bytes, tell_line, tell_whether};
 use crate::watched::{Seen, Watched};
 use crate::words::Word;
@@ -20,6 +21,9 @@ pub struct Folder<'a, R: LockFiles> {
     alloc: Global,
     path: String,
 }
+
+/// What is told in place of its path.
+const SHOWN: &str = "FOLDER";
 
 /// What is done with a file of the folder.
 #[derive(Clone, Copy)]
@@ -97,6 +101,7 @@ impl<'a, R: LockFiles> Folder<'a, R> {
     pub fn command(&self, page: &mut Page, names: &Names, call: &mut Call<'_>) -> Option<()> {
         let line = self.command_line(call.words)?;
         let status = run(self.rt, self.alloc, &line, call)?;
+        self.hide_path(call);
         call.tell(page, names);
         if status != 0 || call.has_written_nothing() {
             tell_value(page, &status);
@@ -119,9 +124,36 @@ impl<'a, R: LockFiles> Folder<'a, R> {
         let lock = format!(in self.alloc; "{record}.lck").ok()?;
         let watched = Watched::new(self.rt, record, lock.as_str(), held);
         let status = run(&watched, self.alloc, &line, call)?;
+        self.hide_path(call);
         call.tell_answer(page, names, &status);
         tell_seen(page, &watched.seen());
         Some(())
+    }
+
+    /// Puts a name in place of its path in what was written, since each run has another path.
+    fn hide_path(&self, call: &mut Call<'_>) {
+        self.hide_path_in(&mut call.output);
+        self.hide_path_in(&mut call.errors);
+    }
+
+    /// Puts a name in place of its path in what one writer took.
+    fn hide_path_in(&self, sink: &mut Sink) {
+        if let Some(hidden) = self.hidden(&sink.taken) {
+            drop(std::mem::replace(&mut sink.taken, hidden));
+        }
+    }
+
+    /// The bytes of a text with the name in place of the path.
+    fn hidden(&self, bytes: &[u8]) -> Option<Vec<u8>> {
+        let text = str::from_utf8(bytes).ok()?;
+        let mut hidden = Vec::new(self.alloc);
+        let mut before: &[u8] = b"";
+        for piece in text.split(self.path.as_str()) {
+            hidden.extend_from_slice(before).ok()?;
+            hidden.extend_from_slice(piece.as_bytes()).ok()?;
+            before = SHOWN.as_bytes();
+        }
+        Some(hidden)
     }
 
     /// The words of a command line: the program's name, and the paths of files in place of their names.

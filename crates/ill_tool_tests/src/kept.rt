@@ -7,8 +7,9 @@ use crate::view::{View, tell_side};
 use crate::words::{Word, texts};
 use ill_saved::{Desk, Desk1, DeskFault, Store};
 use ill_tool::{
-    ToolFault, run_act, run_desk_act, run_desk_send, run_desk_status, run_desk_take, run_send,
-    run_status, run_take,
+    ToolFault, run_act, run_desk_act, run_desk_kept_take, run_desk_loan, run_desk_long_take,
+    run_desk_send, run_desk_status, run_desk_take, run_loan, run_long_take, run_send, run_status,
+    run_take,
 };
 use ill_values::{Day, Number, TxnId};
 use std::alloc::Global;
@@ -23,12 +24,15 @@ pub trait Kept {
         output: &mut Sink,
     ) -> Option<Result<bool, ToolFault>>;
 
-    /// Takes the APDUs of the input, by the engine.
+    /// Takes the APDUs of the input, by the engine: of long lines, or of a desk by that which keeps what came, where
+    /// the words say so.
     fn take(
         &mut self,
         alloc: Global,
+        words: &[Word],
         source: &mut Source,
         output: &mut Sink,
+        came: &mut Sink,
     ) -> Result<bool, ToolFault>;
 
     /// Gives the message that the words say, by the engine.
@@ -41,6 +45,14 @@ pub trait Kept {
 
     /// Shows all sides, by the engine.
     fn status(&self, alloc: Global, output: &mut Sink) -> Result<(), ToolFault>;
+
+    /// Shows all of the loan that the words say, by the engine.
+    fn loan(
+        &self,
+        alloc: Global,
+        words: &[Word],
+        output: &mut Sink,
+    ) -> Option<Result<(), ToolFault>>;
 
     /// Saves all sides.
     fn save(&mut self, alloc: Global) -> Result<(), DeskFault>;
@@ -71,9 +83,14 @@ impl<S: Store> Kept for Desk1<S> {
     fn take(
         &mut self,
         alloc: Global,
+        words: &[Word],
         source: &mut Source,
         output: &mut Sink,
+        _came: &mut Sink,
     ) -> Result<bool, ToolFault> {
+        if has(words, "--long") {
+            return run_long_take(alloc, self, source, output);
+        }
         run_take(alloc, self, source, output)
     }
 
@@ -88,6 +105,15 @@ impl<S: Store> Kept for Desk1<S> {
 
     fn status(&self, alloc: Global, output: &mut Sink) -> Result<(), ToolFault> {
         run_status(alloc, self, output)
+    }
+
+    fn loan(
+        &self,
+        alloc: Global,
+        _words: &[Word],
+        output: &mut Sink,
+    ) -> Option<Result<(), ToolFault>> {
+        Some(run_loan(alloc, self, output))
     }
 
     fn save(&mut self, alloc: Global) -> Result<(), DeskFault> {
@@ -125,9 +151,18 @@ impl<S: Store> Kept for Desk<S> {
     fn take(
         &mut self,
         alloc: Global,
+        words: &[Word],
         source: &mut Source,
         output: &mut Sink,
+        came: &mut Sink,
     ) -> Result<bool, ToolFault> {
+        let is_long = has(words, "--long");
+        if has(words, "--keep") {
+            return run_desk_kept_take(alloc, self, is_long, came, source, output);
+        }
+        if is_long {
+            return run_desk_long_take(alloc, self, source, output);
+        }
         run_desk_take(alloc, self, source, output)
     }
 
@@ -143,6 +178,16 @@ impl<S: Store> Kept for Desk<S> {
 
     fn status(&self, alloc: Global, output: &mut Sink) -> Result<(), ToolFault> {
         run_desk_status(alloc, self, output)
+    }
+
+    fn loan(
+        &self,
+        alloc: Global,
+        words: &[Word],
+        output: &mut Sink,
+    ) -> Option<Result<(), ToolFault>> {
+        let (txn, _) = txn_before(alloc, words)?;
+        Some(run_desk_loan(alloc, self, &txn, output))
     }
 
     fn save(&mut self, alloc: Global) -> Result<(), DeskFault> {
@@ -202,6 +247,11 @@ fn words_behind(words: &[Word]) -> &[Word] {
         [option, _, words @ ..] if option.is("--today") => words,
         _ => words,
     }
+}
+
+/// Whether an option is among the words.
+fn has(words: &[Word], option: &str) -> bool {
+    words.iter().any(|word| word.is(option))
 }
 
 /// The number of a message.

@@ -41,6 +41,7 @@ pub enum MemoryCall {
     Take,
     Send,
     Status,
+    Loan,
 }
 
 impl Memory {
@@ -188,7 +189,13 @@ fn answer<K: Kept>(
             call.tell_answer(page, names, &answer);
         }
         MemoryCall::Take => {
-            let answer = kept.take(alloc, &mut call.source, &mut call.output);
+            let answer = kept.take(
+                alloc,
+                call.words,
+                &mut call.source,
+                &mut call.output,
+                &mut call.errors,
+            );
             call.tell_answer(page, names, &answer);
         }
         MemoryCall::Send => {
@@ -197,6 +204,10 @@ fn answer<K: Kept>(
         }
         MemoryCall::Status => {
             let answer = kept.status(alloc, &mut call.output);
+            call.tell_answer(page, names, &answer);
+        }
+        MemoryCall::Loan => {
+            let answer = kept.loan(alloc, call.words, &mut call.output)?;
             call.tell_answer(page, names, &answer);
         }
     }

@@ -1,12 +1,16 @@
--- The tests of texts: UTF-8, from what std's `from_utf8` says, and how long a text may be.
-use Rattle.std.proofs.Common.{◌≡◌, ℕ, ◌≤◌, Bool, true, false, cond, eqb, ltb, List, [], ◌∷◌, length, Result, Ok, Err, sym, refl, arith}
-use Rattle.std.specs.Prelude.{MatchResult, is_ok}
+-- The tests of texts: UTF-8, from what std's `from_utf8` says, how long a text may be, and which texts are UTF-8.
+use Rattle.std.proofs.Common.{◌≡◌, ℕ, ◌/◌, ◌<◌, ◌≤◌, Bool, true, false, cond, eqb, ltb, List, [], ◌∷◌, length, Result, Ok, Err, sym, refl, arith}
+use Rattle.std.specs.Prelude.{MatchResult, is_ok, map}
+use Rattle.std.specs.List.{All, list_all}
 use Rattle.std.specs.Str.{IsUtf8, is_utf8}
-use Rattle.std.proofs.lemmas.Str.{is_utf8-from_IsUtf8, IsUtf8-from_is_utf8}
-use Rattle.std.proofs.lemmas.Bool.{ltb-false}
+use Rattle.std.proofs.lemmas.Str.{is_utf8-from_IsUtf8, IsUtf8-from_is_utf8, IsUtf8-from_ascii}
+use Rattle.std.proofs.lemmas.Str.Ascii.{IsAscii-from_all}
+use Rattle.std.proofs.lemmas.Bool.{ltb-false, and_parts}
+use Rattle.std.proofs.lemmas.List.Elements.{All-nil, All-cons}
 use Rattle.ill_values.specs.declared.fault.TextFault.{TextFault}
 use Rattle.ill_values.specs.declared.fault.TextFault.TheVariants.{Empty, TooLong, BadByte}
-use Rattle.ill_values.specs.Text.{text_check}
+use Rattle.ill_values.specs.Day.{Date, date_text, last_digit}
+use Rattle.ill_values.specs.Text.{text_check, is_no_control, is_item_text, IsItem}
 
 is_false : (b : Bool) → (b ≡ true → ⊥) → false ≡ b
 is_false true never = absurd (never refl)
@@ -33,3 +37,38 @@ text_least most passes (byte ∷ text) e = omega arith
 
 pub text_size : (most : ℕ) (passes : List ℕ → Bool) (text : List ℕ) → text_check most passes text ≡ Ok tt → (1 ≤ length text) × (length text ≤ most)
 text_size most passes text e = (text_least most passes text e, text_most most passes text e)
+
+-- the last test of a text
+abbrev judged : Bool → Result (Unit {0}) TextFault
+judged b = cond b (Ok tt) (Err BadByte)
+
+passed : (b : Bool) → judged b ≡ Ok tt → b ≡ true
+passed true e = refl
+passed false e = absurd cc
+
+text_passes : (most : ℕ) (passes : List ℕ → Bool) (text : List ℕ) → text_check most passes text ≡ Ok tt → passes text ≡ true
+text_passes most passes text e =
+    let some = no_fault (eqb (length text) 0) (cond (ltb most (length text)) (Err TooLong) (cond (passes text) (Ok tt) (Err BadByte))) Empty e in
+    let few = no_fault (ltb most (length text)) (cond (passes text) (Ok tt) (Err BadByte)) TooLong some.1 in
+    passed (passes text) few.1
+
+-- an item is UTF-8
+pub item_utf8 : (text : List ℕ) → IsItem text → IsUtf8 text
+item_utf8 text e = IsUtf8-from_is_utf8 text (and_parts (list_all is_no_control text) (is_utf8 text) (text_passes 200 is_item_text text e)).1
+
+digit_ascii : (n : ℕ) → last_digit n < 128
+digit_ascii n = omega arith
+
+abbrev below_128 : ℕ → Type 0
+below_128 byte = byte < 128
+
+-- digits are ASCII
+digits_ascii : (numbers : List ℕ) → All below_128 (map last_digit numbers)
+digits_ascii [] = All-nil below_128
+digits_ascii (n ∷ more) = All-cons below_128 (last_digit n) (map last_digit more) (digit_ascii n) (digits_ascii more)
+
+-- the digits of a day are UTF-8
+pub date_utf8 : (d : Date) → IsUtf8 (date_text d)
+date_utf8 d =
+    let numbers = d.year / 1000 ∷ d.year / 100 ∷ d.year / 10 ∷ d.year ∷ d.month / 10 ∷ d.month ∷ d.day / 10 ∷ d.day ∷ [] in
+    IsUtf8-from_ascii (date_text d) (IsAscii-from_all (date_text d) (digits_ascii numbers))

@@ -76,6 +76,13 @@ date_text d =
     last_digit (d.year / 1000) ∷ last_digit (d.year / 100) ∷ last_digit (d.year / 10) ∷ last_digit d.year
     ∷ last_digit (d.month / 10) ∷ last_digit d.month ∷ last_digit (d.day / 10) ∷ last_digit d.day ∷ []
 
+-- a day with hyphens, YYYY-MM-DD (ISO 8601-1, extended format)
+abbrev pub iso_text : Date → List ℕ
+iso_text d =
+    last_digit (d.year / 1000) ∷ last_digit (d.year / 100) ∷ last_digit (d.year / 10) ∷ last_digit d.year
+    ∷ 0x2D ∷ last_digit (d.month / 10) ∷ last_digit d.month
+    ∷ 0x2D ∷ last_digit (d.day / 10) ∷ last_digit d.day ∷ []
+
 -- eight ASCII digits
 abbrev pub eight_digits : List ℕ → Bool
 eight_digits text = (length text == 8) && list_all is_ascii_digit text

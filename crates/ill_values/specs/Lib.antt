@@ -2,3 +2,6 @@ pub mod Day
 pub mod Text
 pub mod TxnId
 pub mod Apdu
+pub mod Names
+pub mod Results
+pub mod Types

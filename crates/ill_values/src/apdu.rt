@@ -1,12 +1,17 @@
 //! The messages of the protocol.
 
-ghost use Rattle.std.specs.Prelude.{◌≡◌, IfOk};
+ghost use Rattle.std.specs.Prelude.{◌≡◌, Some, IfOk};
+ghost use Rattle.std.specs.Fmt.{padded};
+ghost use Rattle.ill_values.specs.Results.{result_name, result_named};
+ghost use Rattle.ill_values.specs.Types.{type_name};
 
+use crate::apdu_type::ApduType;
 use crate::day::Day;
 use crate::item::Item;
 use crate::number::Number;
 use crate::txn_id::TxnId;
 use std::alloc::{AllocError as OutOfMemory, Global};
+use std::fmt;
 
 /// One message of the interlibrary loan protocol (ISO 10161-1), with the fields that this profile
 /// keeps.
@@ -104,6 +109,13 @@ pub enum Body {
 }
 
 impl Body {
+    /// The name of the type of the message, as `ILL-Request`.
+    pub fn type_name(&self) -> &'static str
+        ensures { result.now ≡ type_name self.now }
+    {
+        ApduType::of(self).name()
+    }
+
     /// A copy of the body, on its own memory. Only an `IllRequest` takes any.
     fn copy(&self, alloc: Global) -> Result<Body, OutOfMemory>
         ensures { IfOk result (λ body. body ≡ self.now) }
@@ -139,7 +151,7 @@ impl Body {
     }
 }
 
-/// The result that an ILL-Answer reports.
+/// The result that an ILL-Answer reports. It is displayed by its name, as `will-supply`.
 #[derive(Clone, Copy, Debug, PartialEq, Eq, Hash)]
 pub enum AnswerResult {
     /// The item is supplied only on conditions, which the message does not name.
@@ -156,4 +168,52 @@ pub enum AnswerResult {
     HoldPlaced,
     /// The item is not supplied; the answer stands for an estimate of the cost. The request ends.
     Estimate,
+}
+
+/// All results, in the order of their octets.
+const RESULTS: [AnswerResult; 7] = [
+    AnswerResult::Conditional,
+    AnswerResult::Retry,
+    AnswerResult::Unfilled,
+    AnswerResult::LocationsProvided,
+    AnswerResult::WillSupply,
+    AnswerResult::HoldPlaced,
+    AnswerResult::Estimate,
+];
+
+impl AnswerResult {
+    /// The name of the result, as `will-supply`.
+    pub fn name(self) -> &'static str
+        ensures { result.now ≡ result_name self }
+    {
+        match self {
+            AnswerResult::Conditional => "conditional",
+            AnswerResult::Retry => "retry",
+            AnswerResult::Unfilled => "unfilled",
+            AnswerResult::LocationsProvided => "locations-provided",
+            AnswerResult::WillSupply => "will-supply",
+            AnswerResult::HoldPlaced => "hold-placed",
+            AnswerResult::Estimate => "estimate",
+        }
+    }
+
+    /// The result with this name, if it is one.
+    pub fn read(text: &[u8]) -> Option<AnswerResult>
+        ensures { result ≡ result_named text.now }
+    {
+        RESULTS
+            .iter()
+            .copied()
+            .find(|answer| answer.name().as_bytes() == text)
+    }
+}
+
+impl fmt::Display for AnswerResult {
+    ghost output = { λ answer. Some (result_name answer) };
+
+    ghost styled_output = { λ answer spec. Some (padded spec (result_name answer)) };
+
+    fn fmt<W: fmt::Write>(&self, f: &mut fmt::Formatter<W>) -> fmt::Result {
+        f.pad(self.name())
+    }
 }

@@ -1,16 +1,18 @@
 //! Calendar days.
 
-ghost use Rattle.std.specs.Prelude.{◌≡◌, ◌+◌, ◌-◌, ◌*◌, ◌%◌, ◌<◌, ◌≤◌, pos, ◌≤ℤ◌, unsigned_abs, length, slice_index, EachIndex};
+ghost use Rattle.std.specs.Prelude.{◌≡◌, ◌+◌, ◌-◌, ◌*◌, ◌%◌, ◌<◌, ◌≤◌, Some, pos, ◌≤ℤ◌, unsigned_abs, length, slice_index, EachIndex};
 ghost use Rattle.std.specs.List.{list_all};
 ghost use Rattle.std.specs.Char.{is_ascii_digit};
 ghost use Rattle.std.specs.Bool.{OnTrue};
 ghost use Rattle.std.specs.Int.{IsInRange};
-ghost use Rattle.ill_values.specs.Day.{Date, IsDate, is_in_year, eight_digits, two_digits_at, date_of, date_text, read_date, day_after};
+ghost use Rattle.std.specs.Fmt.{padded};
+ghost use Rattle.ill_values.specs.Day.{Date, IsDate, is_in_year, eight_digits, two_digits_at, date_of, date_text, iso_text, read_date, day_after};
 ghost use Rattle.jiff.specs.Words.{IsYmd};
 
 use crate::fault::DayFault;
 use jiff::{ToSpan, civil};
 use std::marker::Model;
+use std::{fmt, str};
 
 /// The most days that a span of jiff holds. To refuse more loses no day of this profile: even from
 /// its first, 1 January 1900, so many days lead past its last, 31 December 9999.
@@ -18,7 +20,7 @@ const MAX_DAYS: u32 = 7_304_484;
 
 /// A day of the Gregorian calendar, from 1 January 1900 to 31 December 9999.
 ///
-/// Days are ordered as the calendar has them.
+/// Days are ordered as the calendar has them. A day is displayed by its eight digits, as `20250315`.
 #[derive(Clone, Copy, Debug, PartialEq, Eq, PartialOrd, Ord, Hash)]
 pub struct Day {
     year: u16,
@@ -64,6 +66,30 @@ impl Day {
         Day::new(year, two_digits(text, 4), two_digits(text, 6))
     }
 
+    /// The year, 1900 to 9999.
+    pub fn year(&self) -> u16
+        ensures value { result ≡ self.now.year }
+        ensures date { IsDate self.now }
+    {
+        self.year
+    }
+
+    /// The month, 1 to 12.
+    pub fn month(&self) -> u8
+        ensures value { result ≡ self.now.month }
+        ensures date { IsDate self.now }
+    {
+        self.month
+    }
+
+    /// The day of the month, 1 to 31.
+    pub fn day(&self) -> u8
+        ensures value { result ≡ self.now.day }
+        ensures date { IsDate self.now }
+    {
+        self.day
+    }
+
     /// The day as eight ASCII digits, as `20250315`.
     pub fn digits(&self) -> [u8; 8]
         ensures value { result ≡ date_text self.now }
@@ -79,6 +105,15 @@ impl Day {
             last_digit(u16::from(self.day / 10)),
             last_digit(u16::from(self.day)),
         ]
+    }
+
+    /// The day with hyphens between year, month and day, as `2025-03-15` (ISO 8601-1, extended format).
+    pub fn iso(&self) -> [u8; 10]
+        ensures value { result ≡ iso_text self.now }
+        ensures date { IsDate self.now }
+    {
+        let [y1, y2, y3, y4, m1, m2, d1, d2] = self.digits();
+        [y1, y2, y3, y4, b'-', m1, m2, b'-', d1, d2]
     }
 
     /// The day that many days later. A day after 31 December 9999 is `OutOfRange`.
@@ -110,6 +145,19 @@ impl Day {
         ensures { result ≡ date_of (unsigned_abs date.year) date.month date.day }
     {
         Day::new(date.year() as u16, date.month() as u8, date.day() as u8)
+    }
+}
+
+impl fmt::Display for Day {
+    ghost output = { λ day. Some (date_text day) };
+
+    ghost styled_output = { λ day spec. Some (padded spec (date_text day)) };
+
+    fn fmt<W: fmt::Write>(&self, f: &mut fmt::Formatter<W>) -> fmt::Result {
+        match str::from_utf8(&self.digits()) {
+            Ok(digits) => f.pad(digits),
+            Err(_) => unreachable!(),
+        }
     }
 }
 

@@ -10,6 +10,7 @@ use crate::fault::TextFault;
 use crate::text::check_item;
 use std::alloc::{AllocError as OutOfMemory, Global};
 use std::marker::Model;
+use std::str;
 
 /// What a request asks for: 1 to 200 bytes of UTF-8 without the control characters of ASCII.
 #[derive(Debug, Drop)]
@@ -73,5 +74,16 @@ impl Item {
         ensures most { length result.now ≤ 200 }
     {
         &self.text
+    }
+
+    /// The item as text.
+    pub fn as_str(&self) -> &str
+        ensures bytes { result.now ≡ self.now }
+        ensures item { IsItem self.now }
+    {
+        match str::from_utf8(self.text()) {
+            Ok(text) => text,
+            Err(_) => unreachable!(),
+        }
     }
 }

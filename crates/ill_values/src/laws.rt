@@ -1,14 +1,19 @@
 //! What holds of the values, as contracts of functions that do nothing.
 
-ghost use Rattle.std.specs.Prelude.{◌≡◌, ◌≤◌, ◌↔◌, ℕ, List, length, IsTrue, Ok};
+ghost use Rattle.std.specs.Prelude.{◌≡◌, ◌≤◌, ◌↔◌, ℕ, List, length, IsTrue, Some, Ok};
 ghost use Rattle.ill_values.specs.Text.{IsQualifier, IsItem};
 ghost use Rattle.ill_values.specs.TxnId.{Qualifiers};
 ghost use Rattle.ill_values.specs.declared.apdu.Apdu.{Apdu};
 ghost use Rattle.ill_values.specs.declared.apdu.Body.{Body};
 ghost use Rattle.ill_values.specs.declared.apdu.AnswerResult.{AnswerResult};
+ghost use Rattle.ill_values.specs.declared.apdu_type.ApduType.{ApduType};
+ghost use Rattle.ill_values.specs.Names.{named_by};
+ghost use Rattle.ill_values.specs.Results.{result_name, result_named};
+ghost use Rattle.ill_values.specs.Types.{apdu_type_name, apdu_type_named};
 ghost use Rattle.ill_values.specs.Day.{Date, IsDate, IsBefore, date_text, read_date};
 
 use crate::apdu::{AnswerResult, Apdu, Body};
+use crate::apdu_type::ApduType;
 use crate::day::Day;
 use crate::item::Item;
 use crate::number::Number;
@@ -71,3 +76,27 @@ pub fn date_texts()
     ensures read { (text : List ℕ) (d : Date) → read_date text ≡ Ok d →
         IsDate d × (text ≡ date_text d) }
 {}
+
+/// Where each name is read as its value, a text is read as a value exactly where it is the name of that value.
+pub fn names_are_read<A>()
+    ensures { (name_of : A → List ℕ) (all : List A) →
+        ((value : A) → named_by name_of all (name_of value) ≡ Some value) →
+        (text : List ℕ) (value : A) →
+        (named_by name_of all text ≡ Some value) ↔ (text ≡ name_of value) }
+{}
+
+/// A text is read as a result exactly where it is the name of that result.
+pub fn result_names_are_read()
+    ensures { (text : List ℕ) (answer : AnswerResult) →
+        (result_named text ≡ Some answer) ↔ (text ≡ result_name answer) }
+{
+    names_are_read::<AnswerResult>();
+}
+
+/// A text is read as a type of APDU exactly where it is the name of that type.
+pub fn apdu_type_names_are_read()
+    ensures { (text : List ℕ) (apdu_type : ApduType) →
+        (apdu_type_named text ≡ Some apdu_type) ↔ (text ≡ apdu_type_name apdu_type) }
+{
+    names_are_read::<ApduType>();
+}

@@ -5,6 +5,7 @@
 #![tactic(auto)]
 
 mod apdu;
+mod apdu_type;
 mod day;
 mod fault;
 mod item;
@@ -14,9 +15,11 @@ mod text;
 mod txn_id;
 
 pub use apdu::{AnswerResult, Apdu, Body};
+pub use apdu_type::ApduType;
 pub use day::Day;
 pub use fault::{DayFault, TextFault};
 pub use item::Item;
 pub use number::Number;
 pub use std::alloc::AllocError as OutOfMemory;
+pub use text::{ITEM_LIMIT, QUALIFIER_LIMIT};
 pub use txn_id::TxnId;

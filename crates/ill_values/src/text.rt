@@ -7,11 +7,11 @@ ghost use Rattle.ill_values.specs.Text.{is_printable, is_no_control, is_item_tex
 use crate::fault::TextFault;
 use std::str;
 
-/// How many bytes a qualifier may have.
-const QUALIFIER_BYTES: usize = 64;
+/// The most bytes of a qualifier.
+pub const QUALIFIER_LIMIT: usize = 64;
 
-/// How many bytes an item may have.
-const ITEM_BYTES: usize = 200;
+/// The most bytes of an item.
+pub const ITEM_LIMIT: usize = 200;
 
 /// Whether the text is a qualifier, or else its first fault.
 pub fn check_qualifier(text: &[u8]) -> Result<(), TextFault>
@@ -19,7 +19,7 @@ pub fn check_qualifier(text: &[u8]) -> Result<(), TextFault>
 {
     if text.is_empty() {
         Err(TextFault::Empty)
-    } else if text.len() > QUALIFIER_BYTES {
+    } else if text.len() > QUALIFIER_LIMIT {
         Err(TextFault::TooLong)
     } else if is_printable_text(text) {
         Ok(())
@@ -34,7 +34,7 @@ pub fn check_item(text: &[u8]) -> Result<(), TextFault>
 {
     if text.is_empty() {
         Err(TextFault::Empty)
-    } else if text.len() > ITEM_BYTES {
+    } else if text.len() > ITEM_LIMIT {
         Err(TextFault::TooLong)
     } else if is_item(text) {
         Ok(())

@@ -1,4 +1,4 @@
-//! Days: their digits, their faults, their order, and days so many days later.
+//! Days: their parts, their texts, their faults, their order, and days so many days later.
 
 use ill_values::{Day, DayFault};
 use std::test::Fail;
@@ -78,6 +78,44 @@ fn days_are_made_of_their_parts(rt: HostRuntime) {
             }
         }
     }
+}
+
+/// A day with its parts, and with hyphens between them.
+struct IsoRow {
+    digits: &'static str,
+    parts: (u16, u8, u8),
+    iso: &'static str,
+}
+
+const ISO: [IsoRow; 3] = [
+    IsoRow {
+        digits: "20250315",
+        parts: (2025, 3, 15),
+        iso: "2025-03-15",
+    },
+    IsoRow {
+        digits: "19000101",
+        parts: (1900, 1, 1),
+        iso: "1900-01-01",
+    },
+    IsoRow {
+        digits: "99991231",
+        parts: (9999, 12, 31),
+        iso: "9999-12-31",
+    },
+];
+
+#[test]
+fn days_show_their_parts(rt: HostRuntime) -> Result<(), Fail> {
+    for row in &ISO {
+        let day = Day::read(row.digits.as_bytes())?;
+        let parts = (day.year(), day.month(), day.day());
+        assert!(rt; parts == row.parts, "parts of {}", row.digits);
+        assert!(rt; day.iso().as_slice() == row.iso.as_bytes(), "{}", row.iso);
+        let shown = format!(in rt.alloc(); "{day}")?;
+        assert!(rt; shown.as_str() == row.digits, "{} shown", row.digits);
+    }
+    Ok(())
 }
 
 /// A text that is no day.

@@ -6,4 +6,6 @@ mod days;
 #[cfg(test)]
 mod equality;
 #[cfg(test)]
+mod names;
+#[cfg(test)]
 mod texts;

@@ -1,6 +1,6 @@
 //! Transaction ids, items and numbers.
 
-use ill_values::{Item, Number, TextFault, TxnId};
+use ill_values::{ITEM_LIMIT, Item, Number, QUALIFIER_LIMIT, TextFault, TxnId};
 use std::alloc::Global;
 use std::process::Abort;
 use std::test::Fail;
@@ -161,9 +161,16 @@ fn expect_item(rt: &impl Abort, alloc: Global, row: &Row) {
         Ok(item) => {
             assert!(rt; row.fault.is_none(), "{} is an item", row.case);
             assert!(rt; item.text() == row.text, "text of {}", row.case);
+            assert!(rt; item.as_str().as_bytes() == row.text, "str of {}", row.case);
         }
         Err(fault) => assert!(rt; row.fault == Some(fault), "fault of {}", row.case),
     }
+}
+
+#[test]
+fn limits_are_those_of_the_longest_texts(rt: HostRuntime) {
+    assert!(rt; QUALIFIER_LIMIT == 64, "qualifier");
+    assert!(rt; ITEM_LIMIT == 200, "item");
 }
 
 #[test]

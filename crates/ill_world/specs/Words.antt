@@ -7,8 +7,7 @@ use Rattle.std.specs.Char.{is_ascii_digit}
 use Rattle.hex.specs.Hex.{decode_of}
 use Rattle.ill_values.specs.Day.{Date, read_date, day_after}
 use Rattle.ill_values.specs.Text.{item_of}
-use Rattle.ill_values.specs.declared.apdu.AnswerResult.{AnswerResult}
-use Rattle.ill_values.specs.declared.apdu.AnswerResult.TheVariants.{Conditional, Retry, Unfilled, LocationsProvided, WillSupply, HoldPlaced, Estimate}
+use Rattle.ill_values.specs.Results.{result_named}
 use Rattle.ill_core.specs.declared.requester.Wish.{Wish}
 use Rattle.ill_core.specs.declared.requester.Wish.TheVariants.{Request, Cancel, Reply, Receive, Renew, Return}
 use Rattle.ill_core.specs.declared.responder.Deed.{Deed}
@@ -38,17 +37,6 @@ who_named = named ((codes "requester", Requester) ∷ (codes "responder", Respon
 -- whether a save that fails has landed nevertheless: the store has the new record, or the old one
 abbrev pub landed_named : List ℕ → Option Bool
 landed_named = named ((codes "new", true) ∷ (codes "old", false) ∷ [])
-
-unfoldable pub result_named : List ℕ → Option AnswerResult
-result_named = named (
-    (codes "conditional", Conditional)
-    ∷ (codes "retry", Retry)
-    ∷ (codes "unfilled", Unfilled)
-    ∷ (codes "locations-provided", LocationsProvided)
-    ∷ (codes "will-supply", WillSupply)
-    ∷ (codes "hold-placed", HoldPlaced)
-    ∷ (codes "estimate", Estimate)
-    ∷ [])
 
 -- a day as eight digits
 abbrev pub day_of : List ℕ → Option Date

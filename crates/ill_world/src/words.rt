@@ -9,13 +9,13 @@ ghost use Rattle.std.specs.Bool.{OnTrue};
 ghost use Rattle.std.specs.List.{list_all};
 ghost use Rattle.std.specs.Int.{IsInRange};
 ghost use Rattle.std.specs.Char.{is_ascii_digit};
-ghost use Rattle.ill_world.specs.Words.{yes_of, who_named, landed_named, result_named, day_of, optional_day_of, is_numeral, decimal_value, due_of, days_after, number_of, bytes_of};
+ghost use Rattle.ill_world.specs.Words.{yes_of, who_named, landed_named, day_of, optional_day_of, is_numeral, decimal_value, due_of, days_after, number_of, bytes_of};
 
 use crate::bytes::Bytes;
 use crate::event::Who;
 pub use actions::{deed, wish};
 use hex::FromHexError;
-use ill_values::{AnswerResult, Day, Number, OutOfMemory};
+use ill_values::{Day, Number, OutOfMemory};
 use std::alloc::Global;
 
 /// The most decimal digits of the number of a message.
@@ -66,30 +66,6 @@ pub(crate) fn landed(word: &[u8]) -> Option<bool>
         Some(true)
     } else if is(word, "old") {
         Some(false)
-    } else {
-        None
-    }
-}
-
-/// The result that the word names, if it names one.
-#[tactic(auto, unfolding(crate::specs::Words::result_named))]
-pub(crate) fn answer_result(word: &[u8]) -> Option<AnswerResult>
-    ensures { result ≡ result_named word.now }
-{
-    if is(word, "conditional") {
-        Some(AnswerResult::Conditional)
-    } else if is(word, "retry") {
-        Some(AnswerResult::Retry)
-    } else if is(word, "unfilled") {
-        Some(AnswerResult::Unfilled)
-    } else if is(word, "locations-provided") {
-        Some(AnswerResult::LocationsProvided)
-    } else if is(word, "will-supply") {
-        Some(AnswerResult::WillSupply)
-    } else if is(word, "hold-placed") {
-        Some(AnswerResult::HoldPlaced)
-    } else if is(word, "estimate") {
-        Some(AnswerResult::Estimate)
     } else {
         None
     }

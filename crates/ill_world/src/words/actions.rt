@@ -3,9 +3,9 @@
 ghost use Rattle.std.specs.Prelude.{◌≡◌, map, IfOk};
 ghost use Rattle.ill_world.specs.Words.{bare_wish_of, wish_with, request_of, spaced, wish_of, bare_deed_of, refusal_of, deed_with, grant_with, deed_of};
 
-use crate::words::{answer_result, due, is, optional_day, yes};
+use crate::words::{due, is, optional_day, yes};
 use ill_core::{Deed, Wish};
-use ill_values::{Day, Item, OutOfMemory, TextFault};
+use ill_values::{AnswerResult, Day, Item, OutOfMemory, TextFault};
 use std::alloc::Global;
 
 /// The wish that the words say, if they say one:
@@ -110,7 +110,7 @@ fn joined(alloc: Global, first: &[u8], more: &[&[u8]]) -> Result<Vec<u8>, OutOfM
 /// | `renew-answer no` | `RenewAnswer` that refuses |
 /// | `overdue`, `recall`, `check-in` or `expire` | the deed of that name |
 ///
-/// RESULT is an `AnswerResult` in small letters, such as `hold-placed`. DUE is a day or, where days
+/// RESULT is the name of an `AnswerResult`, such as `hold-placed`. DUE is a day or, where days
 /// may be counted `from` one, `+` and one to five decimal digits for so many days after it.
 #[tactic(auto, unfolding(crate::specs::Words::deed_of))]
 pub fn deed(words: &[&[u8]], from: Option<Day>) -> Option<Deed>
@@ -158,7 +158,7 @@ fn deed_with_word(verb: &[u8], word: &[u8], from: Option<Day>) -> Option<Deed>
     ensures { result ≡ deed_with from verb.now word.now }
 {
     if is(verb, "answer") {
-        answer_result(word).map(Deed::Answer)
+        AnswerResult::read(word).map(Deed::Answer)
     } else if is(verb, "cancel-reply") {
         yes(word).map(|yes| Deed::CancelReply { yes })
     } else if is(verb, "ship") {

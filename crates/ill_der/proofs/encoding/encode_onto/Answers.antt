@@ -1,7 +1,8 @@
 use Rattle.std.proofs.Common.{rules, ◌≡◌, ℕ, List, ◌∷◌, ◌++◌, length}
 use Rattle.ill_values.specs.declared.apdu.Apdu.{Apdu}
 use Rattle.ill_der.specs.Adding.{AddsFront}
-use Rattle.ill_der.specs.Types.{identifier_of, type_of}
+use Rattle.ill_values.specs.Types.{type_of}
+use Rattle.ill_der.specs.Types.{identifier_of}
 use Rattle.ill_der.specs.Format.{element, length_octets}
 use Rattle.ill_der.specs.ShortForm.{head_of, spell_body, contents_of, spelling}
 use Rattle.ill_der.proofs.AddingLemmas.{adds_first, adds_second, adds_last, at_err}

@@ -9,14 +9,14 @@ use Rattle.ill_saved.proofs.many.Desk.may_begin.Goals as goal
 as_many : (g : Over) (c : After-len g) → length c.args.self.now.live.held ≡ length c.self.inside.sides.sides
 as_many g c = sym (ap (λ desk. length desk.live.held) c.self.view_is) ∙ as_many_held c.self.inside.sides.sides c.self.inside.released.items c.self.invariant.0
 
-pub returns-then-len-lt-MOST_SIDES : goal.returns-then-len-lt-MOST_SIDES
-returns-then-len-lt-MOST_SIDES g c =
+pub returns-then-len-lt-SIDES_LIMIT : goal.returns-then-len-lt-SIDES_LIMIT
+returns-then-len-lt-SIDES_LIMIT g c =
     let may : c.args.begins ≡ true = search rules in
     let room : nat_lt (length c.self.inside.sides.sides) most_sides ≡ true = search rules in
-    (may, ap (λ n. nat_lt n most_sides) (as_many g (goal.at.returns-then-len-lt-MOST_SIDES g c).After-len) ∙ room)
+    (may, ap (λ n. nat_lt n most_sides) (as_many g (goal.at.returns-then-len-lt-SIDES_LIMIT g c).After-len) ∙ room)
 
-pub returns-else-len-lt-MOST_SIDES : goal.returns-else-len-lt-MOST_SIDES
-returns-else-len-lt-MOST_SIDES g c =
+pub returns-else-len-lt-SIDES_LIMIT : goal.returns-else-len-lt-SIDES_LIMIT
+returns-else-len-lt-SIDES_LIMIT g c =
     let may : c.args.begins ≡ true = search rules in
     let none : nat_lt (length c.self.inside.sides.sides) most_sides ≡ false = search rules in
-    (may, ap (λ n. nat_lt n most_sides) (as_many g (goal.at.returns-else-len-lt-MOST_SIDES g c).After-len) ∙ none)
+    (may, ap (λ n. nat_lt n most_sides) (as_many g (goal.at.returns-else-len-lt-SIDES_LIMIT g c).After-len) ∙ none)

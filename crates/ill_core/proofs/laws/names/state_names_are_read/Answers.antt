@@ -1,0 +1,6 @@
+use Rattle.ill_core.specs.State.{state_name, all_states}
+use Rattle.ill_core.proofs.NameLemmas.{state_again}
+use Rattle.ill_core.proofs.laws.names.state_names_are_read.Goals as goal
+
+pub returns : goal.returns
+returns c = c.names_are_read.ensures state_name all_states state_again

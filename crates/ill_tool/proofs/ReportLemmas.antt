@@ -1,0 +1,47 @@
+-- The loans of a shelf, one behind another.
+use Rattle.std.proofs.Common.{◌≡◌, ℕ, Bool, true, false, cond, List, [], ◌∷◌, ◌++◌, refl, ap, sym, ◌∙◌, append_assoc}
+use Rattle.std.specs.Prelude.{filter}
+use Rattle.std.specs.List.{flat_map}
+use Rattle.std.proofs.lemmas.List.{append-nil}
+use Rattle.std.proofs.lemmas.Grind.{flat_map-append}
+use Rattle.ill_values.specs.Day.{Date}
+use Rattle.ill_saved.specs.declared.side.Side.{Side}
+use Rattle.ill_tool.specs.declared.report_parts.TheConstants.{END}
+use Rattle.ill_tool.specs.Report.{AddsDesks, desk_text, page_head, report_page}
+
+-- The text of an item that is kept stands before those of the others.
+kept_first : {X : Type 0} (text : X → List ℕ) (is_kept : Bool) (item : X) (items : List X) → flat_map text (cond is_kept (item ∷ items) items) ≡ flat_map text (cond is_kept (item ∷ []) []) ++ flat_map text items
+kept_first text true item items = ap (λ first. first ++ flat_map text items) (sym (append-nil (text item)))
+kept_first text false item items = refl
+
+-- The texts of those that are kept are that of each by itself.
+pub kept_apart : {X : Type 0} (text : X → List ℕ) (keeps : X → Bool) (items : List X) → flat_map text (filter keeps items) ≡ flat_map (λ (item : X). flat_map text (filter keeps (item ∷ []))) items
+kept_apart text keeps [] = refl
+kept_apart text keeps (item ∷ items) =
+    kept_first text (keeps item) item (filter keeps items) ∙ ap (λ more. flat_map text (filter keeps (item ∷ [])) ++ more) (kept_apart text keeps items)
+
+-- Behind a page nothing stands that was not added.
+pub no_desks : (today : Date) (before : List ℕ) → AddsDesks today before before
+no_desks today before = ([], sym (append-nil before))
+
+-- What is told of one desk is what is told of some.
+pub one_desk : (today : Date) (before after file : List ℕ) (sides : List Side) → after ≡ before ++ desk_text today (file, sides) → AddsDesks today before after
+one_desk today before after file sides added = ((file, sides) ∷ [], added ∙ ap (λ text. before ++ text) (sym (append-nil (desk_text today (file, sides)))))
+
+-- Behind what is told of some desks, what is told of others is what is told of all.
+pub further_desks : (today : Date) (before between after : List ℕ) → AddsDesks today before between → AddsDesks today between after → AddsDesks today before after
+further_desks today before between after (some, first) (others, then) = (
+  some ++ others,
+  then ∙ ap (λ text. text ++ flat_map (desk_text today) others) first
+      ∙ append_assoc before (flat_map (desk_text today) some) (flat_map (desk_text today) others)
+      ∙ ap (λ text. before ++ text) (sym (flat_map-append (desk_text today) some others)),
+)
+
+-- A page with what is told of some desks is their page, once it ends.
+pub whole_page : (today : Date) (page : List ℕ) → AddsDesks today (page_head today) page → (desks : List (List ℕ × List Side)) × (page ++ END.now ≡ report_page today desks)
+whole_page today page (desks, told) = (desks, ap (λ text. text ++ END.now) told)
+
+-- Three texts that are added are added as one.
+pub three_added : (before first second third one two three : List ℕ) → first ≡ before ++ one → second ≡ first ++ two → third ≡ second ++ three → third ≡ before ++ (one ++ (two ++ three))
+three_added before first second third one two three e f g =
+    g ∙ ap (λ text. text ++ three) (f ∙ ap (λ text. text ++ two) e) ∙ append_assoc (before ++ one) two three ∙ append_assoc before one (two ++ three)

@@ -1,0 +1,10 @@
+use Rattle.std.proofs.Common.{◌++◌}
+use Rattle.std.proofs.lemmas.List.{nil_from_length}
+use Rattle.ill_tool.specs.Escape.{written}
+use Rattle.ill_tool.proofs.EscapeLemmas.{none_left}
+use Rattle.ill_tool.proofs.escape.push_written.Goals as goal
+
+pub returns : goal.returns
+returns c =
+    none_left c.args.escaping c.loop-first.text.items (c.args.text.now.items ++ written c.args.escaping c.args.item.now) c.loop-first.rest.now c.loop-first.invariant.shown
+    (nil_from_length c.loop-first.rest.now c.in_default.ensures.cases)

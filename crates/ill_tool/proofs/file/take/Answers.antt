@@ -1,0 +1,12 @@
+use Rattle.std.proofs.Common.{rules, Bool, false, sym, subst}
+use Rattle.ill_tool.specs.Commands.{TakesAtFile}
+use Rattle.ill_tool.proofs.file.take.Goals as goal
+
+pub returns : goal.returns
+returns g c =
+    let left = g.R.Read.remaining c.args.reader.now in
+    let rest = g.R.Read.remaining c.take_told-taken.new.reader in
+    let before = g.W.Write.contents c.args.writer.now in
+    let after = g.W.Write.contents c.take_told-taken.new.writer in
+    let taken : TakesAtFile false c.args.is_long left rest before after c.release.result = search rules in
+    subst (λ (is_kept : Bool). TakesAtFile is_kept c.args.is_long left rest before after c.release.result) (sym c.if-is_kept.false) taken

@@ -1,0 +1,10 @@
+use Rattle.std.proofs.Common.{◌≡◌, [], take}
+use Rattle.std.specs.Prelude.{fold}
+use Rattle.ill_tool.specs.Kept.{with_new}
+use Rattle.ill_tool.proofs.kept.kept_of.Given as goal
+
+-- those of the messages so far are kept
+abbrev pub invariant-loop-apdu : goal.invariant-loop-apdu
+invariant-loop-apdu l = record {
+  kept : l.kept.items ≡ fold (with_new l.txn) [] (take l.apdu-index l.came);
+}

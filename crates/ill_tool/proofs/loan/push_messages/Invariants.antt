@@ -1,0 +1,10 @@
+use Rattle.std.proofs.Common.{◌≡◌, ◌++◌, drop}
+use Rattle.std.specs.List.{flat_map}
+use Rattle.ill_tool.specs.Loan.{message_lines}
+use Rattle.ill_tool.proofs.loan.push_messages.Given as goal
+
+-- with those of the messages that are left, all lines are there
+abbrev pub invariant-loop-apdu : goal.invariant-loop-apdu
+invariant-loop-apdu l = record {
+  shown : l.lines.items ++ flat_map (message_lines l.released) (drop l.apdu-index l.apdus) ≡ l.fn.lines.items ++ flat_map (message_lines l.released) l.apdus;
+}

@@ -1,0 +1,10 @@
+use Rattle.std.proofs.Common.{◌≡◌, ◌++◌, [], drop}
+use Rattle.ill_tool.specs.Json.{joined}
+use Rattle.ill_tool.specs.Objects.{message_object}
+use Rattle.ill_tool.proofs.objects.push_messages.Given as goal
+
+-- with the messages that are left, all are there
+abbrev pub invariant-loop-apdu : goal.invariant-loop-apdu
+invariant-loop-apdu l = record {
+  shown : l.text.items ++ joined (message_object l.released) l.before (drop l.apdu-index l.apdus) ≡ l.initial.text.items ++ joined (message_object l.released) [] l.apdus;
+}

@@ -1,0 +1,9 @@
+use Rattle.std.proofs.Common.{◌≡◌, ◌++◌, take}
+use Rattle.ill_tool.specs.Picture.{arrows}
+use Rattle.ill_tool.proofs.picture.push_arrows.Given as goal
+
+-- the arrows of the messages so far are there
+abbrev pub invariant-loop-apdu : goal.invariant-loop-apdu
+invariant-loop-apdu l = record {
+  drawn : l.lines.items ≡ l.initial.lines.items ++ arrows (take l.apdu-index l.apdus);
+}

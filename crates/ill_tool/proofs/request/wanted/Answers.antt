@@ -1,0 +1,8 @@
+use Rattle.ill_tool.proofs.RequestLemmas.{refused_behind, refused_third}
+use Rattle.ill_tool.proofs.request.wanted.Goals as goal
+
+pub returns-in-Err : goal.returns-in-Err
+returns-in-Err c = refused_behind _ _ _ _ _ c.in_ok-today.ensures c.in-Err.ensures
+
+pub returns-in-Err-state : goal.returns-in-Err-state
+returns-in-Err-state c = refused_third _ _ _ _ _ _ _ c.in_ok-today.ensures c.in-Ok.ensures c.in-Err-state.ensures

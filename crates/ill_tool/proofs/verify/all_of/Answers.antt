@@ -1,0 +1,16 @@
+use Rattle.std.proofs.Common.{◌≡◌, ◌+◌, ◌++◌, map, drop, Bor, ap, ◌∙◌, append_assoc, add-one}
+use Rattle.std.specs.Prelude.{slice_get}
+use Rattle.std.specs.Option.{option_to_list}
+use Rattle.ill_saved.specs.declared.side.Side.{Side}
+use Rattle.ill_tool.proofs.VerifyLemmas.{one_item}
+use Rattle.ill_tool.proofs.verify.all_of.Goals as goal
+
+pub loop-place-preserved : goal.loop-place-preserved
+loop-place-preserved c =
+    let sides = c.args.sides.now.sides in
+    let place = c.loop-place.place in
+    let so_far = map (λ (side : Bor Side). side.now) c.loop-place.all.items in
+    let here = option_to_list (slice_get sides place) in
+    let left = drop (place + 1) sides in
+    let further : here ++ left ≡ drop place sides = ap (λ n. here ++ drop n sides) (add-one place) ∙ one_item sides place in
+    record { all = ap (λ items. items ++ left) c.in_ok-push_at.ensures ∙ append_assoc so_far here left ∙ ap (λ items. so_far ++ items) further ∙ c.loop-place.invariant.all }

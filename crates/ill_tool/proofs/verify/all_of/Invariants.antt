@@ -1,0 +1,9 @@
+use Rattle.std.proofs.Common.{◌≡◌, ◌++◌, map, drop, Bor}
+use Rattle.ill_saved.specs.declared.side.Side.{Side}
+use Rattle.ill_tool.proofs.verify.all_of.Given as goal
+
+-- with those that are left, all sides are there
+abbrev pub invariant-loop-place : goal.invariant-loop-place
+invariant-loop-place l = record {
+  all : map (λ (side : Bor Side). side.now) l.all.items ++ drop l.place l.sides.sides ≡ l.sides.sides;
+}

@@ -1,0 +1,59 @@
+-- The messages of a loan that came and were kept: those of its transaction, each once.
+use Rattle.std.specs.Prelude.{◌≡◌, ℕ, Bool, true, not, ◌&&◌, if◌then◌else◌, List, [], ◌∷◌, ◌++◌, fold, codes, Option, None, Some, Result, Ok, Err}
+use Rattle.std.specs.List.{flat_map, list_any}
+use Rattle.std.specs.Str.{bytes_eq}
+use Rattle.std.specs.Io.KnownBytes.{Appends}
+use Rattle.ill_values.specs.TxnId.{Qualifiers}
+use Rattle.ill_values.specs.declared.apdu.Apdu.{Apdu}
+use Rattle.ill_der.specs.ShortForm.{spelling}
+use Rattle.ill_der.specs.Feed as feeds
+use Rattle.ill_core.specs.Issued.{is_same_txn}
+use Rattle.ill_saved.specs.Side.{txn_of}
+use Rattle.ill_saved.specs.Many.{Held}
+use Rattle.ill_saved.specs.declared.fault.DeskFault.TheVariants.{NoSuchTransaction}
+use Rattle.ill_tool.specs.declared.fault.ToolFault.{ToolFault}
+use Rattle.ill_tool.specs.declared.fault.ToolFault.TheVariants.{Desk, OutOfMemory}
+use Rattle.ill_tool.specs.Loan.{loan_lines, marked_lines}
+use Rattle.ill_tool.specs.Output.{WritesText}
+
+-- ---- which messages
+
+-- These messages stand one behind another in the bytes, up to the end or to what is no message.
+abbrev pub AreIn : List ℕ → List Apdu → Type 0
+AreIn bytes came = (left : feeds.Held) × feeds.Feeds (Ok []) bytes came left
+
+-- messages of the same bytes
+abbrev pub is_same : Apdu → Apdu → Bool
+is_same a b = bytes_eq (spelling a) (spelling b)
+
+abbrev pub is_among : List Apdu → Apdu → Bool
+is_among kept a = list_any (λ b. is_same b a) kept
+
+-- the messages so far, and this one, if it is of the transaction and not among them
+abbrev pub with_new : Qualifiers → List Apdu → Apdu → List Apdu
+with_new txn kept a = if is_same_txn a.txn txn && not (is_among kept a) then kept ++ a ∷ [] else kept
+
+-- the messages of a transaction, in the order in which they came, each once
+abbrev pub kept_of : Qualifiers → List Apdu → List Apdu
+kept_of txn came = fold (with_new txn) [] came
+
+-- ---- what is shown
+
+-- all lines of a loan, and behind them those of the messages that came
+abbrev pub kept_lines : Held → List Apdu → List ℕ
+kept_lines held kept = loan_lines held.side held.released ++ flat_map (marked_lines (codes "came") true) kept
+
+-- The text of the messages was written that these bytes have; or memory ran out for them.
+abbrev pub WritesKept : (List Apdu → List ℕ) → Qualifiers → List ℕ → Option (List ℕ) → Option (List ℕ) →
+    Result (Unit {0}) ToolFault → Type 0
+WritesKept text txn bytes before after (Err OutOfMemory) = Appends before after []
+WritesKept text txn bytes before after result =
+    (came : List Apdu) × AreIn bytes came × WritesText before after (text (kept_of txn came)) result
+
+-- The command: the text of the side, and of the messages of its transaction that came, if the side is held.
+abbrev pub RunsKeptLoan : (Held → List Apdu → List ℕ) → Option Held → List ℕ → Option (List ℕ) →
+    Option (List ℕ) → Result (Unit {0}) ToolFault → Type 0
+RunsKeptLoan text None bytes before after result =
+    (result ≡ Err (Desk NoSuchTransaction)) × Appends before after []
+RunsKeptLoan text (Some held) bytes before after result =
+    WritesKept (text held) (txn_of held.side) bytes before after result

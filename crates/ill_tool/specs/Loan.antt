@@ -1,0 +1,89 @@
+-- The command `loan`: all that a desk knows of one loan.
+use Rattle.std.specs.Prelude.{◌≡◌, ℕ, nat_le, Bool, List, [], ◌++◌, map, slice_get, codes, Option, None, Some, Result, Err}
+use Rattle.std.specs.List.{flat_map}
+use Rattle.std.specs.Fmt.{decimal}
+use Rattle.std.specs.Io.KnownBytes.{Appends}
+use Rattle.ill_values.specs.declared.apdu.Apdu.{Apdu}
+use Rattle.ill_values.specs.declared.apdu.Body.{Body}
+use Rattle.ill_values.specs.declared.apdu.Body.TheVariants.{IllRequest}
+use Rattle.ill_core.specs.declared.turn.Turn.{Turn}
+use Rattle.ill_core.specs.declared.turn.Turn.TheVariants.{Over, Mine, Theirs}
+use Rattle.ill_core.specs.Verbs.{verb_name}
+use Rattle.ill_saved.specs.declared.side.Side.{Side}
+use Rattle.ill_saved.specs.declared.side.Side.TheVariants.{Requester, Responder}
+use Rattle.ill_saved.specs.Side.{issued_of, turn_of, verbs_of}
+use Rattle.ill_saved.specs.Many.{Held}
+use Rattle.ill_saved.specs.declared.fault.DeskFault.TheVariants.{NoSuchTransaction}
+use Rattle.ill_world.specs.Trace.{due_text}
+use Rattle.ill_tool.specs.declared.fault.ToolFault.{ToolFault}
+use Rattle.ill_tool.specs.declared.fault.ToolFault.TheVariants.{Desk}
+use Rattle.ill_tool.specs.Escape.{escaped}
+use Rattle.ill_tool.specs.Lines.{line, reply_word, shown_lines}
+use Rattle.ill_tool.specs.Status.{status_lines, spaced_or_dash}
+use Rattle.ill_tool.specs.Output.{WritesText}
+
+-- who acts next
+abbrev pub turn_word : Turn → List ℕ
+turn_word Over = codes "over"
+turn_word Mine = codes "mine"
+turn_word Theirs = codes "theirs"
+
+-- the lines of who acts next, and of what the side may do now
+abbrev pub turn_lines : Side → List ℕ
+turn_lines side =
+    line (codes "next") (turn_word (turn_of side))
+    ++ line (codes "now") (spaced_or_dash (map verb_name (verbs_of side)))
+
+-- the request of a loan: the first message of a requester, and the one that a responder keeps
+abbrev pub request_of : Side → Option Apdu
+request_of (Requester x) = slice_get x.issued 0
+request_of (Responder y) = y.request
+
+-- the lines of what a request asks for, and until when
+abbrev pub item_lines : Body → List ℕ
+item_lines (IllRequest expiry item) =
+    line (codes "item") (escaped item) ++ line (codes "expiry") (due_text expiry)
+item_lines other = []
+
+abbrev pub request_lines : Option Apdu → List ℕ
+request_lines None = []
+request_lines (Some apdu) = item_lines apdu.body
+
+-- the line of the number of a message, which is a dash where there is none
+abbrev pub optional_number_line : List ℕ → Option ℕ → List ℕ
+optional_number_line label None = line label (codes "-")
+optional_number_line label (Some number) = line label (decimal number)
+
+-- The lines of what a record tells of messages taken: of a requester the conditions that stand, of a
+-- responder the conditions that were accepted last, and the last Cancel and the last Renew.
+abbrev pub taken_lines : Side → List ℕ
+taken_lines (Requester x) = optional_number_line (codes "held") x.held
+taken_lines (Responder y) =
+    optional_number_line (codes "accepted") y.accepted
+    ++ (optional_number_line (codes "last-cancel") y.last_cancel
+    ++ optional_number_line (codes "last-renew") y.last_renew)
+
+-- the lines of a side, before those of its messages
+abbrev pub side_lines : Side → ℕ → List ℕ
+side_lines side released =
+    status_lines side released
+    ++ (turn_lines side ++ (request_lines (request_of side) ++ taken_lines side))
+
+-- The lines of a message: an empty one, those of the message, and one that says whether something is so.
+abbrev pub marked_lines : List ℕ → Bool → Apdu → List ℕ
+marked_lines label is_so apdu = codes "\n" ++ (shown_lines apdu ++ line label (reply_word is_so))
+
+-- the lines of a message that was issued, and whether it may leave
+abbrev pub message_lines : ℕ → Apdu → List ℕ
+message_lines released apdu = marked_lines (codes "leaves") (nat_le apdu.number released) apdu
+
+-- the lines of a side, and of all messages that it has issued, in order
+unfoldable pub loan_lines : Side → ℕ → List ℕ
+loan_lines side released =
+    side_lines side released ++ flat_map (message_lines released) (issued_of side)
+
+-- The command: the text of the side, if one is held.
+abbrev pub RunsLoan : (Side → ℕ → List ℕ) → Option Held → Option (List ℕ) → Option (List ℕ) → Result (Unit {0}) ToolFault → Type 0
+RunsLoan text None before after result = (result ≡ Err (Desk NoSuchTransaction)) × Appends before after []
+RunsLoan text (Some held) before after result =
+    WritesText before after (text held.side held.released) result

@@ -1,0 +1,142 @@
+-- The objects that the commands write with `--json`: their fields, in order.
+use Rattle.std.specs.Prelude.{ℕ, nat_le, Bool, List, [], ◌∷◌, ◌++◌, map, length, codes, Option, None, Some, is_some}
+use Rattle.std.specs.List.{flat_map}
+use Rattle.std.specs.Fmt.{decimal}
+use Rattle.ill_values.specs.Day.{Date}
+use Rattle.ill_values.specs.declared.apdu.Apdu.{Apdu}
+use Rattle.ill_values.specs.declared.apdu.Body.{Body}
+use Rattle.ill_values.specs.declared.apdu.Body.TheVariants.{IllRequest, IllAnswer, ConditionalReply, Cancel, CancelReply, Shipped, Received, Recall, Returned, CheckedIn, Overdue, Renew, RenewAnswer, Expired}
+use Rattle.ill_values.specs.Results.{result_name}
+use Rattle.ill_values.specs.Types.{type_name}
+use Rattle.ill_core.specs.State.{state_name}
+use Rattle.ill_core.specs.Verbs.{verb_name}
+use Rattle.ill_core.specs.ResponderActions.{expiry_of}
+use Rattle.ill_saved.specs.declared.side.Side.{Side}
+use Rattle.ill_saved.specs.declared.side.Side.TheVariants.{Requester, Responder}
+use Rattle.ill_saved.specs.Side.{role_of, issued_of, txn_of, state_of, due_date_of, turn_of, verbs_of}
+use Rattle.ill_saved.specs.Many.{Held}
+use Rattle.ill_tool.specs.declared.form.Form.{Form}
+use Rattle.ill_tool.specs.declared.form.Form.TheVariants.{Lines, Json}
+use Rattle.ill_tool.specs.Json.{Field, array, day, flag, object, optional, quoted}
+use Rattle.ill_tool.specs.Lines.{lines_of}
+use Rattle.ill_tool.specs.Status.{status_lines, role_name, marks_of}
+use Rattle.ill_tool.specs.Loan.{loan_lines, turn_word, request_of}
+use Rattle.ill_tool.specs.List.{item_asked}
+
+-- an object on a line of its own
+abbrev pub object_line : List Field → List ℕ
+object_line fields = object fields ++ codes "\n"
+
+-- ---- messages
+
+-- what each APDU has: its type, its transaction and its number
+abbrev pub head_fields : Apdu → List Field
+head_fields a =
+    (codes "apdu", quoted (type_name a.body)) ∷ (codes "group", quoted a.txn.group)
+    ∷ (codes "transaction", quoted a.txn.transaction) ∷ (codes "number", decimal a.number) ∷ []
+
+abbrev pub date_field : Date → Field
+date_field d = (codes "date", day d)
+
+abbrev pub reply_fields : ℕ → Bool → List Field
+reply_fields answers is_yes = (codes "answers", decimal answers) ∷ (codes "reply", flag is_yes) ∷ []
+
+abbrev pub optional_date_fields : Option Date → List Field
+optional_date_fields None = []
+optional_date_fields (Some d) = date_field d ∷ []
+
+-- the further fields of an APDU
+abbrev pub body_fields : Body → List Field
+body_fields (IllRequest expiry item) = optional_date_fields expiry ++ (codes "item", quoted item) ∷ []
+body_fields (IllAnswer result) = (codes "result", quoted (result_name result)) ∷ []
+body_fields (ConditionalReply answers is_yes) = reply_fields answers is_yes
+body_fields Cancel = []
+body_fields (CancelReply answers is_yes) = reply_fields answers is_yes
+body_fields (Shipped due) = date_field due ∷ []
+body_fields Received = []
+body_fields Recall = []
+body_fields Returned = []
+body_fields CheckedIn = []
+body_fields (Overdue due) = date_field due ∷ []
+body_fields (Renew wished) = optional_date_fields wished
+body_fields (RenewAnswer answers granted) = reply_fields answers (is_some granted) ++ optional_date_fields granted
+body_fields Expired = []
+
+abbrev pub apdu_fields : Apdu → List Field
+apdu_fields a = head_fields a ++ body_fields a.body
+
+-- an APDU as the lines of `show` have it, or as an object
+abbrev pub apdu_text : Form → Apdu → List ℕ
+apdu_text Lines a = lines_of a
+apdu_text Json a = object_line (apdu_fields a)
+
+-- ---- sides
+
+-- how a side stands, and these marks
+abbrev pub standing_fields : Side → ℕ → List (List ℕ) → List Field
+standing_fields side released marks =
+    (codes "role", quoted (role_name (role_of side))) ∷ (codes "group", quoted (txn_of side).group)
+    ∷ (codes "transaction", quoted (txn_of side).transaction)
+    ∷ (codes "state", quoted (state_name (state_of side))) ∷ (codes "due", optional day (due_date_of side))
+    ∷ (codes "released", decimal released) ∷ (codes "issued", decimal (length (issued_of side)))
+    ∷ (codes "marks", array quoted marks) ∷ []
+
+abbrev pub status_fields : Side → ℕ → List Field
+status_fields side released = standing_fields side released (marks_of side)
+
+-- a side as the lines of `status` have it, or as an object
+abbrev pub status_text : Form → Side → ℕ → List ℕ
+status_text Lines = status_lines
+status_text Json = λ side released. object_line (status_fields side released)
+
+-- each side that is held, in their order
+abbrev pub held_text : Form → Held → List ℕ
+held_text form held = status_text form held.side held.released
+
+abbrev pub text_of_one : Form → Option Held → List ℕ
+text_of_one form (Some held) = held_text form held
+text_of_one form None = []
+
+abbrev pub desk_text : Form → List Held → List ℕ
+desk_text form held = flat_map (held_text form) held
+
+-- ---- loans
+
+-- the names of what the side may do now
+abbrev pub names_of : Side → List (List ℕ)
+names_of side = map verb_name (verbs_of side)
+
+-- who acts next, by these names what the side may do now, and what is asked for, until when
+abbrev pub turn_fields : Side → List (List ℕ) → List Field
+turn_fields side names =
+    (codes "next", quoted (turn_word (turn_of side))) ∷ (codes "now", array quoted names)
+    ∷ (codes "item", optional quoted (item_asked (request_of side)))
+    ∷ (codes "expiry", optional day (expiry_of (request_of side))) ∷ []
+
+-- what the record tells of messages taken
+abbrev pub taken_fields : Side → List Field
+taken_fields (Requester x) = (codes "held", optional decimal x.held) ∷ []
+taken_fields (Responder y) =
+    (codes "accepted", optional decimal y.accepted) ∷ (codes "last-cancel", optional decimal y.last_cancel)
+    ∷ (codes "last-renew", optional decimal y.last_renew) ∷ []
+
+abbrev pub leaves_fields : Bool → List Field
+leaves_fields leaves = (codes "leaves", flag leaves) ∷ []
+
+-- a message that was issued, and whether it may leave
+abbrev pub message_object : ℕ → Apdu → List ℕ
+message_object released a = object (apdu_fields a ++ leaves_fields (nat_le a.number released))
+
+-- the messages that were issued, in order
+abbrev pub sent_fields : ℕ → List Apdu → List Field
+sent_fields released apdus = (codes "messages", array (message_object released) apdus) ∷ []
+
+abbrev pub loan_fields : Side → ℕ → List Field
+loan_fields side released =
+    status_fields side released ++ turn_fields side (names_of side) ++ taken_fields side
+    ++ sent_fields released (issued_of side)
+
+-- a side as the lines of `loan` have it, or as an object
+abbrev pub loan_text : Form → Side → ℕ → List ℕ
+loan_text Lines = loan_lines
+loan_text Json = λ side released. object_line (loan_fields side released)

@@ -1,0 +1,180 @@
+-- The command `report`: a page of HTML of the loans of desks. What a person wrote, the file, the item and both
+-- qualifiers, stands in it by `html_text`. All else is a constant of this program, a name, a number or a date.
+use Rattle.std.specs.Prelude.{ℕ, ◌+◌, ◌*◌, Bool, true, false, ◌≡◌, List, [], ◌∷◌, ◌++◌, length, filter, count_by, codes, Option, Some, None}
+use Rattle.std.specs.List.{flat_map, list_any}
+use Rattle.std.specs.Fmt.{decimal}
+use Rattle.ill_values.specs.Day.{Date, iso_text}
+use Rattle.ill_values.specs.Types.{type_name}
+use Rattle.ill_values.specs.Results.{result_name}
+use Rattle.ill_values.specs.declared.apdu.Apdu.{Apdu}
+use Rattle.ill_values.specs.declared.apdu.Body.{Body}
+use Rattle.ill_values.specs.declared.apdu.Body.TheVariants.{IllAnswer, ConditionalReply, CancelReply, Shipped, Overdue, Renew, RenewAnswer}
+use Rattle.ill_core.specs.declared.turn.Turn.{Turn}
+use Rattle.ill_core.specs.declared.turn.Turn.TheVariants.{Over, Mine, Theirs}
+use Rattle.ill_core.specs.declared.verb.Verb.{Verb}
+use Rattle.ill_core.specs.declared.verb.Verb.TheVariants as verbs
+use Rattle.ill_core.specs.State.{state_name}
+use Rattle.ill_core.specs.Verbs.{verb_name}
+use Rattle.ill_core.specs.ResponderActions.{expiry_of}
+use Rattle.ill_saved.specs.declared.side.Side.{Side}
+use Rattle.ill_saved.specs.Side.{issued_of, txn_of, state_of, due_date_of, verbs_of}
+use Rattle.ill_tool.specs.declared.report_parts.Field.{Field}
+use Rattle.ill_tool.specs.declared.report_parts.Field.TheVariants as fields
+use Rattle.ill_tool.specs.declared.report_parts.TheConstants.{PAGE, DESKS, END, DESK, LOANS, DESK_END, WAITING, OPEN, OPENING, OVER, FOLDED, TASK, LOAN, LIFELINES, ROW, NAME, ARROW}
+use Rattle.ill_tool.specs.Lines.{reply_word}
+use Rattle.ill_tool.specs.Html.{html_escaped, html_text}
+use Rattle.ill_tool.specs.Loan.{request_of}
+use Rattle.ill_tool.specs.List.{item_asked, title_text}
+use Rattle.ill_tool.specs.Waiting.{is_turn, turn_on, most_urgent_first}
+
+-- ---- a message
+
+-- a day, or a dash where there is none
+abbrev pub day_text : Option Date → List ℕ
+day_text None = codes "-"
+day_text (Some day) = iso_text day
+
+-- a renewal is granted by a date, and refused without one
+abbrev pub grant_words : Option Date → List ℕ
+grant_words None = codes " no"
+grant_words (Some day) = codes " yes " ++ iso_text day
+
+-- a date that may be wished, with a space before it
+abbrev pub wish_words : Option Date → List ℕ
+wish_words None = []
+wish_words (Some day) = codes " " ++ iso_text day
+
+-- the answer or the day that a message has, with a space before each
+abbrev pub detail_text : Body → List ℕ
+detail_text (IllAnswer result) = codes " " ++ result_name result
+detail_text (ConditionalReply answers is_yes) = codes " " ++ reply_word is_yes
+detail_text (CancelReply answers is_yes) = codes " " ++ reply_word is_yes
+detail_text (Shipped due) = codes " " ++ iso_text due
+detail_text (Overdue due) = codes " " ++ iso_text due
+detail_text (Renew wished) = wish_words wished
+detail_text (RenewAnswer answers granted) = grant_words granted
+detail_text other = []
+
+-- the name of a message, with the answer or the day that it has
+abbrev pub message_name : Body → List ℕ
+message_name body = type_name body ++ detail_text body
+
+-- A message as an arrow of a chart, in the row of its number; or its name, for whom the chart is read out.
+abbrev pub message_text : Bool → Apdu → List ℕ
+message_text true apdu =
+    ROW.now ++ (decimal (28 * apdu.number + 24) ++ (NAME.now ++ (message_name apdu.body ++ ARROW.now)))
+message_text false apdu = message_name apdu.body ++ codes "; "
+
+-- ---- a loan
+
+-- who acts next
+abbrev pub actor : Turn → List ℕ
+actor Mine = codes "we"
+actor Theirs = codes "the partner"
+actor Over = codes "nobody"
+
+-- what an action is, for people
+abbrev pub verb_meaning : Verb → List ℕ
+verb_meaning verbs.Request = codes "ask for the item"
+verb_meaning verbs.Cancel = codes "ask to drop the request"
+verb_meaning verbs.Reply = codes "accept the conditions, or decline them"
+verb_meaning verbs.Receive = codes "say that the item has come"
+verb_meaning verbs.Renew = codes "ask to keep the item longer"
+verb_meaning verbs.Return = codes "send the item back"
+verb_meaning verbs.Answer = codes "answer the request"
+verb_meaning verbs.CancelReply = codes "agree to cancel, or refuse to"
+verb_meaning verbs.Ship = codes "send the item"
+verb_meaning verbs.RenewAnswer = codes "let the item be kept longer, or refuse to"
+verb_meaning verbs.Overdue = codes "say that the item is overdue"
+verb_meaning verbs.Recall = codes "ask for the item back"
+verb_meaning verbs.CheckIn = codes "say that the item is back"
+verb_meaning verbs.Expire = codes "end the request, if its expiry day is past"
+
+-- a line of what this library may do
+abbrev pub action_text : Verb → List ℕ
+action_text verb = codes "<li><b>" ++ verb_name verb ++ codes "</b>: " ++ verb_meaning verb ++ codes "</li>"
+
+-- One thing that is told of a loan on a day. The messages are those that its side has issued.
+abbrev pub value_text : Date → Side → Field → List ℕ
+value_text today side fields.Title = html_escaped (title_text (item_asked (request_of side)))
+value_text today side fields.Group = html_text (txn_of side).group
+value_text today side fields.Transaction = html_text (txn_of side).transaction
+value_text today side fields.State = state_name (state_of side)
+value_text today side fields.Due = day_text (due_date_of side)
+value_text today side fields.Expiry = day_text (expiry_of (request_of side))
+value_text today side fields.Next = actor (turn_on (Some today) side)
+value_text today side fields.Actions = flat_map action_text (verbs_of side)
+value_text today side fields.Height = decimal (28 * length (issued_of side) + 36)
+value_text today side fields.Names = flat_map (message_text false) (issued_of side)
+value_text today side fields.Arrows = flat_map (message_text true) (issued_of side)
+
+-- the text before it
+abbrev pub before : Field → List ℕ
+before fields.Title = codes "<article>\n<h4 dir=\"auto\">"
+before fields.Group = codes "<div><dt>Group</dt><dd>"
+before fields.Transaction = codes "<div><dt>Transaction</dt><dd>"
+before fields.State = codes "<div><dt>State</dt><dd>"
+before fields.Due = codes "<div><dt>Due</dt><dd>"
+before fields.Expiry = codes "<div><dt>Request expires</dt><dd>"
+before fields.Next = codes "<div><dt>Next</dt><dd>"
+before fields.Actions = codes "</dl>\n<ul>"
+before fields.Height = codes "</dl>\n<svg role=\"img\" viewBox=\"0 0 320 "
+before fields.Names = codes "<title>Messages that we have issued: "
+before fields.Arrows = LIFELINES.now
+
+-- the text behind it
+abbrev pub after : Field → List ℕ
+after fields.Title = codes "</h4>\n<dl>"
+after fields.Actions = codes "</ul>\n</article>\n"
+after fields.Height = codes "\">"
+after fields.Names = codes "</title>\n"
+after fields.Arrows = codes "</svg>\n</article>\n"
+after other = codes "</dd></div>"
+
+abbrev pub field_text : Date → Side → Field → List ℕ
+field_text today side field = before field ++ (value_text today side field ++ after field)
+
+-- all that is told of a loan
+abbrev pub loan_text : Date → List Field → Side → List ℕ
+loan_text today fields side = flat_map (field_text today side) fields
+
+-- ---- a page
+
+-- whether it is one of these turns on a day
+abbrev pub is_on : Date → List Turn → Side → Bool
+is_on today turns side = list_any (is_turn (turn_on (Some today) side)) turns
+
+-- what is told of those loans that have one of these turns
+abbrev pub loans_text : Date → List Turn → List Field → List Side → List ℕ
+loans_text today turns fields sides = flat_map (loan_text today fields) (filter (is_on today turns) sides)
+
+-- those loans behind their count, with a text before it and one behind it
+abbrev pub shelf_text : Date → List Side → List ℕ → List Turn → List ℕ → List Field → List ℕ
+shelf_text today sides heading turns opening fields =
+    heading ++ (decimal (count_by (is_on today turns) sides) ++ (opening ++ loans_text today turns fields sides))
+
+-- the loans that wait for this library, all that are open, and those that are over
+unfoldable pub shelves_text : Date → List Side → List ℕ
+shelves_text today sides =
+    shelf_text today sides WAITING.now (Mine ∷ []) OPENING.now TASK
+    ++ (shelf_text today sides OPEN.now (Mine ∷ Theirs ∷ []) OPENING.now LOAN
+    ++ shelf_text today sides OVER.now (Over ∷ []) FOLDED.now LOAN)
+
+-- what is told of a desk: its file, and its loans, the most urgent first
+unfoldable pub desk_text : Date → List ℕ × List Side → List ℕ
+desk_text today (file, sides) =
+    DESK.now ++ (html_text file ++ (LOANS.now
+    ++ (shelves_text today (most_urgent_first sides) ++ DESK_END.now)))
+
+-- what stands before the desks of a page
+unfoldable pub page_head : Date → List ℕ
+page_head today = PAGE.now ++ (iso_text today ++ DESKS.now)
+
+-- the page of desks, each with its file
+abbrev pub report_page : Date → List (List ℕ × List Side) → List ℕ
+report_page today desks = page_head today ++ flat_map (desk_text today) desks ++ END.now
+
+-- what is told of some desks stands behind a page so far
+abbrev pub AddsDesks : Date → List ℕ → List ℕ → Type 0
+AddsDesks today before after =
+    (desks : List (List ℕ × List Side)) × (after ≡ before ++ flat_map (desk_text today) desks)

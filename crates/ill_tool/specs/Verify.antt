@@ -1,0 +1,55 @@
+-- The command `verify`: what the record of a desk has, or why it is none.
+use Rattle.std.specs.Prelude.{◌≡◌, ℕ, ◌-◌, Bool, true, if◌then◌else◌, List, [], ◌++◌, length, sum_by, codes, Option, None, Some, Result, Ok, Err, IfOk}
+use Rattle.std.specs.Io.KnownBytes.{Appends}
+use Rattle.ill_saved.specs.declared.side.Side.{Side}
+use Rattle.ill_saved.specs.Side.{issued_of}
+use Rattle.ill_saved.specs.Sides.{SidesOf, most_sides}
+use Rattle.ill_saved.specs.Records2.{is_version_1, records_at}
+use Rattle.ill_saved.specs.Faults.{of_store}
+use Rattle.ill_saved.specs.declared.fault.RecordFault.{RecordFault}
+use Rattle.ill_saved.specs.declared.store.StoreFault.{StoreFault}
+use Rattle.ill_saved.specs.declared.fault.DeskFault.TheVariants.{NoRecord, Saved}
+use Rattle.ill_tool.specs.declared.fault.ToolFault.{ToolFault}
+use Rattle.ill_tool.specs.declared.fault.ToolFault.TheVariants.{Desk, OutOfMemory}
+use Rattle.ill_tool.specs.Lines.{line, number_line}
+use Rattle.ill_tool.specs.Status.{role_name}
+use Rattle.ill_tool.specs.Performing.{desk_fault}
+use Rattle.ill_tool.specs.Output.{WritesText}
+
+-- the version of a record that was read
+abbrev pub version_of : List ℕ → List ℕ
+version_of bytes = if is_version_1 bytes then codes "1" else codes "2"
+
+-- how many messages all sides have issued together
+abbrev pub issued_by_all : List Side → ℕ
+issued_by_all sides = sum_by (λ side. length (issued_of side)) sides
+
+-- The lines of a record that has these bytes, and of the sides that it spells: its version, their role, how many
+-- there are, how many messages they have issued, and for how many more sides there is room.
+unfoldable pub verify_lines : List ℕ → SidesOf → List ℕ
+verify_lines bytes all =
+    line (codes "version") (version_of bytes) ++ (line (codes "role") (role_name all.role)
+    ++ (number_line (codes "loans") (length all.sides) ++ (number_line (codes "messages") (issued_by_all all.sides)
+    ++ number_line (codes "room") (most_sides - length all.sides))))
+
+-- What is written of bytes that spell these sides; of others their fault is answered, and nothing is written.
+abbrev pub Verifies : List ℕ → Result SidesOf RecordFault → Option (List ℕ) → Option (List ℕ) →
+    Result (Unit {0}) ToolFault → Type 0
+Verifies bytes (Ok all) before after result = WritesText before after (verify_lines bytes all) result
+Verifies bytes (Err fault) before after (Err OutOfMemory) = Appends before after []
+Verifies bytes (Err fault) before after result = (result ≡ Err (Desk (Saved fault))) × Appends before after []
+
+-- the same of what a store gave: bytes, nothing, or a fault
+abbrev pub VerifiesLoaded : Result (Option (List ℕ)) StoreFault → Option (List ℕ) → Option (List ℕ) →
+    Result (Unit {0}) ToolFault → Type 0
+VerifiesLoaded (Ok (Some bytes)) before after result = Verifies bytes (records_at bytes) before after result
+VerifiesLoaded (Ok None) before after result = (result ≡ Err (Desk NoRecord)) × Appends before after []
+VerifiesLoaded (Err fault) before after result =
+    (result ≡ Err (desk_fault (of_store fault))) × Appends before after []
+
+-- The command: it verifies what the store gives, which is what has landed, if the store is honest.
+abbrev pub RunsVerify : Bool → Option (List ℕ) → Option (List ℕ) → Option (List ℕ) →
+    Result (Unit {0}) ToolFault → Type 0
+RunsVerify is_honest landed before after result =
+    (loaded : Result (Option (List ℕ)) StoreFault)
+    × (is_honest ≡ true → IfOk loaded (λ found. found ≡ landed)) × VerifiesLoaded loaded before after result

@@ -1,0 +1,54 @@
+-- Which loans wait for a library, on a day or on none, and which of them the longest (this profile's own).
+use Rattle.std.specs.Prelude.{Bool, true, false, not, ◌&&◌, nat_lt, if◌then◌else◌, List, [], ◌∷◌, length, position, insert, Option, Some, None, unwrap_or}
+use Rattle.std.specs.Option.{option_or}
+use Rattle.ill_values.specs.Day.{Date}
+use Rattle.ill_core.specs.declared.turn.Turn.{Turn}
+use Rattle.ill_core.specs.declared.turn.Turn.TheVariants.{Over, Mine, Theirs}
+use Rattle.ill_core.specs.Dates.{is_before}
+use Rattle.ill_core.specs.ResponderActions.{expiry_of}
+use Rattle.ill_saved.specs.declared.side.Side.{Side}
+use Rattle.ill_saved.specs.Side.{due_date_of, turn_of, verbs_of}
+use Rattle.ill_tool.specs.Loan.{request_of}
+
+-- ---- whose turn it is
+
+abbrev pub is_turn : Turn → Turn → Bool
+is_turn Mine Mine = true
+is_turn Theirs Theirs = true
+is_turn Over Over = true
+is_turn turn other = false
+
+-- the due date of a loan, or else the last day of its request
+abbrev pub deadline_of : Side → Option Date
+deadline_of side = option_or (due_date_of side) (expiry_of (request_of side))
+
+-- ---- deadlines
+
+-- a deadline comes before another one, and before none
+abbrev pub is_sooner : Option Date → Option Date → Bool
+is_sooner None other = false
+is_sooner (Some day) None = true
+is_sooner (Some day) (Some other) = is_before day other
+
+-- a loan whose deadline is past on the day, and in which this library can do something: one that is not over
+abbrev pub is_pressing : Option Date → Side → Bool
+is_pressing None side = false
+is_pressing (Some today) side =
+    is_sooner (deadline_of side) (Some today) && nat_lt 0 (length (verbs_of side))
+
+-- On a day, a loan whose deadline is past waits for this library.
+abbrev pub turn_on : Option Date → Side → Turn
+turn_on today side = if is_pressing today side then Mine else turn_of side
+
+-- the deadline of a loan is no sooner than this one
+abbrev pub is_no_sooner : Option Date → Side → Bool
+is_no_sooner day other = not (is_sooner (deadline_of other) day)
+
+-- a loan before the first of these whose deadline is no sooner
+abbrev pub placed : Side → List Side → List Side
+placed side sides = insert sides (unwrap_or (position (is_no_sooner (deadline_of side)) sides) (length sides)) side
+
+-- Loans by their deadlines, those without one last. Of the same deadline those stand first that were begun first.
+abbrev pub most_urgent_first : List Side → List Side
+most_urgent_first [] = []
+most_urgent_first (side ∷ sides) = placed side (most_urgent_first sides)

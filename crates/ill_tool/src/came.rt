@@ -1,0 +1,127 @@
+//! The file in which the messages that came are kept, beside that of a desk: a plain row of APDUs. Nothing is decided
+//! by it.
+
+ghost use Rattle.std.specs.Prelude.{IfErr};
+ghost use Rattle.ill_tool.specs.Commands.{IsOpenFault};
+
+use crate::fault::ToolFault;
+use ill_der::{DerFault, Feed};
+use ill_saved::{DeskFault, FileStore, RECORD_LIMIT, Store, StoreFault};
+use ill_values::OutOfMemory;
+use std::alloc::Global;
+use std::fs::{OpenFile, OpenOptions};
+use std::io::Write;
+use std::os::unix::fs::{MetadataExt, OpenOptionsExt, lchown};
+use std::rt::Files;
+use std::{fs, io};
+
+/// The ending of its name, behind that of the desk's file.
+pub(crate) const CAME: &str = ".came";
+
+/// The fault of a message that cannot be kept.
+pub(crate) const STORE_FAILED: ToolFault = ToolFault::Desk(DeskFault::Store(StoreFault::Failed));
+
+/// The file, open. What is written stands behind what it has, and a flush waits until the disk has that.
+#[derive(Drop)]
+pub struct CameFile<F> {
+    file: F,
+}
+
+impl<F: Write + OpenFile> Write for CameFile<F> {
+    fn write(&mut self, bytes: &[u8]) -> io::Result<usize> {
+        self.file.write(bytes)
+    }
+
+    fn flush(&mut self) -> io::Result<()> {
+        self.file.sync_all()
+    }
+}
+
+/// Opens the file beside that of a desk, and makes one if none is there. What a crash has left of a message at its
+/// end is cut off. Other bytes that are no message are a failure, and stay.
+pub fn open_came<T: Files>(
+    rt: &T,
+    alloc: Global,
+    desk: &str,
+) -> Result<CameFile<T::File>, ToolFault>
+    ensures { IfErr result IsOpenFault }
+{
+    let path = path(alloc, desk)?;
+    let path = path.as_str();
+    if load(rt, alloc, path)?.is_none() && make(rt, path, desk).is_err() {
+        return Err(STORE_FAILED);
+    }
+    let bytes = load(rt, alloc, path)?.unwrap_or(Vec::new(alloc));
+    let torn = torn(alloc, &bytes)?;
+    match append(rt, path, bytes.len().saturating_sub(torn)) {
+        Ok(file) => Ok(CameFile { file }),
+        Err(_) => Err(STORE_FAILED),
+    }
+}
+
+/// The bytes of the file beside that of a desk: none, if it is not there.
+pub fn came_bytes<T: Files>(rt: &T, alloc: Global, desk: &str) -> Result<Vec<u8>, ToolFault>
+    ensures { IfErr result IsOpenFault }
+{
+    let path = path(alloc, desk)?;
+    Ok(load(rt, alloc, path.as_str())?.unwrap_or(Vec::new(alloc)))
+}
+
+fn path(alloc: Global, desk: &str) -> Result<String, OutOfMemory> {
+    let mut path = String::from_str(alloc, desk)?;
+    path.push_str(CAME)?;
+    Ok(path)
+}
+
+/// Loads it as the record of a desk is loaded: the disk has its bytes, and its name, before they are given.
+fn load<T: Files>(rt: &T, alloc: Global, path: &str) -> Result<Option<Vec<u8>>, ToolFault>
+    ensures { IfErr result IsOpenFault }
+{
+    let mut store = FileStore::at(rt, alloc, path, RECORD_LIMIT)?;
+    match store.load(alloc) {
+        Ok(bytes) => Ok(bytes),
+        Err(fault) => Err(DeskFault::from(fault).into()),
+    }
+}
+
+/// Makes the file at a path. It is its owner's alone, unless it can be given the group of the desk's file: then it has
+/// the permissions of that file, and its owner too, as far as the system lets it.
+fn make<T: Files>(rt: &T, path: &str, desk: &str) -> io::Result<()> {
+    let other = fs::symlink_metadata(rt, desk)?;
+    let mut options = OpenOptions::new();
+    options.write(true);
+    options.create_new(true);
+    options.mode(0o600);
+    let file = options.open(rt, path)?;
+    if lchown(rt, path, None, Some(other.gid())).is_ok() {
+        file.set_permissions(other.permissions())?;
+        let _ = lchown(rt, path, Some(other.uid()), None);
+    }
+    Ok(())
+}
+
+/// How many bytes behind the last APDU are the front of one.
+fn torn(alloc: Global, bytes: &[u8]) -> Result<usize, ToolFault>
+    ensures { IfErr result IsOpenFault }
+{
+    let mut feed = Feed::new(alloc);
+    drop(feed.push(bytes)?);
+    match feed.end() {
+        Ok(()) => Ok(0),
+        Err(DerFault::Short(size)) => Ok(usize::from(size)),
+        Err(_) => Err(STORE_FAILED),
+    }
+}
+
+/// Opens the file at a path to append to its first so many bytes.
+fn append<T: Files>(rt: &T, path: &str, size: usize) -> io::Result<T::File> {
+    let size = size as u64;
+    let mut options = OpenOptions::new();
+    options.append(true);
+    let file = options.open(rt, path)?;
+    if file.metadata()?.len() > size {
+        file.set_len(size)?;
+        file.sync_all()?;
+    }
+    Ok(file)
+}

@@ -1,0 +1,188 @@
+//! Texts on which no terminal acts.
+
+ghost use Rattle.std.specs.Prelude.{◌≡◌, ◌≤◌, ◌++◌, ◌∷◌, length, option_map, IfOk, OnOk};
+ghost use Rattle.ill_tool.specs.Escape.{IsFront, byte_text, escape, escaped, goes_on, is_acting, is_control, is_marked, number_of_three, number_of_two, three_act, two_act, written};
+ghost use Rattle.ill_tool.specs.declared.escape.Escaping.TheVariants as escapings;
+
+use ill_values::OutOfMemory;
+
+/// What a text is written for.
+#[derive(Clone, Copy)]
+pub(crate) enum Escaping {
+    /// For a screen.
+    Screen,
+    /// For a string of JSON.
+    Json,
+}
+
+/// Adds a text of UTF-8 for a screen, with an escape such as `\u{202e}` for each character that a terminal may act
+/// on: the control characters U+0080 to U+009F, and the marks that turn the direction of a text.
+pub(crate) fn push_escaped(text: &mut Vec<u8>, item: &[u8]) -> Result<(), OutOfMemory>
+    ensures { OnOk result (text.new.items ≡ text.old.items ++ escaped item.now) }
+{
+    push_written(text, Escaping::Screen, item)
+}
+
+/// Adds a text of UTF-8, with an escape for each character that a terminal may act on.
+pub(crate) fn push_written(
+    text: &mut Vec<u8>,
+    escaping: Escaping,
+    item: &[u8],
+) -> Result<(), OutOfMemory>
+    ensures { OnOk result (text.new.items ≡ text.old.items ++ written escaping item.now) }
+{
+    let mut rest = item;
+    while let Some((first, behind)) = rest.split_first() {
+        rest = push_front(text, escaping, *first, behind)?;
+    }
+    Ok(())
+}
+
+/// Adds the character at the front, or its first byte, and answers what is behind it.
+fn push_front<'a>(
+    text: &mut Vec<u8>,
+    escaping: Escaping,
+    first: u8,
+    behind: &'a [u8],
+) -> Result<&'a [u8], OutOfMemory>
+    ensures front { IfOk result (λ rest. text.new.items ++ written escaping rest.now
+        ≡ text.old.items ++ written escaping (first ∷ behind.now)) }
+    ensures shorter { IfOk result (λ rest. length rest.now ≤ length behind.now) }
+{
+    match acting_front(escaping, first, behind) {
+        Some((number, rest)) => {
+            push_escape(text, escaping, number)?;
+            Ok(rest)
+        }
+        None => {
+            push_byte(text, escaping, first)?;
+            Ok(behind)
+        }
+    }
+}
+
+/// The number of the character at the front and what is behind it, if a terminal may act on it.
+#[tactic(auto, using(crate::proofs::EscapeLemmas::two_escape, crate::proofs::EscapeLemmas::three_escape, crate::proofs::EscapeLemmas::first_stays))]
+fn acting_front(_escaping: Escaping, first: u8, behind: &[u8]) -> Option<(u32, &[u8])>
+    ensures { IsFront _escaping first behind.now (option_map (λ found. (found.0, found.1.now)) result) }
+{
+    let Some((second, rest)) = behind.split_first() else {
+        return None;
+    };
+    if two_act(first, *second) {
+        return Some((number_of_two(first, *second), rest));
+    }
+    let Some((third, rest)) = rest.split_first() else {
+        return None;
+    };
+    if three_act(first, *second, *third) {
+        return Some((number_of_three(first, *second, *third), rest));
+    }
+    None
+}
+
+/// Adds a byte that is none of a character that a terminal may act on.
+fn push_byte(text: &mut Vec<u8>, escaping: Escaping, byte: u8) -> Result<(), OutOfMemory>
+    ensures { OnOk result (text.new.items ≡ text.old.items ++ byte_text escaping byte) }
+{
+    match escaping {
+        Escaping::Screen => {
+            text.push(byte)?;
+            Ok(())
+        }
+        Escaping::Json => push_json_byte(text, byte),
+    }
+}
+
+/// Adds a byte to a string of JSON.
+fn push_json_byte(text: &mut Vec<u8>, byte: u8) -> Result<(), OutOfMemory>
+    ensures { OnOk result (text.new.items ≡ text.old.items ++ byte_text escapings.Json byte) }
+{
+    if is_marked(byte) {
+        text.push(b'\\')?;
+    } else if is_control(byte) {
+        return push_escape(text, Escaping::Json, byte.into());
+    }
+    text.push(byte)?;
+    Ok(())
+}
+
+/// Adds the escape of a character, by its number.
+fn push_escape(text: &mut Vec<u8>, escaping: Escaping, number: u32) -> Result<(), OutOfMemory>
+    ensures { OnOk result (text.new.items ≡ text.old.items ++ escape escaping number) }
+{
+    let alloc = *text.allocator();
+    let escape = match escaping {
+        Escaping::Screen => format!(in alloc; "\\u{{{number:x}}}")?,
+        Escaping::Json => {
+            let (first, second) = (number / 4096 % 16, number / 256 % 16);
+            let (third, fourth) = (number / 16 % 16, number % 16);
+            format!(in alloc; "\\u{first:x}{second:x}{third:x}{fourth:x}")?
+        }
+    };
+    text.extend_from_slice(escape.as_bytes())?;
+    Ok(())
+}
+
+/// Whether a byte stands behind a backslash in a string of JSON.
+fn is_marked(byte: u8) -> bool
+    ensures { result ≡ is_marked byte }
+{
+    matches!(byte, b'"' | b'\\')
+}
+
+/// Whether a byte is a control character of ASCII.
+fn is_control(byte: u8) -> bool
+    ensures { result ≡ is_control byte }
+{
+    matches!(byte, 0..0x20 | 0x7F)
+}
+
+/// Whether two bytes are a character that a terminal may act on.
+fn two_act(first: u8, second: u8) -> bool
+    ensures { result ≡ two_act first second }
+{
+    matches!(first, 0xC0..=0xDF) && goes_on(second) && is_acting(number_of_two(first, second))
+}
+
+/// Whether three bytes are a character that a terminal may act on.
+fn three_act(first: u8, second: u8, third: u8) -> bool
+    ensures { result ≡ three_act first second third }
+{
+    matches!(first, 0xE0..=0xEF)
+        && goes_on(second)
+        && goes_on(third)
+        && is_acting(number_of_three(first, second, third))
+}
+
+/// Whether a byte stands behind the first of a character.
+fn goes_on(byte: u8) -> bool
+    ensures { result ≡ goes_on byte }
+{
+    matches!(byte, 0x80..=0xBF)
+}
+
+/// The number of a character of two bytes.
+fn number_of_two(first: u8, second: u8) -> u32
+    ensures { result ≡ number_of_two first second }
+{
+    u32::from(first.saturating_sub(0xC0)) * 64 + u32::from(second.saturating_sub(0x80))
+}
+
+/// The number of a character of three bytes.
+fn number_of_three(first: u8, second: u8, third: u8) -> u32
+    ensures { result ≡ number_of_three first second third }
+{
+    u32::from(first.saturating_sub(0xE0)) * 4096
+        + (u32::from(second.saturating_sub(0x80)) * 64 + u32::from(third.saturating_sub(0x80)))
+}
+
+/// Whether a terminal may act on the character of this number.
+fn is_acting(number: u32) -> bool
+    ensures { result ≡ is_acting number }
+{
+    matches!(
+        number,
+        0x80..=0x9F | 0x61C | 0x200E..=0x200F | 0x202A..=0x202E | 0x2066..=0x2069
+    )
+}

@@ -1,0 +1,91 @@
+//! What a person is told behind the line of a fault, where `--explain` asks for it.
+//!
+//! It is found out after the command, from the words of its line and from what stands at the path of its file. No
+//! program may rest on these texts. Their own faults are passed over.
+
+mod action;
+mod arguments;
+mod file;
+mod input;
+mod shown;
+mod verbs;
+
+use crate::command_line::{Name, command};
+use crate::fault::ToolFault;
+use arguments::tell_arguments;
+use clap::ArgMatches;
+use file::tell_desk_fault;
+use ill_saved::LockFiles;
+use ill_values::OutOfMemory;
+pub use input::{Passed, Watched};
+use input::{tell_bad_bytes, tell_bad_line};
+use std::alloc::Global;
+use std::io::Write;
+
+/// The option, as it stands before the command.
+const OPTION: &str = "--explain";
+
+/// Whether the words of a command line, of which the first is the program's name, ask for explanations.
+pub fn is_asked(words: &[&str]) -> bool {
+    words
+        .iter()
+        .skip(1)
+        .take_while(|word| word.starts_with('-'))
+        .any(|word| *word == OPTION)
+}
+
+/// Writes why a command line came to a fault, if its words ask for that.
+pub fn explain<T: LockFiles, E: Write>(
+    rt: &T,
+    alloc: Global,
+    words: &[&str],
+    fault: ToolFault,
+    passed: Option<Passed>,
+    errors: &mut E,
+) {
+    if is_asked(words) {
+        let mut text = String::new(alloc);
+        let _ = tell(rt, alloc, &mut text, words, fault, passed);
+        let _ = errors.write_all(text.as_bytes());
+    }
+}
+
+/// Adds the lines on a fault of the command line with these words. Nothing is answered where they are not read again.
+fn tell<T: LockFiles>(
+    rt: &T,
+    alloc: Global,
+    text: &mut String,
+    words: &[&str],
+    fault: ToolFault,
+    passed: Option<Passed>,
+) -> Option<()> {
+    let matches = command(alloc).ok()?.try_get_matches_from(words).ok()?;
+    let (word, matches) = matches.subcommand()?;
+    let name = Name::read(word)?;
+    tell_fault(rt, alloc, text, name, matches, fault, passed).ok()
+}
+
+/// Adds the lines on a fault of a command with these arguments.
+fn tell_fault<T: LockFiles>(
+    rt: &T,
+    alloc: Global,
+    text: &mut String,
+    name: Name,
+    matches: &ArgMatches<'_>,
+    fault: ToolFault,
+    passed: Option<Passed>,
+) -> Result<(), OutOfMemory> {
+    match fault {
+        ToolFault::Arguments => tell_arguments(rt, alloc, text, name, matches),
+        ToolFault::Der(fault) => tell_bad_bytes(text, fault, passed),
+        ToolFault::Script(line) => tell_bad_line(text, name, line),
+        ToolFault::Desk(fault) => tell_desk_fault(rt, alloc, text, matches, fault),
+        ToolFault::TooMany => writeln!(text, "  Divide the input, and give its parts one by one."),
+        ToolFault::Read => writeln!(text, "  Standard input cannot be read to its end."),
+        ToolFault::Write => writeln!(
+            text,
+            "  Standard output takes no more: its reader has gone, or the disk is full."
+        ),
+        ToolFault::OutOfMemory => writeln!(text, "  The machine has no memory left for it."),
+    }
+}

@@ -1,0 +1,169 @@
+//! Which argument of a command is none, and what it should be.
+
+use crate::command_line::{Argument, Name};
+use crate::explain::action::tell_action;
+use crate::explain::shown::Shown;
+use crate::explain::verbs::nearest;
+use clap::ArgMatches;
+use ill_core::State;
+use ill_saved::LockFiles;
+use ill_values::{Day, DayFault, OutOfMemory, TextFault, TxnId};
+use ill_world::words::{number, who};
+use std::alloc::Global;
+
+/// The states that a list may name.
+const STATES: [State; 16] = [
+    State::Idle,
+    State::Pending,
+    State::InProcess,
+    State::Conditional,
+    State::CancelPending,
+    State::Cancelled,
+    State::NotSupplied,
+    State::Shipped,
+    State::Received,
+    State::RenewPending,
+    State::Overdue,
+    State::RenewOverdue,
+    State::NotReceivedOverdue,
+    State::Recall,
+    State::Returned,
+    State::CheckedIn,
+];
+
+/// Adds a line for each argument of a command that is none; where all are right, what is wrong in its action.
+pub fn tell_arguments<T: LockFiles>(
+    rt: &T,
+    alloc: Global,
+    text: &mut String,
+    name: Name,
+    matches: &ArgMatches<'_>,
+) -> Result<(), OutOfMemory> {
+    for argument in name.arguments() {
+        if let Some(word) = matches.get_str(argument.id()) {
+            tell_argument(alloc, text, *argument, word)?;
+        }
+    }
+    if text.is_empty() {
+        tell_action(rt, alloc, text, matches)?;
+    }
+    Ok(())
+}
+
+/// Adds a line on an argument, if it is none.
+fn tell_argument(
+    alloc: Global,
+    text: &mut String,
+    argument: Argument,
+    word: &str,
+) -> Result<(), OutOfMemory> {
+    match argument {
+        Argument::Role => tell_role(text, word),
+        Argument::Group => tell_qualifier(alloc, text, "group", word),
+        Argument::Transaction => tell_qualifier(alloc, text, "transaction", word),
+        Argument::Today | Argument::OnDay | Argument::DueBefore | Argument::ReportDay => {
+            tell_day(text, word)
+        }
+        Argument::InState => tell_state(alloc, text, word),
+        Argument::Number => tell_number(text, word),
+        _ => Ok(()),
+    }
+}
+
+fn tell_role(text: &mut String, word: &str) -> Result<(), OutOfMemory> {
+    if who(word.as_bytes()).is_some() {
+        return Ok(());
+    }
+    let shown = Shown::of(word);
+    writeln!(text, "  {shown} is no role: it is requester or responder.")
+}
+
+/// Adds a line on a qualifier of a loan, if it is none.
+fn tell_qualifier(
+    alloc: Global,
+    text: &mut String,
+    name: &str,
+    word: &str,
+) -> Result<(), OutOfMemory> {
+    let shown = Shown::of(word);
+    match TxnId::new(alloc, word.as_bytes(), b"-") {
+        Ok(_) => Ok(()),
+        Err(TextFault::Empty) => writeln!(
+            text,
+            "  The {name} is empty: it has 1 to 64 characters."
+        ),
+        Err(TextFault::TooLong) => {
+            let size = word.len();
+            writeln!(
+                text,
+                "  The {name} {shown} has {size} bytes: it has 64 at most."
+            )
+        }
+        Err(TextFault::BadByte) => tell_bad_byte(text, name, word),
+        Err(TextFault::OutOfMemory) => Err(OutOfMemory),
+    }
+}
+
+/// Adds a line on the first byte of a qualifier that may not stand there.
+fn tell_bad_byte(text: &mut String, name: &str, word: &str) -> Result<(), OutOfMemory> {
+    let shown = Shown::of(word);
+    for (place, byte) in (1_u64..).zip(word.bytes()) {
+        if !matches!(byte, b' '..=b'~') {
+            writeln!(
+                text,
+                "  Byte {place} of the {name} {shown} is {byte:02X}, in hexadecimal."
+            )?;
+            return writeln!(
+                text,
+                "  It has characters of ASCII only, from space to tilde."
+            );
+        }
+    }
+    Ok(())
+}
+
+/// Adds a line on a day, if it is none.
+fn tell_day(text: &mut String, word: &str) -> Result<(), OutOfMemory> {
+    match Day::read(word.as_bytes()) {
+        Ok(_) => Ok(()),
+        Err(fault) => tell_no_day(text, word, fault),
+    }
+}
+
+/// Adds a line on a word that is no day.
+pub fn tell_no_day(text: &mut String, word: &str, fault: DayFault) -> Result<(), OutOfMemory> {
+    let shown = Shown::of(word);
+    match fault {
+        DayFault::NotDigits => writeln!(
+            text,
+            "  {shown} is no day: a day has eight digits, as 20250301."
+        ),
+        DayFault::OutOfRange => writeln!(text, "  {shown} is no day: the years are 1900 to 9999."),
+        DayFault::NotADate => writeln!(text, "  {shown} is no day: the calendar has no such day."),
+    }
+}
+
+/// Adds a line on a state, if it is none.
+fn tell_state(alloc: Global, text: &mut String, word: &str) -> Result<(), OutOfMemory> {
+    if State::read(word.as_bytes()).is_some() {
+        return Ok(());
+    }
+    let shown = Shown::of(word);
+    let names: Vec<&str> = STATES.iter().map(|state| state.name()).collect(alloc)?;
+    let capitals = word.to_ascii_uppercase(alloc)?;
+    match nearest(alloc, &names, capitals.as_str())? {
+        Some(near) => writeln!(text, "  {shown} is no state: the nearest one is `{near}`."),
+        None => {
+            let all = names.join(alloc, ", ")?;
+            writeln!(text, "  {shown} is no state: it is one of {all}.")
+        }
+    }
+}
+
+fn tell_number(text: &mut String, word: &str) -> Result<(), OutOfMemory> {
+    if number(word.as_bytes()).is_some() {
+        return Ok(());
+    }
+    let shown = Shown::of(word);
+    writeln!(text, "  {shown} is no number of a message: it is 1 to 255.")
+}

@@ -1,0 +1,291 @@
+//! What is wrong with the file of a desk.
+
+use crate::came::CAME;
+use crate::command_line::Argument;
+use crate::explain::shown::Shown;
+use crate::file::open;
+use crate::folder::desk_paths;
+use clap::ArgMatches;
+use ill_saved::{DeskFault, LockFiles, RecordFault, StoreFault};
+use ill_values::OutOfMemory;
+use std::alloc::Global;
+use std::fs;
+use std::fs::Metadata;
+use std::io::ErrorKind;
+use std::path::Path;
+
+/// The ending of the name of the file that is locked in place of a desk's.
+const LOCK: &str = ".lck";
+
+/// The endings of the names of files that are the program's own.
+const RESERVED: [&str; 2] = [".new", LOCK];
+
+/// How many bytes at the front of a record say what it is.
+const MARK: u32 = 4;
+
+/// Adds what a fault of a desk comes from.
+pub fn tell_desk_fault<T: LockFiles>(
+    rt: &T,
+    alloc: Global,
+    text: &mut String,
+    matches: &ArgMatches<'_>,
+    fault: DeskFault,
+) -> Result<(), OutOfMemory> {
+    let failed = failed_path(rt, alloc, matches);
+    let path = match &failed {
+        Some(path) => path.as_str(),
+        None => matches.get_str(Argument::File.id()).unwrap_or_default(),
+    };
+    let shown = Shown::of(path);
+    match fault {
+        DeskFault::Exists => writeln!(
+            text,
+            "  {shown} is there already: a new desk wants a new file."
+        ),
+        DeskFault::NoRecord => tell_absent(rt, text, path),
+        DeskFault::Store(StoreFault::Failed) => tell_failed(rt, alloc, text, path),
+        DeskFault::Store(StoreFault::TooLarge) => {
+            writeln!(text, "  {shown} has more bytes than the record of a desk.")
+        }
+        DeskFault::Saved(fault) => tell_no_record(text, path, fault),
+        DeskFault::NoSuchTransaction => {
+            writeln!(
+                text,
+                "  {shown} has no such loan: `ill status` shows those that it has."
+            )
+        }
+        DeskFault::NoSuchMessage => {
+            writeln!(
+                text,
+                "  `ill status` shows how many messages the loan has issued."
+            )
+        }
+        _ => Ok(()),
+    }
+}
+
+/// The path of the first desk that is not opened, or of the first folder that is not read, of a command that takes
+/// several.
+fn failed_path<T: LockFiles>(rt: &T, alloc: Global, matches: &ArgMatches<'_>) -> Option<String> {
+    for path in matches.get_strs(Argument::Paths.id())? {
+        if let Some(failed) = failed_at(rt, alloc, path) {
+            return Some(failed);
+        }
+    }
+    None
+}
+
+/// The path of the first desk at a path that is not opened, or the path itself where its folder is not read.
+fn failed_at<T: LockFiles>(rt: &T, alloc: Global, path: &str) -> Option<String> {
+    match desk_paths(rt, alloc, &[path]) {
+        Ok(files) => files
+            .into_iter()
+            .find(|file| open(rt, alloc, file.as_str()).is_err()),
+        Err(_) => String::from_str(alloc, path).ok(),
+    }
+}
+
+/// Adds that no file is there, and that its folder is none, if that is so.
+fn tell_absent<T: LockFiles>(rt: &T, text: &mut String, path: &str) -> Result<(), OutOfMemory> {
+    let shown = Shown::of(path);
+    writeln!(text, "  {shown} is not there: `ill new` begins a desk.")?;
+    tell_no_folder(rt, text, path)?;
+    Ok(())
+}
+
+/// Adds that the folder of a file is none, and answers whether that is so.
+fn tell_no_folder<T: LockFiles>(
+    rt: &T,
+    text: &mut String,
+    path: &str,
+) -> Result<bool, OutOfMemory> {
+    let folder = folder_of(path);
+    let shown = Shown::of(folder);
+    let is_folder = match fs::metadata(rt, folder) {
+        Ok(found) => found.is_dir(),
+        Err(_) => false,
+    };
+    if !is_folder {
+        writeln!(text, "  There is no folder {shown}.")?;
+    }
+    Ok(!is_folder)
+}
+
+/// The folder of the file at a path.
+fn folder_of(path: &str) -> &str {
+    match Path::new(path).parent() {
+        Some(folder) if !folder.as_str().is_empty() => folder.as_str(),
+        _ => ".",
+    }
+}
+
+/// Adds why the file at a path was not read, locked or written.
+fn tell_failed<T: LockFiles>(
+    rt: &T,
+    alloc: Global,
+    text: &mut String,
+    path: &str,
+) -> Result<(), OutOfMemory> {
+    let shown = Shown::of(path);
+    if path.is_empty() {
+        return writeln!(text, "  The name of the file is empty.");
+    }
+    for ending in RESERVED {
+        if path.ends_with(ending) {
+            return writeln!(
+                text,
+                "  {shown} ends in {ending}: such files are the program's own."
+            );
+        }
+    }
+    match fs::symlink_metadata(rt, path) {
+        Ok(found) if !found.is_file() => tell_kind(rt, text, path, &found),
+        Ok(_) => tell_closed(rt, alloc, text, path),
+        Err(error) => tell_not_found(rt, alloc, text, path, error.kind()),
+    }
+}
+
+/// Adds what stands at a path in place of a file.
+fn tell_kind<T: LockFiles>(
+    rt: &T,
+    text: &mut String,
+    path: &str,
+    found: &Metadata,
+) -> Result<(), OutOfMemory> {
+    let shown = Shown::of(path);
+    if found.is_dir() && rt.open_dir(path).is_err() {
+        return writeln!(text, "  {shown} is a folder that this user may not read.");
+    }
+    if found.is_dir() {
+        return writeln!(text, "  {shown} is a folder, and a desk is a file.");
+    }
+    if found.is_symlink() {
+        return writeln!(
+            text,
+            "  {shown} is a link: name the file to which it leads."
+        );
+    }
+    writeln!(text, "  {shown} is no regular file.")
+}
+
+/// Adds why nothing could be done with the file that stands at a path.
+fn tell_closed<T: LockFiles>(
+    rt: &T,
+    alloc: Global,
+    text: &mut String,
+    path: &str,
+) -> Result<(), OutOfMemory> {
+    let shown = Shown::of(path);
+    match fs::open(rt, path) {
+        Err(error) if error.kind() == ErrorKind::PermissionDenied => {
+            writeln!(text, "  {shown} may not be read by this user.")
+        }
+        Err(_) => writeln!(text, "  {shown} cannot be opened."),
+        Ok(_) => tell_unsaved(rt, alloc, text, path),
+    }
+}
+
+/// Adds why no file was found at a path.
+fn tell_not_found<T: LockFiles>(
+    rt: &T,
+    alloc: Global,
+    text: &mut String,
+    path: &str,
+    kind: ErrorKind,
+) -> Result<(), OutOfMemory> {
+    let shown = Shown::of(path);
+    if kind == ErrorKind::PermissionDenied {
+        return writeln!(
+            text,
+            "  {shown} is in a folder that this user may not enter."
+        );
+    }
+    if tell_no_folder(rt, text, path)? {
+        return Ok(());
+    }
+    tell_unsaved(rt, alloc, text, path)
+}
+
+/// Adds that another command holds the file at a path; else that nothing can be saved there.
+fn tell_unsaved<T: LockFiles>(
+    rt: &T,
+    alloc: Global,
+    text: &mut String,
+    path: &str,
+) -> Result<(), OutOfMemory> {
+    let shown = Shown::of(path);
+    let lock = format!(in alloc; "{path}{LOCK}")?;
+    if is_held(rt, lock.as_str()) {
+        return writeln!(
+            text,
+            "  Another command is at work on {shown}: try again later."
+        );
+    }
+    let folder = Shown::of(folder_of(path));
+    writeln!(
+        text,
+        "  {shown} in the folder {folder} cannot be read to its end, or not be written."
+    )?;
+    writeln!(
+        text,
+        "  Look at the permissions of both, and at the room on the disk."
+    )?;
+    tell_came(rt, alloc, text, path)
+}
+
+/// Adds that the file of what came may be the one, if something stands there.
+fn tell_came<T: LockFiles>(
+    rt: &T,
+    alloc: Global,
+    text: &mut String,
+    path: &str,
+) -> Result<(), OutOfMemory> {
+    let came = format!(in alloc; "{path}{CAME}")?;
+    if fs::symlink_metadata(rt, came.as_str()).is_err() {
+        return Ok(());
+    }
+    let shown = Shown::of(came.as_str());
+    writeln!(
+        text,
+        "  Or {shown} cannot be read or written, or has more than messages."
+    )
+}
+
+/// Whether another command holds the lock at this path.
+fn is_held<T: LockFiles>(rt: &T, lock: &str) -> bool {
+    if !is_file(rt, lock) {
+        return false;
+    }
+    match fs::open(rt, lock) {
+        Ok(file) => !rt.try_lock(&file).unwrap_or(true),
+        Err(_) => false,
+    }
+}
+
+/// Whether a regular file stands at a path: to open a pipe would be to wait on it.
+fn is_file<T: LockFiles>(rt: &T, path: &str) -> bool {
+    match fs::symlink_metadata(rt, path) {
+        Ok(found) => found.is_file(),
+        Err(_) => false,
+    }
+}
+
+/// Adds why the bytes of a file are no record.
+fn tell_no_record(text: &mut String, path: &str, fault: RecordFault) -> Result<(), OutOfMemory> {
+    let shown = Shown::of(path);
+    writeln!(text, "  {shown} holds no record of a desk.")?;
+    match fault {
+        RecordFault::Short => writeln!(text, "  It ends within a record."),
+        RecordFault::Bad(at) if at < MARK => writeln!(
+            text,
+            "  It does not begin as a desk does: is it the right file?"
+        ),
+        RecordFault::Bad(at) => writeln!(text, "  Its byte {at}, counted from 0, is wrong."),
+        RecordFault::Inconsistent => writeln!(text, "  No desk can have what it says."),
+        RecordFault::Digest => writeln!(
+            text,
+            "  It was damaged: its digest is not that of its bytes."
+        ),
+        RecordFault::OutOfMemory => Ok(()),
+    }
+}

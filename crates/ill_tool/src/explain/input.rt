@@ -1,0 +1,129 @@
+//! Which message of the input is faulty.
+
+ghost use Rattle.std.specs.Prelude.{None};
+
+use crate::command_line::Name;
+use ill_der::{DerFault, Feed, size};
+use ill_values::OutOfMemory;
+use std::alloc::Global;
+use std::io;
+use std::io::Read;
+
+/// The good messages that a reader has given.
+#[derive(Clone, Copy)]
+pub struct Passed {
+    pub messages: u64,
+    /// How many bytes they have.
+    pub bytes: u64,
+}
+
+impl Passed {
+    /// These messages and one more, of so many bytes.
+    fn and(self, size: usize) -> Passed {
+        Passed {
+            messages: self.messages.saturating_add(1),
+            bytes: self.bytes.saturating_add(size as u64),
+        }
+    }
+}
+
+/// A reader that counts the good messages at the front of what it gives, if it is to.
+#[derive(Drop)]
+pub struct Watched<'a, R> {
+    reader: &'a mut R,
+    feed: Option<Feed>,
+    passed: Passed,
+}
+
+impl<'a, R> Watched<'a, R> {
+    /// A reader that gives what this one does.
+    pub fn new(alloc: Global, reader: &'a mut R, is_counting: bool) -> Watched<'a, R> {
+        let feed = if is_counting {
+            Some(Feed::new(alloc))
+        } else {
+            None
+        };
+        Watched {
+            reader,
+            feed,
+            passed: Passed {
+                messages: 0,
+                bytes: 0,
+            },
+        }
+    }
+
+    /// The messages that it has given, if it has counted all.
+    pub fn passed(&self) -> Option<Passed> {
+        match self.feed {
+            Some(_) => Some(self.passed),
+            None => None,
+        }
+    }
+
+    /// Counts the messages that a piece completes. Where memory runs out, no more are counted.
+    fn count(&mut self, piece: &[u8]) {
+        let Some(feed) = &mut self.feed else {
+            return;
+        };
+        match feed.push(piece) {
+            Ok(pushed) => {
+                for apdu in &pushed.apdus {
+                    self.passed = self.passed.and(size(apdu));
+                }
+            }
+            Err(_) => self.feed = None,
+        }
+    }
+}
+
+impl<R: Read> Read for Watched<'_, R> {
+    fn read(&mut self, buffer: &mut [u8]) -> io::Result<usize> {
+        let count = self.reader.read(buffer)?;
+        self.count(buffer.get(..count).unwrap_or_default());
+        Ok(count)
+    }
+}
+
+/// Adds which message of the input is faulty, where it begins, and what is wrong in it.
+pub fn tell_bad_bytes(
+    text: &mut String,
+    fault: DerFault,
+    passed: Option<Passed>,
+) -> Result<(), OutOfMemory> {
+    if let Some(passed) = passed {
+        tell_place(text, passed)?;
+    }
+    match fault {
+        DerFault::Short(at) => writeln!(
+            text,
+            "  The input ends within it, after {at} of its bytes."
+        ),
+        DerFault::Tag(at) => writeln!(
+            text,
+            "  Its byte {at} begins a wrong field, or one is missing there."
+        ),
+        DerFault::Length(at) => writeln!(text, "  Its byte {at} begins a wrong length."),
+        DerFault::Field(at) => writeln!(text, "  Its byte {at} begins a wrong value."),
+        DerFault::OutOfMemory => Ok(()),
+    }
+}
+
+/// Adds which message of the input is faulty, behind those that were good, and where it begins.
+fn tell_place(text: &mut String, passed: Passed) -> Result<(), OutOfMemory> {
+    let number = passed.messages.saturating_add(1);
+    let begin = passed.bytes;
+    writeln!(
+        text,
+        "  Message {number} of the input is faulty: it begins at byte {begin}, counted from 0."
+    )
+}
+
+/// Adds where the lines of a script are explained.
+pub fn tell_bad_line(text: &mut String, name: Name, line: u32) -> Result<(), OutOfMemory> {
+    let command = name.word();
+    writeln!(
+        text,
+        "  Line {line} of the script is no event: `ill {command} --help` lists them."
+    )
+}

@@ -1,0 +1,125 @@
+//! The verbs of each role, and what stands behind them.
+
+use ill_core::Verb;
+use ill_saved::Role;
+use ill_values::OutOfMemory;
+use std::alloc::Global;
+use std::fmt;
+use strsim::osa_distance;
+
+/// What stands behind a verb.
+#[derive(Clone, Copy)]
+pub enum Parts {
+    Nothing,
+    /// A day or none, and the words of an item.
+    Item,
+    YesOrNo,
+    /// A day or none.
+    Wished,
+    Result,
+    /// A day, or how many days after today.
+    Due,
+    /// Yes and a day, or no.
+    Grant,
+}
+
+impl Parts {
+    /// How the help writes them.
+    fn form(self) -> &'static str {
+        match self {
+            Parts::Nothing => "",
+            Parts::Item => " DAY|none ITEM..",
+            Parts::YesOrNo => " yes|no",
+            Parts::Wished => " DAY|none",
+            Parts::Result => " RESULT",
+            Parts::Due => " DUE",
+            Parts::Grant => " yes DUE|no",
+        }
+    }
+
+    /// How many words they have, at least and at most.
+    pub fn counts(self) -> (usize, usize) {
+        match self {
+            Parts::Nothing => (0, 0),
+            Parts::Item => (2, usize::MAX),
+            Parts::Grant => (1, 2),
+            Parts::YesOrNo | Parts::Wished | Parts::Result | Parts::Due => (1, 1),
+        }
+    }
+}
+
+/// The form of an action. It is displayed as it is typed.
+#[derive(Clone, Copy)]
+pub struct Form {
+    pub verb: Verb,
+    pub role: Role,
+    pub parts: Parts,
+}
+
+impl fmt::Display for Form {
+    fn fmt<W: fmt::Write>(&self, f: &mut fmt::Formatter<W>) -> fmt::Result {
+        let verb = self.verb.name();
+        let parts = self.parts.form();
+        write!(f, "`{verb}{parts}`")
+    }
+}
+
+/// The form of each verb.
+const FORMS: [(Verb, Role, Parts); 14] = [
+    (Verb::Request, Role::Requester, Parts::Item),
+    (Verb::Cancel, Role::Requester, Parts::Nothing),
+    (Verb::Reply, Role::Requester, Parts::YesOrNo),
+    (Verb::Receive, Role::Requester, Parts::Nothing),
+    (Verb::Renew, Role::Requester, Parts::Wished),
+    (Verb::Return, Role::Requester, Parts::Nothing),
+    (Verb::Answer, Role::Responder, Parts::Result),
+    (Verb::CancelReply, Role::Responder, Parts::YesOrNo),
+    (Verb::Ship, Role::Responder, Parts::Due),
+    (Verb::RenewAnswer, Role::Responder, Parts::Grant),
+    (Verb::Overdue, Role::Responder, Parts::Nothing),
+    (Verb::Recall, Role::Responder, Parts::Nothing),
+    (Verb::CheckIn, Role::Responder, Parts::Nothing),
+    (Verb::Expire, Role::Responder, Parts::Nothing),
+];
+
+/// The form of the verb with this name.
+pub fn form_of(name: &str) -> Option<Form> {
+    for (verb, role, parts) in FORMS {
+        if verb.name() == name {
+            return Some(Form { verb, role, parts });
+        }
+    }
+    None
+}
+
+/// The names of the verbs of a role.
+pub fn names_of(alloc: Global, role: Role) -> Result<Vec<&'static str>, OutOfMemory> {
+    Ok(
+        FORMS
+            .iter()
+            .filter(|(_, of, _)| *of == role)
+            .map(|(verb, _, _)| verb.name())
+            .collect(alloc)?,
+    )
+}
+
+/// The most letters that are wrong, missing, too many or swapped in a word that is near to a name.
+const NEAR: usize = 2;
+
+/// The name that is nearest to a word, if one is near.
+pub fn nearest<'a>(
+    alloc: Global,
+    names: &[&'a str],
+    word: &str,
+) -> Result<Option<&'a str>, OutOfMemory> {
+    let mut found = None;
+    let mut least = NEAR + 1;
+    for name in names {
+        let far = osa_distance(alloc, word, name)?;
+        if far < least {
+            least = far;
+            found = Some(*name);
+        }
+    }
+    Ok(found)
+}

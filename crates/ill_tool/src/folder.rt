@@ -1,0 +1,87 @@
+//! The desks at paths: a path is that of a desk's file, or of a folder of desks.
+
+ghost use Rattle.std.specs.Prelude.{IfErr};
+ghost use Rattle.ill_tool.specs.Commands.{IsOpenFault};
+
+use crate::fault::ToolFault;
+use ill_saved::{DeskFault, StoreFault};
+use std::alloc::Global;
+use std::io::{BufRead, BufReader, ErrorKind};
+use std::rt::Files;
+use std::{fs, io};
+
+/// The endings of the names of files that stand beside a desk's.
+const BESIDE: [&str; 3] = [".new", ".lck", ".came"];
+
+/// How many bytes the names of a folder are read at once: any name has room there.
+const NAMES: usize = 4096;
+
+/// The paths of the files of desks at these paths, in their order. In place of a folder stand its desks, in
+/// the order of their names: its regular files, without those that a desk has beside it, and without those
+/// whose names begin with a dot.
+pub fn desk_paths<T: Files>(rt: &T, alloc: Global, paths: &[&str]) -> Result<Vec<String>, ToolFault>
+    ensures { IfErr result IsOpenFault }
+{
+    let mut files = Vec::new(alloc);
+    for path in paths {
+        if let Err(error) = push_path(rt, &mut files, path) {
+            return Err(fault(&error));
+        }
+    }
+    Ok(files)
+}
+
+/// Adds a path, or those of the desks in the folder there.
+fn push_path<T: Files>(rt: &T, files: &mut Vec<String>, path: &str) -> io::Result<()> {
+    match fs::metadata(rt, path) {
+        Ok(found) if found.is_dir() => push_folder(rt, files, path),
+        _ => {
+            files.push(String::from_str(*files.allocator(), path)?)?;
+            Ok(())
+        }
+    }
+}
+
+/// Adds the paths of the desks in a folder.
+fn push_folder<T: Files>(rt: &T, files: &mut Vec<String>, folder: &str) -> io::Result<()> {
+    let alloc = *files.allocator();
+    let folder = folder.trim_end_matches('/');
+    let mut names = names(rt, alloc, folder)?;
+    names.sort()?;
+    for name in &names {
+        let path = format!(in alloc; "{folder}/{name}")?;
+        if is_desk_name(name) && fs::symlink_metadata(rt, path.as_str())?.is_file() {
+            files.push(path)?;
+        }
+    }
+    Ok(())
+}
+
+/// The names in a folder. One that is no text is a fault, since no path can have it.
+fn names<T: Files>(rt: &T, alloc: Global, folder: &str) -> io::Result<Vec<String>> {
+    let folder = format!(in alloc; "{folder}/")?;
+    let reader = BufReader::with_capacity(alloc, NAMES, rt.open_dir(folder.as_str())?)?;
+    let mut names = Vec::new(alloc);
+    for name in reader.split(alloc, 0) {
+        match String::from_utf8(name?) {
+            Ok(name) => names.push(name)?,
+            Err(_) => return Err(ErrorKind::InvalidFilename.into()),
+        }
+    }
+    Ok(names)
+}
+
+/// Whether a file of this name in a folder of desks is one.
+fn is_desk_name(name: &str) -> bool {
+    !name.starts_with('.') && !BESIDE.iter().any(|ending| name.ends_with(*ending))
+}
+
+/// The fault of a folder that cannot be read.
+fn fault(error: &io::Error) -> ToolFault
+    ensures { IsOpenFault result }
+{
+    if error.kind() == ErrorKind::OutOfMemory {
+        return ToolFault::OutOfMemory;
+    }
+    ToolFault::Desk(DeskFault::Store(StoreFault::Failed))
+}

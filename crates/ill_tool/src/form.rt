@@ -1,0 +1,10 @@
+//! How a command writes what it shows.
+
+/// How a command writes what it shows.
+#[derive(Clone, Copy, Debug, PartialEq, Eq, Hash)]
+pub enum Form {
+    /// In lines, of a label and a value each.
+    Lines,
+    /// In objects of JSON, one on a line.
+    Json,
+}

@@ -1,0 +1,128 @@
+//! JSON, of objects of few kinds of values.
+
+ghost use Rattle.std.specs.Prelude.{◌≡◌, [], ◌++◌, map, codes, OnOk};
+ghost use Rattle.std.specs.Fmt.{decimal};
+ghost use Rattle.ill_tool.specs.Json.{array, day, joined, optional, member, quoted, value_text};
+
+use crate::escape::{Escaping, push_written};
+use ill_values::{Day, Number, OutOfMemory};
+use itoa::Buffer;
+
+/// A value of a field.
+#[derive(Clone, Copy)]
+pub(crate) enum Value<'a> {
+    Missing,
+    Text(&'a [u8]),
+    Date(Day),
+    Count(usize),
+    Flag(bool),
+    Words(&'a [&'a str]),
+}
+
+impl<'a> Value<'a> {
+    /// A day, if there is one.
+    pub(crate) fn day(date: Option<Day>) -> Value<'a>
+        ensures { value_text result ≡ optional day date }
+    {
+        match date {
+            Some(date) => Value::Date(date),
+            None => Value::Missing,
+        }
+    }
+
+    /// The number of a message, if there is one.
+    pub(crate) fn number(number: Option<Number>) -> Value<'a>
+        ensures { value_text result ≡ optional decimal number }
+    {
+        match number {
+            Some(number) => Value::Count(number.get().into()),
+            None => Value::Missing,
+        }
+    }
+}
+
+/// A label and a value.
+pub(crate) type Field<'a> = (&'a str, Value<'a>);
+
+/// Adds fields, with a comma between each and the next, and this before the first.
+pub(crate) fn push_members(
+    text: &mut Vec<u8>,
+    before: &[u8],
+    fields: &[Field<'_>],
+) -> Result<(), OutOfMemory>
+    ensures { OnOk result (text.new.items ≡ text.old.items
+        ++ joined (λ field. member (field.0.now, value_text field.1)) before.now fields.now) }
+{
+    let mut before = before;
+    for field in fields {
+        text.extend_from_slice(before)?;
+        push_member(text, field.0, &field.1)?;
+        before = b",";
+    }
+    Ok(())
+}
+
+/// Adds a field.
+fn push_member(text: &mut Vec<u8>, label: &str, value: &Value<'_>) -> Result<(), OutOfMemory>
+    ensures { OnOk result (text.new.items ≡ text.old.items ++ member (label.now, value_text value.now)) }
+{
+    push_label(text, label)?;
+    push_value(text, value)
+}
+
+/// Adds a label, and the colon behind it.
+pub(crate) fn push_label(text: &mut Vec<u8>, label: &str) -> Result<(), OutOfMemory>
+    ensures { OnOk result (text.new.items ≡ text.old.items ++ (quoted label.now ++ codes ":")) }
+{
+    push_quoted(text, label.as_bytes())?;
+    push_plain(text, ":")
+}
+
+/// Adds a value.
+fn push_value(text: &mut Vec<u8>, value: &Value<'_>) -> Result<(), OutOfMemory>
+    ensures { OnOk result (text.new.items ≡ text.old.items ++ value_text value.now) }
+{
+    match value {
+        Value::Missing => push_plain(text, "null"),
+        Value::Text(value) => push_quoted(text, value),
+        Value::Date(value) => push_quoted(text, &value.iso()),
+        Value::Count(value) => push_plain(text, Buffer::new().format(*value)),
+        Value::Flag(true) => push_plain(text, "true"),
+        Value::Flag(false) => push_plain(text, "false"),
+        Value::Words(words) => push_words(text, words),
+    }
+}
+
+/// Adds a text as it is.
+pub(crate) fn push_plain(text: &mut Vec<u8>, plain: &str) -> Result<(), OutOfMemory>
+    ensures { OnOk result (text.new.items ≡ text.old.items ++ plain.now) }
+{
+    text.extend_from_slice(plain.as_bytes())?;
+    Ok(())
+}
+
+/// Adds a string.
+fn push_quoted(text: &mut Vec<u8>, value: &[u8]) -> Result<(), OutOfMemory>
+    ensures { OnOk result (text.new.items ≡ text.old.items ++ quoted value.now) }
+{
+    text.push(b'"')?;
+    push_written(text, Escaping::Json, value)?;
+    text.push(b'"')?;
+    Ok(())
+}
+
+/// Adds an array of strings.
+fn push_words(text: &mut Vec<u8>, words: &[&str]) -> Result<(), OutOfMemory>
+    ensures { OnOk result (text.new.items ≡ text.old.items
+        ++ array quoted (map (λ word. word.now) words.now)) }
+{
+    text.push(b'[')?;
+    let mut before: &[u8] = b"";
+    for word in words {
+        text.extend_from_slice(before)?;
+        push_quoted(text, word.as_bytes())?;
+        before = b",";
+    }
+    text.push(b']')?;
+    Ok(())
+}

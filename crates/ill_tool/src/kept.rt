@@ -1,0 +1,108 @@
+//! The messages of a loan that came and were kept, as `loan` shows them.
+
+ghost use Rattle.std.specs.Prelude.{◌≡◌, ◌++◌, true, codes, IfOk, OnOk};
+ghost use Rattle.std.specs.List.{flat_map};
+ghost use Rattle.ill_saved.specs.Side.{txn_of};
+ghost use Rattle.ill_saved.specs.Many.{Held, found_by, txn_held};
+ghost use Rattle.ill_tool.specs.Loan.{marked_lines};
+ghost use Rattle.ill_tool.specs.Kept.{AreIn, RunsKeptLoan, WritesKept, is_among, kept_lines, kept_of, with_new};
+
+use crate::fault::ToolFault;
+use crate::loan::{push_loan, push_marked};
+use crate::output::write_whole;
+use ill_der::{Feed, encode};
+use ill_saved::{Desk, DeskFault, Side, Store};
+use ill_values::{Apdu, OutOfMemory, TxnId};
+use std::alloc::Global;
+use std::io::Write;
+
+/// Writes all that `run_desk_loan` does, and behind it each message of the transaction that these bytes have, as
+/// `take --keep` has kept it, each once. What is no message, and all behind it, is passed over.
+pub fn run_desk_kept_loan<S: Store, W: Write>(
+    alloc: Global,
+    desk: &Desk<S>,
+    txn: &TxnId,
+    came: &[u8],
+    writer: &mut W,
+) -> Result<(), ToolFault>
+    ensures { RunsKeptLoan kept_lines (found_by txn_held txn.now desk.now.live.held) came.now
+        (W.contents writer.old) (W.contents writer.new) result }
+{
+    match desk.sides().get(txn) {
+        Some(side) => write_kept(alloc, side, desk.released(txn), came, writer),
+        None => Err(ToolFault::Desk(DeskFault::NoSuchTransaction)),
+    }
+}
+
+/// Writes all that is known of a side, and the messages that came to it.
+fn write_kept<W: Write>(
+    alloc: Global,
+    side: &Side,
+    released: u8,
+    came: &[u8],
+    writer: &mut W,
+) -> Result<(), ToolFault>
+    ensures { WritesKept (kept_lines (record { side = side.now; released = released })) (txn_of side.now) came.now
+        (W.contents writer.old) (W.contents writer.new) result }
+{
+    let came = apdus_in(alloc, came)?;
+    let kept = kept_of(alloc, side.txn(), &came)?;
+    let mut lines = Vec::new(alloc);
+    push_loan(&mut lines, side, released)?;
+    push_kept(&mut lines, &kept)?;
+    write_whole(writer, &lines)
+}
+
+/// The messages that bytes have, up to the first that is none.
+pub(crate) fn apdus_in(alloc: Global, bytes: &[u8]) -> Result<Vec<Apdu>, OutOfMemory>
+    ensures { IfOk result (λ came. AreIn bytes.now came.items) }
+{
+    let mut feed = Feed::new(alloc);
+    Ok(feed.push(bytes)?.apdus)
+}
+
+/// The messages of a transaction, each once.
+pub(crate) fn kept_of(alloc: Global, txn: &TxnId, came: &[Apdu]) -> Result<Vec<Apdu>, OutOfMemory>
+    ensures { IfOk result (λ kept. kept.items ≡ kept_of txn.now came.now) }
+{
+    let mut kept = Vec::new(alloc);
+    for apdu in came {
+        push_new(&mut kept, txn, apdu)?;
+    }
+    Ok(kept)
+}
+
+/// Adds a message, if it is of the transaction and not among those that are there.
+fn push_new(kept: &mut Vec<Apdu>, txn: &TxnId, apdu: &Apdu) -> Result<(), OutOfMemory>
+    ensures { OnOk result (kept.new.items ≡ with_new txn.now kept.old.items apdu.now) }
+{
+    let alloc = *kept.allocator();
+    if apdu.txn == *txn && !is_among(alloc, kept, apdu)? {
+        kept.push(apdu.copy(alloc)?)?;
+    }
+    Ok(())
+}
+
+/// Whether a message of the same bytes is among these.
+pub(crate) fn is_among(alloc: Global, kept: &[Apdu], apdu: &Apdu) -> Result<bool, OutOfMemory>
+    ensures { IfOk result (λ is. is ≡ is_among kept.now apdu.now) }
+{
+    let bytes = encode(alloc, apdu)?;
+    for other in kept {
+        if encode(alloc, other)? == bytes {
+            return Ok(true);
+        }
+    }
+    Ok(false)
+}
+
+/// Adds the lines of messages that came.
+fn push_kept(lines: &mut Vec<u8>, kept: &[Apdu]) -> Result<(), OutOfMemory>
+    ensures { OnOk result (lines.new.items ≡ lines.old.items
+        ++ flat_map (marked_lines (codes "came") true) kept.now) }
+{
+    for apdu in kept {
+        push_marked(lines, "came", true, apdu)?;
+    }
+    Ok(())
+}

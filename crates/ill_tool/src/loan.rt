@@ -1,0 +1,228 @@
+//! The command `loan`.
+
+ghost use Rattle.std.specs.Prelude.{◌≡◌, ◌++◌, map, option_map, IfOk, OnOk};
+ghost use Rattle.std.specs.List.{flat_map};
+ghost use Rattle.ill_core.specs.Verbs.{verb_name};
+ghost use Rattle.ill_saved.specs.Many.{found_by, txn_held};
+ghost use Rattle.ill_tool.specs.Output.{WritesText};
+ghost use Rattle.ill_tool.specs.Loan.{RunsLoan, item_lines, loan_lines, marked_lines, message_lines, optional_number_line, request_lines, request_of, side_lines, taken_lines, turn_lines, turn_word};
+ghost use Rattle.ill_tool.specs.Objects.{loan_text};
+
+use crate::fault::ToolFault;
+use crate::form::Form;
+use crate::lines::{push_item, push_line, push_number, push_shown, push_whether};
+use crate::objects::push_loan_object;
+use crate::output::write_whole;
+use crate::status::{push_day_or_dash, push_status, push_words};
+use ill_core::{Turn, Verb};
+use ill_saved::{Desk, Desk1, DeskFault, Side, Store};
+use ill_values::{Apdu, Body, Number, OutOfMemory, TxnId};
+use std::alloc::Global;
+use std::io::Write;
+
+/// Writes all that the record knows: the seven lines of `status`, who acts next and what this side may do
+/// now, what is asked for, the messages that were taken, and each message that it has issued.
+pub fn run_loan<S: Store, W: Write>(
+    alloc: Global,
+    desk: &Desk1<S>,
+    writer: &mut W,
+) -> Result<(), ToolFault>
+    ensures { WritesText (W.contents writer.old) (W.contents writer.new)
+        (loan_lines desk.now.live desk.now.released) result }
+{
+    write_loan(alloc, Form::Lines, desk.side(), desk.released(), writer)
+}
+
+/// The same, of the side of a transaction at a desk, which must be held (else `NoSuchTransaction`).
+pub fn run_desk_loan<S: Store, W: Write>(
+    alloc: Global,
+    desk: &Desk<S>,
+    txn: &TxnId,
+    writer: &mut W,
+) -> Result<(), ToolFault>
+    ensures { RunsLoan loan_lines (found_by txn_held txn.now desk.now.live.held)
+        (W.contents writer.old) (W.contents writer.new) result }
+{
+    run_desk_loan_as(alloc, desk, txn, Form::Lines, writer)
+}
+
+/// The same, in this form: one object in place of the lines.
+pub fn run_desk_loan_as<S: Store, W: Write>(
+    alloc: Global,
+    desk: &Desk<S>,
+    txn: &TxnId,
+    form: Form,
+    writer: &mut W,
+) -> Result<(), ToolFault>
+    ensures { RunsLoan (loan_text form) (found_by txn_held txn.now desk.now.live.held)
+        (W.contents writer.old) (W.contents writer.new) result }
+{
+    match desk.sides().get(txn) {
+        Some(side) => write_loan(alloc, form, side, desk.released(txn), writer),
+        None => Err(ToolFault::Desk(DeskFault::NoSuchTransaction)),
+    }
+}
+
+/// Writes all that is known of a side.
+fn write_loan<W: Write>(
+    alloc: Global,
+    form: Form,
+    side: &Side,
+    released: u8,
+    writer: &mut W,
+) -> Result<(), ToolFault>
+    ensures { WritesText (W.contents writer.old) (W.contents writer.new)
+        (loan_text form side.now released) result }
+{
+    let mut lines = Vec::new(alloc);
+    match form {
+        Form::Lines => push_loan(&mut lines, side, released)?,
+        Form::Json => push_loan_object(&mut lines, side, released)?,
+    }
+    write_whole(writer, &lines)
+}
+
+/// Adds the lines of a side, and of the messages that it has issued.
+#[tactic(auto, unfolding(crate::specs::Loan::loan_lines))]
+pub(crate) fn push_loan(lines: &mut Vec<u8>, side: &Side, released: u8) -> Result<(), OutOfMemory>
+    ensures { OnOk result (lines.new.items ≡ lines.old.items ++ loan_lines side.now released) }
+{
+    push_side(lines, side, released)?;
+    push_messages(lines, side.all_issued(), released)
+}
+
+/// Adds the lines of a side, before those of its messages.
+fn push_side(lines: &mut Vec<u8>, side: &Side, released: u8) -> Result<(), OutOfMemory>
+    ensures { OnOk result (lines.new.items ≡ lines.old.items ++ side_lines side.now released) }
+{
+    push_status(lines, side, released)?;
+    push_turn(lines, side)?;
+    push_request(lines, side)?;
+    push_taken(lines, side)
+}
+
+/// Adds the lines of who acts next, and of what the side may do now.
+fn push_turn(lines: &mut Vec<u8>, side: &Side) -> Result<(), OutOfMemory>
+    ensures { OnOk result (lines.new.items ≡ lines.old.items ++ turn_lines side.now) }
+{
+    push_line(lines, "next", turn_word(side.turn()).as_bytes())?;
+    let names = names(*lines.allocator(), side.verbs())?;
+    push_words(lines, "now", &names)
+}
+
+/// The word of who acts next.
+pub(crate) fn turn_word(turn: Turn) -> &'static str
+    ensures { result.now ≡ turn_word turn }
+{
+    match turn {
+        Turn::Over => "over",
+        Turn::Mine => "mine",
+        Turn::Theirs => "theirs",
+    }
+}
+
+/// The names of verbs.
+pub(crate) fn names<'a>(alloc: Global, verbs: &[Verb]) -> Result<Vec<&'a str>, OutOfMemory>
+    ensures { IfOk result (λ names. map (λ name. name.now) names.items ≡ map verb_name verbs.now) }
+{
+    let mut names = Vec::new(alloc);
+    for verb in verbs {
+        names.push(verb.name())?;
+    }
+    Ok(names)
+}
+
+/// The request of a loan, if it has begun.
+pub(crate) fn request(side: &Side) -> Option<&Apdu>
+    ensures { option_map (λ apdu. apdu.now) result ≡ request_of side.now }
+{
+    match side {
+        Side::Requester(requester) => requester.all_issued().first(),
+        Side::Responder(responder) => responder.request(),
+    }
+}
+
+/// Adds the lines of the request of a loan, if it has begun.
+fn push_request(lines: &mut Vec<u8>, side: &Side) -> Result<(), OutOfMemory>
+    ensures { OnOk result (lines.new.items ≡ lines.old.items
+        ++ request_lines (request_of side.now)) }
+{
+    match request(side) {
+        Some(apdu) => push_wanted(lines, &apdu.body),
+        None => Ok(()),
+    }
+}
+
+/// Adds the lines of what a request asks for, and until when.
+fn push_wanted(lines: &mut Vec<u8>, body: &Body) -> Result<(), OutOfMemory>
+    ensures { OnOk result (lines.new.items ≡ lines.old.items ++ item_lines body.now) }
+{
+    match body {
+        Body::IllRequest { expiry, item } => {
+            push_item(lines, item.text())?;
+            push_day_or_dash(lines, "expiry", *expiry)
+        }
+        _ => Ok(()),
+    }
+}
+
+/// Adds the lines of what the record tells of messages taken.
+fn push_taken(lines: &mut Vec<u8>, side: &Side) -> Result<(), OutOfMemory>
+    ensures { OnOk result (lines.new.items ≡ lines.old.items ++ taken_lines side.now) }
+{
+    match side {
+        Side::Requester(requester) => push_optional_number(lines, "held", requester.held()),
+        Side::Responder(responder) => {
+            push_optional_number(lines, "accepted", responder.accepted())?;
+            push_optional_number(lines, "last-cancel", responder.last_cancel())?;
+            push_optional_number(lines, "last-renew", responder.last_renew())
+        }
+    }
+}
+
+/// Adds the line of the number of a message, which is a dash where there is none.
+fn push_optional_number(
+    lines: &mut Vec<u8>,
+    label: &str,
+    number: Option<Number>,
+) -> Result<(), OutOfMemory>
+    ensures { OnOk result (lines.new.items ≡ lines.old.items
+        ++ optional_number_line label.now number) }
+{
+    match number {
+        None => push_line(lines, label, b"-"),
+        Some(number) => push_number(lines, label, number),
+    }
+}
+
+/// Adds the lines of messages, in their order.
+fn push_messages(lines: &mut Vec<u8>, apdus: &[Apdu], released: u8) -> Result<(), OutOfMemory>
+    ensures { OnOk result (lines.new.items ≡ lines.old.items
+        ++ flat_map (message_lines released) apdus.now) }
+{
+    for apdu in apdus {
+        push_message(lines, apdu, released)?;
+    }
+    Ok(())
+}
+
+/// Adds the lines of a message, behind an empty one, and whether it may leave.
+fn push_message(lines: &mut Vec<u8>, apdu: &Apdu, released: u8) -> Result<(), OutOfMemory>
+    ensures { OnOk result (lines.new.items ≡ lines.old.items ++ message_lines released apdu.now) }
+{
+    push_marked(lines, "leaves", apdu.number.get() <= released, apdu)
+}
+
+/// Adds the lines of a message, behind an empty one, and whether something is so.
+pub(crate) fn push_marked(
+    lines: &mut Vec<u8>,
+    label: &str,
+    is_so: bool,
+    apdu: &Apdu,
+) -> Result<(), OutOfMemory>
+    ensures { OnOk result (lines.new.items ≡ lines.old.items ++ marked_lines label.now is_so apdu.now) }
+{
+    lines.push(b'\n')?;
+    push_shown(lines, apdu)?;
+    push_whether(lines, label, is_so)
+}

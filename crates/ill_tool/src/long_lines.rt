@@ -1,0 +1,61 @@
+//! Which message it was, and what it said, as `take --long` writes it.
+
+ghost use Rattle.std.specs.Prelude.{◌≡◌, ◌++◌, OnOk};
+ghost use Rattle.ill_tool.specs.LongLines.{heading, indent, indented, said, word};
+
+use crate::escape::push_escaped;
+use crate::lines::push_fields;
+use ill_der::ApduView;
+use ill_values::OutOfMemory;
+use itoa::Buffer;
+
+/// Adds which message it was: `GROUP TRANSACTION TYPE NUMBER`, with a space behind each.
+pub(crate) fn push_heading(lines: &mut Vec<u8>, apdu: &ApduView<'_>) -> Result<(), OutOfMemory>
+    ensures { OnOk result (lines.new.items ≡ lines.old.items ++ heading apdu.now) }
+{
+    push_word(lines, apdu.group())?;
+    push_word(lines, apdu.transaction())?;
+    push_word(lines, apdu.body().type_name().as_bytes())?;
+    push_word(lines, Buffer::new().format(apdu.number().get()).as_bytes())
+}
+
+/// Adds a word, and the space behind it.
+fn push_word(lines: &mut Vec<u8>, text: &[u8]) -> Result<(), OutOfMemory>
+    ensures { OnOk result (lines.new.items ≡ lines.old.items ++ word text.now) }
+{
+    lines.extend_from_slice(text)?;
+    lines.push(b' ')?;
+    Ok(())
+}
+
+/// Adds what it said: the lines of its further fields, with two spaces before each. A terminal acts on none.
+pub(crate) fn push_said(lines: &mut Vec<u8>, apdu: &ApduView<'_>) -> Result<(), OutOfMemory>
+    ensures { OnOk result (lines.new.items ≡ lines.old.items ++ said apdu.now) }
+{
+    let alloc = *lines.allocator();
+    let mut fields = Vec::new(alloc);
+    push_fields(&mut fields, apdu.body())?;
+    let mut shown = Vec::new(alloc);
+    push_escaped(&mut shown, &fields)?;
+    push_indented(lines, &shown)
+}
+
+/// Adds a text with two spaces before each line.
+fn push_indented(lines: &mut Vec<u8>, text: &[u8]) -> Result<(), OutOfMemory>
+    ensures { OnOk result (lines.new.items ≡ lines.old.items ++ indented text.now) }
+{
+    let mut begins = true;
+    for &byte in text {
+        lines.extend_from_slice(indent(begins))?;
+        lines.push(byte)?;
+        begins = byte == b'\n';
+    }
+    Ok(())
+}
+
+/// What stands before a byte: two spaces where it begins a line.
+fn indent(begins: bool) -> &'static [u8]
+    ensures { result.now ≡ indent begins }
+{
+    if begins { b"  " } else { b"" }
+}

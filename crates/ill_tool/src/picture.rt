@@ -1,0 +1,252 @@
+//! The picture of a loan, as `loan --picture` draws it.
+
+ghost use Rattle.std.specs.Prelude.{◌≡◌, ◌≤◌, ◌++◌, length, IfOk, OnOk};
+ghost use Rattle.ill_saved.specs.Side.{txn_of, issued_of};
+ghost use Rattle.ill_saved.specs.Many.{found_by, txn_held};
+ghost use Rattle.ill_tool.specs.Kept.{RunsKeptLoan, WritesKept};
+ghost use Rattle.ill_tool.specs.Picture.{answers, arrow, arrows, behind, comes_before, drawn, drawn_byte, is_linked, is_plain, label_of, linked, picture, picture_of, theirs_of, through, way_of, with_own, with_request, without_last};
+
+use crate::fault::ToolFault;
+use crate::kept::{apdus_in, is_among, kept_of};
+use crate::lines::{push_shown_fields, view};
+use crate::output::write_whole;
+use ill_core::is_requesters;
+use ill_saved::{Desk, DeskFault, Side, Store};
+use ill_values::{Apdu, Body, Number, OutOfMemory, TxnId};
+use itoa::Buffer;
+use std::alloc::Global;
+use std::io::Write;
+
+/// Writes a sequence chart, in the language of Mermaid, of the messages of a transaction: of those that its side has
+/// issued, of the request that a responder has taken, and of those that these bytes have.
+///
+/// Nobody knows how the messages of the two sides lay in time. Each side's own order holds. A message of the other
+/// side stands as late as may be, but not behind one that needs it, and directly behind one that it answers by its
+/// number.
+pub fn run_desk_picture<S: Store, W: Write>(
+    alloc: Global,
+    desk: &Desk<S>,
+    txn: &TxnId,
+    came: &[u8],
+    writer: &mut W,
+) -> Result<(), ToolFault>
+    ensures { RunsKeptLoan picture (found_by txn_held txn.now desk.now.live.held) came.now
+        (W.contents writer.old) (W.contents writer.new) result }
+{
+    match desk.sides().get(txn) {
+        Some(side) => write_picture(alloc, side, came, writer),
+        None => Err(ToolFault::Desk(DeskFault::NoSuchTransaction)),
+    }
+}
+
+/// The first lines of a picture.
+const OPENING: &str = "sequenceDiagram\n  participant requester\n  participant responder\n";
+
+/// Writes the picture of a side, with the messages that came to it.
+fn write_picture<W: Write>(
+    alloc: Global,
+    side: &Side,
+    came: &[u8],
+    writer: &mut W,
+) -> Result<(), ToolFault>
+    ensures { WritesKept (λ kept. picture_of (issued_of side.now) (theirs_of side.now kept)) (txn_of side.now) came.now
+        (W.contents writer.old) (W.contents writer.new) result }
+{
+    let came = apdus_in(alloc, came)?;
+    let kept = kept_of(alloc, side.txn(), &came)?;
+    let theirs = theirs_of(alloc, side, kept)?;
+    let lines = draw(alloc, side.all_issued(), &theirs)?;
+    write_whole(writer, &lines)
+}
+
+/// The messages that came: of a responder its request too.
+fn theirs_of(alloc: Global, side: &Side, kept: Vec<Apdu>) -> Result<Vec<Apdu>, OutOfMemory>
+    ensures { IfOk result (λ theirs. theirs.items ≡ theirs_of side.now kept.items) }
+{
+    match side {
+        Side::Requester(_) => Ok(kept),
+        Side::Responder(responder) => match responder.request() {
+            Some(request) => with_request(alloc, request, kept),
+            None => Ok(kept),
+        },
+    }
+}
+
+/// The messages that came, and this one before them, if it is not among them.
+fn with_request(alloc: Global, request: &Apdu, kept: Vec<Apdu>) -> Result<Vec<Apdu>, OutOfMemory>
+    ensures { IfOk result (λ theirs. theirs.items ≡ with_request (Some request.now) kept.items) }
+{
+    let mut kept = kept;
+    if !is_among(alloc, &kept, request)? {
+        kept.insert(0, request.copy(alloc)?)?;
+    }
+    Ok(kept)
+}
+
+/// The picture of own messages, and of theirs.
+fn draw(alloc: Global, own: &[Apdu], theirs: &[Apdu]) -> Result<Vec<u8>, OutOfMemory>
+    ensures { IfOk result (λ lines. lines.items ≡ picture_of own.now theirs.now) }
+{
+    let mut lines = Vec::from_slice(alloc, OPENING.as_bytes())?;
+    let mut left = theirs;
+    for apdu in own {
+        left = push_own(&mut lines, apdu, left)?;
+    }
+    push_arrows(&mut lines, left)?;
+    Ok(lines)
+}
+
+/// Adds an own message, and those of theirs that stand before it or answer it. It gives the others.
+fn push_own<'a>(
+    lines: &mut Vec<u8>,
+    own: &Apdu,
+    theirs: &'a [Apdu],
+) -> Result<&'a [Apdu], OutOfMemory>
+    ensures { IfOk result (λ left. record { lines = lines.new.items; left = left.now }
+        ≡ with_own (record { lines = lines.old.items; left = theirs.now }) own.now) }
+{
+    let (before, left) = theirs.split_at(through(Link::Before, own, theirs));
+    push_arrows(lines, before)?;
+    push_arrow(lines, own)?;
+    let (answers, left) = left.split_at(through(Link::Behind, own, left));
+    push_arrows(lines, answers)?;
+    Ok(left)
+}
+
+/// How a message of theirs stands to an own one.
+#[derive(Clone, Copy)]
+enum Link {
+    /// It stands before it.
+    Before,
+    /// It answers it.
+    Behind,
+}
+
+/// How many of theirs there are, up to the last that is linked so to an own message.
+fn through(link: Link, own: &Apdu, theirs: &[Apdu]) -> usize
+    ensures reached { result ≡ through link own.now theirs.now }
+    ensures within { result ≤ length theirs.now }
+{
+    let mut last = 0;
+    for place in 0..theirs.len() {
+        if is_linked(link, own, &theirs[place]) {
+            last = place + 1;
+        }
+    }
+    last
+}
+
+/// Whether one of theirs is linked so to an own message.
+fn is_linked(link: Link, own: &Apdu, their: &Apdu) -> bool
+    ensures { result ≡ is_linked link own.now their.now }
+{
+    match link {
+        Link::Before => comes_before(&their.body, &own.body) || answers(&own.body, their.number),
+        Link::Behind => answers(&their.body, own.number),
+    }
+}
+
+/// Whether a message of the other side is there before one of this type is issued.
+fn comes_before(their: &Body, own: &Body) -> bool
+    ensures { result ≡ comes_before their.now own.now }
+{
+    match their {
+        Body::IllRequest { .. } => true,
+        Body::Shipped { .. } => matches!(own, Body::Received | Body::Renew { .. } | Body::Returned),
+        Body::Returned => matches!(own, Body::CheckedIn),
+        _ => false,
+    }
+}
+
+/// Whether a message answers the number of another one.
+fn answers(body: &Body, asked: Number) -> bool
+    ensures { result ≡ answers body.now asked }
+{
+    match body {
+        Body::ConditionalReply { answers, .. }
+        | Body::CancelReply { answers, .. }
+        | Body::RenewAnswer { answers, .. } => *answers == asked,
+        _ => false,
+    }
+}
+
+/// Adds an arrow for each message.
+fn push_arrows(lines: &mut Vec<u8>, apdus: &[Apdu]) -> Result<(), OutOfMemory>
+    ensures { OnOk result (lines.new.items ≡ lines.old.items ++ arrows apdus.now) }
+{
+    for apdu in apdus {
+        push_arrow(lines, apdu)?;
+    }
+    Ok(())
+}
+
+/// Adds the arrow of a message.
+#[tactic(auto, unfolding(crate::specs::Picture::arrow))]
+fn push_arrow(lines: &mut Vec<u8>, apdu: &Apdu) -> Result<(), OutOfMemory>
+    ensures { OnOk result (lines.new.items ≡ lines.old.items ++ arrow apdu.now) }
+{
+    let mut label = Vec::new(*lines.allocator());
+    push_label(&mut label, apdu)?;
+    let _ = label.pop();
+    lines.extend_from_slice(way(&apdu.body).as_bytes())?;
+    push_drawn(lines, &label)?;
+    lines.push(b'\n')?;
+    Ok(())
+}
+
+/// From whom to whom a message goes.
+fn way(body: &Body) -> &'static str
+    ensures { result.now ≡ way_of body.now }
+{
+    if is_requesters(body) {
+        "  requester->>responder: "
+    } else {
+        "  responder->>requester: "
+    }
+}
+
+/// Adds the number and the type of a message, and the lines of its further fields.
+fn push_label(label: &mut Vec<u8>, apdu: &Apdu) -> Result<(), OutOfMemory>
+    ensures { OnOk result (label.new.items ≡ label.old.items ++ label_of apdu.now) }
+{
+    let body = view(&apdu.body);
+    label.extend_from_slice(Buffer::new().format(apdu.number.get()).as_bytes())?;
+    label.push(b' ')?;
+    label.extend_from_slice(body.type_name().as_bytes())?;
+    label.push(b'\n')?;
+    push_shown_fields(label, &body)
+}
+
+/// Adds a text, of which Mermaid takes nothing for its own.
+fn push_drawn(lines: &mut Vec<u8>, text: &[u8]) -> Result<(), OutOfMemory>
+    ensures { OnOk result (lines.new.items ≡ lines.old.items ++ drawn text.now) }
+{
+    for byte in text {
+        push_byte(lines, *byte)?;
+    }
+    Ok(())
+}
+
+fn push_byte(lines: &mut Vec<u8>, byte: u8) -> Result<(), OutOfMemory>
+    ensures { OnOk result (lines.new.items ≡ lines.old.items ++ drawn_byte byte) }
+{
+    if byte == b'\n' {
+        lines.extend_from_slice(b"<br/>")?;
+        return Ok(());
+    }
+    if is_plain(byte) {
+        lines.push(byte)?;
+        return Ok(());
+    }
+    lines.push(b'#')?;
+    lines.extend_from_slice(Buffer::new().format(byte).as_bytes())?;
+    lines.push(b';')?;
+    Ok(())
+}
+
+/// Whether nobody takes a byte for anything else.
+fn is_plain(byte: u8) -> bool
+    ensures { result ≡ is_plain byte }
+{
+    matches!(byte, b'a'..=b'z' | b'A'..=b'Z' | b'0'..=b'9' | b' ' | b','..=b'.' | 128..)
+}

@@ -1,0 +1,369 @@
+//! The command `report`: a page of HTML of the loans of desks.
+
+ghost use Rattle.std.specs.Prelude.{◌≡◌, ◌++◌, [], ◌∷◌, map, count_by, codes, OnOk};
+ghost use Rattle.std.specs.List.{flat_map};
+ghost use Rattle.std.specs.Fmt.{decimal};
+ghost use Rattle.ill_values.specs.Types.{type_name};
+ghost use Rattle.ill_saved.specs.Many.{sides_held};
+ghost use Rattle.ill_tool.specs.Output.{WritesText};
+ghost use Rattle.ill_tool.specs.Html.{html_escaped};
+ghost use Rattle.ill_tool.specs.Loan.{request_of};
+ghost use Rattle.ill_tool.specs.List.{item_asked, title_text};
+ghost use Rattle.ill_tool.specs.Report.{action_text, actor, day_text, desk_text, detail_text, field_text, is_on, loan_text, loans_text, message_text, page_head, report_page, shelf_text, shelves_text, value_text, verb_meaning};
+
+use crate::fault::ToolFault;
+use crate::html::{push_html, push_text};
+use crate::output::write_whole;
+use crate::report_parts::{
+    ARROW, DESK, DESK_END, DESKS, END, FOLDED, Field, LOAN, LOANS, NAME, OPEN, OPENING, OVER, PAGE,
+    ROW, Shelf, TASK, WAITING,
+};
+use crate::row::push_title;
+use crate::waiting::{expiry, most_urgent_first, turn_on};
+use ill_core::{Turn, Verb};
+use ill_saved::{Desk, Side, Sides, Store};
+use ill_values::{Apdu, Body, Day, OutOfMemory};
+use itoa::Buffer;
+use std::alloc::Global;
+use std::io::Write;
+
+/// Writes a page of the loans of a desk on this day, under the name of its file.
+pub fn run_desk_report<S: Store, W: Write>(
+    alloc: Global,
+    desk: &Desk<S>,
+    file: &str,
+    today: Day,
+    writer: &mut W,
+) -> Result<(), ToolFault>
+    ensures { WritesText (W.contents writer.old) (W.contents writer.new)
+        (report_page today ((file.now, (sides_held desk.now.live).sides) ∷ [])) result }
+{
+    let mut page = Vec::new(alloc);
+    push_head(&mut page, today)?;
+    push_desk(&mut page, today, file, desk.sides())?;
+    end_page(page, writer)
+}
+
+/// Adds what stands before the desks of a page on this day.
+pub(crate) fn push_head(page: &mut Vec<u8>, today: Day) -> Result<(), OutOfMemory>
+    ensures { OnOk result (page.new.items ≡ page.old.items ++ page_head today) }
+{
+    page.extend_from_slice(PAGE.as_bytes())?;
+    page.extend_from_slice(&today.iso())?;
+    page.extend_from_slice(DESKS.as_bytes())?;
+    Ok(())
+}
+
+/// Writes a page, behind whose desks nothing stands yet.
+pub(crate) fn end_page<W: Write>(mut page: Vec<u8>, writer: &mut W) -> Result<(), ToolFault>
+    ensures { WritesText (W.contents writer.old) (W.contents writer.new) (page.items ++ END.now) result }
+{
+    page.extend_from_slice(END.as_bytes())?;
+    write_whole(writer, &page)
+}
+
+/// Adds what is told of a desk.
+#[tactic(auto, unfolding(crate::specs::Report::desk_text))]
+pub(crate) fn push_desk(
+    page: &mut Vec<u8>,
+    today: Day,
+    file: &str,
+    sides: &Sides,
+) -> Result<(), OutOfMemory>
+    ensures { OnOk result (page.new.items ≡ page.old.items
+        ++ desk_text today (file.now, sides.now.sides)) }
+{
+    let sides = most_urgent_first(*page.allocator(), sides)?;
+    page.extend_from_slice(DESK.as_bytes())?;
+    push_text(page, file.as_bytes())?;
+    page.extend_from_slice(LOANS.as_bytes())?;
+    push_shelves(page, today, &sides)?;
+    page.extend_from_slice(DESK_END.as_bytes())?;
+    Ok(())
+}
+
+/// Adds the loans of a desk: those that wait for this library, all that are open, and those that are over.
+#[tactic(auto, unfolding(crate::specs::Report::shelves_text))]
+fn push_shelves(page: &mut Vec<u8>, today: Day, sides: &[&Side]) -> Result<(), OutOfMemory>
+    ensures { OnOk result (page.new.items ≡ page.old.items
+        ++ shelves_text today (map (λ side. side.now) sides.now)) }
+{
+    let waiting = Shelf {
+        heading: WAITING,
+        turns: &[Turn::Mine],
+        opening: OPENING,
+        fields: &TASK,
+    };
+    push_shelf(page, today, sides, &waiting)?;
+    let open = Shelf {
+        heading: OPEN,
+        turns: &[Turn::Mine, Turn::Theirs],
+        opening: OPENING,
+        fields: &LOAN,
+    };
+    push_shelf(page, today, sides, &open)?;
+    let over = Shelf {
+        heading: OVER,
+        turns: &[Turn::Over],
+        opening: FOLDED,
+        fields: &LOAN,
+    };
+    push_shelf(page, today, sides, &over)
+}
+
+/// Adds the loans that stand together, behind their count.
+fn push_shelf(
+    page: &mut Vec<u8>,
+    today: Day,
+    sides: &[&Side],
+    shelf: &Shelf<'_>,
+) -> Result<(), OutOfMemory>
+    ensures { OnOk result (page.new.items ≡ page.old.items
+        ++ shelf_text today (map (λ side. side.now) sides.now) shelf.now.heading.now
+        shelf.now.turns.now shelf.now.opening.now shelf.now.fields.now) }
+{
+    page.extend_from_slice(shelf.heading.as_bytes())?;
+    push_number(page, count(today, sides, shelf.turns))?;
+    page.extend_from_slice(shelf.opening.as_bytes())?;
+    push_loans(page, today, sides, shelf)
+}
+
+/// How many loans have one of these turns.
+fn count(today: Day, sides: &[&Side], turns: &[Turn]) -> usize
+    ensures { result ≡ count_by (is_on today turns.now) (map (λ side. side.now) sides.now) }
+{
+    sides
+        .iter()
+        .filter(|side| is_on(today, turns, side))
+        .count()
+}
+
+/// Whether a loan has one of these turns.
+fn is_on(today: Day, turns: &[Turn], side: &Side) -> bool
+    ensures { result ≡ is_on today turns.now side.now }
+{
+    let turn = turn_on(Some(today), side);
+    turns.iter().any(|other| turn == *other)
+}
+
+/// Adds the loans that have a turn of the shelf.
+fn push_loans(
+    page: &mut Vec<u8>,
+    today: Day,
+    sides: &[&Side],
+    shelf: &Shelf<'_>,
+) -> Result<(), OutOfMemory>
+    ensures { OnOk result (page.new.items ≡ page.old.items
+        ++ loans_text today shelf.now.turns.now shelf.now.fields.now (map (λ side. side.now) sides.now)) }
+{
+    for side in sides {
+        push_loan_on(page, today, side, shelf)?;
+    }
+    Ok(())
+}
+
+/// Adds what is told of a loan, if it has a turn of the shelf.
+fn push_loan_on(
+    page: &mut Vec<u8>,
+    today: Day,
+    side: &Side,
+    shelf: &Shelf<'_>,
+) -> Result<(), OutOfMemory>
+    ensures { OnOk result (page.new.items ≡ page.old.items
+        ++ loans_text today shelf.now.turns.now shelf.now.fields.now (side.now ∷ [])) }
+{
+    if is_on(today, shelf.turns, side) {
+        return push_loan(page, today, side, shelf.fields);
+    }
+    Ok(())
+}
+
+/// Adds what is told of a loan.
+fn push_loan(
+    page: &mut Vec<u8>,
+    today: Day,
+    side: &Side,
+    fields: &[Field],
+) -> Result<(), OutOfMemory>
+    ensures { OnOk result (page.new.items ≡ page.old.items ++ loan_text today fields.now side.now) }
+{
+    for field in fields {
+        push_field(page, today, side, *field)?;
+    }
+    Ok(())
+}
+
+/// Adds one thing that is told of a loan, between its texts.
+fn push_field(page: &mut Vec<u8>, today: Day, side: &Side, field: Field) -> Result<(), OutOfMemory>
+    ensures { OnOk result (page.new.items ≡ page.old.items ++ field_text today side.now field) }
+{
+    page.extend_from_slice(field.before().as_bytes())?;
+    push_value(page, today, side, field)?;
+    page.extend_from_slice(field.after().as_bytes())
+}
+
+/// Adds one thing that is told of a loan.
+fn push_value(page: &mut Vec<u8>, today: Day, side: &Side, field: Field) -> Result<(), OutOfMemory>
+    ensures { OnOk result (page.new.items ≡ page.old.items ++ value_text today side.now field) }
+{
+    match field {
+        Field::Title => push_html_title(page, side),
+        Field::Group => push_text(page, side.txn().group()),
+        Field::Transaction => push_text(page, side.txn().transaction()),
+        Field::State => page.extend_from_slice(side.state().name().as_bytes()),
+        Field::Due => push_day(page, side.due()),
+        Field::Expiry => push_day(page, expiry(side)),
+        Field::Next => page.extend_from_slice(actor(turn_on(Some(today), side)).as_bytes()),
+        Field::Actions => push_actions(page, side.verbs()),
+        Field::Height => push_number(page, 28 * usize::from(side.issued_count()) + 36),
+        Field::Names => push_messages(page, side.all_issued(), false),
+        Field::Arrows => push_messages(page, side.all_issued(), true),
+    }
+}
+
+/// Adds the title of a loan.
+fn push_html_title(page: &mut Vec<u8>, side: &Side) -> Result<(), OutOfMemory>
+    ensures { OnOk result (page.new.items ≡ page.old.items
+        ++ html_escaped (title_text (item_asked (request_of side.now)))) }
+{
+    let mut title = Vec::new(*page.allocator());
+    push_title(&mut title, side)?;
+    push_html(page, &title)
+}
+
+/// Adds a number.
+fn push_number(page: &mut Vec<u8>, number: usize) -> Result<(), OutOfMemory>
+    ensures { OnOk result (page.new.items ≡ page.old.items ++ decimal number) }
+{
+    page.extend_from_slice(Buffer::new().format(number).as_bytes())
+}
+
+/// Adds a day, or a dash where there is none.
+fn push_day(page: &mut Vec<u8>, day: Option<Day>) -> Result<(), OutOfMemory>
+    ensures { OnOk result (page.new.items ≡ page.old.items ++ day_text day) }
+{
+    match day {
+        Some(day) => page.extend_from_slice(&day.iso()),
+        None => page.extend_from_slice(b"-"),
+    }
+}
+
+/// Who acts next.
+fn actor(turn: Turn) -> &'static str
+    ensures { result.now ≡ actor turn }
+{
+    match turn {
+        Turn::Mine => "we",
+        Turn::Theirs => "the partner",
+        Turn::Over => "nobody",
+    }
+}
+
+/// Adds what this library may do.
+fn push_actions(page: &mut Vec<u8>, verbs: &[Verb]) -> Result<(), OutOfMemory>
+    ensures { OnOk result (page.new.items ≡ page.old.items ++ flat_map action_text verbs.now) }
+{
+    for verb in verbs {
+        push_action(page, *verb)?;
+    }
+    Ok(())
+}
+
+/// Adds a line of what this library may do.
+fn push_action(page: &mut Vec<u8>, verb: Verb) -> Result<(), OutOfMemory>
+    ensures { OnOk result (page.new.items ≡ page.old.items ++ action_text verb) }
+{
+    page.extend_from_slice(b"<li><b>")?;
+    page.extend_from_slice(verb.name().as_bytes())?;
+    page.extend_from_slice(b"</b>: ")?;
+    page.extend_from_slice(meaning(verb).as_bytes())?;
+    page.extend_from_slice(b"</li>")
+}
+
+/// What an action is, for people.
+fn meaning(verb: Verb) -> &'static str
+    ensures { result.now ≡ verb_meaning verb }
+{
+    match verb {
+        Verb::Request => "ask for the item",
+        Verb::Cancel => "ask to drop the request",
+        Verb::Reply => "accept the conditions, or decline them",
+        Verb::Receive => "say that the item has come",
+        Verb::Renew => "ask to keep the item longer",
+        Verb::Return => "send the item back",
+        Verb::Answer => "answer the request",
+        Verb::CancelReply => "agree to cancel, or refuse to",
+        Verb::Ship => "send the item",
+        Verb::RenewAnswer => "let the item be kept longer, or refuse to",
+        Verb::Overdue => "say that the item is overdue",
+        Verb::Recall => "ask for the item back",
+        Verb::CheckIn => "say that the item is back",
+        Verb::Expire => "end the request, if its expiry day is past",
+    }
+}
+
+/// Adds messages, drawn as arrows or named.
+fn push_messages(page: &mut Vec<u8>, apdus: &[Apdu], is_drawn: bool) -> Result<(), OutOfMemory>
+    ensures { OnOk result (page.new.items ≡ page.old.items
+        ++ flat_map (message_text is_drawn) apdus.now) }
+{
+    for apdu in apdus {
+        push_message(page, apdu, is_drawn)?;
+    }
+    Ok(())
+}
+
+/// Adds a message, drawn as an arrow or named.
+fn push_message(page: &mut Vec<u8>, apdu: &Apdu, is_drawn: bool) -> Result<(), OutOfMemory>
+    ensures { OnOk result (page.new.items ≡ page.old.items ++ message_text is_drawn apdu.now) }
+{
+    if !is_drawn {
+        push_name(page, &apdu.body)?;
+        return page.extend_from_slice(b"; ");
+    }
+    page.extend_from_slice(ROW.as_bytes())?;
+    push_number(page, 28 * usize::from(apdu.number.get()) + 24)?;
+    page.extend_from_slice(NAME.as_bytes())?;
+    push_name(page, &apdu.body)?;
+    page.extend_from_slice(ARROW.as_bytes())
+}
+
+/// Adds the name of a message, with the answer or the day that it has.
+fn push_name(page: &mut Vec<u8>, body: &Body) -> Result<(), OutOfMemory>
+    ensures { OnOk result (page.new.items ≡ page.old.items
+        ++ (type_name body.now ++ detail_text body.now)) }
+{
+    page.extend_from_slice(body.type_name().as_bytes())?;
+    push_detail(page, body)
+}
+
+/// Adds the answer or the day that a message has, with a space before each.
+fn push_detail(page: &mut Vec<u8>, body: &Body) -> Result<(), OutOfMemory>
+    ensures { OnOk result (page.new.items ≡ page.old.items ++ detail_text body.now) }
+{
+    match body {
+        Body::IllAnswer { result } => push_word(page, result.name().as_bytes()),
+        Body::ConditionalReply { yes, .. } => push_word(page, if *yes { b"yes" } else { b"no" }),
+        Body::CancelReply { yes, .. } => push_word(page, if *yes { b"yes" } else { b"no" }),
+        Body::Shipped { due } => push_word(page, &due.iso()),
+        Body::Overdue { due } => push_word(page, &due.iso()),
+        Body::Renew { wished: Some(day) } => push_word(page, &day.iso()),
+        Body::RenewAnswer {
+            granted: Some(day),
+            ..
+        } => {
+            push_word(page, b"yes")?;
+            push_word(page, &day.iso())
+        }
+        Body::RenewAnswer { granted: None, .. } => push_word(page, b"no"),
+        _ => Ok(()),
+    }
+}
+
+/// Adds a word, with a space before it.
+fn push_word(page: &mut Vec<u8>, word: &[u8]) -> Result<(), OutOfMemory>
+    ensures { OnOk result (page.new.items ≡ page.old.items ++ (codes " " ++ word.now)) }
+{
+    page.push(b' ')?;
+    page.extend_from_slice(word)
+}

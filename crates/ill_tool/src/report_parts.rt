@@ -1,0 +1,186 @@
+//! Of what the page of `ill report` is made: the texts that are the same for all loans, and what is told of a loan
+//! between them. No text of a person stands here.
+
+ghost use Rattle.std.specs.Prelude.{◌≡◌};
+ghost use Rattle.ill_tool.specs.Report.{after, before};
+
+use ill_core::Turn;
+
+/// What is told of a loan.
+#[derive(Clone, Copy)]
+pub(crate) enum Field {
+    /// The item that is asked for.
+    Title,
+    /// The group qualifier.
+    Group,
+    /// The transaction qualifier.
+    Transaction,
+    /// The state.
+    State,
+    /// The day on which the item is due.
+    Due,
+    /// The day after which the request may expire.
+    Expiry,
+    /// Who acts next.
+    Next,
+    /// What this library may do.
+    Actions,
+    /// How high the chart of its messages is.
+    Height,
+    /// The names of its messages, for whom the chart is read out.
+    Names,
+    /// Its messages, as arrows of the chart.
+    Arrows,
+}
+
+/// A loan that waits for this library: what is to be done.
+pub(crate) const TASK: [Field; 7] = [
+    Field::Title,
+    Field::Group,
+    Field::Transaction,
+    Field::State,
+    Field::Due,
+    Field::Expiry,
+    Field::Actions,
+];
+
+/// All of a loan, with a chart of the messages that this library has issued.
+pub(crate) const LOAN: [Field; 10] = [
+    Field::Title,
+    Field::Group,
+    Field::Transaction,
+    Field::State,
+    Field::Due,
+    Field::Expiry,
+    Field::Next,
+    Field::Height,
+    Field::Names,
+    Field::Arrows,
+];
+
+impl Field {
+    /// The text before it.
+    pub(crate) fn before(self) -> &'static str
+        ensures { result.now ≡ before self }
+    {
+        match self {
+            Field::Title => "<article>\n<h4 dir=\"auto\">",
+            Field::Group => "<div><dt>Group</dt><dd>",
+            Field::Transaction => "<div><dt>Transaction</dt><dd>",
+            Field::State => "<div><dt>State</dt><dd>",
+            Field::Due => "<div><dt>Due</dt><dd>",
+            Field::Expiry => "<div><dt>Request expires</dt><dd>",
+            Field::Next => "<div><dt>Next</dt><dd>",
+            Field::Actions => "</dl>\n<ul>",
+            Field::Height => "</dl>\n<svg role=\"img\" viewBox=\"0 0 320 ",
+            Field::Names => "<title>Messages that we have issued: ",
+            Field::Arrows => LIFELINES,
+        }
+    }
+
+    /// The text behind it.
+    pub(crate) fn after(self) -> &'static str
+        ensures { result.now ≡ after self }
+    {
+        match self {
+            Field::Title => "</h4>\n<dl>",
+            Field::Actions => "</ul>\n</article>\n",
+            Field::Height => "\">",
+            Field::Names => "</title>\n",
+            Field::Arrows => "</svg>\n</article>\n",
+            _ => "</dd></div>",
+        }
+    }
+}
+
+/// Loans of a desk that stand together.
+#[derive(Clone, Copy)]
+pub(crate) struct Shelf<'a> {
+    /// The text before their count.
+    pub heading: &'a str,
+    /// The turns that they have.
+    pub turns: &'a [Turn],
+    /// The text behind their count.
+    pub opening: &'a str,
+    /// What is told of each.
+    pub fields: &'a [Field],
+}
+
+/// What stands before the day of a page.
+pub(crate) const PAGE: &str = "\
+<!DOCTYPE html>
+<html lang=\"en\">
+<head>
+<meta charset=\"utf-8\">
+<meta name=\"viewport\" content=\"width=device-width, initial-scale=1\">
+<meta http-equiv=\"Content-Security-Policy\" content=\"default-src 'none'; style-src 'unsafe-inline'\">
+<title>Loans</title>
+<style>
+:root { color-scheme: light dark; --page: #fff; --card: #f3f3f3; --text: #1a1a1a; --quiet: #505050; --mark: #0b4f9c }
+@media (prefers-color-scheme: dark) {
+  :root { --page: #151515; --card: #232323; --text: #eee; --quiet: #bbb; --mark: #8ab8ff }
+}
+* { box-sizing: border-box }
+body { max-width: 64rem; margin: 0 auto; padding: 1rem; font: 1rem/1.5 system-ui, sans-serif }
+body { color: var(--text); background: var(--page); overflow-wrap: anywhere }
+h1, h2, h3, h4 { margin: 2rem 0 .75rem; line-height: 1.25 }
+h1 { margin-top: 0; font-size: 1.625rem }
+h2, h4 { text-align: left }
+h4 { margin: 0 0 .5rem; font-size: 1.125rem }
+article { margin: 0 0 1rem; padding: 1rem; background: var(--card); border-left: .25rem solid var(--mark) }
+dl { display: flex; flex-wrap: wrap; gap: .25rem 1.5rem; margin: 0 }
+dt { color: var(--quiet); font-size: .875rem }
+dd { margin: 0 }
+ul { margin: .75rem 0 0; padding-left: 1.25rem }
+summary { margin: 2rem 0 .75rem; font-size: 1.17rem; font-weight: bold; cursor: pointer }
+svg { display: block; width: 100%; max-width: 28rem; height: auto; margin-top: .75rem }
+svg text { fill: var(--text); font-size: 12px; text-anchor: middle }
+svg path { fill: none; stroke: var(--mark) }
+</style>
+</head>
+<body>
+<h1>Loans on ";
+
+/// What stands behind the day of a page, before its desks.
+pub(crate) const DESKS: &str = "</h1>\n";
+
+/// What stands behind the desks of a page.
+pub(crate) const END: &str = "</body>\n</html>\n";
+
+/// What stands before the file of a desk.
+pub(crate) const DESK: &str = "<section>\n<h2 dir=\"auto\">";
+
+/// What stands behind the file of a desk, before its loans.
+pub(crate) const LOANS: &str = "</h2>\n";
+
+/// What stands behind the loans of a desk.
+pub(crate) const DESK_END: &str = "</details>\n</section>\n";
+
+/// What stands before the count of the loans that wait for this library.
+pub(crate) const WAITING: &str = "<h3>Waits for us today: ";
+
+/// What stands before the count of the loans that are open.
+pub(crate) const OPEN: &str = "<h3>Open loans: ";
+
+/// What stands behind a count, before the loans.
+pub(crate) const OPENING: &str = "</h3>\n";
+
+/// What stands before the count of the loans that are over.
+pub(crate) const OVER: &str = "<details>\n<summary>Over: ";
+
+/// What stands behind that count, before these loans.
+pub(crate) const FOLDED: &str = "</summary>\n";
+
+/// What stands in a chart before its messages: the two libraries, each with a line below it.
+pub(crate) const LIFELINES: &str = "\
+<text x=\"30\" y=\"14\">We</text><text x=\"290\" y=\"14\">Partner</text><path d=\"M30 20V7999M290 20V7999\"/>
+";
+
+/// What stands before the row of a message in a chart.
+pub(crate) const ROW: &str = "<g transform=\"translate(0 ";
+
+/// What stands behind the row of a message, before its name.
+pub(crate) const NAME: &str = ")\"><text x=\"160\" y=\"-6\">";
+
+/// What stands behind the name of a message: its arrow.
+pub(crate) const ARROW: &str = "</text><path d=\"M30 0H289m-8-5 8 5-8 5\"/></g>\n";

@@ -1,0 +1,124 @@
+//! The command `verify`.
+
+ghost use Rattle.std.specs.Prelude.{◌≡◌, ◌≤◌, ◌++◌, true, map, length, slice_get, IfOk, OnOk};
+ghost use Rattle.std.specs.Option.{option_to_list};
+ghost use Rattle.ill_saved.specs.Records2.{records_at};
+ghost use Rattle.ill_saved.specs.Sides.{most_sides};
+ghost use Rattle.ill_tool.specs.Performing.{CountsToolFailure};
+ghost use Rattle.ill_tool.specs.Output.{WritesText};
+ghost use Rattle.ill_tool.specs.Verify.{RunsVerify, Verifies, issued_by_all, verify_lines, version_of};
+
+use crate::fault::ToolFault;
+use crate::lines::{push_decimal, push_line};
+use crate::output::write_whole;
+use crate::status::role_name;
+use ill_saved::{DeskFault, SIDES_LIMIT, Side, Sides, Store, decode_record2};
+use ill_values::OutOfMemory;
+use std::alloc::Global;
+use std::io::Write;
+
+/// Writes what the record of a desk has that is in a store: five lines, which tell its version, its role, how many
+/// loans it has, how many messages these have issued, and for how many more loans there is room.
+///
+/// Nothing is saved. A store without a record is `NoRecord`, and bytes that are none are `Saved`.
+pub fn run_desk_verify<S: Store, W: Write>(
+    alloc: Global,
+    store: &mut S,
+    writer: &mut W,
+) -> Result<(), ToolFault>
+    ensures verifies { RunsVerify (S.is_honest store.old) (S.landed store.old)
+        (W.contents writer.old) (W.contents writer.new) result }
+    ensures unchanged { S.is_honest store.old ≡ true → S.landed store.new ≡ S.landed store.old }
+    ensures counted { CountsToolFailure result (S.failures store.old) (S.failures store.new) }
+{
+    match store.load(alloc) {
+        Ok(Some(bytes)) => verify_bytes(alloc, &bytes, writer),
+        Ok(None) => Err(ToolFault::Desk(DeskFault::NoRecord)),
+        Err(fault) => Err(DeskFault::from(fault).into()),
+    }
+}
+
+/// Writes what a record has that has these bytes.
+fn verify_bytes<W: Write>(alloc: Global, bytes: &[u8], writer: &mut W) -> Result<(), ToolFault>
+    ensures { Verifies bytes.now (records_at bytes.now)
+        (W.contents writer.old) (W.contents writer.new) result }
+{
+    match decode_record2(alloc, bytes) {
+        Ok(sides) => write_found(alloc, bytes, &sides, writer),
+        Err(fault) => Err(DeskFault::from(fault).into()),
+    }
+}
+
+/// Writes what a record has that has these bytes, and spells these sides.
+fn write_found<W: Write>(
+    alloc: Global,
+    bytes: &[u8],
+    sides: &Sides,
+    writer: &mut W,
+) -> Result<(), ToolFault>
+    ensures { WritesText (W.contents writer.old) (W.contents writer.new)
+        (verify_lines bytes.now sides.now) result }
+{
+    let mut lines = Vec::new(alloc);
+    push_found(&mut lines, bytes, sides)?;
+    write_whole(writer, &lines)
+}
+
+/// Adds what a record has that has these bytes, and spells these sides.
+#[tactic(auto, unfolding(crate::specs::Verify::verify_lines))]
+fn push_found(lines: &mut Vec<u8>, bytes: &[u8], sides: &Sides) -> Result<(), OutOfMemory>
+    ensures { OnOk result (lines.new.items ≡ lines.old.items ++ verify_lines bytes.now sides.now) }
+{
+    let loans = sides.len();
+    push_line(lines, "version", version(bytes))?;
+    push_line(lines, "role", role_name(sides.role()).as_bytes())?;
+    push_decimal(lines, "loans", loans)?;
+    let all = all_of(*lines.allocator(), sides)?;
+    push_decimal(lines, "messages", issued_by_all(&all))?;
+    push_decimal(lines, "room", SIDES_LIMIT.saturating_sub(loans))
+}
+
+/// The version of a record that was read.
+fn version(bytes: &[u8]) -> &'static [u8]
+    ensures { result.now ≡ version_of bytes.now }
+{
+    if bytes.starts_with(b"ILL1".as_slice()) {
+        b"1"
+    } else {
+        b"2"
+    }
+}
+
+/// All sides, in the order in which they were begun.
+fn all_of<'a>(alloc: Global, sides: &'a Sides) -> Result<Vec<&'a Side>, OutOfMemory>
+    ensures { IfOk result (λ all. map (λ side. side.now) all.items ≡ sides.now.sides) }
+{
+    let mut all = Vec::new(alloc);
+    for place in 0..sides.len() {
+        push_at(&mut all, sides, place)?;
+    }
+    Ok(all)
+}
+
+/// Adds the side at this place, if there is one.
+fn push_at<'a>(all: &mut Vec<&'a Side>, sides: &'a Sides, place: usize) -> Result<(), OutOfMemory>
+    ensures { OnOk result (map (λ side. side.now) all.new.items
+        ≡ map (λ side. side.now) all.old.items ++ option_to_list (slice_get sides.now.sides place)) }
+{
+    if let Some(side) = sides.at(place) {
+        all.push(side)?;
+    }
+    Ok(())
+}
+
+/// How many messages all sides have issued together.
+fn issued_by_all(sides: &[&Side]) -> usize
+    requires few { length sides.now ≤ most_sides }
+    ensures { result ≡ issued_by_all (map (λ side. side.now) sides.now) }
+{
+    let mut issued = 0;
+    for side in sides {
+        issued += usize::from(side.issued_count());
+    }
+    issued
+}

@@ -1,0 +1,5 @@
+use Rattle.ill_values.proofs.Names.{named_exactly}
+use Rattle.ill_values.proofs.laws.names_are_read.Goals as goal
+
+pub returns : goal.returns
+returns g c = named_exactly

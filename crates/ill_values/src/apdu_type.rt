@@ -1,0 +1,126 @@
+//! The types of APDU.
+
+ghost use Rattle.std.specs.Prelude.{◌≡◌, Some};
+ghost use Rattle.std.specs.Fmt.{padded};
+ghost use Rattle.ill_values.specs.declared.apdu.Body.{Body};
+ghost use Rattle.ill_values.specs.Types.{type_of, apdu_type_name, apdu_type_named};
+
+use crate::apdu::Body;
+use std::fmt;
+
+/// The fourteen types of APDU, in the order of their tags. A type is displayed by its name, as `ILL-Request`.
+#[derive(Clone, Copy, Debug, PartialEq, Eq, Hash)]
+pub enum ApduType {
+    /// ILL-Request.
+    IllRequest,
+    /// Shipped.
+    Shipped,
+    /// ILL-Answer.
+    IllAnswer,
+    /// Conditional-Reply.
+    ConditionalReply,
+    /// Cancel.
+    Cancel,
+    /// Cancel-Reply.
+    CancelReply,
+    /// Received.
+    Received,
+    /// Recall.
+    Recall,
+    /// Returned.
+    Returned,
+    /// Checked-In.
+    CheckedIn,
+    /// Overdue.
+    Overdue,
+    /// Renew.
+    Renew,
+    /// Renew-Answer.
+    RenewAnswer,
+    /// Expired.
+    Expired,
+}
+
+/// All types, in the order of their tags.
+const TYPES: [ApduType; 14] = [
+    ApduType::IllRequest,
+    ApduType::Shipped,
+    ApduType::IllAnswer,
+    ApduType::ConditionalReply,
+    ApduType::Cancel,
+    ApduType::CancelReply,
+    ApduType::Received,
+    ApduType::Recall,
+    ApduType::Returned,
+    ApduType::CheckedIn,
+    ApduType::Overdue,
+    ApduType::Renew,
+    ApduType::RenewAnswer,
+    ApduType::Expired,
+];
+
+impl ApduType {
+    /// The name of the type, as `ILL-Request`.
+    pub fn name(self) -> &'static str
+        ensures { result.now ≡ apdu_type_name self }
+    {
+        match self {
+            ApduType::IllRequest => "ILL-Request",
+            ApduType::Shipped => "Shipped",
+            ApduType::IllAnswer => "ILL-Answer",
+            ApduType::ConditionalReply => "Conditional-Reply",
+            ApduType::Cancel => "Cancel",
+            ApduType::CancelReply => "Cancel-Reply",
+            ApduType::Received => "Received",
+            ApduType::Recall => "Recall",
+            ApduType::Returned => "Returned",
+            ApduType::CheckedIn => "Checked-In",
+            ApduType::Overdue => "Overdue",
+            ApduType::Renew => "Renew",
+            ApduType::RenewAnswer => "Renew-Answer",
+            ApduType::Expired => "Expired",
+        }
+    }
+
+    /// The type with this name, if it is one.
+    pub fn read(text: &[u8]) -> Option<ApduType>
+        ensures { result ≡ apdu_type_named text.now }
+    {
+        TYPES
+            .iter()
+            .copied()
+            .find(|apdu_type| apdu_type.name().as_bytes() == text)
+    }
+
+    /// The type of a body.
+    pub fn of(body: &Body) -> ApduType
+        ensures { result ≡ type_of body.now }
+    {
+        match body {
+            Body::IllRequest { .. } => ApduType::IllRequest,
+            Body::Shipped { .. } => ApduType::Shipped,
+            Body::IllAnswer { .. } => ApduType::IllAnswer,
+            Body::ConditionalReply { .. } => ApduType::ConditionalReply,
+            Body::Cancel => ApduType::Cancel,
+            Body::CancelReply { .. } => ApduType::CancelReply,
+            Body::Received => ApduType::Received,
+            Body::Recall => ApduType::Recall,
+            Body::Returned => ApduType::Returned,
+            Body::CheckedIn => ApduType::CheckedIn,
+            Body::Overdue { .. } => ApduType::Overdue,
+            Body::Renew { .. } => ApduType::Renew,
+            Body::RenewAnswer { .. } => ApduType::RenewAnswer,
+            Body::Expired => ApduType::Expired,
+        }
+    }
+}
+
+impl fmt::Display for ApduType {
+    ghost output = { λ apdu_type. Some (apdu_type_name apdu_type) };
+
+    ghost styled_output = { λ apdu_type spec. Some (padded spec (apdu_type_name apdu_type)) };
+
+    fn fmt<W: fmt::Write>(&self, f: &mut fmt::Formatter<W>) -> fmt::Result {
+        f.pad(self.name())
+    }
+}

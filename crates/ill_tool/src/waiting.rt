@@ -16,7 +16,10 @@ use std::alloc::Global;
 pub(crate) fn deadline(side: &Side) -> Option<Day>
     ensures { result ≡ deadline_of side.now }
 {
-    side.due().or(expiry(side))
+    match side.due() {
+        None => expiry(side),
+        due => due,
+    }
 }
 
 /// The last day of the request of a loan.

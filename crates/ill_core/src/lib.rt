@@ -25,7 +25,7 @@ pub use requester::standing::Standing as RequesterStanding;
 pub use requester::{Requester, Wish};
 pub use responder::standing::Standing as ResponderStanding;
 pub use responder::{Deed, Responder};
-pub use state::State;
+pub use state::{STATES, State};
 pub use taking::Taking;
 pub use turn::Turn;
 pub use verb::Verb;

@@ -45,8 +45,8 @@ pub enum State {
     CheckedIn,
 }
 
-/// All states.
-const STATES: [State; 16] = [
+/// All states, in the order of this type's variants.
+pub const STATES: [State; 16] = [
     State::Idle,
     State::Pending,
     State::InProcess,

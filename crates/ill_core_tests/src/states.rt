@@ -1,31 +1,12 @@
 //! The roles, and the states with the two letters that stand for each.
 
-use ill_core::State;
+use ill_core::{STATES, State};
 
 #[derive(Clone, Copy)]
 pub enum Role {
     Requester,
     Responder,
 }
-
-const STATES: [State; 16] = [
-    State::Idle,
-    State::Pending,
-    State::InProcess,
-    State::Conditional,
-    State::CancelPending,
-    State::Cancelled,
-    State::NotSupplied,
-    State::Shipped,
-    State::Received,
-    State::RenewPending,
-    State::Overdue,
-    State::RenewOverdue,
-    State::NotReceivedOverdue,
-    State::Recall,
-    State::Returned,
-    State::CheckedIn,
-];
 
 pub fn letters_of(state: State) -> &'static str {
     match state {

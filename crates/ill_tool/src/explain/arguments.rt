@@ -5,31 +5,11 @@ use crate::explain::action::tell_action;
 use crate::explain::shown::Shown;
 use crate::explain::verbs::nearest;
 use clap::ArgMatches;
-use ill_core::State;
+use ill_core::{STATES, State};
 use ill_saved::LockFiles;
 use ill_values::{Day, DayFault, OutOfMemory, TextFault, TxnId};
 use ill_world::words::{number, who};
 use std::alloc::Global;
-
-/// The states that a list may name.
-const STATES: [State; 16] = [
-    State::Idle,
-    State::Pending,
-    State::InProcess,
-    State::Conditional,
-    State::CancelPending,
-    State::Cancelled,
-    State::NotSupplied,
-    State::Shipped,
-    State::Received,
-    State::RenewPending,
-    State::Overdue,
-    State::RenewOverdue,
-    State::NotReceivedOverdue,
-    State::Recall,
-    State::Returned,
-    State::CheckedIn,
-];
 
 /// Adds a line for each argument of a command that is none; where all are right, what is wrong in its action.
 pub fn tell_arguments<T: LockFiles>(

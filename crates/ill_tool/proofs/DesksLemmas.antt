@@ -1,6 +1,6 @@
 -- Desks that are listed one behind another.
 use Rattle.std.proofs.Common.{arith, ◌≡◌, ℕ, zero, suc, ◌+◌, ◌<◌, ◌++◌, Bool, true, false, List, [], ◌∷◌, length, map, take, get_or, Option, Ok, refl, ap, sym, subst, ◌∙◌, inl, inr, append_assoc, add-one}
-use Rattle.std.specs.Prelude.{◌==◌, codes}
+use Rattle.std.specs.Prelude.{◌==◌}
 use Rattle.std.specs.List.{flat_map, join_by}
 use Rattle.std.specs.Io.KnownBytes.{Appends}
 use Rattle.std.proofs.KnownBytes.{Appends-trans}
@@ -9,7 +9,9 @@ use Rattle.std.proofs.lemmas.List.{append-nil, map-append}
 use Rattle.std.proofs.lemmas.Grind.{flat_map-append}
 use Rattle.ill_saved.specs.declared.side.Side.{Side}
 use Rattle.ill_tool.specs.declared.list.Wanted.{Wanted}
-use Rattle.ill_tool.specs.List.{gap, heading, list_lines, desk_text, desks_text}
+use Rattle.ill_tool.specs.declared.form.Form.{Form}
+use Rattle.ill_tool.specs.declared.form.Form.TheVariants.{Lines, Json}
+use Rattle.ill_tool.specs.Listing.{between, listed_desk, listed_desks}
 use Rattle.ill_tool.specs.Commands.{are_several, ListsDesk}
 
 -- a list has no item
@@ -17,12 +19,17 @@ abbrev is_nothing : {X : Type 0} → List X → Bool
 is_nothing [] = true
 is_nothing (item ∷ items) = false
 
+-- What stands before a desk that is not the first stands between any two.
+lead : (form : Form) → between form true ≡ []
+lead Lines = refl
+lead Json = refl
+
 -- One text more is joined behind the others.
-joined_more : {X : Type 0} (text : X → List ℕ) (done : List X) (one : X)
-    → join_by text (codes "\n") (done ++ one ∷ []) ≡ join_by text (codes "\n") done ++ (gap (is_nothing done) ++ text one)
-joined_more text [] one = append-nil (text one)
-joined_more {X} text (first ∷ done) one =
-    let behind : X → List ℕ = λ item. codes "\n" ++ text item in
+joined_more : {X : Type 0} (form : Form) (text : X → List ℕ) (done : List X) (one : X)
+    → join_by text (between form false) (done ++ one ∷ []) ≡ join_by text (between form false) done ++ (between form (is_nothing done) ++ text one)
+joined_more form text [] one = append-nil (text one) ∙ ap (λ lead. lead ++ text one) (sym (lead form))
+joined_more {X} form text (first ∷ done) one =
+    let behind : X → List ℕ = λ item. between form false ++ text item in
     ap (λ more. text first ++ more) (flat_map-append behind done (one ∷ []) ∙ ap (λ more. flat_map behind done ++ more) (append-nil (behind one)))
     ∙ sym (append_assoc (text first) (flat_map behind done) (behind one))
 
@@ -40,24 +47,23 @@ first_listed (file ∷ files) (desk ∷ desks) zero within is = absurd cc
 first_listed (file ∷ files) (desk ∷ desks) (suc place) within is = sym (not_first place)
 
 -- With the desk at a place, one more of the desks in these files is listed.
-pub one_more : (wanted : Wanted) (files : List (List ℕ)) (desks : List (List ℕ × List Side)) (place : ℕ) (file : List ℕ) (is_headed is_first : Bool)
-    (before between after : Option (List ℕ)) (done : Unit {0})
+pub one_more : (form : Form) (wanted : Wanted) (files : List (List ℕ)) (desks : List (List ℕ × List Side)) (place : ℕ) (file : List ℕ) (is_headed is_first : Bool)
+    (before middle after : Option (List ℕ)) (done : Unit {0})
     → place < length files → file ≡ get_or files place file → is_headed ≡ are_several files → is_first ≡ (place == 0)
-    → map (λ (desk : List ℕ × List Side). desk.0) desks ≡ take place files → Appends before between (desks_text (are_several files) wanted desks)
-    → ListsDesk wanted (gap is_first ++ heading is_headed file) between after (Ok done)
-    → (desks : List (List ℕ × List Side)) × (map (λ (desk : List ℕ × List Side). desk.0) desks ≡ take (place + 1) files) × Appends before after (desks_text (are_several files) wanted desks)
-one_more wanted files desks place file is_headed is_first before between after done within at headed first listed so_far (inl shut) = absurd shut.0
-one_more wanted files desks place file is_headed is_first before between after done within at headed first listed so_far (inr (sides, written)) =
+    → map (λ (desk : List ℕ × List Side). desk.0) desks ≡ take place files → Appends before middle (listed_desks form (are_several files) wanted desks)
+    → ListsDesk form wanted is_first is_headed file middle after (Ok done)
+    → (desks : List (List ℕ × List Side)) × (map (λ (desk : List ℕ × List Side). desk.0) desks ≡ take (place + 1) files) × Appends before after (listed_desks form (are_several files) wanted desks)
+one_more form wanted files desks place file is_headed is_first before middle after done within at headed first listed so_far (inl shut) = absurd shut.0
+one_more form wanted files desks place file is_headed is_first before middle after done within at headed first listed so_far (inr (sides, written)) =
     let desk : List ℕ × List Side = (file, sides) in
     let path : List ℕ × List Side → List ℕ = λ desk. desk.0 in
-    let text = desk_text (are_several files) wanted in
+    let text : List ℕ × List Side → List ℕ = λ desk. listed_desk form (are_several files) wanted desk.0 desk.1 in
     let paths : map path (desks ++ desk ∷ []) ≡ take (place + 1) files =
     map-append path desks (desk ∷ []) ∙ ap (λ done. done ++ file ∷ []) listed ∙ ap (λ file. take place files ++ file ∷ []) at
     ∙ sym (take-suc files place file within) ∙ ap (λ count. take count files) (sym (add-one place)) in
-    let lead = first ∙ sym (first_listed files desks place within listed) in
-    let shown : (gap is_first ++ heading is_headed file) ++ list_lines wanted sides ≡ gap (is_nothing desks) ++ text desk =
-    append_assoc (gap is_first) (heading is_headed file) (list_lines wanted sides)
-    ∙ ap (λ (is_first : Bool). gap is_first ++ (heading is_headed file ++ list_lines wanted sides)) lead
-    ∙ ap (λ (is_headed : Bool). gap (is_nothing desks) ++ (heading is_headed file ++ list_lines wanted sides)) headed in
-    let joined = ap (λ more. desks_text (are_several files) wanted desks ++ more) shown ∙ sym (joined_more text desks desk) in
-    (desks ++ desk ∷ [], paths, subst (λ text. Appends before after text) joined (Appends-trans before between after _ _ so_far written))
+    let is_lead = first ∙ sym (first_listed files desks place within listed) in
+    let shown : between form is_first ++ listed_desk form is_headed wanted file sides ≡ between form (is_nothing desks) ++ text desk =
+    ap (λ (is_first : Bool). between form is_first ++ listed_desk form is_headed wanted file sides) is_lead
+    ∙ ap (λ (is_headed : Bool). between form (is_nothing desks) ++ listed_desk form is_headed wanted file sides) headed in
+    let joined = ap (λ more. listed_desks form (are_several files) wanted desks ++ more) shown ∙ sym (joined_more form text desks desk) in
+    (desks ++ desk ∷ [], paths, subst (λ text. Appends before after text) joined (Appends-trans before middle after _ _ so_far written))

@@ -5,7 +5,6 @@ pub mod KeepingLemmas
 pub mod ActLemmas
 pub mod StatusLemmas
 pub mod ListLemmas
-pub mod WaitingLemmas
 pub mod DesksLemmas
 pub mod EscapeLemmas
 pub mod LoanLemmas
@@ -16,4 +15,6 @@ pub mod LongLemmas
 pub mod RequestLemmas
 pub mod HtmlLemmas
 pub mod ReportLemmas
-pub mod VerifyLemmas
+pub mod SidesLemmas
+pub mod OrderLemmas
+pub mod WaitingLemmas

@@ -4,11 +4,6 @@ use Rattle.std.specs.Prelude.{filter}
 use Rattle.std.specs.List.{flat_map, join_by}
 use Rattle.std.proofs.lemmas.List.{append-nil}
 use Rattle.std.proofs.lemmas.List.Folds.{flat_map-map}
-use Rattle.ill_core.specs.declared.turn.Turn.{Turn}
-use Rattle.ill_saved.specs.declared.side.Side.{Side}
-use Rattle.ill_tool.specs.declared.row.Columns.{Columns}
-use Rattle.ill_tool.specs.declared.list.Wanted.{Wanted}
-use Rattle.ill_tool.specs.List.{is_listed, row, rows_of}
 
 -- Before a column one more space is left than behind it.
 pub one_space : (width place : ℕ) → place < width → replicate {A = ℕ} (width - place) 32 ≡ 32 ∷ replicate {A = ℕ} (width - (place + 1)) 32
@@ -19,16 +14,13 @@ pub joined_as_texts : {X : Type 0} (text : X → List ℕ) (between : List ℕ) 
 joined_as_texts text between [] = refl
 joined_as_texts text between (item ∷ items) = ap (λ more. text item ++ more) (sym (flat_map-map (λ t. between ++ t) text items))
 
--- The line of a side that is kept stands before those of the others.
-kept_first : (columns : Columns) (turn : Turn) (is_kept : Bool) (side : Side) (sides : List Side)
-    → flat_map (row columns turn) (cond is_kept (side ∷ sides) sides) ≡ flat_map (row columns turn) (cond is_kept (side ∷ []) []) ++ flat_map (row columns turn) sides
-kept_first columns turn true side sides = ap (λ line. line ++ flat_map (row columns turn) sides) (sym (append-nil (row columns turn side)))
-kept_first columns turn false side sides = refl
+-- The text of an item that is kept stands before those of the others.
+kept_first : {X : Type 0} (text : X → List ℕ) (is_kept : Bool) (item : X) (items : List X) → flat_map text (cond is_kept (item ∷ items) items) ≡ flat_map text (cond is_kept (item ∷ []) []) ++ flat_map text items
+kept_first text true item items = ap (λ first. first ++ flat_map text items) (sym (append-nil (text item)))
+kept_first text false item items = refl
 
--- The lines of a turn are those of each side by itself.
-pub rows_apart : (wanted : Wanted) (columns : Columns) (turn : Turn) (sides : List Side)
-    → rows_of wanted columns sides turn ≡ flat_map (λ (side : Side). rows_of wanted columns (side ∷ []) turn) sides
-rows_apart wanted columns turn [] = refl
-rows_apart wanted columns turn (side ∷ sides) =
-    kept_first columns turn (is_listed wanted turn side) side (filter (is_listed wanted turn) sides)
-    ∙ ap (λ lines. rows_of wanted columns (side ∷ []) turn ++ lines) (rows_apart wanted columns turn sides)
+-- The texts of those that are kept are that of each by itself.
+pub kept_apart : {X : Type 0} (text : X → List ℕ) (keeps : X → Bool) (items : List X) → flat_map text (filter keeps items) ≡ flat_map (λ (item : X). flat_map text (filter keeps (item ∷ []))) items
+kept_apart text keeps [] = refl
+kept_apart text keeps (item ∷ items) =
+    kept_first text (keeps item) item (filter keeps items) ∙ ap (λ more. flat_map text (filter keeps (item ∷ [])) ++ more) (kept_apart text keeps items)

@@ -1,6 +1,5 @@
--- The loans of a shelf, one behind another.
-use Rattle.std.proofs.Common.{◌≡◌, ℕ, Bool, true, false, cond, List, [], ◌∷◌, ◌++◌, refl, ap, sym, ◌∙◌, append_assoc}
-use Rattle.std.specs.Prelude.{filter}
+-- What a page tells of desks, one behind another.
+use Rattle.std.proofs.Common.{◌≡◌, ℕ, List, [], ◌∷◌, ◌++◌, ap, sym, ◌∙◌, append_assoc}
 use Rattle.std.specs.List.{flat_map}
 use Rattle.std.proofs.lemmas.List.{append-nil}
 use Rattle.std.proofs.lemmas.Grind.{flat_map-append}
@@ -8,17 +7,6 @@ use Rattle.ill_values.specs.Day.{Date}
 use Rattle.ill_saved.specs.declared.side.Side.{Side}
 use Rattle.ill_tool.specs.declared.report_parts.TheConstants.{END}
 use Rattle.ill_tool.specs.Report.{AddsDesks, desk_text, page_head, report_page}
-
--- The text of an item that is kept stands before those of the others.
-kept_first : {X : Type 0} (text : X → List ℕ) (is_kept : Bool) (item : X) (items : List X) → flat_map text (cond is_kept (item ∷ items) items) ≡ flat_map text (cond is_kept (item ∷ []) []) ++ flat_map text items
-kept_first text true item items = ap (λ first. first ++ flat_map text items) (sym (append-nil (text item)))
-kept_first text false item items = refl
-
--- The texts of those that are kept are that of each by itself.
-pub kept_apart : {X : Type 0} (text : X → List ℕ) (keeps : X → Bool) (items : List X) → flat_map text (filter keeps items) ≡ flat_map (λ (item : X). flat_map text (filter keeps (item ∷ []))) items
-kept_apart text keeps [] = refl
-kept_apart text keeps (item ∷ items) =
-    kept_first text (keeps item) item (filter keeps items) ∙ ap (λ more. flat_map text (filter keeps (item ∷ [])) ++ more) (kept_apart text keeps items)
 
 -- Behind a page nothing stands that was not added.
 pub no_desks : (today : Date) (before : List ℕ) → AddsDesks today before before

@@ -9,7 +9,7 @@ use Rattle.ill_saved.specs.Sides.{are_apart}
 use Rattle.ill_saved.specs.Many.{Held, Holding, held_for, sides_held}
 use Rattle.ill_saved.proofs.Finding.{some_is}
 use Rattle.ill_tool.specs.declared.form.Form.{Form}
-use Rattle.ill_tool.specs.Objects.{desk_text, status_text, text_of_one}
+use Rattle.ill_tool.specs.Objects.{status_of_desk, status_text, text_of_one}
 use Rattle.ill_tool.specs.Status.{spaced_or_dash}
 use Rattle.ill_tool.proofs.KeepingLemmas.{held_at_place}
 
@@ -25,7 +25,7 @@ joined_by_spaces text (word ∷ words) some = ap (λ (more : List ℕ). text wor
 -- ---- one side after another
 
 -- The text of the sides from a place on is that of the one there, and of the others.
-pub one_further : (form : Form) (sides : List Held) (place : ℕ) → desk_text form (drop place sides) ≡ text_of_one form (slice_get sides place) ++ desk_text form (drop (suc place) sides)
+pub one_further : (form : Form) (sides : List Held) (place : ℕ) → status_of_desk form (drop place sides) ≡ text_of_one form (slice_get sides place) ++ status_of_desk form (drop (suc place) sides)
 one_further form [] zero = refl
 one_further form [] (suc place) = refl
 one_further form (held ∷ sides) zero = refl

@@ -1,36 +1,64 @@
--- Loans by their deadlines, one placed before another.
-use Rattle.std.proofs.Common.{◌≡◌, ℕ, zero, suc, List, [], ◌∷◌, length, map, drop, Option, Bor, refl, ap, sym, ◌∙◌}
-use Rattle.std.specs.Prelude.{slice_get, position, insert, unwrap_or}
-use Rattle.std.specs.Option.{option_map_or}
-use Rattle.std.proofs.lemmas.List.{length-map}
+-- What a stable sort by deadlines makes of loans.
+use Rattle.std.proofs.Common.{arith, ◌≡◌, Bool, true, false, List, map, is_none, Option, Some, None, Bor, refl, ap, subst, ◌∙◌, is_lt}
+use Rattle.std.proofs.lemmas.Bool.Decides.{nat_tests}
+use Rattle.std.specs.Cmp.{IsStrictWeakOrder}
+use Rattle.std.specs.List.Sorted.{IsSortedBy, IsStableBy}
+use Rattle.std.specs.Ordering.{ordering_then, bool_cmp}
+use Rattle.std.specs.Option.{option_cmp}
+use Rattle.std.specs.declared.cmp.Ordering.{Ordering}
 use Rattle.ill_values.specs.Day.{Date}
+use Rattle.ill_core.specs.Dates.{is_before}
 use Rattle.ill_saved.specs.declared.side.Side.{Side}
-use Rattle.ill_saved.proofs.Finding.{position_mapped}
-use Rattle.ill_tool.specs.Waiting.{deadline_of, is_no_sooner, placed, most_urgent_first}
+use Rattle.ill_tool.specs.Waiting.{deadline_of, is_sooner, is_more_urgent, most_urgent_first}
+use Rattle.ill_tool.proofs.OrderLemmas.{ordered_mapped, sorted_is_ordered}
 
--- The loans from a place on are those behind it, with the one there placed among them.
-pub one_placed : (sides : List Side) (place : ℕ)
-    → option_map_or (λ side. placed side (most_urgent_first (drop (suc place) sides))) (slice_get sides place) (most_urgent_first (drop (suc place) sides))
-    ≡ most_urgent_first (drop place sides)
-one_placed [] zero = refl
-one_placed [] (suc place) = refl
-one_placed (side ∷ sides) zero = refl
-one_placed (side ∷ sides) (suc place) = one_placed sides place
+-- Of two days not both come before the other.
+before_one_way : (a b : Date) → is_before a b ≡ true → is_before b a ≡ false
+before_one_way a b first = grind (arith, nat_tests)
 
--- What items become goes where they go.
-pub inserted_mapped : {X Y : Type 0} (f : X → Y) (items : List X) (place : ℕ) (item : X) → map f (insert items place item) ≡ insert (map f items) place (f item)
-inserted_mapped f [] zero item = refl
-inserted_mapped f [] (suc place) item = refl
-inserted_mapped f (first ∷ items) zero item = refl
-inserted_mapped f (first ∷ items) (suc place) item = ap (λ rest. f first ∷ rest) (inserted_mapped f items place item)
+-- A day that does not come before another does not come before one before which that does not come.
+before_chain : (a b c : Date) → is_before a b ≡ false → is_before b c ≡ false → is_before a c ≡ false
+before_chain a b c first second = grind (arith, nat_tests)
 
--- A loan goes before the first of these whose deadline is no sooner.
-pub place_found : (side : Side) (items : List (Bor Side)) (day : Option Date) (found : Option ℕ) (count place : ℕ) → day ≡ deadline_of side
-    → found ≡ position (λ (other : Bor Side). is_no_sooner day other.now) items → count ≡ length items → place ≡ unwrap_or found count
-    → place ≡ unwrap_or (position (is_no_sooner (deadline_of side)) (map (λ (other : Bor Side). other.now) items)) (length (map (λ (other : Bor Side). other.now) items))
-place_found side items day found count place of_side first all at =
-    let now : Bor Side → Side = λ other. other.now in
-    let mapped =
-    first ∙ ap (λ (day : Option Date). position (λ (other : Bor Side). is_no_sooner day other.now) items) of_side ∙ sym (position_mapped (is_no_sooner (deadline_of side)) now items) in
-    at ∙ ap (λ (found : Option ℕ). unwrap_or found count) mapped
-    ∙ ap (λ count. unwrap_or (position (is_no_sooner (deadline_of side)) (map now items)) count) (all ∙ sym (length-map items now))
+-- Of two deadlines not both come before the other.
+sooner_one_way : (a b : Option Date) → is_sooner a b ≡ true → is_sooner b a ≡ false
+sooner_one_way None b first = cc
+sooner_one_way (Some a) None first = refl
+sooner_one_way (Some a) (Some b) first = before_one_way a b first
+
+-- A deadline that does not come before another does not come before one before which that does not come.
+sooner_chain : (a b c : Option Date) → is_sooner a b ≡ false → is_sooner b c ≡ false → is_sooner a c ≡ false
+sooner_chain None b c first second = refl
+sooner_chain (Some a) None c first second = cc
+sooner_chain (Some a) (Some b) None first second = cc
+sooner_chain (Some a) (Some b) (Some c) first second = before_chain a b c first second
+
+-- Loans are in an order by their deadlines.
+urgency_order : IsStrictWeakOrder (λ (side other : Bor Side). is_more_urgent side.now other.now)
+urgency_order = record {
+  one_way = λ side other. sooner_one_way (deadline_of side.now) (deadline_of other.now);
+  chain = λ side other third. sooner_chain (deadline_of side.now) (deadline_of other.now) (deadline_of third.now);
+}
+
+-- the keys of deadlines are in order
+abbrev by_keys : (Date → Date → Ordering) → Option Date → Option Date → Bool
+by_keys cmp a b = is_lt (ordering_then (bool_cmp (is_none a) (is_none b)) (option_cmp cmp a b))
+
+-- The keys of deadlines are in the order of the deadlines.
+by_keys_is : (cmp : Date → Date → Ordering) → ((a b : Date) → is_lt (cmp a b) ≡ is_before a b) → (a b : Option Date) → by_keys cmp a b ≡ is_sooner a b
+by_keys_is cmp same None None = refl
+by_keys_is cmp same None (Some b) = refl
+by_keys_is cmp same (Some a) None = refl
+by_keys_is cmp same (Some a) (Some b) = same a b
+
+-- What a stable sort by the keys of their deadlines makes of loans is they with the most urgent first.
+pub sorted_by_urgency : (cmp : Date → Date → Ordering) → ((a b : Date) → is_lt (cmp a b) ≡ is_before a b) → (sides sorted : List (Bor Side))
+    → IsSortedBy (λ (side other : Bor Side). by_keys cmp (deadline_of side.now) (deadline_of other.now)) sorted
+    → IsStableBy (λ (side other : Bor Side). by_keys cmp (deadline_of side.now) (deadline_of other.now)) sides sorted
+    → map (λ (side : Bor Side). side.now) sorted ≡ most_urgent_first (map (λ (side : Bor Side). side.now) sides)
+sorted_by_urgency cmp same sides sorted rises stays =
+    let now : Bor Side → Side = λ side. side.now in
+    ap (map now) (sorted_is_ordered (λ (side other : Bor Side). is_more_urgent side.now other.now) urgency_order sides sorted
+    (subst (λ (lt : Bor Side → Bor Side → Bool). IsSortedBy lt sorted) (λ i side other. by_keys_is cmp same (deadline_of side.now) (deadline_of other.now) i) rises)
+    (subst (λ (lt : Bor Side → Bor Side → Bool). IsStableBy lt sides sorted) (λ i side other. by_keys_is cmp same (deadline_of side.now) (deadline_of other.now) i) stays))
+    ∙ ordered_mapped now is_more_urgent sides

@@ -113,7 +113,7 @@ pub data Asked : Type 0 where
   Act : (file : List ℕ) → (txn : Qualifiers) → (today : Option Date) → (words : List (List ℕ)) → Asked
   Take : (file : List ℕ) → (is_long is_kept : Bool) → Asked
   Send : (file : List ℕ) → (txn : Qualifiers) → (number : ℕ) → Asked
-  Listing : (paths : List (List ℕ)) → (wanted : Wanted) → Asked
+  Listing : (paths : List (List ℕ)) → (wanted : Wanted) → (form : Form) → Asked
   Status : (file : List ℕ) → (form : Form) → Asked
   Loan : (file : List ℕ) → (txn : Qualifiers) → (form : Form) → (is_picture : Bool) → Asked
   Report : (paths : List (List ℕ)) → (today : Date) → Asked
@@ -129,7 +129,7 @@ asked (requests.New file role) = New file.now role
 asked (requests.Act file txn today words) = Act file.now txn today (map (λ word. word.now) words.items)
 asked (requests.Take file is_long is_kept) = Take file.now is_long is_kept
 asked (requests.Send file txn number) = Send file.now txn number
-asked (requests.List paths wanted) = Listing (map (λ path. path.now) paths.items) wanted
+asked (requests.List paths wanted form) = Listing (map (λ path. path.now) paths.items) wanted form
 asked (requests.Status file form) = Status file.now form
 asked (requests.Loan file txn form is_picture) = Loan file.now txn form is_picture
 asked (requests.Report paths today) = Report (map (λ path. path.now) paths.items) today
@@ -165,7 +165,7 @@ asked_of names.Send found = do
 asked_of names.List found = do
   paths ← texts_of Paths found
   wanted ← wanted_of found
-  Some (Listing paths wanted)
+  Some (Listing paths wanted (form_of found))
 asked_of names.Status found = do
   file ← text_of File found
   Some (Status file (form_of found))

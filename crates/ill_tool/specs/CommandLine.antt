@@ -25,7 +25,7 @@ word_of SimulateDesks = codes "simulate-desks"
 -- the command that a word stands for
 abbrev pub name_read : List ℕ → Option Name
 name_read word = find (λ name. bytes_eq (word_of name) word)
-    (New ∷ Act ∷ Take ∷ Send ∷ names.List ∷ Status ∷ Loan ∷ Report ∷ Verify ∷ Show ∷ Check ∷ Simulate ∷ SimulateDesks ∷ [])
+    (New ∷ Act ∷ names.List ∷ Loan ∷ Status ∷ Report ∷ Take ∷ Send ∷ Verify ∷ Show ∷ Check ∷ Simulate ∷ SimulateDesks ∷ [])
 
 -- what an argument is called
 abbrev pub id_of : Argument → List ℕ

@@ -21,16 +21,14 @@ use Rattle.ill_tool.specs.Act.{RunsAct}
 use Rattle.ill_tool.specs.Telling.{wording}
 use Rattle.ill_tool.specs.Take.{RunsTaking}
 use Rattle.ill_tool.specs.Send.{RunsSend}
-use Rattle.ill_tool.specs.Loan.{RunsLoan}
 use Rattle.ill_tool.specs.Kept.{RunsKeptLoan}
 use Rattle.ill_tool.specs.Picture.{drawn_or_shown}
 use Rattle.ill_tool.specs.Verify.{VerifiesLoaded}
 use Rattle.ill_tool.specs.declared.list.Wanted.{Wanted}
-use Rattle.ill_tool.specs.List.{list_lines, desks_text}
+use Rattle.ill_tool.specs.Listing.{between, listed_desk, listed_desks}
 use Rattle.ill_tool.specs.Report.{report_page}
 use Rattle.ill_tool.specs.declared.form.Form.{Form}
-use Rattle.ill_tool.specs.declared.form.Form.TheVariants.{Json, Lines}
-use Rattle.ill_tool.specs.Objects.{desk_text, loan_text}
+use Rattle.ill_tool.specs.Objects.{status_of_desk}
 use Rattle.ill_tool.specs.Asked.{Asked}
 use Rattle.ill_tool.specs.Asked as asks
 
@@ -84,44 +82,43 @@ SendsAtFile txn number before after result =
 abbrev pub ShowsFile : Form → Option (List ℕ) → Option (List ℕ) → Result Bool ToolFault → Type 0
 ShowsFile form before after result =
     IsShut before after result
-    ⊎ ((held : List Held) × GoesWell (WritesText before after (desk_text form held)) result)
+    ⊎ ((held : List Held) × GoesWell (WritesText before after (status_of_desk form held)) result)
 
--- the sides of a desk that are wanted were listed behind a heading
-abbrev pub ListsDesk : Wanted → List ℕ → Option (List ℕ) → Option (List ℕ) → Result (Unit {0}) ToolFault → Type 0
-ListsDesk wanted heading before after result =
+-- the sides of a desk that are wanted were listed, as the first desk or behind another
+abbrev pub ListsDesk : Form → Wanted → (is_first is_headed : Bool) → List ℕ → Option (List ℕ) → Option (List ℕ) →
+    Result (Unit {0}) ToolFault → Type 0
+ListsDesk form wanted is_first is_headed path before after result =
     IsShut before after result
-    ⊎ ((sides : List Side) × WritesText before after (heading ++ list_lines wanted sides) result)
+    ⊎ ((sides : List Side)
+    × WritesText before after (between form is_first ++ listed_desk form is_headed wanted path sides) result)
 
 -- several desks are listed
 abbrev pub are_several : List (List ℕ) → Bool
 are_several files = nat_lt 1 (length files)
 
 -- The desks in these files were listed, one behind another; or some of them, and the next was not.
-abbrev pub ListsDesks : Wanted → List (List ℕ) → Option (List ℕ) → Option (List ℕ) →
+abbrev pub ListsDesks : Form → Wanted → List (List ℕ) → Option (List ℕ) → Option (List ℕ) →
     Result (Unit {0}) ToolFault → Type 0
-ListsDesks wanted files before after (Ok done) =
+ListsDesks form wanted files before after (Ok done) =
     (desks : List (List ℕ × List Side)) × (map (λ desk. desk.0) desks ≡ files)
-    × Appends before after (desks_text (are_several files) wanted desks)
-ListsDesks wanted files before after (Err fault) =
-    (desks : List (List ℕ × List Side)) × (between : Option (List ℕ)) × (heading : List ℕ)
-    × Appends before between (desks_text (are_several files) wanted desks)
-    × ListsDesk wanted heading between after (Err fault)
+    × Appends before after (listed_desks form (are_several files) wanted desks)
+ListsDesks form wanted files before after (Err fault) =
+    (desks : List (List ℕ × List Side)) × (middle : Option (List ℕ)) × (is_first : Bool) × (is_headed : Bool)
+    × (path : List ℕ) × Appends before middle (listed_desks form (are_several files) wanted desks)
+    × ListsDesk form wanted is_first is_headed path middle after (Err fault)
 
 -- the desks at paths were listed: those in these files
-abbrev pub ListsPaths : Wanted → Option (List ℕ) → Option (List ℕ) → Result Bool ToolFault → Type 0
-ListsPaths wanted before after result =
+abbrev pub ListsPaths : Form → Wanted → Option (List ℕ) → Option (List ℕ) → Result Bool ToolFault → Type 0
+ListsPaths form wanted before after result =
     IsShut before after result
-    ⊎ ((files : List (List ℕ)) × GoesWell (ListsDesks wanted files before after) result)
+    ⊎ ((files : List (List ℕ)) × GoesWell (ListsDesks form wanted files before after) result)
 
--- This transaction at a desk was written as an object; or it was shown, or drawn, with the messages that came.
+-- this transaction at a desk was shown, or drawn, with the messages that came
 abbrev pub LoanAtFile : Form → Bool → Qualifiers → Option (List ℕ) → Option (List ℕ) → Result Bool ToolFault → Type 0
-LoanAtFile Json is_picture txn before after result =
-    IsShut before after result
-    ⊎ ((held : List Held) × GoesWell (RunsLoan (loan_text Json) (found_by txn_held txn held) before after) result)
-LoanAtFile Lines is_picture txn before after result =
+LoanAtFile form is_picture txn before after result =
     IsShut before after result
     ⊎ ((held : List Held) × (came : List ℕ)
-    × GoesWell (RunsKeptLoan (drawn_or_shown is_picture) (found_by txn_held txn held) came before after) result)
+    × GoesWell (RunsKeptLoan (drawn_or_shown form is_picture) (found_by txn_held txn held) came before after) result)
 
 -- what the record in a file has was written, or the fault of what its store gave
 abbrev pub VerifiesFile : Option (List ℕ) → Option (List ℕ) → Result Bool ToolFault → Type 0
@@ -151,8 +148,8 @@ Runs (asks.Take file is_long is_kept) left rest before after result =
     TakesAtFile is_kept is_long left rest before after result
 Runs (asks.Send file txn number) left rest before after result =
     (rest ≡ left) × SendsAtFile txn number before after result
-Runs (asks.Listing paths wanted) left rest before after result =
-    (rest ≡ left) × ListsPaths wanted before after result
+Runs (asks.Listing paths wanted form) left rest before after result =
+    (rest ≡ left) × ListsPaths form wanted before after result
 Runs (asks.Status file form) left rest before after result = (rest ≡ left) × ShowsFile form before after result
 Runs (asks.Loan file txn form is_picture) left rest before after result =
     (rest ≡ left) × LoanAtFile form is_picture txn before after result

@@ -56,9 +56,10 @@ is_marked byte = (byte == 0x22) || (byte == 0x5C)
 abbrev pub is_control : ℕ → Bool
 is_control byte = nat_lt byte 0x20 || (byte == 0x7F)
 
--- a byte that is none of a character that a terminal may act on
+-- A byte that is none of a character behind ASCII on which a terminal may act. A control character of ASCII, which a
+-- path may have, is written as an escape.
 abbrev pub byte_text : Escaping → ℕ → List ℕ
-byte_text Screen byte = byte ∷ []
+byte_text Screen byte = if is_control byte then escape Screen byte else byte ∷ []
 byte_text Json byte =
     if is_marked byte then 0x5C ∷ byte ∷ [] else (if is_control byte then escape Json byte else byte ∷ [])
 
@@ -76,7 +77,7 @@ written escaping (first ∷ second ∷ []) =
 written escaping (first ∷ []) = byte_text escaping first
 written escaping [] = []
 
--- the text for a screen: all else stays, byte for byte
+-- the text of an item or of a path for a screen: all else stays, byte for byte
 abbrev pub escaped : List ℕ → List ℕ
 escaped text = written Screen text
 

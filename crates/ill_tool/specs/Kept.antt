@@ -13,7 +13,10 @@ use Rattle.ill_saved.specs.Many.{Held}
 use Rattle.ill_saved.specs.declared.fault.DeskFault.TheVariants.{NoSuchTransaction}
 use Rattle.ill_tool.specs.declared.fault.ToolFault.{ToolFault}
 use Rattle.ill_tool.specs.declared.fault.ToolFault.TheVariants.{Desk, OutOfMemory}
+use Rattle.ill_tool.specs.declared.form.Form.{Form}
+use Rattle.ill_tool.specs.declared.form.Form.TheVariants.{Lines, Json}
 use Rattle.ill_tool.specs.Loan.{loan_lines, marked_lines}
+use Rattle.ill_tool.specs.Objects.{object_line, loan_fields, came_fields}
 use Rattle.ill_tool.specs.Output.{WritesText}
 
 -- ---- which messages
@@ -42,6 +45,11 @@ kept_of txn came = fold (with_new txn) [] came
 -- all lines of a loan, and behind them those of the messages that came
 abbrev pub kept_lines : Held → List Apdu → List ℕ
 kept_lines held kept = loan_lines held.side held.released ++ flat_map (marked_lines (codes "came") true) kept
+
+-- a loan and the messages that came, in lines, or in an object
+abbrev pub kept_text : Form → Held → List Apdu → List ℕ
+kept_text Lines = kept_lines
+kept_text Json = λ held kept. object_line (loan_fields held.side held.released ++ came_fields kept)
 
 -- The text of the messages was written that these bytes have; or memory ran out for them.
 abbrev pub WritesKept : (List Apdu → List ℕ) → Qualifiers → List ℕ → Option (List ℕ) → Option (List ℕ) →

@@ -25,6 +25,7 @@ pub mod List
 pub mod Html
 pub mod Report
 pub mod Objects
+pub mod Listing
 pub mod New
 pub mod ExitStatus
 pub mod CommandLine

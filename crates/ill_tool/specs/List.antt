@@ -1,6 +1,6 @@
--- The command `list`: a line for each loan, those first that wait for this library, and a line that counts them.
-use Rattle.std.specs.Prelude.{ℕ, ◌-◌, max, Bool, true, false, ◌&&◌, List, [], ◌∷◌, ◌++◌, length, fold, filter, count_by, replicate, Option, Some, None, codes}
-use Rattle.std.specs.List.{flat_map, join_by}
+-- The loans that `list` lists, the line of each, and the line that counts all.
+use Rattle.std.specs.Prelude.{ℕ, ◌-◌, max, Bool, true, false, ◌&&◌, List, [], ◌∷◌, ◌++◌, length, fold, count_by, replicate, Option, Some, None, codes}
+use Rattle.std.specs.List.{join_by}
 use Rattle.std.specs.Fmt.{decimal}
 use Rattle.ill_values.specs.Day.{Date}
 use Rattle.ill_values.specs.declared.apdu.Apdu.{Apdu}
@@ -18,10 +18,11 @@ use Rattle.ill_world.specs.Trace.{due_text}
 use Rattle.ill_tool.specs.declared.list.Which.{Which}
 use Rattle.ill_tool.specs.declared.list.Which.TheVariants.{All, Open, Mine}
 use Rattle.ill_tool.specs.declared.list.Wanted.{Wanted}
+use Rattle.ill_tool.specs.declared.list.Counts.{Counts}
 use Rattle.ill_tool.specs.declared.row.Columns.{Columns}
 use Rattle.ill_tool.specs.Escape.{escaped}
 use Rattle.ill_tool.specs.Loan.{turn_word, request_of}
-use Rattle.ill_tool.specs.Waiting.{is_turn, is_sooner, turn_on, most_urgent_first}
+use Rattle.ill_tool.specs.Waiting.{is_turn, is_sooner, turn_on}
 
 -- ---- which loans are listed
 
@@ -68,7 +69,7 @@ title_text (Some item) = escaped item
 unfoldable pub padded : ℕ → List ℕ → List ℕ
 padded width text = text ++ replicate (width - length text) 32
 
--- the same, and two spaces before the next column
+-- a padded text, and two spaces before the next column
 abbrev pub cell : ℕ → List ℕ → List ℕ
 cell width text = padded width text ++ codes "  "
 
@@ -76,7 +77,7 @@ cell width text = padded width text ++ codes "  "
 abbrev pub widest : (Side → List ℕ) → List Side → ℕ
 widest text sides = fold (λ width side. max width (length (text side))) 0 sides
 
--- Where this library's loans alone are listed, a column has what it may do now.
+-- If the loans alone are listed that wait for this library, a column has what it may do now.
 abbrev pub has_verbs : Which → Bool
 has_verbs All = false
 has_verbs Open = false
@@ -95,7 +96,7 @@ abbrev pub verbs_text : Side → List ℕ
 verbs_text side = join_by verb_name (codes ",") (verbs_of side)
 
 abbrev pub verbs_cell : Bool → Side → List ℕ
-verbs_cell true side = cell 18 (verbs_text side)
+verbs_cell true side = cell 20 (verbs_text side)
 verbs_cell false side = []
 
 -- the line of a side whose turn is this: its columns, and its title
@@ -106,7 +107,7 @@ row columns turn side =
     ++ cell columns.transaction (txn_of side).transaction ++ verbs_cell columns.has_verbs side
     ++ title_text (item_asked (request_of side)) ++ codes "\n"
 
--- ---- all lines
+-- ---- which loans have a line
 
 abbrev pub has_turn : Option Date → Turn → Side → Bool
 has_turn today turn side = is_turn turn (turn_on today side)
@@ -115,47 +116,23 @@ has_turn today turn side = is_turn turn (turn_on today side)
 abbrev pub is_listed : Wanted → Turn → Side → Bool
 is_listed wanted turn side = has_turn wanted.today turn side && is_wanted wanted side
 
--- the lines of those that are listed whose turn it is, in their order
-abbrev pub rows_of : Wanted → Columns → List Side → Turn → List ℕ
-rows_of wanted columns sides turn = flat_map (row columns turn) (filter (is_listed wanted turn) sides)
+-- ---- counts
 
 abbrev pub count_of : Option Date → Turn → List Side → ℕ
 count_of today turn sides = count_by (has_turn today turn) sides
 
--- how many sides there are, how many of them are not over, how many wait for this library, and for how many more
+-- how many loans there are, how many of them are not over, how many wait for this library, and for how many more
 -- there is room
-unfoldable pub counts_line : Option Date → List Side → List ℕ
-counts_line today sides =
-    codes "loans " ++ decimal (length sides)
-    ++ codes ", open " ++ decimal (length sides - count_of today turns.Over sides)
-    ++ codes ", mine " ++ decimal (count_of today turns.Mine sides)
-    ++ codes ", room for " ++ decimal (most_sides - length sides) ++ codes "\n"
+abbrev pub counts_of : Option Date → List Side → Counts
+counts_of today sides = record {
+  loans = length sides;
+  open_loans = length sides - count_of today turns.Over sides;
+  mine = count_of today turns.Mine sides;
+  room = most_sides - length sides;
+}
 
--- the lines of the sides that are listed, and the one that counts all
-abbrev pub ordered_lines : Wanted → List Side → List ℕ
-ordered_lines wanted sides =
-    flat_map (rows_of wanted (columns_of (has_verbs wanted.which) sides) sides) (turns_of wanted.which)
-    ++ counts_line wanted.today sides
-
--- the same, with the most urgent first of those whose turn it is
-abbrev pub list_lines : Wanted → List Side → List ℕ
-list_lines wanted sides = ordered_lines wanted (most_urgent_first sides)
-
--- ---- several desks
-
--- the empty line before a desk in a list, behind another one
-abbrev pub gap : Bool → List ℕ
-gap true = []
-gap false = codes "\n"
-
--- the line of the path of a desk, where several are listed
-abbrev pub heading : Bool → List ℕ → List ℕ
-heading false path = []
-heading true path = escaped path ++ codes ":\n"
-
--- desks of these paths, one behind another, with an empty line between each and the next
-abbrev pub desk_text : Bool → Wanted → List ℕ × List Side → List ℕ
-desk_text is_headed wanted desk = heading is_headed desk.0 ++ list_lines wanted desk.1
-
-abbrev pub desks_text : Bool → Wanted → List (List ℕ × List Side) → List ℕ
-desks_text is_headed wanted desks = join_by (desk_text is_headed wanted) (codes "\n") desks
+-- the line of counts
+unfoldable pub counts_line : Counts → List ℕ
+counts_line counts =
+    codes "loans " ++ decimal counts.loans ++ codes ", open " ++ decimal counts.open_loans
+    ++ codes ", mine " ++ decimal counts.mine ++ codes ", room for " ++ decimal counts.room ++ codes "\n"

@@ -82,8 +82,8 @@ unfoldable pub loan_lines : Side → ℕ → List ℕ
 loan_lines side released =
     side_lines side released ++ flat_map (message_lines released) (issued_of side)
 
--- The command: the text of the side, if one is held.
-abbrev pub RunsLoan : (Side → ℕ → List ℕ) → Option Held → Option (List ℕ) → Option (List ℕ) → Result (Unit {0}) ToolFault → Type 0
-RunsLoan text None before after result = (result ≡ Err (Desk NoSuchTransaction)) × Appends before after []
-RunsLoan text (Some held) before after result =
-    WritesText before after (text held.side held.released) result
+-- The command: the lines of the side, if one is held.
+abbrev pub RunsLoan : Option Held → Option (List ℕ) → Option (List ℕ) → Result (Unit {0}) ToolFault → Type 0
+RunsLoan None before after result = (result ≡ Err (Desk NoSuchTransaction)) × Appends before after []
+RunsLoan (Some held) before after result =
+    WritesText before after (loan_lines held.side held.released) result

@@ -3,8 +3,7 @@ use Rattle.std.specs.Prelude.{ℕ, Bool, true, false, ◌==◌, List, [], ◌∷
 use Rattle.std.specs.Fmt.{decimal}
 use Rattle.ill_values.specs.declared.apdu.Apdu.{Apdu}
 use Rattle.ill_values.specs.Types.{type_name}
-use Rattle.ill_tool.specs.Escape.{escaped}
-use Rattle.ill_tool.specs.Lines.{field_lines}
+use Rattle.ill_tool.specs.Lines.{shown_fields}
 
 -- a word, and the space behind it
 abbrev pub word : List ℕ → List ℕ
@@ -30,4 +29,4 @@ indented text = indented_on true text
 
 -- what it said: the lines of its further fields, on none of which a terminal acts
 abbrev pub said : Apdu → List ℕ
-said a = indented (escaped (field_lines a.body))
+said a = indented (shown_fields a.body)

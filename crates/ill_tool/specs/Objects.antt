@@ -8,6 +8,7 @@ use Rattle.ill_values.specs.declared.apdu.Body.{Body}
 use Rattle.ill_values.specs.declared.apdu.Body.TheVariants.{IllRequest, IllAnswer, ConditionalReply, Cancel, CancelReply, Shipped, Received, Recall, Returned, CheckedIn, Overdue, Renew, RenewAnswer, Expired}
 use Rattle.ill_values.specs.Results.{result_name}
 use Rattle.ill_values.specs.Types.{type_name}
+use Rattle.ill_core.specs.declared.turn.Turn.{Turn}
 use Rattle.ill_core.specs.State.{state_name}
 use Rattle.ill_core.specs.Verbs.{verb_name}
 use Rattle.ill_core.specs.ResponderActions.{expiry_of}
@@ -17,10 +18,11 @@ use Rattle.ill_saved.specs.Side.{role_of, issued_of, txn_of, state_of, due_date_
 use Rattle.ill_saved.specs.Many.{Held}
 use Rattle.ill_tool.specs.declared.form.Form.{Form}
 use Rattle.ill_tool.specs.declared.form.Form.TheVariants.{Lines, Json}
+use Rattle.ill_tool.specs.declared.list.Counts.{Counts}
 use Rattle.ill_tool.specs.Json.{Field, array, day, flag, object, optional, quoted}
 use Rattle.ill_tool.specs.Lines.{lines_of}
 use Rattle.ill_tool.specs.Status.{status_lines, role_name, marks_of}
-use Rattle.ill_tool.specs.Loan.{loan_lines, turn_word, request_of}
+use Rattle.ill_tool.specs.Loan.{turn_word, request_of}
 use Rattle.ill_tool.specs.List.{item_asked}
 
 -- an object on a line of its own
@@ -97,8 +99,8 @@ abbrev pub text_of_one : Form → Option Held → List ℕ
 text_of_one form (Some held) = held_text form held
 text_of_one form None = []
 
-abbrev pub desk_text : Form → List Held → List ℕ
-desk_text form held = flat_map (held_text form) held
+abbrev pub status_of_desk : Form → List Held → List ℕ
+status_of_desk form held = flat_map (held_text form) held
 
 -- ---- loans
 
@@ -120,23 +122,54 @@ taken_fields (Responder y) =
     (codes "accepted", optional decimal y.accepted) ∷ (codes "last-cancel", optional decimal y.last_cancel)
     ∷ (codes "last-renew", optional decimal y.last_renew) ∷ []
 
-abbrev pub leaves_fields : Bool → List Field
-leaves_fields leaves = (codes "leaves", flag leaves) ∷ []
+-- If it is known how many messages are released, a message tells if it may leave.
+abbrev pub leaves_fields : Option ℕ → Apdu → List Field
+leaves_fields None a = []
+leaves_fields (Some released) a = (codes "leaves", flag (nat_le a.number released)) ∷ []
 
--- a message that was issued, and whether it may leave
-abbrev pub message_object : ℕ → Apdu → List ℕ
-message_object released a = object (apdu_fields a ++ leaves_fields (nat_le a.number released))
+abbrev pub message_object : Option ℕ → Apdu → List ℕ
+message_object released a = object (apdu_fields a ++ leaves_fields released a)
 
--- the messages that were issued, in order
+-- messages, in order
+abbrev pub messages_fields : List ℕ → Option ℕ → List Apdu → List Field
+messages_fields label released apdus = (label, array (message_object released) apdus) ∷ []
+
+-- the messages that were issued
 abbrev pub sent_fields : ℕ → List Apdu → List Field
-sent_fields released apdus = (codes "messages", array (message_object released) apdus) ∷ []
+sent_fields released apdus = messages_fields (codes "messages") (Some released) apdus
+
+-- the messages that came
+abbrev pub came_fields : List Apdu → List Field
+came_fields apdus = messages_fields (codes "came") None apdus
 
 abbrev pub loan_fields : Side → ℕ → List Field
 loan_fields side released =
     status_fields side released ++ turn_fields side (names_of side) ++ taken_fields side
     ++ sent_fields released (issued_of side)
 
--- a side as the lines of `loan` have it, or as an object
-abbrev pub loan_text : Form → Side → ℕ → List ℕ
-loan_text Lines = loan_lines
-loan_text Json = λ side released. object_line (loan_fields side released)
+-- ---- lists
+
+-- the path of a desk, if it is told
+abbrev pub file_fields : Option (List ℕ) → List Field
+file_fields None = []
+file_fields (Some path) = (codes "file", quoted path) ∷ []
+
+-- a loan of this turn, and by these names what it may do now
+abbrev pub row_fields : Turn → Side → List (List ℕ) → List Field
+row_fields turn side names =
+    (codes "next", quoted (turn_word turn)) ∷ (codes "state", quoted (state_name (state_of side)))
+    ∷ (codes "due", optional day (due_date_of side)) ∷ (codes "group", quoted (txn_of side).group)
+    ∷ (codes "transaction", quoted (txn_of side).transaction) ∷ (codes "now", array quoted names)
+    ∷ (codes "item", optional quoted (item_asked (request_of side))) ∷ []
+
+abbrev pub row_object : Option (List ℕ) → Turn → Side → List ℕ
+row_object file turn side = object_line (row_fields turn side (names_of side) ++ file_fields file)
+
+-- the counts of a desk
+abbrev pub counts_fields : Counts → List Field
+counts_fields counts =
+    (codes "loans", decimal counts.loans) ∷ (codes "open", decimal counts.open_loans)
+    ∷ (codes "mine", decimal counts.mine) ∷ (codes "room", decimal counts.room) ∷ []
+
+abbrev pub counts_object : Option (List ℕ) → Counts → List ℕ
+counts_object file counts = object_line (counts_fields counts ++ file_fields file)

@@ -15,7 +15,9 @@ use Rattle.ill_tool.specs.declared.picture.Link.TheVariants.{Before, Behind}
 use Rattle.ill_tool.specs.Escape.{is_within}
 use Rattle.ill_values.specs.Types.{type_name}
 use Rattle.ill_tool.specs.Lines.{shown_fields}
-use Rattle.ill_tool.specs.Kept.{is_among, kept_lines}
+use Rattle.ill_tool.specs.declared.form.Form.{Form}
+use Rattle.ill_tool.specs.declared.form.Form.TheVariants.{Lines, Json}
+use Rattle.ill_tool.specs.Kept.{is_among, kept_text}
 
 -- ---- texts
 
@@ -137,7 +139,8 @@ picture_of own theirs = all_drawn (fold with_own (record { lines = opening; left
 abbrev pub picture : Held → List Apdu → List ℕ
 picture held kept = picture_of (issued_of held.side) (theirs_of held.side kept)
 
--- what is written of a loan: its picture, or its lines
-abbrev pub drawn_or_shown : Bool → Held → List Apdu → List ℕ
-drawn_or_shown true = picture
-drawn_or_shown false = kept_lines
+-- what is written of a loan: an object, its picture, or its lines
+abbrev pub drawn_or_shown : Form → Bool → Held → List Apdu → List ℕ
+drawn_or_shown Json is_picture = kept_text Json
+drawn_or_shown Lines true = picture
+drawn_or_shown Lines false = kept_text Lines

@@ -1,5 +1,5 @@
 -- Which loans wait for a library, on a day or on none, and which of them the longest (this profile's own).
-use Rattle.std.specs.Prelude.{Bool, true, false, not, ◌&&◌, nat_lt, if◌then◌else◌, List, [], ◌∷◌, length, position, insert, Option, Some, None, unwrap_or}
+use Rattle.std.specs.Prelude.{Bool, true, false, ◌&&◌, nat_lt, if◌then◌else◌, List, [], ◌∷◌, length, Option, Some, None}
 use Rattle.std.specs.Option.{option_or}
 use Rattle.ill_values.specs.Day.{Date}
 use Rattle.ill_core.specs.declared.turn.Turn.{Turn}
@@ -40,15 +40,23 @@ is_pressing (Some today) side =
 abbrev pub turn_on : Option Date → Side → Turn
 turn_on today side = if is_pressing today side then Mine else turn_of side
 
--- the deadline of a loan is no sooner than this one
-abbrev pub is_no_sooner : Option Date → Side → Bool
-is_no_sooner day other = not (is_sooner (deadline_of other) day)
+-- the deadline of a loan comes before that of another
+abbrev pub is_more_urgent : Side → Side → Bool
+is_more_urgent side other = is_sooner (deadline_of side) (deadline_of other)
 
--- a loan before the first of these whose deadline is no sooner
-abbrev pub placed : Side → List Side → List Side
-placed side sides = insert sides (unwrap_or (position (is_no_sooner (deadline_of side)) sides) (length sides)) side
+-- ---- in order
+
+-- an item, behind those of these that come before it
+abbrev pub placed : {X : Type 0} → (X → X → Bool) → X → List X → List X
+placed is_before item [] = item ∷ []
+placed is_before item (first ∷ others) =
+    if is_before first item then first ∷ placed is_before item others else item ∷ first ∷ others
+
+-- Items by an order. Those of one place in it stand as they stood.
+abbrev pub ordered : {X : Type 0} → (X → X → Bool) → List X → List X
+ordered is_before [] = []
+ordered is_before (item ∷ items) = placed is_before item (ordered is_before items)
 
 -- Loans by their deadlines, those without one last. Of the same deadline those stand first that were begun first.
 abbrev pub most_urgent_first : List Side → List Side
-most_urgent_first [] = []
-most_urgent_first (side ∷ sides) = placed side (most_urgent_first sides)
+most_urgent_first sides = ordered is_more_urgent sides

@@ -25,17 +25,17 @@ pub enum Name {
     SimulateDesks,
 }
 
-/// All commands, in the order in which the help lists them: those that keep a desk in a file, and those
-/// that read standard input and keep nothing. clap is told of these and of no others.
+/// All commands, in the order in which the help lists them: those for staff, the two for the exchange with other
+/// libraries, and those for whoever looks inside. clap is told of these and of no others.
 const NAMES: [Name; 13] = [
     Name::New,
     Name::Act,
+    Name::List,
+    Name::Loan,
+    Name::Status,
+    Name::Report,
     Name::Take,
     Name::Send,
-    Name::List,
-    Name::Status,
-    Name::Loan,
-    Name::Report,
     Name::Verify,
     Name::Show,
     Name::Check,
@@ -157,6 +157,7 @@ impl Name {
                 Argument::OnDay,
                 Argument::DueBefore,
                 Argument::InState,
+                Argument::Json,
             ],
             Name::Simulate => &[Argument::Group, Argument::Transaction],
             Name::Show => &[Argument::Json],

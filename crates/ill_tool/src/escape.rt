@@ -86,12 +86,20 @@ fn push_byte(text: &mut Vec<u8>, escaping: Escaping, byte: u8) -> Result<(), Out
     ensures { OnOk result (text.new.items ≡ text.old.items ++ byte_text escaping byte) }
 {
     match escaping {
-        Escaping::Screen => {
-            text.push(byte)?;
-            Ok(())
-        }
+        Escaping::Screen => push_screen_byte(text, byte),
         Escaping::Json => push_json_byte(text, byte),
     }
+}
+
+/// Adds a byte to a text for a screen.
+fn push_screen_byte(text: &mut Vec<u8>, byte: u8) -> Result<(), OutOfMemory>
+    ensures { OnOk result (text.new.items ≡ text.old.items ++ byte_text escapings.Screen byte) }
+{
+    if is_control(byte) {
+        return push_escape(text, Escaping::Screen, byte.into());
+    }
+    text.push(byte)?;
+    Ok(())
 }
 
 /// Adds a byte to a string of JSON.
@@ -124,28 +132,28 @@ fn push_escape(text: &mut Vec<u8>, escaping: Escaping, number: u32) -> Result<()
     Ok(())
 }
 
-/// Whether a byte stands behind a backslash in a string of JSON.
+/// Tells if a byte stands behind a backslash in a string of JSON.
 fn is_marked(byte: u8) -> bool
     ensures { result ≡ is_marked byte }
 {
     matches!(byte, b'"' | b'\\')
 }
 
-/// Whether a byte is a control character of ASCII.
+/// Tells if a byte is a control character of ASCII.
 fn is_control(byte: u8) -> bool
     ensures { result ≡ is_control byte }
 {
     matches!(byte, 0..0x20 | 0x7F)
 }
 
-/// Whether two bytes are a character that a terminal may act on.
+/// Tells if two bytes are a character that a terminal may act on.
 fn two_act(first: u8, second: u8) -> bool
     ensures { result ≡ two_act first second }
 {
     matches!(first, 0xC0..=0xDF) && goes_on(second) && is_acting(number_of_two(first, second))
 }
 
-/// Whether three bytes are a character that a terminal may act on.
+/// Tells if three bytes are a character that a terminal may act on.
 fn three_act(first: u8, second: u8, third: u8) -> bool
     ensures { result ≡ three_act first second third }
 {
@@ -155,7 +163,7 @@ fn three_act(first: u8, second: u8, third: u8) -> bool
         && is_acting(number_of_three(first, second, third))
 }
 
-/// Whether a byte stands behind the first of a character.
+/// Tells if a byte stands behind the first of a character.
 fn goes_on(byte: u8) -> bool
     ensures { result ≡ goes_on byte }
 {
@@ -177,7 +185,7 @@ fn number_of_three(first: u8, second: u8, third: u8) -> u32
         + (u32::from(second.saturating_sub(0x80)) * 64 + u32::from(third.saturating_sub(0x80)))
 }
 
-/// Whether a terminal may act on the character of this number.
+/// Tells if a terminal may act on the character of this number.
 fn is_acting(number: u32) -> bool
     ensures { result ≡ is_acting number }
 {

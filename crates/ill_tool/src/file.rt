@@ -3,14 +3,15 @@
 
 ghost use Rattle.std.specs.Prelude.{◌≡◌, ◌++◌, true, false, map, string_bytes, IfErr, OnOk};
 ghost use Rattle.ill_saved.specs.Desk.{answer_of};
-ghost use Rattle.ill_saved.specs.Many.{found_by, txn_held};
+ghost use Rattle.ill_saved.specs.Many.{found_by, sides_held, txn_held};
 ghost use Rattle.ill_tool.specs.Report.{AddsDesks};
 ghost use Rattle.ill_tool.specs.Commands.{ActsAtFile, IsOpenFault, ListsDesk, ListsDesks, ListsPaths, LoanAtFile, NewAtFile, ReportsPaths, SendsAtFile, ShowsFile, TakesAtFile, VerifiesFile, all_well};
-ghost use Rattle.ill_tool.specs.List.{gap, heading};
+ghost use Rattle.ill_tool.specs.Listing.{between, listed_desk};
 ghost use Rattle.ill_tool.specs.Keeping.{many_sides};
 ghost use Rattle.ill_tool.specs.Kept.{RunsKeptLoan};
 ghost use Rattle.ill_tool.specs.Picture.{drawn_or_shown};
-ghost use Rattle.ill_tool.specs.declared.form.Form.TheVariants.{Json, Lines};
+ghost use Rattle.ill_tool.specs.declared.form.Form.TheVariants.{Lines};
+ghost use Rattle.ill_tool.specs.Output.{WritesText};
 ghost use Rattle.ill_tool.specs.Performing.{many_view};
 ghost use Rattle.ill_tool.specs.Take.{RunsTake};
 ghost use Rattle.ill_tool.specs.Telling.{wording};
@@ -21,8 +22,8 @@ use crate::fault::ToolFault;
 use crate::folder::desk_paths;
 use crate::form::Form;
 use crate::kept::run_desk_kept_loan;
-use crate::list::{Wanted, heading, run_desk_list};
-use crate::loan::run_desk_loan_as;
+use crate::list::{Wanted, run_desk_list, run_desk_list_objects};
+use crate::listed::{Listed, heading, warning};
 use crate::new::run_desk_new;
 use crate::picture::run_desk_picture;
 use crate::report::{end_page, push_desk, push_head};
@@ -172,16 +173,17 @@ pub fn list<T: Files, W: Write, E: Write>(
     alloc: Global,
     paths: &[&str],
     wanted: &Wanted,
+    form: Form,
     writer: &mut W,
     errors: &mut E,
 ) -> Result<bool, ToolFault>
-    ensures { ListsPaths wanted.now (W.contents writer.old) (W.contents writer.new) result }
+    ensures { ListsPaths form wanted.now (W.contents writer.old) (W.contents writer.new) result }
 {
     let files = match desk_paths(rt, alloc, paths) {
         Ok(files) => files,
         Err(fault) => return Err(fault),
     };
-    all_well(list_files(rt, alloc, &files, wanted, writer, errors))
+    all_well(list_files(rt, alloc, &files, wanted, form, writer, errors))
 }
 
 /// Lists the desks in files, one behind another.
@@ -190,54 +192,82 @@ fn list_files<T: Files, W: Write, E: Write>(
     alloc: Global,
     files: &[String],
     wanted: &Wanted,
+    form: Form,
     writer: &mut W,
     errors: &mut E,
 ) -> Result<(), ToolFault>
-    ensures { ListsDesks wanted.now (map (λ file. string_bytes file) files.now)
+    ensures { ListsDesks form wanted.now (map (λ file. string_bytes file) files.now)
         (W.contents writer.old) (W.contents writer.new) result }
 {
     for place in 0..files.len() {
-        let file = files[place].as_str();
-        let is_headed = files.len() > 1;
-        if let Err(fault) = list_file(
-            rt,
-            alloc,
-            file,
-            is_headed,
-            place == 0,
-            wanted,
-            writer,
-            errors,
-        ) {
+        let listed = Listed {
+            path: files[place].as_str(),
+            is_headed: files.len() > 1,
+            is_first: place == 0,
+        };
+        if let Err(fault) = list_file(rt, alloc, &listed, wanted, form, writer, errors) {
             return Err(fault);
         }
     }
     Ok(())
 }
 
-/// Lists the desk in a file, behind a heading.
+/// Lists the desk in a file, and warns if little room is left.
 fn list_file<T: Files, W: Write, E: Write>(
     rt: &T,
     alloc: Global,
-    file: &str,
-    is_headed: bool,
-    is_first: bool,
+    listed: &Listed<'_>,
     wanted: &Wanted,
+    form: Form,
     writer: &mut W,
     errors: &mut E,
 ) -> Result<(), ToolFault>
-    ensures { ListsDesk wanted.now (gap is_first ++ heading is_headed file.now)
+    ensures { ListsDesk form wanted.now listed.now.is_first listed.now.is_headed listed.now.path.now
         (W.contents writer.old) (W.contents writer.new) result }
 {
-    let heading = heading(alloc, file, is_headed, is_first)?;
-    let desk = open(rt, alloc, file)?;
-    let listed = run_desk_list(alloc, &desk, &heading, wanted, writer);
-    warn(alloc, file, desk.sides().len(), errors);
+    let desk = open(rt, alloc, listed.path)?;
+    let answer = list_desk(alloc, &desk, listed, wanted, form, writer);
+    warn(alloc, listed.path, desk.sides().len(), errors);
     drop(desk);
-    listed
+    answer
 }
 
-/// How many loans of a desk are so many that a person is told how much room is left.
+/// Lists a desk.
+fn list_desk<S: Store, W: Write>(
+    alloc: Global,
+    desk: &Desk<S>,
+    listed: &Listed<'_>,
+    wanted: &Wanted,
+    form: Form,
+    writer: &mut W,
+) -> Result<(), ToolFault>
+    ensures { WritesText (W.contents writer.old) (W.contents writer.new)
+        (between form listed.now.is_first ++ listed_desk form listed.now.is_headed wanted.now listed.now.path.now
+        (sides_held desk.now.live).sides) result }
+{
+    match form {
+        Form::Lines => list_lines(alloc, desk, listed, wanted, writer),
+        Form::Json => run_desk_list_objects(alloc, desk, listed.told(), wanted, writer),
+    }
+}
+
+/// Lists a desk in lines, behind a heading.
+fn list_lines<S: Store, W: Write>(
+    alloc: Global,
+    desk: &Desk<S>,
+    listed: &Listed<'_>,
+    wanted: &Wanted,
+    writer: &mut W,
+) -> Result<(), ToolFault>
+    ensures { WritesText (W.contents writer.old) (W.contents writer.new)
+        (between Lines listed.now.is_first ++ listed_desk Lines listed.now.is_headed wanted.now listed.now.path.now
+        (sides_held desk.now.live).sides) result }
+{
+    let heading = heading(alloc, listed)?;
+    run_desk_list(alloc, desk, &heading, wanted, writer)
+}
+
+/// The number of loans from which on a person is told how much room a desk has left.
 const MANY: usize = 900;
 
 /// Writes how much room a desk has, if it has many loans.
@@ -245,9 +275,8 @@ fn warn<E: Write>(alloc: Global, file: &str, loans: usize, errors: &mut E) {
     if loans < MANY {
         return;
     }
-    let room = SIDES_LIMIT.saturating_sub(loans);
-    if let Ok(line) = format!(in alloc; "ill: {file} has room for {room} more loans\n") {
-        let _ = errors.write_all(line.as_bytes());
+    if let Ok(line) = warning(alloc, file, SIDES_LIMIT.saturating_sub(loans)) {
+        let _ = errors.write_all(&line);
     }
 }
 
@@ -279,42 +308,9 @@ pub fn loan<T: Files, W: Write>(
 ) -> Result<bool, ToolFault>
     ensures { LoanAtFile form is_picture txn.now (W.contents writer.old) (W.contents writer.new) result }
 {
-    match form {
-        Form::Json => loan_object(rt, alloc, file, txn, writer),
-        Form::Lines => loan_with_came(rt, alloc, file, txn, is_picture, writer),
-    }
-}
-
-/// Shows all that the record knows of a transaction, as an object.
-fn loan_object<T: Files, W: Write>(
-    rt: &T,
-    alloc: Global,
-    file: &str,
-    txn: &TxnId,
-    writer: &mut W,
-) -> Result<bool, ToolFault>
-    ensures { LoanAtFile Json false txn.now (W.contents writer.old) (W.contents writer.new) result }
-{
-    let desk = open(rt, alloc, file)?;
-    let shown = run_desk_loan_as(alloc, &desk, txn, Form::Json, writer);
-    drop(desk);
-    all_well(shown)
-}
-
-/// Shows all that is known of a transaction, or draws it, with the messages that came.
-fn loan_with_came<T: Files, W: Write>(
-    rt: &T,
-    alloc: Global,
-    file: &str,
-    txn: &TxnId,
-    is_picture: bool,
-    writer: &mut W,
-) -> Result<bool, ToolFault>
-    ensures { LoanAtFile Lines is_picture txn.now (W.contents writer.old) (W.contents writer.new) result }
-{
     let desk = open(rt, alloc, file)?;
     let came = came_bytes(rt, alloc, file)?;
-    let shown = shown_loan(alloc, &desk, txn, is_picture, &came, writer);
+    let shown = shown_loan(alloc, &desk, txn, form, is_picture, &came, writer);
     drop(desk);
     all_well(shown)
 }
@@ -324,17 +320,17 @@ fn shown_loan<S: Store, W: Write>(
     alloc: Global,
     desk: &Desk<S>,
     txn: &TxnId,
+    form: Form,
     is_picture: bool,
     came: &[u8],
     writer: &mut W,
 ) -> Result<(), ToolFault>
-    ensures { RunsKeptLoan (drawn_or_shown is_picture) (found_by txn_held txn.now desk.now.live.held) came.now
+    ensures { RunsKeptLoan (drawn_or_shown form is_picture) (found_by txn_held txn.now desk.now.live.held) came.now
         (W.contents writer.old) (W.contents writer.new) result }
 {
-    if is_picture {
-        run_desk_picture(alloc, desk, txn, came, writer)
-    } else {
-        run_desk_kept_loan(alloc, desk, txn, came, writer)
+    match (form, is_picture) {
+        (Form::Lines, true) => run_desk_picture(alloc, desk, txn, came, writer),
+        (form, _) => run_desk_kept_loan(alloc, desk, txn, came, form, writer),
     }
 }
 

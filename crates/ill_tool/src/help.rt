@@ -3,15 +3,22 @@
 pub const VERSION: &str = "0.2.0";
 
 pub const ILL: &str = "\
-A desk is the loans of one library in one role, and it is kept in a file: `new`
-begins it, `act` does what the library decides in a loan, `take` takes what
-comes from other libraries, and `send` gives a message to carry there. `list`
-lists the loans, those first that wait for the library, `status` tells how each
-of them stands, `loan` tells all of one, `verify` tells whether a file is well,
-and `report` writes a page of the loans for a browser. A loan is named by its
-GROUP and TRANSACTION. How messages are carried, by mail or by hand, is left to
-the libraries. `show`, `check`, `simulate` and `simulate-desks` keep nothing.
-`ill COMMAND --help` tells more of a command.
+The commands stand in groups:
+  for staff                  new, act, list, loan, status, report
+  for the exchange           take, send
+  to look inside             verify, show, check, simulate, simulate-desks
+
+A desk is the loans of one library in one role, and it is kept in a file. `new`
+begins it, and `act` does what the library decides in a loan. `list` lists the
+loans, those first that wait for the library. `loan` tells all of one, `status`
+tells how each of them stands, and `report` writes a page of the loans for a
+browser. `take` takes what comes from other libraries, and `send` gives a
+message to carry there. `verify` tells whether a file is well. `show`, `check`,
+`simulate` and `simulate-desks` keep nothing.
+
+A loan is named by its GROUP and TRANSACTION. How messages are carried, by mail
+or by hand, is left to the libraries. `ill COMMAND --help` tells more of a
+command.
 
 With `--explain` before the command, lines behind that of a fault tell which
 word, file or message is wrong, and what would be right. They begin with spaces,
@@ -19,8 +26,8 @@ and no program may rest on them.
 
 Several commands may be started at once on one file. Those that may change it,
 `new`, `act` and `take`, wait for each other: ten seconds, and then they end
-with `store failed`. A `take` holds the file until its input ends. `send`,
-`list`, `status`, `loan`, `report` and `verify` wait for nobody. No file of a
+with `store failed`. A `take` holds the file until its input ends. `list`,
+`loan`, `status`, `report`, `send` and `verify` wait for nobody. No file of a
 desk may have a name that ends in `.new` or `.lck`: such files are the
 program's.
 
@@ -296,6 +303,11 @@ the order of their names: all regular files, but for those that begin with a dot
 or end in .new, .lck or .came. Where several desks are listed, a line `PATH:`
 stands before each, and an empty line between each and the next.
 
+With --json each loan that is listed is an object of JSON on a line, in the same
+order: `next`, `state`, `due`, `group`, `transaction`, `now` (what `act` takes
+now) and `item`. Behind them an object has the counts: `loans`, `open`, `mine`
+and `room`. Where several desks are listed, each object has its PATH in `file`.
+
 A desk has at most 67,108,864 bytes and is not changed. Standard input is not
 read. The exit status is 0 where the loans are listed, 1 with `no-record`, 2 for
 wrong arguments or a bad record, and 3 with `store failed`, `store too-large`,
@@ -315,7 +327,7 @@ pub const LIST_EXAMPLE: &str = "Example:
   $ ill take there < message
   taken IN-PROCESS - 0/0
   $ ill list there --mine
-  mine    IN-PROCESS            -         G1  T1  answer,ship,expire  Maps
+  mine    IN-PROCESS            -         G1  T1  answer,ship,expire    Maps
   loans 1, open 1, mine 1, room for 999";
 
 pub const STATUS: &str = "\
@@ -394,8 +406,9 @@ In an item, a control character from U+0080 to U+009F is shown as an escape,
 such as `\\u{9f}`. So is a mark that turns the direction of a text.
 
 With --json the loan is an object of JSON on one line, with these labels and
-those of `ill status --json`. Its `messages` are an array of objects, none of
-which came from the other side. With --picture too it is the object.
+those of `ill status --json`. Its `messages` are an array of those that it has
+issued, and its `came` one of those that were kept. With --picture too it is the
+object.
 
 FILE has at most 67,108,864 bytes and is not changed. Standard input is not
 read. The exit status is 0 where the loan is shown, 1 with `no-such-transaction`

@@ -5,10 +5,12 @@ ghost use Rattle.std.specs.List.{flat_map};
 ghost use Rattle.ill_saved.specs.Side.{txn_of};
 ghost use Rattle.ill_saved.specs.Many.{Held, found_by, txn_held};
 ghost use Rattle.ill_tool.specs.Loan.{marked_lines};
-ghost use Rattle.ill_tool.specs.Kept.{AreIn, RunsKeptLoan, WritesKept, is_among, kept_lines, kept_of, with_new};
+ghost use Rattle.ill_tool.specs.Kept.{AreIn, RunsKeptLoan, WritesKept, is_among, kept_lines, kept_of, kept_text, with_new};
 
 use crate::fault::ToolFault;
+use crate::form::Form;
 use crate::loan::{push_loan, push_marked};
+use crate::objects::push_kept_object;
 use crate::output::write_whole;
 use ill_der::{Feed, encode};
 use ill_saved::{Desk, DeskFault, Side, Store};
@@ -16,20 +18,22 @@ use ill_values::{Apdu, OutOfMemory, TxnId};
 use std::alloc::Global;
 use std::io::Write;
 
-/// Writes all that `run_desk_loan` does, and behind it each message of the transaction that these bytes have, as
-/// `take --keep` has kept it, each once. What is no message, and all behind it, is passed over.
+/// Writes all that `run_desk_loan` does, and behind it each message of the transaction that `came` has, each once:
+/// in lines, or in one object. `came` is what `take --keep` has kept. What is no message in it, and all behind that, is
+/// passed over.
 pub fn run_desk_kept_loan<S: Store, W: Write>(
     alloc: Global,
     desk: &Desk<S>,
     txn: &TxnId,
     came: &[u8],
+    form: Form,
     writer: &mut W,
 ) -> Result<(), ToolFault>
-    ensures { RunsKeptLoan kept_lines (found_by txn_held txn.now desk.now.live.held) came.now
+    ensures { RunsKeptLoan (kept_text form) (found_by txn_held txn.now desk.now.live.held) came.now
         (W.contents writer.old) (W.contents writer.new) result }
 {
     match desk.sides().get(txn) {
-        Some(side) => write_kept(alloc, side, desk.released(txn), came, writer),
+        Some(side) => write_kept(alloc, form, side, desk.released(txn), came, writer),
         None => Err(ToolFault::Desk(DeskFault::NoSuchTransaction)),
     }
 }
@@ -37,20 +41,51 @@ pub fn run_desk_kept_loan<S: Store, W: Write>(
 /// Writes all that is known of a side, and the messages that came to it.
 fn write_kept<W: Write>(
     alloc: Global,
+    form: Form,
     side: &Side,
     released: u8,
     came: &[u8],
     writer: &mut W,
 ) -> Result<(), ToolFault>
-    ensures { WritesKept (kept_lines (record { side = side.now; released = released })) (txn_of side.now) came.now
+    ensures { WritesKept (kept_text form (record { side = side.now; released = released })) (txn_of side.now) came.now
         (W.contents writer.old) (W.contents writer.new) result }
 {
     let came = apdus_in(alloc, came)?;
     let kept = kept_of(alloc, side.txn(), &came)?;
-    let mut lines = Vec::new(alloc);
-    push_loan(&mut lines, side, released)?;
-    push_kept(&mut lines, &kept)?;
-    write_whole(writer, &lines)
+    let mut text = Vec::new(alloc);
+    push_loan_as(&mut text, form, side, released, &kept)?;
+    write_whole(writer, &text)
+}
+
+/// Adds all that is known of a side, and the messages that came to it.
+fn push_loan_as(
+    text: &mut Vec<u8>,
+    form: Form,
+    side: &Side,
+    released: u8,
+    kept: &[Apdu],
+) -> Result<(), OutOfMemory>
+    ensures { OnOk result (text.new.items ≡ text.old.items
+        ++ kept_text form (record { side = side.now; released = released }) kept.now) }
+{
+    match form {
+        Form::Lines => push_kept_lines(text, side, released, kept),
+        Form::Json => push_kept_object(text, side, released, kept),
+    }
+}
+
+/// Adds the lines of a side, and of the messages that came to it.
+fn push_kept_lines(
+    lines: &mut Vec<u8>,
+    side: &Side,
+    released: u8,
+    kept: &[Apdu],
+) -> Result<(), OutOfMemory>
+    ensures { OnOk result (lines.new.items ≡ lines.old.items
+        ++ kept_lines (record { side = side.now; released = released }) kept.now) }
+{
+    push_loan(lines, side, released)?;
+    push_kept(lines, kept)
 }
 
 /// The messages that bytes have, up to the first that is none.
@@ -83,7 +118,7 @@ fn push_new(kept: &mut Vec<Apdu>, txn: &TxnId, apdu: &Apdu) -> Result<(), OutOfM
     Ok(())
 }
 
-/// Whether a message of the same bytes is among these.
+/// Tells if a message of these bytes is among those.
 pub(crate) fn is_among(alloc: Global, kept: &[Apdu], apdu: &Apdu) -> Result<bool, OutOfMemory>
     ensures { IfOk result (λ is. is ≡ is_among kept.now apdu.now) }
 {

@@ -1,12 +1,13 @@
 //! The command `list`.
 
-ghost use Rattle.std.specs.Prelude.{◌≡◌, [], ◌∷◌, ◌++◌, map, IfOk, OnOk};
+ghost use Rattle.std.specs.Prelude.{◌≡◌, [], ◌∷◌, ◌++◌, map, option_map, OnOk};
 ghost use Rattle.ill_saved.specs.Many.{sides_held};
 ghost use Rattle.ill_tool.specs.Output.{WritesText};
-ghost use Rattle.ill_tool.specs.List.{turns_of, has_verbs, is_due_before, is_in, is_wanted, has_turn, is_listed, rows_of, count_of, counts_line, ordered_lines, list_lines, gap, heading};
+ghost use Rattle.ill_tool.specs.List.{turns_of, has_verbs, is_due_before, is_in, is_wanted, has_turn, count_of, counts_of, counts_line};
+ghost use Rattle.ill_tool.specs.Listing.{counts_text, list_lines, list_objects, listed, ordered_lines, row_text, rows_of};
 
-use crate::escape::push_escaped;
 use crate::fault::ToolFault;
+use crate::list_objects::{push_counts_object, push_row_object};
 use crate::output::write_whole;
 use crate::row::{Columns, push_row};
 use crate::waiting::{is_sooner, most_urgent_first, turn_on};
@@ -16,7 +17,7 @@ use ill_values::{Day, OutOfMemory};
 use std::alloc::Global;
 use std::io::Write;
 
-/// Loans of which turn are listed.
+/// The loans that are listed, by their turns.
 #[derive(Clone, Copy, Debug, PartialEq, Eq, Hash)]
 pub enum Which {
     /// All of them.
@@ -27,7 +28,7 @@ pub enum Which {
     Mine,
 }
 
-/// Which loans are listed: all that is said holds of them.
+/// What is said of the loans that are listed: all of it holds of each.
 #[derive(Clone, Copy, Debug, PartialEq, Eq, Hash)]
 pub struct Wanted {
     /// Those of which turn.
@@ -52,12 +53,34 @@ impl Which {
         }
     }
 
-    /// Whether a column has the verbs.
+    /// Tells if a column has the verbs.
     fn has_verbs(self) -> bool
         ensures { result ≡ has_verbs self }
     {
         matches!(self, Which::Mine)
     }
+}
+
+/// How many loans a desk has.
+#[derive(Clone, Copy, Debug, PartialEq, Eq, Hash)]
+pub(crate) struct Counts {
+    /// All of them.
+    pub loans: usize,
+    /// Those that are not over.
+    pub open_loans: usize,
+    /// Those that wait for this library.
+    pub mine: usize,
+    /// Those for which there is still room.
+    pub room: usize,
+}
+
+/// The form of a list.
+#[derive(Clone, Copy)]
+pub(crate) enum Rows<'a> {
+    /// A line for each loan, of these columns.
+    Lines(Columns),
+    /// An object for each, with the path of its desk, if one is told.
+    Objects(Option<&'a str>),
 }
 
 /// Writes a heading, a line for each loan of a desk that is wanted, and one that counts all of its loans.
@@ -77,25 +100,21 @@ pub fn run_desk_list<S: Store, W: Write>(
     write_whole(writer, &lines)
 }
 
-/// The heading of a desk in a list: an empty line behind another desk, and a line of its path, where several
-/// are listed.
-pub(crate) fn heading(
+/// Writes an object of JSON for each loan of a desk that is wanted, in the order of the lines, and one of the
+/// counts. Each has the path of the desk, if one is told.
+pub fn run_desk_list_objects<S: Store, W: Write>(
     alloc: Global,
-    path: &str,
-    is_headed: bool,
-    is_first: bool,
-) -> Result<Vec<u8>, OutOfMemory>
-    ensures { IfOk result (λ text. text.items ≡ gap is_first ++ heading is_headed path.now) }
+    desk: &Desk<S>,
+    file: Option<&str>,
+    wanted: &Wanted,
+    writer: &mut W,
+) -> Result<(), ToolFault>
+    ensures { WritesText (W.contents writer.old) (W.contents writer.new)
+        (list_objects (option_map (λ path. path.now) file.entry) wanted.now (sides_held desk.now.live).sides) result }
 {
     let mut text = Vec::new(alloc);
-    if !is_first {
-        text.push(b'\n')?;
-    }
-    if is_headed {
-        push_escaped(&mut text, path.as_bytes())?;
-        text.extend_from_slice(b":\n")?;
-    }
-    Ok(text)
+    push_list_objects(&mut text, file, desk.sides(), wanted)?;
+    write_whole(writer, &text)
 }
 
 /// Adds all lines of a list.
@@ -111,56 +130,98 @@ fn push_ordered(lines: &mut Vec<u8>, sides: &[&Side], wanted: &Wanted) -> Result
     ensures { OnOk result (lines.new.items ≡ lines.old.items
         ++ ordered_lines wanted.now (map (λ side. side.now) sides.now)) }
 {
-    let columns = Columns::of(sides, wanted.which.has_verbs());
-    let turns = wanted.which.turns();
-    for turn in turns {
-        push_rows(lines, wanted, &columns, sides, *turn)?;
-    }
-    push_counts(lines, wanted, sides)
+    let rows = Rows::Lines(Columns::of(sides, wanted.which.has_verbs()));
+    push_listed(lines, &rows, wanted, sides)
 }
 
-/// Adds the lines of those that are listed whose turn it is, in their order.
-fn push_rows(
-    lines: &mut Vec<u8>,
+/// Adds all objects of a list.
+fn push_list_objects(
+    text: &mut Vec<u8>,
+    file: Option<&str>,
+    sides: &Sides,
     wanted: &Wanted,
-    columns: &Columns,
+) -> Result<(), OutOfMemory>
+    ensures { OnOk result (text.new.items ≡ text.old.items
+        ++ list_objects (option_map (λ path. path.now) file.entry) wanted.now sides.now.sides) }
+{
+    let sides = most_urgent_first(*text.allocator(), sides)?;
+    push_listed(text, &Rows::Objects(file), wanted, &sides)
+}
+
+/// Adds the loans that are listed of these, and the counts of all.
+fn push_listed(
+    text: &mut Vec<u8>,
+    rows: &Rows<'_>,
+    wanted: &Wanted,
+    sides: &[&Side],
+) -> Result<(), OutOfMemory>
+    ensures { OnOk result (text.new.items ≡ text.old.items
+        ++ listed (row_text rows.now) (counts_text rows.now) wanted.now (map (λ side. side.now) sides.now)) }
+{
+    let turns = wanted.which.turns();
+    for turn in turns {
+        push_rows(text, rows, wanted, sides, *turn)?;
+    }
+    push_counts(text, rows, &Counts::of(sides, wanted))
+}
+
+/// Adds those that are listed whose turn it is, in their order.
+fn push_rows(
+    text: &mut Vec<u8>,
+    rows: &Rows<'_>,
+    wanted: &Wanted,
     sides: &[&Side],
     turn: Turn,
 ) -> Result<(), OutOfMemory>
-    ensures { OnOk result (lines.new.items ≡ lines.old.items
-        ++ rows_of wanted.now columns.now (map (λ side. side.now) sides.now) turn) }
+    ensures { OnOk result (text.new.items ≡ text.old.items
+        ++ rows_of (row_text rows.now) wanted.now (map (λ side. side.now) sides.now) turn) }
 {
     for side in sides {
-        push_row_at(lines, wanted, columns, side, turn)?;
+        push_row_at(text, rows, wanted, side, turn)?;
     }
     Ok(())
 }
 
-/// Adds the line of a side, if it is listed and its turn is this.
+/// Adds a side, if it is listed and its turn is this.
 fn push_row_at(
-    lines: &mut Vec<u8>,
+    text: &mut Vec<u8>,
+    rows: &Rows<'_>,
     wanted: &Wanted,
-    columns: &Columns,
     side: &Side,
     turn: Turn,
 ) -> Result<(), OutOfMemory>
-    ensures { OnOk result (lines.new.items ≡ lines.old.items
-        ++ rows_of wanted.now columns.now (side.now ∷ []) turn) }
+    ensures { OnOk result (text.new.items ≡ text.old.items
+        ++ rows_of (row_text rows.now) wanted.now (side.now ∷ []) turn) }
 {
     if has_turn(wanted, turn, side) && is_wanted(wanted, side) {
-        return push_row(lines, columns, turn, side);
+        return push_row_as(text, rows, turn, side);
     }
     Ok(())
 }
 
-/// Whether a loan is listed, where loans of its turn are.
+/// Adds a side whose turn is this, in a line or in an object.
+fn push_row_as(
+    text: &mut Vec<u8>,
+    rows: &Rows<'_>,
+    turn: Turn,
+    side: &Side,
+) -> Result<(), OutOfMemory>
+    ensures { OnOk result (text.new.items ≡ text.old.items ++ row_text rows.now turn side.now) }
+{
+    match rows {
+        Rows::Lines(columns) => push_row(text, columns, turn, side),
+        Rows::Objects(file) => push_row_object(text, *file, turn, side),
+    }
+}
+
+/// Tells if a loan is listed, if loans of its turn are.
 fn is_wanted(wanted: &Wanted, side: &Side) -> bool
     ensures { result ≡ is_wanted wanted.now side.now }
 {
     is_due_before(wanted.due_before, side.due()) && is_in(wanted.state, side.state())
 }
 
-/// Whether a loan is due before this day, if one is said.
+/// Tells if a loan is due before this day, if one is said.
 fn is_due_before(day: Option<Day>, due: Option<Day>) -> bool
     ensures { result ≡ is_due_before day due }
 {
@@ -170,7 +231,7 @@ fn is_due_before(day: Option<Day>, due: Option<Day>) -> bool
     }
 }
 
-/// Whether a loan is in this state, if one is said.
+/// Tells if a loan is in this state, if one is said.
 fn is_in(wanted: Option<State>, state: State) -> bool
     ensures { result ≡ is_in wanted state }
 {
@@ -180,31 +241,57 @@ fn is_in(wanted: Option<State>, state: State) -> bool
     }
 }
 
-/// Whether it is this turn, on a day or on none.
+/// Tells if a loan has this turn, on a day or on none.
 fn has_turn(wanted: &Wanted, turn: Turn, side: &Side) -> bool
     ensures { result ≡ has_turn wanted.now.today turn side.now }
 {
     turn_on(wanted.today, side) == turn
 }
 
-/// Adds the line that counts all loans.
-#[tactic(auto, unfolding(crate::specs::List::counts_line))]
-fn push_counts(lines: &mut Vec<u8>, wanted: &Wanted, sides: &[&Side]) -> Result<(), OutOfMemory>
-    ensures { OnOk result (lines.new.items ≡ lines.old.items
-        ++ counts_line wanted.now.today (map (λ side. side.now) sides.now)) }
+impl Counts {
+    /// The counts of these loans.
+    fn of(sides: &[&Side], wanted: &Wanted) -> Counts
+        ensures { result ≡ counts_of wanted.now.today (map (λ side. side.now) sides.now) }
+    {
+        let loans = sides.len();
+        Counts {
+            loans,
+            open_loans: loans.saturating_sub(count(sides, wanted, Turn::Over)),
+            mine: count(sides, wanted, Turn::Mine),
+            room: SIDES_LIMIT.saturating_sub(loans),
+        }
+    }
+}
+
+/// Adds counts, in a line or in an object.
+fn push_counts(text: &mut Vec<u8>, rows: &Rows<'_>, counts: &Counts) -> Result<(), OutOfMemory>
+    ensures { OnOk result (text.new.items ≡ text.old.items ++ counts_text rows.now counts.now) }
 {
-    let loans = sides.len();
-    let open = loans.saturating_sub(count(sides, wanted, Turn::Over));
-    let mine = count(sides, wanted, Turn::Mine);
-    let room = SIDES_LIMIT.saturating_sub(loans);
-    let counts = format!(in *lines.allocator();
-        "loans {loans}, open {open}, mine {mine}, room for {room}\n"
+    match rows {
+        Rows::Lines(_) => push_counts_line(text, counts),
+        Rows::Objects(file) => push_counts_object(text, *file, counts),
+    }
+}
+
+/// Adds the line of counts.
+#[tactic(auto, unfolding(crate::specs::List::counts_line))]
+fn push_counts_line(lines: &mut Vec<u8>, counts: &Counts) -> Result<(), OutOfMemory>
+    ensures { OnOk result (lines.new.items ≡ lines.old.items ++ counts_line counts.now) }
+{
+    let Counts {
+        loans,
+        open_loans,
+        mine,
+        room,
+    } = *counts;
+    let line = format!(in *lines.allocator();
+        "loans {loans}, open {open_loans}, mine {mine}, room for {room}\n"
     )?;
-    lines.extend_from_slice(counts.as_bytes())?;
+    lines.extend_from_slice(line.as_bytes())?;
     Ok(())
 }
 
-/// How many have this turn, on a day or on none.
+/// Counts the loans that have this turn, on a day or on none.
 fn count(sides: &[&Side], wanted: &Wanted, turn: Turn) -> usize
     ensures { result ≡ count_of wanted.now.today turn (map (λ side. side.now) sides.now) }
 {

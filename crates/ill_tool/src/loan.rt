@@ -6,12 +6,9 @@ ghost use Rattle.ill_core.specs.Verbs.{verb_name};
 ghost use Rattle.ill_saved.specs.Many.{found_by, txn_held};
 ghost use Rattle.ill_tool.specs.Output.{WritesText};
 ghost use Rattle.ill_tool.specs.Loan.{RunsLoan, item_lines, loan_lines, marked_lines, message_lines, optional_number_line, request_lines, request_of, side_lines, taken_lines, turn_lines, turn_word};
-ghost use Rattle.ill_tool.specs.Objects.{loan_text};
 
 use crate::fault::ToolFault;
-use crate::form::Form;
 use crate::lines::{push_item, push_line, push_number, push_shown, push_whether};
-use crate::objects::push_loan_object;
 use crate::output::write_whole;
 use crate::status::{push_day_or_dash, push_status, push_words};
 use ill_core::{Turn, Verb};
@@ -30,7 +27,7 @@ pub fn run_loan<S: Store, W: Write>(
     ensures { WritesText (W.contents writer.old) (W.contents writer.new)
         (loan_lines desk.now.live desk.now.released) result }
 {
-    write_loan(alloc, Form::Lines, desk.side(), desk.released(), writer)
+    write_loan(alloc, desk.side(), desk.released(), writer)
 }
 
 /// The same, of the side of a transaction at a desk, which must be held (else `NoSuchTransaction`).
@@ -40,25 +37,11 @@ pub fn run_desk_loan<S: Store, W: Write>(
     txn: &TxnId,
     writer: &mut W,
 ) -> Result<(), ToolFault>
-    ensures { RunsLoan loan_lines (found_by txn_held txn.now desk.now.live.held)
-        (W.contents writer.old) (W.contents writer.new) result }
-{
-    run_desk_loan_as(alloc, desk, txn, Form::Lines, writer)
-}
-
-/// The same, in this form: one object in place of the lines.
-pub fn run_desk_loan_as<S: Store, W: Write>(
-    alloc: Global,
-    desk: &Desk<S>,
-    txn: &TxnId,
-    form: Form,
-    writer: &mut W,
-) -> Result<(), ToolFault>
-    ensures { RunsLoan (loan_text form) (found_by txn_held txn.now desk.now.live.held)
+    ensures { RunsLoan (found_by txn_held txn.now desk.now.live.held)
         (W.contents writer.old) (W.contents writer.new) result }
 {
     match desk.sides().get(txn) {
-        Some(side) => write_loan(alloc, form, side, desk.released(txn), writer),
+        Some(side) => write_loan(alloc, side, desk.released(txn), writer),
         None => Err(ToolFault::Desk(DeskFault::NoSuchTransaction)),
     }
 }
@@ -66,19 +49,15 @@ pub fn run_desk_loan_as<S: Store, W: Write>(
 /// Writes all that is known of a side.
 fn write_loan<W: Write>(
     alloc: Global,
-    form: Form,
     side: &Side,
     released: u8,
     writer: &mut W,
 ) -> Result<(), ToolFault>
     ensures { WritesText (W.contents writer.old) (W.contents writer.new)
-        (loan_text form side.now released) result }
+        (loan_lines side.now released) result }
 {
     let mut lines = Vec::new(alloc);
-    match form {
-        Form::Lines => push_loan(&mut lines, side, released)?,
-        Form::Json => push_loan_object(&mut lines, side, released)?,
-    }
+    push_loan(&mut lines, side, released)?;
     write_whole(writer, &lines)
 }
 

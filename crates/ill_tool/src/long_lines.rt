@@ -1,10 +1,9 @@
-//! Which message it was, and what it said, as `take --long` writes it.
+//! The words of `take --long` that tell which message it was, and what it said.
 
 ghost use Rattle.std.specs.Prelude.{◌≡◌, ◌++◌, OnOk};
 ghost use Rattle.ill_tool.specs.LongLines.{heading, indent, indented, said, word};
 
-use crate::escape::push_escaped;
-use crate::lines::push_fields;
+use crate::lines::push_shown_fields;
 use ill_der::ApduView;
 use ill_values::OutOfMemory;
 use itoa::Buffer;
@@ -33,10 +32,8 @@ pub(crate) fn push_said(lines: &mut Vec<u8>, apdu: &ApduView<'_>) -> Result<(), 
     ensures { OnOk result (lines.new.items ≡ lines.old.items ++ said apdu.now) }
 {
     let alloc = *lines.allocator();
-    let mut fields = Vec::new(alloc);
-    push_fields(&mut fields, apdu.body())?;
     let mut shown = Vec::new(alloc);
-    push_escaped(&mut shown, &fields)?;
+    push_shown_fields(&mut shown, apdu.body())?;
     push_indented(lines, &shown)
 }
 

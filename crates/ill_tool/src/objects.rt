@@ -6,7 +6,7 @@ ghost use Rattle.ill_der.specs.View.{apdu_of, body_in};
 ghost use Rattle.ill_tool.specs.Json.{array, joined, member, optional, quoted, value_text};
 ghost use Rattle.ill_tool.specs.List.{item_asked};
 ghost use Rattle.ill_tool.specs.Loan.{request_of};
-ghost use Rattle.ill_tool.specs.Objects.{apdu_fields, body_fields, head_fields, leaves_fields, loan_fields, message_object, names_of, object_line, optional_date_fields, reply_fields, sent_fields, standing_fields, status_fields, taken_fields, turn_fields};
+ghost use Rattle.ill_tool.specs.Objects.{apdu_fields, body_fields, came_fields, head_fields, leaves_fields, loan_fields, message_object, messages_fields, names_of, object_line, optional_date_fields, reply_fields, standing_fields, status_fields, taken_fields, turn_fields};
 
 use crate::json::{Value, push_label, push_members, push_plain};
 use crate::lines::view;
@@ -196,20 +196,6 @@ fn push_standing<'a>(
     )
 }
 
-/// Adds the object of all that is known of a side, on a line.
-pub(crate) fn push_loan_object(
-    text: &mut Vec<u8>,
-    side: &Side,
-    released: u8,
-) -> Result<(), OutOfMemory>
-    ensures { OnOk result (text.new.items ≡ text.old.items
-        ++ object_line (loan_fields side.now released)) }
-{
-    push_plain(text, "{")?;
-    push_loan(text, side, released)?;
-    push_plain(text, "}\n")
-}
-
 /// Adds the fields of all that is known of a side.
 fn push_loan(text: &mut Vec<u8>, side: &Side, released: u8) -> Result<(), OutOfMemory>
     ensures { OnOk result (text.new.items ≡ text.old.items
@@ -218,7 +204,36 @@ fn push_loan(text: &mut Vec<u8>, side: &Side, released: u8) -> Result<(), OutOfM
     push_status(text, side, released)?;
     push_turn(text, side)?;
     push_taken(text, side)?;
-    push_sent(text, side.all_issued(), released)
+    push_messages(text, "messages", side.all_issued(), Some(released))
+}
+
+/// Adds the object of all that is known of a side and of these messages that came, on a line.
+pub(crate) fn push_kept_object(
+    text: &mut Vec<u8>,
+    side: &Side,
+    released: u8,
+    came: &[Apdu],
+) -> Result<(), OutOfMemory>
+    ensures { OnOk result (text.new.items ≡ text.old.items
+        ++ object_line (loan_fields side.now released ++ came_fields came.now)) }
+{
+    push_plain(text, "{")?;
+    push_loan_and_came(text, side, released, came)?;
+    push_plain(text, "}\n")
+}
+
+/// Adds the fields of all that is known of a side, and of these messages that came.
+fn push_loan_and_came(
+    text: &mut Vec<u8>,
+    side: &Side,
+    released: u8,
+    came: &[Apdu],
+) -> Result<(), OutOfMemory>
+    ensures { OnOk result (text.new.items ≡ text.old.items
+        ++ joined member [] (loan_fields side.now released ++ came_fields came.now)) }
+{
+    push_loan(text, side, released)?;
+    push_messages(text, "came", came, None)
 }
 
 /// Adds the fields of who acts next, of what the side may do now, and of what is asked for.
@@ -270,19 +285,24 @@ fn push_taken(text: &mut Vec<u8>, side: &Side) -> Result<(), OutOfMemory>
     }
 }
 
-/// Adds the field of messages that a side has issued.
+/// Adds the field of messages. If it is said how many are released, each tells if it may leave.
 #[tactic(auto, unfolding(crate::specs::Json::joined))]
-fn push_sent(text: &mut Vec<u8>, apdus: &[Apdu], released: u8) -> Result<(), OutOfMemory>
+fn push_messages(
+    text: &mut Vec<u8>,
+    label: &str,
+    apdus: &[Apdu],
+    released: Option<u8>,
+) -> Result<(), OutOfMemory>
     ensures { OnOk result (text.new.items ≡ text.old.items
-        ++ joined member (codes ",") (sent_fields released apdus.now)) }
+        ++ joined member (codes ",") (messages_fields label.now released apdus.now)) }
 {
     push_plain(text, ",")?;
-    push_label(text, "messages")?;
-    push_messages(text, apdus, released)
+    push_label(text, label)?;
+    push_array(text, apdus, released)
 }
 
 /// Adds the array of messages.
-fn push_messages(text: &mut Vec<u8>, apdus: &[Apdu], released: u8) -> Result<(), OutOfMemory>
+fn push_array(text: &mut Vec<u8>, apdus: &[Apdu], released: Option<u8>) -> Result<(), OutOfMemory>
     ensures { OnOk result (text.new.items ≡ text.old.items
         ++ array (message_object released) apdus.now) }
 {
@@ -297,13 +317,13 @@ fn push_messages(text: &mut Vec<u8>, apdus: &[Apdu], released: u8) -> Result<(),
     Ok(())
 }
 
-/// Adds the object of a message, and whether it may leave.
-fn push_message(text: &mut Vec<u8>, apdu: &Apdu, released: u8) -> Result<(), OutOfMemory>
+/// Adds the object of a message.
+fn push_message(text: &mut Vec<u8>, apdu: &Apdu, released: Option<u8>) -> Result<(), OutOfMemory>
     ensures { OnOk result (text.new.items ≡ text.old.items ++ message_object released apdu.now) }
 {
     push_plain(text, "{")?;
     push_issued(text, apdu)?;
-    push_leaves(text, apdu.number.get() <= released)?;
+    push_leaves(text, apdu, released)?;
     push_plain(text, "}")
 }
 
@@ -316,17 +336,23 @@ fn push_issued(text: &mut Vec<u8>, apdu: &Apdu) -> Result<(), OutOfMemory>
     push_apdu(text, &view(&apdu.body), group, transaction, apdu.number)
 }
 
-/// Adds the field of whether a message may leave.
+/// Adds the field that tells if a message may leave, if it is said how many are released.
 #[tactic(auto, unfolding(crate::specs::Json::joined))]
-fn push_leaves(text: &mut Vec<u8>, leaves: bool) -> Result<(), OutOfMemory>
+fn push_leaves(text: &mut Vec<u8>, apdu: &Apdu, released: Option<u8>) -> Result<(), OutOfMemory>
     ensures { OnOk result (text.new.items ≡ text.old.items
-        ++ joined member (codes ",") (leaves_fields leaves)) }
+        ++ joined member (codes ",") (leaves_fields released apdu.now)) }
 {
-    push_members(text, b",", &[("leaves", Value::Flag(leaves))])
+    match released {
+        None => Ok(()),
+        Some(released) => {
+            let leaves = apdu.number.get() <= released;
+            push_members(text, b",", &[("leaves", Value::Flag(leaves))])
+        }
+    }
 }
 
 /// The item of a side, if its request is there.
-fn title<'a>(side: &'a Side) -> Value<'a>
+pub(crate) fn title<'a>(side: &'a Side) -> Value<'a>
     ensures { value_text result ≡ optional quoted (item_asked (request_of side.now)) }
 {
     match item_asked(side) {

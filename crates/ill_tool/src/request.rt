@@ -79,8 +79,10 @@ pub enum Request<'a> {
     List {
         /// The paths of the desks, or of folders of them.
         paths: Vec<&'a str>,
-        /// Which loans are listed.
+        /// The loans that are listed.
         wanted: Wanted,
+        /// The form in which they are listed.
+        form: Form,
     },
     /// Show the sides in a file: `ill status`.
     Status {
@@ -258,7 +260,11 @@ fn list_request<'a>(alloc: Global, matches: &ArgMatches<'a>) -> Result<Request<'
         Ok(wanted) => wanted,
         Err(refusal) => return Err(refusal),
     };
-    Ok(Request::List { paths, wanted })
+    Ok(Request::List {
+        paths,
+        wanted,
+        form: form(matches),
+    })
 }
 
 /// The request of `ill status`.

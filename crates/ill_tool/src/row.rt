@@ -47,7 +47,7 @@ const STATE: usize = 20;
 
 const DUE: usize = 8;
 
-const VERBS: usize = 18;
+const VERBS: usize = 20;
 
 /// Adds the line of a side whose turn is this.
 #[tactic(auto, unfolding(crate::specs::List::row))]

@@ -8,7 +8,7 @@ ghost use Rattle.ill_saved.specs.Sides.{are_apart};
 ghost use Rattle.ill_saved.specs.Many.{sides_held};
 ghost use Rattle.ill_world.specs.Trace.{due_text};
 ghost use Rattle.ill_tool.specs.Lines.{line};
-ghost use Rattle.ill_tool.specs.Objects.{desk_text, status_text, text_of_one};
+ghost use Rattle.ill_tool.specs.Objects.{status_of_desk, status_text, text_of_one};
 ghost use Rattle.ill_tool.specs.Status.{status_lines, held_lines, desk_lines, role_name, marks_of, mark, counts_text, spaced_or_dash};
 
 use crate::fault::ToolFault;
@@ -56,7 +56,7 @@ pub fn run_desk_status_as<S: Store, W: Write>(
     writer: &mut W,
 ) -> Result<(), ToolFault>
     ensures { WritesText (W.contents writer.old) (W.contents writer.new)
-        (desk_text form desk.now.live.held) result }
+        (status_of_desk form desk.now.live.held) result }
 {
     let mut lines = Vec::new(alloc);
     push_desk(&mut lines, desk, form)?;
@@ -65,7 +65,7 @@ pub fn run_desk_status_as<S: Store, W: Write>(
 
 /// Adds the text of each side that a desk holds.
 fn push_desk<S: Store>(lines: &mut Vec<u8>, desk: &Desk<S>, form: Form) -> Result<(), OutOfMemory>
-    ensures { OnOk result (lines.new.items ≡ lines.old.items ++ desk_text form desk.now.live.held) }
+    ensures { OnOk result (lines.new.items ≡ lines.old.items ++ status_of_desk form desk.now.live.held) }
 {
     for place in 0..desk.sides().len() {
         push_status_at(lines, desk, form, place)?;

@@ -1,7 +1,6 @@
 //! The command `verify`.
 
-ghost use Rattle.std.specs.Prelude.{◌≡◌, ◌≤◌, ◌++◌, true, map, length, slice_get, IfOk, OnOk};
-ghost use Rattle.std.specs.Option.{option_to_list};
+ghost use Rattle.std.specs.Prelude.{◌≡◌, ◌≤◌, ◌++◌, true, map, length, OnOk};
 ghost use Rattle.ill_saved.specs.Records2.{records_at};
 ghost use Rattle.ill_saved.specs.Sides.{most_sides};
 ghost use Rattle.ill_tool.specs.Performing.{CountsToolFailure};
@@ -11,6 +10,7 @@ ghost use Rattle.ill_tool.specs.Verify.{RunsVerify, Verifies, issued_by_all, ver
 use crate::fault::ToolFault;
 use crate::lines::{push_decimal, push_line};
 use crate::output::write_whole;
+use crate::sides::all_of;
 use crate::status::role_name;
 use ill_saved::{DeskFault, SIDES_LIMIT, Side, Sides, Store, decode_record2};
 use ill_values::OutOfMemory;
@@ -89,29 +89,7 @@ fn version(bytes: &[u8]) -> &'static [u8]
     }
 }
 
-/// All sides, in the order in which they were begun.
-fn all_of<'a>(alloc: Global, sides: &'a Sides) -> Result<Vec<&'a Side>, OutOfMemory>
-    ensures { IfOk result (λ all. map (λ side. side.now) all.items ≡ sides.now.sides) }
-{
-    let mut all = Vec::new(alloc);
-    for place in 0..sides.len() {
-        push_at(&mut all, sides, place)?;
-    }
-    Ok(all)
-}
-
-/// Adds the side at this place, if there is one.
-fn push_at<'a>(all: &mut Vec<&'a Side>, sides: &'a Sides, place: usize) -> Result<(), OutOfMemory>
-    ensures { OnOk result (map (λ side. side.now) all.new.items
-        ≡ map (λ side. side.now) all.old.items ++ option_to_list (slice_get sides.now.sides place)) }
-{
-    if let Some(side) = sides.at(place) {
-        all.push(side)?;
-    }
-    Ok(())
-}
-
-/// How many messages all sides have issued together.
+/// Counts the messages that all sides have issued together.
 fn issued_by_all(sides: &[&Side]) -> usize
     requires few { length sides.now ≤ most_sides }
     ensures { result ≡ issued_by_all (map (λ side. side.now) sides.now) }

@@ -141,7 +141,11 @@ fn run<T: LockFiles, R: Read, W: Write, E: Write>(
             is_kept,
         } => take(rt, alloc, file, *is_long, *is_kept, reader, writer),
         Request::Send { file, txn, number } => send(rt, alloc, file, txn, *number, writer),
-        Request::List { paths, wanted } => list(rt, alloc, paths, wanted, writer, errors),
+        Request::List {
+            paths,
+            wanted,
+            form,
+        } => list(rt, alloc, paths, wanted, *form, writer, errors),
         Request::Status { file, form } => status(rt, alloc, file, *form, writer),
         Request::Loan {
             file,

@@ -2,7 +2,7 @@ use Rattle.std.proofs.Common.{◌≡◌, ℕ, ◌++◌, List, Option, Result, Ok
 use Rattle.ill_saved.specs.Sides.{SidesOf}
 use Rattle.ill_saved.specs.Many.{sides_held}
 use Rattle.ill_tool.specs.declared.fault.ToolFault.{ToolFault}
-use Rattle.ill_tool.specs.List.{list_lines}
+use Rattle.ill_tool.specs.Listing.{list_lines}
 use Rattle.ill_tool.specs.Output.{WritesFront, WritesText}
 use Rattle.ill_tool.proofs.list.run_desk_list.Goals as goal
 

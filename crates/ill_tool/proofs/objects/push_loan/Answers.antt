@@ -15,4 +15,4 @@ returns c =
     let all =
     joined_further member [] old c.push_taken.new.text.items _ _ _ taken
     ∙ ap (λ (apdus : List Apdu). old ++ joined member [] (status_fields side released ++ turn_fields side (names_of side) ++ taken_fields side ++ sent_fields released apdus)) c.all_issued.ensures.value in
-    subst (λ (shown : List ℕ). OnOk c.push_sent.result (c.push_sent.new.text.items ≡ shown)) all c.push_sent.ensures
+    subst (λ (shown : List ℕ). OnOk c.push_messages.result (c.push_messages.new.text.items ≡ shown)) all c.push_messages.ensures

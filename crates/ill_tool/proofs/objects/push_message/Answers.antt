@@ -1,5 +1,4 @@
-use Rattle.std.proofs.Common.{◌≡◌, ◌++◌, ◌∷◌, ℕ, List, [], codes, OnOk, ap, subst, ◌∙◌, append_assoc}
-use Rattle.std.specs.Prelude.{nat_le}
+use Rattle.std.proofs.Common.{◌≡◌, ◌++◌, ◌∷◌, ℕ, List, [], OnOk, ap, subst, ◌∙◌, append_assoc}
 use Rattle.ill_tool.specs.Json.{joined, member}
 use Rattle.ill_tool.specs.Objects.{apdu_fields, leaves_fields}
 use Rattle.ill_tool.proofs.JsonLemmas.{joined_further}
@@ -9,9 +8,8 @@ pub returns : goal.returns
 returns c =
     let old = c.args.text.now.items in
     let apdu = c.args.apdu.now in
-    let fields = joined member [] (apdu_fields apdu ++ leaves_fields (nat_le apdu.number c.args.released)) in
+    let fields = joined member [] (apdu_fields apdu ++ leaves_fields c.args.released apdu) in
     let further = joined_further member [] c.push_plain.new.text.items c.push_issued.new.text.items _ _ _ c.in_ok-push_issued.ensures in
-    let leaves = c.in_ok-push_leaves.ensures ∙ ap (λ (number : ℕ). c.push_issued.new.text.items ++ joined member (codes ",") (leaves_fields (nat_le number c.args.released))) c.get.ensures.value in
-    let shown = leaves ∙ further ∙ ap (λ front. front ++ fields) c.in_ok-push_plain.ensures in
+    let shown = c.in_ok-push_leaves.ensures ∙ further ∙ ap (λ front. front ++ fields) c.in_ok-push_plain.ensures in
     let all = ap (λ front. front ++ 125 ∷ []) shown ∙ append_assoc (old ++ 123 ∷ []) fields (125 ∷ []) ∙ append_assoc old (123 ∷ []) (fields ++ 125 ∷ []) in
     subst (λ (text : List ℕ). OnOk c.push_plain-2.result (c.push_plain-2.new.text.items ≡ text)) all c.push_plain-2.ensures

@@ -4,7 +4,7 @@ use Rattle.std.proofs.lemmas.List.{take_all}
 use Rattle.std.proofs.lemmas.List.Folds.{flat_map-map}
 use Rattle.ill_saved.specs.declared.side.Side.{Side}
 use Rattle.ill_tool.specs.Report.{is_on, loan_text, loans_text}
-use Rattle.ill_tool.proofs.ReportLemmas.{kept_apart}
+use Rattle.ill_tool.proofs.ListLemmas.{kept_apart}
 use Rattle.ill_tool.proofs.report.push_loans.Goals as goal
 
 pub returns : goal.returns

@@ -1,21 +1,16 @@
-use Rattle.std.proofs.Common.{◌≡◌, ℕ, suc, ◌+◌, ◌-◌, List, drop, length, slice_get, ap, ◌∙◌, arith}
-use Rattle.std.specs.Option.{option_map_or}
+use Rattle.std.proofs.Common.{rules, Bool, Option, Bor, is_none, ap, ◌∙◌}
+use Rattle.std.proofs.lemmas.List.Sorted.{answers_always}
+use Rattle.ill_values.specs.Day.{Date}
 use Rattle.ill_saved.specs.declared.side.Side.{Side}
-use Rattle.ill_tool.specs.Waiting.{placed, most_urgent_first}
-use Rattle.ill_tool.proofs.WaitingLemmas.{one_placed}
+use Rattle.ill_tool.specs.Waiting.{deadline_of, most_urgent_first}
+use Rattle.ill_tool.proofs.WaitingLemmas.{sorted_by_urgency}
 use Rattle.ill_tool.proofs.waiting.most_urgent_first.Goals as goal
 
-pub loop-left-preserved : goal.loop-left-preserved
-loop-left-preserved c =
-    let sides = c.args.sides.now.sides in
-    let left = c.loop-left.left in
-    let place = c.len-count.result - 1 - left in
-    let from : ℕ → List Side = λ n. most_urgent_first (drop n sides) in
-    let here : place ≡ length sides - (left + 1) = omega (arith, c.len-count.ensures.value, c.loop-left-test.true) in
-    let behind : length sides - left ≡ suc place = omega (arith, c.len-count.ensures.value, c.loop-left-test.true) in
-    let later = c.loop-left.invariant.ordered ∙ ap from behind in
-    record {
-      ordered = c.in_ok-place_at.ensures
-          ∙ ap (λ (rest : List Side). option_map_or (λ (side : Side). placed side rest) (slice_get sides place) rest) later
-          ∙ one_placed sides place ∙ ap from here;
-    }
+pub returns : goal.returns
+returns c =
+    let key : Bor Side → Bool × Option Date = λ side. (is_none (deadline_of side.now), deadline_of side.now) in
+    let sorted = c.in_ok-sort_by_cached_key.ensures in
+    sorted_by_urgency _ (λ a b. search rules) c.in_ok-ordered.ordered.items c.sort_by_cached_key.new.self.items
+    (sorted.sorted key (answers_always _ _ _ (λ f a r q k. search rules)))
+    (sorted.stable key (answers_always _ _ _ (λ f a r q k. search rules)))
+    ∙ ap most_urgent_first c.in_ok-ordered.ensures

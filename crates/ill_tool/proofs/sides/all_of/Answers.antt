@@ -2,8 +2,8 @@ use Rattle.std.proofs.Common.{◌≡◌, ◌+◌, ◌++◌, map, drop, Bor, ap, 
 use Rattle.std.specs.Prelude.{slice_get}
 use Rattle.std.specs.Option.{option_to_list}
 use Rattle.ill_saved.specs.declared.side.Side.{Side}
-use Rattle.ill_tool.proofs.VerifyLemmas.{one_item}
-use Rattle.ill_tool.proofs.verify.all_of.Goals as goal
+use Rattle.ill_tool.proofs.SidesLemmas.{one_item}
+use Rattle.ill_tool.proofs.sides.all_of.Goals as goal
 
 pub loop-place-preserved : goal.loop-place-preserved
 loop-place-preserved c =

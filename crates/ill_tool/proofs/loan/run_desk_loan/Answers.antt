@@ -3,9 +3,8 @@ use Rattle.ill_saved.specs.Sides.{side_with}
 use Rattle.ill_saved.specs.Many.{Held, held_for, sides_held}
 use Rattle.ill_saved.proofs.Holdings.{held_there, none_held_there}
 use Rattle.ill_tool.specs.Output.{WritesText}
-use Rattle.ill_tool.specs.Loan.{RunsLoan}
-use Rattle.ill_tool.specs.Objects.{loan_text}
-use Rattle.ill_tool.proofs.loan.run_desk_loan_as.Goals as goal
+use Rattle.ill_tool.specs.Loan.{RunsLoan, loan_lines}
+use Rattle.ill_tool.proofs.loan.run_desk_loan.Goals as goal
 
 pub returns-in-Some : goal.returns-in-Some
 returns-in-Some g c =
@@ -16,8 +15,8 @@ returns-in-Some g c =
     let after = g.W.Write.contents c.write_loan.new.writer in
     let there : side_with txn (sides_held live).sides ≡ Some side = search rules in
     let counted : c.released.result ≡ (held_for txn live).released = search rules in
-    subst (λ (found : Option Held). RunsLoan (loan_text c.args.form) found before after c.write_loan.result) (sym (held_there live txn side there))
-    (subst (λ (released : ℕ). WritesText before after (loan_text c.args.form side released) c.write_loan.result) counted c.write_loan.ensures)
+    subst (λ (found : Option Held). RunsLoan found before after c.write_loan.result) (sym (held_there live txn side there))
+    (subst (λ (released : ℕ). WritesText before after (loan_lines side released) c.write_loan.result) counted c.write_loan.ensures)
 
 pub returns-in-None : goal.returns-in-None
 returns-in-None g c =

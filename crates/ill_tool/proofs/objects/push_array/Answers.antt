@@ -3,7 +3,7 @@ use Rattle.ill_tool.specs.Json.{joined}
 use Rattle.ill_tool.specs.Objects.{message_object}
 use Rattle.ill_tool.proofs.LoanLemmas.{from_place}
 use Rattle.ill_tool.proofs.JsonLemmas.{one_joined, all_joined}
-use Rattle.ill_tool.proofs.objects.push_messages.Goals as goal
+use Rattle.ill_tool.proofs.objects.push_array.Goals as goal
 
 pub loop-apdu-preserved : goal.loop-apdu-preserved
 loop-apdu-preserved c =

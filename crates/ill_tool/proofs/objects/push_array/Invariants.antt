@@ -1,7 +1,7 @@
 use Rattle.std.proofs.Common.{◌≡◌, ◌++◌, [], drop}
 use Rattle.ill_tool.specs.Json.{joined}
 use Rattle.ill_tool.specs.Objects.{message_object}
-use Rattle.ill_tool.proofs.objects.push_messages.Given as goal
+use Rattle.ill_tool.proofs.objects.push_array.Given as goal
 
 -- with the messages that are left, all are there
 abbrev pub invariant-loop-apdu : goal.invariant-loop-apdu

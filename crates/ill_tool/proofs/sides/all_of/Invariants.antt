@@ -1,6 +1,6 @@
 use Rattle.std.proofs.Common.{◌≡◌, ◌++◌, map, drop, Bor}
 use Rattle.ill_saved.specs.declared.side.Side.{Side}
-use Rattle.ill_tool.proofs.verify.all_of.Given as goal
+use Rattle.ill_tool.proofs.sides.all_of.Given as goal
 
 -- with those that are left, all sides are there
 abbrev pub invariant-loop-place : goal.invariant-loop-place

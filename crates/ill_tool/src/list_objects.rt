@@ -1,0 +1,134 @@
+//! The objects that `list` writes with `--json`.
+
+ghost use Rattle.std.specs.Prelude.{◌≡◌, [], ◌++◌, map, option_map, codes, OnOk};
+ghost use Rattle.ill_tool.specs.Json.{joined, member};
+ghost use Rattle.ill_tool.specs.Objects.{counts_fields, counts_object, file_fields, names_of, row_fields, row_object};
+
+use crate::json::{Value, push_members, push_plain};
+use crate::list::Counts;
+use crate::loan::{names, turn_word};
+use crate::objects::title;
+use ill_core::Turn;
+use ill_saved::Side;
+use ill_values::OutOfMemory;
+
+/// Adds the object of a loan of this turn, on a line, with the path of its desk, if one is told.
+pub(crate) fn push_row_object(
+    text: &mut Vec<u8>,
+    file: Option<&str>,
+    turn: Turn,
+    side: &Side,
+) -> Result<(), OutOfMemory>
+    ensures { OnOk result (text.new.items ≡ text.old.items
+        ++ row_object (option_map (λ path. path.now) file.entry) turn side.now) }
+{
+    push_plain(text, "{")?;
+    push_row_and_file(text, file, turn, side)?;
+    push_plain(text, "}\n")
+}
+
+/// Adds the fields of a loan, and the path of its desk.
+fn push_row_and_file(
+    text: &mut Vec<u8>,
+    file: Option<&str>,
+    turn: Turn,
+    side: &Side,
+) -> Result<(), OutOfMemory>
+    ensures { OnOk result (text.new.items ≡ text.old.items
+        ++ joined member [] (row_fields turn side.now (names_of side.now) ++ file_fields (option_map (λ path. path.now) file.entry))) }
+{
+    push_row_fields(text, turn, side)?;
+    push_file(text, file)
+}
+
+/// Adds the fields of a loan.
+fn push_row_fields(text: &mut Vec<u8>, turn: Turn, side: &Side) -> Result<(), OutOfMemory>
+    ensures { OnOk result (text.new.items ≡ text.old.items
+        ++ joined member [] (row_fields turn side.now (names_of side.now))) }
+{
+    let names = names(*text.allocator(), side.verbs())?;
+    push_row_with(text, turn, side, &names)
+}
+
+/// Adds the fields of a loan, with these names of what it may do now.
+#[tactic(auto, unfolding(crate::specs::Json::joined))]
+fn push_row_with<'a>(
+    text: &mut Vec<u8>,
+    turn: Turn,
+    side: &'a Side,
+    names: &'a [&'a str],
+) -> Result<(), OutOfMemory>
+    ensures { OnOk result (text.new.items ≡ text.old.items
+        ++ joined member [] (row_fields turn side.now (map (λ name. name.now) names.now))) }
+{
+    push_members(
+        text,
+        b"",
+        &[
+            ("next", Value::Text(turn_word(turn).as_bytes())),
+            ("state", Value::Text(side.state().name().as_bytes())),
+            ("due", Value::day(side.due())),
+            ("group", Value::Text(side.txn().group())),
+            ("transaction", Value::Text(side.txn().transaction())),
+            ("now", Value::Words(names)),
+            ("item", title(side)),
+        ],
+    )
+}
+
+/// Adds the path of a desk, if one is told.
+#[tactic(auto, unfolding(crate::specs::Json::joined))]
+fn push_file(text: &mut Vec<u8>, file: Option<&str>) -> Result<(), OutOfMemory>
+    ensures { OnOk result (text.new.items ≡ text.old.items
+        ++ joined member (codes ",") (file_fields (option_map (λ path. path.now) file.entry))) }
+{
+    match file {
+        None => Ok(()),
+        Some(path) => push_members(text, b",", &[("file", Value::Text(path.as_bytes()))]),
+    }
+}
+
+/// Adds the object of counts, on a line, with the path of their desk, if one is told.
+pub(crate) fn push_counts_object(
+    text: &mut Vec<u8>,
+    file: Option<&str>,
+    counts: &Counts,
+) -> Result<(), OutOfMemory>
+    ensures { OnOk result (text.new.items ≡ text.old.items
+        ++ counts_object (option_map (λ path. path.now) file.entry) counts.now) }
+{
+    push_plain(text, "{")?;
+    push_counts_and_file(text, file, counts)?;
+    push_plain(text, "}\n")
+}
+
+/// Adds the fields of counts, and the path of their desk.
+fn push_counts_and_file(
+    text: &mut Vec<u8>,
+    file: Option<&str>,
+    counts: &Counts,
+) -> Result<(), OutOfMemory>
+    ensures { OnOk result (text.new.items ≡ text.old.items
+        ++ joined member [] (counts_fields counts.now ++ file_fields (option_map (λ path. path.now) file.entry))) }
+{
+    push_counts_fields(text, counts)?;
+    push_file(text, file)
+}
+
+/// Adds the fields of counts.
+#[tactic(auto, unfolding(crate::specs::Json::joined))]
+fn push_counts_fields(text: &mut Vec<u8>, counts: &Counts) -> Result<(), OutOfMemory>
+    ensures { OnOk result (text.new.items ≡ text.old.items
+        ++ joined member [] (counts_fields counts.now)) }
+{
+    push_members(
+        text,
+        b"",
+        &[
+            ("loans", Value::Count(counts.loans)),
+            ("open", Value::Count(counts.open_loans)),
+            ("mine", Value::Count(counts.mine)),
+            ("room", Value::Count(counts.room)),
+        ],
+    )
+}

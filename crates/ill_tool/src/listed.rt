@@ -1,0 +1,59 @@
+//! A desk among those that are listed: what is written beside its loans.
+
+ghost use Rattle.std.specs.Prelude.{◌≡◌, ◌++◌, option_map, IfOk};
+ghost use Rattle.ill_tool.specs.Listing.{file_told, gap, heading, room_line};
+
+use crate::escape::push_escaped;
+use ill_values::OutOfMemory;
+use std::alloc::Global;
+
+/// A desk among those that are listed.
+#[derive(Clone, Copy)]
+pub(crate) struct Listed<'a> {
+    /// The path of its file.
+    pub path: &'a str,
+    /// Set if the path is told, since several are listed.
+    pub is_headed: bool,
+    /// Set if no desk is listed before it.
+    pub is_first: bool,
+}
+
+impl<'a> Listed<'a> {
+    /// The path, if it is told.
+    pub(crate) fn told(&self) -> Option<&'a str>
+        ensures { option_map (λ path. path.now) result ≡ file_told self.now.is_headed self.now.path.now }
+    {
+        if self.is_headed {
+            Some(self.path)
+        } else {
+            None
+        }
+    }
+}
+
+/// The heading of a desk in lines: an empty line behind another desk, and a line of its path, if it is told.
+pub(crate) fn heading(alloc: Global, listed: &Listed<'_>) -> Result<Vec<u8>, OutOfMemory>
+    ensures { IfOk result (λ text. text.items
+        ≡ gap listed.now.is_first ++ heading listed.now.is_headed listed.now.path.now) }
+{
+    let mut text = Vec::new(alloc);
+    if !listed.is_first {
+        text.push(b'\n')?;
+    }
+    if listed.is_headed {
+        push_escaped(&mut text, listed.path.as_bytes())?;
+        text.extend_from_slice(b":\n")?;
+    }
+    Ok(text)
+}
+
+/// The line that warns how much room a desk has left.
+pub(crate) fn warning(alloc: Global, path: &str, room: usize) -> Result<Vec<u8>, OutOfMemory>
+    ensures { IfOk result (λ line. line.items ≡ room_line path.now room) }
+{
+    let mut line = Vec::from_slice(alloc, b"ill: ")?;
+    push_escaped(&mut line, path.as_bytes())?;
+    let left = format!(in alloc; " has room for {room} more loans\n")?;
+    line.extend_from_slice(left.as_bytes())?;
+    Ok(line)
+}

@@ -83,7 +83,7 @@ _ill_skip() {
 
 _ill() {
   _ill_skip
-  local commands='new act take send list status loan verify report show check simulate simulate-desks help'
+  local commands='new act list loan status report take send verify show check simulate simulate-desks help'
   local word=${COMP_WORDS[COMP_CWORD]} command=${COMP_WORDS[1]} offered= arguments wanted
   COMPREPLY=()
   _ill_read
@@ -95,7 +95,7 @@ _ill() {
     any-act-[0-9]--*) offered='--today --help' ;;
     state-*) offered='IDLE PENDING IN-PROCESS CONDITIONAL CANCEL-PENDING CANCELLED NOT-SUPPLIED SHIPPED
       RECEIVED RENEW/PENDING OVERDUE RENEW/OVERDUE NOT-RECEIVED/OVERDUE RECALL RETURNED CHECKED-IN' ;;
-    any-list-[0-9]*--*) offered='--open --mine --today --due-before --state --help' ;;
+    any-list-[0-9]*--*) offered='--open --mine --today --due-before --state --json --help' ;;
     any-take-[0-9]--*) offered='--long --keep --help' ;;
     any-loan-[0-9]--*) offered='--picture --json --help' ;;
     any-report-[0-9]*--*) offered='--today --help' ;;

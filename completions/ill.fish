@@ -1,6 +1,6 @@
 # Completion of ill(1) in fish: commands, options, roles, files, their loans, and the first words of actions.
 
-set -l commands new act take send list status loan verify report show check simulate simulate-desks help
+set -l commands new act list loan status report take send verify show check simulate simulate-desks help
 
 # The words before the cursor, without the option that may stand before the command.
 function __ill_typed
@@ -58,6 +58,12 @@ function __ill_option
     set -l read (__ill_read)
     test $read[1] = any
     and contains -- "$read[2]" $argv
+end
+
+# __ill_state: whether the state may come next that `list` lists, or the option that says it.
+function __ill_state
+    set -l read (__ill_read)
+    contains -- $read[1] any state; and test "$read[2]" = list
 end
 
 # What `ill status` tells of the loans in a file.
@@ -124,13 +130,14 @@ complete -c ill -n '__ill_option take' -l long -d 'Tell which message each was, 
 complete -c ill -n '__ill_option status' -l json -d 'Write objects of JSON, one on a line'
 complete -c ill -n '__ill_option loan' -l json -d 'Write objects of JSON, one on a line'
 complete -c ill -n '__ill_option show' -l json -d 'Write objects of JSON, one on a line'
+complete -c ill -n '__ill_option list' -l json -d 'Write objects of JSON, one on a line'
 complete -c ill -n '__ill_option take' -l keep -d 'Keep each message that is taken, in FILE.came'
 complete -c ill -n '__ill_option loan' -l picture -d 'Draw the messages of the loan, for Mermaid'
 complete -c ill -n '__ill_option list' -l open -d 'Leave out the loans that are over'
 complete -c ill -n '__ill_option list' -l mine -d 'List only the loans that wait for this library'
 complete -c ill -n '__ill_option list' -l today -x -d 'The day on which they wait'
 complete -c ill -n '__ill_option list' -l due-before -x -d 'List only the loans that are due before this day'
-complete -c ill -n '__ill_option list' -l state -x -a 'IDLE PENDING IN-PROCESS CONDITIONAL CANCEL-PENDING CANCELLED NOT-SUPPLIED SHIPPED RECEIVED RENEW/PENDING OVERDUE RENEW/OVERDUE NOT-RECEIVED/OVERDUE RECALL RETURNED CHECKED-IN' -d 'List only the loans in this state'
+complete -c ill -n __ill_state -l state -x -a 'IDLE PENDING IN-PROCESS CONDITIONAL CANCEL-PENDING CANCELLED NOT-SUPPLIED SHIPPED RECEIVED RENEW/PENDING OVERDUE RENEW/OVERDUE NOT-RECEIVED/OVERDUE RECALL RETURNED CHECKED-IN' -d 'List only the loans in this state'
 complete -c ill -n '__ill_further list report' -F
 complete -c ill -n '__ill_at 1 act send loan' -a '(__ill_loans)'
 complete -c ill -n '__ill_at 2 act send loan' -a '(__ill_loans)'

@@ -16,7 +16,8 @@
      name-N  is the file that the name N stood for when the folder of N was flushed last
      none-N  says that N was the name of nothing then
      bytes-I is a file, with the inode I, that has bytes which were not flushed
-   The first two are made where a name is changed, and the last where a file is; the flush that is answered well,
+     size-I  says how many bytes that file had when it was flushed last
+   The first two are made where a name is changed, and the others where a file is; the flush that is answered well,
    whoever makes it, removes them. All names are those of one folder. */
 #define _GNU_SOURCE
 #include <dirent.h>
@@ -151,22 +152,37 @@ static void keep_name(const char *name) {
   errno = error;
 }
 
-/* The path of what says that a file has bytes which were not flushed. */
-static int is_kept_file(char *path, int file) {
+/* Sets a path to that of a thing of this kind which says something of a file, and tells whether there is a folder. */
+static int is_kept_file(char *path, const char *kind, int file) {
   char inode[32];
   struct stat is;
   if (fstat(file, &is))
     return 0;
   snprintf(inode, sizeof inode, "%lu", (unsigned long)is.st_ino);
-  return is_kept(path, "bytes", inode);
+  return is_kept(path, kind, inode);
+}
+
+/* Keeps how many bytes a file has, all of which are flushed. */
+static void keep_size(int file) {
+  char kept[2 * NAME], digits[32];
+  struct stat is;
+  int out, size;
+  if (fstat(file, &is) || !is_kept_file(kept, "size", file))
+    return;
+  size = snprintf(digits, sizeof digits, "%ld", (long)is.st_size);
+  out = REAL(open)(kept, O_WRONLY | O_CREAT | O_TRUNC, 0600);
+  if (out < 0 || REAL(write)(out, digits, size) != size || REAL(close)(out))
+    abort();
 }
 
 /* Keeps that a file has bytes which were not flushed. */
 static void keep_bytes(int file) {
   char kept[2 * NAME], open_file[64];
   int error = errno;
-  if (file <= STDERR_FILENO || !is_kept_file(kept, file))
+  if (file <= STDERR_FILENO || !is_kept_file(kept, "bytes", file))
     return;
+  if (access(kept, F_OK))
+    keep_size(file);
   snprintf(open_file, sizeof open_file, "/proc/self/fd/%d", file);
   if (linkat(AT_FDCWD, open_file, AT_FDCWD, kept, AT_SYMLINK_FOLLOW) && errno != EEXIST)
     abort();
@@ -193,8 +209,11 @@ static int flushed(int file, int answer) {
     return answer;
   if (!fstat(file, &is) && S_ISDIR(is.st_mode))
     forget_names();
-  else if (is_kept_file(kept, file))
+  else if (is_kept_file(kept, "bytes", file)) {
     REAL(unlink)(kept);
+    if (is_kept_file(kept, "size", file))
+      REAL(unlink)(kept);
+  }
   return answer;
 }
 

@@ -305,7 +305,14 @@ fn keep<F: Write>(alloc: Global, came: &mut F, apdu: &Apdu) -> Result<(), ToolFa
     ensures { KeepsFront (spelling apdu.now) (F.contents came.old) (F.contents came.new) result }
 {
     let bytes = encode(alloc, apdu)?;
-    match write_whole(came, &bytes) {
+    keep_bytes(came, &bytes)
+}
+
+/// Keeps bytes of messages: they are written and flushed.
+pub(crate) fn keep_bytes<F: Write>(came: &mut F, bytes: &[u8]) -> Result<(), ToolFault>
+    ensures { KeepsFront bytes.now (F.contents came.old) (F.contents came.new) result }
+{
+    match write_whole(came, bytes) {
         Ok(()) => match came.flush() {
             Ok(()) => Ok(()),
             Err(_) => Err(STORE_FAILED),

@@ -222,7 +222,7 @@ fn status_after(fault: ToolFault) -> u8
     match fault {
         ToolFault::Arguments | ToolFault::Der(_) | ToolFault::TooMany | ToolFault::Script(_) => BAD,
         ToolFault::Desk(fault) => status_after_desk(fault),
-        ToolFault::Read | ToolFault::Write | ToolFault::OutOfMemory => FAILED,
+        ToolFault::Left | ToolFault::Read | ToolFault::Write | ToolFault::OutOfMemory => FAILED,
     }
 }
 

@@ -19,7 +19,7 @@ use ill_core::Taking;
 use ill_der::laws::prefix_or_fault;
 use ill_der::{APDU_LIMIT, ApduView, view};
 use ill_saved::{Desk, Store};
-use ill_values::{Apdu, OutOfMemory};
+use ill_values::Apdu;
 use ill_world::{DeskOutcome, Outcome};
 use std::alloc::Global;
 use std::io::Write;

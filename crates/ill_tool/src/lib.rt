@@ -25,6 +25,7 @@ mod list_objects;
 mod listed;
 mod loan;
 mod long_lines;
+mod mail;
 mod new;
 mod objects;
 mod output;

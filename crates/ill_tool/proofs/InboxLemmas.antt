@@ -1,14 +1,19 @@
 -- Mails, and the messages in them.
-use Rattle.std.proofs.Common.{◌≡◌, ℕ, ◌+◌, ◌≤◌, List, [], ◌∷◌, ◌++◌, Result, Ok, Err, length, drop, refl, ap, sym, arith, ◌∙◌}
+use Rattle.std.proofs.Common.{◌≡◌, ℕ, ◌+◌, ◌≤◌, List, [], ◌∷◌, ◌++◌, Option, Result, Ok, Err, length, drop, subst, refl, ap, sym, arith, ◌∙◌}
 use Rattle.std.proofs.lemmas.List.{length-drop}
 use Rattle.ill_values.specs.declared.apdu.Apdu.{Apdu}
 use Rattle.ill_der.specs.declared.fault.DerFault.{DerFault}
 use Rattle.ill_der.specs.ShortForm.{Views}
 use Rattle.ill_tool.specs.declared.verdict.Unfit.{Unfit}
 use Rattle.ill_tool.specs.declared.verdict.Unfit.TheVariants.{Trailing}
+use Rattle.ill_saved.specs.Many.{Holding}
+use Rattle.ill_tool.specs.declared.verdict.Mail.{Mail}
 use Rattle.ill_tool.specs.declared.verdict.Verdict.{Verdict}
 use Rattle.ill_tool.specs.declared.tally.Tally.{Tally}
-use Rattle.ill_tool.specs.Inbox.{Sorting, concluded, inbox_text, one_message, tally_line, tally_of}
+use Rattle.ill_tool.specs.Keeping.{many_sides}
+use Rattle.ill_tool.specs.Performing.{View}
+use Rattle.ill_tool.specs.Commands.{EndedWell}
+use Rattle.ill_tool.specs.Inbox.{RunsInbox, Sorting, concluded, inbox_text, one_message, tally_line, tally_of}
 
 -- an APDU with further bytes behind it is no message
 behind_message : (a : Apdu) (rest : List ℕ) → 1 ≤ length rest → one_message (Ok (a, rest)) ≡ Err Trailing
@@ -26,3 +31,10 @@ pub concluded_is : {L : Type 0} (waiting : ℕ) (sorted end : Sorting L) (verdic
 concluded_is waiting sorted end verdicts tally told is all counted text =
     let whole : told ≡ inbox_text sorted waiting = text ∙ ap (λ tally. sorted.told ++ tally_line tally waiting) (counted ∙ ap tally_of all) in
     ap (λ told. record { live = sorted.live; verdicts = sorted.verdicts; told = told; kept = sorted.kept }) whole ∙ ap (concluded waiting) is
+
+-- A run has ended well also over equal mails, with equal verdicts.
+pub ended_well : (found mails : List Mail) (answered verdicts : List Verdict) (waiting : ℕ) (kept_before kept_after before after : Option (List ℕ)) (old new : View Holding) → found ≡ mails → verdicts ≡ answered
+    → RunsInbox many_sides found waiting kept_before kept_after before after old (Ok answered) new → EndedWell mails verdicts new
+ended_well found mails answered verdicts waiting kept_before kept_after before after old new same alike runs =
+    let told = subst (λ verdicts. RunsInbox many_sides found waiting kept_before kept_after before after old (Ok verdicts) new) (sym alike) runs in
+    (waiting, kept_before, kept_after, before, after, old, subst (λ mails. RunsInbox many_sides mails waiting kept_before kept_after before after old (Ok verdicts) new) same told)

@@ -83,10 +83,14 @@ EndedWell mails verdicts new =
     (waiting : ℕ) × (kept_before kept_after before after : Option (List ℕ)) × (old : View Holding)
     × RunsInbox many_sides mails waiting kept_before kept_after before after old (Ok verdicts) new
 
--- what a run answers: what it comes to by its verdicts, or that a file could not be removed or put aside; or its fault
+-- a file could not be removed or put aside, or memory ran out for that
+abbrev pub IsSettlingFault : ToolFault → Type 0
+IsSettlingFault fault = (fault ≡ Desk (Store Failed)) ⊎ (fault ≡ OutOfMemory)
+
+-- what a run answers: what it comes to by its verdicts, or why files stay; or its fault
 abbrev pub AnswersRun : ℕ → Result (List Verdict) ToolFault → Result Bool ToolFault → Type 0
 AnswersRun waiting (Ok verdicts) result =
-    (result ≡ ending (tally_of verdicts) waiting) ⊎ (result ≡ Err (Desk (Store Failed)))
+    (result ≡ ending (tally_of verdicts) waiting) ⊎ IsErrAnd result IsSettlingFault
 AnswersRun waiting (Err fault) result = result ≡ Err fault
 
 -- the mails of a folder were taken at a desk

@@ -17,7 +17,7 @@ ghost use Rattle.ill_tool.specs.Take.{RunsTake};
 ghost use Rattle.ill_tool.specs.Telling.{wording};
 
 use crate::act::run_desk_act;
-use crate::came::{STORE_FAILED, came_bytes, open_came};
+use crate::came::{came_bytes, open_came};
 use crate::fault::ToolFault;
 use crate::folder::desk_paths;
 use crate::form::Form;
@@ -204,10 +204,9 @@ fn conclude<T: Files, S: Store, E: Write>(
     requires ended { EndedWell found.now.mails.items verdicts.now (many_view S.is_honest S.landed _desk.now) }
     ensures { AnswersRun found.now.waiting (Ok verdicts.now) result }
 {
-    if settle_mails(rt, alloc, folder, &found.mails, verdicts, errors) {
-        Tally::of(verdicts).ending(found.waiting)
-    } else {
-        Err(STORE_FAILED)
+    match settle_mails(rt, alloc, folder, &found.mails, verdicts, errors) {
+        Ok(()) => Tally::of(verdicts).ending(found.waiting),
+        Err(fault) => Err(fault),
     }
 }
 

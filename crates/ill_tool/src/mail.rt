@@ -2,8 +2,9 @@
 //! at any moment.
 
 ghost use Rattle.std.specs.Prelude.{IfErr};
-ghost use Rattle.ill_tool.specs.Commands.{IsOpenFault};
+ghost use Rattle.ill_tool.specs.Commands.{IsOpenFault, IsSettlingFault};
 
+use crate::came::STORE_FAILED;
 use crate::escape::push_escaped;
 use crate::fault::ToolFault;
 use crate::folder::{fault, raw_names};
@@ -138,8 +139,8 @@ fn front<T: Files>(rt: &T, alloc: Global, path: &str, found: &Metadata) -> io::R
     Ok(bytes)
 }
 
-/// Removes the file of each mail that is done, and puts those aside that no desk will ever take. It answers whether all
-/// of that was done, and tells of each that stays.
+/// Removes the file of each mail that is done, and puts those aside that no desk will ever take. A file with which that
+/// cannot be done stays, and is told; then it is a failure of the store. If memory runs out, the further ones stay.
 pub fn settle_mails<T: Files, E: Write>(
     rt: &T,
     alloc: Global,
@@ -147,15 +148,23 @@ pub fn settle_mails<T: Files, E: Write>(
     mails: &[Mail],
     verdicts: &[Verdict],
     errors: &mut E,
-) -> bool {
+) -> Result<(), ToolFault>
+    ensures { IfErr result IsSettlingFault }
+{
     let mut all_done = true;
     for (mail, verdict) in mails.iter().zip(verdicts) {
-        if settle_mail(rt, alloc, folder, mail, *verdict).is_err() {
-            tell_stuck(alloc, mail, errors);
-            all_done = false;
+        match settle_mail(rt, alloc, folder, mail, *verdict) {
+            Ok(()) => {}
+            Err(error) if error.kind() == ErrorKind::OutOfMemory => {
+                return Err(ToolFault::OutOfMemory);
+            }
+            Err(_) => {
+                tell_stuck(alloc, mail, errors);
+                all_done = false;
+            }
         }
     }
-    all_done
+    if all_done { Ok(()) } else { Err(STORE_FAILED) }
 }
 
 /// Removes the file of a mail that is done, or puts it aside if no desk will ever take it.

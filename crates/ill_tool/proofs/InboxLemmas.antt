@@ -1,5 +1,5 @@
 -- Mails, and the messages in them.
-use Rattle.std.proofs.Common.{◌≡◌, ℕ, ◌+◌, ◌≤◌, List, [], ◌∷◌, ◌++◌, Option, Result, Ok, Err, length, drop, subst, refl, ap, sym, arith, ◌∙◌}
+use Rattle.std.proofs.Common.{◌≡◌, ℕ, ◌+◌, ◌≤◌, List, [], ◌∷◌, ◌++◌, Option, Result, Ok, Err, IfOk, length, drop, refl, ap, sym, arith, ◌∙◌}
 use Rattle.std.proofs.lemmas.List.{length-drop}
 use Rattle.ill_values.specs.declared.apdu.Apdu.{Apdu}
 use Rattle.ill_der.specs.declared.fault.DerFault.{DerFault}
@@ -12,8 +12,8 @@ use Rattle.ill_tool.specs.declared.verdict.Verdict.{Verdict}
 use Rattle.ill_tool.specs.declared.tally.Tally.{Tally}
 use Rattle.ill_tool.specs.Keeping.{many_sides}
 use Rattle.ill_tool.specs.Performing.{View}
-use Rattle.ill_tool.specs.Commands.{EndedWell}
-use Rattle.ill_tool.specs.Inbox.{RunsInbox, Sorting, concluded, inbox_text, one_message, tally_line, tally_of}
+use Rattle.ill_tool.specs.declared.fault.ToolFault.{ToolFault}
+use Rattle.ill_tool.specs.Inbox.{EndedWell, RunsInbox, Sorting, answered_with, concluded, inbox_text, one_message, tally_line, tally_of}
 
 -- an APDU with further bytes behind it is no message
 behind_message : (a : Apdu) (rest : List ℕ) → 1 ≤ length rest → one_message (Ok (a, rest)) ≡ Err Trailing
@@ -32,9 +32,9 @@ concluded_is waiting sorted end verdicts tally told is all counted text =
     let whole : told ≡ inbox_text sorted waiting = text ∙ ap (λ tally. sorted.told ++ tally_line tally waiting) (counted ∙ ap tally_of all) in
     ap (λ told. record { live = sorted.live; verdicts = sorted.verdicts; told = told; kept = sorted.kept }) whole ∙ ap (concluded waiting) is
 
--- A run has ended well also over equal mails, with equal verdicts.
-pub ended_well : (found mails : List Mail) (answered verdicts : List Verdict) (waiting : ℕ) (kept_before kept_after before after : Option (List ℕ)) (old new : View Holding) → found ≡ mails → verdicts ≡ answered
-    → RunsInbox many_sides found waiting kept_before kept_after before after old (Ok answered) new → EndedWell mails verdicts new
-ended_well found mails answered verdicts waiting kept_before kept_after before after old new same alike runs =
-    let told = subst (λ verdicts. RunsInbox many_sides found waiting kept_before kept_after before after old (Ok verdicts) new) (sym alike) runs in
-    (waiting, kept_before, kept_after, before, after, old, subst (λ mails. RunsInbox many_sides mails waiting kept_before kept_after before after old (Ok verdicts) new) same told)
+-- A run that answers verdicts has ended well.
+pub ended_if_ok : {X : Type 0} (items : X → List Verdict) (mails : List Mail) (waiting : ℕ) (kept_before kept_after before after : Option (List ℕ)) (old new : View Holding) (result : Result X ToolFault)
+    → RunsInbox many_sides mails waiting kept_before kept_after before after old (answered_with items result) new → IfOk result (λ verdicts. EndedWell mails (items verdicts) new)
+unfolding EndedWell
+ended_if_ok items mails waiting kept_before kept_after before after old new (Ok verdicts) runs = (waiting, kept_before, kept_after, before, after, old, runs)
+ended_if_ok items mails waiting kept_before kept_after before after old new (Err fault) runs = tt

@@ -77,12 +77,6 @@ TakesAtFile is_kept is_long left rest before after result =
     ⊎ ((old : View Holding) × (new : View Holding)
     × RunsTaking is_kept (wording is_long) many_sides left rest None None before after old result new)
 
--- the desk of a run that has ended well over these mails, with these verdicts: all that they change is saved
-abbrev pub EndedWell : List Mail → List Verdict → View Holding → Type 0
-EndedWell mails verdicts new =
-    (waiting : ℕ) × (kept_before kept_after before after : Option (List ℕ)) × (old : View Holding)
-    × RunsInbox many_sides mails waiting kept_before kept_after before after old (Ok verdicts) new
-
 -- a file could not be removed or put aside, or memory ran out for that
 abbrev pub IsSettlingFault : ToolFault → Type 0
 IsSettlingFault fault = (fault ≡ Desk (Store Failed)) ⊎ (fault ≡ OutOfMemory)

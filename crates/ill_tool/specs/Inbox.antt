@@ -13,7 +13,7 @@ use Rattle.ill_saved.specs.declared.role.Role.{Role}
 use Rattle.ill_saved.specs.declared.role.Role.TheVariants.{Requester}
 use Rattle.ill_saved.specs.declared.fault.DeskFault.TheVariants as desks
 use Rattle.ill_saved.specs.declared.store.StoreFault.TheVariants.{Failed}
-use Rattle.ill_saved.specs.Many.{Held, whole}
+use Rattle.ill_saved.specs.Many.{Holding}
 use Rattle.ill_world.specs.declared.event.Outcome.TheVariants as outcomes
 use Rattle.ill_world.specs.declared.event.DeskOutcome.{DeskOutcome}
 use Rattle.ill_world.specs.declared.event.DeskOutcome.TheVariants as seen
@@ -33,7 +33,7 @@ use Rattle.ill_tool.specs.declared.tally.Heap.TheVariants as heaps
 use Rattle.ill_tool.specs.declared.tally.Tally.{Tally}
 use Rattle.ill_tool.specs.declared.inbox.Sorted.{Sorted}
 use Rattle.ill_tool.specs.Escape.{escaped}
-use Rattle.ill_tool.specs.Keeping.{Keeping}
+use Rattle.ill_tool.specs.Keeping.{Keeping, many_sides}
 use Rattle.ill_tool.specs.Performing.{View, handed, is_change, becomes, saved, IsFaulted}
 use Rattle.ill_tool.specs.Take.{KeepsBefore}
 use Rattle.ill_tool.specs.Telling.{as_told, long}
@@ -284,6 +284,13 @@ abbrev pub RunsInbox : {L K : Type 0} → Keeping L K → List Mail → ℕ → 
 RunsInbox keeping mails waiting kept_before kept_after before after old result new =
     KeepsBefore (after_mails keeping old.live mails).kept result kept_before kept_after old new
     × EndsRun keeping (after_mails keeping old.live mails) waiting before after old result new
+
+-- A run over these mails, with these verdicts, has ended well at a desk of which this is known: all that they change is
+-- saved.
+unfoldable pub EndedWell : List Mail → List Verdict → View Holding → Type 0
+EndedWell mails verdicts new =
+    (waiting : ℕ) × (kept_before kept_after before after : Option (List ℕ)) × (old : View Holding)
+    × RunsInbox many_sides mails waiting kept_before kept_after before after old (Ok verdicts) new
 
 -- ---- what is answered
 

@@ -5,9 +5,10 @@ ghost use Rattle.std.specs.Prelude.{◌≡◌, ◌++◌, Ok, true, false, map, s
 ghost use Rattle.ill_saved.specs.Desk.{answer_of};
 ghost use Rattle.ill_saved.specs.Many.{found_by, sides_held, txn_held};
 ghost use Rattle.ill_tool.specs.Report.{AddsDesks};
-ghost use Rattle.ill_tool.specs.Commands.{ActsAtFile, AnswersRun, EndedWell, InboxAtFile, IsOpenFault, ListsDesk, ListsDesks, ListsPaths, LoanAtFile, NewAtFile, ReportsPaths, SendsAtFile, ShowsFile, TakesAtFile, VerifiesFile, all_well};
+ghost use Rattle.ill_tool.specs.Commands.{ActsAtFile, AnswersRun, InboxAtFile, IsOpenFault, ListsDesk, ListsDesks, ListsPaths, LoanAtFile, NewAtFile, ReportsPaths, SendsAtFile, ShowsFile, TakesAtFile, VerifiesFile, all_well};
 ghost use Rattle.ill_tool.specs.Listing.{between, listed_desk};
 ghost use Rattle.ill_tool.specs.Keeping.{many_sides};
+ghost use Rattle.ill_tool.specs.Inbox.{EndedWell};
 ghost use Rattle.ill_tool.specs.Kept.{RunsKeptLoan};
 ghost use Rattle.ill_tool.specs.Picture.{drawn_or_shown};
 ghost use Rattle.ill_tool.specs.declared.form.Form.TheVariants.{Lines};
@@ -182,8 +183,8 @@ fn take_mails<T: Files, S: Store, W: Write, E: Write>(
 ) -> Result<bool, ToolFault>
     ensures { InboxAtFile (W.contents writer.old) (W.contents writer.new) result }
 {
-    let mut came = open_came(rt, alloc, file)?;
     let found = read_mails(rt, alloc, folder)?;
+    let mut came = open_came(rt, alloc, file)?;
     let run = run_desk_inbox(alloc, desk, &found.mails, found.waiting, &mut came, writer);
     match run {
         Ok(verdicts) => conclude(rt, alloc, folder, desk, &found, &verdicts, errors),

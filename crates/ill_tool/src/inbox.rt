@@ -6,7 +6,7 @@ ghost use Rattle.ill_tool.specs.declared.fault.ToolFault.TheVariants.{OutOfMemor
 ghost use Rattle.ill_tool.specs.Keeping.{many_sides};
 ghost use Rattle.ill_tool.specs.Performing.{is_change, many_view, view_of};
 ghost use Rattle.ill_tool.specs.Take.{KeepsBefore};
-ghost use Rattle.ill_tool.specs.Inbox.{HandsOver, RunsInbox, SavesOnce, after_mail, after_mails, after_message, answered_with, concluded, message_in, one_message, settled, sorting_of, told_of, verdict_line, verdict_of};
+ghost use Rattle.ill_tool.specs.Inbox.{EndedWell, HandsOver, RunsInbox, SavesOnce, after_mail, after_mails, after_message, answered_with, concluded, message_in, one_message, settled, sorting_of, told_of, verdict_line, verdict_of};
 
 use crate::fault::{ToolFault, refused};
 use crate::keeper::Keeper;
@@ -42,6 +42,8 @@ pub fn run_desk_inbox<S: Store, F: Write, W: Write>(
         (W.contents writer.old) (W.contents writer.new)
         (many_view S.is_honest S.landed desk.old) (answered_with (λ verdicts. verdicts.items) result)
         (many_view S.is_honest S.landed desk.new) }
+    ensures ended { IfOk result (λ verdicts. EndedWell mails.now verdicts.items
+        (many_view S.is_honest S.landed desk.new)) }
     ensures never_fewer { S.failures desk.old.store ≤ S.failures desk.new.store }
 {
     run_inbox(alloc, desk, mails, waiting, came, writer)

@@ -3,16 +3,7 @@ use Rattle.ill_tool.specs.declared.verdict.Verdict.{Verdict}
 use Rattle.ill_tool.specs.Keeping.{many_sides}
 use Rattle.ill_tool.specs.Performing.{many_view}
 use Rattle.ill_tool.specs.Inbox.{RunsInbox}
-use Rattle.ill_tool.proofs.InboxLemmas.{ended_well}
 use Rattle.ill_tool.proofs.file.take_mails.Goals as goal
-
-pub conclude-requires : goal.conclude-requires
-conclude-requires g c =
-    let view = many_view g.S.Store.is_honest g.S.Store.landed in
-    record {
-      ended = ended_well c.deref.result.now c.in_ok-found.found.mails.items c.in-Ok.verdicts.items c.deref-in-Ok.result.now c.in_ok-found.found.waiting None None (g.W.Write.contents c.args.writer.now)
-          (g.W.Write.contents c.run_desk_inbox-run.new.writer) (view c.args.desk.now) (view c.run_desk_inbox-run.new.desk) c.deref.ensures.value c.deref-in-Ok.ensures.value c.in-Ok.ensures.runs;
-    }
 
 pub returns-in-Ok : goal.returns-in-Ok
 returns-in-Ok g c =

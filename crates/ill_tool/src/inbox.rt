@@ -10,7 +10,7 @@ ghost use Rattle.ill_tool.specs.Inbox.{EndedWell, HandsOver, RunsInbox, SavesOnc
 
 use crate::fault::{ToolFault, refused};
 use crate::keeper::Keeper;
-use crate::output::write_whole;
+use crate::output::write_and_flush;
 use crate::side_line::push_saved_message;
 use crate::take::keep_bytes;
 use crate::tally::{Tally, push_tally};
@@ -26,7 +26,7 @@ use std::io::Write;
 
 /// Takes the message of each mail at a desk, in their order, and then saves the desk once, if any was taken. Each
 /// message that was taken is written to `came`, and flushed there, before that is saved. Then it writes what became of
-/// each mail, and their counts, with how many further mails wait. It answers what becomes of each mail.
+/// each mail, and their counts, with how many further mails wait, and flushes that. It answers what becomes of each mail.
 ///
 /// Only at `Ok` may the file of a mail go. At every fault what has landed is what had landed before, or all that the
 /// mails change; and unless the writer failed, nothing was written.
@@ -72,7 +72,7 @@ fn run_inbox<K: Keeper, F: Write, W: Write>(
     if let Err(fault) = keep_and_save(alloc, keeper, came, &sorted.kept) {
         return Err(fault);
     }
-    match write_whole(writer, &sorted.told) {
+    match write_and_flush(writer, &sorted.told) {
         Ok(()) => Ok(sorted.verdicts),
         Err(fault) => Err(fault),
     }

@@ -112,11 +112,7 @@ fn sort<K: Keeper>(
 }
 
 /// Hands the messages of all mails to their sides, in their order.
-fn sort_mails<K: Keeper>(
-    alloc: Global,
-    keeper: &mut K,
-    mails: &[Mail],
-) -> Result<Sorted, ToolFault>
+fn sort_mails<K: Keeper>(alloc: Global, keeper: &mut K, mails: &[Mail]) -> Result<Sorted, ToolFault>
     ensures sorted { IfOk result (λ sorted. sorting_of (K.live keeper.new) sorted
         ≡ after_mails K.keeping (K.live keeper.old) mails.now) }
     ensures fault { IfErr result (λ fault. fault ≡ OutOfMemory) }

@@ -152,9 +152,7 @@ fn push_staying(lines: &mut Vec<u8>, tally: &Tally, waiting: usize) -> Result<()
     ensures { OnOk result (lines.new.items ≡ lines.old.items ++ staying_text tally.now waiting) }
 {
     let Tally { aside, left, .. } = *tally;
-    let text = format!(in *lines.allocator();
-        ", aside {aside}, left {left}, waiting {waiting}\n"
-    )?;
+    let text = format!(in *lines.allocator(); ", aside {aside}, left {left}, waiting {waiting}\n")?;
     lines.extend_from_slice(text.as_bytes())?;
     Ok(())
 }

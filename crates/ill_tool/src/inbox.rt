@@ -16,7 +16,6 @@ use crate::take::keep_bytes;
 use crate::tally::{Tally, push_tally};
 use crate::verdict::{Delay, Mail, Unfit, Verdict, push_verdict};
 use ill_core::Taking;
-use ill_der::laws::prefix_or_fault;
 use ill_der::{APDU_LIMIT, ApduView, view};
 use ill_saved::{Desk, Store};
 use ill_values::Apdu;

@@ -83,7 +83,7 @@ _ill_skip() {
 
 _ill() {
   _ill_skip
-  local commands='new act list loan status report take send verify show check simulate simulate-desks help'
+  local commands='new act list loan status report take inbox send verify show check simulate simulate-desks help'
   local word=${COMP_WORDS[COMP_CWORD]} command=${COMP_WORDS[1]} offered= arguments wanted
   COMPREPLY=()
   _ill_read
@@ -101,10 +101,14 @@ _ill() {
     any-report-[0-9]*--*) offered='--today --help' ;;
     any-status-[0-9]--* | any-show-[0-9]--*) offered='--json --help' ;;
     any-*-[0-9]--*) offered=--help ;;
-    *-new-0-* | *-act-0-* | *-take-0-* | *-send-0-* | *-list-* | *-report-* | *-status-0-* | *-loan-0-* | \
+    *-new-0-* | *-act-0-* | *-take-0-* | *-inbox-0-* | *-send-0-* | *-list-* | *-report-* | *-status-0-* | *-loan-0-* | \
       *-verify-0-*)
       compopt -o filenames 2> /dev/null
       mapfile -t COMPREPLY < <(compgen -f -- "$word")
+      return ;;
+    *-inbox-1-*)
+      compopt -o filenames 2> /dev/null
+      mapfile -t COMPREPLY < <(compgen -d -- "$word")
       return ;;
     *-new-1-*) offered='requester responder' ;;
     *-act-[12]-* | *-send-[12]-* | *-loan-[12]-*)

@@ -1,6 +1,6 @@
 # Completion of ill(1) in fish: commands, options, roles, files, their loans, and the first words of actions.
 
-set -l commands new act list loan status report take send verify show check simulate simulate-desks help
+set -l commands new act list loan status report take inbox send verify show check simulate simulate-desks help
 
 # The words before the cursor, without the option that may stand before the command.
 function __ill_typed
@@ -111,6 +111,7 @@ complete -c ill -n "__ill_option ''" -l explain -d 'Say more of what is wrong'
 complete -c ill -n "__ill_at 0 ''" -a new -d 'Begin a desk of one role, in a file'
 complete -c ill -n "__ill_at 0 ''" -a act -d 'Perform one action in a loan, and save it'
 complete -c ill -n "__ill_at 0 ''" -a take -d 'Take the APDUs on standard input'
+complete -c ill -n "__ill_at 0 ''" -a inbox -d 'Take the mails of a folder, and save what they change once'
 complete -c ill -n "__ill_at 0 ''" -a send -d 'Write the bytes of one message of a loan'
 complete -c ill -n "__ill_at 0 ''" -a list -d 'List the loans of desks, a line for each'
 complete -c ill -n "__ill_at 0 ''" -a status -d 'Show how each loan in a file stands'
@@ -122,7 +123,8 @@ complete -c ill -n "__ill_at 0 ''" -a check -d 'Check and count the APDUs on sta
 complete -c ill -n "__ill_at 0 ''" -a simulate -d 'Perform a script of both sides'
 complete -c ill -n "__ill_at 0 ''" -a simulate-desks -d 'Perform a script of two desks'
 complete -c ill -n "__ill_at 0 ''" -a help -d 'Print the help of a command'
-complete -c ill -n '__ill_at 0 new act take send list status loan verify report' -F
+complete -c ill -n '__ill_at 0 new act take inbox send list status loan verify report' -F
+complete -c ill -n '__ill_at 1 inbox' -x -a '(__fish_complete_directories)'
 complete -c ill -n '__ill_at 1 new' -a 'requester responder'
 complete -c ill -n '__ill_option act' -l today -x -d 'The day of the action'
 complete -c ill -n '__ill_option report' -l today -x -d 'The day of the report'

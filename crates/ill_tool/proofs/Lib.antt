@@ -11,6 +11,7 @@ pub mod LoanLemmas
 pub mod JsonLemmas
 pub mod NewLemmas
 pub mod TakeLemmas
+pub mod InboxLemmas
 pub mod LongLemmas
 pub mod RequestLemmas
 pub mod HtmlLemmas

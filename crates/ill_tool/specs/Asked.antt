@@ -21,7 +21,7 @@ use Rattle.ill_tool.specs.declared.request.Request.TheVariants as requests
 use Rattle.ill_tool.specs.declared.command_line.Name.{Name}
 use Rattle.ill_tool.specs.declared.command_line.Name.TheVariants as names
 use Rattle.ill_tool.specs.declared.command_line.Argument.{Argument}
-use Rattle.ill_tool.specs.declared.command_line.Argument.TheVariants.{NewFile, File, Role, Group, Transaction, Today, Words, Number, Long, Keep, Picture, Open, Mine, Json, Paths, OnDay, DueBefore, InState, ReportDay}
+use Rattle.ill_tool.specs.declared.command_line.Argument.TheVariants.{NewFile, File, Folder, Role, Group, Transaction, Today, Words, Number, Long, Keep, Picture, Open, Mine, Json, Paths, OnDay, DueBefore, InState, ReportDay}
 use Rattle.ill_tool.specs.CommandLine.{name_read, id_of}
 use Rattle.ill_core.specs.State.{state_named}
 
@@ -112,6 +112,7 @@ pub data Asked : Type 0 where
   New : (file : List ℕ) → (role : Who) → Asked
   Act : (file : List ℕ) → (txn : Qualifiers) → (today : Option Date) → (words : List (List ℕ)) → Asked
   Take : (file : List ℕ) → (is_long is_kept : Bool) → Asked
+  Inbox : (file folder : List ℕ) → Asked
   Send : (file : List ℕ) → (txn : Qualifiers) → (number : ℕ) → Asked
   Listing : (paths : List (List ℕ)) → (wanted : Wanted) → (form : Form) → Asked
   Status : (file : List ℕ) → (form : Form) → Asked
@@ -128,6 +129,7 @@ asked requests.SimulateDesks = SimulateDesks
 asked (requests.New file role) = New file.now role
 asked (requests.Act file txn today words) = Act file.now txn today (map (λ word. word.now) words.items)
 asked (requests.Take file is_long is_kept) = Take file.now is_long is_kept
+asked (requests.Inbox file folder) = Inbox file.now folder.now
 asked (requests.Send file txn number) = Send file.now txn number
 asked (requests.List paths wanted form) = Listing (map (λ path. path.now) paths.items) wanted form
 asked (requests.Status file form) = Status file.now form
@@ -157,6 +159,10 @@ asked_of names.Act found = do
 asked_of names.Take found = do
   file ← text_of File found
   Some (Take file (is_set Long found) (is_set Keep found))
+asked_of names.Inbox found = do
+  file ← text_of File found
+  folder ← text_of Folder found
+  Some (Inbox file folder)
 asked_of names.Send found = do
   file ← text_of File found
   txn ← loan_of found

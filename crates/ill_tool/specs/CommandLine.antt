@@ -1,16 +1,17 @@
 -- The words that a command line has for commands, and what `clap` calls their arguments.
 use Rattle.std.specs.Prelude.{ℕ, List, [], ◌∷◌, codes, Option, find, bytes_eq}
 use Rattle.ill_tool.specs.declared.command_line.Name.{Name}
-use Rattle.ill_tool.specs.declared.command_line.Name.TheVariants.{New, Act, Take, Send, Status, Loan, Report, Verify, Show, Check, Simulate, SimulateDesks}
+use Rattle.ill_tool.specs.declared.command_line.Name.TheVariants.{New, Act, Take, Inbox, Send, Status, Loan, Report, Verify, Show, Check, Simulate, SimulateDesks}
 use Rattle.ill_tool.specs.declared.command_line.Name.TheVariants as names
 use Rattle.ill_tool.specs.declared.command_line.Argument.{Argument}
-use Rattle.ill_tool.specs.declared.command_line.Argument.TheVariants.{NewFile, File, Role, Group, Transaction, Today, Words, Number, Long, Keep, Picture, Open, Mine, Json, Paths, OnDay, DueBefore, InState, ReportDay}
+use Rattle.ill_tool.specs.declared.command_line.Argument.TheVariants.{NewFile, File, Folder, Role, Group, Transaction, Today, Words, Number, Long, Keep, Picture, Open, Mine, Json, Paths, OnDay, DueBefore, InState, ReportDay}
 
 -- the word of a command
 abbrev pub word_of : Name → List ℕ
 word_of New = codes "new"
 word_of Act = codes "act"
 word_of Take = codes "take"
+word_of Inbox = codes "inbox"
 word_of Send = codes "send"
 word_of names.List = codes "list"
 word_of Status = codes "status"
@@ -25,12 +26,13 @@ word_of SimulateDesks = codes "simulate-desks"
 -- the command that a word stands for
 abbrev pub name_read : List ℕ → Option Name
 name_read word = find (λ name. bytes_eq (word_of name) word)
-    (New ∷ Act ∷ names.List ∷ Loan ∷ Status ∷ Report ∷ Take ∷ Send ∷ Verify ∷ Show ∷ Check ∷ Simulate ∷ SimulateDesks ∷ [])
+    (New ∷ Act ∷ names.List ∷ Loan ∷ Status ∷ Report ∷ Take ∷ Inbox ∷ Send ∷ Verify ∷ Show ∷ Check ∷ Simulate ∷ SimulateDesks ∷ [])
 
 -- what an argument is called
 abbrev pub id_of : Argument → List ℕ
 id_of NewFile = codes "FILE"
 id_of File = codes "FILE"
+id_of Folder = codes "FOLDER"
 id_of Role = codes "ROLE"
 id_of Group = codes "GROUP"
 id_of Transaction = codes "TRANSACTION"

@@ -5,7 +5,9 @@ use Rattle.std.specs.Io.KnownBytes.{Appends}
 use Rattle.ill_values.specs.Day.{Date}
 use Rattle.ill_values.specs.TxnId.{Qualifiers, txn_id_of}
 use Rattle.ill_saved.specs.declared.side.Side.{Side}
+use Rattle.ill_saved.specs.declared.fault.DeskFault.TheVariants.{Store}
 use Rattle.ill_saved.specs.declared.store.StoreFault.{StoreFault}
+use Rattle.ill_saved.specs.declared.store.StoreFault.TheVariants.{Failed}
 use Rattle.ill_saved.specs.Many.{Held, Holding, found_by, txn_held}
 use Rattle.ill_tool.specs.declared.fault.ToolFault.{ToolFault}
 use Rattle.ill_tool.specs.declared.fault.ToolFault.TheVariants.{Desk, OutOfMemory}
@@ -20,6 +22,9 @@ use Rattle.ill_tool.specs.New.{RunsNew}
 use Rattle.ill_tool.specs.Act.{RunsAct}
 use Rattle.ill_tool.specs.Telling.{wording}
 use Rattle.ill_tool.specs.Take.{RunsTaking}
+use Rattle.ill_tool.specs.declared.verdict.Mail.{Mail}
+use Rattle.ill_tool.specs.declared.verdict.Verdict.{Verdict}
+use Rattle.ill_tool.specs.Inbox.{RunsInbox, ending, tally_of}
 use Rattle.ill_tool.specs.Send.{RunsSend}
 use Rattle.ill_tool.specs.Kept.{RunsKeptLoan}
 use Rattle.ill_tool.specs.Picture.{drawn_or_shown}
@@ -71,6 +76,24 @@ TakesAtFile is_kept is_long left rest before after result =
     (IsShut before after result × (rest ≡ left))
     ⊎ ((old : View Holding) × (new : View Holding)
     × RunsTaking is_kept (wording is_long) many_sides left rest None None before after old result new)
+
+-- a file could not be removed or put aside, or memory ran out for that
+abbrev pub IsSettlingFault : ToolFault → Type 0
+IsSettlingFault fault = (fault ≡ Desk (Store Failed)) ⊎ (fault ≡ OutOfMemory)
+
+-- what a run answers: what it comes to by its verdicts, or why files stay; or its fault
+abbrev pub AnswersRun : ℕ → Result (List Verdict) ToolFault → Result Bool ToolFault → Type 0
+AnswersRun waiting (Ok verdicts) result =
+    (result ≡ ending (tally_of verdicts) waiting) ⊎ IsErrAnd result IsSettlingFault
+AnswersRun waiting (Err fault) result = result ≡ Err fault
+
+-- the mails of a folder were taken at a desk
+abbrev pub InboxAtFile : Option (List ℕ) → Option (List ℕ) → Result Bool ToolFault → Type 0
+InboxAtFile before after result =
+    IsShut before after result
+    ⊎ ((old : View Holding) × (new : View Holding) × (mails : List Mail) × (waiting : ℕ)
+    × (answer : Result (List Verdict) ToolFault)
+    × RunsInbox many_sides mails waiting None None before after old answer new × AnswersRun waiting answer result)
 
 -- the message with this number was written, of this transaction at a desk
 abbrev pub SendsAtFile : Qualifiers → ℕ → Option (List ℕ) → Option (List ℕ) → Result Bool ToolFault → Type 0
@@ -146,6 +169,7 @@ Runs (asks.Act file txn today words) left rest before after result =
     (rest ≡ left) × ActsAtFile txn today words before after result
 Runs (asks.Take file is_long is_kept) left rest before after result =
     TakesAtFile is_kept is_long left rest before after result
+Runs (asks.Inbox file folder) left rest before after result = (rest ≡ left) × InboxAtFile before after result
 Runs (asks.Send file txn number) left rest before after result =
     (rest ≡ left) × SendsAtFile txn number before after result
 Runs (asks.Listing paths wanted form) left rest before after result =

@@ -1,11 +1,11 @@
 -- The exit status of a command: 0 where all went well; 1 where it was refused, or a message was refused or
--- in conflict; 2 after words, input or a record that are none; 3 where the machine could not do it. Want
--- of memory is a fault of its own, and stands in no other.
+-- in conflict; 2 after words, input or a record that are none; 3 where the machine could not do it, or where
+-- mails are left. Want of memory is a fault of its own, and stands in no other.
 use Rattle.std.specs.Prelude.{◌≡◌, ◌⊎◌, ℕ, Bool, true, false, Result, Ok, Err}
 use Rattle.ill_saved.specs.declared.fault.DeskFault.{DeskFault}
 use Rattle.ill_saved.specs.declared.fault.DeskFault.TheVariants as desks
 use Rattle.ill_tool.specs.declared.fault.ToolFault.{ToolFault}
-use Rattle.ill_tool.specs.declared.fault.ToolFault.TheVariants.{Arguments, Der, TooMany, Script, Desk, Read, Write, OutOfMemory}
+use Rattle.ill_tool.specs.declared.fault.ToolFault.TheVariants.{Arguments, Der, TooMany, Script, Desk, Left, Read, Write, OutOfMemory}
 
 -- after a fault of a side or its record
 abbrev pub desk_status : DeskFault → ℕ
@@ -29,6 +29,7 @@ status_of (Der fault) = 2
 status_of TooMany = 2
 status_of (Script line) = 2
 status_of (Desk fault) = desk_status fault
+status_of Left = 3
 status_of Read = 3
 status_of Write = 3
 status_of OutOfMemory = 3

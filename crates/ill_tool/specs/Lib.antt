@@ -14,6 +14,7 @@ pub mod LongLines
 pub mod Telling
 pub mod Act
 pub mod Take
+pub mod Inbox
 pub mod Send
 pub mod Status
 pub mod Loan

@@ -3,7 +3,7 @@ use Rattle.std.specs.Prelude.{◌≡◌, ℕ, Bool, true, false, List, [], ◌++
 use Rattle.std.specs.Io.KnownBytes.{Appends}
 use Rattle.ill_values.specs.declared.apdu.Apdu.{Apdu}
 use Rattle.ill_core.specs.declared.taking.Taking.TheVariants.{Conflict}
-use Rattle.ill_saved.specs.Many.{Held}
+use Rattle.ill_saved.specs.Many.{Held, whole}
 use Rattle.ill_world.specs.declared.event.Outcome.TheVariants as outcomes
 use Rattle.ill_world.specs.declared.event.DeskOutcome.{DeskOutcome}
 use Rattle.ill_world.specs.declared.event.DeskOutcome.TheVariants.{Plain, NoSuchTransaction, DeskFull}
@@ -19,6 +19,11 @@ is_fine (Plain (outcomes.Answered (Conflict state))) = false
 is_fine NoSuchTransaction = false
 is_fine DeskFull = false
 is_fine (Plain outcome) = true
+
+-- a side as it is told: as it stands, or as it will stand once all is saved
+abbrev pub as_told : Bool → Held → Held
+as_told true now = whole now.side
+as_told false now = now
 
 -- how a side stands
 abbrev pub held_text : Held → List ℕ

@@ -13,6 +13,7 @@ pub enum Name {
     New,
     Act,
     Take,
+    Inbox,
     Send,
     List,
     Status,
@@ -25,9 +26,9 @@ pub enum Name {
     SimulateDesks,
 }
 
-/// All commands, in the order in which the help lists them: those for staff, the two for the exchange with other
+/// All commands, in the order in which the help lists them: those for staff, those for the exchange with other
 /// libraries, and those for whoever looks inside. clap is told of these and of no others.
-const NAMES: [Name; 13] = [
+const NAMES: [Name; 14] = [
     Name::New,
     Name::Act,
     Name::List,
@@ -35,6 +36,7 @@ const NAMES: [Name; 13] = [
     Name::Status,
     Name::Report,
     Name::Take,
+    Name::Inbox,
     Name::Send,
     Name::Verify,
     Name::Show,
@@ -52,6 +54,7 @@ impl Name {
             Name::New => "new",
             Name::Act => "act",
             Name::Take => "take",
+            Name::Inbox => "inbox",
             Name::Send => "send",
             Name::List => "list",
             Name::Status => "status",
@@ -71,6 +74,7 @@ impl Name {
             Name::New => "Begin a desk of one role, in a file",
             Name::Act => "Perform one action in a loan, and save it",
             Name::Take => "Take the APDUs on standard input, and save what they change",
+            Name::Inbox => "Take the mails of a folder, and save what they change once",
             Name::Send => "Write the bytes of one message of a loan",
             Name::List => "List the loans of desks, a line for each",
             Name::Status => "Show how each loan in a file stands",
@@ -90,6 +94,7 @@ impl Name {
             Name::New => help::NEW,
             Name::Act => help::ACT,
             Name::Take => help::TAKE,
+            Name::Inbox => help::INBOX,
             Name::Send => help::SEND,
             Name::List => help::LIST,
             Name::Status => help::STATUS,
@@ -109,6 +114,7 @@ impl Name {
             Name::New => help::NEW_EXAMPLE,
             Name::Act => help::ACT_EXAMPLE,
             Name::Take => help::TAKE_EXAMPLE,
+            Name::Inbox => help::INBOX_EXAMPLE,
             Name::Send => help::SEND_EXAMPLE,
             Name::List => help::LIST_EXAMPLE,
             Name::Status => help::STATUS_EXAMPLE,
@@ -134,6 +140,7 @@ impl Name {
                 Argument::Words,
             ],
             Name::Take => &[Argument::File, Argument::Long, Argument::Keep],
+            Name::Inbox => &[Argument::File, Argument::Folder],
             Name::Status => &[Argument::File, Argument::Json],
             Name::Verify => &[Argument::File],
             Name::Send => &[
@@ -180,6 +187,8 @@ pub enum Argument {
     NewFile,
     /// The file of a desk.
     File,
+    /// A folder of mails.
+    Folder,
     Role,
     Group,
     Transaction,
@@ -220,6 +229,7 @@ impl Argument {
     {
         match self {
             Argument::NewFile | Argument::File => "FILE",
+            Argument::Folder => "FOLDER",
             Argument::Role => "ROLE",
             Argument::Group => "GROUP",
             Argument::Transaction => "TRANSACTION",
@@ -243,6 +253,7 @@ impl Argument {
         match self {
             Argument::NewFile => "The file of the desk, which must not be there yet",
             Argument::File => "The file of the desk",
+            Argument::Folder => "The folder of the mails",
             Argument::Role => "requester or responder",
             Argument::Group => "The group qualifier of the loan",
             Argument::Transaction => "The transaction qualifier of the loan",

@@ -81,6 +81,10 @@ fn tell_fault<T: LockFiles>(
         ToolFault::Script(line) => tell_bad_line(text, name, line),
         ToolFault::Desk(fault) => tell_desk_fault(rt, alloc, text, matches, fault),
         ToolFault::TooMany => writeln!(text, "  Divide the input, and give its parts one by one."),
+        ToolFault::Left => writeln!(
+            text,
+            "  Mails stay in the folder for the next run: their lines, and the last one, tell why."
+        ),
         ToolFault::Read => writeln!(text, "  Standard input cannot be read to its end."),
         ToolFault::Write => writeln!(
             text,

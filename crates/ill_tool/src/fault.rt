@@ -32,6 +32,9 @@ pub enum ToolFault {
     /// `DeskFault::OutOfMemory`.
     #[error("{0}")]
     Desk(DeskFault),
+    /// Mails of a folder wait for the next run. All else was done.
+    #[error("left")]
+    Left,
     /// The reader failed.
     #[error("read")]
     Read,

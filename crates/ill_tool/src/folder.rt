@@ -59,14 +59,23 @@ fn push_folder<T: Files>(rt: &T, files: &mut Vec<String>, folder: &str) -> io::R
 
 /// The names in a folder. One that is no text is a fault, since no path can have it.
 fn names<T: Files>(rt: &T, alloc: Global, folder: &str) -> io::Result<Vec<String>> {
+    let mut names = Vec::new(alloc);
+    for name in raw_names(rt, alloc, folder)? {
+        match String::from_utf8(name) {
+            Ok(name) => names.push(name)?,
+            Err(_) => return Err(ErrorKind::InvalidFilename.into()),
+        }
+    }
+    Ok(names)
+}
+
+/// The bytes of the names in a folder.
+pub(crate) fn raw_names<T: Files>(rt: &T, alloc: Global, folder: &str) -> io::Result<Vec<Vec<u8>>> {
     let folder = format!(in alloc; "{folder}/")?;
     let reader = BufReader::with_capacity(alloc, NAMES, rt.open_dir(folder.as_str())?)?;
     let mut names = Vec::new(alloc);
     for name in reader.split(alloc, 0) {
-        match String::from_utf8(name?) {
-            Ok(name) => names.push(name)?,
-            Err(_) => return Err(ErrorKind::InvalidFilename.into()),
-        }
+        names.push(name?)?;
     }
     Ok(names)
 }
@@ -77,7 +86,7 @@ fn is_desk_name(name: &str) -> bool {
 }
 
 /// The fault of a folder that cannot be read.
-fn fault(error: &io::Error) -> ToolFault
+pub(crate) fn fault(error: &io::Error) -> ToolFault
     ensures { IsOpenFault result }
 {
     if error.kind() == ErrorKind::OutOfMemory {

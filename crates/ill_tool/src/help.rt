@@ -5,16 +5,16 @@ pub const VERSION: &str = "0.2.0";
 pub const ILL: &str = "\
 The commands stand in groups:
   for staff                  new, act, list, loan, status, report
-  for the exchange           take, send
+  for the exchange           take, inbox, send
   to look inside             verify, show, check, simulate, simulate-desks
 
 A desk is the loans of one library in one role, and it is kept in a file. `new`
 begins it, and `act` does what the library decides in a loan. `list` lists the
 loans, those first that wait for the library. `loan` tells all of one, `status`
 tells how each of them stands, and `report` writes a page of the loans for a
-browser. `take` takes what comes from other libraries, and `send` gives a
-message to carry there. `verify` tells whether a file is well. `show`, `check`,
-`simulate` and `simulate-desks` keep nothing.
+browser. `take` takes what comes from other libraries, `inbox` what has come
+into a folder, and `send` gives a message to carry there. `verify` tells whether
+a file is well. `show`, `check`, `simulate` and `simulate-desks` keep nothing.
 
 A loan is named by its GROUP and TRANSACTION. How messages are carried, by mail
 or by hand, is left to the libraries. `ill COMMAND --help` tells more of a
@@ -25,10 +25,10 @@ word, file or message is wrong, and what would be right. They begin with spaces,
 and no program may rest on them.
 
 Several commands may be started at once on one file. Those that may change it,
-`new`, `act` and `take`, wait for each other: ten seconds, and then they end
-with `store failed`. A `take` holds the file until its input ends. `list`,
-`loan`, `status`, `report`, `send` and `verify` wait for nobody. No file of a
-desk may have a name that ends in `.new` or `.lck`: such files are the
+`new`, `act`, `take` and `inbox`, wait for each other: ten seconds, and then
+they end with `store failed`. A `take` holds the file until its input ends.
+`list`, `loan`, `status`, `report`, `send` and `verify` wait for nobody. No file
+of a desk may have a name that ends in `.new` or `.lck`: such files are the
 program's.
 
 The start of a loan, with the requester's desk in the file `here` and the
@@ -68,6 +68,7 @@ The exit status, and the line of a fault on standard error behind `ill: `:
   3  store failed         FILE or its folder cannot be read or written, or
                           another command held FILE for ten seconds
   3  store too-large      FILE has more than 67,108,864 bytes
+  3  left                 `inbox` has left mails for the next run
   3  read                 the input cannot be read
   3  write                the output cannot be written; a closed pipe too
   3  memory               memory ran out";
@@ -235,6 +236,72 @@ pub const TAKE_EXAMPLE: &str = "Example:
   $ ill send there G1 T1 1 | ill take here --long
   G1 T1 Shipped 1 taken SHIPPED 20250315 1/1
     date 20250315";
+
+pub const INBOX: &str = "\
+Take the mails of a folder, and save what they change once.
+
+A mail is a regular file of FOLDER whose name begins with no dot, with one APDU:
+a message of another library, as `ill send` gives it there. The mails are taken
+in the order of the bytes of their names, 10,000 at most in one run. FILE has at
+most 67,108,864 bytes. While another command changes FILE, this one waits, as
+`ill --help` tells, and holds FILE itself until it ends.
+
+Each message that is taken is kept in FILE.came, as `ill take --keep` does. Then
+the desk is saved, once, if a message was taken. Only then files go from FOLDER:
+  removed                the desk has done with the mail: its message is taken,
+                         a repeat, stale or in conflict, or comes again
+  put aside              no desk will ever take it; its file becomes
+                         FOLDER/aside/DIGEST, and DIGEST.why beside it has a
+                         line that says why. DIGEST is the SHA-256 of the mail,
+                         of at most its first 360 bytes.
+Any other mail stays. If a fault comes, all stay: to take a message twice does
+no harm.
+
+For each mail with a message the lines of `ill take --long` are written to
+standard output, as the loan stands once the desk is saved. Of a mail that is
+put aside or stays, a line `NAME aside REASON` or `NAME left REASON` stands
+behind them. The reasons to put a mail aside:
+  short at N             the mail ends within a message, after N bytes of it
+  tag at N               it is no message: a wrong field, at its byte N
+  length at N            it is none: a wrong length, at its byte N
+  field at N             it is none: a wrong value, at its byte N
+  too-long               it is longer than 359 bytes
+  trailing               bytes stand behind its message
+  wrong-role             its message is of a kind that this desk sends
+  numbers-used           it wants an answer, and all 255 numbers are used
+
+The reasons for which a mail stays:
+  not-read               it cannot be read, or its name is no UTF-8
+  no-such-transaction    a requester's desk has no such loan, or not yet
+  desk-full              it would begin a loan, and the desk has 1,000
+
+A character of a name on which a terminal may act is shown by its number, as
+\\u{202e}. The last line counts the mails:
+  taken N, repeat N, stale N, conflict N, unknown N, aside N, left N, waiting N
+`unknown` counts those of a loan that a responder's desk has not: they come
+again, with its request. `waiting` counts the mails beyond the first 10,000.
+
+Standard input is not read. The exit status is 0 where all mails are done, and 1
+where one was put aside or in conflict, or with `no-record`. It is 2 for a bad
+record, and 3 with `left`, `store failed`, `store too-large`, `write` or
+`memory`. With `left` mails stay or wait; what else was to be done is done. A
+file that cannot be removed or put aside is named on standard error, and then it
+is `store failed`.";
+
+pub const INBOX_EXAMPLE: &str = "Example:
+  $ ill new here requester
+  done
+  $ ill act here G1 T1 request none Maps
+  done PENDING - 1/1
+  $ mkdir mail
+  $ ill send here G1 T1 1 > mail/1
+  $ ill new there responder
+  done
+  $ ill inbox there mail
+  G1 T1 ILL-Request 1 taken IN-PROCESS - 0/0
+    item Maps
+  taken 1, repeat 0, stale 0, conflict 0, unknown 0, aside 0, left 0, waiting 0
+  $ ls mail";
 
 pub const SEND: &str = "\
 Write the bytes of one message of a loan.

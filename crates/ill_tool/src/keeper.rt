@@ -1,18 +1,18 @@
 //! What keeps sides in a store: one side alone, or those of many transactions.
 
-ghost use Rattle.std.specs.Prelude.{◌≡◌, ◌++◌, true, option_copied, IfOk, OnOk, OnErr};
+ghost use Rattle.std.specs.Prelude.{◌≡◌, ◌++◌, true, length, option_copied, IfOk, OnOk, OnErr};
 ghost use Rattle.ill_der.specs.Adding.{AddsFront};
-ghost use Rattle.ill_saved.specs.Side.{idle_side};
+ghost use Rattle.ill_saved.specs.Side.{idle_side, issued_of};
 ghost use Rattle.ill_saved.specs.Store.{spent};
 ghost use Rattle.ill_saved.specs.Desk.{Creates, IsCreateAnswer, SaveLands, PlanAfter, IsSaveFault, CountsDeskFailure, answer_of, store_after};
-ghost use Rattle.ill_saved.specs.Many.{Held, Holding, SendsHeld, idle_held};
+ghost use Rattle.ill_saved.specs.Many.{Held, Holding, SendsHeld, idle_held, side_for};
 ghost use Rattle.ill_tool.specs.Keeping.{Keeping, alone, many_sides, no_sides, one_side};
 ghost use Rattle.ill_tool.specs.Performing.{the_one};
 ghost use Rattle.ill_tool.specs.Keeper.{KeeperActs, KeeperTakes, held_after};
-ghost use Rattle.ill_tool.specs.Telling.{held_text};
+ghost use Rattle.ill_tool.specs.Telling.{as_told, held_text};
 
 use ill_core::Taking;
-use ill_saved::{Action, Desk, Desk1, DeskFault, Role, Side, Store};
+use ill_saved::{Action, Desk, Desk1, DeskFault, Role, Side, Sides, Store};
 use ill_values::{Apdu, Number, OutOfMemory, TxnId};
 use ill_world::{push_held, push_side};
 use std::alloc::Global;
@@ -103,6 +103,11 @@ pub(crate) trait Keeper {
         ensures front { OnErr result (AddsFront line.old.items line.new.items
             (held_text (keeping.side_for key.now (live self.now)))) };
 
+    /// Adds how a side stands once all sides are saved.
+    fn push_saved_side(&self, line: &mut Vec<u8>, key: &Self::Key) -> Result<(), OutOfMemory>
+        ensures { OnOk result (line.new.items ≡ line.old.items
+            ++ held_text (as_told true (keeping.side_for key.now (live self.now)))) };
+
     /// What names the side that is there from the beginning, if one is.
     fn first_key(&self) -> Option<&Self::Key>
         ensures { option_copied result ≡ keeping.first_key };
@@ -163,6 +168,10 @@ impl<S: Store> Keeper for Desk1<S> {
 
     fn push_side(&self, line: &mut Vec<u8>, _key: &()) -> Result<(), OutOfMemory> {
         push_side(line, self.side(), self.released())
+    }
+
+    fn push_saved_side(&self, line: &mut Vec<u8>, _key: &()) -> Result<(), OutOfMemory> {
+        push_side(line, self.side(), self.side().issued_count())
     }
 
     fn first_key(&self) -> Option<&()> {
@@ -227,7 +236,21 @@ impl<S: Store> Keeper for Desk<S> {
         push_held(line, self.sides(), key, self.released(key))
     }
 
+    fn push_saved_side(&self, line: &mut Vec<u8>, key: &TxnId) -> Result<(), OutOfMemory> {
+        push_held(line, self.sides(), key, issued_count(self.sides(), key))
+    }
+
     fn close(self) -> S {
         Desk::close(self)
+    }
+}
+
+/// How many messages the side of this transaction has issued, of which none may be held.
+fn issued_count(sides: &Sides, txn: &TxnId) -> u8
+    ensures { result ≡ length (issued_of (side_for txn.now sides.now)) }
+{
+    match sides.get(txn) {
+        Some(side) => side.issued_count(),
+        None => 0,
     }
 }

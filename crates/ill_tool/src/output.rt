@@ -15,3 +15,14 @@ pub fn write_whole<W: Write>(writer: &mut W, bytes: &[u8]) -> Result<(), ToolFau
         Err(_) => Err(ToolFault::Write),
     }
 }
+
+/// The same, and then flushes the writer, so that what was written does not wait in it.
+pub fn write_and_flush<W: Write>(writer: &mut W, bytes: &[u8]) -> Result<(), ToolFault>
+    ensures { WritesFront (W.contents writer.old) (W.contents writer.new) bytes.now result }
+{
+    write_whole(writer, bytes)?;
+    let Ok(()) = writer.flush() else {
+        return Err(ToolFault::Write);
+    };
+    Ok(())
+}

@@ -66,6 +66,13 @@ pub enum Request<'a> {
         /// Whether to keep each message that is taken.
         is_kept: bool,
     },
+    /// Take the mails of a folder: `ill inbox`.
+    Inbox {
+        /// The path of the file.
+        file: &'a str,
+        /// The path of the folder.
+        folder: &'a str,
+    },
     /// Give the bytes of a message: `ill send`.
     Send {
         /// The path of the file.
@@ -187,6 +194,7 @@ fn requested<'a>(
         Name::New => new_request(alloc, matches),
         Name::Act => act_request(alloc, matches),
         Name::Take => take_request(alloc, matches),
+        Name::Inbox => inbox_request(alloc, matches),
         Name::Send => send_request(alloc, matches),
         Name::List => list_request(alloc, matches),
         Name::Status => status_request(alloc, matches),
@@ -239,6 +247,15 @@ fn take_request<'a>(alloc: Global, matches: &ArgMatches<'a>) -> Result<Request<'
         is_long,
         is_kept,
     })
+}
+
+/// The request of `ill inbox`.
+fn inbox_request<'a>(alloc: Global, matches: &ArgMatches<'a>) -> Result<Request<'a>, Refusal>
+    ensures { Gives asked (asked_of names.Inbox (rows_of (found_of matches.now))) result }
+{
+    let file = text(alloc, matches, Argument::File)?;
+    let folder = text(alloc, matches, Argument::Folder)?;
+    Ok(Request::Inbox { file, folder })
 }
 
 /// The request of `ill send`.

@@ -1,7 +1,7 @@
 //! The line of how a side stands, alone or with what a message was and said.
 
-ghost use Rattle.std.specs.Prelude.{◌≡◌, ◌++◌, OnOk};
-ghost use Rattle.ill_tool.specs.Telling.{is_fine, long, side_line, wording, Tells};
+ghost use Rattle.std.specs.Prelude.{◌≡◌, ◌++◌, true, OnOk};
+ghost use Rattle.ill_tool.specs.Telling.{as_told, held_text, is_fine, long, side_line, wording, Tells};
 
 use crate::fault::ToolFault;
 use crate::keeper::Keeper;
@@ -27,7 +27,7 @@ pub(crate) fn report<K: Keeper, W: Write>(
         (K.keeping.side_for key.now (K.live keeper.now)) result }
 {
     let mut line = Vec::new(alloc);
-    push_line(&mut line, outcome, keeper, key)?;
+    push_line::<K, false>(&mut line, outcome, keeper, key)?;
     write_whole(writer, &line)?;
     Ok(is_fine(outcome))
 }
@@ -63,14 +63,14 @@ fn push_words<K: Keeper, const LONG: bool>(
         ++ wording LONG apdu.now outcome (K.keeping.side_for key.now (K.live keeper.now))) }
 {
     if LONG {
-        push_long(lines, apdu, outcome, keeper, key)
+        push_long::<K, false>(lines, apdu, outcome, keeper, key)
     } else {
-        push_line(lines, outcome, keeper, key)
+        push_line::<K, false>(lines, outcome, keeper, key)
     }
 }
 
-/// Adds which message it was, the line, and what it said.
-fn push_long<K: Keeper>(
+/// Adds the words of the outcome of a message at length, with how its side stands once it is saved.
+pub(crate) fn push_saved_message<K: Keeper>(
     lines: &mut Vec<u8>,
     apdu: &ApduView<'_>,
     outcome: DeskOutcome,
@@ -78,28 +78,58 @@ fn push_long<K: Keeper>(
     key: &K::Key,
 ) -> Result<(), OutOfMemory>
     ensures { OnOk result (lines.new.items ≡ lines.old.items
-        ++ long apdu.now outcome (K.keeping.side_for key.now (K.live keeper.now))) }
+        ++ long apdu.now outcome (as_told true (K.keeping.side_for key.now (K.live keeper.now)))) }
+{
+    push_long::<K, true>(lines, apdu, outcome, keeper, key)
+}
+
+/// Adds which message it was, the line, and what it said.
+fn push_long<K: Keeper, const SAVED: bool>(
+    lines: &mut Vec<u8>,
+    apdu: &ApduView<'_>,
+    outcome: DeskOutcome,
+    keeper: &K,
+    key: &K::Key,
+) -> Result<(), OutOfMemory>
+    ensures { OnOk result (lines.new.items ≡ lines.old.items
+        ++ long apdu.now outcome (as_told SAVED (K.keeping.side_for key.now (K.live keeper.now)))) }
 {
     push_heading(lines, apdu)?;
-    push_line(lines, outcome, keeper, key)?;
+    push_line::<K, SAVED>(lines, outcome, keeper, key)?;
     push_said(lines, apdu)
 }
 
-/// Adds the line of an outcome and of how the side stands after it.
-fn push_line<K: Keeper>(
+/// Adds the line of an outcome and of how the side stands after it, now or once it is saved.
+fn push_line<K: Keeper, const SAVED: bool>(
     line: &mut Vec<u8>,
     outcome: DeskOutcome,
     keeper: &K,
     key: &K::Key,
 ) -> Result<(), OutOfMemory>
     ensures { OnOk result (line.new.items ≡ line.old.items
-        ++ side_line outcome (K.keeping.side_for key.now (K.live keeper.now))) }
+        ++ side_line outcome (as_told SAVED (K.keeping.side_for key.now (K.live keeper.now)))) }
 {
     line.extend_from_slice(outcome.word().as_bytes())?;
     line.push(b' ')?;
-    keeper.push_side(line, key)?;
+    push_side_as::<K, SAVED>(line, keeper, key)?;
     line.push(b'\n')?;
     Ok(())
+}
+
+/// Adds how a side stands, now or once it is saved.
+fn push_side_as<K: Keeper, const SAVED: bool>(
+    line: &mut Vec<u8>,
+    keeper: &K,
+    key: &K::Key,
+) -> Result<(), OutOfMemory>
+    ensures { OnOk result (line.new.items ≡ line.old.items
+        ++ held_text (as_told SAVED (K.keeping.side_for key.now (K.live keeper.now)))) }
+{
+    if SAVED {
+        keeper.push_saved_side(line, key)
+    } else {
+        keeper.push_side(line, key)
+    }
 }
 
 /// Whether all went well: nothing was refused, and no message was in conflict.

@@ -11,7 +11,7 @@ use crate::came::STORE_FAILED;
 use crate::fault::{ToolFault, refused};
 use crate::input::{Counted, handle_input};
 use crate::keeper::Keeper;
-use crate::output::write_whole;
+use crate::output::write_and_flush;
 use crate::side_line::report_message;
 use ill_core::Taking;
 use ill_der::{ApduView, Handler, encode};
@@ -305,11 +305,15 @@ fn keep<F: Write>(alloc: Global, came: &mut F, apdu: &Apdu) -> Result<(), ToolFa
     ensures { KeepsFront (spelling apdu.now) (F.contents came.old) (F.contents came.new) result }
 {
     let bytes = encode(alloc, apdu)?;
-    match write_whole(came, &bytes) {
-        Ok(()) => match came.flush() {
-            Ok(()) => Ok(()),
-            Err(_) => Err(STORE_FAILED),
-        },
+    keep_bytes(came, &bytes)
+}
+
+/// Keeps bytes of messages: they are written and flushed.
+pub(crate) fn keep_bytes<F: Write>(came: &mut F, bytes: &[u8]) -> Result<(), ToolFault>
+    ensures { KeepsFront bytes.now (F.contents came.old) (F.contents came.new) result }
+{
+    match write_and_flush(came, bytes) {
+        Ok(()) => Ok(()),
         Err(_) => Err(STORE_FAILED),
     }
 }

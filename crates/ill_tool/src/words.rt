@@ -8,7 +8,7 @@ ghost use Rattle.ill_tool.specs.ExitStatus.{IsFlushed, desk_status, exit_status,
 use crate::check::run_check;
 use crate::explain::{Passed, Watched, explain, is_asked};
 use crate::fault::ToolFault;
-use crate::file::{act, all_well, list, loan, new, report, send, status, take, verify};
+use crate::file::{act, all_well, inbox, list, loan, new, report, send, status, take, verify};
 use crate::request::{Refusal, Request, read_words};
 use crate::show::run_show_as;
 use crate::simulate::{run_simulate, run_simulate_desks};
@@ -140,6 +140,7 @@ fn run<T: LockFiles, R: Read, W: Write, E: Write>(
             is_long,
             is_kept,
         } => take(rt, alloc, file, *is_long, *is_kept, reader, writer),
+        Request::Inbox { file, folder } => inbox(rt, alloc, file, folder, writer, errors),
         Request::Send { file, txn, number } => send(rt, alloc, file, txn, *number, writer),
         Request::List {
             paths,
@@ -222,7 +223,7 @@ fn status_after(fault: ToolFault) -> u8
     match fault {
         ToolFault::Arguments | ToolFault::Der(_) | ToolFault::TooMany | ToolFault::Script(_) => BAD,
         ToolFault::Desk(fault) => status_after_desk(fault),
-        ToolFault::Read | ToolFault::Write | ToolFault::OutOfMemory => FAILED,
+        ToolFault::Left | ToolFault::Read | ToolFault::Write | ToolFault::OutOfMemory => FAILED,
     }
 }
 

@@ -52,7 +52,7 @@ enum Kind {
     Texts,
 }
 
-const KINDS: [(&str, Kind); 25] = [
+const KINDS: [(&str, Kind); 26] = [
     ("ill", Kind::Ill),
     ("watched", Kind::Watched),
     ("show", Kind::Engine(Engine::Show)),
@@ -74,6 +74,7 @@ const KINDS: [(&str, Kind); 25] = [
     ("restart", Kind::On(MemoryCall::Restart)),
     ("act", Kind::On(MemoryCall::Act)),
     ("take", Kind::On(MemoryCall::Take)),
+    ("inbox", Kind::On(MemoryCall::Inbox)),
     ("send", Kind::On(MemoryCall::Send)),
     ("status", Kind::On(MemoryCall::Status)),
     ("loan", Kind::On(MemoryCall::Loan)),

@@ -7,12 +7,15 @@ use crate::view::{View, tell_side};
 use crate::words::{Word, texts};
 use ill_saved::{Desk, Desk1, DeskFault, Store};
 use ill_tool::{
-    ToolFault, run_act, run_desk_act, run_desk_kept_take, run_desk_loan, run_desk_long_take,
-    run_desk_send, run_desk_status, run_desk_take, run_loan, run_long_take, run_send, run_status,
-    run_take,
+    Mail, ToolFault, Verdict, run_act, run_desk_act, run_desk_inbox, run_desk_kept_take,
+    run_desk_loan, run_desk_long_take, run_desk_send, run_desk_status, run_desk_take, run_loan,
+    run_long_take, run_send, run_status, run_take,
 };
 use ill_values::{Day, Number, TxnId};
 use std::alloc::Global;
+
+/// How many mails wait beyond those that are taken by a call.
+const WAITING: usize = 2;
 
 /// What keeps sides in a store. Nothing is answered where the words are none.
 pub trait Kept {
@@ -34,6 +37,15 @@ pub trait Kept {
         output: &mut Sink,
         came: &mut Sink,
     ) -> Result<bool, ToolFault>;
+
+    /// Takes mails, by the engine, which only a desk has. Two more wait.
+    fn inbox(
+        &mut self,
+        alloc: Global,
+        mails: &[Mail],
+        output: &mut Sink,
+        came: &mut Sink,
+    ) -> Option<Result<Vec<Verdict>, ToolFault>>;
 
     /// Gives the message that the words say, by the engine.
     fn send(
@@ -92,6 +104,16 @@ impl<S: Store> Kept for Desk1<S> {
             return run_long_take(alloc, self, source, output);
         }
         run_take(alloc, self, source, output)
+    }
+
+    fn inbox(
+        &mut self,
+        _alloc: Global,
+        _mails: &[Mail],
+        _output: &mut Sink,
+        _came: &mut Sink,
+    ) -> Option<Result<Vec<Verdict>, ToolFault>> {
+        None
     }
 
     fn send(
@@ -164,6 +186,16 @@ impl<S: Store> Kept for Desk<S> {
             return run_desk_long_take(alloc, self, source, output);
         }
         run_desk_take(alloc, self, source, output)
+    }
+
+    fn inbox(
+        &mut self,
+        alloc: Global,
+        mails: &[Mail],
+        output: &mut Sink,
+        came: &mut Sink,
+    ) -> Option<Result<Vec<Verdict>, ToolFault>> {
+        Some(run_desk_inbox(alloc, self, mails, WAITING, came, output))
     }
 
     fn send(

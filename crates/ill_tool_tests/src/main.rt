@@ -23,6 +23,7 @@ mod failure;
 mod folder;
 mod kept;
 mod limited;
+mod mails;
 mod memory;
 mod names;
 mod page;

@@ -6,6 +6,7 @@ ghost use Rattle.ill_saved.specs.Side.{idle_of};
 use crate::call::Call;
 use crate::kept::Kept;
 use crate::limited::LimitedStore;
+use crate::mails::mails_of;
 use crate::names::Names;
 use crate::page::Page;
 use crate::telling::begin;
@@ -39,6 +40,7 @@ pub enum MemoryCall {
     Restart,
     Act,
     Take,
+    Inbox,
     Send,
     Status,
     Loan,
@@ -196,6 +198,11 @@ fn answer<K: Kept>(
                 &mut call.output,
                 &mut call.errors,
             );
+            call.tell_answer(page, names, &answer);
+        }
+        MemoryCall::Inbox => {
+            let mails = mails_of(alloc, names, call.words)?;
+            let answer = kept.inbox(alloc, &mails, &mut call.output, &mut call.errors)?;
             call.tell_answer(page, names, &answer);
         }
         MemoryCall::Send => {

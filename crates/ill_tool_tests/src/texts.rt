@@ -6,7 +6,7 @@ use ill_saved::{RecordFault, StoreFault};
 use ill_tool::{DerFault, DeskFault, ToolFault};
 use std::fmt::{Debug, Display};
 
-const FAULTS: [ToolFault; 24] = [
+const FAULTS: [ToolFault; 25] = [
     ToolFault::Arguments,
     ToolFault::Der(DerFault::Short(17)),
     ToolFault::Der(DerFault::Tag(15)),
@@ -28,6 +28,7 @@ const FAULTS: [ToolFault; 24] = [
     ToolFault::Desk(DeskFault::Saved(RecordFault::Bad(67_108_863))),
     ToolFault::Desk(DeskFault::Saved(RecordFault::Digest)),
     ToolFault::Desk(DeskFault::Saved(RecordFault::Inconsistent)),
+    ToolFault::Left,
     ToolFault::Read,
     ToolFault::Write,
     ToolFault::OutOfMemory,

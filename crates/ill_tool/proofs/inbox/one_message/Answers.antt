@@ -1,0 +1,10 @@
+use Rattle.std.proofs.Common.{rules, ◌≡◌, ◌+◌, ◌≤◌, length}
+use Rattle.ill_der.specs.ShortForm.{apdu_at}
+use Rattle.ill_tool.proofs.InboxLemmas.{trailing_unfit}
+use Rattle.ill_tool.proofs.inbox.one_message.Goals as goal
+
+pub returns-else-size-bytes : goal.returns-else-size-bytes
+returns-else-size-bytes c =
+    let bytes = c.args.bytes.now in
+    let less : c.in-Ok.size + 1 ≤ length bytes = search rules in
+    trailing_unfit bytes (apdu_at bytes) (c.in-Ok.apdu, c.in-Ok.size) less c.in-Ok.ensures.read

@@ -1,0 +1,307 @@
+-- The command `inbox`: the mails of a folder are taken one after another, and all that they change is saved at once
+-- (this profile's own).
+use Rattle.std.specs.Prelude.{◌≡◌, ℕ, nat_lt, Bool, true, false, not, ◌&&◌, ◌||◌, if◌then◌else◌, List, [], ◌∷◌, ◌++◌, length, fold, count_by, take, codes, Option, None, Some, option_map, Result, Ok, Err}
+use Rattle.std.specs.Fmt.{decimal}
+use Rattle.std.specs.Io.KnownBytes.{Appends}
+use Rattle.ill_values.specs.declared.apdu.Apdu.{Apdu}
+use Rattle.ill_der.specs.declared.fault.DerFault.{DerFault}
+use Rattle.ill_der.specs.declared.fault.DerFault.TheVariants as ders
+use Rattle.ill_der.specs.ShortForm.{apdu_at}
+use Rattle.ill_der.specs.Faults.{place_of}
+use Rattle.ill_core.specs.declared.taking.Taking.TheVariants as takings
+use Rattle.ill_saved.specs.declared.role.Role.{Role}
+use Rattle.ill_saved.specs.declared.role.Role.TheVariants.{Requester}
+use Rattle.ill_saved.specs.declared.fault.DeskFault.TheVariants as desks
+use Rattle.ill_saved.specs.declared.store.StoreFault.TheVariants.{Failed}
+use Rattle.ill_saved.specs.Many.{Holding}
+use Rattle.ill_world.specs.declared.event.Outcome.TheVariants as outcomes
+use Rattle.ill_world.specs.declared.event.DeskOutcome.{DeskOutcome}
+use Rattle.ill_world.specs.declared.event.DeskOutcome.TheVariants as seen
+use Rattle.ill_world.specs.Trace.{desk_outcome_word}
+use Rattle.ill_tool.specs.declared.fault.ToolFault.{ToolFault}
+use Rattle.ill_tool.specs.declared.fault.ToolFault.TheVariants.{Desk, Write, OutOfMemory}
+use Rattle.ill_tool.specs.declared.fault.ToolFault.TheVariants as faults
+use Rattle.ill_tool.specs.declared.verdict.Mail.{Mail}
+use Rattle.ill_tool.specs.declared.verdict.Unfit.{Unfit}
+use Rattle.ill_tool.specs.declared.verdict.Unfit.TheVariants as unfits
+use Rattle.ill_tool.specs.declared.verdict.Delay.{Delay}
+use Rattle.ill_tool.specs.declared.verdict.Delay.TheVariants as delays
+use Rattle.ill_tool.specs.declared.verdict.Verdict.{Verdict}
+use Rattle.ill_tool.specs.declared.verdict.Verdict.TheVariants.{Done, Aside, Left}
+use Rattle.ill_tool.specs.declared.tally.Heap.{Heap}
+use Rattle.ill_tool.specs.declared.tally.Heap.TheVariants as heaps
+use Rattle.ill_tool.specs.declared.tally.Tally.{Tally}
+use Rattle.ill_tool.specs.declared.inbox.Sorted.{Sorted}
+use Rattle.ill_tool.specs.Escape.{escaped}
+use Rattle.ill_tool.specs.Keeping.{Keeping, many_sides}
+use Rattle.ill_tool.specs.Performing.{View, handed, is_change, becomes, saved, IsFaulted}
+use Rattle.ill_tool.specs.Take.{KeepsBefore}
+use Rattle.ill_tool.specs.Telling.{as_told, long}
+
+-- ---- the message of a mail
+
+-- the message that bytes are, by what stands at their front; or why no desk will ever take them
+abbrev pub one_message : Result (Apdu × List ℕ) DerFault → Result Apdu Unfit
+one_message (Ok (a, [])) = Ok a
+one_message (Ok (a, byte ∷ rest)) = Err unfits.Trailing
+one_message (Err fault) = Err (unfits.NoMessage fault)
+
+-- the same of a mail, in which a message has 359 bytes at most
+abbrev pub message_in : List ℕ → Result Apdu Unfit
+message_in bytes = if nat_lt 359 (length bytes) then Err unfits.TooLong else one_message (apdu_at bytes)
+
+-- ---- what becomes of it
+
+-- What becomes of a mail by what is seen of its message. A requester may have begun the loan by the next run. A message
+-- that comes to a responder before its request comes again with that.
+abbrev pub verdict_of : Role → DeskOutcome → Verdict
+verdict_of role (seen.Plain (outcomes.Refused refusal)) = Aside (unfits.Refused refusal)
+verdict_of Requester seen.NoSuchTransaction = Left delays.NoSuchTransaction
+verdict_of role seen.DeskFull = Left delays.DeskFull
+verdict_of role outcome = Done outcome
+
+-- ---- the words of it
+
+-- the word of a fault of bytes
+abbrev pub der_word : DerFault → List ℕ
+der_word (ders.Short at) = codes "short"
+der_word (ders.Tag at) = codes "tag"
+der_word (ders.Length at) = codes "length"
+der_word (ders.Field at) = codes "field"
+der_word ders.OutOfMemory = codes "memory"
+
+-- the place of a fault of bytes, if it has one
+abbrev pub place_text : Option ℕ → List ℕ
+place_text None = []
+place_text (Some at) = codes " at " ++ decimal at
+
+-- why no desk will ever take a mail
+abbrev pub unfit_text : Unfit → List ℕ
+unfit_text (unfits.NoMessage fault) = der_word fault ++ place_text (place_of fault)
+unfit_text unfits.TooLong = codes "too-long"
+unfit_text unfits.Trailing = codes "trailing"
+unfit_text (unfits.Refused refusal) = desk_outcome_word (seen.Plain (outcomes.Refused refusal))
+
+-- why a mail waits for the next run
+abbrev pub delay_text : Delay → List ℕ
+delay_text delays.NotRead = codes "not-read"
+delay_text delays.NoSuchTransaction = desk_outcome_word seen.NoSuchTransaction
+delay_text delays.DeskFull = desk_outcome_word seen.DeskFull
+
+-- the line of a mail that stays
+abbrev pub stays_line : List ℕ → List ℕ → List ℕ → List ℕ
+stays_line name word reason = escaped name ++ (word ++ (reason ++ codes "\n"))
+
+-- the line of a mail, by its name: none of one that is done
+abbrev pub verdict_line : List ℕ → Verdict → List ℕ
+verdict_line name (Done outcome) = []
+verdict_line name (Aside unfit) = stays_line name (codes " aside ") (unfit_text unfit)
+verdict_line name (Left delay) = stays_line name (codes " left ") (delay_text delay)
+
+-- ---- one mail after another
+
+-- how far the mails are: what is held, the verdicts, what is told of the mails, and what is kept of them
+pub record Sorting (L : Type 0) : Type 0 where
+  pub live : L
+  pub verdicts : List Verdict
+  pub told : List ℕ
+  pub kept : List ℕ
+
+abbrev pub sorting_of : {L : Type 0} → L → Sorted → Sorting L
+sorting_of live sorted = record {
+  live = live;
+  verdicts = sorted.verdicts.items;
+  told = sorted.told.items;
+  kept = sorted.kept.items;
+}
+
+-- before the first mail
+abbrev pub unsorted : {L : Type 0} → L → Sorting L
+unsorted live = record { live = live; verdicts = []; told = []; kept = [] }
+
+-- a mail of this name has its verdict
+abbrev pub settled : {L : Type 0} → List ℕ → Verdict → Sorting L → Sorting L
+settled name verdict old = record {
+  live = old.live;
+  verdicts = old.verdicts ++ verdict ∷ [];
+  told = old.told ++ verdict_line name verdict;
+  kept = old.kept;
+}
+
+-- what is kept of a mail: its bytes, where its message was taken
+abbrev pub kept_bytes : DeskOutcome → List ℕ → List ℕ
+kept_bytes outcome bytes = if is_change outcome then bytes else []
+
+-- A message has done this: it is told as `take --long` tells it, as the side stands once all is saved; and kept, where
+-- it was taken.
+abbrev pub told_of : {L K : Type 0} → Keeping L K → List ℕ → Apdu → DeskOutcome → L → Sorting L → Sorting L
+told_of keeping bytes a outcome live old = record {
+  live = live;
+  verdicts = old.verdicts;
+  told = old.told ++ long a outcome (as_told true (keeping.side_for (keeping.key_of a) live));
+  kept = old.kept ++ kept_bytes outcome bytes;
+}
+
+-- A message was handed to its side, and did this. No side answers a fault that stands for no refusal.
+abbrev pub after_hand : {L K : Type 0} → Keeping L K → List ℕ → List ℕ → Apdu → Result DeskOutcome ToolFault × L →
+    Sorting L → Sorting L
+after_hand keeping name bytes a (Ok outcome, live) old =
+    settled name (verdict_of (keeping.role live) outcome) (told_of keeping bytes a outcome live old)
+after_hand keeping name bytes a (Err fault, live) old = old
+
+-- after the message of a mail, or a mail without one
+abbrev pub after_message : {L K : Type 0} → Keeping L K → List ℕ → List ℕ → Result Apdu Unfit → Sorting L → Sorting L
+after_message keeping name bytes (Ok a) old = after_hand keeping name bytes a (handed keeping old.live a) old
+after_message keeping name bytes (Err unfit) old = settled name (Aside unfit) old
+
+-- after the bytes of a mail, if they could be read
+abbrev pub after_bytes : {L K : Type 0} → Keeping L K → List ℕ → Option (List ℕ) → Sorting L → Sorting L
+after_bytes keeping name None old = settled name (Left delays.NotRead) old
+after_bytes keeping name (Some bytes) old = after_message keeping name bytes (message_in bytes) old
+
+-- after a mail
+abbrev pub after_mail : {L K : Type 0} → Keeping L K → Sorting L → Mail → Sorting L
+after_mail keeping old mail =
+    after_bytes keeping mail.name.items (option_map (λ bytes. bytes.items) mail.bytes) old
+
+-- after all mails, in their order
+abbrev pub after_mails : {L K : Type 0} → Keeping L K → L → List Mail → Sorting L
+after_mails keeping live mails = fold (after_mail keeping) (unsorted live) mails
+
+-- ---- counts
+
+-- the heap on which a mail comes
+abbrev pub heap_of : Verdict → Heap
+heap_of (Done (seen.Plain (outcomes.Answered takings.Taken))) = heaps.Taken
+heap_of (Done (seen.Plain (outcomes.Answered takings.Repeat))) = heaps.Repeat
+heap_of (Done (seen.Plain (outcomes.Answered takings.Stale))) = heaps.Stale
+heap_of (Done (seen.Plain (outcomes.Answered (takings.Conflict state)))) = heaps.Conflict
+heap_of (Done outcome) = heaps.Unknown
+heap_of (Aside unfit) = heaps.Aside
+heap_of (Left delay) = heaps.Left
+
+abbrev pub is_heap : Heap → Heap → Bool
+is_heap heaps.Taken heaps.Taken = true
+is_heap heaps.Repeat heaps.Repeat = true
+is_heap heaps.Stale heaps.Stale = true
+is_heap heaps.Conflict heaps.Conflict = true
+is_heap heaps.Unknown heaps.Unknown = true
+is_heap heaps.Aside heaps.Aside = true
+is_heap heaps.Left heaps.Left = true
+is_heap heap other = false
+
+-- how many mails come on a heap
+abbrev pub count_on : Heap → List Verdict → ℕ
+count_on heap verdicts = count_by (λ verdict. is_heap heap (heap_of verdict)) verdicts
+
+abbrev pub tally_of : List Verdict → Tally
+tally_of verdicts = record {
+  taken = count_on heaps.Taken verdicts;
+  repeat = count_on heaps.Repeat verdicts;
+  stale = count_on heaps.Stale verdicts;
+  conflict = count_on heaps.Conflict verdicts;
+  unknown = count_on heaps.Unknown verdicts;
+  aside = count_on heaps.Aside verdicts;
+  left = count_on heaps.Left verdicts;
+}
+
+-- the counts of the mails that are done, whose files go
+unfoldable pub done_text : Tally → List ℕ
+done_text tally =
+    codes "taken " ++ decimal tally.taken ++ codes ", repeat " ++ decimal tally.repeat ++ codes ", stale "
+    ++ decimal tally.stale ++ codes ", conflict " ++ decimal tally.conflict ++ codes ", unknown "
+    ++ decimal tally.unknown
+
+-- the counts of those that stay, and of those for which there was no room in this run
+unfoldable pub staying_text : Tally → ℕ → List ℕ
+staying_text tally waiting =
+    codes ", aside " ++ decimal tally.aside ++ codes ", left " ++ decimal tally.left ++ codes ", waiting "
+    ++ decimal waiting ++ codes "\n"
+
+-- the line of the counts
+abbrev pub tally_line : Tally → ℕ → List ℕ
+tally_line tally waiting = done_text tally ++ staying_text tally waiting
+
+-- ---- the command
+
+-- A message was handed to its side; or memory ran out for it, and nothing changed.
+abbrev pub HandsOver : {L K : Type 0} → Keeping L K → L → Apdu → Result DeskOutcome ToolFault → L → Type 0
+HandsOver keeping old a (Ok outcome) new = handed keeping old a ≡ (Ok outcome, new)
+HandsOver keeping old a (Err fault) new = new ≡ old
+
+-- all that is written
+abbrev pub inbox_text : {L : Type 0} → Sorting L → ℕ → List ℕ
+inbox_text end waiting = end.told ++ tally_line (tally_of end.verdicts) waiting
+
+-- the same mails, with the line of their counts behind what is told
+abbrev pub concluded : {L : Type 0} → ℕ → Sorting L → Sorting L
+concluded waiting end = record {
+  live = end.live;
+  verdicts = end.verdicts;
+  told = inbox_text end waiting;
+  kept = end.kept;
+}
+
+-- something was taken: of each message that was, its bytes are kept
+abbrev pub has_taken : {L : Type 0} → Sorting L → Bool
+has_taken end = nat_lt 0 (length end.kept)
+
+-- what is known after the run: all is saved, if something was taken
+abbrev pub after_run : {L K : Type 0} → Keeping L K → View L → Sorting L → View L
+after_run keeping old end =
+    if has_taken end then saved keeping (becomes old end.live) else becomes old end.live
+
+-- what was answered, with the verdicts as a list
+abbrev pub answered_with : {X : Type 0} → (X → List Verdict) → Result X ToolFault → Result (List Verdict) ToolFault
+answered_with items (Ok verdicts) = Ok (items verdicts)
+answered_with items (Err fault) = Err fault
+
+-- What was taken is saved at once, if something was; or that failed, or memory ran out for it.
+abbrev pub SavesOnce : {L K : Type 0} → Keeping L K → List ℕ → View L → Result (Unit {0}) ToolFault → View L → Type 0
+SavesOnce keeping kept old (Ok done) new = new ≡ (if nat_lt 0 (length kept) then saved keeping old else old)
+SavesOnce keeping kept old (Err (Desk (desks.Store Failed))) new =
+    (nat_lt 0 (length kept) ≡ true) × IsFaulted keeping old new
+SavesOnce keeping kept old (Err OutOfMemory) new = new ≡ old
+SavesOnce keeping kept old (Err other) new = ⊥
+
+-- How a run ends. Where all is well it is told. If the writer fails all is saved too. If the one save fails, the old
+-- record has landed or that of all mails, and nothing is told. If memory runs out, nothing more has landed.
+abbrev pub EndsRun : {L K : Type 0} → Keeping L K → Sorting L → ℕ → Option (List ℕ) → Option (List ℕ) → View L →
+    Result (List Verdict) ToolFault → View L → Type 0
+EndsRun keeping end waiting before after old (Ok verdicts) new =
+    (verdicts ≡ end.verdicts) × Appends before after (inbox_text end waiting) × (new ≡ after_run keeping old end)
+EndsRun keeping end waiting before after old (Err Write) new =
+    ((size : ℕ) × Appends before after (take size (inbox_text end waiting))) × (new ≡ after_run keeping old end)
+EndsRun keeping end waiting before after old (Err (Desk (desks.Store Failed))) new =
+    (after ≡ before) × (has_taken end ≡ true) × IsFaulted keeping (becomes old end.live) new
+EndsRun keeping end waiting before after old (Err OutOfMemory) new = (after ≡ before) × (new.landed ≡ old.landed)
+EndsRun keeping end waiting before after old (Err other) new = ⊥
+
+-- A run over mails, with so many more waiting, from what is kept to what is, from what the writer held to what it
+-- holds, and from what was known to what is known. What was taken is kept before it is saved.
+abbrev pub RunsInbox : {L K : Type 0} → Keeping L K → List Mail → ℕ → Option (List ℕ) → Option (List ℕ) →
+    Option (List ℕ) → Option (List ℕ) → View L → Result (List Verdict) ToolFault → View L → Type 0
+RunsInbox keeping mails waiting kept_before kept_after before after old result new =
+    KeepsBefore (after_mails keeping old.live mails).kept result kept_before kept_after old new
+    × EndsRun keeping (after_mails keeping old.live mails) waiting before after old result new
+
+-- A run over these mails, with these verdicts, has ended well at a desk of which this is known: all that they change is
+-- saved.
+unfoldable pub EndedWell : List Mail → List Verdict → View Holding → Type 0
+EndedWell mails verdicts new =
+    (waiting : ℕ) × (kept_before kept_after before after : Option (List ℕ)) × (old : View Holding)
+    × RunsInbox many_sides mails waiting kept_before kept_after before after old (Ok verdicts) new
+
+-- ---- what is answered
+
+-- something waits for the next run
+abbrev pub is_waiting : Tally → ℕ → Bool
+is_waiting tally waiting = nat_lt 0 tally.left || nat_lt 0 waiting
+
+-- nothing wants a person
+abbrev pub is_quiet : Tally → Bool
+is_quiet tally = not (nat_lt 0 tally.conflict || nat_lt 0 tally.aside)
+
+-- what a run answers in the end
+abbrev pub ending : Tally → ℕ → Result Bool ToolFault
+ending tally waiting = if is_waiting tally waiting then Err faults.Left else Ok (is_quiet tally)

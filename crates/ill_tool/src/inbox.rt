@@ -1,0 +1,325 @@
+//! The command `inbox`: many mails are taken at a desk, and all that they change is saved at once.
+
+ghost use Rattle.std.specs.Prelude.{◌≡◌, ◌≤◌, [], ◌∷◌, ◌++◌, Ok, IfErr, IfOk, OnOk};
+ghost use Rattle.ill_der.specs.ShortForm.{apdu_at};
+ghost use Rattle.ill_tool.specs.declared.fault.ToolFault.TheVariants.{OutOfMemory};
+ghost use Rattle.ill_tool.specs.Keeping.{many_sides};
+ghost use Rattle.ill_tool.specs.Performing.{is_change, many_view, view_of};
+ghost use Rattle.ill_tool.specs.Take.{KeepsBefore};
+ghost use Rattle.ill_tool.specs.Inbox.{EndedWell, HandsOver, RunsInbox, SavesOnce, after_mail, after_mails, after_message, answered_with, concluded, message_in, one_message, settled, sorting_of, told_of, verdict_line, verdict_of};
+
+use crate::fault::{ToolFault, refused};
+use crate::keeper::Keeper;
+use crate::output::write_and_flush;
+use crate::side_line::push_saved_message;
+use crate::take::keep_bytes;
+use crate::tally::{Tally, push_tally};
+use crate::verdict::{Delay, Mail, Unfit, Verdict, push_verdict};
+use ill_core::Taking;
+use ill_der::{APDU_LIMIT, ApduView, view};
+use ill_saved::{Desk, Store};
+use ill_values::Apdu;
+use ill_world::{DeskOutcome, Outcome};
+use std::alloc::Global;
+use std::io::Write;
+
+/// Takes the message of each mail at a desk, in their order, and then saves the desk once, if any was taken. Each
+/// message that was taken is written to `came`, and flushed there, before that is saved. Then it writes what became of
+/// each mail, and their counts, with how many further mails wait, and flushes that. It answers what becomes of each mail.
+///
+/// Only at `Ok` may the file of a mail go. At every fault what has landed is what had landed before, or all that the
+/// mails change; and unless the writer failed, nothing was written.
+pub fn run_desk_inbox<S: Store, F: Write, W: Write>(
+    alloc: Global,
+    desk: &mut Desk<S>,
+    mails: &[Mail],
+    waiting: usize,
+    came: &mut F,
+    writer: &mut W,
+) -> Result<Vec<Verdict>, ToolFault>
+    ensures runs { RunsInbox many_sides mails.now waiting (F.contents came.old) (F.contents came.new)
+        (W.contents writer.old) (W.contents writer.new)
+        (many_view S.is_honest S.landed desk.old) (answered_with (λ verdicts. verdicts.items) result)
+        (many_view S.is_honest S.landed desk.new) }
+    ensures ended { IfOk result (λ verdicts. EndedWell mails.now verdicts.items
+        (many_view S.is_honest S.landed desk.new)) }
+    ensures never_fewer { S.failures desk.old.store ≤ S.failures desk.new.store }
+{
+    run_inbox(alloc, desk, mails, waiting, came, writer)
+}
+
+/// The same, on the sides of what keeps them.
+fn run_inbox<K: Keeper, F: Write, W: Write>(
+    alloc: Global,
+    keeper: &mut K,
+    mails: &[Mail],
+    waiting: usize,
+    came: &mut F,
+    writer: &mut W,
+) -> Result<Vec<Verdict>, ToolFault>
+    ensures runs { RunsInbox K.keeping mails.now waiting (F.contents came.old) (F.contents came.new)
+        (W.contents writer.old) (W.contents writer.new)
+        (view_of K.Kept.is_honest K.Kept.landed (K.live keeper.old) (K.store keeper.old))
+        (answered_with (λ verdicts. verdicts.items) result)
+        (view_of K.Kept.is_honest K.Kept.landed (K.live keeper.new) (K.store keeper.new)) }
+    ensures never_fewer { K.Kept.failures (K.store keeper.old) ≤ K.Kept.failures (K.store keeper.new) }
+{
+    let sorted = match sort(alloc, keeper, mails, waiting) {
+        Ok(sorted) => sorted,
+        Err(fault) => return Err(fault),
+    };
+    if let Err(fault) = keep_and_save(alloc, keeper, came, &sorted.kept) {
+        return Err(fault);
+    }
+    match write_and_flush(writer, &sorted.told) {
+        Ok(()) => Ok(sorted.verdicts),
+        Err(fault) => Err(fault),
+    }
+}
+
+/// What came of mails so far.
+#[derive(Drop)]
+pub(crate) struct Sorted {
+    verdicts: Vec<Verdict>,
+    /// What is told of them.
+    told: Vec<u8>,
+    /// The bytes of the messages that were taken.
+    kept: Vec<u8>,
+}
+
+/// Hands the messages of all mails to their sides, in their order, and tells of them and of their counts.
+fn sort<K: Keeper>(
+    alloc: Global,
+    keeper: &mut K,
+    mails: &[Mail],
+    waiting: usize,
+) -> Result<Sorted, ToolFault>
+    ensures sorted { IfOk result (λ sorted. sorting_of (K.live keeper.new) sorted
+        ≡ concluded waiting (after_mails K.keeping (K.live keeper.old) mails.now)) }
+    ensures fault { IfErr result (λ fault. fault ≡ OutOfMemory) }
+    ensures store { K.store keeper.new ≡ K.store keeper.old }
+{
+    let mut sorted = match sort_mails(alloc, keeper, mails) {
+        Ok(sorted) => sorted,
+        Err(fault) => return Err(fault),
+    };
+    let tally = Tally::of(&sorted.verdicts);
+    match push_tally(&mut sorted.told, &tally, waiting) {
+        Ok(()) => Ok(sorted),
+        Err(_) => Err(ToolFault::OutOfMemory),
+    }
+}
+
+/// Hands the messages of all mails to their sides, in their order.
+fn sort_mails<K: Keeper>(alloc: Global, keeper: &mut K, mails: &[Mail]) -> Result<Sorted, ToolFault>
+    ensures sorted { IfOk result (λ sorted. sorting_of (K.live keeper.new) sorted
+        ≡ after_mails K.keeping (K.live keeper.old) mails.now) }
+    ensures fault { IfErr result (λ fault. fault ≡ OutOfMemory) }
+    ensures store { K.store keeper.new ≡ K.store keeper.old }
+{
+    let mut sorted = Sorted {
+        verdicts: Vec::new(alloc),
+        told: Vec::new(alloc),
+        kept: Vec::new(alloc),
+    };
+    for mail in mails {
+        if let Err(fault) = sorted.sort_mail(alloc, keeper, mail) {
+            return Err(fault);
+        }
+    }
+    Ok(sorted)
+}
+
+impl Sorted {
+    /// Hands the message of a mail to its side, if it has one, and adds what came of it.
+    fn sort_mail<K: Keeper>(
+        &mut self,
+        alloc: Global,
+        keeper: &mut K,
+        mail: &Mail,
+    ) -> Result<(), ToolFault>
+        ensures sorted { OnOk result (sorting_of (K.live keeper.new) self.new
+            ≡ after_mail K.keeping (sorting_of (K.live keeper.old) self.old) mail.now) }
+        ensures fault { IfErr result (λ fault. fault ≡ OutOfMemory) }
+        ensures store { K.store keeper.new ≡ K.store keeper.old }
+    {
+        match &mail.bytes {
+            Some(bytes) => self.sort_bytes(alloc, keeper, &mail.name, bytes),
+            None => self.settle(&mail.name, Verdict::Left(Delay::NotRead)),
+        }
+    }
+
+    /// The same, of a mail that could be read.
+    fn sort_bytes<K: Keeper>(
+        &mut self,
+        alloc: Global,
+        keeper: &mut K,
+        name: &[u8],
+        bytes: &[u8],
+    ) -> Result<(), ToolFault>
+        ensures sorted { OnOk result (sorting_of (K.live keeper.new) self.new
+            ≡ after_message K.keeping name.now bytes.now (message_in bytes.now)
+            (sorting_of (K.live keeper.old) self.old)) }
+        ensures fault { IfErr result (λ fault. fault ≡ OutOfMemory) }
+        ensures store { K.store keeper.new ≡ K.store keeper.old }
+    {
+        match message_in(bytes) {
+            Ok(apdu) => self.sort_message(alloc, keeper, name, bytes, &apdu),
+            Err(unfit) => self.settle(name, Verdict::Aside(unfit)),
+        }
+    }
+
+    /// The same, of a mail that has a message.
+    fn sort_message<K: Keeper>(
+        &mut self,
+        alloc: Global,
+        keeper: &mut K,
+        name: &[u8],
+        bytes: &[u8],
+        read: &ApduView<'_>,
+    ) -> Result<(), ToolFault>
+        ensures sorted { OnOk result (sorting_of (K.live keeper.new) self.new
+            ≡ after_message K.keeping name.now bytes.now (Ok read.now) (sorting_of (K.live keeper.old) self.old)) }
+        ensures fault { IfErr result (λ fault. fault ≡ OutOfMemory) }
+        ensures store { K.store keeper.new ≡ K.store keeper.old }
+    {
+        let apdu = match read.to_apdu(alloc) {
+            Ok(apdu) => apdu,
+            Err(_) => return Err(ToolFault::OutOfMemory),
+        };
+        match hand(alloc, keeper, &apdu) {
+            Ok(outcome) => self.judge(keeper, name, bytes, read, &apdu, outcome),
+            Err(fault) => Err(fault),
+        }
+    }
+
+    /// Adds what a message did, and what becomes of its mail.
+    fn judge<K: Keeper>(
+        &mut self,
+        keeper: &K,
+        name: &[u8],
+        bytes: &[u8],
+        read: &ApduView<'_>,
+        apdu: &Apdu,
+        outcome: DeskOutcome,
+    ) -> Result<(), ToolFault>
+        requires same { read.now ≡ apdu.now }
+        ensures sorted { OnOk result (sorting_of (K.live keeper.now) self.new
+            ≡ settled name.now (verdict_of (K.keeping.role (K.live keeper.now)) outcome)
+            (told_of K.keeping bytes.now apdu.now outcome (K.live keeper.now)
+            (sorting_of (K.live keeper.now) self.old))) }
+        ensures fault { IfErr result (λ fault. fault ≡ OutOfMemory) }
+    {
+        if let Err(fault) = self.tell(keeper, bytes, read, apdu, outcome) {
+            return Err(fault);
+        }
+        self.settle(name, Verdict::of(keeper.role(), outcome))
+    }
+
+    /// Tells of a message, and keeps it if it was taken.
+    fn tell<K: Keeper>(
+        &mut self,
+        keeper: &K,
+        bytes: &[u8],
+        read: &ApduView<'_>,
+        apdu: &Apdu,
+        outcome: DeskOutcome,
+    ) -> Result<(), ToolFault>
+        requires same { read.now ≡ apdu.now }
+        ensures told { OnOk result (sorting_of (K.live keeper.now) self.new
+            ≡ told_of K.keeping bytes.now apdu.now outcome (K.live keeper.now)
+            (sorting_of (K.live keeper.now) self.old)) }
+        ensures fault { IfErr result (λ fault. fault ≡ OutOfMemory) }
+    {
+        push_saved_message(&mut self.told, read, outcome, keeper, K::key_of(apdu))?;
+        if is_change(outcome) {
+            self.kept.extend_from_slice(bytes)?;
+        }
+        Ok(())
+    }
+
+    /// Adds what becomes of a mail.
+    fn settle(&mut self, name: &[u8], verdict: Verdict) -> Result<(), ToolFault>
+        ensures verdicts { OnOk result (self.new.verdicts.items ≡ self.old.verdicts.items ++ verdict ∷ []) }
+        ensures told { OnOk result (self.new.told.items ≡ self.old.told.items ++ verdict_line name.now verdict) }
+        ensures kept { self.new.kept ≡ self.old.kept }
+        ensures fault { IfErr result (λ fault. fault ≡ OutOfMemory) }
+    {
+        push_verdict(&mut self.told, name, verdict)?;
+        self.verdicts.push(verdict)?;
+        Ok(())
+    }
+}
+
+/// The message of a mail, or why no desk will ever take its bytes.
+fn message_in(bytes: &[u8]) -> Result<ApduView<'_>, Unfit>
+    ensures { result ≡ message_in bytes.now }
+{
+    if bytes.len() > APDU_LIMIT {
+        return Err(Unfit::TooLong);
+    }
+    one_message(bytes)
+}
+
+/// The message that bytes are, or why they are none.
+fn one_message(bytes: &[u8]) -> Result<ApduView<'_>, Unfit>
+    ensures { result ≡ one_message (apdu_at bytes.now) }
+{
+    match view(bytes) {
+        Ok((apdu, size)) => {
+            if size == bytes.len() {
+                Ok(apdu)
+            } else {
+                Err(Unfit::Trailing)
+            }
+        }
+        Err(fault) => Err(Unfit::NoMessage(fault)),
+    }
+}
+
+/// Hands a message to its side.
+fn hand<K: Keeper>(alloc: Global, keeper: &mut K, apdu: &Apdu) -> Result<DeskOutcome, ToolFault>
+    ensures handed { HandsOver K.keeping (K.live keeper.old) apdu.now result (K.live keeper.new) }
+    ensures fault { IfErr result (λ fault. fault ≡ OutOfMemory) }
+    ensures store { K.store keeper.new ≡ K.store keeper.old }
+{
+    match keeper.take(alloc, apdu) {
+        Ok(taking) => Ok(DeskOutcome::Plain(Outcome::Answered(taking))),
+        Err(fault) => refused(fault),
+    }
+}
+
+/// Tells if a message was taken.
+fn is_change(outcome: DeskOutcome) -> bool
+    ensures { result ≡ is_change outcome }
+{
+    matches!(
+        outcome,
+        DeskOutcome::Plain(Outcome::Done | Outcome::Answered(Taking::Taken))
+    )
+}
+
+/// Keeps the bytes of the messages that were taken, and then saves that they were: once, if there are any.
+fn keep_and_save<K: Keeper, F: Write>(
+    alloc: Global,
+    keeper: &mut K,
+    came: &mut F,
+    kept: &[u8],
+) -> Result<(), ToolFault>
+    ensures saves { SavesOnce K.keeping kept.now
+        (view_of K.Kept.is_honest K.Kept.landed (K.live keeper.old) (K.store keeper.old)) result
+        (view_of K.Kept.is_honest K.Kept.landed (K.live keeper.new) (K.store keeper.new)) }
+    ensures keeps { KeepsBefore kept.now result (F.contents came.old) (F.contents came.new)
+        (view_of K.Kept.is_honest K.Kept.landed (K.live keeper.old) (K.store keeper.old))
+        (view_of K.Kept.is_honest K.Kept.landed (K.live keeper.new) (K.store keeper.new)) }
+    ensures never_fewer { K.Kept.failures (K.store keeper.old) ≤ K.Kept.failures (K.store keeper.new) }
+{
+    if kept.is_empty() {
+        return Ok(());
+    }
+    keep_bytes(came, kept)?;
+    match keeper.save(alloc) {
+        Ok(()) => Ok(()),
+        Err(fault) => Err(fault.into()),
+    }
+}

@@ -1,0 +1,158 @@
+//! How many mails have come to what, and what a run answers by that.
+
+ghost use Rattle.std.specs.Prelude.{◌≡◌, ◌++◌, OnOk};
+ghost use Rattle.ill_world.specs.declared.event.Outcome.TheVariants as outcomes;
+ghost use Rattle.ill_world.specs.declared.event.DeskOutcome.TheVariants as seen;
+ghost use Rattle.ill_tool.specs.declared.verdict.Verdict.TheVariants as verdicts;
+ghost use Rattle.ill_tool.specs.Inbox.{count_on, done_text, ending, heap_of, is_heap, is_quiet, is_waiting, staying_text, tally_line, tally_of};
+
+use crate::fault::ToolFault;
+use crate::verdict::Verdict;
+use ill_core::Taking;
+use ill_values::OutOfMemory;
+use ill_world::{DeskOutcome, Outcome};
+
+/// The heaps on which mails are counted.
+#[derive(Clone, Copy, Debug, PartialEq, Eq, Hash)]
+pub(crate) enum Heap {
+    /// Those whose message was taken.
+    Taken,
+    /// Those whose message was known already.
+    Repeat,
+    /// Those whose message came too late.
+    Stale,
+    /// Those whose message has no place in the state of its loan.
+    Conflict,
+    /// Those whose message is of a loan that the desk does not know.
+    Unknown,
+    /// Those that are put aside.
+    Aside,
+    /// Those that stay where they are.
+    Left,
+}
+
+/// How many mails are on each heap.
+#[derive(Clone, Copy, Debug, PartialEq, Eq, Hash)]
+pub(crate) struct Tally {
+    pub taken: usize,
+    pub repeat: usize,
+    pub stale: usize,
+    pub conflict: usize,
+    pub unknown: usize,
+    pub aside: usize,
+    pub left: usize,
+}
+
+impl Heap {
+    /// The heap of a mail.
+    fn of(verdict: Verdict) -> Heap
+        ensures { result ≡ heap_of verdict }
+    {
+        match verdict {
+            Verdict::Done(DeskOutcome::Plain(Outcome::Answered(taking))) => Heap::of_taking(taking),
+            Verdict::Done(_) => Heap::Unknown,
+            Verdict::Aside(_) => Heap::Aside,
+            Verdict::Left(_) => Heap::Left,
+        }
+    }
+
+    /// The heap of a mail whose message did this.
+    fn of_taking(taking: Taking) -> Heap
+        ensures { result ≡ heap_of (verdicts.Done (seen.Plain (outcomes.Answered taking))) }
+    {
+        match taking {
+            Taking::Taken => Heap::Taken,
+            Taking::Repeat => Heap::Repeat,
+            Taking::Stale => Heap::Stale,
+            Taking::Conflict(_) => Heap::Conflict,
+        }
+    }
+
+    /// Tells if a mail is on this heap.
+    fn has(self, verdict: Verdict) -> bool
+        ensures { result ≡ is_heap self (heap_of verdict) }
+    {
+        self == Heap::of(verdict)
+    }
+
+    /// Counts the mails that are on this heap.
+    fn count(self, verdicts: &[Verdict]) -> usize
+        ensures { result ≡ count_on self verdicts.now }
+    {
+        verdicts
+            .iter()
+            .filter(|verdict| self.has(**verdict))
+            .count()
+    }
+}
+
+impl Tally {
+    /// The counts of these mails.
+    pub(crate) fn of(verdicts: &[Verdict]) -> Tally
+        ensures { result ≡ tally_of verdicts.now }
+    {
+        Tally {
+            taken: Heap::Taken.count(verdicts),
+            repeat: Heap::Repeat.count(verdicts),
+            stale: Heap::Stale.count(verdicts),
+            conflict: Heap::Conflict.count(verdicts),
+            unknown: Heap::Unknown.count(verdicts),
+            aside: Heap::Aside.count(verdicts),
+            left: Heap::Left.count(verdicts),
+        }
+    }
+
+    /// Answers if nothing wants a person, or that mails wait for the next run: on the heap of those that stay, or
+    /// further ones.
+    pub(crate) fn ending(&self, waiting: usize) -> Result<bool, ToolFault>
+        ensures { result ≡ ending self.now waiting }
+    {
+        if self.left > 0 || waiting > 0 {
+            return Err(ToolFault::Left);
+        }
+        Ok(!(self.conflict > 0 || self.aside > 0))
+    }
+}
+
+/// Adds the line of counts, with how many further mails wait.
+pub(crate) fn push_tally(
+    lines: &mut Vec<u8>,
+    tally: &Tally,
+    waiting: usize,
+) -> Result<(), OutOfMemory>
+    ensures { OnOk result (lines.new.items ≡ lines.old.items ++ tally_line tally.now waiting) }
+{
+    push_done(lines, tally)?;
+    push_staying(lines, tally, waiting)
+}
+
+/// Adds the counts of the mails that are done.
+#[tactic(auto, unfolding(crate::specs::Inbox::done_text))]
+fn push_done(lines: &mut Vec<u8>, tally: &Tally) -> Result<(), OutOfMemory>
+    ensures { OnOk result (lines.new.items ≡ lines.old.items ++ done_text tally.now) }
+{
+    let Tally {
+        taken,
+        repeat,
+        stale,
+        conflict,
+        unknown,
+        ..
+    } = *tally;
+    let text = format!(in *lines.allocator();
+        "taken {taken}, repeat {repeat}, stale {stale}, conflict {conflict}, unknown {unknown}"
+    )?;
+    lines.extend_from_slice(text.as_bytes())?;
+    Ok(())
+}
+
+/// Adds the counts of the mails that stay, and of those that wait.
+#[tactic(auto, unfolding(crate::specs::Inbox::staying_text))]
+fn push_staying(lines: &mut Vec<u8>, tally: &Tally, waiting: usize) -> Result<(), OutOfMemory>
+    ensures { OnOk result (lines.new.items ≡ lines.old.items ++ staying_text tally.now waiting) }
+{
+    let Tally { aside, left, .. } = *tally;
+    let text = format!(in *lines.allocator(); ", aside {aside}, left {left}, waiting {waiting}\n")?;
+    lines.extend_from_slice(text.as_bytes())?;
+    Ok(())
+}

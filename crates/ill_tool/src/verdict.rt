@@ -1,0 +1,180 @@
+//! What becomes of a mail, and the words of it.
+
+ghost use Rattle.std.specs.Prelude.{◌≡◌, ◌++◌, codes, OnOk};
+ghost use Rattle.ill_tool.specs.declared.verdict.Unfit.TheVariants as unfits;
+ghost use Rattle.ill_tool.specs.Inbox.{delay_text, der_word, place_text, stays_line, unfit_text, verdict_line, verdict_of};
+
+use crate::escape::push_escaped;
+use ill_core::Refusal;
+use ill_der::DerFault;
+use ill_saved::Role;
+use ill_values::OutOfMemory;
+use ill_world::{DeskOutcome, Outcome};
+use itoa::Buffer;
+
+/// A mail: a file of a folder, in which one message should be.
+#[derive(Drop)]
+pub struct Mail {
+    /// The name of the file.
+    pub name: Vec<u8>,
+    /// Its bytes, or its first ones if they are more than a message has. None if it cannot be read.
+    pub bytes: Option<Vec<u8>>,
+}
+
+/// Why no desk will ever take a mail.
+#[derive(Clone, Copy, Debug, PartialEq, Eq, Hash)]
+pub enum Unfit {
+    /// Its bytes are no message.
+    NoMessage(DerFault),
+    /// It has more bytes than a message.
+    TooLong,
+    /// Further bytes stand behind its message.
+    Trailing,
+    /// The desk refuses its message for good.
+    Refused(Refusal),
+}
+
+/// Why a mail waits for the next run.
+#[derive(Clone, Copy, Debug, PartialEq, Eq, Hash)]
+pub enum Delay {
+    /// It cannot be read.
+    NotRead,
+    /// The desk has not begun the loan of its message.
+    NoSuchTransaction,
+    /// The desk has no room for the loan of its message.
+    DeskFull,
+}
+
+/// What becomes of a mail.
+#[derive(Clone, Copy, Debug, PartialEq, Eq, Hash)]
+pub enum Verdict {
+    /// The desk has done with it all that it will ever do: its file may go.
+    Done(DeskOutcome),
+    /// It is put aside, for a person.
+    Aside(Unfit),
+    /// It stays where it is.
+    Left(Delay),
+}
+
+impl Verdict {
+    /// What becomes of a mail, by the role of the desk and what is seen of its message.
+    pub(crate) fn of(role: Role, outcome: DeskOutcome) -> Verdict
+        ensures { result ≡ verdict_of role outcome }
+    {
+        match outcome {
+            DeskOutcome::Plain(Outcome::Refused(refusal)) => {
+                Verdict::Aside(Unfit::Refused(refusal))
+            }
+            DeskOutcome::NoSuchTransaction if role == Role::Requester => {
+                Verdict::Left(Delay::NoSuchTransaction)
+            }
+            DeskOutcome::DeskFull => Verdict::Left(Delay::DeskFull),
+            outcome => Verdict::Done(outcome),
+        }
+    }
+}
+
+/// Adds the line of a mail, by its name: none of one that is done.
+pub(crate) fn push_verdict(
+    lines: &mut Vec<u8>,
+    name: &[u8],
+    verdict: Verdict,
+) -> Result<(), OutOfMemory>
+    ensures { OnOk result (lines.new.items ≡ lines.old.items ++ verdict_line name.now verdict) }
+{
+    match verdict {
+        Verdict::Done(_) => Ok(()),
+        Verdict::Aside(unfit) => push_aside(lines, name, unfit),
+        Verdict::Left(delay) => push_left(lines, name, delay),
+    }
+}
+
+/// Adds the line of a mail that is put aside.
+fn push_aside(lines: &mut Vec<u8>, name: &[u8], unfit: Unfit) -> Result<(), OutOfMemory>
+    ensures { OnOk result (lines.new.items ≡ lines.old.items
+        ++ stays_line name.now (codes " aside ") (unfit_text unfit)) }
+{
+    push_escaped(lines, name)?;
+    lines.extend_from_slice(b" aside ")?;
+    push_unfit(lines, unfit)?;
+    lines.push(b'\n')?;
+    Ok(())
+}
+
+/// Adds the line of a mail that stays where it is.
+fn push_left(lines: &mut Vec<u8>, name: &[u8], delay: Delay) -> Result<(), OutOfMemory>
+    ensures { OnOk result (lines.new.items ≡ lines.old.items
+        ++ stays_line name.now (codes " left ") (delay_text delay)) }
+{
+    push_escaped(lines, name)?;
+    lines.extend_from_slice(b" left ")?;
+    lines.extend_from_slice(delay_word(delay).as_bytes())?;
+    lines.push(b'\n')?;
+    Ok(())
+}
+
+/// Why a mail waits.
+fn delay_word(delay: Delay) -> &'static str
+    ensures { result.now ≡ delay_text delay }
+{
+    match delay {
+        Delay::NotRead => "not-read",
+        Delay::NoSuchTransaction => DeskOutcome::NoSuchTransaction.word(),
+        Delay::DeskFull => DeskOutcome::DeskFull.word(),
+    }
+}
+
+/// Adds why no desk will ever take a mail.
+pub(crate) fn push_unfit(text: &mut Vec<u8>, unfit: Unfit) -> Result<(), OutOfMemory>
+    ensures { OnOk result (text.new.items ≡ text.old.items ++ unfit_text unfit) }
+{
+    match unfit {
+        Unfit::NoMessage(fault) => push_der_fault(text, fault),
+        Unfit::TooLong => push_word(text, "too-long"),
+        Unfit::Trailing => push_word(text, "trailing"),
+        Unfit::Refused(refusal) => {
+            push_word(text, DeskOutcome::Plain(Outcome::Refused(refusal)).word())
+        }
+    }
+}
+
+/// Adds a word.
+fn push_word(text: &mut Vec<u8>, word: &str) -> Result<(), OutOfMemory>
+    ensures { OnOk result (text.new.items ≡ text.old.items ++ word.now) }
+{
+    text.extend_from_slice(word.as_bytes())?;
+    Ok(())
+}
+
+/// Adds a fault of bytes, with its place.
+fn push_der_fault(text: &mut Vec<u8>, fault: DerFault) -> Result<(), OutOfMemory>
+    ensures { OnOk result (text.new.items ≡ text.old.items ++ unfit_text (unfits.NoMessage fault)) }
+{
+    push_word(text, der_word(fault))?;
+    push_place(text, fault.at())
+}
+
+/// The word of a fault of bytes.
+fn der_word(fault: DerFault) -> &'static str
+    ensures { result.now ≡ der_word fault }
+{
+    match fault {
+        DerFault::Short(_) => "short",
+        DerFault::Tag(_) => "tag",
+        DerFault::Length(_) => "length",
+        DerFault::Field(_) => "field",
+        DerFault::OutOfMemory => "memory",
+    }
+}
+
+/// Adds the place of a fault of bytes, if it has one.
+fn push_place(text: &mut Vec<u8>, place: Option<u16>) -> Result<(), OutOfMemory>
+    ensures { OnOk result (text.new.items ≡ text.old.items ++ place_text place) }
+{
+    let Some(at) = place else {
+        return Ok(());
+    };
+    push_word(text, " at ")?;
+    text.extend_from_slice(Buffer::new().format(at).as_bytes())?;
+    Ok(())
+}

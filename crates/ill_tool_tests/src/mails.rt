@@ -1,0 +1,26 @@
+//! Mails that a call has.
+
+use crate::names::Names;
+use crate::words::Word;
+use ill_tool::Mail;
+use std::alloc::Global;
+
+/// A mail for each word: it has the word for its name, and the bytes of that name. One that cannot be read is `-`.
+pub fn mails_of(alloc: Global, names: &Names, words: &[Word]) -> Option<Vec<Mail>> {
+    let mut mails = Vec::new(alloc);
+    for one in words.chunks(1) {
+        mails.push(mail_of(alloc, names, one)?).ok()?;
+    }
+    Some(mails)
+}
+
+/// The mail of one word.
+fn mail_of(alloc: Global, names: &Names, one: &[Word]) -> Option<Mail> {
+    let word = one.first()?;
+    let name = Vec::from_slice(alloc, word.text.as_bytes()).ok()?;
+    if word.is("-") {
+        return Some(Mail { name, bytes: None });
+    }
+    let bytes = Some(names.bytes(one)?);
+    Some(Mail { name, bytes })
+}

@@ -293,13 +293,17 @@ pub const INBOX_EXAMPLE: &str = "Example:
   done
   $ ill act here G1 T1 request none Maps
   done PENDING - 1/1
-  $ mkdir mail
-  $ ill send here G1 T1 1 > mail/1
   $ ill new there responder
   done
-  $ ill inbox there mail
-  G1 T1 ILL-Request 1 taken IN-PROCESS - 0/0
-    item Maps
+  $ ill send here G1 T1 1 | ill take there
+  taken IN-PROCESS - 0/0
+  $ ill act there G1 T1 --today 20250301 ship +14
+  done SHIPPED 20250315 1/1
+  $ mkdir mail
+  $ ill send there G1 T1 1 > mail/1
+  $ ill inbox here mail
+  G1 T1 Shipped 1 taken SHIPPED 20250315 1/1
+    date 20250315
   taken 1, repeat 0, stale 0, conflict 0, unknown 0, aside 0, left 0, waiting 0
   $ ls mail";
 

@@ -81,7 +81,7 @@ unheld_issues txn live none = ap (λ o. issued_of (found_or (idle_held live.role
 -- ---- one event
 
 -- The party of a role is the one that the desk of this role shows.
-shown : (txn : Qualifiers) (w : DeskParties) (role : Who) → party (project txn w) role ≡ party_for txn (party w role)
+pub shown : (txn : Qualifiers) (w : DeskParties) (role : Who) → party (project txn w) role ≡ party_for txn (party w role)
 shown txn w who.Requester = refl
 shown txn w who.Responder = refl
 
@@ -243,7 +243,7 @@ module _ (projects : EachProjects) (reaches : EachReaches) (after : EachStands) 
       ∙ others_stay (txn_of side) parts.0 w role 1 (length (issued_of side)) stands
 
   -- Messages of sides that are apart are, of the transaction, those of its side.
-  sides_alike : (w : DeskParties) (role : Who) (idle : Side) → issued_of idle ≡ [] → (all : List Side) → AreApart (map txn_of all) → DesksStand w
+  pub sides_alike : (w : DeskParties) (role : Who) (idle : Side) → issued_of idle ≡ [] → (all : List Side) → AreApart (map txn_of all) → DesksStand w
       → project txn (desks_run w (flat_map (passes_side role) all)) ≡ run_of (project txn w) (passes_on role 1 (length (issued_of (found_or idle (found_by txn_of txn all)))))
   unfolding run_by passes_on
   sides_alike w role idle nothing [] apart stands = ap (λ apdus. run_of (project txn w) (passes_on role 1 (length apdus))) (sym nothing)
@@ -271,7 +271,7 @@ module _ (projects : EachProjects) (reaches : EachReaches) (after : EachStands) 
   -- ---- a round
 
   -- No two sides of a desk are of one transaction.
-  held_apart : (w : DeskParties) (role : Who) → DesksStand w → AreApart (map txn_of (sides_held (party w role).live).sides)
+  pub held_apart : (w : DeskParties) (role : Who) → DesksStand w → AreApart (map txn_of (sides_held (party w role).live).sides)
   held_apart w who.Requester stands = subst AreApart (sym (map-map txn_of (λ (held : Held). held.side) w.requester.live.held)) stands.counts.0.0
   held_apart w who.Responder stands = subst AreApart (sym (map-map txn_of (λ (held : Held). held.side) w.responder.live.held)) stands.counts.2.0
 

@@ -19,8 +19,10 @@ pub mod Pairs
 pub mod Rounds
 pub mod Hearing
 pub mod OneRound
+pub mod Nights
 pub mod OutOfStep
 pub mod BadRounds
+pub mod BadNights
 pub mod BadWorlds
 pub mod Changes
 pub mod Outcomes
@@ -35,4 +37,5 @@ pub mod BadDesks
 pub mod BadTraces
 pub mod DeskCounts
 pub mod DeskRounds
+pub mod DeskNights
 pub mod DeskPasses

@@ -9,7 +9,7 @@ use Rattle.ill_core.specs.Responder.{ResponderRecord}
 use Rattle.ill_world.specs.Round.{faced_in, facing_in, InStep, OutOfStep, unfaced, declined, unmarked, unreceived, not_told, told_early, due_apart}
 
 -- A state is faced in each state that it faces.
-faces_back : (s t : State) → is_among (faced_in s) t ≡ true → is_among (facing_in t) s ≡ true
+pub faces_back : (s t : State) → is_among (faced_in s) t ≡ true → is_among (facing_in t) s ≡ true
 faces_back s t faced = search rules
 
 -- A state that is among CHECKED-IN alone is CHECKED-IN.

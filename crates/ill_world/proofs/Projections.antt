@@ -84,7 +84,7 @@ found_txn role txn held (Some there) e = sym (found_is txn_held txn held there e
 found_txn role txn held None e = idle_txn role txn
 
 -- the side that a desk has of a transaction is of it
-held_txn : (txn : Qualifiers) (live : Holding) → txn_held (held_for txn live) ≡ txn
+pub held_txn : (txn : Qualifiers) (live : Holding) → txn_held (held_for txn live) ≡ txn
 held_txn txn live = found_txn live.role txn live.held (found_by txn_held txn live.held) refl
 
 pub row_txn : RowsGrow → (old new : Side) → IsRow old new → txn_of new ≡ txn_of old

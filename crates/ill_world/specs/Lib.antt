@@ -13,6 +13,8 @@ pub mod Safety
 pub mod Invariant
 pub mod Round
 pub mod DeskRound
+pub mod Night
+pub mod DeskNight
 pub mod DeskCounts
 pub mod DeskSafety
 pub mod Agreement
@@ -20,6 +22,7 @@ pub mod BadWorlds
 pub mod BadDesks
 pub mod BadTraces
 pub mod BadRounds
+pub mod BadNights
 pub mod Changes
 pub mod DeskChanges
 pub mod DeskView

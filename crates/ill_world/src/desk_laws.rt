@@ -30,11 +30,13 @@ ghost use Rattle.ill_world.specs.Changes.{KeepsSent};
 ghost use Rattle.ill_world.specs.DeskChanges.{DeskMayChange, ReachesSide, Shows};
 ghost use Rattle.ill_world.specs.Round.{round_of, CanAnswer, AreInStep};
 ghost use Rattle.ill_world.specs.DeskRound.{desk_round_of};
+ghost use Rattle.ill_world.specs.Night.{night_of, AreInStepOrAtRest};
+ghost use Rattle.ill_world.specs.DeskNight.{desk_night_of};
 ghost use Rattle.ill_world.specs.DeskSafety.{ArrivesAt, DesksStand, IsRunOfEach, IsSafeDeskRun, IsAgreeingDeskRun};
 
 use crate::laws::{
     due_dates_stay, every_world_agrees, every_world_is_safe, few_outcomes_change,
-    one_arrival_is_enough, one_round_is_enough, sent_stays_sent, world_stands,
+    one_arrival_is_enough, one_night_is_enough, one_round_is_enough, sent_stays_sent, world_stands,
 };
 use ill_core::laws::{requester_is_quiet, responder_is_quiet};
 use ill_saved::laws::rows_grow;
@@ -222,6 +224,22 @@ pub fn one_desk_round_is_enough()
     desk_events_are_events();
     desks_reach_what_they_hold();
     one_round_is_enough();
+}
+
+/// A night of two desks is a night of both sides in each transaction. After it both sides are in step or at rest in each
+/// in which the responder can answer a Conditional-Reply no: where two desks stand, and so after any events of a run.
+pub fn one_desk_night_is_enough()
+    ensures each { (txn : Qualifiers) (w : DeskParties) → DesksStand w →
+        project txn (desks_run w (desk_night_of w)) ≡ run_of (project txn w) (night_of (project txn w)) }
+    ensures in_step { (txn : Qualifiers) (w : DeskParties) → DesksStand w →
+        CanAnswer (project txn w).responder.live → AreInStepOrAtRest (project txn (desks_run w (desk_night_of w))) }
+    ensures run { (txn : Qualifiers) (events : List DeskEvent) → let w = desks_run first_desks events in
+        CanAnswer (project txn w).responder.live → AreInStepOrAtRest (project txn (desks_run w (desk_night_of w))) }
+{
+    desks_stand();
+    desk_events_are_events();
+    desks_reach_what_they_hold();
+    one_night_is_enough();
 }
 
 /// A line of a script of two desks that is no `use` leaves the transaction in use as it was. Its event is

@@ -1,6 +1,6 @@
 //! What holds of every world, as contracts of functions that do nothing.
 
-ghost use Rattle.std.specs.Prelude.{◌≡◌, ◌↔◌, ◌⊎◌, ◌++◌, ◌∷◌, ℕ, List, [], Option, Some, Ok, Err, true};
+ghost use Rattle.std.specs.Prelude.{◌≡◌, ◌↔◌, ◌⊎◌, ◌++◌, ◌∷◌, ℕ, Bool, List, [], Option, Some, Ok, Err, true, false};
 ghost use Rattle.ill_values.specs.Day.{Date};
 ghost use Rattle.ill_values.specs.TxnId.{Qualifiers};
 ghost use Rattle.ill_values.specs.declared.apdu.Apdu.{Apdu};
@@ -16,7 +16,10 @@ ghost use Rattle.ill_core.specs.ResponderActions as responder_actions;
 ghost use Rattle.ill_core.specs.ResponderDeliveries as responder_deliveries;
 ghost use Rattle.ill_core.specs.Verbs.{requester_turn, responder_turn, requester_verbs, responder_verbs};
 ghost use Rattle.ill_saved.specs.declared.role.Role.{Role as Who};
+ghost use Rattle.ill_saved.specs.declared.role.Role.TheVariants.{Requester, Responder};
+ghost use Rattle.ill_saved.specs.declared.side.Side.{Side};
 ghost use Rattle.ill_world.specs.declared.event.Event.{Event};
+ghost use Rattle.ill_world.specs.declared.event.Event.TheVariants.{Save};
 ghost use Rattle.ill_world.specs.declared.fault.SimFault.TheVariants.{Write, OutOfMemory};
 ghost use Rattle.ill_world.specs.World.{Parties, first_world, happens, run_of};
 ghost use Rattle.ill_world.specs.Play.{IsFront};
@@ -28,6 +31,8 @@ ghost use Rattle.ill_world.specs.BadTraces.{Leaves, IsOfNoFront};
 ghost use Rattle.ill_world.specs.BadRounds.{cut_round, last_unheard};
 ghost use Rattle.ill_world.specs.Changes.{MayChange, OnlyLandedChanges, KeepsSent, can_be_seen};
 ghost use Rattle.ill_world.specs.Round.{round_of, CanAnswer, AreInStep, InStep, OutOfStep};
+ghost use Rattle.ill_world.specs.Night.{is_over, wants_sending, asks, night_of, AreAtRest, AreInStepOrAtRest, AtRest};
+ghost use Rattle.ill_world.specs.BadNights.{MisjudgesEnd, MisjudgesSending, MisjudgesAsking, Restless};
 ghost use Rattle.ill_world.specs.Invariant.{WasSent, RequesterStands, ResponderStands, Stands};
 
 use ill_core::laws::{
@@ -205,6 +210,50 @@ pub fn one_of_two_in_step_acts()
 {
     turns_have_verbs();
 }
+
+/// Where the world stands, both sides are at rest if the loan is over for the requester: it is over for the responder
+/// too, and their states face each other.
+pub fn requester_is_over_last()
+    ensures { (txn : Qualifiers) (w : Parties) → Stands txn w → is_over w.requester.live ≡ true →
+        AreAtRest w }
+{}
+
+/// Where the world stands, a night is a round while the loan is not over for the requester. Then both sides save, and
+/// nothing is sent.
+pub fn nights_are_rounds()
+    ensures open { (txn : Qualifiers) (w : Parties) → Stands txn w → is_over w.requester.live ≡ false →
+        night_of w ≡ round_of w }
+    ensures over { (txn : Qualifiers) (w : Parties) → Stands txn w → is_over w.requester.live ≡ true →
+        night_of w ≡ Save Requester ∷ Save Responder ∷ [] }
+{
+    world_stands();
+    requester_is_over_last();
+}
+
+/// After a night both sides are in step or at rest, if the responder can answer a Conditional-Reply no: where the world
+/// stands, and so after any events of a run.
+pub fn one_night_is_enough()
+    ensures stands { (txn : Qualifiers) (w : Parties) → Stands txn w → CanAnswer w.responder.live →
+        AreInStepOrAtRest (run_of w (night_of w)) }
+    ensures run { (txn : Qualifiers) (events : List Event) → let w = run_of (first_world txn) events in
+        CanAnswer w.responder.live → AreInStepOrAtRest (run_of w (night_of w)) }
+{
+    world_stands();
+    one_round_is_enough();
+    requester_is_over_last();
+    nights_are_rounds();
+}
+
+/// No wrong answer is given on whether a loan is over for a side, on whether a side wants sending, or on whether a
+/// requester asks. No two records are at rest if the loan is not over for one of them, or if their states do not face
+/// each other.
+pub fn no_bad_night_passes()
+    ensures over { (side : Side) → MisjudgesEnd side (is_over side) → ⊥ }
+    ensures sends { (was_asked : Bool) (side : Side) →
+        MisjudgesSending was_asked side (wants_sending was_asked side) → ⊥ }
+    ensures asks { (side : Side) → MisjudgesAsking side (asks side) → ⊥ }
+    ensures rest { (x : RequesterRecord) (y : ResponderRecord) → Restless x y → AtRest x y → ⊥ }
+{}
 
 /// Where the world stands, an event keeps or raises the requester's due date.
 pub fn due_dates_stay()

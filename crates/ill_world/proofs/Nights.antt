@@ -1,0 +1,173 @@
+-- After a night both sides are in step, or at rest.
+use Rattle.std.proofs.Common.{rules, ◌≡◌, ◌⊎◌, inl, inr, Bool, true, false, not, ◌&&◌, ◌||◌, List, [], ◌∷◌, ◌++◌, length, Option, refl, sym, ap, ◌∙◌, subst}
+use Rattle.std.proofs.lemmas.Bool.{and_from, or_left, or_right}
+use Rattle.ill_values.specs.TxnId.{Qualifiers}
+use Rattle.ill_values.specs.declared.apdu.Apdu.{Apdu}
+use Rattle.ill_core.specs.declared.state.State.{State}
+use Rattle.ill_core.specs.declared.state.State.TheVariants as states
+use Rattle.ill_core.specs.State.{is_among}
+use Rattle.ill_core.specs.Issued.{is_none}
+use Rattle.ill_core.specs.Requester.{RequesterRecord, is_declined}
+use Rattle.ill_core.specs.Responder.{ResponderRecord}
+use Rattle.ill_core.specs.ResponderFacts as responder
+use Rattle.ill_core.specs.Verbs.{requester_turn_in, responder_turn_in}
+use Rattle.ill_saved.specs.declared.role.Role.TheVariants as who
+use Rattle.ill_saved.specs.declared.side.Side.{Side}
+use Rattle.ill_saved.specs.declared.side.Side.TheVariants as sides
+use Rattle.ill_saved.specs.Side.{issued_of}
+use Rattle.ill_world.specs.declared.event.Event.{Event}
+use Rattle.ill_world.specs.declared.event.Event.TheVariants.{Save}
+use Rattle.ill_world.specs.World.{Parties, happens, run_by, run_of}
+use Rattle.ill_world.specs.Agreement.{Facing}
+use Rattle.ill_world.specs.Invariant.{RequesterStands, ResponderStands, RequesterSideStands, ResponderSideStands, Stands}
+use Rattle.ill_world.specs.Round.{passes_on, half_of, round_of, faced_in, AreInStep}
+use Rattle.ill_world.specs.Night.{is_nobodys, is_over, wants_sending, asks, half_if, night_of, AtRest, AreAtRest, AreInStepOrAtRest}
+use Rattle.ill_world.proofs.Claims.{AreIssued, live_issues, cancelled_faces, not_supplied_faces}
+use Rattle.ill_world.proofs.Agreements.{says_true}
+use Rattle.ill_world.proofs.DeskArrivals.{idle_issued}
+use Rattle.ill_world.proofs.Runs.{run_stands}
+
+-- ---- a loan that is over for the requester
+
+-- A requester says that it is over in CANCELLED, in NOT-SUPPLIED, and in RETURNED with the checked-in mark.
+over_means : (s : State) (declined marked : Bool) → is_among (states.InProcess ∷ states.CheckedIn ∷ []) s ≡ false → is_nobodys (requester_turn_in s declined marked) ≡ true
+    → (s ≡ states.Cancelled) ⊎ (s ≡ states.NotSupplied) ⊎ ((s ≡ states.Returned) × (marked ≡ true))
+over_means states.Cancelled declined marked own over = inl refl
+over_means states.NotSupplied declined marked own over = inr (inl refl)
+over_means states.Returned declined true own over = inr (inr (refl, refl))
+over_means states.Returned declined false own over = search rules
+over_means states.Conditional true marked own over = search rules
+over_means states.Conditional false marked own over = search rules
+over_means s declined marked own over = search rules
+
+-- Two records are at rest if it is over for both in these states, which face each other.
+rest_in : (x : RequesterRecord) (y : ResponderRecord) (s t : State) → is_over (sides.Requester x) ≡ true → x.state ≡ s → y.state ≡ t → is_nobodys (responder_turn_in t) ≡ true → is_among (faced_in s) t ≡ true → AtRest x y
+rest_in x y s t over at_s at_t ends faces = record {
+  requester = over;
+  responder = ap (λ u. is_nobodys (responder_turn_in u)) at_t ∙ ends;
+  faced = ap (λ u. is_among (faced_in u) y.state) at_s ∙ ap (is_among (faced_in s)) at_t ∙ faces;
+}
+
+-- What is over for the requester is over for the responder.
+records_rest : (txn : Qualifiers) (x : RequesterRecord) (y : ResponderRecord) (told heard : List (Option Apdu)) → RequesterStands txn x told → ResponderStands txn y heard → AreIssued told y.issued → AreIssued heard x.issued
+    → is_over (sides.Requester x) ≡ true → AtRest x y
+records_rest txn x y told heard requester_stands responder_stands issued heeded over =
+    elim (over_means x.state (is_declined x) x.checked_in requester_stands.rules.parts.role over) [
+      | inl cancelled ↦ rest_in x y states.Cancelled states.Cancelled over cancelled (cancelled_faces txn x y told heard requester_stands responder_stands issued cancelled) refl refl
+      | inr (inl ended) ↦ rest_in x y states.NotSupplied states.NotSupplied over ended (not_supplied_faces txn x y told heard requester_stands responder_stands issued ended) refl refl
+      | inr (inr (returned, marked)) ↦
+          rest_in x y states.Returned states.CheckedIn over returned ((says_true txn x y told heard requester_stands responder_stands issued heeded).checked_in marked) refl refl
+    ]
+
+sides_rest : (txn : Qualifiers) (x y : Side) (told heard : List (Option Apdu)) → RequesterSideStands txn x told → ResponderSideStands txn y heard → AreIssued told (issued_of y) → AreIssued heard (issued_of x)
+    → is_over x ≡ true → Facing AtRest x y
+sides_rest txn (sides.Requester x) (sides.Responder y) told heard requester_stands responder_stands issued heeded over = records_rest txn x y told heard requester_stands responder_stands issued heeded over
+sides_rest txn (sides.Responder x) y told heard requester_stands responder_stands issued heeded over = absurd requester_stands
+sides_rest txn (sides.Requester x) (sides.Requester y) told heard requester_stands responder_stands issued heeded over = absurd responder_stands
+
+-- Both sides of a world that stands are at rest if the loan is over for the requester.
+pub at_rest : (txn : Qualifiers) (w : Parties) → Stands txn w → is_over w.requester.live ≡ true → AreAtRest w
+at_rest txn w stands over =
+    sides_rest txn w.requester.live w.responder.live w.responder.sent w.requester.sent stands.requester.live stands.responder.live (live_issues w.responder stands.responder.saved) (live_issues w.requester stands.requester.saved) over
+
+-- Of two sides at rest it is over for the responder's.
+rests_responder : (x y : Side) → Facing AtRest x y → is_over y ≡ true
+rests_responder (sides.Requester x) (sides.Responder y) rest = rest.responder
+rests_responder (sides.Responder x) y rest = absurd rest
+rests_responder (sides.Requester x) (sides.Requester y) rest = absurd rest
+
+-- ---- who sends
+
+-- A side wants sending if its loan is not over.
+pub open_wants : (was_asked : Bool) (side : Side) → is_over side ≡ false → wants_sending was_asked side ≡ true
+open_wants was_asked (sides.Requester x) is_open = ap not is_open
+open_wants was_asked (sides.Responder y) is_open = or_left (not (is_over (sides.Responder y))) was_asked (ap not is_open)
+
+-- A side that was not asked is silent if its loan is over.
+pub over_is_silent : (side : Side) → is_over side ≡ true → wants_sending false side ≡ false
+over_is_silent (sides.Requester x) over = ap not over
+over_is_silent (sides.Responder y) over = ap (λ b. not b || false) over
+
+-- A responder that was asked wants sending.
+asked_wants : (txn : Qualifiers) (side : Side) (heard : List (Option Apdu)) → ResponderSideStands txn side heard → wants_sending true side ≡ true
+asked_wants txn (sides.Responder y) heard stands = or_right (not (is_over (sides.Responder y))) true refl
+asked_wants txn (sides.Requester x) heard stands = absurd stands
+
+-- In IDLE a loan is not over for a responder.
+idle_is_open : (s : State) → is_among (states.Idle ∷ []) s ≡ true → is_nobodys (responder_turn_in s) ≡ false
+idle_is_open states.Idle is = refl
+idle_is_open s is = search rules
+
+-- A responder is not over if the requester has issued nothing.
+unasked_is_open : (txn : Qualifiers) (side : Side) (heard : List (Option Apdu)) (apdus : List Apdu) → ResponderSideStands txn side heard → AreIssued heard apdus → is_none apdus ≡ true → is_over side ≡ false
+unasked_is_open txn (sides.Responder y) heard apdus stands heeded none = go (is_among (states.Idle ∷ []) y.state) refl
+  where
+    go : (idle : Bool) → is_among (states.Idle ∷ []) y.state ≡ idle → is_over (sides.Responder y) ≡ false
+    go true is = idle_is_open y.state is
+    go false is = let known = stands.knows responder.Requested is in let there = heeded known.0 known.1 in absurd (idle_issued apdus there.0 known.0 none there.1)
+unasked_is_open txn (sides.Requester x) heard apdus stands heeded none = absurd stands
+
+-- ---- the events of a night
+
+-- a night whose first half is this
+abbrev night_from : Parties → List Event → List Event
+night_from w first = first ++ half_if (wants_sending (asks w.requester.live) (run_of w first).responder.live) who.Responder (run_of w first)
+
+-- A half of nothing is a save, which leaves the responder as it is.
+nothing_passes : (w : Parties) (apdus : List Apdu) → issued_of w.requester.live ≡ apdus → is_none apdus ≡ true → (run_of w (half_of who.Requester w)).responder.live ≡ w.responder.live
+unfolding run_by passes_on
+nothing_passes w [] is none = ap (λ (l : List Apdu). (run_of w (Save who.Requester ∷ passes_on who.Requester 1 (length l))).responder.live) is
+nothing_passes w (a ∷ apdus) is none = search rules
+
+module _ (txn : Qualifiers) (after : (w : Parties) (event : Event) → Stands txn w → Stands txn (happens w event).1) where
+  -- The responder wants sending behind the half of a requester that wants it.
+  responder_wants : (w : Parties) → Stands txn w → is_over w.requester.live ≡ false → wants_sending (asks w.requester.live) (run_of w (half_of who.Requester w)).responder.live ≡ true
+  responder_wants w stands is_open = go (is_none (issued_of w.requester.live)) refl
+    where
+      between : Parties
+      between = run_of w (half_of who.Requester w)
+
+      stands_between : Stands txn between
+      stands_between = run_stands txn after w (half_of who.Requester w) stands
+
+      go : (none : Bool) → is_none (issued_of w.requester.live) ≡ none → wants_sending (asks w.requester.live) between.responder.live ≡ true
+      go true none =
+          open_wants (asks w.requester.live) between.responder.live
+          (ap is_over (nothing_passes w (issued_of w.requester.live) refl none)
+          ∙ unasked_is_open txn w.responder.live w.requester.sent (issued_of w.requester.live) stands.responder.live (live_issues w.requester stands.requester.saved) none)
+      go false some =
+          let it_asks : asks w.requester.live ≡ true = and_from _ _ (open_wants false w.requester.live is_open) (ap not some) in
+          ap (λ b. wants_sending b between.responder.live) it_asks ∙ asked_wants txn between.responder.live between.requester.sent stands_between.responder.live
+
+  -- A night is a round while the loan is not over for the requester.
+  pub night_is_round : (w : Parties) → Stands txn w → is_over w.requester.live ≡ false → night_of w ≡ round_of w
+  night_is_round w stands is_open =
+      let first = half_of who.Requester w in
+      ap (night_from w) (ap (λ b. half_if b who.Requester w) (open_wants false w.requester.live is_open))
+      ∙ ap (λ b. first ++ half_if b who.Responder (run_of w first)) (responder_wants w stands is_open)
+
+  -- In a night both save alone if the loan is over for the requester.
+  pub night_is_saves : (w : Parties) → AreAtRest w → is_over w.requester.live ≡ true → night_of w ≡ Save who.Requester ∷ Save who.Responder ∷ []
+  unfolding run_by
+  night_is_saves w rest over =
+      let silent : wants_sending false w.requester.live ≡ false = over_is_silent w.requester.live over in
+      let nothing_asked : asks w.requester.live ≡ false = ap (λ b. b && not (is_none (issued_of w.requester.live))) silent in
+      let both_silent : wants_sending (asks w.requester.live) w.responder.live ≡ false =
+      ap (λ b. wants_sending b w.responder.live) nothing_asked ∙ over_is_silent w.responder.live (rests_responder w.requester.live w.responder.live rest) in
+      ap (night_from w) (ap (λ b. half_if b who.Requester w) silent) ∙ ap (λ b. Save who.Requester ∷ half_if b who.Responder (run_of w (Save who.Requester ∷ []))) both_silent
+
+-- ---- a night
+
+-- Saves leave both sides at rest.
+rest_after : (w : Parties) (events : List Event) → AreAtRest w → events ≡ Save who.Requester ∷ Save who.Responder ∷ [] → AreAtRest (run_of w events)
+unfolding run_by
+rest_after w events rest is = subst (λ (l : List Event). AreAtRest (run_of w l)) (sym is) rest
+
+-- Both sides of a world are in step or at rest after a night if a round brings them in step, or if they are at rest and save alone.
+pub one_night : (w : Parties) → (is_over w.requester.live ≡ false → night_of w ≡ round_of w) → (is_over w.requester.live ≡ true → night_of w ≡ Save who.Requester ∷ Save who.Responder ∷ [])
+    → (is_over w.requester.live ≡ true → AreAtRest w) → AreInStep (run_of w (round_of w)) → AreInStepOrAtRest (run_of w (night_of w))
+one_night w rounds saves rests step = go (is_over w.requester.live) refl
+  where
+    go : (over : Bool) → is_over w.requester.live ≡ over → AreInStepOrAtRest (run_of w (night_of w))
+    go false is = inl (subst (λ (l : List Event). AreInStep (run_of w l)) (sym (rounds is)) step)
+    go true is = inr (rest_after w (night_of w) (rests is) (saves is))

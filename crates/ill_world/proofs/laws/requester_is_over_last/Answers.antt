@@ -1,0 +1,5 @@
+use Rattle.ill_world.proofs.Nights.{at_rest}
+use Rattle.ill_world.proofs.laws.requester_is_over_last.Goals as goal
+
+pub returns : goal.returns
+returns c = at_rest

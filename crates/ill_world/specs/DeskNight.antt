@@ -1,0 +1,30 @@
+-- A night of two desks (this profile's own): a night of both sides in each transaction that a desk holds.
+use Rattle.std.specs.Prelude.{Bool, false, List, ◌++◌, filter}
+use Rattle.ill_saved.specs.declared.side.Side.{Side}
+use Rattle.ill_saved.specs.Side.{txn_of}
+use Rattle.ill_saved.specs.Many.{held_for, sides_held}
+use Rattle.ill_saved.specs.declared.role.Role.{Role as Who}
+use Rattle.ill_saved.specs.declared.role.Role.TheVariants.{Requester, Responder}
+use Rattle.ill_world.specs.declared.event.DeskEvent.{DeskEvent}
+use Rattle.ill_world.specs.World.{party}
+use Rattle.ill_world.specs.Desks.{DeskParties, desks_run}
+use Rattle.ill_world.specs.DeskRound.{saves_and_passes}
+use Rattle.ill_world.specs.Night.{wants_sending, asks}
+
+-- A desk saves, and all messages of those sides that it holds and that want sending are passed on.
+abbrev pub desk_half_if : (Side → Bool) → Who → DeskParties → List DeskEvent
+desk_half_if wants who w = saves_and_passes who (filter wants (sides_held (party w who).live).sides)
+
+-- The requester's desk asks in the transaction of a side.
+abbrev pub is_asked_by : DeskParties → Side → Bool
+is_asked_by w side = asks (held_for (txn_of side) w.requester.live).side
+
+-- the half of the requester's desk
+abbrev pub desk_asking_half : DeskParties → List DeskEvent
+desk_asking_half w = desk_half_if (wants_sending false) Requester w
+
+-- the half of the requester's desk, and then that of the responder's
+abbrev pub desk_night_of : DeskParties → List DeskEvent
+desk_night_of w =
+    desk_asking_half w
+    ++ desk_half_if (λ side. wants_sending (is_asked_by w side) side) Responder (desks_run w (desk_asking_half w))

@@ -1,0 +1,74 @@
+-- A night, and what holds after it (this profile's own): a round in which a side is silent if its loan is over, unless
+-- it is a responder that was asked.
+use Rattle.std.specs.Prelude.{◌≡◌, ◌⊎◌, Bool, true, false, not, ◌&&◌, ◌||◌, List, [], ◌∷◌, ◌++◌}
+use Rattle.ill_core.specs.declared.turn.Turn.{Turn}
+use Rattle.ill_core.specs.declared.turn.Turn.TheVariants.{Over, Mine, Theirs}
+use Rattle.ill_core.specs.State.{is_among}
+use Rattle.ill_core.specs.Issued.{is_none}
+use Rattle.ill_core.specs.Requester.{RequesterRecord}
+use Rattle.ill_core.specs.Responder.{ResponderRecord}
+use Rattle.ill_saved.specs.declared.side.Side.{Side}
+use Rattle.ill_saved.specs.declared.side.Side.TheVariants as sides
+use Rattle.ill_saved.specs.Side.{issued_of, turn_of}
+use Rattle.ill_saved.specs.declared.role.Role.{Role as Who}
+use Rattle.ill_saved.specs.declared.role.Role.TheVariants.{Requester, Responder}
+use Rattle.ill_world.specs.declared.event.Event.{Event}
+use Rattle.ill_world.specs.declared.event.Event.TheVariants.{Save}
+use Rattle.ill_world.specs.World.{Parties, run_of}
+use Rattle.ill_world.specs.Agreement.{Facing}
+use Rattle.ill_world.specs.Round.{half_of, faced_in, AreInStep}
+
+-- ---- who sends
+
+-- nobody's turn
+abbrev pub is_nobodys : Turn → Bool
+is_nobodys Over = true
+is_nobodys Mine = false
+is_nobodys Theirs = false
+
+-- Nobody acts in the loan any more, as far as this side knows.
+abbrev pub is_over : Side → Bool
+is_over side = is_nobodys (turn_of side)
+
+-- A side wants sending unless its loan is over. A responder wants it then too if it was asked: a message of the loan
+-- came in this night.
+abbrev pub wants_sending : Bool → Side → Bool
+wants_sending was_asked (sides.Requester x) = not (is_over (sides.Requester x))
+wants_sending was_asked (sides.Responder y) = not (is_over (sides.Responder y)) || was_asked
+
+-- A requester asks if it wants sending, and has issued anything.
+abbrev pub asks : Side → Bool
+asks requester = wants_sending false requester && not (is_none (issued_of requester))
+
+-- ---- the events of a night
+
+-- a party's half of a round if it wants sending, or else its save alone
+abbrev pub half_if : Bool → Who → Parties → List Event
+half_if true who w = half_of who w
+half_if false who w = Save who ∷ []
+
+-- the requester's half of a night
+abbrev pub asking_half : Parties → List Event
+asking_half w = half_if (wants_sending false w.requester.live) Requester w
+
+-- the requester's half, and then the responder's, which was asked if a message came in the first
+abbrev pub night_of : Parties → List Event
+night_of w =
+    let between = run_of w (asking_half w) in
+    asking_half w ++ half_if (wants_sending (asks w.requester.live) between.responder.live) Responder between
+
+-- ---- the two records after it
+
+-- The loan is over for both, and their states face each other.
+pub record AtRest (x : RequesterRecord) (y : ResponderRecord) : Type 0 where
+  pub requester : is_over (sides.Requester x) ≡ true
+  pub responder : is_over (sides.Responder y) ≡ true
+  pub faced : is_among (faced_in x.state) y.state ≡ true
+
+-- The live records of both sides are at rest.
+abbrev pub AreAtRest : Parties → Type 0
+AreAtRest w = Facing AtRest w.requester.live w.responder.live
+
+-- The live records of both sides are in step, or at rest.
+abbrev pub AreInStepOrAtRest : Parties → Type 0
+AreInStepOrAtRest w = AreInStep w ⊎ AreAtRest w

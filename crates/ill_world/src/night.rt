@@ -1,0 +1,28 @@
+//! Who sends messages in a night.
+
+ghost use Rattle.std.specs.Prelude.{◌≡◌};
+ghost use Rattle.ill_world.specs.Night.{is_over, wants_sending};
+
+use ill_core::Turn;
+use ill_saved::Side;
+
+/// Tells if nobody acts in the loan any more, as far as this side knows.
+pub fn is_over(side: &Side) -> bool
+    ensures { result ≡ is_over side.now }
+{
+    match side.turn() {
+        Turn::Over => true,
+        Turn::Mine | Turn::Theirs => false,
+    }
+}
+
+/// Tells if a side wants to send its messages in a night: it does unless its loan is over. A responder wants it then too
+/// if it was asked, so if a message of the loan came in this night.
+pub fn wants_sending(side: &Side, was_asked: bool) -> bool
+    ensures { result ≡ wants_sending was_asked side.now }
+{
+    match side {
+        Side::Requester(_) => !is_over(side),
+        Side::Responder(_) => !is_over(side) || was_asked,
+    }
+}

@@ -53,18 +53,20 @@ _ill_offer_loans() {
 }
 
 # Sets `arguments` to those that stand between the command and the cursor, options left out, and `wanted` to
-# what may come next: `any` (an option too), `argument` (no option any more), `day` or `state` (the value of an option).
+# what may come next: `any` (an option too), `argument` (no option any more), `day`, `state` or `file` (the value of an
+# option).
 _ill_read() {
   local at word
   arguments=() wanted=any
   for ((at = 2; at < COMP_CWORD; at++)); do
     word=${COMP_WORDS[at]}
     case $wanted-$word in
-      day-= | state-=) ;;     # bash takes --today=DAY for three words
-      day-* | state-*) wanted=any ;;
+      day-= | state-= | file-=) ;;     # bash takes --today=DAY for three words
+      day-* | state-* | file-*) wanted=any ;;
       any---) wanted=argument ;;
       any---today | any---due-before) wanted=day ;;
       any---state) wanted=state ;;
+      any---copy | any---beat) wanted=file ;;
       any--*) ;;
       *)
         arguments+=("$word")
@@ -83,7 +85,7 @@ _ill_skip() {
 
 _ill() {
   _ill_skip
-  local commands='new act list loan status report take inbox send verify show check simulate simulate-desks help'
+  local commands='new act list loan status report take send inbox outbox exchange verify show check simulate simulate-desks help'
   local word=${COMP_WORDS[COMP_CWORD]} command=${COMP_WORDS[1]} offered= arguments wanted
   COMPREPLY=()
   _ill_read
@@ -97,16 +99,18 @@ _ill() {
       RECEIVED RENEW/PENDING OVERDUE RENEW/OVERDUE NOT-RECEIVED/OVERDUE RECALL RETURNED CHECKED-IN' ;;
     any-list-[0-9]*--*) offered='--open --mine --today --due-before --state --json --help' ;;
     any-take-[0-9]--*) offered='--long --keep --help' ;;
+    any-outbox-[0-9]--*) offered='--stream --help' ;;
+    any-exchange-[0-9]--*) offered='--today --overdue --expire --copy --beat --help' ;;
     any-loan-[0-9]--*) offered='--picture --json --help' ;;
     any-report-[0-9]*--*) offered='--today --help' ;;
     any-status-[0-9]--* | any-show-[0-9]--*) offered='--json --help' ;;
     any-*-[0-9]--*) offered=--help ;;
-    *-new-0-* | *-act-0-* | *-take-0-* | *-inbox-0-* | *-send-0-* | *-list-* | *-report-* | *-status-0-* | *-loan-0-* | \
-      *-verify-0-*)
+    file-* | *-new-0-* | *-act-0-* | *-take-0-* | *-send-0-* | *-inbox-0-* | *-outbox-0-* | *-exchange-0-* | *-list-* | \
+      *-report-* | *-status-0-* | *-loan-0-* | *-verify-0-*)
       compopt -o filenames 2> /dev/null
       mapfile -t COMPREPLY < <(compgen -f -- "$word")
       return ;;
-    *-inbox-1-*)
+    *-inbox-1-* | *-outbox-1-* | *-exchange-[12]-*)
       compopt -o filenames 2> /dev/null
       mapfile -t COMPREPLY < <(compgen -d -- "$word")
       return ;;

@@ -1,6 +1,6 @@
 # Completion of ill(1) in fish: commands, options, roles, files, their loans, and the first words of actions.
 
-set -l commands new act list loan status report take inbox send verify show check simulate simulate-desks help
+set -l commands new act list loan status report take send inbox outbox exchange verify show check simulate simulate-desks help
 
 # The words before the cursor, without the option that may stand before the command.
 function __ill_typed
@@ -13,14 +13,14 @@ end
 
 # What may come next, a line, the command, a line, and the arguments that stand between the command and the
 # cursor, options left out, a line each. What may come next is `any` (an option too), `argument` (no option
-# any more), `day` or `state` (the value of an option).
+# any more), `day`, `state` or `file` (the value of an option).
 function __ill_read
     set -l words (__ill_typed)
     set -l wanted any
     set -l arguments
     for word in $words[3..-1]
         switch $wanted-$word
-            case 'day-*' 'state-*'
+            case 'day-*' 'state-*' 'file-*'
                 set wanted any
             case any---
                 set wanted argument
@@ -28,6 +28,8 @@ function __ill_read
                 set wanted day
             case any---state
                 set wanted state
+            case any---copy any---beat
+                set wanted file
             case 'any--*'
             case '*'
                 set -a arguments $word
@@ -42,14 +44,14 @@ end
 # __ill_at COUNT COMMAND..: whether an argument of one of these commands comes next, behind so many.
 function __ill_at
     set -l read (__ill_read)
-    not contains -- $read[1] day state; and test (count $read[3..-1]) = $argv[1]
+    not contains -- $read[1] day state file; and test (count $read[3..-1]) = $argv[1]
     and contains -- "$read[2]" $argv[2..-1]
 end
 
 # __ill_further COMMAND..: whether one more argument of one of these commands comes next, behind others.
 function __ill_further
     set -l read (__ill_read)
-    not contains -- $read[1] day state; and test (count $read[3..-1]) -gt 0
+    not contains -- $read[1] day state file; and test (count $read[3..-1]) -gt 0
     and contains -- "$read[2]" $argv
 end
 
@@ -64,6 +66,12 @@ end
 function __ill_state
     set -l read (__ill_read)
     contains -- $read[1] any state; and test "$read[2]" = list
+end
+
+# __ill_file: whether a file may come next that `exchange` writes, or the option that says it.
+function __ill_file
+    set -l read (__ill_read)
+    contains -- $read[1] any file; and test "$read[2]" = exchange
 end
 
 # What `ill status` tells of the loans in a file.
@@ -111,8 +119,10 @@ complete -c ill -n "__ill_option ''" -l explain -d 'Say more of what is wrong'
 complete -c ill -n "__ill_at 0 ''" -a new -d 'Begin a desk of one role, in a file'
 complete -c ill -n "__ill_at 0 ''" -a act -d 'Perform one action in a loan, and save it'
 complete -c ill -n "__ill_at 0 ''" -a take -d 'Take the APDUs on standard input'
-complete -c ill -n "__ill_at 0 ''" -a inbox -d 'Take the mails of a folder, and save what they change once'
 complete -c ill -n "__ill_at 0 ''" -a send -d 'Write the bytes of one message of a loan'
+complete -c ill -n "__ill_at 0 ''" -a inbox -d 'Take the mails of a folder, and save what they change once'
+complete -c ill -n "__ill_at 0 ''" -a outbox -d 'Put the messages that want sending into a folder of mails'
+complete -c ill -n "__ill_at 0 ''" -a exchange -d 'Take the mails of a folder, and send into another'
 complete -c ill -n "__ill_at 0 ''" -a list -d 'List the loans of desks, a line for each'
 complete -c ill -n "__ill_at 0 ''" -a status -d 'Show how each loan in a file stands'
 complete -c ill -n "__ill_at 0 ''" -a loan -d 'Show all of one loan'
@@ -123,12 +133,19 @@ complete -c ill -n "__ill_at 0 ''" -a check -d 'Check and count the APDUs on sta
 complete -c ill -n "__ill_at 0 ''" -a simulate -d 'Perform a script of both sides'
 complete -c ill -n "__ill_at 0 ''" -a simulate-desks -d 'Perform a script of two desks'
 complete -c ill -n "__ill_at 0 ''" -a help -d 'Print the help of a command'
-complete -c ill -n '__ill_at 0 new act take inbox send list status loan verify report' -F
-complete -c ill -n '__ill_at 1 inbox' -x -a '(__fish_complete_directories)'
+complete -c ill -n '__ill_at 0 new act take send inbox outbox exchange list status loan verify report' -F
+complete -c ill -n '__ill_at 1 inbox outbox exchange' -x -a '(__fish_complete_directories)'
+complete -c ill -n '__ill_at 2 exchange' -x -a '(__fish_complete_directories)'
 complete -c ill -n '__ill_at 1 new' -a 'requester responder'
 complete -c ill -n '__ill_option act' -l today -x -d 'The day of the action'
 complete -c ill -n '__ill_option report' -l today -x -d 'The day of the report'
 complete -c ill -n '__ill_option take' -l long -d 'Tell which message each was, and what it said'
+complete -c ill -n '__ill_option outbox' -l stream -d 'Write the messages to standard output'
+complete -c ill -n '__ill_option exchange' -l today -x -d 'The day of the run'
+complete -c ill -n '__ill_option exchange' -l overdue -d 'Say of each loan that is past its due date that it is'
+complete -c ill -n '__ill_option exchange' -l expire -d 'End each request that is past its last day'
+complete -c ill -n __ill_file -l copy -r -F -d 'Copy the desk to this file before anything is sent'
+complete -c ill -n __ill_file -l beat -r -F -d 'Make this file anew when the run has ended'
 complete -c ill -n '__ill_option status' -l json -d 'Write objects of JSON, one on a line'
 complete -c ill -n '__ill_option loan' -l json -d 'Write objects of JSON, one on a line'
 complete -c ill -n '__ill_option show' -l json -d 'Write objects of JSON, one on a line'

@@ -1,7 +1,7 @@
 /* Stops the process that it is preloaded into at a call of the system, and keeps what the disk lacks. What
-   counts are its calls of open, openat, statx, lchown, fchmod, flock, ftruncate, read, write, fsync, fdatasync,
-   rename, renameat, unlink and close, from 1 on. STOP is the number of the one to stop at, or its line of the log, which
-   stands for each such call. STOP_HOW says how:
+   counts are its calls of open, openat, getdents64, statx, lchown, fchmod, flock, ftruncate, read, write, fsync,
+   fdatasync, mkdir, rmdir, rename, renameat, link, unlink and close, from 1 on. STOP is the number of the one to stop
+   at, or its line of the log, which stands for each such call. STOP_HOW says how:
      before  it is killed before the call
      after   it is killed after the call
      half    a write writes half of its bytes, and then the process is killed
@@ -18,7 +18,8 @@
      bytes-I is a file, with the inode I, that has bytes which were not flushed
      size-I  says how many bytes that file had when it was flushed last
    The first two are made where a name is changed, and the others where a file is; the flush that is answered well,
-   whoever makes it, removes them. All names are those of one folder. */
+   whoever makes it, removes them: that of a folder those of its own names. A name is the path that the process uses,
+   with the byte 1 in place of each slash. A folder that was removed comes back only with what it had. */
 #define _GNU_SOURCE
 #include <dirent.h>
 #include <dlfcn.h>
@@ -35,7 +36,7 @@
 
 #define REAL(call) ((__typeof__(&call))dlsym(RTLD_NEXT, #call))
 
-enum { FILES = 64, NAME = 256 };
+enum { FILES = 64, NAME = 512, SLASH = 1 };
 
 static char names[FILES][NAME] = {"input", "output", "errors"};
 static long count;
@@ -134,10 +135,16 @@ static size_t moved(int reached, size_t size) {
 
 /* Sets a path to that of a thing in the folder of the disk, and tells whether there is such a folder. */
 static int is_kept(char *path, const char *kind, const char *name) {
-  const char *folder = getenv("STOP_DISK"), *last = strrchr(name, '/');
-  if (folder)
-    snprintf(path, 2 * NAME, "%s/%s-%s", folder, kind, last ? last + 1 : name);
-  return folder != NULL;
+  const char *folder = getenv("STOP_DISK");
+  int front;
+  if (!folder)
+    return 0;
+  front = snprintf(path, 2 * NAME, "%s/%s-", folder, kind);
+  snprintf(path + front, 2 * NAME - front, "%s", name);
+  for (char *at = path + front; *at; at++)
+    if (*at == '/')
+      *at = SLASH;
+  return 1;
 }
 
 /* Keeps what a name stands for that is to change, if it has not changed since its folder was flushed. */
@@ -146,8 +153,9 @@ static void keep_name(const char *name) {
   int error = errno;
   if (!is_kept(kept, "name", name) || !is_kept(none, "none", name))
     return;
-  if (access(kept, F_OK) && access(none, F_OK) && link(name, kept)
-      && (errno != ENOENT || mknod(none, S_IFREG | 0600, 0)))
+  /* A folder has no second name, and neither has a file of another disk: these are not kept. */
+  if (faccessat(AT_FDCWD, kept, F_OK, AT_SYMLINK_NOFOLLOW) && access(none, F_OK) && REAL(link)(name, kept) && errno != EPERM
+      && errno != EXDEV && (errno != ENOENT || mknod(none, S_IFREG | 0600, 0)))
     abort();
   errno = error;
 }
@@ -189,13 +197,27 @@ static void keep_bytes(int file) {
   errno = error;
 }
 
-/* Forgets all names that were kept: the disk has those of now. */
-static void forget_names(void) {
+/* Whether a name that was kept is one of the folder at this path. */
+static int is_of(const char *kept, const char *path) {
+  const char *last = strrchr(kept, SLASH);
+  size_t size = strlen(path);
+  if (!last)
+    return !strcmp(path, ".");
+  if (size != (size_t)(last - kept))
+    return 0;
+  for (size_t at = 0; at < size; at++)
+    if (kept[at] != path[at] && !(kept[at] == SLASH && path[at] == '/'))
+      return 0;
+  return 1;
+}
+
+/* Forgets the names that were kept of the folder at this path: the disk has those of now. */
+static void forget_names(const char *path) {
   const char *folder = getenv("STOP_DISK");
   DIR *disk = folder ? opendir(folder) : NULL;
   struct dirent *entry;
   while (disk && (entry = readdir(disk)))
-    if (!strncmp(entry->d_name, "name-", 5) || !strncmp(entry->d_name, "none-", 5))
+    if ((!strncmp(entry->d_name, "name-", 5) || !strncmp(entry->d_name, "none-", 5)) && is_of(entry->d_name + 5, path))
       unlinkat(dirfd(disk), entry->d_name, 0);
   if (disk)
     closedir(disk);
@@ -208,7 +230,7 @@ static int flushed(int file, int answer) {
   if (answer)
     return answer;
   if (!fstat(file, &is) && S_ISDIR(is.st_mode))
-    forget_names();
+    forget_names(name_of(file));
   else if (is_kept_file(kept, "bytes", file)) {
     REAL(unlink)(kept);
     if (is_kept_file(kept, "size", file))
@@ -253,6 +275,24 @@ int openat(int folder, const char *path, int flags, ...) {
     return -1;
   keep_opened(path, flags);
   return opened(reached, REAL(openat)(folder, path, flags, mode), path);
+}
+
+ssize_t getdents64(int file, void *out, size_t size) {
+  int reached = is_reached("getdents", name_of(file));
+  return fails(reached) ? -1 : answered(reached, REAL(getdents64)(file, out, size));
+}
+
+int mkdir(const char *path, mode_t mode) {
+  int reached = is_reached("mkdir", path);
+  if (fails(reached))
+    return -1;
+  keep_name(path);
+  return answered(reached, REAL(mkdir)(path, mode));
+}
+
+int rmdir(const char *path) {
+  int reached = is_reached("rmdir", path);
+  return fails(reached) ? -1 : answered(reached, REAL(rmdir)(path));
 }
 
 int statx(int folder, const char *path, int flags, unsigned mask, struct statx *out) {
@@ -327,6 +367,14 @@ int renameat(int old, const char *from, int new, const char *to) {
   keep_name(from);
   keep_name(to);
   return answered(reached, REAL(renameat)(old, from, new, to));
+}
+
+int link(const char *from, const char *to) {
+  int reached = is_reached("link", from);
+  if (fails(reached))
+    return -1;
+  keep_name(to);
+  return answered(reached, REAL(link)(from, to));
 }
 
 int unlink(const char *path) {

@@ -12,10 +12,12 @@ pub mod JsonLemmas
 pub mod NewLemmas
 pub mod TakeLemmas
 pub mod InboxLemmas
+pub mod DatesLemmas
 pub mod LongLemmas
 pub mod RequestLemmas
 pub mod HtmlLemmas
 pub mod ReportLemmas
 pub mod SidesLemmas
 pub mod OrderLemmas
+pub mod OutboxLemmas
 pub mod WaitingLemmas

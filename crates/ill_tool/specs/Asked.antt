@@ -1,5 +1,5 @@
 -- What a command line asks for, by what it says behind the word of a command (this profile's own).
-use Rattle.std.specs.Prelude.{◌≡◌, ℕ, Bool, true, false, if◌then◌else◌, List, map, codes, Option, None, Some, option_map, is_none, Result, Ok, Err}
+use Rattle.std.specs.Prelude.{◌≡◌, ℕ, Bool, true, false, ◌||◌, if◌then◌else◌, List, map, codes, Option, None, Some, option_map, is_none, Result, Ok, Err}
 use Rattle.std.specs.Result.{result_ok}
 use Rattle.std.specs.Str.{bytes_eq}
 use Rattle.clap.specs.Words.{Row, Text, first_of, all_of}
@@ -11,6 +11,7 @@ use Rattle.ill_world.specs.Words.{◌>>=◌, who_named, day_of, number_of}
 use Rattle.ill_tool.specs.declared.fault.ToolFault.TheVariants.{Arguments, OutOfMemory}
 use Rattle.ill_tool.specs.declared.form.Form.{Form}
 use Rattle.ill_tool.specs.declared.form.Form.TheVariants as forms
+use Rattle.ill_tool.specs.declared.dates.Dates.{Dates}
 use Rattle.ill_tool.specs.declared.list.Which.{Which}
 use Rattle.ill_tool.specs.declared.list.Which.TheVariants as loans
 use Rattle.ill_tool.specs.declared.list.Wanted.{Wanted}
@@ -21,7 +22,7 @@ use Rattle.ill_tool.specs.declared.request.Request.TheVariants as requests
 use Rattle.ill_tool.specs.declared.command_line.Name.{Name}
 use Rattle.ill_tool.specs.declared.command_line.Name.TheVariants as names
 use Rattle.ill_tool.specs.declared.command_line.Argument.{Argument}
-use Rattle.ill_tool.specs.declared.command_line.Argument.TheVariants.{NewFile, File, Folder, Role, Group, Transaction, Today, Words, Number, Long, Keep, Picture, Open, Mine, Json, Paths, OnDay, DueBefore, InState, ReportDay}
+use Rattle.ill_tool.specs.declared.command_line.Argument.TheVariants.{NewFile, File, Folder, Role, Group, Transaction, Today, Words, Number, Long, Keep, Picture, Open, Mine, Json, Paths, OnDay, DueBefore, InState, ReportDay, OutFolder, Stream, In, Out, NightDay, Overdue, Expire, Copy, Beat}
 use Rattle.ill_tool.specs.CommandLine.{name_read, id_of}
 use Rattle.ill_core.specs.State.{state_named}
 
@@ -101,6 +102,27 @@ wanted_of found = do
 abbrev pub form_of : Found → Form
 form_of found = if is_set Json found then forms.Json else forms.Lines
 
+-- where an outbox sends, as flag and folder say: into the folder, or to the output
+abbrev pub outlet : Bool → Option (List ℕ) → Option (Option (List ℕ))
+outlet false (Some folder) = Some (Some folder)
+outlet true None = Some None
+outlet is_stream folder = None
+
+abbrev pub outlet_of : Found → Option (Option (List ℕ))
+outlet_of found = outlet (is_set Stream found) (text_of OutFolder found)
+
+-- what a responder says of days that have passed
+abbrev pub wanted_dates : Found → Dates
+wanted_dates found = record { overdue = is_set Overdue found; expire = is_set Expire found }
+
+-- on a day, which has to be there if something is said
+abbrev pub dates_on : Dates → Option Date → Option (Option (Date × Dates))
+dates_on dates None = if dates.overdue || dates.expire then None else Some None
+dates_on dates (Some today) = if dates.overdue || dates.expire then Some (Some (today, dates)) else Some None
+
+abbrev pub dates_of : Found → Option (Option (Date × Dates))
+dates_of found = day_in NightDay found >>= dates_on (wanted_dates found)
+
 -- ---- the commands
 
 -- what is asked for
@@ -113,6 +135,8 @@ pub data Asked : Type 0 where
   Act : (file : List ℕ) → (txn : Qualifiers) → (today : Option Date) → (words : List (List ℕ)) → Asked
   Take : (file : List ℕ) → (is_long is_kept : Bool) → Asked
   Inbox : (file folder : List ℕ) → Asked
+  Outbox : (file : List ℕ) → (folder : Option (List ℕ)) → Asked
+  Exchange : (file incoming outgoing : List ℕ) → (dates : Option (Date × Dates)) → (copy beat : Option (List ℕ)) → Asked
   Send : (file : List ℕ) → (txn : Qualifiers) → (number : ℕ) → Asked
   Listing : (paths : List (List ℕ)) → (wanted : Wanted) → (form : Form) → Asked
   Status : (file : List ℕ) → (form : Form) → Asked
@@ -130,6 +154,10 @@ asked (requests.New file role) = New file.now role
 asked (requests.Act file txn today words) = Act file.now txn today (map (λ word. word.now) words.items)
 asked (requests.Take file is_long is_kept) = Take file.now is_long is_kept
 asked (requests.Inbox file folder) = Inbox file.now folder.now
+asked (requests.Outbox file folder) = Outbox file.now (option_map (λ text. text.now) folder)
+asked (requests.Exchange night) =
+    Exchange night.file.now night.incoming.now night.outgoing.now night.dates (option_map (λ text. text.now) night.copy)
+    (option_map (λ text. text.now) night.beat)
 asked (requests.Send file txn number) = Send file.now txn number
 asked (requests.List paths wanted form) = Listing (map (λ path. path.now) paths.items) wanted form
 asked (requests.Status file form) = Status file.now form
@@ -163,6 +191,16 @@ asked_of names.Inbox found = do
   file ← text_of File found
   folder ← text_of Folder found
   Some (Inbox file folder)
+asked_of names.Outbox found = do
+  file ← text_of File found
+  folder ← outlet_of found
+  Some (Outbox file folder)
+asked_of names.Exchange found = do
+  file ← text_of File found
+  incoming ← text_of In found
+  outgoing ← text_of Out found
+  dates ← dates_of found
+  Some (Exchange file incoming outgoing dates (text_of Copy found) (text_of Beat found))
 asked_of names.Send found = do
   file ← text_of File found
   txn ← loan_of found

@@ -1,10 +1,10 @@
 -- The words that a command line has for commands, and what `clap` calls their arguments.
 use Rattle.std.specs.Prelude.{ℕ, List, [], ◌∷◌, codes, Option, find, bytes_eq}
 use Rattle.ill_tool.specs.declared.command_line.Name.{Name}
-use Rattle.ill_tool.specs.declared.command_line.Name.TheVariants.{New, Act, Take, Inbox, Send, Status, Loan, Report, Verify, Show, Check, Simulate, SimulateDesks}
+use Rattle.ill_tool.specs.declared.command_line.Name.TheVariants.{New, Act, Take, Inbox, Outbox, Exchange, Send, Status, Loan, Report, Verify, Show, Check, Simulate, SimulateDesks}
 use Rattle.ill_tool.specs.declared.command_line.Name.TheVariants as names
 use Rattle.ill_tool.specs.declared.command_line.Argument.{Argument}
-use Rattle.ill_tool.specs.declared.command_line.Argument.TheVariants.{NewFile, File, Folder, Role, Group, Transaction, Today, Words, Number, Long, Keep, Picture, Open, Mine, Json, Paths, OnDay, DueBefore, InState, ReportDay}
+use Rattle.ill_tool.specs.declared.command_line.Argument.TheVariants.{NewFile, File, Folder, Role, Group, Transaction, Today, Words, Number, Long, Keep, Picture, Open, Mine, Json, Paths, OnDay, DueBefore, InState, ReportDay, OutFolder, Stream, In, Out, NightDay, Overdue, Expire, Copy, Beat}
 
 -- the word of a command
 abbrev pub word_of : Name → List ℕ
@@ -12,6 +12,8 @@ word_of New = codes "new"
 word_of Act = codes "act"
 word_of Take = codes "take"
 word_of Inbox = codes "inbox"
+word_of Outbox = codes "outbox"
+word_of Exchange = codes "exchange"
 word_of Send = codes "send"
 word_of names.List = codes "list"
 word_of Status = codes "status"
@@ -26,7 +28,8 @@ word_of SimulateDesks = codes "simulate-desks"
 -- the command that a word stands for
 abbrev pub name_read : List ℕ → Option Name
 name_read word = find (λ name. bytes_eq (word_of name) word)
-    (New ∷ Act ∷ names.List ∷ Loan ∷ Status ∷ Report ∷ Take ∷ Inbox ∷ Send ∷ Verify ∷ Show ∷ Check ∷ Simulate ∷ SimulateDesks ∷ [])
+    (New ∷ Act ∷ names.List ∷ Loan ∷ Status ∷ Report ∷ Take ∷ Send ∷ Inbox ∷ Outbox ∷ Exchange ∷ Verify ∷ Show ∷ Check
+    ∷ Simulate ∷ SimulateDesks ∷ [])
 
 -- what an argument is called
 abbrev pub id_of : Argument → List ℕ
@@ -50,3 +53,12 @@ id_of OnDay = codes "today"
 id_of DueBefore = codes "due-before"
 id_of InState = codes "state"
 id_of ReportDay = codes "today"
+id_of OutFolder = codes "FOLDER"
+id_of Stream = codes "stream"
+id_of In = codes "IN"
+id_of Out = codes "OUT"
+id_of NightDay = codes "today"
+id_of Overdue = codes "overdue"
+id_of Expire = codes "expire"
+id_of Copy = codes "copy"
+id_of Beat = codes "beat"

@@ -1,16 +1,19 @@
 -- What each command does, by what is asked for. A desk is that which was loaded from a file: nothing is
 -- known of what a file holds.
-use Rattle.std.specs.Prelude.{◌≡◌, ◌⊎◌, ℕ, Bool, true, nat_lt, List, ◌++◌, length, map, codes, Option, None, Result, Ok, Err, IsErrAnd}
+use Rattle.std.specs.Prelude.{◌≡◌, ◌⊎◌, ℕ, Bool, true, false, not, if◌then◌else◌, nat_lt, List, ◌++◌, length, map, codes, Option, None, Some, is_some, Result, Ok, Err, IsErrAnd}
 use Rattle.std.specs.Io.KnownBytes.{Appends}
 use Rattle.ill_values.specs.Day.{Date}
 use Rattle.ill_values.specs.TxnId.{Qualifiers, txn_id_of}
+use Rattle.ill_values.specs.declared.apdu.Apdu.{Apdu}
 use Rattle.ill_saved.specs.declared.side.Side.{Side}
 use Rattle.ill_saved.specs.declared.fault.DeskFault.TheVariants.{Store}
 use Rattle.ill_saved.specs.declared.store.StoreFault.{StoreFault}
 use Rattle.ill_saved.specs.declared.store.StoreFault.TheVariants.{Failed}
 use Rattle.ill_saved.specs.Many.{Held, Holding, found_by, txn_held}
 use Rattle.ill_tool.specs.declared.fault.ToolFault.{ToolFault}
-use Rattle.ill_tool.specs.declared.fault.ToolFault.TheVariants.{Desk, OutOfMemory}
+use Rattle.ill_tool.specs.declared.fault.ToolFault.TheVariants.{Desk, Left, OutOfMemory}
+use Rattle.std.specs.List.{zip}
+use Rattle.ill_saved.specs.declared.role.Role.{Role}
 use Rattle.ill_tool.specs.Keeping.{many_sides}
 use Rattle.ill_tool.specs.Performing.{View}
 use Rattle.ill_tool.specs.Output.{WritesText}
@@ -24,7 +27,13 @@ use Rattle.ill_tool.specs.Telling.{wording}
 use Rattle.ill_tool.specs.Take.{RunsTaking}
 use Rattle.ill_tool.specs.declared.verdict.Mail.{Mail}
 use Rattle.ill_tool.specs.declared.verdict.Verdict.{Verdict}
-use Rattle.ill_tool.specs.Inbox.{RunsInbox, ending, tally_of}
+use Rattle.ill_tool.specs.declared.dates.Dates.{Dates}
+use Rattle.ill_tool.specs.declared.exchange.Taken.{Taken}
+use Rattle.ill_tool.specs.Dates.{RunsDates}
+use Rattle.ill_tool.specs.Person.{wants_person}
+use Rattle.ill_tool.specs.Inbox.{RunsInbox, ending, is_waiting, tally_of}
+use Rattle.ill_tool.specs.Kept.{AreIn}
+use Rattle.ill_tool.specs.Outbox.{IsFileFault, StreamsOutbox, letters_of, sent_line}
 use Rattle.ill_tool.specs.Send.{RunsSend}
 use Rattle.ill_tool.specs.Kept.{RunsKeptLoan}
 use Rattle.ill_tool.specs.Picture.{drawn_or_shown}
@@ -77,23 +86,112 @@ TakesAtFile is_kept is_long left rest before after result =
     ⊎ ((old : View Holding) × (new : View Holding)
     × RunsTaking is_kept (wording is_long) many_sides left rest None None before after old result new)
 
--- a file could not be removed or put aside, or memory ran out for that
-abbrev pub IsSettlingFault : ToolFault → Type 0
-IsSettlingFault fault = (fault ≡ Desk (Store Failed)) ⊎ (fault ≡ OutOfMemory)
+-- the mails of a night and their verdicts, and how many further mails wait
+pub record Night : Type 0 where
+  pub verdicts : List Verdict
+  pub mails : List Mail
+  pub waiting : ℕ
 
--- what a run answers: what it comes to by its verdicts, or why files stay; or its fault
-abbrev pub AnswersRun : ℕ → Result (List Verdict) ToolFault → Result Bool ToolFault → Type 0
-AnswersRun waiting (Ok verdicts) result =
-    (result ≡ ending (tally_of verdicts) waiting) ⊎ IsErrAnd result IsSettlingFault
-AnswersRun waiting (Err fault) result = result ≡ Err fault
+abbrev pub taken_of : Taken → Night
+taken_of taken = record {
+  verdicts = taken.verdicts.items;
+  mails = taken.found.mails.items;
+  waiting = taken.found.waiting;
+}
+
+-- A run has ended with these verdicts, and their files were settled, or why they were not; or it has its fault.
+abbrev pub SettlesRun : List Mail → ℕ → Result (List Verdict) ToolFault → Result Night ToolFault → Type 0
+SettlesRun mails waiting (Ok verdicts) result =
+    (result ≡ Ok (record { verdicts = verdicts; mails = mails; waiting = waiting })) ⊎ IsErrAnd result IsFileFault
+SettlesRun mails waiting (Err fault) result = result ≡ Err fault
+
+-- The mails of a folder, with so many more waiting, were taken at a desk, and their files settled.
+abbrev pub TakesMails : View Holding → Option (List ℕ) → Option (List ℕ) →
+    Result Night ToolFault → View Holding → Type 0
+TakesMails old before after result new =
+    (IsShut before after result × (new ≡ old))
+    ⊎ ((mails : List Mail) × (waiting : ℕ) × (answer : Result (List Verdict) ToolFault)
+    × RunsInbox many_sides mails waiting None None before after old answer new
+    × SettlesRun mails waiting answer result)
+
+-- what a run comes to
+abbrev pub ending_of : Result Night ToolFault → Result Bool ToolFault
+ending_of (Ok night) = ending (tally_of night.verdicts) night.waiting
+ending_of (Err fault) = Err fault
 
 -- the mails of a folder were taken at a desk
 abbrev pub InboxAtFile : Option (List ℕ) → Option (List ℕ) → Result Bool ToolFault → Type 0
 InboxAtFile before after result =
     IsShut before after result
-    ⊎ ((old : View Holding) × (new : View Holding) × (mails : List Mail) × (waiting : ℕ)
-    × (answer : Result (List Verdict) ToolFault)
-    × RunsInbox many_sides mails waiting None None before after old answer new × AnswersRun waiting answer result)
+    ⊎ ((old new : View Holding) × (taken : Result Night ToolFault)
+    × TakesMails old before after taken new × (result ≡ ending_of taken))
+
+-- The messages that want sending were put into a folder, of which nothing is known, and their number was written.
+abbrev pub SendsTo : List Held → Option (List ℕ) → Option (List ℕ) → Result (Unit {0}) ToolFault → Type 0
+SendsTo held before after result =
+    (IsErrAnd result IsOpenFault × (after ≡ before))
+    ⊎ ((bytes : List ℕ) × (asking : List Apdu) × AreIn bytes asking
+    × WritesText before after (sent_line (length (letters_of asking held))) result)
+
+-- The messages that want sending were written, one behind another.
+abbrev pub SendsOn : List Held → Option (List ℕ) → Option (List ℕ) → Result (Unit {0}) ToolFault → Type 0
+SendsOn held before after result =
+    IsShut before after result ⊎ ((bytes : List ℕ) × StreamsOutbox bytes held before after result)
+
+-- the messages of a desk left, into a folder or to the output
+abbrev pub SendsFrom : Bool → List Held → Option (List ℕ) → Option (List ℕ) → Result (Unit {0}) ToolFault → Type 0
+SendsFrom true = SendsTo
+SendsFrom false = SendsOn
+
+abbrev pub OutboxAtFile : Bool → Option (List ℕ) → Option (List ℕ) → Result Bool ToolFault → Type 0
+OutboxAtFile has_folder before after result =
+    IsShut before after result ⊎ ((held : List Held) × GoesWell (SendsFrom has_folder held before after) result)
+
+-- what the date says was said, and saved, if something of it is wanted
+abbrev pub SaysDates : Option (Date × Dates) → Option (List ℕ) → Option (List ℕ) → View Holding →
+    Result (Unit {0}) ToolFault → View Holding → Type 0
+SaysDates None before after old result new = (result ≡ Ok tt) × (after ≡ before) × (new ≡ old)
+SaysDates (Some (today, which)) before after old result new = RunsDates which today before after old result new
+
+-- what a night comes to: mails stay, or something wants a person, or all is well
+abbrev pub night_ending : Role → Night → Result Bool ToolFault
+night_ending role night =
+    if is_waiting (tally_of night.verdicts) night.waiting then Err Left
+    else Ok (not (wants_person role (zip night.mails night.verdicts)))
+
+-- The messages have left, and a night comes to this end, or its sign of life failed; or they have not left.
+abbrev pub Departs : Result Bool ToolFault → Result (Unit {0}) ToolFault → Result Bool ToolFault → Type 0
+Departs ending (Ok done) result = (result ≡ ending) ⊎ IsErrAnd result IsFileFault
+Departs ending (Err fault) result = result ≡ Err fault
+
+-- A night goes on once its day was said: the desk is copied, and then what it holds leaves. If it cannot be copied
+-- nothing leaves.
+abbrev pub SendsAll : Result Bool ToolFault → List Held → Option (List ℕ) → Option (List ℕ) →
+    Result (Unit {0}) ToolFault → Result Bool ToolFault → Type 0
+SendsAll ending held before after (Err fault) result = (result ≡ Err fault) × (after ≡ before)
+SendsAll ending held before after (Ok done) result =
+    (IsErrAnd result IsFileFault × (after ≡ before))
+    ⊎ ((sent : Result (Unit {0}) ToolFault) × SendsTo held before after sent × Departs ending sent result)
+
+-- A night goes on once its mails were taken. If that failed, nothing else is done.
+abbrev pub GoesOn : Option (Date × Dates) → Result Night ToolFault → Option (List ℕ) → Option (List ℕ) →
+    View Holding → Result Bool ToolFault → View Holding → Type 0
+GoesOn dates (Err fault) before after old result new = (result ≡ Err fault) × (after ≡ before) × (new ≡ old)
+GoesOn dates (Ok night) before after old result new =
+    (between : Option (List ℕ)) × (said : Result (Unit {0}) ToolFault) × SaysDates dates before between old said new
+    × SendsAll (night_ending new.live.role night) new.live.held between after said result
+
+-- a night of a desk: its mails were taken, what the date says was said, and its messages left
+abbrev pub ExchangesAt : Option (Date × Dates) → View Holding → Option (List ℕ) → Option (List ℕ) →
+    Result Bool ToolFault → View Holding → Type 0
+ExchangesAt dates old before after result new =
+    (met : View Holding) × (between : Option (List ℕ)) × (taken : Result Night ToolFault)
+    × TakesMails old before between taken met × GoesOn dates taken between after met result new
+
+abbrev pub ExchangesAtFile : Option (Date × Dates) → Option (List ℕ) → Option (List ℕ) → Result Bool ToolFault → Type 0
+ExchangesAtFile dates before after result =
+    IsShut before after result
+    ⊎ ((old : View Holding) × (new : View Holding) × ExchangesAt dates old before after result new)
 
 -- the message with this number was written, of this transaction at a desk
 abbrev pub SendsAtFile : Qualifiers → ℕ → Option (List ℕ) → Option (List ℕ) → Result Bool ToolFault → Type 0
@@ -170,6 +268,10 @@ Runs (asks.Act file txn today words) left rest before after result =
 Runs (asks.Take file is_long is_kept) left rest before after result =
     TakesAtFile is_kept is_long left rest before after result
 Runs (asks.Inbox file folder) left rest before after result = (rest ≡ left) × InboxAtFile before after result
+Runs (asks.Outbox file folder) left rest before after result =
+    (rest ≡ left) × OutboxAtFile (is_some folder) before after result
+Runs (asks.Exchange file incoming outgoing dates copy beat) left rest before after result =
+    (rest ≡ left) × ExchangesAtFile dates before after result
 Runs (asks.Send file txn number) left rest before after result =
     (rest ≡ left) × SendsAtFile txn number before after result
 Runs (asks.Listing paths wanted form) left rest before after result =

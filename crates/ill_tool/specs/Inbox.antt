@@ -1,8 +1,7 @@
 -- The command `inbox`: the mails of a folder are taken one after another, and all that they change is saved at once
 -- (this profile's own).
-use Rattle.std.specs.Prelude.{◌≡◌, ℕ, nat_lt, Bool, true, false, not, ◌&&◌, ◌||◌, if◌then◌else◌, List, [], ◌∷◌, ◌++◌, length, fold, count_by, take, codes, Option, None, Some, option_map, Result, Ok, Err}
+use Rattle.std.specs.Prelude.{◌≡◌, ℕ, nat_lt, Bool, true, false, not, ◌&&◌, ◌||◌, if◌then◌else◌, List, [], ◌∷◌, ◌++◌, length, fold, count_by, codes, Option, None, Some, option_map, Result, Ok, Err}
 use Rattle.std.specs.Fmt.{decimal}
-use Rattle.std.specs.Io.KnownBytes.{Appends}
 use Rattle.ill_values.specs.declared.apdu.Apdu.{Apdu}
 use Rattle.ill_der.specs.declared.fault.DerFault.{DerFault}
 use Rattle.ill_der.specs.declared.fault.DerFault.TheVariants as ders
@@ -11,15 +10,12 @@ use Rattle.ill_der.specs.Faults.{place_of}
 use Rattle.ill_core.specs.declared.taking.Taking.TheVariants as takings
 use Rattle.ill_saved.specs.declared.role.Role.{Role}
 use Rattle.ill_saved.specs.declared.role.Role.TheVariants.{Requester}
-use Rattle.ill_saved.specs.declared.fault.DeskFault.TheVariants as desks
-use Rattle.ill_saved.specs.declared.store.StoreFault.TheVariants.{Failed}
 use Rattle.ill_saved.specs.Many.{Holding}
 use Rattle.ill_world.specs.declared.event.Outcome.TheVariants as outcomes
 use Rattle.ill_world.specs.declared.event.DeskOutcome.{DeskOutcome}
 use Rattle.ill_world.specs.declared.event.DeskOutcome.TheVariants as seen
 use Rattle.ill_world.specs.Trace.{desk_outcome_word}
 use Rattle.ill_tool.specs.declared.fault.ToolFault.{ToolFault}
-use Rattle.ill_tool.specs.declared.fault.ToolFault.TheVariants.{Desk, Write, OutOfMemory}
 use Rattle.ill_tool.specs.declared.fault.ToolFault.TheVariants as faults
 use Rattle.ill_tool.specs.declared.verdict.Mail.{Mail}
 use Rattle.ill_tool.specs.declared.verdict.Unfit.{Unfit}
@@ -34,7 +30,7 @@ use Rattle.ill_tool.specs.declared.tally.Tally.{Tally}
 use Rattle.ill_tool.specs.declared.inbox.Sorted.{Sorted}
 use Rattle.ill_tool.specs.Escape.{escaped}
 use Rattle.ill_tool.specs.Keeping.{Keeping, many_sides}
-use Rattle.ill_tool.specs.Performing.{View, handed, is_change, becomes, saved, IsFaulted}
+use Rattle.ill_tool.specs.Performing.{View, handed, is_change, has_any, Run, EndsRun}
 use Rattle.ill_tool.specs.Take.{KeepsBefore}
 use Rattle.ill_tool.specs.Telling.{as_told, long}
 
@@ -242,40 +238,19 @@ concluded waiting end = record {
   kept = end.kept;
 }
 
--- something was taken: of each message that was, its bytes are kept
-abbrev pub has_taken : {L : Type 0} → Sorting L → Bool
-has_taken end = nat_lt 0 (length end.kept)
+-- what the run comes to; of each message that was taken, its bytes are kept
+abbrev pub inbox_run : {L : Type 0} → Sorting L → ℕ → Run L (List Verdict)
+inbox_run end waiting = record {
+  live = end.live;
+  has_changed = has_any end.kept;
+  told = inbox_text end waiting;
+  answer = end.verdicts;
+}
 
--- what is known after the run: all is saved, if something was taken
-abbrev pub after_run : {L K : Type 0} → Keeping L K → View L → Sorting L → View L
-after_run keeping old end =
-    if has_taken end then saved keeping (becomes old end.live) else becomes old end.live
-
--- what was answered, with the verdicts as a list
-abbrev pub answered_with : {X : Type 0} → (X → List Verdict) → Result X ToolFault → Result (List Verdict) ToolFault
-answered_with items (Ok verdicts) = Ok (items verdicts)
-answered_with items (Err fault) = Err fault
-
--- What was taken is saved at once, if something was; or that failed, or memory ran out for it.
-abbrev pub SavesOnce : {L K : Type 0} → Keeping L K → List ℕ → View L → Result (Unit {0}) ToolFault → View L → Type 0
-SavesOnce keeping kept old (Ok done) new = new ≡ (if nat_lt 0 (length kept) then saved keeping old else old)
-SavesOnce keeping kept old (Err (Desk (desks.Store Failed))) new =
-    (nat_lt 0 (length kept) ≡ true) × IsFaulted keeping old new
-SavesOnce keeping kept old (Err OutOfMemory) new = new ≡ old
-SavesOnce keeping kept old (Err other) new = ⊥
-
--- How a run ends. Where all is well it is told. If the writer fails all is saved too. If the one save fails, the old
--- record has landed or that of all mails, and nothing is told. If memory runs out, nothing more has landed.
-abbrev pub EndsRun : {L K : Type 0} → Keeping L K → Sorting L → ℕ → Option (List ℕ) → Option (List ℕ) → View L →
-    Result (List Verdict) ToolFault → View L → Type 0
-EndsRun keeping end waiting before after old (Ok verdicts) new =
-    (verdicts ≡ end.verdicts) × Appends before after (inbox_text end waiting) × (new ≡ after_run keeping old end)
-EndsRun keeping end waiting before after old (Err Write) new =
-    ((size : ℕ) × Appends before after (take size (inbox_text end waiting))) × (new ≡ after_run keeping old end)
-EndsRun keeping end waiting before after old (Err (Desk (desks.Store Failed))) new =
-    (after ≡ before) × (has_taken end ≡ true) × IsFaulted keeping (becomes old end.live) new
-EndsRun keeping end waiting before after old (Err OutOfMemory) new = (after ≡ before) × (new.landed ≡ old.landed)
-EndsRun keeping end waiting before after old (Err other) new = ⊥
+-- what was answered, as the definitions have it
+abbrev pub answered_with : {X Y : Type 0} → (X → Y) → Result X ToolFault → Result Y ToolFault
+answered_with value (Ok answer) = Ok (value answer)
+answered_with value (Err fault) = Err fault
 
 -- A run over mails, with so many more waiting, from what is kept to what is, from what the writer held to what it
 -- holds, and from what was known to what is known. What was taken is kept before it is saved.
@@ -283,7 +258,7 @@ abbrev pub RunsInbox : {L K : Type 0} → Keeping L K → List Mail → ℕ → 
     Option (List ℕ) → Option (List ℕ) → View L → Result (List Verdict) ToolFault → View L → Type 0
 RunsInbox keeping mails waiting kept_before kept_after before after old result new =
     KeepsBefore (after_mails keeping old.live mails).kept result kept_before kept_after old new
-    × EndsRun keeping (after_mails keeping old.live mails) waiting before after old result new
+    × EndsRun keeping (inbox_run (after_mails keeping old.live mails) waiting) before after old result new
 
 -- A run over these mails, with these verdicts, has ended well at a desk of which this is known: all that they change is
 -- saved.

@@ -15,11 +15,15 @@ pub mod Telling
 pub mod Act
 pub mod Take
 pub mod Inbox
+pub mod Dates
+pub mod Copy
 pub mod Send
 pub mod Status
 pub mod Loan
 pub mod Waiting
 pub mod Kept
+pub mod Outbox
+pub mod Person
 pub mod Picture
 pub mod Verify
 pub mod List

@@ -1,6 +1,7 @@
--- What came of an action or a message, whatever keeps the sides: what is seen of it, and what is saved (this
--- profile's own).
-use Rattle.std.specs.Prelude.{◌≡◌, ◌⊎◌, ℕ, ◌≤◌, Bool, true, false, if◌then◌else◌, List, Option, None, Some, option_map, Result, Ok, Err}
+-- What came of an action or a message, or of many, whatever keeps the sides: what is seen of it, and what is saved
+-- (this profile's own).
+use Rattle.std.specs.Prelude.{◌≡◌, ◌⊎◌, ℕ, nat_lt, ◌≤◌, Bool, true, false, if◌then◌else◌, List, length, take, Option, None, Some, option_map, Result, Ok, Err}
+use Rattle.std.specs.Io.KnownBytes.{Appends}
 use Rattle.ill_values.specs.declared.apdu.Apdu.{Apdu}
 use Rattle.ill_core.specs.declared.taking.Taking.{Taking}
 use Rattle.ill_core.specs.declared.taking.Taking.TheVariants.{Taken}
@@ -14,7 +15,7 @@ use Rattle.ill_world.specs.declared.event.Outcome.TheVariants as outcomes
 use Rattle.ill_world.specs.declared.event.DeskOutcome.{DeskOutcome}
 use Rattle.ill_world.specs.declared.event.DeskOutcome.TheVariants.{Plain, NoSuchTransaction, DeskFull}
 use Rattle.ill_tool.specs.declared.fault.ToolFault.{ToolFault}
-use Rattle.ill_tool.specs.declared.fault.ToolFault.TheVariants.{Desk, OutOfMemory}
+use Rattle.ill_tool.specs.declared.fault.ToolFault.TheVariants.{Desk, Write, OutOfMemory}
 use Rattle.ill_tool.specs.Keeping.{Keeping}
 
 -- ---- what is known
@@ -113,6 +114,45 @@ Performs keeping WantsMemory old event (Err (Desk (desks.Store Failed))) new =
 Performs keeping WantsMemory old event (Err OutOfMemory) new =
     (WantsMemory × (new ≡ old)) ⊎ (IsChange event.0 × (new ≡ becomes old event.1))
 Performs keeping WantsMemory old event (Err other) new = ⊥
+
+-- ---- many changes, and one save
+
+-- there is one at least
+abbrev pub has_any : {X : Type 0} → List X → Bool
+has_any items = nat_lt 0 (length items)
+
+-- The changes are saved at once, if there are any; or that failed, or memory ran out for it.
+abbrev pub SavesOnce : {L K X : Type 0} → Keeping L K → List X → View L → Result (Unit {0}) ToolFault → View L → Type 0
+SavesOnce keeping changes old (Ok done) new = new ≡ (if has_any changes then saved keeping old else old)
+SavesOnce keeping changes old (Err (Desk (desks.Store Failed))) new =
+    (has_any changes ≡ true) × IsFaulted keeping old new
+SavesOnce keeping changes old (Err OutOfMemory) new = new ≡ old
+SavesOnce keeping changes old (Err other) new = ⊥
+
+-- a run of changes: what is held after them, whether there are any, what is told of them, and what is answered
+pub record Run (L A : Type 0) : Type 0 where
+  pub live : L
+  pub has_changed : Bool
+  pub told : List ℕ
+  pub answer : A
+
+-- what is known after a run: all is saved, if anything has changed
+abbrev pub after_run : {L K A : Type 0} → Keeping L K → View L → Run L A → View L
+after_run keeping old run =
+    if run.has_changed then saved keeping (becomes old run.live) else becomes old run.live
+
+-- How a run ends. Where all is well it is told. If the writer fails all is saved too. If the one save fails, the old
+-- record has landed or that of all changes, and nothing is told. If memory runs out, nothing more has landed.
+abbrev pub EndsRun : {L K A : Type 0} → Keeping L K → Run L A → Option (List ℕ) → Option (List ℕ) → View L →
+    Result A ToolFault → View L → Type 0
+EndsRun keeping run before after old (Ok answer) new =
+    (answer ≡ run.answer) × Appends before after run.told × (new ≡ after_run keeping old run)
+EndsRun keeping run before after old (Err Write) new =
+    ((size : ℕ) × Appends before after (take size run.told)) × (new ≡ after_run keeping old run)
+EndsRun keeping run before after old (Err (Desk (desks.Store Failed))) new =
+    (after ≡ before) × (run.has_changed ≡ true) × IsFaulted keeping (becomes old run.live) new
+EndsRun keeping run before after old (Err OutOfMemory) new = (after ≡ before) × (new.landed ≡ old.landed)
+EndsRun keeping run before after old (Err other) new = ⊥
 
 -- ---- failures of the store
 

@@ -14,6 +14,8 @@ pub enum Name {
     Act,
     Take,
     Inbox,
+    Outbox,
+    Exchange,
     Send,
     List,
     Status,
@@ -28,7 +30,7 @@ pub enum Name {
 
 /// All commands, in the order in which the help lists them: those for staff, those for the exchange with other
 /// libraries, and those for whoever looks inside. clap is told of these and of no others.
-const NAMES: [Name; 14] = [
+const NAMES: [Name; 16] = [
     Name::New,
     Name::Act,
     Name::List,
@@ -36,8 +38,10 @@ const NAMES: [Name; 14] = [
     Name::Status,
     Name::Report,
     Name::Take,
-    Name::Inbox,
     Name::Send,
+    Name::Inbox,
+    Name::Outbox,
+    Name::Exchange,
     Name::Verify,
     Name::Show,
     Name::Check,
@@ -55,6 +59,8 @@ impl Name {
             Name::Act => "act",
             Name::Take => "take",
             Name::Inbox => "inbox",
+            Name::Outbox => "outbox",
+            Name::Exchange => "exchange",
             Name::Send => "send",
             Name::List => "list",
             Name::Status => "status",
@@ -75,6 +81,8 @@ impl Name {
             Name::Act => "Perform one action in a loan, and save it",
             Name::Take => "Take the APDUs on standard input, and save what they change",
             Name::Inbox => "Take the mails of a folder, and save what they change once",
+            Name::Outbox => "Put the messages that want sending into a folder of mails",
+            Name::Exchange => "Take the mails of a folder, and send into another",
             Name::Send => "Write the bytes of one message of a loan",
             Name::List => "List the loans of desks, a line for each",
             Name::Status => "Show how each loan in a file stands",
@@ -95,6 +103,8 @@ impl Name {
             Name::Act => help::ACT,
             Name::Take => help::TAKE,
             Name::Inbox => help::INBOX,
+            Name::Outbox => help::OUTBOX,
+            Name::Exchange => help::EXCHANGE,
             Name::Send => help::SEND,
             Name::List => help::LIST,
             Name::Status => help::STATUS,
@@ -115,6 +125,8 @@ impl Name {
             Name::Act => help::ACT_EXAMPLE,
             Name::Take => help::TAKE_EXAMPLE,
             Name::Inbox => help::INBOX_EXAMPLE,
+            Name::Outbox => help::OUTBOX_EXAMPLE,
+            Name::Exchange => help::EXCHANGE_EXAMPLE,
             Name::Send => help::SEND_EXAMPLE,
             Name::List => help::LIST_EXAMPLE,
             Name::Status => help::STATUS_EXAMPLE,
@@ -141,6 +153,17 @@ impl Name {
             ],
             Name::Take => &[Argument::File, Argument::Long, Argument::Keep],
             Name::Inbox => &[Argument::File, Argument::Folder],
+            Name::Outbox => &[Argument::File, Argument::OutFolder, Argument::Stream],
+            Name::Exchange => &[
+                Argument::File,
+                Argument::In,
+                Argument::Out,
+                Argument::NightDay,
+                Argument::Overdue,
+                Argument::Expire,
+                Argument::Copy,
+                Argument::Beat,
+            ],
             Name::Status => &[Argument::File, Argument::Json],
             Name::Verify => &[Argument::File],
             Name::Send => &[
@@ -189,6 +212,24 @@ pub enum Argument {
     File,
     /// A folder of mails.
     Folder,
+    /// A folder into which mails are put, which may be left out.
+    OutFolder,
+    /// Whether messages are written to the output in place of a folder.
+    Stream,
+    /// The folder of the mails that have come.
+    In,
+    /// The folder of the mails that are to go.
+    Out,
+    /// The day of an exchange.
+    NightDay,
+    /// Whether a responder tells of the loans that are overdue.
+    Overdue,
+    /// Whether a responder ends the requests whose last day is past.
+    Expire,
+    /// The file of a copy.
+    Copy,
+    /// The file that is made anew in the end.
+    Beat,
     Role,
     Group,
     Transaction,
@@ -229,11 +270,18 @@ impl Argument {
     {
         match self {
             Argument::NewFile | Argument::File => "FILE",
-            Argument::Folder => "FOLDER",
+            Argument::Folder | Argument::OutFolder => "FOLDER",
+            Argument::In => "IN",
+            Argument::Out => "OUT",
+            Argument::Stream => "stream",
+            Argument::Overdue => "overdue",
+            Argument::Expire => "expire",
+            Argument::Copy => "copy",
+            Argument::Beat => "beat",
             Argument::Role => "ROLE",
             Argument::Group => "GROUP",
             Argument::Transaction => "TRANSACTION",
-            Argument::Today | Argument::OnDay | Argument::ReportDay => "today",
+            Argument::Today | Argument::OnDay | Argument::ReportDay | Argument::NightDay => "today",
             Argument::Words => "WORDS",
             Argument::Number => "NUMBER",
             Argument::Long => "long",
@@ -253,7 +301,15 @@ impl Argument {
         match self {
             Argument::NewFile => "The file of the desk, which must not be there yet",
             Argument::File => "The file of the desk",
-            Argument::Folder => "The folder of the mails",
+            Argument::Folder | Argument::OutFolder => "The folder of the mails",
+            Argument::Stream => "Write the messages to standard output",
+            Argument::In => "The folder of the mails that have come",
+            Argument::Out => "The folder of the mails that are to go",
+            Argument::NightDay => "The day of the run, as 20250301",
+            Argument::Overdue => "Say of each loan that is past its due date that it is",
+            Argument::Expire => "End each request that is past its last day",
+            Argument::Copy => "Copy the desk to this file before anything is sent",
+            Argument::Beat => "Make this file anew when the run has ended",
             Argument::Role => "requester or responder",
             Argument::Group => "The group qualifier of the loan",
             Argument::Transaction => "The transaction qualifier of the loan",
@@ -278,7 +334,13 @@ impl Argument {
     fn arg<'a>(self, alloc: Global) -> Arg<'a> {
         let arg = Arg::new(alloc, self.id()).help(self.help());
         match self {
-            Argument::Today | Argument::OnDay => valued(arg, "today", "DAY"),
+            Argument::Today | Argument::OnDay | Argument::NightDay => valued(arg, "today", "DAY"),
+            Argument::Copy => arg.long("copy").value_name("FILE"),
+            Argument::Beat => arg.long("beat").value_name("FILE"),
+            Argument::OutFolder => arg,
+            Argument::Stream => arg.long("stream").action(ArgAction::SetTrue),
+            Argument::Overdue => arg.long("overdue").action(ArgAction::SetTrue),
+            Argument::Expire => arg.long("expire").action(ArgAction::SetTrue),
             Argument::DueBefore => valued(arg, "due-before", "DAY"),
             Argument::InState => valued(arg, "state", "STATE"),
             Argument::ReportDay => valued(arg, "today", "DAY").required(true),

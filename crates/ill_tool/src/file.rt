@@ -5,10 +5,9 @@ ghost use Rattle.std.specs.Prelude.{◌≡◌, ◌++◌, Ok, true, false, map, s
 ghost use Rattle.ill_saved.specs.Desk.{answer_of};
 ghost use Rattle.ill_saved.specs.Many.{found_by, sides_held, txn_held};
 ghost use Rattle.ill_tool.specs.Report.{AddsDesks};
-ghost use Rattle.ill_tool.specs.Commands.{ActsAtFile, AnswersRun, InboxAtFile, IsOpenFault, ListsDesk, ListsDesks, ListsPaths, LoanAtFile, NewAtFile, ReportsPaths, SendsAtFile, ShowsFile, TakesAtFile, VerifiesFile, all_well};
+ghost use Rattle.ill_tool.specs.Commands.{ActsAtFile, IsOpenFault, ListsDesk, ListsDesks, ListsPaths, LoanAtFile, NewAtFile, ReportsPaths, SendsAtFile, ShowsFile, TakesAtFile, VerifiesFile, all_well};
 ghost use Rattle.ill_tool.specs.Listing.{between, listed_desk};
 ghost use Rattle.ill_tool.specs.Keeping.{many_sides};
-ghost use Rattle.ill_tool.specs.Inbox.{EndedWell};
 ghost use Rattle.ill_tool.specs.Kept.{RunsKeptLoan};
 ghost use Rattle.ill_tool.specs.Picture.{drawn_or_shown};
 ghost use Rattle.ill_tool.specs.declared.form.Form.TheVariants.{Lines};
@@ -22,19 +21,15 @@ use crate::came::{came_bytes, open_came};
 use crate::fault::ToolFault;
 use crate::folder::desk_paths;
 use crate::form::Form;
-use crate::inbox::run_desk_inbox;
 use crate::kept::run_desk_kept_loan;
 use crate::list::{Wanted, run_desk_list, run_desk_list_objects};
 use crate::listed::{Listed, heading, warning};
-use crate::mail::{Mails, read_mails, settle_mails};
 use crate::new::run_desk_new;
 use crate::picture::run_desk_picture;
 use crate::report::{end_page, push_desk, push_head};
 use crate::send::run_desk_send;
 use crate::status::run_desk_status_as;
 use crate::take::{run_desk_kept_take, run_desk_long_take, run_desk_take};
-use crate::tally::Tally;
-use crate::verdict::Verdict;
 use crate::verify::run_desk_verify;
 use ill_saved::{
     Desk, DeskFault, FileLock, FileStore, LockFiles, RECORD_LIMIT, SIDES_LIMIT, Store,
@@ -152,62 +147,6 @@ fn take_told<S: Store, R: Read, W: Write>(
         run_desk_long_take(alloc, desk, reader, writer)
     } else {
         run_desk_take(alloc, desk, reader, writer)
-    }
-}
-
-/// `ill inbox`: takes the mails of a folder. No other command changes the file or its folder of mails in the meantime.
-pub fn inbox<T: LockFiles, W: Write, E: Write>(
-    rt: &T,
-    alloc: Global,
-    file: &str,
-    folder: &str,
-    writer: &mut W,
-    errors: &mut E,
-) -> Result<bool, ToolFault>
-    ensures { InboxAtFile (W.contents writer.old) (W.contents writer.new) result }
-{
-    let (lock, mut desk) = open_locked(rt, alloc, file)?;
-    let taken = take_mails(rt, alloc, file, folder, &mut desk, writer, errors);
-    release(taken, desk, lock)
-}
-
-/// Takes the mails of a folder at a desk. Only when all that they change is saved, the files of mails go.
-fn take_mails<T: Files, S: Store, W: Write, E: Write>(
-    rt: &T,
-    alloc: Global,
-    file: &str,
-    folder: &str,
-    desk: &mut Desk<S>,
-    writer: &mut W,
-    errors: &mut E,
-) -> Result<bool, ToolFault>
-    ensures { InboxAtFile (W.contents writer.old) (W.contents writer.new) result }
-{
-    let found = read_mails(rt, alloc, folder)?;
-    let mut came = open_came(rt, alloc, file)?;
-    let run = run_desk_inbox(alloc, desk, &found.mails, found.waiting, &mut came, writer);
-    match run {
-        Ok(verdicts) => conclude(rt, alloc, folder, desk, &found, &verdicts, errors),
-        Err(fault) => Err(fault),
-    }
-}
-
-/// Removes the files of the mails of a run that has ended well, or puts them aside, and answers what the run comes to.
-fn conclude<T: Files, S: Store, E: Write>(
-    rt: &T,
-    alloc: Global,
-    folder: &str,
-    _desk: &Desk<S>,
-    found: &Mails,
-    verdicts: &[Verdict],
-    errors: &mut E,
-) -> Result<bool, ToolFault>
-    requires ended { EndedWell found.now.mails.items verdicts.now (many_view S.is_honest S.landed _desk.now) }
-    ensures { AnswersRun found.now.waiting (Ok verdicts.now) result }
-{
-    match settle_mails(rt, alloc, folder, &found.mails, verdicts, errors) {
-        Ok(()) => Tally::of(verdicts).ending(found.waiting),
-        Err(fault) => Err(fault),
     }
 }
 
@@ -499,7 +438,7 @@ fn lock<'a, T: LockFiles>(
 }
 
 /// The desk in a file, loaded under the file's lock.
-fn open_locked<'a, T: LockFiles>(
+pub fn open_locked<'a, T: LockFiles>(
     rt: &'a T,
     alloc: Global,
     file: &str,
@@ -512,7 +451,7 @@ fn open_locked<'a, T: LockFiles>(
 }
 
 /// Lets a desk go and then its lock, and hands on what a command answered.
-fn release<D: Drop, L: Drop>(
+pub fn release<D: Drop, L: Drop>(
     answer: Result<bool, ToolFault>,
     desk: D,
     lock: L,

@@ -5,16 +5,17 @@ pub const VERSION: &str = "0.2.0";
 pub const ILL: &str = "\
 The commands stand in groups:
   for staff                  new, act, list, loan, status, report
-  for the exchange           take, inbox, send
+  for the exchange           take, send, inbox, outbox, exchange
   to look inside             verify, show, check, simulate, simulate-desks
 
 A desk is the loans of one library in one role, and it is kept in a file. `new`
 begins it, and `act` does what the library decides in a loan. `list` lists the
 loans, those first that wait for the library. `loan` tells all of one, `status`
 tells how each of them stands, and `report` writes a page of the loans for a
-browser. `take` takes what comes from other libraries, `inbox` what has come
-into a folder, and `send` gives a message to carry there. `verify` tells whether
-a file is well. `show`, `check`, `simulate` and `simulate-desks` keep nothing.
+browser. `take` takes what comes from other libraries, and `send` gives a
+message to carry there. `inbox` and `outbox` do so with folders of mails, and
+`exchange` does all that a night asks for. `verify` tells whether a file is
+well. `show`, `check`, `simulate` and `simulate-desks` keep nothing.
 
 A loan is named by its GROUP and TRANSACTION. How messages are carried, by mail
 or by hand, is left to the libraries. `ill COMMAND --help` tells more of a
@@ -25,11 +26,11 @@ word, file or message is wrong, and what would be right. They begin with spaces,
 and no program may rest on them.
 
 Several commands may be started at once on one file. Those that may change it,
-`new`, `act`, `take` and `inbox`, wait for each other: ten seconds, and then
-they end with `store failed`. A `take` holds the file until its input ends.
-`list`, `loan`, `status`, `report`, `send` and `verify` wait for nobody. No file
-of a desk may have a name that ends in `.new` or `.lck`: such files are the
-program's.
+`new`, `act`, `take`, `inbox`, `outbox` and `exchange`, wait for each other: ten
+seconds, and then they end with `store failed`. A `take` holds the file until
+its input ends. `list`, `loan`, `status`, `report`, `send` and `verify` wait for
+nobody. No file of a desk may have a name that ends in `.new` or `.lck`: such
+files are the program's.
 
 The start of a loan, with the requester's desk in the file `here` and the
 responder's in the file `there`:
@@ -68,7 +69,7 @@ The exit status, and the line of a fault on standard error behind `ill: `:
   3  store failed         FILE or its folder cannot be read or written, or
                           another command held FILE for ten seconds
   3  store too-large      FILE has more than 67,108,864 bytes
-  3  left                 `inbox` has left mails for the next run
+  3  left                 `inbox` or `exchange` has left mails for the next run
   3  read                 the input cannot be read
   3  write                the output cannot be written; a closed pipe too
   3  memory               memory ran out";
@@ -241,21 +242,26 @@ pub const INBOX: &str = "\
 Take the mails of a folder, and save what they change once.
 
 A mail is a regular file of FOLDER whose name begins with no dot, with one APDU:
-a message of another library, as `ill send` gives it there. The mails are taken
-in the order of the bytes of their names, 10,000 at most in one run. FILE has at
-most 67,108,864 bytes. While another command changes FILE, this one waits, as
+a message of another library, as `ill send` gives it there. FILE has at most
+67,108,864 bytes. While another command changes FILE, this one waits, as
 `ill --help` tells, and holds FILE itself until it ends.
 
+First each mail is moved into a folder in FILE.mail/in, where it is read.
+FILE.mail is made for its owner alone, and has to be on the disk of FOLDER. The
+mails are taken in the order of the bytes of their names, 10,000 at most in one
+run. Those that a run has moved that was killed come before the others.
+
 Each message that is taken is kept in FILE.came, as `ill take --keep` does. Then
-the desk is saved, once, if a message was taken. Only then files go from FOLDER:
+the desk is saved, once, if a message was taken. Only then files go:
   removed                the desk has done with the mail: its message is taken,
                          a repeat, stale or in conflict, or comes again
   put aside              no desk will ever take it; its file becomes
-                         FOLDER/aside/DIGEST, and DIGEST.why beside it has a
+                         FILE.mail/aside/DIGEST, and DIGEST.why beside it has a
                          line that says why. DIGEST is the SHA-256 of the mail,
                          of at most its first 360 bytes.
-Any other mail stays. If a fault comes, all stay: to take a message twice does
-no harm.
+Any other mail goes back to FOLDER. If a fault comes, all stay in FILE.mail/in
+for the next run: to take a message twice does no harm. FILE.mail/asked has the
+messages that came for loans that are over, which `ill outbox` answers.
 
 For each mail with a message the lines of `ill take --long` are written to
 standard output, as the loan stands once the desk is saved. Of a mail that is
@@ -271,7 +277,7 @@ behind them. The reasons to put a mail aside:
   numbers-used           it wants an answer, and all 255 numbers are used
 
 The reasons for which a mail stays:
-  not-read               it cannot be read, or its name is no UTF-8
+  not-read               it cannot be moved or read, or its name is no UTF-8
   no-such-transaction    a requester's desk has no such loan, or not yet
   desk-full              it would begin a loan, and the desk has 1,000
 
@@ -306,6 +312,84 @@ pub const INBOX_EXAMPLE: &str = "Example:
     date 20250315
   taken 1, repeat 0, stale 0, conflict 0, unknown 0, aside 0, left 0, waiting 0
   $ ls mail";
+
+pub const OUTBOX: &str = "\
+Put the messages that want sending into a folder of mails.
+
+Nothing tells that a message has come. So a loan wants sending until it is over:
+all its messages that are saved leave again, in their order, in every run. A
+loan is over in CANCELLED and NOT-SUPPLIED; at a responder in CHECKED-IN; at a
+requester in RETURNED with the mark checked-in. Then a requester is silent. A
+responder sends if a message of the loan came in the last `ill inbox`: its last
+word may be lost.
+
+Each message becomes a file of FOLDER, whole or not at all, by way of
+FOLDER/.new. Its name is made of its loan and its number, as
+`7ce619cb6e23ba0dd166097fce0754f3-001`, and is the same in every run. So a mail
+that nobody has fetched is there once. After a loss of power one may be cut: the
+next run replaces it. A line `sent N` tells how many they are.
+
+With --stream the messages are written to standard output in place of FOLDER,
+one behind another and nothing else. FILE has at most 67,108,864 bytes; it is
+not changed. While another command changes FILE, this one waits, as `ill --help`
+tells.
+
+The exit status is 0 where all messages are there, 1 with `no-record`, 2 for
+wrong arguments or a bad record, and 3 with `store failed`, `store too-large`,
+`write` or `memory`: the first messages may be there then.";
+
+pub const OUTBOX_EXAMPLE: &str = "Example:
+  $ ill new here requester
+  done
+  $ ill act here G1 T1 request none Maps
+  done PENDING - 1/1
+  $ mkdir out
+  $ ill outbox here out
+  sent 1
+  $ ls out
+  d8b6cc5699564f046c870b8ef78f15e8-001
+  $ ill outbox here --stream | ill check
+  1 apdus";
+
+pub const EXCHANGE: &str = "\
+Take the mails of a folder, and send into another.
+
+This is the night of a desk, for a machine that does it by itself:
+  1. The mails of the folder IN are taken, as `ill inbox` does.
+  2. With --overdue a responder says of each loan that is past its due date on
+     DAY that it is overdue. With --expire it ends each request that is past its
+     last day. Both want --today. A line for each is written:
+       GROUP TRANSACTION VERB done STATE DUE RELEASED/ISSUED
+  3. With --copy the desk is copied to a file, which should be on another disk.
+  4. The messages that want sending are put into the folder OUT, as `ill outbox`
+     does.
+  5. With --beat a file is made anew: its time tells when a run ended. It has
+     one byte, and no file with more is removed for it.
+If one of these fails, the further ones are not done: without a copy nothing is
+sent. The desk is locked from the first to the last. A run may be killed at any
+moment, and run again.
+
+Standard output has the lines of `ill inbox`, those of the second step and the
+line `sent N`. Standard error has a line for each mail that wants a person: one
+that is put aside or stays, and a conflict that no lost, late or repeated mail
+explains. So cron mails only these.
+
+The exit status is 0 where nothing wants a person, 1 where something does or
+with `no-record`, 2 for wrong arguments or a bad record, and 3 where a mail
+stays for the next run (`left`), or with `store failed`, `store too-large`,
+`write` or `memory`.";
+
+pub const EXCHANGE_EXAMPLE: &str = "Example:
+  $ ill new here requester
+  done
+  $ ill act here G1 T1 request none Maps
+  done PENDING - 1/1
+  $ mkdir in out
+  $ ill exchange here in out
+  taken 0, repeat 0, stale 0, conflict 0, unknown 0, aside 0, left 0, waiting 0
+  sent 1
+  $ ls out
+  d8b6cc5699564f046c870b8ef78f15e8-001";
 
 pub const SEND: &str = "\
 Write the bytes of one message of a loan.

@@ -4,9 +4,9 @@ ghost use Rattle.std.specs.Prelude.{◌≡◌, ◌≤◌, [], ◌∷◌, ◌++�
 ghost use Rattle.ill_der.specs.ShortForm.{apdu_at};
 ghost use Rattle.ill_tool.specs.declared.fault.ToolFault.TheVariants.{OutOfMemory};
 ghost use Rattle.ill_tool.specs.Keeping.{many_sides};
-ghost use Rattle.ill_tool.specs.Performing.{is_change, many_view, view_of};
+ghost use Rattle.ill_tool.specs.Performing.{SavesOnce, is_change, many_view, view_of};
 ghost use Rattle.ill_tool.specs.Take.{KeepsBefore};
-ghost use Rattle.ill_tool.specs.Inbox.{EndedWell, HandsOver, RunsInbox, SavesOnce, after_mail, after_mails, after_message, answered_with, concluded, message_in, one_message, settled, sorting_of, told_of, verdict_line, verdict_of};
+ghost use Rattle.ill_tool.specs.Inbox.{EndedWell, HandsOver, RunsInbox, after_mail, after_mails, after_message, answered_with, concluded, message_in, one_message, settled, sorting_of, told_of, verdict_line, verdict_of};
 
 use crate::fault::{ToolFault, refused};
 use crate::keeper::Keeper;
@@ -252,7 +252,7 @@ impl Sorted {
 }
 
 /// The message of a mail, or why no desk will ever take its bytes.
-fn message_in(bytes: &[u8]) -> Result<ApduView<'_>, Unfit>
+pub(crate) fn message_in(bytes: &[u8]) -> Result<ApduView<'_>, Unfit>
     ensures { result ≡ message_in bytes.now }
 {
     if bytes.len() > APDU_LIMIT {

@@ -19,7 +19,7 @@ pub(crate) fn push_heading(lines: &mut Vec<u8>, apdu: &ApduView<'_>) -> Result<(
 }
 
 /// Adds a word, and the space behind it.
-fn push_word(lines: &mut Vec<u8>, text: &[u8]) -> Result<(), OutOfMemory>
+pub(crate) fn push_word(lines: &mut Vec<u8>, text: &[u8]) -> Result<(), OutOfMemory>
     ensures { OnOk result (lines.new.items ≡ lines.old.items ++ word text.now) }
 {
     lines.extend_from_slice(text)?;

@@ -1,39 +1,38 @@
-//! The mails of a folder: its regular files, whose names begin with no dot. Whoever brings mails may put anything there
-//! at any moment.
+//! The mails of a run: those that it claims from a folder, and those that an earlier run has claimed and left. Whoever
+//! brings mails may put anything into the folder at any moment.
+//!
+//! A mail is claimed when it is renamed into the folder of the desk's mail, where nobody else may write. There it is
+//! looked at, and read once.
 
 ghost use Rattle.std.specs.Prelude.{IfErr};
-ghost use Rattle.ill_tool.specs.Commands.{IsOpenFault, IsSettlingFault};
+ghost use Rattle.ill_tool.specs.Commands.{IsOpenFault};
 
-use crate::came::STORE_FAILED;
-use crate::escape::push_escaped;
 use crate::fault::ToolFault;
 use crate::folder::{fault, raw_names};
-use crate::verdict::{Mail, Unfit, Verdict, push_unfit};
+use crate::mail_box::{MailBox, make_folder};
+use crate::verdict::Mail;
 use ill_der::APDU_LIMIT;
-use sha2::{Digest, Sha256};
 use std::alloc::Global;
-use std::fs::{Metadata, OpenFile, OpenOptions};
-use std::io::{ErrorKind, Read, Write};
-use std::os::unix::fs::{DirBuilderExt, MetadataExt, OpenOptionsExt};
+use std::fs::Metadata;
+use std::io::{ErrorKind, Read};
 use std::rt::Files;
 use std::{fs, io};
 
 /// The most mails of one run. Further ones wait for the next.
 const MAILS: usize = 10_000;
 
-/// The name of the folder of the mails that are put aside, in the folder of the mails.
-const ASIDE: &str = "aside";
-
-/// The ending of the name of the file that tells why a mail was put aside.
-const WHY: &str = ".why";
-
 /// The mails of a run.
 #[derive(Drop)]
 pub struct Mails {
-    /// Those that are read, in the order of the bytes of their names.
+    /// Those that are read: the ones that were claimed before, and then the others in the order of the bytes of their
+    /// names.
     pub mails: Vec<Mail>,
+    /// The path of the file of each, or none if it could not be claimed.
+    pub files: Vec<Option<String>>,
     /// How many further ones there are.
     pub waiting: usize,
+    /// The folders of runs that have claimed mails, this one's last.
+    pub runs: Vec<String>,
 }
 
 impl Mails {
@@ -42,210 +41,232 @@ impl Mails {
         self.mails.len() >= MAILS
     }
 
-    /// Adds a mail, or counts it if there is no room for it.
-    fn add(&mut self, name: Vec<u8>, bytes: Option<Vec<u8>>) -> io::Result<()> {
+    /// Adds a mail.
+    fn add(
+        &mut self,
+        name: Vec<u8>,
+        bytes: Option<Vec<u8>>,
+        file: Option<String>,
+    ) -> io::Result<()> {
+        self.mails.push(Mail { name, bytes })?;
+        self.files.push(file)?;
+        Ok(())
+    }
+
+    /// Adds a mail that cannot be read, or counts it if the run has enough.
+    fn add_or_count(&mut self, name: Vec<u8>) -> io::Result<()> {
         if self.is_full() {
             self.waiting = self.waiting.saturating_add(1);
-        } else {
-            self.mails.push(Mail { name, bytes })?;
+            return Ok(());
         }
-        Ok(())
+        self.add(name, None, None)
+    }
+
+    /// Adds the mail in a file that was claimed.
+    fn add_claimed<T: Files>(&mut self, rt: &T, name: Vec<u8>, file: String) -> io::Result<()> {
+        let bytes = mail_bytes(rt, *name.allocator(), file.as_str())?;
+        self.add(name, bytes, Some(file))
     }
 }
 
-/// Reads the mails of a folder.
-pub fn read_mails<T: Files>(rt: &T, alloc: Global, folder: &str) -> Result<Mails, ToolFault>
+/// Claims the mails of a folder, and reads them.
+pub fn claim_mails<T: Files>(
+    rt: &T,
+    alloc: Global,
+    mail_box: &MailBox,
+    folder: &str,
+) -> Result<Mails, ToolFault>
     ensures { IfErr result IsOpenFault }
 {
-    match all_mails(rt, alloc, folder) {
+    match all_mails(rt, alloc, mail_box, folder) {
         Ok(mails) => Ok(mails),
         Err(error) => Err(fault(&error)),
     }
 }
 
-/// Reads the mails of a folder, as many as one run takes.
-fn all_mails<T: Files>(rt: &T, alloc: Global, folder: &str) -> io::Result<Mails> {
-    let mut names = raw_names(rt, alloc, folder)?;
-    names.sort()?;
+/// The mails that were claimed before, and those of a folder, as many as one run takes.
+fn all_mails<T: Files>(
+    rt: &T,
+    alloc: Global,
+    mail_box: &MailBox,
+    folder: &str,
+) -> io::Result<Mails> {
+    if mail_box.is_at(rt, folder)? {
+        return Err(ErrorKind::InvalidInput.into());
+    }
     let mut mails = Mails {
         mails: Vec::new(alloc),
+        files: Vec::new(alloc),
         waiting: 0,
+        runs: Vec::new(alloc),
     };
-    for name in names {
-        add_mail(rt, folder, name, &mut mails)?;
+    let names = names_in(rt, alloc, folder)?;
+    let mut last = 0;
+    for run in names_in(rt, alloc, mail_box.claimed())? {
+        last = add_run(rt, mail_box.claimed(), &run, &mut mails)?.max(last);
     }
+    let run = format!(in alloc; "{}/{:010}", mail_box.claimed(), last.saturating_add(1))?;
+    make_folder(rt, run.as_str())?;
+    for name in names {
+        add_mail(rt, folder, run.as_str(), name, &mut mails)?;
+    }
+    mails.runs.push(run)?;
     Ok(mails)
 }
 
-/// Adds the mail of this name, if it is one, or counts it if the run has enough.
-fn add_mail<T: Files>(rt: &T, folder: &str, name: Vec<u8>, mails: &mut Mails) -> io::Result<()> {
-    let alloc = *name.allocator();
-    if name.starts_with(b".") {
-        return Ok(());
+/// The names in a folder that begin with no dot, in the order of their bytes.
+fn names_in<T: Files>(rt: &T, alloc: Global, folder: &str) -> io::Result<Vec<Vec<u8>>> {
+    let mut names = raw_names(rt, alloc, folder)?;
+    names.retain(|name| !name.starts_with(b"."));
+    names.sort()?;
+    Ok(names)
+}
+
+/// Adds the mails that an earlier run has claimed, in the folder of this name, and answers the number of that run. What
+/// is no such folder has no mails.
+fn add_run<T: Files>(rt: &T, claimed: &str, run: &[u8], mails: &mut Mails) -> io::Result<u32> {
+    let alloc = *mails.mails.allocator();
+    let Some(number) = number_of(run) else {
+        return Ok(0);
+    };
+    let folder = format!(in alloc; "{claimed}/{number:010}")?;
+    if !is_folder(rt, folder.as_str()) {
+        return Ok(number);
     }
-    let Some(path) = path_of(alloc, folder, &name)? else {
-        return mails.add(name, None);
-    };
-    let Some(found) = lookup(rt, path.as_str())? else {
-        return Ok(());
-    };
+    for name in names_in(rt, alloc, folder.as_str())? {
+        add_again(rt, folder.as_str(), name, mails)?;
+    }
+    mails.runs.push(folder)?;
+    Ok(number)
+}
+
+/// Tells if a folder stands at a path.
+fn is_folder<T: Files>(rt: &T, path: &str) -> bool {
+    match fs::symlink_metadata(rt, path) {
+        Ok(found) => found.is_dir(),
+        Err(_) => false,
+    }
+}
+
+/// The number of a run, by the name of its folder.
+fn number_of(run: &[u8]) -> Option<u32> {
+    str::from_utf8(run).ok()?.parse::<u32>().ok()
+}
+
+/// Adds a mail that was claimed before, or counts it if the run has enough.
+fn add_again<T: Files>(rt: &T, folder: &str, name: Vec<u8>, mails: &mut Mails) -> io::Result<()> {
     if mails.is_full() {
-        return mails.add(name, None);
+        mails.waiting = mails.waiting.saturating_add(1);
+        return Ok(());
     }
-    let bytes = mail_bytes(rt, alloc, path.as_str(), &found)?;
-    mails.add(name, bytes)
+    match path_of(*name.allocator(), folder, &name)? {
+        Some(file) => mails.add_claimed(rt, name, file),
+        None => Ok(()),
+    }
+}
+
+/// Claims the mail of this name and adds it, if it is one, or counts it if the run has enough. A mail that cannot be
+/// claimed is not read.
+fn add_mail<T: Files>(
+    rt: &T,
+    folder: &str,
+    run: &str,
+    name: Vec<u8>,
+    mails: &mut Mails,
+) -> io::Result<()> {
+    let alloc = *name.allocator();
+    let Some(path) = path_of(alloc, folder, &name)? else {
+        return mails.add_or_count(as_text(alloc, &name)?);
+    };
+    match lookup(rt, path.as_str()) {
+        Ok(None) => Ok(()),
+        Ok(Some(_)) if !mails.is_full() => add_claimed(rt, path.as_str(), run, name, mails),
+        Err(error) if error.kind() == ErrorKind::OutOfMemory => Err(error),
+        _ => mails.add_or_count(name),
+    }
+}
+
+/// Claims the mail at a path, and adds it.
+fn add_claimed<T: Files>(
+    rt: &T,
+    path: &str,
+    run: &str,
+    name: Vec<u8>,
+    mails: &mut Mails,
+) -> io::Result<()> {
+    match claim(rt, *name.allocator(), path, run, &name) {
+        Ok(file) => mails.add_claimed(rt, name, file),
+        Err(error) if error.kind() == ErrorKind::OutOfMemory => Err(error),
+        Err(_) => mails.add_or_count(name),
+    }
+}
+
+/// The name that is told of one that is no text: each byte that is none of ASCII is an escape, such as `\x9b`.
+fn as_text(alloc: Global, name: &[u8]) -> io::Result<Vec<u8>> {
+    let mut text = String::new(alloc);
+    for byte in name {
+        if byte.is_ascii() {
+            text.push(char::from(*byte))?;
+        } else {
+            write!(text, "\\x{byte:02x}")?;
+        }
+    }
+    Ok(text.into_bytes())
+}
+
+/// Renames a file into the folder of a run, and answers its path there. No other file has its name there, since names in
+/// a folder differ.
+fn claim<T: Files>(
+    rt: &T,
+    alloc: Global,
+    path: &str,
+    run: &str,
+    name: &[u8],
+) -> io::Result<String> {
+    let name = str::from_utf8(name).unwrap_or_default();
+    let file = format!(in alloc; "{run}/{name}")?;
+    fs::rename(rt, path, file.as_str())?;
+    Ok(file)
 }
 
 /// The path of the file of this name, if the name is a text: no path can have another.
-fn path_of(alloc: Global, folder: &str, name: &[u8]) -> io::Result<Option<String>> {
+pub(crate) fn path_of(alloc: Global, folder: &str, name: &[u8]) -> io::Result<Option<String>> {
     match str::from_utf8(name) {
         Ok(name) => Ok(Some(format!(in alloc; "{folder}/{name}")?)),
         Err(_) => Ok(None),
     }
 }
 
-/// Looks up the regular file at a path. What is anything else, or has gone, is no mail.
+/// Looks up the regular file at a path. Anything else, and what has gone, is no mail.
 fn lookup<T: Files>(rt: &T, path: &str) -> io::Result<Option<Metadata>> {
     match fs::symlink_metadata(rt, path) {
         Ok(found) if found.is_file() => Ok(Some(found)),
-        Err(error) if error.kind() == ErrorKind::OutOfMemory => Err(error),
-        _ => Ok(None),
+        Ok(_) => Ok(None),
+        Err(error) if error.kind() == ErrorKind::NotFound => Ok(None),
+        Err(error) => Err(error),
     }
 }
 
-/// The bytes of a file that was looked up: one more than a message has, if it has as many. None if it cannot be read.
-fn mail_bytes<T: Files>(
-    rt: &T,
-    alloc: Global,
-    path: &str,
-    found: &Metadata,
-) -> io::Result<Option<Vec<u8>>> {
-    match front(rt, alloc, path, found) {
+/// The bytes of a claimed mail: one more than a message has, if it has as many. None if it is no regular file, or
+/// cannot be read.
+fn mail_bytes<T: Files>(rt: &T, alloc: Global, file: &str) -> io::Result<Option<Vec<u8>>> {
+    let bytes = match lookup(rt, file) {
+        Ok(Some(_)) => first_bytes(rt, alloc, file),
+        Ok(None) => return Ok(None),
+        Err(error) => Err(error),
+    };
+    match bytes {
         Ok(bytes) => Ok(Some(bytes)),
         Err(error) if error.kind() == ErrorKind::OutOfMemory => Err(error),
         Err(_) => Ok(None),
     }
 }
 
-/// The first bytes of a file that was looked up. A file that has come in its place since is not read.
-fn front<T: Files>(rt: &T, alloc: Global, path: &str, found: &Metadata) -> io::Result<Vec<u8>> {
-    let file = fs::open(rt, path)?;
-    let opened = file.metadata()?;
-    if (opened.dev(), opened.ino()) != (found.dev(), found.ino()) {
-        return Err(ErrorKind::InvalidInput.into());
-    }
+/// The first bytes of the file at a path.
+fn first_bytes<T: Files>(rt: &T, alloc: Global, path: &str) -> io::Result<Vec<u8>> {
     let mut bytes = Vec::new(alloc);
-    file.take(APDU_LIMIT as u64 + 1).read_to_end(&mut bytes)?;
+    fs::open(rt, path)?
+        .take(APDU_LIMIT as u64 + 1)
+        .read_to_end(&mut bytes)?;
     Ok(bytes)
-}
-
-/// Removes the file of each mail that is done, and puts those aside that no desk will ever take. A file with which that
-/// cannot be done stays, and is told; then it is a failure of the store. If memory runs out, the further ones stay.
-pub fn settle_mails<T: Files, E: Write>(
-    rt: &T,
-    alloc: Global,
-    folder: &str,
-    mails: &[Mail],
-    verdicts: &[Verdict],
-    errors: &mut E,
-) -> Result<(), ToolFault>
-    ensures { IfErr result IsSettlingFault }
-{
-    let mut all_done = true;
-    for (mail, verdict) in mails.iter().zip(verdicts) {
-        match settle_mail(rt, alloc, folder, mail, *verdict) {
-            Ok(()) => {}
-            Err(error) if error.kind() == ErrorKind::OutOfMemory => {
-                return Err(ToolFault::OutOfMemory);
-            }
-            Err(_) => {
-                tell_stuck(alloc, mail, errors);
-                all_done = false;
-            }
-        }
-    }
-    if all_done { Ok(()) } else { Err(STORE_FAILED) }
-}
-
-/// Removes the file of a mail that is done, or puts it aside if no desk will ever take it.
-fn settle_mail<T: Files>(
-    rt: &T,
-    alloc: Global,
-    folder: &str,
-    mail: &Mail,
-    verdict: Verdict,
-) -> io::Result<()> {
-    let Some(path) = path_of(alloc, folder, &mail.name)? else {
-        return Ok(());
-    };
-    match verdict {
-        Verdict::Done(_) => fs::remove_file(rt, path.as_str()),
-        Verdict::Aside(unfit) => put_aside(rt, alloc, folder, path.as_str(), mail, unfit),
-        Verdict::Left(_) => Ok(()),
-    }
-}
-
-/// Puts a mail aside, under the digest of the bytes that were read of it, with a file beside it that tells why.
-fn put_aside<T: Files>(
-    rt: &T,
-    alloc: Global,
-    folder: &str,
-    path: &str,
-    mail: &Mail,
-    unfit: Unfit,
-) -> io::Result<()> {
-    let digest = digest(alloc, mail)?;
-    let aside = format!(in alloc; "{folder}/{ASIDE}")?;
-    make_folder(rt, aside.as_str())?;
-    let place = format!(in alloc; "{aside}/{digest}")?;
-    let why = format!(in alloc; "{place}{WHY}")?;
-    write_why(rt, alloc, why.as_str(), unfit)?;
-    fs::rename(rt, path, place.as_str())
-}
-
-/// The digest of the bytes that were read of a mail, in hexadecimal.
-fn digest(alloc: Global, mail: &Mail) -> io::Result<String> {
-    let mut hasher = Sha256::new();
-    if let Some(bytes) = &mail.bytes {
-        hasher.update(bytes.as_slice());
-    }
-    Ok(hex::encode(alloc, hasher.finalize())?)
-}
-
-/// Makes a folder that its owner alone may read, if none is there. A link to one is none.
-fn make_folder<T: Files>(rt: &T, path: &str) -> io::Result<()> {
-    match fs::symlink_metadata(rt, path) {
-        Ok(found) if found.is_dir() => Ok(()),
-        Ok(_) => Err(ErrorKind::AlreadyExists.into()),
-        Err(_) => fs::DirBuilder::new().mode(0o700).create(rt, path),
-    }
-}
-
-/// Writes the file that tells why a mail was put aside. One that is there is replaced, and no link is followed.
-fn write_why<T: Files>(rt: &T, alloc: Global, path: &str, unfit: Unfit) -> io::Result<()> {
-    let mut line = Vec::new(alloc);
-    push_unfit(&mut line, unfit)?;
-    line.push(b'\n')?;
-    let _ = fs::remove_file(rt, path);
-    let mut options = OpenOptions::new();
-    options.write(true);
-    options.create_new(true);
-    options.mode(0o600);
-    options.open(rt, path)?.write_all(&line)
-}
-
-/// Tells of a mail whose file could not be removed or put aside.
-fn tell_stuck<E: Write>(alloc: Global, mail: &Mail, errors: &mut E) {
-    let mut line = Vec::new(alloc);
-    if push_stuck(&mut line, &mail.name).is_ok() {
-        let _ = errors.write_all(&line);
-    }
-}
-
-/// Adds the line of a mail whose file could not be removed or put aside.
-fn push_stuck(line: &mut Vec<u8>, name: &[u8]) -> io::Result<()> {
-    line.extend_from_slice(b"ill: ")?;
-    push_escaped(line, name)?;
-    line.extend_from_slice(b" is not removed\n")?;
-    Ok(())
 }

@@ -1,13 +1,15 @@
 //! What the words of a command line ask for, read before any file is opened.
 
-ghost use Rattle.std.specs.Prelude.{◌≡◌, true, map};
+ghost use Rattle.std.specs.Prelude.{◌≡◌, true, map, option_map};
 ghost use Rattle.clap.specs.Words.{found_of, rows_of, subcommand_rows_of};
 ghost use Rattle.ill_tool.specs.declared.request.Refusal.TheVariants.{Usage, Fault};
 ghost use Rattle.ill_tool.specs.declared.fault.ToolFault.TheVariants.{OutOfMemory};
 ghost use Rattle.ill_tool.specs.declared.command_line.Name.TheVariants as names;
-ghost use Rattle.ill_tool.specs.Asked.{Gives, IsRefusal, asked_by, asked_in, asked_of, text_of, texts_of, role_of, loan_of, day_in, state_in, number_of_message, is_set, which_of, form_of, wanted_of, report_day_of, asked};
+ghost use Rattle.ill_tool.specs.Asked.{Gives, IsRefusal, asked_by, asked_in, asked_of, text_of, texts_of, role_of, loan_of, day_in, state_in, number_of_message, dates_of, outlet_of, is_set, which_of, form_of, wanted_of, report_day_of, asked};
 
 use crate::command_line::{Argument, Name, command};
+use crate::dates::Dates;
+use crate::exchange::Night;
 use crate::fault::ToolFault;
 use crate::form::Form;
 use crate::list::{Wanted, Which};
@@ -72,6 +74,18 @@ pub enum Request<'a> {
         file: &'a str,
         /// The path of the folder.
         folder: &'a str,
+    },
+    /// Send the messages of the loans that want it: `ill outbox`.
+    Outbox {
+        /// The path of the file.
+        file: &'a str,
+        /// The path of the folder, or none if they are written to the output.
+        folder: Option<&'a str>,
+    },
+    /// Exchange the mail of a desk: `ill exchange`.
+    Exchange {
+        /// What is to be done.
+        night: Night<'a>,
     },
     /// Give the bytes of a message: `ill send`.
     Send {
@@ -195,6 +209,8 @@ fn requested<'a>(
         Name::Act => act_request(alloc, matches),
         Name::Take => take_request(alloc, matches),
         Name::Inbox => inbox_request(alloc, matches),
+        Name::Outbox => outbox_request(alloc, matches),
+        Name::Exchange => exchange_request(alloc, matches),
         Name::Send => send_request(alloc, matches),
         Name::List => list_request(alloc, matches),
         Name::Status => status_request(alloc, matches),
@@ -256,6 +272,75 @@ fn inbox_request<'a>(alloc: Global, matches: &ArgMatches<'a>) -> Result<Request<
     let file = text(alloc, matches, Argument::File)?;
     let folder = text(alloc, matches, Argument::Folder)?;
     Ok(Request::Inbox { file, folder })
+}
+
+/// The request of `ill outbox`.
+fn outbox_request<'a>(alloc: Global, matches: &ArgMatches<'a>) -> Result<Request<'a>, Refusal>
+    ensures { Gives asked (asked_of names.Outbox (rows_of (found_of matches.now))) result }
+{
+    let file = text(alloc, matches, Argument::File)?;
+    let folder = outlet(matches)?;
+    Ok(Request::Outbox { file, folder })
+}
+
+/// Where an outbox sends: into a folder, or to the output. One of both is said.
+fn outlet<'a>(matches: &ArgMatches<'a>) -> Result<Option<&'a str>, Refusal>
+    ensures { Gives (λ folder. option_map (λ text. text.now) folder) (outlet_of (rows_of (found_of matches.now))) result }
+{
+    let folder = said(matches, Argument::OutFolder);
+    match (is_set(matches, Argument::Stream), folder) {
+        (false, Some(folder)) => Ok(Some(folder)),
+        (true, None) => Ok(None),
+        (false, None) | (true, Some(_)) => Err(Refusal::Fault(ToolFault::Arguments)),
+    }
+}
+
+/// The text of an argument that may be left out.
+fn said<'a>(matches: &ArgMatches<'a>, argument: Argument) -> Option<&'a str>
+    ensures { option_map (λ text. text.now) result ≡ text_of argument (rows_of (found_of matches.now)) }
+{
+    match matches.get_str(argument.id()) {
+        Some(text) => Some(text),
+        None => None,
+    }
+}
+
+/// The request of `ill exchange`.
+fn exchange_request<'a>(alloc: Global, matches: &ArgMatches<'a>) -> Result<Request<'a>, Refusal>
+    ensures { Gives asked (asked_of names.Exchange (rows_of (found_of matches.now))) result }
+{
+    let file = text(alloc, matches, Argument::File)?;
+    let incoming = text(alloc, matches, Argument::In)?;
+    let outgoing = text(alloc, matches, Argument::Out)?;
+    let dates = dates(matches)?;
+    let copy = said(matches, Argument::Copy);
+    let beat = said(matches, Argument::Beat);
+    Ok(Request::Exchange {
+        night: Night {
+            file,
+            incoming,
+            outgoing,
+            dates,
+            copy,
+            beat,
+        },
+    })
+}
+
+/// The day of a night and what is said of it, if something is: then the day is there.
+fn dates(matches: &ArgMatches<'_>) -> Result<Option<(Day, Dates)>, Refusal>
+    ensures { Gives (λ dates. dates) (dates_of (rows_of (found_of matches.now))) result }
+{
+    let today = day(matches, Argument::NightDay)?;
+    let overdue = is_set(matches, Argument::Overdue);
+    let expire = is_set(matches, Argument::Expire);
+    if !overdue && !expire {
+        return Ok(None);
+    }
+    match today {
+        Some(today) => Ok(Some((today, Dates { overdue, expire }))),
+        None => Err(Refusal::Fault(ToolFault::Arguments)),
+    }
 }
 
 /// The request of `ill send`.

@@ -1,7 +1,7 @@
 //! The line of how a side stands, alone or with what a message was and said.
 
 ghost use Rattle.std.specs.Prelude.{◌≡◌, ◌++◌, true, OnOk};
-ghost use Rattle.ill_tool.specs.Telling.{as_told, held_text, is_fine, long, side_line, wording, Tells};
+ghost use Rattle.ill_tool.specs.Telling.{as_told, done_line, held_text, is_fine, long, side_line, wording, Tells};
 
 use crate::fault::ToolFault;
 use crate::keeper::Keeper;
@@ -97,6 +97,18 @@ fn push_long<K: Keeper, const SAVED: bool>(
     push_heading(lines, apdu)?;
     push_line::<K, SAVED>(lines, outcome, keeper, key)?;
     push_said(lines, apdu)
+}
+
+/// Adds the line of a side that has done something, with how it stands once that is saved.
+pub(crate) fn push_done_line<K: Keeper>(
+    line: &mut Vec<u8>,
+    keeper: &K,
+    key: &K::Key,
+) -> Result<(), OutOfMemory>
+    ensures { OnOk result (line.new.items ≡ line.old.items
+        ++ done_line (as_told true (K.keeping.side_for key.now (K.live keeper.now)))) }
+{
+    push_line::<K, true>(line, DeskOutcome::Plain(Outcome::Done), keeper, key)
 }
 
 /// Adds the line of an outcome and of how the side stands after it, now or once it is saved.

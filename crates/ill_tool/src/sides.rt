@@ -1,9 +1,12 @@
 //! The sides of a desk as a list.
 
-ghost use Rattle.std.specs.Prelude.{◌≡◌, ◌++◌, map, slice_get, IfOk, OnOk};
+ghost use Rattle.std.specs.Prelude.{◌≡◌, ◌++◌, true, map, slice_get, IfOk, OnOk};
 ghost use Rattle.std.specs.Option.{option_to_list};
+ghost use Rattle.ill_saved.specs.Sides.{are_apart};
+ghost use Rattle.ill_saved.specs.Many.{sides_held};
+ghost use Rattle.ill_tool.specs.Outbox.{held_of};
 
-use ill_saved::{Side, Sides};
+use ill_saved::{Desk, Side, Sides, Store};
 use ill_values::OutOfMemory;
 use std::alloc::Global;
 
@@ -25,6 +28,44 @@ fn push_at<'a>(all: &mut Vec<&'a Side>, sides: &'a Sides, place: usize) -> Resul
 {
     if let Some(side) = sides.at(place) {
         all.push(side)?;
+    }
+    Ok(())
+}
+
+/// A side of a desk, with how many of its messages were saved.
+#[derive(Clone, Copy)]
+pub(crate) struct HeldSide<'a> {
+    pub(crate) side: &'a Side,
+    pub(crate) released: u8,
+}
+
+/// All sides of a desk, in the order in which they were begun, each with how many of its messages were saved.
+pub(crate) fn all_held<'a, S: Store>(
+    alloc: Global,
+    desk: &'a Desk<S>,
+) -> Result<Vec<HeldSide<'a>>, OutOfMemory>
+    ensures { IfOk result (λ all. map held_of all.items ≡ desk.now.live.held) }
+{
+    let mut all = Vec::new(alloc);
+    for place in 0..desk.sides().len() {
+        push_held_at(&mut all, desk, place)?;
+    }
+    Ok(all)
+}
+
+/// Adds the side at this place of a desk, if there is one.
+fn push_held_at<'a, S: Store>(
+    all: &mut Vec<HeldSide<'a>>,
+    desk: &'a Desk<S>,
+    place: usize,
+) -> Result<(), OutOfMemory>
+    requires apart { are_apart (sides_held desk.now.live).sides ≡ true }
+    ensures { OnOk result (map held_of all.new.items
+        ≡ map held_of all.old.items ++ option_to_list (slice_get desk.now.live.held place)) }
+{
+    if let Some(side) = desk.sides().at(place) {
+        let released = desk.released(side.txn());
+        all.push(HeldSide { side, released })?;
     }
     Ok(())
 }

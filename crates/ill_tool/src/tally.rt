@@ -102,15 +102,21 @@ impl Tally {
         }
     }
 
-    /// Answers if nothing wants a person, or that mails wait for the next run: on the heap of those that stay, or
-    /// further ones.
+    /// Answers if nothing wants a person, or that mails wait for the next run.
     pub(crate) fn ending(&self, waiting: usize) -> Result<bool, ToolFault>
         ensures { result ≡ ending self.now waiting }
     {
-        if self.left > 0 || waiting > 0 {
+        if self.is_waiting(waiting) {
             return Err(ToolFault::Left);
         }
         Ok(!(self.conflict > 0 || self.aside > 0))
+    }
+
+    /// Tells if mails wait for the next run: on the heap of those that stay, or further ones.
+    pub(crate) fn is_waiting(&self, waiting: usize) -> bool
+        ensures { result ≡ is_waiting self.now waiting }
+    {
+        self.left > 0 || waiting > 0
     }
 }
 

@@ -11,6 +11,8 @@ use ill_saved::Role;
 use ill_values::OutOfMemory;
 use ill_world::{DeskOutcome, Outcome};
 use itoa::Buffer;
+use sha2::{Digest, Sha256};
+use std::alloc::Global;
 
 /// A mail: a file of a folder, in which one message should be.
 #[derive(Drop)]
@@ -19,6 +21,17 @@ pub struct Mail {
     pub name: Vec<u8>,
     /// Its bytes, or its first ones if they are more than a message has. None if it cannot be read.
     pub bytes: Option<Vec<u8>>,
+}
+
+impl Mail {
+    /// The digest of the bytes that were read of it, in hexadecimal.
+    pub(crate) fn digest(&self, alloc: Global) -> Result<String, OutOfMemory> {
+        let mut hasher = Sha256::new();
+        if let Some(bytes) = &self.bytes {
+            hasher.update(bytes.as_slice());
+        }
+        Ok(hex::encode(alloc, hasher.finalize())?)
+    }
 }
 
 /// Why no desk will ever take a mail.

@@ -6,9 +6,10 @@ ghost use Rattle.ill_tool.specs.Commands.{Runs};
 ghost use Rattle.ill_tool.specs.ExitStatus.{IsFlushed, desk_status, exit_status, status_of};
 
 use crate::check::run_check;
+use crate::exchange::{exchange, inbox, outbox};
 use crate::explain::{Passed, Watched, explain, is_asked};
 use crate::fault::ToolFault;
-use crate::file::{act, all_well, inbox, list, loan, new, report, send, status, take, verify};
+use crate::file::{act, all_well, list, loan, new, report, send, status, take, verify};
 use crate::request::{Refusal, Request, read_words};
 use crate::show::run_show_as;
 use crate::simulate::{run_simulate, run_simulate_desks};
@@ -141,6 +142,8 @@ fn run<T: LockFiles, R: Read, W: Write, E: Write>(
             is_kept,
         } => take(rt, alloc, file, *is_long, *is_kept, reader, writer),
         Request::Inbox { file, folder } => inbox(rt, alloc, file, folder, writer, errors),
+        Request::Outbox { file, folder } => outbox(rt, alloc, file, *folder, writer, errors),
+        Request::Exchange { night } => exchange(rt, alloc, night, writer, errors),
         Request::Send { file, txn, number } => send(rt, alloc, file, txn, *number, writer),
         Request::List {
             paths,

@@ -88,7 +88,7 @@ fn begin_over(
 }
 
 /// Tells the bytes that have landed, if any have.
-fn tell_landed(
+pub fn tell_landed(
     alloc: Global,
     page: &mut Page,
     names: &Names,

@@ -52,7 +52,7 @@ enum Kind {
     Texts,
 }
 
-const KINDS: [(&str, Kind); 26] = [
+const KINDS: [(&str, Kind); 30] = [
     ("ill", Kind::Ill),
     ("watched", Kind::Watched),
     ("show", Kind::Engine(Engine::Show)),
@@ -75,6 +75,10 @@ const KINDS: [(&str, Kind); 26] = [
     ("act", Kind::On(MemoryCall::Act)),
     ("take", Kind::On(MemoryCall::Take)),
     ("inbox", Kind::On(MemoryCall::Inbox)),
+    ("outbox", Kind::On(MemoryCall::Outbox)),
+    ("stream", Kind::On(MemoryCall::Stream)),
+    ("dates", Kind::On(MemoryCall::Dates)),
+    ("copy", Kind::On(MemoryCall::Copy)),
     ("send", Kind::On(MemoryCall::Send)),
     ("status", Kind::On(MemoryCall::Status)),
     ("loan", Kind::On(MemoryCall::Loan)),

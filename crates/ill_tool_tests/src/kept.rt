@@ -1,15 +1,17 @@
 //! What a side and a desk of many transactions have in common: what is called on them, and what is seen of them.
 
+use crate::letters::Letters;
 use crate::page::Page;
 use crate::sink::Sink;
 use crate::source::Source;
 use crate::view::{View, tell_side};
 use crate::words::{Word, texts};
-use ill_saved::{Desk, Desk1, DeskFault, Store};
+use ill_saved::{Desk, Desk1, DeskFault, MemoryStore, Store};
 use ill_tool::{
-    Mail, ToolFault, Verdict, run_act, run_desk_act, run_desk_inbox, run_desk_kept_take,
-    run_desk_loan, run_desk_long_take, run_desk_send, run_desk_status, run_desk_take, run_loan,
-    run_long_take, run_send, run_status, run_take,
+    Dates, Mail, ToolFault, Verdict, run_act, run_desk_act, run_desk_copy, run_desk_dates,
+    run_desk_inbox, run_desk_kept_take, run_desk_loan, run_desk_long_take, run_desk_outbox,
+    run_desk_outbox_stream, run_desk_send, run_desk_status, run_desk_take, run_loan, run_long_take,
+    run_send, run_status, run_take,
 };
 use ill_values::{Day, Number, TxnId};
 use std::alloc::Global;
@@ -46,6 +48,33 @@ pub trait Kept {
         output: &mut Sink,
         came: &mut Sink,
     ) -> Option<Result<Vec<Verdict>, ToolFault>>;
+
+    /// Sends all messages that want it, if these bytes ask, by the engine, which only a desk has.
+    fn outbox(
+        &self,
+        alloc: Global,
+        asking: &[u8],
+        letters: &mut Letters,
+    ) -> Option<Result<usize, ToolFault>>;
+
+    /// Writes all messages that want sending, if these bytes ask, by the engine, which only a desk has.
+    fn stream(
+        &self,
+        alloc: Global,
+        asking: &[u8],
+        output: &mut Sink,
+    ) -> Option<Result<(), ToolFault>>;
+
+    /// Performs the deeds that a day asks for, by the engine, which only a desk has.
+    fn dates(
+        &mut self,
+        alloc: Global,
+        words: &[Word],
+        output: &mut Sink,
+    ) -> Option<Result<(), ToolFault>>;
+
+    /// Copies all sides to another store, by the engine, which only a desk has.
+    fn copy(&self, alloc: Global, copy: &mut MemoryStore) -> Option<Result<(), ToolFault>>;
 
     /// Gives the message that the words say, by the engine.
     fn send(
@@ -113,6 +142,37 @@ impl<S: Store> Kept for Desk1<S> {
         _output: &mut Sink,
         _came: &mut Sink,
     ) -> Option<Result<Vec<Verdict>, ToolFault>> {
+        None
+    }
+
+    fn outbox(
+        &self,
+        _alloc: Global,
+        _asking: &[u8],
+        _letters: &mut Letters,
+    ) -> Option<Result<usize, ToolFault>> {
+        None
+    }
+
+    fn stream(
+        &self,
+        _alloc: Global,
+        _asking: &[u8],
+        _output: &mut Sink,
+    ) -> Option<Result<(), ToolFault>> {
+        None
+    }
+
+    fn dates(
+        &mut self,
+        _alloc: Global,
+        _words: &[Word],
+        _output: &mut Sink,
+    ) -> Option<Result<(), ToolFault>> {
+        None
+    }
+
+    fn copy(&self, _alloc: Global, _copy: &mut MemoryStore) -> Option<Result<(), ToolFault>> {
         None
     }
 
@@ -196,6 +256,44 @@ impl<S: Store> Kept for Desk<S> {
         came: &mut Sink,
     ) -> Option<Result<Vec<Verdict>, ToolFault>> {
         Some(run_desk_inbox(alloc, self, mails, WAITING, came, output))
+    }
+
+    fn outbox(
+        &self,
+        alloc: Global,
+        asking: &[u8],
+        letters: &mut Letters,
+    ) -> Option<Result<usize, ToolFault>> {
+        Some(run_desk_outbox(alloc, self, asking, letters))
+    }
+
+    fn stream(
+        &self,
+        alloc: Global,
+        asking: &[u8],
+        output: &mut Sink,
+    ) -> Option<Result<(), ToolFault>> {
+        Some(run_desk_outbox_stream(alloc, self, asking, output))
+    }
+
+    /// `DAY [overdue] [expire]`
+    fn dates(
+        &mut self,
+        alloc: Global,
+        words: &[Word],
+        output: &mut Sink,
+    ) -> Option<Result<(), ToolFault>> {
+        let (day, wanted) = words.split_first()?;
+        let today = Day::read(day.text.as_bytes()).ok()?;
+        let which = Dates {
+            overdue: has(wanted, "overdue"),
+            expire: has(wanted, "expire"),
+        };
+        Some(run_desk_dates(alloc, self, today, which, output))
+    }
+
+    fn copy(&self, alloc: Global, copy: &mut MemoryStore) -> Option<Result<(), ToolFault>> {
+        Some(run_desk_copy(alloc, self, copy))
     }
 
     fn send(

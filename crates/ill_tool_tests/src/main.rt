@@ -22,6 +22,7 @@ mod engines;
 mod failure;
 mod folder;
 mod kept;
+mod letters;
 mod limited;
 mod mails;
 mod memory;

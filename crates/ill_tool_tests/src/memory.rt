@@ -3,8 +3,10 @@
 ghost use Rattle.std.specs.Prelude.{◌≡◌, IfSome};
 ghost use Rattle.ill_saved.specs.Side.{idle_of};
 
+use crate::beginning::tell_landed;
 use crate::call::Call;
 use crate::kept::Kept;
+use crate::letters::Letters;
 use crate::limited::LimitedStore;
 use crate::mails::mails_of;
 use crate::names::Names;
@@ -12,7 +14,7 @@ use crate::page::Page;
 use crate::telling::begin;
 use crate::words::Word;
 use ill_core::{Requester, Responder};
-use ill_saved::{Desk, Desk1, MemoryStore, NextCall, Role, Side};
+use ill_saved::{Desk, Desk1, MemoryStore, NextCall, Role, Side, Store};
 use ill_values::TxnId;
 use ill_world::words::who;
 use std::alloc::Global;
@@ -41,6 +43,10 @@ pub enum MemoryCall {
     Act,
     Take,
     Inbox,
+    Outbox,
+    Stream,
+    Dates,
+    Copy,
     Send,
     Status,
     Loan,
@@ -205,6 +211,17 @@ fn answer<K: Kept>(
             let answer = kept.inbox(alloc, &mails, &mut call.output, &mut call.errors)?;
             call.tell_answer(page, names, &answer);
         }
+        MemoryCall::Dates => {
+            let answer = kept.dates(alloc, call.words, &mut call.output)?;
+            call.tell_answer(page, names, &answer);
+        }
+        MemoryCall::Outbox => return outbox(alloc, page, names, kept, call),
+        MemoryCall::Stream => {
+            let asking = names.bytes(call.words)?;
+            let answer = kept.stream(alloc, &asking, &mut call.output)?;
+            call.tell_answer(page, names, &answer);
+        }
+        MemoryCall::Copy => return copy(alloc, page, names, kept, call),
         MemoryCall::Send => {
             let answer = kept.send(alloc, call.words, &mut call.output)?;
             call.tell_answer(page, names, &answer);
@@ -219,4 +236,51 @@ fn answer<K: Kept>(
         }
     }
     Some(())
+}
+
+/// `[lasting N] ASKING`: all messages leave that want sending, with room for so many, and are told; then the answer.
+fn outbox<K: Kept>(
+    alloc: Global,
+    page: &mut Page,
+    names: &Names,
+    kept: &K,
+    call: &mut Call<'_>,
+) -> Option<()> {
+    let (room, asking) = match call.words {
+        [word, room, asking @ ..] if word.is("lasting") => {
+            (room.text.parse::<usize>().ok()?, asking)
+        }
+        asking => (usize::MAX, asking),
+    };
+    let mut letters = Letters::new(alloc, room);
+    let answer = kept.outbox(alloc, &names.bytes(asking)?, &mut letters)?;
+    letters.tell(page, names);
+    call.tell_answer(page, names, &answer);
+    Some(())
+}
+
+/// `PLAN [BYTES]`: all is copied to a store in memory whose call is planned, and its answer is told; then what has landed
+/// there. The bytes have landed before.
+fn copy<K: Kept>(
+    alloc: Global,
+    page: &mut Page,
+    names: &Names,
+    kept: &K,
+    call: &mut Call<'_>,
+) -> Option<()> {
+    let (plan, before) = call.words.split_first()?;
+    let mut store = store_with(alloc, names, plan, before)?;
+    let answer = kept.copy(alloc, &mut store)?;
+    call.tell_answer(page, names, &answer);
+    tell_landed(alloc, page, names, &mut store)
+}
+
+/// A store in memory where these bytes have landed, if there are any, whose next call is planned.
+fn store_with(alloc: Global, names: &Names, plan: &Word, before: &[Word]) -> Option<MemoryStore> {
+    let mut store = MemoryStore::new(alloc);
+    if !before.is_empty() {
+        store.save(alloc, &names.bytes(before)?).ok()?;
+    }
+    store.set_next(next_call(plan)?);
+    Some(store)
 }

@@ -25,9 +25,31 @@ pub fn tell_arguments<T: LockFiles>(
         }
     }
     if text.is_empty() {
-        tell_action(rt, alloc, text, matches)?;
+        tell_together(rt, alloc, text, name, matches)?;
     }
     Ok(())
+}
+
+/// Adds what is wrong in arguments of which each is right alone.
+fn tell_together<T: LockFiles>(
+    rt: &T,
+    alloc: Global,
+    text: &mut String,
+    name: Name,
+    matches: &ArgMatches<'_>,
+) -> Result<(), OutOfMemory> {
+    match name {
+        Name::Act => tell_action(rt, alloc, text, matches),
+        Name::Outbox => writeln!(
+            text,
+            "  Say where the messages go: a folder, or --stream, and not both."
+        ),
+        Name::Exchange => writeln!(
+            text,
+            "  --overdue and --expire want the day: `--today 20250301`."
+        ),
+        _ => Ok(()),
+    }
 }
 
 /// Adds a line on an argument, if it is none.
@@ -41,9 +63,11 @@ fn tell_argument(
         Argument::Role => tell_role(text, word),
         Argument::Group => tell_qualifier(alloc, text, "group", word),
         Argument::Transaction => tell_qualifier(alloc, text, "transaction", word),
-        Argument::Today | Argument::OnDay | Argument::DueBefore | Argument::ReportDay => {
-            tell_day(text, word)
-        }
+        Argument::Today
+        | Argument::OnDay
+        | Argument::DueBefore
+        | Argument::ReportDay
+        | Argument::NightDay => tell_day(text, word),
         Argument::InState => tell_state(alloc, text, word),
         Argument::Number => tell_number(text, word),
         _ => Ok(()),

@@ -6,7 +6,7 @@ use crate::explain::shown::Shown;
 use crate::file::open;
 use crate::folder::desk_paths;
 use clap::ArgMatches;
-use ill_saved::{DeskFault, LockFiles, RecordFault, StoreFault};
+use ill_saved::{DeskFault, LockFiles, RECORD_LIMIT, RecordFault, StoreFault};
 use ill_values::OutOfMemory;
 use std::alloc::Global;
 use std::fs;
@@ -43,10 +43,19 @@ pub fn tell_desk_fault<T: LockFiles>(
             "  {shown} is there already: a new desk wants a new file."
         ),
         DeskFault::NoRecord => tell_absent(rt, text, path),
-        DeskFault::Store(StoreFault::Failed) => tell_failed(rt, alloc, text, path),
-        DeskFault::Store(StoreFault::TooLarge) => {
-            writeln!(text, "  {shown} has more bytes than the record of a desk.")
+        DeskFault::Store(StoreFault::Failed)
+            if has_mails(matches) && !is_at_work(rt, alloc, path) && is_open(rt, alloc, path) => {
+            writeln!(
+                text,
+                "  The line before tells which file or folder it is. Without one {shown} is not saved: look at"
+            )?;
+            writeln!(
+                text,
+                "  the permissions of its folder, and at the room on the disk."
+            )
         }
+        DeskFault::Store(StoreFault::Failed) => tell_failed(rt, alloc, text, path),
+        DeskFault::Store(StoreFault::TooLarge) => tell_too_large(rt, alloc, text, path),
         DeskFault::Saved(fault) => tell_no_record(text, path, fault),
         DeskFault::NoSuchTransaction => {
             writeln!(
@@ -62,6 +71,24 @@ pub fn tell_desk_fault<T: LockFiles>(
         }
         _ => Ok(()),
     }
+}
+
+/// Tells if a command has a folder of mails: of that it tells itself what is wrong.
+fn has_mails(matches: &ArgMatches<'_>) -> bool {
+    matches.get_str(Argument::Folder.id()).is_some() || matches.get_str(Argument::In.id()).is_some()
+}
+
+/// Tells if another command is at work on a file.
+fn is_at_work<T: LockFiles>(rt: &T, alloc: Global, path: &str) -> bool {
+    match format!(in alloc; "{path}{LOCK}") {
+        Ok(lock) => is_held(rt, lock.as_str()),
+        Err(_) => false,
+    }
+}
+
+/// Tells if the desk in a file can be opened.
+fn is_open<T: LockFiles>(rt: &T, alloc: Global, path: &str) -> bool {
+    open(rt, alloc, path).is_ok()
 }
 
 /// The path of the first desk that is not opened, or of the first folder that is not read, of a command that takes
@@ -82,6 +109,26 @@ fn failed_at<T: LockFiles>(rt: &T, alloc: Global, path: &str) -> Option<String> 
             .into_iter()
             .find(|file| open(rt, alloc, file.as_str()).is_err()),
         Err(_) => String::from_str(alloc, path).ok(),
+    }
+}
+
+/// Adds which file has too many bytes: that of the desk, or that of what came.
+fn tell_too_large<T: LockFiles>(
+    rt: &T,
+    alloc: Global,
+    text: &mut String,
+    path: &str,
+) -> Result<(), OutOfMemory> {
+    let came = format!(in alloc; "{path}{CAME}")?;
+    match fs::symlink_metadata(rt, came.as_str()) {
+        Ok(found) if found.len() > u64::from(RECORD_LIMIT) => {
+            let shown = Shown::of(came.as_str());
+            writeln!(text, "  {shown} has grown too long: put it away.")
+        }
+        _ => {
+            let shown = Shown::of(path);
+            writeln!(text, "  {shown} has more bytes than the record of a desk.")
+        }
     }
 }
 

@@ -1,0 +1,20 @@
+-- The deeds that a day asks for, loan after loan.
+use Rattle.std.proofs.Common.{◌≡◌, ℕ, zero, suc, ◌++◌, List, [], ◌∷◌, drop, Option, Some, None, refl}
+use Rattle.std.specs.Prelude.{slice_get}
+use Rattle.std.specs.Option.{option_to_list}
+use Rattle.std.specs.List.{cons_option, filter_map}
+use Rattle.ill_values.specs.Day.{Date}
+use Rattle.ill_saved.specs.declared.side.Side.{Side}
+use Rattle.ill_tool.specs.declared.dates.Dates.{Dates}
+use Rattle.ill_tool.specs.Dates.{all_due, due_at, due_in}
+
+one_before : {X : Type 0} (found : Option X) (more : List X) → cons_option found more ≡ option_to_list found ++ more
+one_before (Some item) more = refl
+one_before None more = refl
+
+-- The deeds of the loans from a place on are that of the one there, and those of the others.
+pub one_further : (which : Dates) (today : Date) (sides : List Side) (place : ℕ) → all_due which today (drop place sides) ≡ option_to_list (due_at which today (slice_get sides place)) ++ all_due which today (drop (suc place) sides)
+one_further which today [] zero = refl
+one_further which today [] (suc place) = refl
+one_further which today (side ∷ sides) zero = one_before (due_in which today side) (filter_map (due_in which today) sides)
+one_further which today (side ∷ sides) (suc place) = one_further which today sides place

@@ -1,0 +1,9 @@
+use Rattle.std.proofs.Common.{◌≡◌, ◌++◌, map, drop}
+use Rattle.ill_tool.specs.Outbox.{held_of, issue_of, leaving_desk}
+use Rattle.ill_tool.proofs.outbox.leaving_sides.Given as goal
+
+-- with those of the sides that are left, all messages are there
+abbrev pub invariant-loop-held : goal.invariant-loop-held
+invariant-loop-held l = record {
+  there : map issue_of l.leaving.items ++ leaving_desk l.asking (map held_of (drop l.held-index l.sides)) ≡ leaving_desk l.asking (map held_of l.sides);
+}

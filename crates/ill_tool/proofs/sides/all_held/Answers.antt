@@ -1,0 +1,16 @@
+use Rattle.std.proofs.Common.{◌≡◌, ◌+◌, ◌++◌, map, drop, ap, ◌∙◌, append_assoc, add-one}
+use Rattle.std.specs.Prelude.{slice_get}
+use Rattle.std.specs.Option.{option_to_list}
+use Rattle.ill_tool.specs.Outbox.{held_of}
+use Rattle.ill_tool.proofs.SidesLemmas.{one_item}
+use Rattle.ill_tool.proofs.sides.all_held.Goals as goal
+
+pub loop-place-preserved : goal.loop-place-preserved
+loop-place-preserved g c =
+    let held = c.args.desk.now.live.held in
+    let place = c.loop-place.place in
+    let so_far = map held_of c.loop-place.all.items in
+    let here = option_to_list (slice_get held place) in
+    let left = drop (place + 1) held in
+    let further : here ++ left ≡ drop place held = ap (λ n. here ++ drop n held) (add-one place) ∙ one_item held place in
+    record { all = ap (λ items. items ++ left) c.in_ok-push_held_at.ensures ∙ append_assoc so_far here left ∙ ap (λ items. so_far ++ items) further ∙ c.loop-place.invariant.all }

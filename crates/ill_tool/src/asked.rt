@@ -1,0 +1,91 @@
+//! Who asks: the messages that came in a night for loans that are over.
+
+ghost use Rattle.std.specs.Prelude.{◌≡◌, ◌++◌, Ok, slice_get, IfOk, OnOk};
+ghost use Rattle.std.specs.List.{zip};
+ghost use Rattle.ill_saved.specs.Sides.{side_with};
+ghost use Rattle.ill_tool.specs.Outbox.{asked_by, asks, asks_at, asks_of, is_held_over};
+ghost use Rattle.ill_tool.specs.Inbox.{message_in};
+
+use crate::inbox::message_in;
+use crate::verdict::{Mail, Verdict};
+use ill_saved::{Desk, Sides, Store};
+use ill_values::{OutOfMemory, TxnId};
+use ill_world::is_over;
+use std::alloc::Global;
+
+/// The messages of mails, one behind another, that came for loans that are over, and with which the desk has done. A
+/// responder answers them in the next outbox.
+pub fn asked_by<S: Store>(
+    alloc: Global,
+    desk: &Desk<S>,
+    mails: &[Mail],
+    verdicts: &[Verdict],
+) -> Result<Vec<u8>, OutOfMemory>
+    ensures { IfOk result (λ asked. asked.items ≡ asked_by desk.now.live (zip mails.now verdicts.now)) }
+{
+    let mut asked = Vec::new(alloc);
+    for place in 0..mails.len() {
+        push_asking_at(&mut asked, desk, mails, verdicts, place)?;
+    }
+    Ok(asked)
+}
+
+/// Adds the message of the mail at a place, if one is there and asks.
+fn push_asking_at<S: Store>(
+    asked: &mut Vec<u8>,
+    desk: &Desk<S>,
+    mails: &[Mail],
+    verdicts: &[Verdict],
+    place: usize,
+) -> Result<(), OutOfMemory>
+    ensures { OnOk result (asked.new.items ≡ asked.old.items
+        ++ asks_at desk.now.live (slice_get mails.now place) (slice_get verdicts.now place)) }
+{
+    match (mails.get(place), verdicts.get(place)) {
+        (Some(mail), Some(verdict)) => push_asking(asked, desk, mail, *verdict),
+        _ => Ok(()),
+    }
+}
+
+/// Adds the message of a mail, if it asks.
+fn push_asking<S: Store>(
+    asked: &mut Vec<u8>,
+    desk: &Desk<S>,
+    mail: &Mail,
+    verdict: Verdict,
+) -> Result<(), OutOfMemory>
+    ensures { OnOk result (asked.new.items ≡ asked.old.items ++ asks_of desk.now.live mail.now verdict) }
+{
+    match (&mail.bytes, verdict) {
+        (Some(bytes), Verdict::Done(_)) => push_asking_bytes(asked, desk, bytes),
+        _ => Ok(()),
+    }
+}
+
+/// Adds bytes, if they are a message that asks.
+fn push_asking_bytes<S: Store>(
+    asked: &mut Vec<u8>,
+    desk: &Desk<S>,
+    bytes: &[u8],
+) -> Result<(), OutOfMemory>
+    ensures { OnOk result (asked.new.items ≡ asked.old.items ++ asks desk.now.live bytes.now (message_in bytes.now)) }
+{
+    let alloc = *asked.allocator();
+    if let Ok(read) = message_in(bytes) {
+        let apdu = read.to_apdu(alloc)?;
+        if is_held_over(desk.sides(), &apdu.txn) {
+            asked.extend_from_slice(bytes)?;
+        }
+    }
+    Ok(())
+}
+
+/// Tells if the loan of a transaction is among these, and is over.
+fn is_held_over(sides: &Sides, txn: &TxnId) -> bool
+    ensures { result ≡ is_held_over (side_with txn.now sides.now.sides) }
+{
+    match sides.get(txn) {
+        Some(side) => is_over(side),
+        None => false,
+    }
+}

@@ -1,0 +1,257 @@
+//! The deeds that a day asks a responder for: it tells of overdue loans, and ends requests whose last day is past.
+
+ghost use Rattle.std.specs.Prelude.{◌≡◌, ◌++◌, map, slice_get, IfErr, IfOk, OnOk};
+ghost use Rattle.std.specs.Option.{option_to_list};
+ghost use Rattle.ill_tool.specs.declared.fault.ToolFault.TheVariants.{OutOfMemory};
+ghost use Rattle.ill_tool.specs.Performing.{CountsToolFailure, SavesOnce, many_view, view_of};
+ghost use Rattle.ill_tool.specs.Dates.{RunsDates, RunsDeeds, after_deed, after_deeds, all_due, deed_at, deed_by_date, deed_line, deed_lines, doing, due_at, due_in, is_overdue, may_expire};
+
+use crate::fault::ToolFault;
+use crate::keeper::Keeper;
+use crate::long_lines::push_word;
+use crate::output::write_and_flush;
+use crate::side_line::push_done_line;
+use crate::waiting::is_sooner;
+use ill_core::{Deed, State};
+use ill_saved::{Action, Desk, DeskFault, Role, Side, Sides, Store};
+use ill_values::{Day, OutOfMemory as NoMemory, TxnId};
+use std::alloc::Global;
+use std::io::Write;
+
+/// Which deeds a day asks for.
+#[derive(Clone, Copy, Debug, PartialEq, Eq, Hash)]
+pub struct Dates {
+    /// A responder tells of the loans that are overdue.
+    pub overdue: bool,
+    /// A responder ends the requests whose last day is past.
+    pub expire: bool,
+}
+
+/// A deed that a day asks for, and the transaction in which it does.
+#[derive(Drop)]
+pub(crate) struct Due {
+    pub txn: TxnId,
+    pub deed: Deed,
+}
+
+/// Performs the deeds that a day asks for at a desk, in the order in which the loans were begun, and then saves the desk
+/// once, if any was done. Then it writes a line for each that was done, and flushes that: `GROUP TRANSACTION VERB done
+/// STATE DUE RELEASED/ISSUED`. A deed that is refused changes nothing, and is not told. At the desk of a requester
+/// nothing is done.
+///
+/// At every fault what has landed is what had landed before, or all that the deeds change; and unless the writer failed,
+/// nothing was written.
+pub fn run_desk_dates<S: Store, W: Write>(
+    alloc: Global,
+    desk: &mut Desk<S>,
+    today: Day,
+    which: Dates,
+    writer: &mut W,
+) -> Result<(), ToolFault>
+    ensures runs { RunsDates which today (W.contents writer.old) (W.contents writer.new)
+        (many_view S.is_honest S.landed desk.old) result
+        (many_view S.is_honest S.landed desk.new) }
+    ensures counted { CountsToolFailure result (S.failures desk.old.store) (S.failures desk.new.store) }
+{
+    match all_due(alloc, desk.sides(), today, which) {
+        Ok(dues) => run_deeds(alloc, desk, today, &dues, writer),
+        Err(_) => Err(ToolFault::OutOfMemory),
+    }
+}
+
+/// The deeds that a day asks for in all loans, in their order.
+fn all_due(alloc: Global, sides: &Sides, today: Day, which: Dates) -> Result<Vec<Due>, NoMemory>
+    ensures { IfOk result (λ dues. dues.items ≡ all_due which today sides.now.sides) }
+{
+    let mut dues = Vec::new(alloc);
+    for place in 0..sides.len() {
+        push_due_at(&mut dues, sides, place, today, which)?;
+    }
+    Ok(dues)
+}
+
+/// Adds the deed that a day asks for in the loan at this place, if there is one.
+fn push_due_at(
+    dues: &mut Vec<Due>,
+    sides: &Sides,
+    place: usize,
+    today: Day,
+    which: Dates,
+) -> Result<(), NoMemory>
+    ensures { OnOk result (dues.new.items ≡ dues.old.items
+        ++ option_to_list (due_at which today (slice_get sides.now.sides place))) }
+{
+    match sides.at(place) {
+        Some(side) => push_due(dues, side, today, which),
+        None => Ok(()),
+    }
+}
+
+/// Adds the deed that a day asks for in a loan, if it asks for one.
+fn push_due(dues: &mut Vec<Due>, side: &Side, today: Day, which: Dates) -> Result<(), NoMemory>
+    ensures { OnOk result (dues.new.items ≡ dues.old.items
+        ++ option_to_list (due_in which today side.now)) }
+{
+    if let Some(deed) = deed_by_date(which, today, side) {
+        let txn = side.txn().copy(*dues.allocator())?;
+        dues.push(Due { txn, deed })?;
+    }
+    Ok(())
+}
+
+/// The deed that a day asks for in a loan, if it asks for one. A requester has no deeds.
+fn deed_by_date(which: Dates, today: Day, side: &Side) -> Option<Deed>
+    ensures { result ≡ deed_by_date which today side.now }
+{
+    match side.role() {
+        Role::Requester => None,
+        Role::Responder => deed_at(which, today, side.state(), side.due()),
+    }
+}
+
+/// The deed that a day asks for in a loan of a responder, if it asks for one.
+fn deed_at(which: Dates, today: Day, state: State, due: Option<Day>) -> Option<Deed>
+    ensures { result ≡ deed_at which today state due }
+{
+    if which.overdue && is_overdue(today, state, due) {
+        return Some(Deed::Overdue);
+    }
+    if which.expire && may_expire(state) {
+        return Some(Deed::Expire);
+    }
+    None
+}
+
+/// Tells if the item is out, and its due date is before this day.
+fn is_overdue(today: Day, state: State, due: Option<Day>) -> bool
+    ensures { result ≡ is_overdue today state due }
+{
+    matches!(state, State::Shipped | State::RenewPending) && is_sooner(due, Some(today))
+}
+
+/// Tells if a request may still expire, if it has a last day.
+fn may_expire(state: State) -> bool
+    ensures { result ≡ may_expire state }
+{
+    matches!(state, State::InProcess | State::Conditional)
+}
+
+/// Performs deeds on a day, in their order, saves them at once, and tells of those that were done.
+fn run_deeds<K: Keeper<Key = TxnId>, W: Write>(
+    alloc: Global,
+    keeper: &mut K,
+    today: Day,
+    dues: &[Due],
+    writer: &mut W,
+) -> Result<(), ToolFault>
+    ensures runs { RunsDeeds K.keeping today dues.now (W.contents writer.old) (W.contents writer.new)
+        (view_of K.Kept.is_honest K.Kept.landed (K.live keeper.old) (K.store keeper.old)) result
+        (view_of K.Kept.is_honest K.Kept.landed (K.live keeper.new) (K.store keeper.new)) }
+    ensures counted { CountsToolFailure result (K.Kept.failures (K.store keeper.old))
+        (K.Kept.failures (K.store keeper.new)) }
+{
+    let done = match perform(alloc, keeper, today, dues) {
+        Ok(done) => done,
+        Err(fault) => return Err(fault),
+    };
+    let told = match deed_lines(alloc, keeper, &done) {
+        Ok(told) => told,
+        Err(_) => return Err(ToolFault::OutOfMemory),
+    };
+    if let Err(fault) = save_any(alloc, keeper, &done) {
+        return Err(fault);
+    }
+    match write_and_flush(writer, &told) {
+        Ok(()) => Ok(()),
+        Err(_) => Err(ToolFault::Write),
+    }
+}
+
+/// Performs deeds on a day, in their order, and answers those that were done.
+fn perform<'a, K: Keeper<Key = TxnId>>(
+    alloc: Global,
+    keeper: &mut K,
+    today: Day,
+    dues: &'a [Due],
+) -> Result<Vec<&'a Due>, ToolFault>
+    ensures performed { IfOk result (λ done. doing (K.live keeper.new) (map (λ due. due.now) done.items)
+        ≡ after_deeds K.keeping today (K.live keeper.old) dues.now) }
+    ensures fault { IfErr result (λ fault. fault ≡ OutOfMemory) }
+    ensures store { K.store keeper.new ≡ K.store keeper.old }
+{
+    let mut done = Vec::new(alloc);
+    for due in dues {
+        if let Err(fault) = perform_one(alloc, keeper, today, due, &mut done) {
+            return Err(fault);
+        }
+    }
+    Ok(done)
+}
+
+/// Performs a deed on a day, and adds it to those that were done, if it is not refused.
+fn perform_one<'a, K: Keeper<Key = TxnId>>(
+    alloc: Global,
+    keeper: &mut K,
+    today: Day,
+    due: &'a Due,
+    done: &mut Vec<&'a Due>,
+) -> Result<(), ToolFault>
+    ensures performed { OnOk result (doing (K.live keeper.new) (map (λ due. due.now) done.new.items)
+        ≡ after_deed K.keeping today (doing (K.live keeper.old) (map (λ due. due.now) done.old.items)) due.now) }
+    ensures fault { IfErr result (λ fault. fault ≡ OutOfMemory) }
+    ensures store { K.store keeper.new ≡ K.store keeper.old }
+{
+    match keeper.act(alloc, &due.txn, &Action::Deed(due.deed, today)) {
+        Ok(()) => Ok(done.push(due)?),
+        Err(DeskFault::OutOfMemory) => Err(ToolFault::OutOfMemory),
+        Err(_) => Ok(()),
+    }
+}
+
+/// Saves all sides at once, if a deed was done.
+fn save_any<K: Keeper>(alloc: Global, keeper: &mut K, done: &[&Due]) -> Result<(), ToolFault>
+    ensures saves { SavesOnce K.keeping (map (λ due. due.now) done.now)
+        (view_of K.Kept.is_honest K.Kept.landed (K.live keeper.old) (K.store keeper.old)) result
+        (view_of K.Kept.is_honest K.Kept.landed (K.live keeper.new) (K.store keeper.new)) }
+    ensures counted { CountsToolFailure result (K.Kept.failures (K.store keeper.old))
+        (K.Kept.failures (K.store keeper.new)) }
+{
+    if done.is_empty() {
+        return Ok(());
+    }
+    match keeper.save(alloc) {
+        Ok(()) => Ok(()),
+        Err(fault) => Err(fault.into()),
+    }
+}
+
+/// The lines of the deeds that were done, with how each loan stands once all is saved.
+fn deed_lines<K: Keeper<Key = TxnId>>(
+    alloc: Global,
+    keeper: &K,
+    done: &[&Due],
+) -> Result<Vec<u8>, NoMemory>
+    ensures { IfOk result (λ lines. lines.items
+        ≡ deed_lines K.keeping (K.live keeper.now) (map (λ due. due.now) done.now)) }
+{
+    let mut lines = Vec::new(alloc);
+    for due in done {
+        push_deed_line(&mut lines, keeper, due)?;
+    }
+    Ok(lines)
+}
+
+/// Adds the line of a deed that was done.
+fn push_deed_line<K: Keeper<Key = TxnId>>(
+    lines: &mut Vec<u8>,
+    keeper: &K,
+    due: &Due,
+) -> Result<(), NoMemory>
+    ensures { OnOk result (lines.new.items ≡ lines.old.items
+        ++ deed_line K.keeping (K.live keeper.now) due.now) }
+{
+    push_word(lines, due.txn.group())?;
+    push_word(lines, due.txn.transaction())?;
+    push_word(lines, due.deed.verb().name().as_bytes())?;
+    push_done_line(lines, keeper, &due.txn)
+}

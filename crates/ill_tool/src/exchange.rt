@@ -1,0 +1,511 @@
+//! The commands that exchange the messages of a desk by folders of mail: `inbox`, `outbox` and `exchange`. Each holds the
+//! lock of the desk's file from before the load to its end.
+
+ghost use Rattle.std.specs.Prelude.{◌≡◌, Ok, is_some, IfErr};
+ghost use Rattle.ill_tool.specs.Commands.{Departs, ExchangesAt, ExchangesAtFile, GoesOn, InboxAtFile, IsOpenFault, OutboxAtFile, SaysDates, SendsAll, SendsFrom, SendsOn, SendsTo, SettlesRun, TakesMails, ending_of, night_ending, taken_of};
+ghost use Rattle.ill_tool.specs.Inbox.{EndedWell, answered_with};
+ghost use Rattle.ill_tool.specs.Performing.{many_view};
+ghost use Rattle.ill_tool.specs.Outbox.{IsFileFault};
+
+use crate::asked::asked_by;
+use crate::came::{STORE_FAILED, open_came};
+use crate::copy::run_desk_copy;
+use crate::dates::{Dates, run_desk_dates};
+use crate::escape::push_escaped;
+use crate::fault::ToolFault;
+use crate::file::{all_well, open_locked, release};
+use crate::folder::fault;
+use crate::inbox::run_desk_inbox;
+use crate::mail::{Mails, claim_mails};
+use crate::mail_box::{MailBox, asked_bytes};
+use crate::outbox::{run_desk_outbox, run_desk_outbox_stream};
+use crate::outgoing::MailFolder;
+use crate::output::write_and_flush;
+use crate::person::{tell_person, wants_person};
+use crate::settle::{Place, settle_mails};
+use crate::tally::Tally;
+use crate::verdict::Verdict;
+use ill_saved::{Desk, FileStore, LockFiles, RECORD_LIMIT, Store};
+use ill_values::{Day, OutOfMemory};
+use std::alloc::Global;
+use std::fs::OpenOptions;
+use std::io::{ErrorKind, Write};
+use std::rt::Files;
+use std::{fs, io};
+
+/// `ill inbox`: takes the mails of a folder.
+pub fn inbox<T: LockFiles, W: Write, E: Write>(
+    rt: &T,
+    alloc: Global,
+    file: &str,
+    folder: &str,
+    writer: &mut W,
+    errors: &mut E,
+) -> Result<bool, ToolFault>
+    ensures { InboxAtFile (W.contents writer.old) (W.contents writer.new) result }
+{
+    let (lock, mut desk) = open_locked(rt, alloc, file)?;
+    let taken = take_mails(rt, alloc, file, folder, false, &mut desk, writer, errors);
+    release(end(taken), desk, lock)
+}
+
+/// The mails that a run has taken.
+#[derive(Drop)]
+struct Taken {
+    found: Mails,
+    verdicts: Vec<Verdict>,
+}
+
+/// Answers what a run comes to by its mails.
+fn end(taken: Result<Taken, ToolFault>) -> Result<bool, ToolFault>
+    ensures { result ≡ ending_of (answered_with taken_of taken) }
+{
+    match taken {
+        Ok(taken) => Tally::of(&taken.verdicts).ending(taken.found.waiting),
+        Err(fault) => Err(fault),
+    }
+}
+
+/// Takes the mails of a folder at a desk. Only when all that they change is saved, the files of mails go.
+fn take_mails<T: Files, S: Store, W: Write, E: Write>(
+    rt: &T,
+    alloc: Global,
+    file: &str,
+    folder: &str,
+    is_telling: bool,
+    desk: &mut Desk<S>,
+    writer: &mut W,
+    errors: &mut E,
+) -> Result<Taken, ToolFault>
+    ensures { TakesMails (many_view S.is_honest S.landed desk.old) (W.contents writer.old) (W.contents writer.new)
+        (answered_with taken_of result) (many_view S.is_honest S.landed desk.new) }
+{
+    let mail_box = blame(alloc, open_box(rt, alloc, file), file, NO_BOX, errors)?;
+    let mut came = blame(alloc, open_came(rt, alloc, file), file, NO_CAME, errors)?;
+    let found = claim_mails(rt, alloc, &mail_box, folder);
+    let found = blame(alloc, found, folder, NOT_READ, errors)?;
+    let run = run_desk_inbox(alloc, desk, &found.mails, found.waiting, &mut came, writer);
+    let place = Place {
+        file,
+        folder,
+        mail_box: &mail_box,
+        is_telling,
+    };
+    match run {
+        Ok(verdicts) => conclude(rt, alloc, &place, desk, found, verdicts, errors),
+        Err(fault) => Err(fault),
+    }
+}
+
+/// What a person is told behind a path with which something is wrong.
+const NO_BOX: &str = ".mail is no folder that its owner alone may enter";
+
+const NOT_READ: &str = " is no folder of mails that can be read";
+
+const NO_CAME: &str = ".came cannot be read or written";
+
+const NOT_ASKED: &str = ".mail/asked cannot be read or written";
+
+const NO_COPY: &str = " is not written, so nothing is sent";
+
+const NOT_SENT: &str = " is not written, so nothing more is sent";
+
+const NO_FOLDER: &str = " is no folder";
+
+const NO_BEAT: &str = " is not made anew";
+
+/// The folder of the mail of the desk in a file.
+fn open_box<T: Files>(rt: &T, alloc: Global, file: &str) -> Result<MailBox, ToolFault>
+    ensures { IfErr result IsOpenFault }
+{
+    match MailBox::open(rt, alloc, file) {
+        Ok(mail_box) => Ok(mail_box),
+        Err(error) => Err(fault(&error)),
+    }
+}
+
+/// Tells a person what wants one, keeps who asks, and settles the files of the mails of a run that has ended well.
+fn conclude<T: Files, S: Store, E: Write>(
+    rt: &T,
+    alloc: Global,
+    place: &Place<'_>,
+    desk: &Desk<S>,
+    found: Mails,
+    verdicts: Vec<Verdict>,
+    errors: &mut E,
+) -> Result<Taken, ToolFault>
+    requires ended { EndedWell found.mails.items verdicts.items (many_view S.is_honest S.landed desk.now) }
+    ensures { SettlesRun found.mails.items found.waiting (Ok verdicts.items) (answered_with taken_of result) }
+{
+    if place.is_telling {
+        let role = desk.sides().role();
+        tell_person(alloc, role, &found.mails, &verdicts, errors);
+    }
+    let asked = asked_by(alloc, desk, &found.mails, &verdicts)?;
+    if let Err(fault) = keep_asked(rt, alloc, place.mail_box, &asked) {
+        return blame(alloc, Err(fault), place.file, NOT_ASKED, errors);
+    }
+    match settle_mails(rt, alloc, place, &found, &verdicts, errors) {
+        Ok(()) => Ok(Taken { found, verdicts }),
+        Err(fault) => Err(fault),
+    }
+}
+
+/// Keeps the messages that ask.
+fn keep_asked<T: Files>(
+    rt: &T,
+    alloc: Global,
+    mail_box: &MailBox,
+    asked: &[u8],
+) -> Result<(), ToolFault>
+    ensures { IfErr result IsFileFault }
+{
+    match mail_box.keep_asked(rt, alloc, asked) {
+        Ok(()) => Ok(()),
+        Err(error) if error.kind() == ErrorKind::OutOfMemory => Err(ToolFault::OutOfMemory),
+        Err(_) => Err(STORE_FAILED),
+    }
+}
+
+/// `ill outbox`: puts the messages of the loans that want sending into a folder, or writes them one behind another.
+pub fn outbox<T: LockFiles, W: Write, E: Write>(
+    rt: &T,
+    alloc: Global,
+    file: &str,
+    folder: Option<&str>,
+    writer: &mut W,
+    errors: &mut E,
+) -> Result<bool, ToolFault>
+    ensures { OutboxAtFile (is_some folder.entry) (W.contents writer.old) (W.contents writer.new) result }
+{
+    let (lock, desk) = open_locked(rt, alloc, file)?;
+    let sent = send_from(rt, alloc, file, &desk, folder, writer, errors);
+    release(all_well(sent), desk, lock)
+}
+
+/// Puts the messages of the loans that want sending into a folder, or writes them one behind another.
+fn send_from<T: Files, S: Store, W: Write, E: Write>(
+    rt: &T,
+    alloc: Global,
+    file: &str,
+    desk: &Desk<S>,
+    folder: Option<&str>,
+    writer: &mut W,
+    errors: &mut E,
+) -> Result<(), ToolFault>
+    ensures { SendsFrom (is_some folder.entry) desk.now.live.held (W.contents writer.old) (W.contents writer.new) result }
+{
+    match folder {
+        Some(folder) => send_into(rt, alloc, file, desk, folder, writer, errors),
+        None => send_on(rt, alloc, file, desk, writer, errors),
+    }
+}
+
+/// Writes the messages of the loans that want sending, one behind another.
+fn send_on<T: Files, S: Store, W: Write, E: Write>(
+    rt: &T,
+    alloc: Global,
+    file: &str,
+    desk: &Desk<S>,
+    writer: &mut W,
+    errors: &mut E,
+) -> Result<(), ToolFault>
+    ensures { SendsOn desk.now.live.held (W.contents writer.old) (W.contents writer.new) result }
+{
+    let asking = blame(alloc, asking(rt, alloc, file), file, NOT_ASKED, errors)?;
+    run_desk_outbox_stream(alloc, desk, &asking, writer)
+}
+
+/// Puts the messages of the loans that want sending into a folder, and writes how many they are.
+fn send_to<T: Files, S: Store, W: Write, E: Write>(
+    rt: &T,
+    alloc: Global,
+    file: &str,
+    desk: &Desk<S>,
+    folder: &str,
+    writer: &mut W,
+    errors: &mut E,
+) -> Result<(), ToolFault>
+    ensures { SendsTo desk.now.live.held (W.contents writer.old) (W.contents writer.new) result }
+{
+    let asking = blame(alloc, asking(rt, alloc, file), file, NOT_ASKED, errors)?;
+    let mut out = MailFolder::at(rt, alloc, folder);
+    let sent = run_desk_outbox(alloc, desk, &asking, &mut out);
+    let sent = blame_mail(alloc, sent, &out, errors)?;
+    let line = format!(in alloc; "sent {sent}\n")?;
+    write_and_flush(writer, line.as_bytes())
+}
+
+/// The same, if the folder is there.
+fn send_into<T: Files, S: Store, W: Write, E: Write>(
+    rt: &T,
+    alloc: Global,
+    file: &str,
+    desk: &Desk<S>,
+    folder: &str,
+    writer: &mut W,
+    errors: &mut E,
+) -> Result<(), ToolFault>
+    ensures { SendsTo desk.now.live.held (W.contents writer.old) (W.contents writer.new) result }
+{
+    blame(alloc, find_folder(rt, folder), folder, NO_FOLDER, errors)?;
+    send_to(rt, alloc, file, desk, folder, writer, errors)
+}
+
+/// Hands an answer on. If it is a fault, a person is told which mail could not be put into its folder.
+fn blame_mail<T: Files, E: Write>(
+    alloc: Global,
+    sent: Result<usize, ToolFault>,
+    out: &MailFolder<'_, T>,
+    errors: &mut E,
+) -> Result<usize, ToolFault>
+    ensures { result ≡ sent }
+{
+    match out.failed() {
+        Ok(Some(path)) => blame(alloc, sent, path.as_str(), NOT_SENT, errors),
+        _ => sent,
+    }
+}
+
+/// The messages that ask at the desk in a file.
+fn asking<T: Files>(rt: &T, alloc: Global, file: &str) -> Result<Vec<u8>, ToolFault>
+    ensures { IfErr result IsOpenFault }
+{
+    match asked_bytes(rt, alloc, file) {
+        Ok(bytes) => Ok(bytes),
+        Err(error) => Err(fault(&error)),
+    }
+}
+
+/// What a run of `ill exchange` is to do.
+#[derive(Clone, Copy)]
+pub struct Night<'a> {
+    /// The path of the desk's file.
+    pub file: &'a str,
+    /// The folder of the mail that has come.
+    pub incoming: &'a str,
+    /// The folder of the mail that is to go.
+    pub outgoing: &'a str,
+    /// The day of the run, and what a responder says of days that have passed.
+    pub dates: Option<(Day, Dates)>,
+    /// The path of the file of the copy.
+    pub copy: Option<&'a str>,
+    /// The path of the file that is touched in the end.
+    pub beat: Option<&'a str>,
+}
+
+/// `ill exchange`: takes the mail that has come, says what the date says, copies the desk, and sends.
+pub fn exchange<T: LockFiles, W: Write, E: Write>(
+    rt: &T,
+    alloc: Global,
+    night: &Night<'_>,
+    writer: &mut W,
+    errors: &mut E,
+) -> Result<bool, ToolFault>
+    ensures { ExchangesAtFile night.now.dates (W.contents writer.old) (W.contents writer.new) result }
+{
+    let (lock, mut desk) = open_locked(rt, alloc, night.file)?;
+    let found = find_folder(rt, night.outgoing);
+    blame(alloc, found, night.outgoing, NO_FOLDER, errors)?;
+    let done = exchange_at(rt, alloc, night, &mut desk, writer, errors);
+    release(done, desk, lock)
+}
+
+/// Looks up the folder at a path.
+fn find_folder<T: Files>(rt: &T, path: &str) -> Result<(), ToolFault>
+    ensures { IfErr result IsOpenFault }
+{
+    match fs::metadata(rt, path) {
+        Ok(found) if found.is_dir() => Ok(()),
+        _ => Err(STORE_FAILED),
+    }
+}
+
+/// Exchanges the mail of a desk. If its mail cannot be taken, nothing is sent.
+fn exchange_at<T: Files, S: Store, W: Write, E: Write>(
+    rt: &T,
+    alloc: Global,
+    night: &Night<'_>,
+    desk: &mut Desk<S>,
+    writer: &mut W,
+    errors: &mut E,
+) -> Result<bool, ToolFault>
+    ensures { ExchangesAt night.now.dates (many_view S.is_honest S.landed desk.old)
+        (W.contents writer.old) (W.contents writer.new) result (many_view S.is_honest S.landed desk.new) }
+{
+    let taken = take_mails(
+        rt,
+        alloc,
+        night.file,
+        night.incoming,
+        true,
+        desk,
+        writer,
+        errors,
+    );
+    match taken {
+        Ok(taken) => go_on(rt, alloc, night, desk, &taken, writer, errors),
+        Err(fault) => Err(fault),
+    }
+}
+
+/// Says what the date says, copies the desk, and sends, once the mails of a night were taken.
+fn go_on<T: Files, S: Store, W: Write, E: Write>(
+    rt: &T,
+    alloc: Global,
+    night: &Night<'_>,
+    desk: &mut Desk<S>,
+    taken: &Taken,
+    writer: &mut W,
+    errors: &mut E,
+) -> Result<bool, ToolFault>
+    ensures { GoesOn night.now.dates (Ok (taken_of taken.now)) (W.contents writer.old) (W.contents writer.new)
+        (many_view S.is_honest S.landed desk.old) result (many_view S.is_honest S.landed desk.new) }
+{
+    match say_dates(alloc, desk, night.dates, writer) {
+        Ok(()) => send_all(rt, alloc, night, desk, taken, writer, errors),
+        Err(fault) => Err(fault),
+    }
+}
+
+/// Hands an answer on. If a file or a folder has failed, a person is told which.
+fn blame<X: Drop, E: Write>(
+    alloc: Global,
+    answer: Result<X, ToolFault>,
+    path: &str,
+    text: &str,
+    errors: &mut E,
+) -> Result<X, ToolFault>
+    ensures { result ≡ answer }
+{
+    if let Err(ToolFault::Desk(_)) = answer {
+        let mut line = Vec::new(alloc);
+        if push_blame(&mut line, path, text).is_ok() {
+            let _ = errors.write_all(&line);
+        }
+    }
+    answer
+}
+
+/// Adds the line of a path with which something is wrong.
+fn push_blame(line: &mut Vec<u8>, path: &str, text: &str) -> Result<(), OutOfMemory> {
+    line.extend_from_slice(b"ill: ")?;
+    push_escaped(line, path.as_bytes())?;
+    line.extend_from_slice(text.as_bytes())?;
+    line.push(b'\n')?;
+    Ok(())
+}
+
+/// Says what the date says, if something of it is wanted.
+fn say_dates<S: Store, W: Write>(
+    alloc: Global,
+    desk: &mut Desk<S>,
+    dates: Option<(Day, Dates)>,
+    writer: &mut W,
+) -> Result<(), ToolFault>
+    ensures { SaysDates dates (W.contents writer.old) (W.contents writer.new)
+        (many_view S.is_honest S.landed desk.old) result (many_view S.is_honest S.landed desk.new) }
+{
+    match dates {
+        Some((today, which)) => run_desk_dates(alloc, desk, today, which, writer),
+        None => Ok(()),
+    }
+}
+
+/// Copies the desk, and then sends what wants sending. If the copy fails nothing is sent.
+fn send_all<T: Files, S: Store, W: Write, E: Write>(
+    rt: &T,
+    alloc: Global,
+    night: &Night<'_>,
+    desk: &Desk<S>,
+    taken: &Taken,
+    writer: &mut W,
+    errors: &mut E,
+) -> Result<bool, ToolFault>
+    ensures { SendsAll (night_ending desk.now.live.role (taken_of taken.now)) desk.now.live.held
+        (W.contents writer.old) (W.contents writer.new) (Ok tt) result }
+{
+    copy_to(rt, alloc, desk, night.copy, errors)?;
+    let sent = send_to(rt, alloc, night.file, desk, night.outgoing, writer, errors);
+    match sent {
+        Ok(()) => finish(rt, alloc, night.beat, desk, taken, errors),
+        Err(fault) => Err(fault),
+    }
+}
+
+/// Copies a desk to a file, if one is named.
+fn copy_to<T: Files, S: Store, E: Write>(
+    rt: &T,
+    alloc: Global,
+    desk: &Desk<S>,
+    path: Option<&str>,
+    errors: &mut E,
+) -> Result<(), ToolFault>
+    ensures { IfErr result IsFileFault }
+{
+    let Some(path) = path else {
+        return Ok(());
+    };
+    let mut copy = FileStore::at(rt, alloc, path, RECORD_LIMIT)?;
+    let copied = run_desk_copy(alloc, desk, &mut copy);
+    blame(alloc, copied, path, NO_COPY, errors)
+}
+
+/// Makes a file anew, if one is named, so that its time is that of the run.
+fn beat<T: Files, E: Write>(
+    rt: &T,
+    alloc: Global,
+    path: Option<&str>,
+    errors: &mut E,
+) -> Result<(), ToolFault>
+    ensures { IfErr result IsFileFault }
+{
+    let Some(path) = path else {
+        return Ok(());
+    };
+    match make_anew(rt, path) {
+        Ok(()) => Ok(()),
+        Err(_) => blame(alloc, Err(STORE_FAILED), path, NO_BEAT, errors),
+    }
+}
+
+/// Makes a file that has the end of a line and nothing else. Nothing else is removed for it.
+fn make_anew<T: Files>(rt: &T, path: &str) -> io::Result<()> {
+    match fs::symlink_metadata(rt, path) {
+        Ok(found) if found.is_file() && found.len() <= 1 => fs::remove_file(rt, path)?,
+        Ok(_) => return Err(ErrorKind::AlreadyExists.into()),
+        Err(error) if error.kind() == ErrorKind::NotFound => {}
+        Err(error) => return Err(error),
+    }
+    let mut options = OpenOptions::new();
+    options.write(true);
+    options.create_new(true);
+    options.open(rt, path)?.write_all(b"\n")
+}
+
+/// Gives the sign of life of a run whose messages have left, and answers what it comes to.
+fn finish<T: Files, S: Store, E: Write>(
+    rt: &T,
+    alloc: Global,
+    path: Option<&str>,
+    desk: &Desk<S>,
+    taken: &Taken,
+    errors: &mut E,
+) -> Result<bool, ToolFault>
+    ensures { Departs (night_ending desk.now.live.role (taken_of taken.now)) (Ok tt) result }
+{
+    match beat(rt, alloc, path, errors) {
+        Ok(()) => ending(desk, taken),
+        Err(fault) => Err(fault),
+    }
+}
+
+/// Answers what a night comes to: mails stay, or something wants a person, or all is well.
+fn ending<S: Store>(desk: &Desk<S>, taken: &Taken) -> Result<bool, ToolFault>
+    ensures { result ≡ night_ending desk.now.live.role (taken_of taken.now) }
+{
+    if Tally::of(&taken.verdicts).is_waiting(taken.found.waiting) {
+        return Err(ToolFault::Left);
+    }
+    Ok(!wants_person(desk.sides().role(), &taken.found.mails, &taken.verdicts))
+}

@@ -1,0 +1,160 @@
+//! The folder of a desk's mail, beside its file. Nobody but the user of the desk may write there, so what has come to
+//! stand there stays what it is.
+
+use ill_saved::{FileStore, RECORD_LIMIT, Store};
+use std::alloc::Global;
+use std::fs::{DirBuilder, Metadata, OpenOptions};
+use std::io::{ErrorKind, Write};
+use std::os::unix::fs::{DirBuilderExt, MetadataExt, OpenOptionsExt, PermissionsExt};
+use std::path::Path;
+use std::rt::Files;
+use std::{fs, io};
+
+/// The ending of its name, behind that of the desk's file.
+pub(crate) const MAIL: &str = ".mail";
+
+/// The ending of the name of the file that tells why a mail was put aside.
+const WHY: &str = ".why";
+
+/// The folder of a desk's mail.
+#[derive(Drop)]
+pub struct MailBox {
+    path: String,
+    claimed: String,
+}
+
+impl MailBox {
+    /// The folder of the mail of the desk in a file. It is made, for its owner alone, if it is not there.
+    pub fn open<T: Files>(rt: &T, alloc: Global, desk: &str) -> io::Result<MailBox> {
+        let path = format!(in alloc; "{desk}{MAIL}")?;
+        make_own_folder(rt, path.as_str())?;
+        let claimed = format!(in alloc; "{path}/in")?;
+        make_folder(rt, claimed.as_str())?;
+        Ok(MailBox { path, claimed })
+    }
+
+    /// The folder of the mails that were claimed: in it has each run a folder of its own.
+    pub fn claimed(&self) -> &str {
+        self.claimed.as_str()
+    }
+
+    /// Tells if a path leads to this folder, to that of the mails that were claimed, or to that of the desk's file: what
+    /// stands there is no mail.
+    pub fn is_at<T: Files>(&self, rt: &T, path: &str) -> io::Result<bool> {
+        let found = fs::metadata(rt, path)?;
+        for own in [self.path.as_str(), self.claimed.as_str(), self.above()] {
+            if is_same(&found, &fs::metadata(rt, own)?) {
+                return Ok(true);
+            }
+        }
+        Ok(false)
+    }
+
+    /// The path of the folder in which it stands.
+    fn above(&self) -> &str {
+        match Path::new(self.path.as_str()).parent() {
+            Some(folder) if !folder.as_str().is_empty() => folder.as_str(),
+            _ => ".",
+        }
+    }
+
+    /// The file of the messages that ask.
+    pub fn asked(&self, alloc: Global) -> io::Result<String> {
+        asked_at(alloc, self.path.as_str())
+    }
+
+    /// Puts a file aside under a name, with another file beside it that tells why.
+    pub fn put_aside<T: Files>(
+        &self,
+        rt: &T,
+        alloc: Global,
+        file: &str,
+        name: &str,
+        why: &[u8],
+    ) -> io::Result<()> {
+        let aside = format!(in alloc; "{}/aside", self.path)?;
+        make_folder(rt, aside.as_str())?;
+        let place = format!(in alloc; "{aside}/{name}")?;
+        let reason = format!(in alloc; "{place}{WHY}")?;
+        write_anew(rt, reason.as_str(), why)?;
+        match fs::rename(rt, file, place.as_str()) {
+            Err(error) if error.kind() != ErrorKind::NotFound => Err(error),
+            _ => Ok(()),
+        }
+    }
+
+    /// Keeps the messages that ask, in place of those of the night before.
+    pub fn keep_asked<T: Files>(&self, rt: &T, alloc: Global, asked: &[u8]) -> io::Result<()> {
+        let path = self.asked(alloc)?;
+        if asked.is_empty() {
+            return remove_if_there(rt, path.as_str());
+        }
+        let mut store = FileStore::at(rt, alloc, path.as_str(), RECORD_LIMIT)?;
+        match store.save(alloc, asked) {
+            Ok(()) => Ok(()),
+            Err(_) => Err(ErrorKind::Other.into()),
+        }
+    }
+}
+
+/// The path of the file of the messages that ask, in the folder of a desk's mail.
+fn asked_at(alloc: Global, path: &str) -> io::Result<String> {
+    Ok(format!(in alloc; "{path}/asked")?)
+}
+
+/// The messages that ask at the desk in a file, one behind another: none if there is no file of them.
+pub fn asked_bytes<T: Files>(rt: &T, alloc: Global, desk: &str) -> io::Result<Vec<u8>> {
+    let path = format!(in alloc; "{desk}{MAIL}")?;
+    let asked = asked_at(alloc, path.as_str())?;
+    let mut store = FileStore::at(rt, alloc, asked.as_str(), RECORD_LIMIT)?;
+    match store.load(alloc) {
+        Ok(bytes) => Ok(bytes.unwrap_or(Vec::new(alloc))),
+        Err(_) => Err(ErrorKind::Other.into()),
+    }
+}
+
+/// Makes a folder that its owner alone may enter, if none is there. One that others may enter is a fault.
+fn make_own_folder<T: Files>(rt: &T, path: &str) -> io::Result<()> {
+    make_folder(rt, path)?;
+    let found = fs::symlink_metadata(rt, path)?;
+    if found.permissions().mode() & 0o077 == 0 {
+        Ok(())
+    } else {
+        Err(ErrorKind::PermissionDenied.into())
+    }
+}
+
+/// Makes a folder for its owner alone, if none is there. A link to one is none.
+pub(crate) fn make_folder<T: Files>(rt: &T, path: &str) -> io::Result<()> {
+    match fs::symlink_metadata(rt, path) {
+        Ok(found) if found.is_dir() => Ok(()),
+        Ok(_) => Err(ErrorKind::AlreadyExists.into()),
+        Err(error) if error.kind() == ErrorKind::NotFound => {
+            DirBuilder::new().mode(0o700).create(rt, path)
+        }
+        Err(error) => Err(error),
+    }
+}
+
+/// Tells if two paths led to one folder.
+pub(crate) fn is_same(one: &Metadata, other: &Metadata) -> bool {
+    (one.dev(), one.ino()) == (other.dev(), other.ino())
+}
+
+/// Removes a file, if it is there.
+pub(crate) fn remove_if_there<T: Files>(rt: &T, path: &str) -> io::Result<()> {
+    match fs::remove_file(rt, path) {
+        Err(error) if error.kind() != ErrorKind::NotFound => Err(error),
+        _ => Ok(()),
+    }
+}
+
+/// Writes a line to a file, in place of one that is there.
+fn write_anew<T: Files>(rt: &T, path: &str, line: &[u8]) -> io::Result<()> {
+    remove_if_there(rt, path)?;
+    let mut options = OpenOptions::new();
+    options.write(true);
+    options.create_new(true);
+    options.mode(0o600);
+    options.open(rt, path)?.write_all(line)
+}

@@ -1,0 +1,230 @@
+//! The command `outbox`: all messages leave that are wanted at the other side.
+
+ghost use Rattle.std.specs.Prelude.{◌≡◌, ◌++◌, map, take, length, IfOk, OnOk};
+ghost use Rattle.ill_saved.specs.Side.{issued_of, role_of, txn_of};
+ghost use Rattle.ill_tool.specs.Outbox.{PutsAll, RunsOutbox, StreamsOutbox, held_of, is_asked, issue_of, issues_of, leaving_desk, leaving_side, letter_of, line_of, loan_stem, loan_text, mail_name, PutsOne, released_of, three_digits};
+
+use crate::fault::ToolFault;
+use crate::kept::apdus_in;
+use crate::outgoing::{Outgoing, Stream};
+use crate::output::write_whole;
+use crate::sides::{HeldSide, all_held};
+use crate::status::role_name;
+use ill_der::encode;
+use ill_saved::{Desk, Side, Store};
+use ill_values::{Apdu, Number, OutOfMemory, TxnId};
+use ill_world::wants_sending;
+use sha2::{Digest, Sha256};
+use std::alloc::Global;
+use std::io::Write;
+
+/// Puts all messages of a desk that were saved to where mail leaves, those of each loan that wants sending, and answers
+/// how many they are. A loan wants sending until it is over. Behind that a responder answers whoever asks: `asking` has
+/// the messages, one behind another, that came for loans that are over.
+///
+/// At a fault the first of them are there, and no part of another.
+pub fn run_desk_outbox<S: Store, O: Outgoing>(
+    alloc: Global,
+    desk: &Desk<S>,
+    asking: &[u8],
+    out: &mut O,
+) -> Result<usize, ToolFault>
+    ensures { RunsOutbox O.after asking.now desk.now.live.held (O.mails out.old) (O.mails out.new) result }
+{
+    let asking = match apdus_in(alloc, asking) {
+        Ok(asking) => asking,
+        Err(_) => return Err(ToolFault::OutOfMemory),
+    };
+    let leaving = match leaving_desk(alloc, desk, &asking) {
+        Ok(leaving) => leaving,
+        Err(_) => return Err(ToolFault::OutOfMemory),
+    };
+    put_all(alloc, &leaving, out)
+}
+
+/// Writes the same messages, one behind another.
+pub fn run_desk_outbox_stream<S: Store, W: Write>(
+    alloc: Global,
+    desk: &Desk<S>,
+    asking: &[u8],
+    writer: &mut W,
+) -> Result<(), ToolFault>
+    ensures { StreamsOutbox asking.now desk.now.live.held (W.contents writer.old) (W.contents writer.new) result }
+{
+    let mut stream = Stream {
+        bytes: Vec::new(alloc),
+    };
+    match run_desk_outbox(alloc, desk, asking, &mut stream) {
+        Ok(_) => write_whole(writer, &stream.bytes),
+        Err(_) => Err(ToolFault::OutOfMemory),
+    }
+}
+
+/// A message that leaves, and the side that issued it.
+#[derive(Clone, Copy)]
+pub(crate) struct Leaving<'a> {
+    pub(crate) side: &'a Side,
+    pub(crate) apdu: &'a Apdu,
+}
+
+/// The messages that leave a desk.
+fn leaving_desk<'a, S: Store>(
+    alloc: Global,
+    desk: &'a Desk<S>,
+    asking: &[Apdu],
+) -> Result<Vec<Leaving<'a>>, OutOfMemory>
+    ensures { IfOk result (λ leaving. map issue_of leaving.items ≡ leaving_desk asking.now desk.now.live.held) }
+{
+    let held = all_held(alloc, desk)?;
+    leaving_sides(alloc, &held, asking)
+}
+
+/// The messages that leave of these sides.
+fn leaving_sides<'a>(
+    alloc: Global,
+    sides: &[HeldSide<'a>],
+    asking: &[Apdu],
+) -> Result<Vec<Leaving<'a>>, OutOfMemory>
+    ensures { IfOk result (λ leaving. map issue_of leaving.items ≡ leaving_desk asking.now (map held_of sides.now)) }
+{
+    let mut leaving = Vec::new(alloc);
+    for held in sides {
+        push_leaving(&mut leaving, *held, asking)?;
+    }
+    Ok(leaving)
+}
+
+/// Adds the messages that leave of a side, if it wants sending.
+fn push_leaving<'a>(
+    leaving: &mut Vec<Leaving<'a>>,
+    held: HeldSide<'a>,
+    asking: &[Apdu],
+) -> Result<(), OutOfMemory>
+    ensures { OnOk result (map issue_of leaving.new.items
+        ≡ map issue_of leaving.old.items ++ leaving_side asking.now (held_of held.entry)) }
+{
+    if wants_sending(held.side, is_asked(asking, held.side.txn())) {
+        push_released(leaving, held)
+    } else {
+        Ok(())
+    }
+}
+
+/// Adds the messages of a side that were saved.
+fn push_released<'a>(leaving: &mut Vec<Leaving<'a>>, held: HeldSide<'a>) -> Result<(), OutOfMemory>
+    ensures { OnOk result (map issue_of leaving.new.items ≡ map issue_of leaving.old.items
+        ++ issues_of held.entry.side.now (released_of (held_of held.entry))) }
+{
+    push_issues(leaving, held.side, released(held))
+}
+
+/// Adds messages of a side.
+fn push_issues<'a>(
+    leaving: &mut Vec<Leaving<'a>>,
+    side: &'a Side,
+    apdus: &'a [Apdu],
+) -> Result<(), OutOfMemory>
+    ensures { OnOk result (map issue_of leaving.new.items
+        ≡ map issue_of leaving.old.items ++ issues_of side.now apdus.now) }
+{
+    for apdu in apdus {
+        leaving.push(Leaving { side, apdu })?;
+    }
+    Ok(())
+}
+
+/// The messages of a side that were saved.
+fn released<'a>(held: HeldSide<'a>) -> &'a [Apdu]
+    ensures { result.now ≡ released_of (held_of held.entry) }
+{
+    let issued = held.side.all_issued();
+    let count = usize::from(held.released).min(issued.len());
+    &issued[..count]
+}
+
+/// Tells if one of these messages is of a transaction.
+fn is_asked(asking: &[Apdu], txn: &TxnId) -> bool
+    ensures { result ≡ is_asked asking.now txn.now }
+{
+    asking.iter().any(|apdu| apdu.txn == *txn)
+}
+
+/// Puts messages where they leave, one after another, and answers how many they are.
+fn put_all<O: Outgoing>(
+    alloc: Global,
+    leaving: &[Leaving<'_>],
+    out: &mut O,
+) -> Result<usize, ToolFault>
+    ensures { PutsAll O.after (map letter_of (map issue_of leaving.now)) (O.mails out.old) (O.mails out.new) result }
+{
+    for message in leaving {
+        if let Err(fault) = put(alloc, *message, out) {
+            return Err(fault);
+        }
+    }
+    Ok(leaving.len())
+}
+
+/// Puts a message where it leaves.
+fn put<O: Outgoing>(alloc: Global, leaving: Leaving<'_>, out: &mut O) -> Result<(), ToolFault>
+    ensures { PutsOne O.after (letter_of (issue_of leaving.entry)) (O.mails out.old) (O.mails out.new) result }
+{
+    let name = mail_name(alloc, leaving.side, leaving.apdu.number)?;
+    let bytes = encode(alloc, leaving.apdu)?;
+    out.put(&name, &bytes)
+}
+
+/// The name of the mail of a message.
+fn mail_name(alloc: Global, side: &Side, number: Number) -> Result<Vec<u8>, OutOfMemory>
+    ensures { IfOk result (λ name. name.items ≡ mail_name side.now number) }
+{
+    let mut name = loan_stem(alloc, side)?;
+    name.push(b'-')?;
+    name.extend_from_slice(&three_digits(number.get()))?;
+    Ok(name)
+}
+
+/// The part of the names of the mails of a loan in which they are alike.
+fn loan_stem(alloc: Global, side: &Side) -> Result<Vec<u8>, OutOfMemory>
+    ensures { IfOk result (λ stem. stem.items ≡ loan_stem side.now) }
+{
+    let text = loan_text(alloc, side)?;
+    let digest = hex::encode(alloc, Sha256::digest(&text))?;
+    let mut stem = digest.into_bytes();
+    stem.truncate(STEM);
+    Ok(stem)
+}
+
+/// How many hexadecimal digits of the digest of a loan's text stand in the names of its mails.
+const STEM: usize = 32;
+
+/// A text that tells the loan of a side from all others.
+fn loan_text(alloc: Global, side: &Side) -> Result<Vec<u8>, OutOfMemory>
+    ensures { IfOk result (λ text. text.items ≡ loan_text side.now) }
+{
+    let mut text = Vec::new(alloc);
+    push_line(&mut text, role_name(side.role()).as_bytes())?;
+    push_line(&mut text, side.txn().group())?;
+    push_line(&mut text, side.txn().transaction())?;
+    Ok(text)
+}
+
+/// Adds a line.
+fn push_line(text: &mut Vec<u8>, line: &[u8]) -> Result<(), OutOfMemory>
+    ensures { OnOk result (text.new.items ≡ text.old.items ++ line_of line.now) }
+{
+    text.extend_from_slice(line)?;
+    text.push(b'\n')?;
+    Ok(())
+}
+
+/// A number in three digits.
+fn three_digits(number: u8) -> [u8; 3]
+    ensures { result ≡ three_digits number }
+{
+    [
+        b'0' + number / 100,
+        b'0' + number / 10 % 10,
+        b'0' + number % 10,
+    ]
+}

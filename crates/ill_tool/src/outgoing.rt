@@ -1,0 +1,126 @@
+//! Where messages go that leave a desk: into a folder of mails, or onto a stream.
+
+ghost use Rattle.std.specs.Prelude.{◌++◌, ℕ, List, Option, Some, None};
+ghost use Rattle.ill_tool.specs.Outbox.{Letter, PutsOne};
+
+use crate::came::STORE_FAILED;
+use crate::fault::ToolFault;
+use ill_values::OutOfMemory;
+use std::alloc::Global;
+use std::fs::OpenOptions;
+use std::io::Write;
+use std::rt::Files;
+use std::{fs, io};
+
+/// Takes messages that leave, each with the name of its mail.
+pub trait Outgoing {
+    /// What is there.
+    ghost Mails: { Type 0 };
+
+    /// What is there, if that is known.
+    ghost mails: { Self → Option Self.Mails };
+
+    /// What is there once a message was put behind it.
+    ghost after: { Self.Mails → Letter → Self.Mails };
+
+    /// Puts a message there, whole or not at all.
+    fn put(&mut self, name: &[u8], bytes: &[u8]) -> Result<(), ToolFault>
+        ensures { PutsOne after (record { name = name.now; bytes = bytes.now }) (mails self.old) (mails self.new) result };
+}
+
+/// The messages that leave on a stream, one behind another: their names are passed over.
+#[derive(Drop)]
+pub(crate) struct Stream {
+    pub(crate) bytes: Vec<u8>,
+}
+
+impl Outgoing for Stream {
+    ghost Mails = { List ℕ };
+
+    ghost mails = { λ stream. Some stream.bytes.items };
+
+    ghost after = { λ there letter. there ++ letter.bytes };
+
+    fn put(&mut self, _name: &[u8], bytes: &[u8]) -> Result<(), ToolFault> {
+        self.bytes.extend_from_slice(bytes)?;
+        Ok(())
+    }
+}
+
+/// A folder of mails, one message a file. Whoever moves the mail may put anything there at any moment.
+#[derive(Drop)]
+pub(crate) struct MailFolder<'a, R: Files> {
+    rt: &'a R,
+    alloc: Global,
+    path: &'a str,
+    /// The name of a mail that could not be put there.
+    failed: Option<Vec<u8>>,
+}
+
+impl<'a, R: Files> MailFolder<'a, R> {
+    /// The folder at a path.
+    pub(crate) fn at(rt: &'a R, alloc: Global, path: &'a str) -> MailFolder<'a, R> {
+        MailFolder {
+            rt,
+            alloc,
+            path,
+            failed: None,
+        }
+    }
+
+    /// The path of a mail that could not be put there.
+    pub(crate) fn failed(&self) -> Result<Option<String>, OutOfMemory> {
+        let Some(name) = &self.failed else {
+            return Ok(None);
+        };
+        let folder = self.path;
+        let name = str::from_utf8(name).unwrap_or_default();
+        Ok(Some(format!(in self.alloc; "{folder}/{name}")?))
+    }
+
+    /// Writes a message to a new file, and then renames that: a mail of this name is there whole, or as it was. No
+    /// link is followed: the new file is made where nothing is, and the rename replaces a link at the name.
+    fn write(&self, name: &[u8], bytes: &[u8]) -> io::Result<()> {
+        let folder = self.path;
+        let name = str::from_utf8(name).unwrap_or_default();
+        let new = format!(in self.alloc; "{folder}/.new")?;
+        let place = format!(in self.alloc; "{folder}/{name}")?;
+        let _ = fs::remove_file(self.rt, new.as_str());
+        let written = write_new(self.rt, new.as_str(), bytes);
+        let placed = match written {
+            Ok(()) => fs::rename(self.rt, new.as_str(), place.as_str()),
+            Err(error) => Err(error),
+        };
+        if placed.is_err() {
+            let _ = fs::remove_file(self.rt, new.as_str());
+        }
+        placed
+    }
+}
+
+/// Writes bytes to a file that was not there.
+fn write_new<R: Files>(rt: &R, path: &str, bytes: &[u8]) -> io::Result<()> {
+    let mut options = OpenOptions::new();
+    options.write(true);
+    options.create_new(true);
+    options.open(rt, path)?.write_all(bytes)
+}
+
+impl<'a, R: Files> Outgoing for MailFolder<'a, R> {
+    ghost Mails = { List Letter };
+
+    ghost mails = { λ _. None };
+
+    ghost after = { λ there letter. there };
+
+    fn put(&mut self, name: &[u8], bytes: &[u8]) -> Result<(), ToolFault> {
+        match self.write(name, bytes) {
+            Ok(()) => Ok(()),
+            Err(error) if error.kind() == io::ErrorKind::OutOfMemory => Err(ToolFault::OutOfMemory),
+            Err(_) => {
+                self.failed = Some(Vec::from_slice(self.alloc, name)?);
+                Err(STORE_FAILED)
+            }
+        }
+    }
+}

@@ -1,0 +1,175 @@
+//! What of the mails of a night wants a person, and what a person is told of it.
+
+ghost use Rattle.std.specs.Prelude.{◌≡◌, option_map};
+ghost use Rattle.std.specs.List.{zip};
+ghost use Rattle.ill_der.specs.View.{body_in};
+ghost use Rattle.ill_tool.specs.Inbox.{message_in};
+ghost use Rattle.ill_tool.specs.Person.{conflict_in, conflict_of, delay_matter, is_never_in_conflict, matter_of, wants_person};
+
+use crate::escape::push_escaped;
+use crate::inbox::message_in;
+use crate::long_lines::push_heading;
+use crate::verdict::{Delay, Mail, Unfit, Verdict, push_unfit};
+use ill_core::Taking;
+use ill_der::BodyView;
+use ill_saved::Role;
+use ill_values::OutOfMemory;
+use ill_world::{DeskOutcome, Outcome};
+use std::alloc::Global;
+use std::io::Write;
+
+/// What of a mail wants a person.
+#[derive(Clone, Copy, Debug, PartialEq, Eq, Hash)]
+pub(crate) enum Matter {
+    /// It was put aside.
+    Aside,
+    /// It cannot be read.
+    NotRead,
+    /// A requester's desk has no such loan.
+    NoSuchTransaction,
+    /// The desk has no room for its loan.
+    DeskFull,
+    /// No loss, delay or repeat of mail explains its conflict.
+    Conflict,
+}
+
+impl Matter {
+    /// What of a mail wants a person, by its verdict at a side of this role.
+    fn of(role: Role, mail: &Mail, verdict: Verdict) -> Option<Matter>
+        ensures { result ≡ matter_of role mail.now verdict }
+    {
+        match verdict {
+            Verdict::Aside(_) => Some(Matter::Aside),
+            Verdict::Left(delay) => Some(Matter::of_delay(delay)),
+            Verdict::Done(DeskOutcome::Plain(Outcome::Answered(Taking::Conflict(_)))) => {
+                Matter::of_conflict(role, mail)
+            }
+            Verdict::Done(_) => None,
+        }
+    }
+
+    /// The matter of a mail that stays.
+    fn of_delay(delay: Delay) -> Matter
+        ensures { result ≡ delay_matter delay }
+    {
+        match delay {
+            Delay::NotRead => Matter::NotRead,
+            Delay::NoSuchTransaction => Matter::NoSuchTransaction,
+            Delay::DeskFull => Matter::DeskFull,
+        }
+    }
+
+    /// The matter of a mail whose message was in conflict, if that is never routine.
+    fn of_conflict(role: Role, mail: &Mail) -> Option<Matter>
+        ensures { result ≡ conflict_in role (option_map (λ bytes. bytes.items) mail.now.bytes) }
+    {
+        match &mail.bytes {
+            Some(bytes) => Matter::of_conflicting(role, bytes),
+            None => None,
+        }
+    }
+
+    /// The matter of the bytes of such a mail.
+    fn of_conflicting(role: Role, bytes: &[u8]) -> Option<Matter>
+        ensures { result ≡ conflict_of role (message_in bytes.now) }
+    {
+        match message_in(bytes) {
+            Ok(apdu) if is_never_in_conflict(role, apdu.body()) => Some(Matter::Conflict),
+            _ => None,
+        }
+    }
+
+    /// What a person is told.
+    fn text(self) -> &'static str {
+        match self {
+            Matter::Aside => "put aside",
+            Matter::NotRead => "stays: not read; look at its name, its permissions and its disk",
+            Matter::NoSuchTransaction => {
+                "stays: this desk has no such loan; ask the partner which loan that is"
+            }
+            Matter::DeskFull => "stays: the desk is full; begin another one for new loans",
+            Matter::Conflict => "does not fit the loan here; ask the partner how it stands there",
+        }
+    }
+}
+
+/// Tells if the conflict of a message is never routine at a side of this role.
+fn is_never_in_conflict(role: Role, body: &BodyView<'_>) -> bool
+    ensures { result ≡ is_never_in_conflict role (body_in body.now) }
+{
+    match role {
+        Role::Requester => matches!(
+            body,
+            BodyView::Shipped { .. }
+                | BodyView::CancelReply { .. }
+                | BodyView::RenewAnswer { .. }
+                | BodyView::Expired
+                | BodyView::CheckedIn
+        ),
+        Role::Responder => matches!(body, BodyView::Received | BodyView::Returned),
+    }
+}
+
+/// Tells if one of the mails of a night wants a person, by their verdicts at sides of this role.
+pub(crate) fn wants_person(role: Role, mails: &[Mail], verdicts: &[Verdict]) -> bool
+    ensures { result ≡ wants_person role (zip mails.now verdicts.now) }
+{
+    mails.iter().zip(verdicts).any(|(mail, verdict)| Matter::of(role, mail, *verdict).is_some())
+}
+
+/// Tells a person of each mail of a night that wants one: a line of the mail and of what to do.
+pub(crate) fn tell_person<E: Write>(
+    alloc: Global,
+    role: Role,
+    mails: &[Mail],
+    verdicts: &[Verdict],
+    errors: &mut E,
+) {
+    for (mail, verdict) in mails.iter().zip(verdicts) {
+        if let Some(matter) = Matter::of(role, mail, *verdict) {
+            let mut line = Vec::new(alloc);
+            if push_matter(&mut line, mail, *verdict, matter).is_ok() {
+                let _ = errors.write_all(&line);
+            }
+        }
+    }
+}
+
+/// Adds the line of a mail that wants a person.
+fn push_matter(
+    line: &mut Vec<u8>,
+    mail: &Mail,
+    verdict: Verdict,
+    matter: Matter,
+) -> Result<(), OutOfMemory> {
+    line.extend_from_slice(b"ill: ")?;
+    push_escaped(line, &mail.name)?;
+    line.extend_from_slice(b": ")?;
+    push_what(line, mail)?;
+    line.extend_from_slice(matter.text().as_bytes())?;
+    if let Verdict::Aside(unfit) = verdict {
+        push_place(line, mail, unfit)?;
+    }
+    line.push(b'\n')?;
+    Ok(())
+}
+
+/// Adds which message a mail has, if it has one.
+fn push_what(line: &mut Vec<u8>, mail: &Mail) -> Result<(), OutOfMemory> {
+    let Some(bytes) = &mail.bytes else {
+        return Ok(());
+    };
+    match message_in(bytes) {
+        Ok(apdu) => push_heading(line, &apdu),
+        Err(_) => Ok(()),
+    }
+}
+
+/// Adds under which digest a mail is put aside, and why.
+fn push_place(line: &mut Vec<u8>, mail: &Mail, unfit: Unfit) -> Result<(), OutOfMemory> {
+    let digest = mail.digest(*line.allocator())?;
+    line.extend_from_slice(b" as ")?;
+    line.extend_from_slice(digest.as_bytes())?;
+    line.extend_from_slice(b": ")?;
+    push_unfit(line, unfit)
+}

@@ -1,0 +1,151 @@
+//! What becomes of the files of mails once a run has saved what they change.
+
+ghost use Rattle.std.specs.Prelude.{IfErr};
+ghost use Rattle.ill_tool.specs.Outbox.{IsFileFault};
+
+use crate::came::STORE_FAILED;
+use crate::escape::push_escaped;
+use crate::fault::ToolFault;
+use crate::mail::{Mails, path_of};
+use crate::mail_box::{MailBox, is_same, remove_if_there};
+use crate::verdict::{Mail, Unfit, Verdict, push_unfit};
+use std::alloc::Global;
+use std::io::{ErrorKind, Write};
+use std::rt::Files;
+use std::{fs, io};
+
+/// Removes the file of each mail that is done, puts those aside that no desk will ever take, and gives the others back
+/// to their folder. A file with which that cannot be done stays, and is told; then it is a failure of the store. If
+/// memory runs out, the further ones stay.
+pub fn settle_mails<T: Files, E: Write>(
+    rt: &T,
+    alloc: Global,
+    place: &Place<'_>,
+    found: &Mails,
+    verdicts: &[Verdict],
+    errors: &mut E,
+) -> Result<(), ToolFault>
+    ensures { IfErr result IsFileFault }
+{
+    let mut all_done = true;
+    for ((mail, file), verdict) in found.mails.iter().zip(&found.files).zip(verdicts) {
+        match settle_mail(rt, alloc, place, mail, file.as_ref(), *verdict) {
+            Ok(()) => {}
+            Err(error) if error.kind() == ErrorKind::OutOfMemory => {
+                return Err(ToolFault::OutOfMemory);
+            }
+            Err(_) => {
+                tell_stuck(alloc, mail, errors);
+                all_done = false;
+            }
+        }
+    }
+    remove_runs(rt, found);
+    if all_done { Ok(()) } else { Err(STORE_FAILED) }
+}
+
+/// Removes the folders of runs in which no mail is left.
+fn remove_runs<T: Files>(rt: &T, found: &Mails) {
+    for run in &found.runs {
+        let _ = fs::remove_dir(rt, run.as_str());
+    }
+}
+
+/// The file of a desk, the folder from which its mails come, and that of the desk's mail.
+#[derive(Clone, Copy)]
+pub struct Place<'a> {
+    pub file: &'a str,
+    pub folder: &'a str,
+    pub mail_box: &'a MailBox,
+    /// Whether a person is told of the mails that want one.
+    pub is_telling: bool,
+}
+
+/// Does with the file of a mail what its verdict says. A mail that could not be claimed is where it was.
+fn settle_mail<T: Files>(
+    rt: &T,
+    alloc: Global,
+    place: &Place<'_>,
+    mail: &Mail,
+    file: Option<&String>,
+    verdict: Verdict,
+) -> io::Result<()> {
+    let Some(file) = file else {
+        return Ok(());
+    };
+    match verdict {
+        Verdict::Done(_) => remove_if_there(rt, file.as_str()),
+        Verdict::Aside(unfit) => put_aside(rt, alloc, place.mail_box, file.as_str(), mail, unfit),
+        Verdict::Left(_) => give_back(rt, alloc, place.folder, file.as_str(), mail),
+    }
+}
+
+/// Puts a mail aside, under the digest of the bytes that were read of it.
+fn put_aside<T: Files>(
+    rt: &T,
+    alloc: Global,
+    mail_box: &MailBox,
+    file: &str,
+    mail: &Mail,
+    unfit: Unfit,
+) -> io::Result<()> {
+    let digest = mail.digest(alloc)?;
+    let mut why = Vec::new(alloc);
+    push_unfit(&mut why, unfit)?;
+    why.push(b'\n')?;
+    mail_box.put_aside(rt, alloc, file, digest.as_str(), &why)
+}
+
+/// Gives a mail back to the folder from which it was claimed. If that cannot be done, since another of its name has come
+/// there, it stays claimed, and the next run takes it first.
+fn give_back<T: Files>(
+    rt: &T,
+    alloc: Global,
+    folder: &str,
+    file: &str,
+    mail: &Mail,
+) -> io::Result<()> {
+    let Some(path) = path_of(alloc, folder, &mail.name)? else {
+        return Ok(());
+    };
+    match fs::hard_link(rt, file, path.as_str()) {
+        Ok(()) => remove_if_there(rt, file),
+        Err(_) => {
+            give_back_alone(rt, file, path.as_str());
+            Ok(())
+        }
+    }
+}
+
+/// Gives back what can have no second name, such as a folder, if nothing stands in its place. What a run has given back
+/// that was killed then is there already, and its second name is removed.
+fn give_back_alone<T: Files>(rt: &T, file: &str, path: &str) {
+    match (
+        fs::symlink_metadata(rt, file),
+        fs::symlink_metadata(rt, path),
+    ) {
+        (Ok(claimed), Ok(found)) if is_same(&claimed, &found) => {
+            let _ = fs::remove_file(rt, file);
+        }
+        (_, Err(error)) if error.kind() == ErrorKind::NotFound => {
+            let _ = fs::rename(rt, file, path);
+        }
+        _ => {}
+    }
+}
+
+/// Tells of a mail whose file could not be removed, put aside or given back.
+fn tell_stuck<E: Write>(alloc: Global, mail: &Mail, errors: &mut E) {
+    let mut line = Vec::new(alloc);
+    if push_stuck(&mut line, &mail.name).is_ok() {
+        let _ = errors.write_all(&line);
+    }
+}
+
+/// Adds the line of a mail whose file could not be removed, put aside or given back.
+fn push_stuck(line: &mut Vec<u8>, name: &[u8]) -> io::Result<()> {
+    line.extend_from_slice(b"ill: ")?;
+    push_escaped(line, name)?;
+    line.extend_from_slice(b" is not settled, and stays among the mails that were claimed\n")?;
+    Ok(())
+}

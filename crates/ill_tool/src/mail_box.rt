@@ -1,7 +1,7 @@
 //! The folder of a desk's mail, beside its file. Nobody but the user of the desk may write there, so what has come to
 //! stand there stays what it is.
 
-use ill_saved::{FileStore, RECORD_LIMIT, Store};
+use ill_saved::{FileStore, RECORD_LIMIT, Store, StoreFault};
 use std::alloc::Global;
 use std::fs::{DirBuilder, Metadata, OpenOptions};
 use std::io::{ErrorKind, Write};
@@ -109,6 +109,7 @@ pub fn asked_bytes<T: Files>(rt: &T, alloc: Global, desk: &str) -> io::Result<Ve
     let mut store = FileStore::at(rt, alloc, asked.as_str(), RECORD_LIMIT)?;
     match store.load(alloc) {
         Ok(bytes) => Ok(bytes.unwrap_or(Vec::new(alloc))),
+        Err(StoreFault::OutOfMemory) => Err(ErrorKind::OutOfMemory.into()),
         Err(_) => Err(ErrorKind::Other.into()),
     }
 }

@@ -1,6 +1,5 @@
 -- What the definitions on two desks take and exclude.
-use Rattle.std.proofs.Common.{rules, ◌≡◌, inl, inr, ℕ, Bool, true, false, if◌then◌else◌, List, [], ◌∷◌, ◌++◌, length, nat_lt, take, Option, Some, None, refl, sym, ap, ◌∙◌, subst}
-use Rattle.std.proofs.lemmas.List.{take_at}
+use Rattle.std.proofs.Common.{rules, ◌≡◌, inl, inr, ℕ, Bool, true, false, if◌then◌else◌, List, [], ◌∷◌, ◌++◌, length, nat_lt, Option, Some, None, refl, sym, ap, ◌∙◌, subst}
 use Rattle.ill_values.specs.TxnId.{Qualifiers}
 use Rattle.ill_values.specs.declared.apdu.Apdu.{Apdu}
 use Rattle.ill_values.specs.declared.apdu.Body.{Body}
@@ -14,7 +13,6 @@ use Rattle.ill_saved.specs.Side.{other}
 use Rattle.ill_saved.specs.Many.{Held, found_by, txn_held, held_for}
 use Rattle.ill_saved.specs.declared.side.Side.{Side}
 use Rattle.ill_saved.proofs.Finding.{same_is, same_self}
-use Rattle.ill_world.specs.declared.event.Event.{Event}
 use Rattle.ill_world.specs.declared.event.DeskEvent.{DeskEvent}
 use Rattle.ill_world.specs.declared.event.DeskEvent.TheVariants as events
 use Rattle.ill_world.specs.declared.event.Outcome.{Outcome}
@@ -32,11 +30,8 @@ use Rattle.ill_world.proofs.Runs.{run_both, run_one}
 
 -- ---- runs
 
--- What is said of the desks after the first events of any number holds after these.
-pub desks_after_front : (P : DeskParties → Type 0) (w : DeskParties) (before after : List DeskEvent) → ((n : ℕ) → P (desks_run w (take n (before ++ after)))) → P (desks_run w before)
-desks_after_front P w before after each = subst (λ events. P (desks_run w events)) (take_at before after (length before) refl) (each (length before))
-
-joined : (own : Bool) (event : Event) (first rest more : List Event) → more ≡ first ++ rest → (if own then event ∷ more else more) ≡ (if own then event ∷ first else first) ++ rest
+-- Two lists stay joined, if one more item goes before them or none does.
+pub joined : {X : Type 0} (own : Bool) (event : X) (first rest more : List X) → more ≡ first ++ rest → (if own then event ∷ more else more) ≡ (if own then event ∷ first else first) ++ rest
 joined true event first rest more is = ap (λ l. event ∷ l) is
 joined false event first rest more is = is
 

@@ -1,6 +1,5 @@
 -- Why no bad world is safe, and why the sides agree in none.
-use Rattle.std.proofs.Common.{rules, ◌≡◌, inl, inr, ℕ, true, false, List, [], ◌∷◌, ◌++◌, length, take, Option, Some, None, sym, ap, subst, refl, ◌∙◌}
-use Rattle.std.proofs.lemmas.List.{take_at}
+use Rattle.std.proofs.Common.{rules, ◌≡◌, inl, inr, ℕ, true, false, List, [], ◌∷◌, Option, Some, None, sym, ap, subst, refl, ◌∙◌}
 use Rattle.std.proofs.lemmas.Option.{same_Some}
 use Rattle.ill_values.specs.Day.{Date}
 use Rattle.ill_values.specs.declared.apdu.AnswerResult.{AnswerResult}
@@ -24,7 +23,7 @@ use Rattle.ill_world.specs.declared.event.Event.{Event}
 use Rattle.ill_saved.specs.declared.role.Role.TheVariants as who
 use Rattle.ill_world.specs.declared.event.Event.TheVariants.{Deliver, Restart}
 use Rattle.ill_world.specs.declared.event.Outcome.{Outcome}
-use Rattle.ill_world.specs.World.{Party, Parties, happens, run_of, sent_message}
+use Rattle.ill_world.specs.World.{Party, Parties, happens, sent_message}
 use Rattle.ill_core.proofs.GrantLemmas.{before_on, not_before_itself}
 use Rattle.ill_world.specs.Safety.{EndsAlike, WasShipped, WasGranted, OfBoth, Safe}
 use Rattle.ill_world.specs.Agreement.{AnswersOnce, AnswersOnceBoth, EndsOnce, Facing, AcceptedBy, IsNotLater, SaysTrue, Agrees, KeepsLiveDate, KeepsDates, Settles, settled_by, Arrives}
@@ -141,9 +140,3 @@ none_in_vain w _ (refused_in_vain n a answer sent is final unheeded) arrives = e
 none_in_vain w _ (returned_in_vain n a sent is unheeded) arrives =
     let after = happens w (Deliver who.Responder n) in
     heeded (states.Returned ∷ states.CheckedIn ∷ []) after.0 after.1.responder.live unheeded (arrives a sent (ap is_returned is))
-
--- ---- runs
-
--- what is said of the world after the first events of any number, of the world after these
-pub after_front : (P : Parties → Type 0) (w : Parties) (before after : List Event) → ((n : ℕ) → P (run_of w (take n (before ++ after)))) → P (run_of w before)
-after_front P w before after each = subst (λ events. P (run_of w events)) (take_at before after (length before) refl) (each (length before))

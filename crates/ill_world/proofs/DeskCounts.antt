@@ -64,7 +64,7 @@ has_either txn new txns is =
     ]
 
 -- A transaction that is none of these, and not one more, is none of both.
-has_not : (txn new : Qualifiers) (txns : List Qualifiers) → is_one_of txn txns ≡ false → is_same_txn txn new ≡ false → is_one_of txn (txns ++ new ∷ []) ≡ false
+pub has_not : (txn new : Qualifiers) (txns : List Qualifiers) → is_one_of txn txns ≡ false → is_same_txn txn new ≡ false → is_one_of txn (txns ++ new ∷ []) ≡ false
 has_not txn new txns none other =
     list_any-append (is_same_txn txn) txns (new ∷ []) ∙ or_from (is_one_of txn txns) (is_one_of txn (new ∷ [])) none (or_from (is_same_txn txn new) false other refl)
 
@@ -128,19 +128,19 @@ either_some true there item found is = refl
 either_some false there item found is = is
 
 -- The item of a transaction is found where the transaction is among theirs.
-has_found : {X : Type 0} (key : X → Qualifiers) (txn : Qualifiers) (items : List X) → is_some (found_by key txn items) ≡ is_one_of txn (map key items)
+pub has_found : {X : Type 0} (key : X → Qualifiers) (txn : Qualifiers) (items : List X) → is_some (found_by key txn items) ≡ is_one_of txn (map key items)
 has_found key txn [] = refl
 has_found key txn (item ∷ items) = either_some (is_same_txn txn (key item)) (is_one_of txn (map key items)) item (found_by key txn items) (has_found key txn items)
 
 -- What an event leaves of the transactions that a desk holds, and of those that have landed: the same; one more
 -- that may begin; those held, which have landed; or those that had landed.
-data Leads (May : Qualifiers → Type 0) (live landed new_live new_landed : List Qualifiers) : Type 0 where
+pub data Leads (May : Qualifiers → Type 0) (live landed new_live new_landed : List Qualifiers) : Type 0 where
   stays : new_live ≡ live → new_landed ≡ landed → Leads May live landed new_live new_landed
   begun : (txn : Qualifiers) → is_one_of txn live ≡ false → length live + 1 ≤ 1000 → May txn → new_live ≡ live ++ txn ∷ [] → new_landed ≡ landed → Leads May live landed new_live new_landed
   lands : new_live ≡ live → new_landed ≡ live → Leads May live landed new_live new_landed
   returns : new_live ≡ landed → new_landed ≡ landed → Leads May live landed new_live new_landed
 
-abbrev LeadsTo : (Qualifiers → Type 0) → DeskParty → DeskParty → Type 0
+abbrev pub LeadsTo : (Qualifiers → Type 0) → DeskParty → DeskParty → Type 0
 LeadsTo May p new = Leads May (live_txns p) (landed_txns p) (live_txns new) (landed_txns new)
 
 -- the desk as it was, or with this transaction's side put
@@ -176,7 +176,7 @@ module _ (May : Qualifiers → Type 0) (p : DeskParty) (of : Qualifiers) where
   reach_leads seen puts fails idle false may has_room room None e = subst (LeadsTo May p) (sym (fails faults.NoSuchTransaction)) (stays refl refl)
 
 -- what may begin by an event: the transaction of a wish, and that of a message that comes
-abbrev Permits : (Qualifiers → Type 0) → List Sending → DeskEvent → Type 0
+abbrev pub Permits : (Qualifiers → Type 0) → List Sending → DeskEvent → Type 0
 Permits May told (desk_events.Wish of wish) = May of
 Permits May told (desk_events.Deliver role of n) = (a : Apdu) → sent_message (sent_for of told) n ≡ Some a → May a.txn
 Permits May told other = Unit {0}
@@ -229,7 +229,7 @@ module _ (grows : RowsGrow) (May : Qualifiers → Type 0) (p : DeskParty) where
   held_txns = map-map txn_of (λ (held : Held). held.side) p.live.held
 
   -- An event leads on.
-  event_leads : (told : List Sending) (event : DeskEvent) → Permits May told event → LeadsTo May p (desk_happens_to p told event).1
+  pub event_leads : (told : List Sending) (event : DeskEvent) → Permits May told event → LeadsTo May p (desk_happens_to p told event).1
   event_leads told (desk_events.Wish of wish) may = decides_leads of (actions.Wish wish) (λ is. may) (is_same_role p.live.role who.Requester)
   event_leads told (desk_events.Deed of deed today) may = decides_leads of (actions.Deed deed today) (λ is. absurd (true≢false (sym is))) (is_same_role p.live.role who.Responder)
   event_leads told (desk_events.Save role) may = lands (map-map txn_held whole (map (λ (held : Held). held.side) p.live.held) ∙ held_txns) held_txns

@@ -39,3 +39,5 @@ pub mod DeskCounts
 pub mod DeskRounds
 pub mod DeskNights
 pub mod DeskPasses
+pub mod Shelves
+pub mod ShelfNights

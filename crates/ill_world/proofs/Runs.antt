@@ -1,6 +1,6 @@
 -- A run, one event after another.
-use Rattle.std.proofs.Common.{arith, ◌≡◌, ℕ, suc, ◌+◌, ◌<◌, ◌≤◌, List, [], ◌∷◌, ◌++◌, length, drop, take, get_or, refl, sym, ap, ◌∙◌, drop-cons, add-one}
-use Rattle.std.proofs.lemmas.List.{length-drop, take_more}
+use Rattle.std.proofs.Common.{arith, ◌≡◌, ℕ, suc, ◌+◌, ◌<◌, ◌≤◌, List, [], ◌∷◌, ◌++◌, length, drop, take, get_or, refl, sym, ap, ◌∙◌, subst, drop-cons, add-one}
+use Rattle.std.proofs.lemmas.List.{length-drop, take_at, take_more}
 use Rattle.ill_world.specs.declared.event.Event.{Event}
 use Rattle.ill_values.specs.TxnId.{Qualifiers}
 use Rattle.ill_world.specs.World.{Parties, happens, run_by, run_of}
@@ -44,6 +44,10 @@ module _ {W E O : Type 0} (happening : W → E → O × W) where
   run_taken w new events i event outcome less is happened =
       let next = take_more events i event less ∙ ap (λ e. take i events ++ e ∷ []) (sym is) in
       ap (run_by happening w) next ∙ run_both w (take i events) (event ∷ []) ∙ run_one (run_by happening w (take i events)) event ∙ ap (λ (after : O × W). after.1) happened
+
+  -- A fact of each world on the way holds where the first events lead.
+  pub run_front : (P : W → Type 0) (w : W) (before after : List E) → ((n : ℕ) → P (run_by happening w (take n (before ++ after)))) → P (run_by happening w before)
+  run_front P w before after each = subst (λ events. P (run_by happening w events)) (take_at before after (length before) refl) (each (length before))
 
 -- ---- what every world of a run keeps
 

@@ -18,6 +18,7 @@ pub mod DeskNight
 pub mod DeskCounts
 pub mod DeskSafety
 pub mod Agreement
+pub mod Shelves
 pub mod BadWorlds
 pub mod BadDesks
 pub mod BadTraces

@@ -20,6 +20,7 @@ mod party;
 mod performer;
 mod script;
 mod sent;
+pub mod shelf_laws;
 mod simulation;
 mod trace;
 pub mod words;

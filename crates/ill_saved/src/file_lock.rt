@@ -133,7 +133,8 @@ fn try_take<R: LockFiles>(rt: &R, path: &str, lock_path: &str) -> io::Result<Att
     }
 }
 
-/// Locks the file that was created for it, and lets those open that file who may open the record.
+/// Locks the file that was created for it, and lets those open that file who may open the record. If another has locked
+/// and removed the file meanwhile, the lock is tried again.
 fn lock_created<R: LockFiles>(
     rt: &R,
     lock_path: &str,
@@ -141,7 +142,11 @@ fn lock_created<R: LockFiles>(
     record: Option<&Metadata>,
 ) -> io::Result<Attempt<R::File>> {
     if let Some(record) = record {
-        regular_file::share_like(rt, lock_path, &file, record)?;
+        match regular_file::share_like(rt, lock_path, &file, record) {
+            Ok(()) => {}
+            Err(error) if error.kind() == ErrorKind::NotFound => return Ok(Attempt::Busy),
+            Err(error) => return Err(error),
+        }
     }
     lock(rt, lock_path, file)
 }

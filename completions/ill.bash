@@ -16,16 +16,16 @@ _ill_text() {
   printf '%s\n' "$text"
 }
 
-# What `ill status` tells of the loans in a file.
-_ill_status() { ill status -- "$(_ill_text "$1")" 2> /dev/null; }
+# What `ill status` tells of the loans in a file, or of a shelf.
+_ill_status() { ill ${shelf:+shelf} status -- "$(_ill_text "$1")" 2> /dev/null; }
 
-# The first words of the role of a file; of both roles where the file has no loan.
+# The first words of the role of a file or a shelf; of both roles where it has no loan.
 _ill_words() {
   local requester='request cancel reply receive renew return'
   local responder='answer cancel-reply ship renew-answer overdue recall check-in expire'
-  case $(_ill_status "$1") in
-    'role requester'*) echo "$requester" ;;
-    'role responder'*) echo "$responder" ;;
+  case $(_ill_status "$1" | grep -m 1 '^role ') in
+    'role requester') echo "$requester" ;;
+    'role responder') echo "$responder" ;;
     *) echo "$requester $responder" ;;
   esac
 }
@@ -75,22 +75,27 @@ _ill_read() {
   done
 }
 
-# Takes the option away that may stand before the command.
+# Takes a word away that may stand before the command, and says if it was there.
 _ill_skip() {
-  if [ "${COMP_WORDS[1]}" = --explain ] && [ "$COMP_CWORD" -gt 1 ]; then
-    COMP_WORDS=("${COMP_WORDS[0]}" "${COMP_WORDS[@]:2}")
-    ((COMP_CWORD--))
-  fi
+  [ "${COMP_WORDS[1]}" = "$1" ] && [ "$COMP_CWORD" -gt 1 ] || return 1
+  COMP_WORDS=("${COMP_WORDS[0]}" "${COMP_WORDS[@]:2}")
+  ((COMP_CWORD--))
+  return 0
 }
 
 _ill() {
-  _ill_skip
-  local commands='new act list loan status report take send inbox outbox exchange verify show check simulate simulate-desks help'
+  local commands='new act list loan status report take send inbox outbox exchange verify show check simulate simulate-desks shelf help'
+  local commands_on_shelf='new act loan status take send inbox outbox exchange retire help' shelf=
+  _ill_skip --explain
+  if _ill_skip shelf; then shelf=shelf-; fi
   local word=${COMP_WORDS[COMP_CWORD]} command=${COMP_WORDS[1]} offered= arguments wanted
   COMPREPLY=()
   _ill_read
   if [ "$COMP_CWORD" = 1 ]; then command=; fi
-  case $wanted-$command-${#arguments[@]}-$word in
+  case $wanted-$shelf$command-${#arguments[@]}-$word in
+    any-shelf--0--*) offered=--help ;;
+    any-shelf--0-* | *-shelf-help-0-*) offered=$commands_on_shelf ;;
+    any-shelf-act-[0-9]--*) offered='--today --new-group --help' ;;
     any--0--*) offered='--explain --help --version' ;;
     any--0-* | *-help-0-[!-]* | *-help-0-) offered=$commands ;;
     day-* | any-help-*) ;;
@@ -98,24 +103,26 @@ _ill() {
     state-*) offered='IDLE PENDING IN-PROCESS CONDITIONAL CANCEL-PENDING CANCELLED NOT-SUPPLIED SHIPPED
       RECEIVED RENEW/PENDING OVERDUE RENEW/OVERDUE NOT-RECEIVED/OVERDUE RECALL RETURNED CHECKED-IN' ;;
     any-list-[0-9]*--*) offered='--open --mine --today --due-before --state --json --help' ;;
-    any-take-[0-9]--*) offered='--long --keep --help' ;;
-    any-outbox-[0-9]--*) offered='--stream --help' ;;
-    any-exchange-[0-9]--*) offered='--today --overdue --expire --copy --beat --help' ;;
-    any-loan-[0-9]--*) offered='--picture --json --help' ;;
+    any-take-[0-9]--* | any-shelf-take-[0-9]--*) offered='--long --keep --help' ;;
+    any-outbox-[0-9]--* | any-shelf-outbox-[0-9]--*) offered='--stream --help' ;;
+    any-exchange-[0-9]--* | any-shelf-exchange-[0-9]--*) offered='--today --overdue --expire --copy --beat --help' ;;
+    any-loan-[0-9]--* | any-shelf-loan-[0-9]--*) offered='--picture --json --help' ;;
     any-report-[0-9]*--*) offered='--today --help' ;;
-    any-status-[0-9]--* | any-show-[0-9]--*) offered='--json --help' ;;
+    any-status-[0-9]--* | any-shelf-status-[0-9]--* | any-show-[0-9]--*) offered='--json --help' ;;
     any-*-[0-9]--*) offered=--help ;;
+    [!f]*-shelf-new-0-* | [!f]*-shelf-act-0-* | [!f]*-shelf-loan-0-* | [!f]*-shelf-status-0-* | [!f]*-shelf-take-0-* | \
+      [!f]*-shelf-send-0-* | [!f]*-shelf-inbox-0-* | [!f]*-shelf-outbox-0-* | [!f]*-shelf-exchange-0-* | \
+      [!f]*-retire-0-* | [!f]*-inbox-1-* | [!f]*-outbox-1-* | [!f]*-exchange-[12]-*)
+      compopt -o filenames 2> /dev/null
+      mapfile -t COMPREPLY < <(compgen -d -- "$word")
+      return ;;
     file-* | *-new-0-* | *-act-0-* | *-take-0-* | *-send-0-* | *-inbox-0-* | *-outbox-0-* | *-exchange-0-* | *-list-* | \
       *-report-* | *-status-0-* | *-loan-0-* | *-verify-0-*)
       compopt -o filenames 2> /dev/null
       mapfile -t COMPREPLY < <(compgen -f -- "$word")
       return ;;
-    *-inbox-1-* | *-outbox-1-* | *-exchange-[12]-*)
-      compopt -o filenames 2> /dev/null
-      mapfile -t COMPREPLY < <(compgen -d -- "$word")
-      return ;;
     *-new-1-*) offered='requester responder' ;;
-    *-act-[12]-* | *-send-[12]-* | *-loan-[12]-*)
+    *-act-[12]-* | *-send-[12]-* | *-loan-[12]-* | *-retire-1-*)
       _ill_offer_loans "${arguments[@]}"
       return ;;
     *-act-3-*) offered=$(_ill_words "${arguments[0]}") ;;

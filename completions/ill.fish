@@ -1,12 +1,17 @@
 # Completion of ill(1) in fish: commands, options, roles, files, their loans, and the first words of actions.
 
-set -l commands new act list loan status report take send inbox outbox exchange verify show check simulate simulate-desks help
+set -l commands new act list loan status report take send inbox outbox exchange verify show check simulate simulate-desks shelf help
 
-# The words before the cursor, without the option that may stand before the command.
+# The words before the cursor, without the option that may stand before the command. A command of a shelf is one word,
+# such as `shelf-act`.
 function __ill_typed
     set -l words (commandline -opc)
     if test "$words[2]" = --explain
         set -e words[2]
+    end
+    if test "$words[2]" = shelf; and test (count $words) -gt 2
+        set -e words[2]
+        set words[2] shelf-$words[2]
     end
     string join \n -- $words
 end
@@ -33,7 +38,7 @@ function __ill_read
             case 'any--*'
             case '*'
                 set -a arguments $word
-                if test "$words[2]-"(count $arguments) = act-4
+                if contains -- "$words[2]-"(count $arguments) act-4 shelf-act-4
                     set wanted argument
                 end
         end
@@ -71,12 +76,13 @@ end
 # __ill_file: whether a file may come next that `exchange` writes, or the option that says it.
 function __ill_file
     set -l read (__ill_read)
-    contains -- $read[1] any file; and test "$read[2]" = exchange
+    contains -- $read[1] any file; and contains -- "$read[2]" exchange shelf-exchange
 end
 
-# What `ill status` tells of the loans in a file.
+# What `ill status` tells of the loans in a file, or of a shelf.
 function __ill_status
-    ill status -- (string replace -r '^~/' "$HOME/" -- $argv[1]) 2>/dev/null
+    set -l shelf (string match -r '^shelf' -- (__ill_read)[2])
+    ill $shelf status -- (string replace -r '^~/' "$HOME/" -- $argv[1]) 2>/dev/null
 end
 
 # The groups of the loans in the file; behind a group, its transactions.
@@ -98,11 +104,11 @@ function __ill_loans
     end | sort -u
 end
 
-# The words of the role of the file; of both roles where the file has no loan.
+# The words of the role of the file or the shelf; of both roles where it has no loan.
 function __ill_words
     set -l requester request cancel reply receive renew return
     set -l responder answer cancel-reply ship renew-answer overdue recall check-in expire
-    switch (__ill_status (__ill_read)[3])[1]
+    switch (__ill_status (__ill_read)[3] | string match -r '^role .*')[1]
         case 'role requester'
             string join \n $requester
         case 'role responder'
@@ -132,8 +138,27 @@ complete -c ill -n "__ill_at 0 ''" -a show -d 'Show each APDU on standard input'
 complete -c ill -n "__ill_at 0 ''" -a check -d 'Check and count the APDUs on standard input'
 complete -c ill -n "__ill_at 0 ''" -a simulate -d 'Perform a script of both sides'
 complete -c ill -n "__ill_at 0 ''" -a simulate-desks -d 'Perform a script of two desks'
+complete -c ill -n "__ill_at 0 ''" -a shelf -d 'Keep a folder of desks, one for each group of loans'
 complete -c ill -n "__ill_at 0 ''" -a help -d 'Print the help of a command'
 complete -c ill -n '__ill_at 0 new act take send inbox outbox exchange list status loan verify report' -F
+complete -c ill -n '__ill_at 0 shelf shelf-help' -a 'new act loan status take send inbox outbox exchange retire help'
+complete -c ill -n "__ill_at 0 shelf-"(string join ' shelf-' new act loan status take send inbox outbox exchange retire) -x -a '(__fish_complete_directories)'
+complete -c ill -n '__ill_at 1 shelf-inbox shelf-outbox shelf-exchange' -x -a '(__fish_complete_directories)'
+complete -c ill -n '__ill_at 2 shelf-exchange' -x -a '(__fish_complete_directories)'
+complete -c ill -n '__ill_at 1 shelf-new' -a 'requester responder'
+complete -c ill -n '__ill_at 1 shelf-act shelf-send shelf-loan shelf-retire' -a '(__ill_loans)'
+complete -c ill -n '__ill_at 2 shelf-act shelf-send shelf-loan' -a '(__ill_loans)'
+complete -c ill -n '__ill_at 3 shelf-act' -a '(__ill_words)'
+complete -c ill -n '__ill_option shelf-act' -l today -x -d 'The day of the action'
+complete -c ill -n '__ill_option shelf-act' -l new-group -d 'Begin the group of the loan, if the shelf has none'
+complete -c ill -n '__ill_option shelf-take' -l long -d 'Tell which message each was, and what it said'
+complete -c ill -n '__ill_option shelf-take' -l keep -d 'Keep each message that is taken, in FILE.came'
+complete -c ill -n '__ill_option shelf-outbox' -l stream -d 'Write the messages to standard output'
+complete -c ill -n '__ill_option shelf-exchange' -l today -x -d 'The day of the run'
+complete -c ill -n '__ill_option shelf-exchange' -l overdue -d 'Say of each loan that is past its due date that it is'
+complete -c ill -n '__ill_option shelf-exchange' -l expire -d 'End each request that is past its last day'
+complete -c ill -n '__ill_option shelf-loan' -l picture -d 'Draw the messages of the loan, for Mermaid'
+complete -c ill -n '__ill_option shelf-loan shelf-status' -l json -d 'Write objects of JSON, one on a line'
 complete -c ill -n '__ill_at 1 inbox outbox exchange' -x -a '(__fish_complete_directories)'
 complete -c ill -n '__ill_at 2 exchange' -x -a '(__fish_complete_directories)'
 complete -c ill -n '__ill_at 1 new' -a 'requester responder'

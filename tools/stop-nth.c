@@ -9,6 +9,7 @@
      short   a read or a write moves half of the bytes
      EIO     or another name of the table below: the call fails so, and does nothing, but that a close closes
      broken  this call and all behind it fail with EIO, but those of standard input, output and errors
+     full    this call and all behind it fail with ENOSPC if they write to a file or make a folder
    STOP_LOG names a file that gets a line for each call before it is made: its name, and that of the file. A
    statx that follows no link is an lstat there, one of an open file an fstat, and an lchown of the group alone a
    chgrp.
@@ -96,7 +97,7 @@ static int is_here(const char *call, const char *name) {
   count++;
   if (!text)
     return 0;
-  if (is_how("broken"))
+  if (is_how("broken") || is_how("full"))
     return count >= atol(text) && !is_stream(name);
   return count == atol(text) || is_line(text, call, name);
 }
@@ -118,6 +119,14 @@ static int fails(int reached) {
   if (!reached || !fault())
     return 0;
   errno = fault();
+  return 1;
+}
+
+/* Tells if a call that wants space was reached and finds none. */
+static int finds_no_space(int reached) {
+  if (!reached || !is_how("full"))
+    return 0;
+  errno = ENOSPC;
   return 1;
 }
 
@@ -153,9 +162,10 @@ static void keep_name(const char *name) {
   int error = errno;
   if (!is_kept(kept, "name", name) || !is_kept(none, "none", name))
     return;
-  /* A folder has no second name, and neither has a file of another disk: these are not kept. */
+  /* A folder has no second name, and neither has a file of another disk: these are not kept. Another program may keep the
+     name at the same moment. */
   if (faccessat(AT_FDCWD, kept, F_OK, AT_SYMLINK_NOFOLLOW) && access(none, F_OK) && REAL(link)(name, kept) && errno != EPERM
-      && errno != EXDEV && (errno != ENOENT || mknod(none, S_IFREG | 0600, 0)))
+      && errno != EXDEV && errno != EEXIST && (errno != ENOENT || (mknod(none, S_IFREG | 0600, 0) && errno != EEXIST)))
     abort();
   errno = error;
 }
@@ -284,7 +294,7 @@ ssize_t getdents64(int file, void *out, size_t size) {
 
 int mkdir(const char *path, mode_t mode) {
   int reached = is_reached("mkdir", path);
-  if (fails(reached))
+  if (fails(reached) || finds_no_space(reached))
     return -1;
   keep_name(path);
   return answered(reached, REAL(mkdir)(path, mode));
@@ -332,7 +342,7 @@ ssize_t read(int file, void *out, size_t size) {
 ssize_t write(int file, const void *bytes, size_t size) {
   int reached = is_reached("write", name_of(file));
   ssize_t answer;
-  if (fails(reached))
+  if (fails(reached) || finds_no_space(reached))
     return -1;
   keep_bytes(file);
   answer = REAL(write)(file, bytes, moved(reached, size));

@@ -4,7 +4,6 @@ use Rattle.std.proofs.lemmas.List.{length-drop}
 use Rattle.ill_values.specs.declared.apdu.Apdu.{Apdu}
 use Rattle.ill_der.specs.declared.fault.DerFault.{DerFault}
 use Rattle.ill_der.specs.ShortForm.{Views}
-use Rattle.ill_tool.specs.declared.verdict.Unfit.{Unfit}
 use Rattle.ill_tool.specs.declared.verdict.Unfit.TheVariants.{Trailing}
 use Rattle.ill_saved.specs.Many.{Holding}
 use Rattle.ill_tool.specs.declared.verdict.Mail.{Mail}

@@ -21,3 +21,4 @@ pub mod SidesLemmas
 pub mod OrderLemmas
 pub mod OutboxLemmas
 pub mod WaitingLemmas
+pub mod ShelfLemmas

@@ -1,9 +1,10 @@
 -- What a command line asks for, by what it says behind the word of a command (this profile's own).
-use Rattle.std.specs.Prelude.{◌≡◌, ℕ, Bool, true, false, ◌||◌, if◌then◌else◌, List, map, codes, Option, None, Some, option_map, is_none, Result, Ok, Err}
+use Rattle.std.specs.Prelude.{◌≡◌, ℕ, Bool, true, false, ◌||◌, if◌then◌else◌, List, map, codes, Option, None, Some, option_map, is_none, Result, Ok, Err, is_ok}
 use Rattle.std.specs.Result.{result_ok}
 use Rattle.std.specs.Str.{bytes_eq}
 use Rattle.clap.specs.Words.{Row, Text, first_of, all_of}
 use Rattle.ill_values.specs.Day.{Date}
+use Rattle.ill_values.specs.Text.{qualifier_check}
 use Rattle.ill_values.specs.TxnId.{Qualifiers, txn_id_of}
 use Rattle.ill_core.specs.declared.state.State.{State}
 use Rattle.ill_saved.specs.declared.role.Role.{Role as Who}
@@ -22,7 +23,7 @@ use Rattle.ill_tool.specs.declared.request.Request.TheVariants as requests
 use Rattle.ill_tool.specs.declared.command_line.Name.{Name}
 use Rattle.ill_tool.specs.declared.command_line.Name.TheVariants as names
 use Rattle.ill_tool.specs.declared.command_line.Argument.{Argument}
-use Rattle.ill_tool.specs.declared.command_line.Argument.TheVariants.{NewFile, File, Folder, Role, Group, Transaction, Today, Words, Number, Long, Keep, Picture, Open, Mine, Json, Paths, OnDay, DueBefore, InState, ReportDay, OutFolder, Stream, In, Out, NightDay, Overdue, Expire, Copy, Beat}
+use Rattle.ill_tool.specs.declared.command_line.Argument.TheVariants.{NewFile, File, Folder, Role, Group, Transaction, Today, Words, Number, Long, Keep, Picture, Open, Mine, Json, Paths, OnDay, DueBefore, InState, ReportDay, OutFolder, Stream, In, Out, NightDay, Overdue, Expire, Copy, Beat, NewGroup}
 use Rattle.ill_tool.specs.CommandLine.{name_read, id_of}
 use Rattle.ill_core.specs.State.{state_named}
 
@@ -46,6 +47,14 @@ loan_of found = do
   group ← text_of Group found
   transaction ← text_of Transaction found
   result_ok (txn_id_of group transaction)
+
+-- a group, if an id can have it
+abbrev pub group_if : Bool → List ℕ → Option (List ℕ)
+group_if true group = Some group
+group_if false group = None
+
+abbrev pub group_of : Found → Option (List ℕ)
+group_of found = text_of Group found >>= λ group. group_if (is_ok (qualifier_check group)) group
 
 -- the texts of an argument that has one or more
 abbrev pub texts_of : Argument → Found → Option (List (List ℕ))
@@ -132,7 +141,8 @@ pub data Asked : Type 0 where
   Simulate : (group transaction : List ℕ) → Asked
   SimulateDesks : Asked
   New : (file : List ℕ) → (role : Who) → Asked
-  Act : (file : List ℕ) → (txn : Qualifiers) → (today : Option Date) → (words : List (List ℕ)) → Asked
+  Act : (file : List ℕ) → (txn : Qualifiers) → (today : Option Date) → (is_new_group : Bool) → (words : List (List ℕ))
+      → Asked
   Take : (file : List ℕ) → (is_long is_kept : Bool) → Asked
   Inbox : (file folder : List ℕ) → Asked
   Outbox : (file : List ℕ) → (folder : Option (List ℕ)) → Asked
@@ -142,6 +152,7 @@ pub data Asked : Type 0 where
   Status : (file : List ℕ) → (form : Form) → Asked
   Loan : (file : List ℕ) → (txn : Qualifiers) → (form : Form) → (is_picture : Bool) → Asked
   Report : (paths : List (List ℕ)) → (today : Date) → Asked
+  Retire : (file group : List ℕ) → Asked
   Verify : (file : List ℕ) → Asked
 
 -- what a request asks for
@@ -151,18 +162,20 @@ asked requests.Check = Check
 asked (requests.Simulate group transaction) = Simulate group.now transaction.now
 asked requests.SimulateDesks = SimulateDesks
 asked (requests.New file role) = New file.now role
-asked (requests.Act file txn today words) = Act file.now txn today (map (λ word. word.now) words.items)
+asked (requests.Act file txn today is_new_group words) =
+    Act file.now txn today is_new_group (map (λ word. word.now) words.items)
 asked (requests.Take file is_long is_kept) = Take file.now is_long is_kept
 asked (requests.Inbox file folder) = Inbox file.now folder.now
 asked (requests.Outbox file folder) = Outbox file.now (option_map (λ text. text.now) folder)
-asked (requests.Exchange night) =
-    Exchange night.file.now night.incoming.now night.outgoing.now night.dates (option_map (λ text. text.now) night.copy)
+asked (requests.Exchange file night) =
+    Exchange file.now night.incoming.now night.outgoing.now night.dates (option_map (λ text. text.now) night.copy)
     (option_map (λ text. text.now) night.beat)
 asked (requests.Send file txn number) = Send file.now txn number
 asked (requests.List paths wanted form) = Listing (map (λ path. path.now) paths.items) wanted form
 asked (requests.Status file form) = Status file.now form
 asked (requests.Loan file txn form is_picture) = Loan file.now txn form is_picture
 asked (requests.Report paths today) = Report (map (λ path. path.now) paths.items) today
+asked (requests.Retire file group) = Retire file.now group.now
 asked (requests.Verify file) = Verify file.now
 
 -- what a command asks for with these arguments, if each is what it has to be
@@ -183,7 +196,7 @@ asked_of names.Act found = do
   today ← day_in Today found
   txn ← loan_of found
   words ← texts_of Words found
-  Some (Act file txn today words)
+  Some (Act file txn today (is_set NewGroup found) words)
 asked_of names.Take found = do
   file ← text_of File found
   Some (Take file (is_set Long found) (is_set Keep found))
@@ -221,6 +234,10 @@ asked_of names.Report found = do
   paths ← texts_of Paths found
   today ← report_day_of found
   Some (Report paths today)
+asked_of names.Retire found = do
+  file ← text_of File found
+  group ← group_of found
+  Some (Retire file group)
 asked_of names.Verify found = do
   file ← text_of File found
   Some (Verify file)

@@ -1,10 +1,10 @@
 -- The words that a command line has for commands, and what `clap` calls their arguments.
 use Rattle.std.specs.Prelude.{ℕ, List, [], ◌∷◌, codes, Option, find, bytes_eq}
 use Rattle.ill_tool.specs.declared.command_line.Name.{Name}
-use Rattle.ill_tool.specs.declared.command_line.Name.TheVariants.{New, Act, Take, Inbox, Outbox, Exchange, Send, Status, Loan, Report, Verify, Show, Check, Simulate, SimulateDesks}
+use Rattle.ill_tool.specs.declared.command_line.Name.TheVariants.{New, Act, Take, Inbox, Outbox, Exchange, Send, Status, Loan, Report, Retire, Verify, Show, Check, Simulate, SimulateDesks}
 use Rattle.ill_tool.specs.declared.command_line.Name.TheVariants as names
 use Rattle.ill_tool.specs.declared.command_line.Argument.{Argument}
-use Rattle.ill_tool.specs.declared.command_line.Argument.TheVariants.{NewFile, File, Folder, Role, Group, Transaction, Today, Words, Number, Long, Keep, Picture, Open, Mine, Json, Paths, OnDay, DueBefore, InState, ReportDay, OutFolder, Stream, In, Out, NightDay, Overdue, Expire, Copy, Beat}
+use Rattle.ill_tool.specs.declared.command_line.Argument.TheVariants.{NewFile, File, Folder, Role, Group, Transaction, Today, Words, Number, Long, Keep, Picture, Open, Mine, Json, Paths, OnDay, DueBefore, InState, ReportDay, OutFolder, Stream, In, Out, NightDay, Overdue, Expire, Copy, Beat, NewGroup}
 
 -- the word of a command
 abbrev pub word_of : Name → List ℕ
@@ -19,6 +19,7 @@ word_of names.List = codes "list"
 word_of Status = codes "status"
 word_of Loan = codes "loan"
 word_of Report = codes "report"
+word_of Retire = codes "retire"
 word_of Verify = codes "verify"
 word_of Show = codes "show"
 word_of Check = codes "check"
@@ -29,7 +30,7 @@ word_of SimulateDesks = codes "simulate-desks"
 abbrev pub name_read : List ℕ → Option Name
 name_read word = find (λ name. bytes_eq (word_of name) word)
     (New ∷ Act ∷ names.List ∷ Loan ∷ Status ∷ Report ∷ Take ∷ Send ∷ Inbox ∷ Outbox ∷ Exchange ∷ Verify ∷ Show ∷ Check
-    ∷ Simulate ∷ SimulateDesks ∷ [])
+    ∷ Simulate ∷ SimulateDesks ∷ Retire ∷ [])
 
 -- what an argument is called
 abbrev pub id_of : Argument → List ℕ
@@ -62,3 +63,4 @@ id_of Overdue = codes "overdue"
 id_of Expire = codes "expire"
 id_of Copy = codes "copy"
 id_of Beat = codes "beat"
+id_of NewGroup = codes "new-group"

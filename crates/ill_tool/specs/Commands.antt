@@ -6,12 +6,10 @@ use Rattle.ill_values.specs.Day.{Date}
 use Rattle.ill_values.specs.TxnId.{Qualifiers, txn_id_of}
 use Rattle.ill_values.specs.declared.apdu.Apdu.{Apdu}
 use Rattle.ill_saved.specs.declared.side.Side.{Side}
-use Rattle.ill_saved.specs.declared.fault.DeskFault.TheVariants.{Store}
 use Rattle.ill_saved.specs.declared.store.StoreFault.{StoreFault}
-use Rattle.ill_saved.specs.declared.store.StoreFault.TheVariants.{Failed}
 use Rattle.ill_saved.specs.Many.{Held, Holding, found_by, txn_held}
 use Rattle.ill_tool.specs.declared.fault.ToolFault.{ToolFault}
-use Rattle.ill_tool.specs.declared.fault.ToolFault.TheVariants.{Desk, Left, OutOfMemory}
+use Rattle.ill_tool.specs.declared.fault.ToolFault.TheVariants.{Arguments, Desk, Left, OutOfMemory}
 use Rattle.std.specs.List.{zip}
 use Rattle.ill_saved.specs.declared.role.Role.{Role}
 use Rattle.ill_tool.specs.Keeping.{many_sides}
@@ -254,7 +252,7 @@ ReportsPaths today before after result =
     ⊎ ((desks : List (List ℕ × List Side)) × GoesWell (WritesText before after (report_page today desks)) result)
 
 -- A command, from what the reader had left to what it has left, and from what the writer held to what it
--- holds.
+-- holds. A group is retired on a shelf alone.
 abbrev pub Runs : Asked → Option (List ℕ) → Option (List ℕ) → Option (List ℕ) → Option (List ℕ) →
     Result Bool ToolFault → Type 0
 Runs (asks.Show form) left rest before after result = GoesWell (Shows form left rest before after) result
@@ -263,7 +261,7 @@ Runs (asks.Simulate group transaction) left rest before after result =
     GoesWell (Performs (txn_id_of group transaction) left rest before after) result
 Runs asks.SimulateDesks left rest before after result = GoesWell (PerformsDesks left rest before after) result
 Runs (asks.New file role) left rest before after result = (rest ≡ left) × NewAtFile before after result
-Runs (asks.Act file txn today words) left rest before after result =
+Runs (asks.Act file txn today is_new_group words) left rest before after result =
     (rest ≡ left) × ActsAtFile txn today words before after result
 Runs (asks.Take file is_long is_kept) left rest before after result =
     TakesAtFile is_kept is_long left rest before after result
@@ -281,3 +279,5 @@ Runs (asks.Loan file txn form is_picture) left rest before after result =
     (rest ≡ left) × LoanAtFile form is_picture txn before after result
 Runs (asks.Report paths today) left rest before after result = (rest ≡ left) × ReportsPaths today before after result
 Runs (asks.Verify file) left rest before after result = (rest ≡ left) × VerifiesFile before after result
+Runs (asks.Retire file group) left rest before after result =
+    (rest ≡ left) × (after ≡ before) × (result ≡ Err Arguments)

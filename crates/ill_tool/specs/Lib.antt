@@ -36,3 +36,4 @@ pub mod ExitStatus
 pub mod CommandLine
 pub mod Asked
 pub mod Commands
+pub mod Shelf

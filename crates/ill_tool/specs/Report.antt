@@ -149,22 +149,22 @@ abbrev pub loans_text : Date → List Turn → List Field → List Side → List
 loans_text today turns fields sides = flat_map (loan_text today fields) (filter (is_on today turns) sides)
 
 -- those loans behind their count, with a text before it and one behind it
-abbrev pub shelf_text : Date → List Side → List ℕ → List Turn → List ℕ → List Field → List ℕ
-shelf_text today sides heading turns opening fields =
+abbrev pub section_text : Date → List Side → List ℕ → List Turn → List ℕ → List Field → List ℕ
+section_text today sides heading turns opening fields =
     heading ++ (decimal (count_by (is_on today turns) sides) ++ (opening ++ loans_text today turns fields sides))
 
 -- the loans that wait for this library, all that are open, and those that are over
-unfoldable pub shelves_text : Date → List Side → List ℕ
-shelves_text today sides =
-    shelf_text today sides WAITING.now (Mine ∷ []) OPENING.now TASK
-    ++ (shelf_text today sides OPEN.now (Mine ∷ Theirs ∷ []) OPENING.now LOAN
-    ++ shelf_text today sides OVER.now (Over ∷ []) FOLDED.now LOAN)
+unfoldable pub sections_text : Date → List Side → List ℕ
+sections_text today sides =
+    section_text today sides WAITING.now (Mine ∷ []) OPENING.now TASK
+    ++ (section_text today sides OPEN.now (Mine ∷ Theirs ∷ []) OPENING.now LOAN
+    ++ section_text today sides OVER.now (Over ∷ []) FOLDED.now LOAN)
 
 -- what is told of a desk: its file, and its loans, the most urgent first
 unfoldable pub desk_text : Date → List ℕ × List Side → List ℕ
 desk_text today (file, sides) =
     DESK.now ++ (html_text file ++ (LOANS.now
-    ++ (shelves_text today (most_urgent_first sides) ++ DESK_END.now)))
+    ++ (sections_text today (most_urgent_first sides) ++ DESK_END.now)))
 
 -- what stands before the desks of a page
 unfoldable pub page_head : Date → List ℕ

@@ -21,6 +21,7 @@ pub enum Name {
     Status,
     Loan,
     Report,
+    Retire,
     Verify,
     Show,
     Check,
@@ -28,9 +29,12 @@ pub enum Name {
     SimulateDesks,
 }
 
+/// The command whose own commands are about a shelf.
+pub const SHELF: &str = "shelf";
+
 /// All commands, in the order in which the help lists them: those for staff, those for the exchange with other
-/// libraries, and those for whoever looks inside. clap is told of these and of no others.
-const NAMES: [Name; 16] = [
+/// libraries, those for whoever looks inside, and one for shelves alone. clap is told of these and of no others.
+const NAMES: [Name; 17] = [
     Name::New,
     Name::Act,
     Name::List,
@@ -47,6 +51,21 @@ const NAMES: [Name; 16] = [
     Name::Check,
     Name::Simulate,
     Name::SimulateDesks,
+    Name::Retire,
+];
+
+/// The commands about a shelf.
+const SHELF_NAMES: [Name; 10] = [
+    Name::New,
+    Name::Act,
+    Name::Loan,
+    Name::Status,
+    Name::Take,
+    Name::Send,
+    Name::Inbox,
+    Name::Outbox,
+    Name::Exchange,
+    Name::Retire,
 ];
 
 impl Name {
@@ -66,6 +85,7 @@ impl Name {
             Name::Status => "status",
             Name::Loan => "loan",
             Name::Report => "report",
+            Name::Retire => "retire",
             Name::Verify => "verify",
             Name::Show => "show",
             Name::Check => "check",
@@ -88,6 +108,7 @@ impl Name {
             Name::Status => "Show how each loan in a file stands",
             Name::Loan => "Show all of one loan: request, messages, what may be done",
             Name::Report => "Write a page for a browser of the loans of desks",
+            Name::Retire => "Replace a desk whose loans are over by a mark of its group",
             Name::Verify => "Read a desk, and tell what it has or what is wrong with it",
             Name::Show => "Show each APDU on standard input",
             Name::Check => "Check the APDUs on standard input and count them",
@@ -110,6 +131,7 @@ impl Name {
             Name::Status => help::STATUS,
             Name::Loan => help::LOAN,
             Name::Report => help::REPORT,
+            Name::Retire => help::RETIRE,
             Name::Verify => help::VERIFY,
             Name::Show => help::SHOW,
             Name::Check => help::CHECK,
@@ -132,6 +154,7 @@ impl Name {
             Name::Status => help::STATUS_EXAMPLE,
             Name::Loan => help::LOAN_EXAMPLE,
             Name::Report => help::REPORT_EXAMPLE,
+            Name::Retire => help::RETIRE_EXAMPLE,
             Name::Verify => help::VERIFY_EXAMPLE,
             Name::Show => help::SHOW_EXAMPLE,
             Name::Check => help::CHECK_EXAMPLE,
@@ -165,6 +188,7 @@ impl Name {
                 Argument::Beat,
             ],
             Name::Status => &[Argument::File, Argument::Json],
+            Name::Retire => &[Argument::File, Argument::Group],
             Name::Verify => &[Argument::File],
             Name::Send => &[
                 Argument::File,
@@ -192,6 +216,41 @@ impl Name {
             Name::Simulate => &[Argument::Group, Argument::Transaction],
             Name::Show => &[Argument::Json],
             Name::Check | Name::SimulateDesks => &[],
+        }
+    }
+
+    /// Tells if a command is about shelves alone.
+    fn is_of_shelves(self) -> bool {
+        matches!(self, Name::Retire)
+    }
+
+    /// What it does on a shelf, in a line.
+    fn about_shelf<'a>(self) -> &'a str {
+        match self {
+            Name::New => "Begin a shelf of one role, in a folder",
+            Name::Act => "Perform one action in a loan, at the desk of its group",
+            Name::Take => "Take the APDUs on standard input, each at the desk of its group",
+            Name::Status => "Show how each loan stands, desk by desk",
+            Name::Inbox => "Take the mails of a folder, each at the desk of its group",
+            Name::Outbox => "Put the messages of all desks that want sending into a folder",
+            Name::Exchange => "Take the mails of a folder, and send into another",
+            other => other.about(),
+        }
+    }
+
+    /// What its help says of a shelf.
+    fn help_on_shelf<'a>(self) -> &'a str {
+        match self {
+            Name::New => help::SHELF_NEW,
+            Name::Act => help::SHELF_ACT,
+            Name::Loan => help::SHELF_LOAN,
+            Name::Status => help::SHELF_STATUS,
+            Name::Take => help::SHELF_TAKE,
+            Name::Send => help::SHELF_SEND,
+            Name::Inbox => help::SHELF_INBOX,
+            Name::Outbox => help::SHELF_OUTBOX,
+            Name::Exchange => help::SHELF_EXCHANGE,
+            other => other.help(),
         }
     }
 
@@ -261,6 +320,8 @@ pub enum Argument {
     InState,
     /// The day of a report.
     ReportDay,
+    /// Whether a shelf may begin the group of a loan.
+    NewGroup,
 }
 
 impl Argument {
@@ -293,6 +354,7 @@ impl Argument {
             Argument::Paths => "PATH",
             Argument::DueBefore => "due-before",
             Argument::InState => "state",
+            Argument::NewGroup => "new-group",
         }
     }
 
@@ -327,6 +389,7 @@ impl Argument {
             Argument::DueBefore => "List only the loans that are due before this day",
             Argument::InState => "List only the loans in this state, as SHIPPED",
             Argument::ReportDay => "The day of the report, as 20250301",
+            Argument::NewGroup => "Begin the group of the loan, if the shelf has none",
         }
     }
 
@@ -358,7 +421,25 @@ impl Argument {
             Argument::Open => arg.long("open").action(ArgAction::SetTrue),
             Argument::Mine => arg.long("mine").action(ArgAction::SetTrue),
             Argument::Json => arg.long("json").action(ArgAction::SetTrue),
+            Argument::NewGroup => arg.long("new-group").action(ArgAction::SetTrue),
             _ => arg.required(true),
+        }
+    }
+}
+
+impl Argument {
+    /// How clap reads it in a command about a shelf.
+    fn arg_on_shelf<'a>(self, alloc: Global) -> Arg<'a> {
+        match self {
+            Argument::NewFile | Argument::File => Arg::new(alloc, self.id())
+                .value_name("DIR")
+                .help("The folder of the shelf")
+                .required(true),
+            Argument::Copy => self
+                .arg(alloc)
+                .value_name("FOLDER")
+                .help("Copy each desk into this folder before it sends"),
+            _ => self.arg(alloc),
         }
     }
 }
@@ -376,10 +457,10 @@ pub fn command<'a>(alloc: Global) -> Result<Command<'a>, Error> {
         .subcommand_required(true)
         .after_long_help(help::ILL)
         .arg(explain(alloc))?;
-    for name in &NAMES {
+    for name in NAMES.iter().filter(|name| !name.is_of_shelves()) {
         command = command.subcommand(subcommand(alloc, *name)?)?;
     }
-    Ok(command)
+    Ok(command.subcommand(shelf(alloc)?)?)
 }
 
 /// The option by which a person is told more of a fault. It stands before the command.
@@ -400,4 +481,32 @@ fn subcommand<'a>(alloc: Global, name: Name) -> Result<Command<'a>, Error> {
         command = command.arg(argument.arg(alloc))?;
     }
     Ok(command)
+}
+
+/// The command line of the commands about a shelf.
+fn shelf<'a>(alloc: Global) -> Result<Command<'a>, Error> {
+    let mut command = Command::new(alloc, SHELF)
+        .about("Keep a folder of desks, one for each group of loans")
+        .subcommand_required(true)
+        .long_about(help::SHELF)
+        .after_long_help(help::SHELF_EXAMPLE);
+    for name in &SHELF_NAMES {
+        command = command.subcommand(shelf_subcommand(alloc, *name)?)?;
+    }
+    Ok(command)
+}
+
+/// The command line of a command about a shelf. In place of the file of a desk stands the folder of the shelf.
+fn shelf_subcommand<'a>(alloc: Global, name: Name) -> Result<Command<'a>, Error> {
+    let mut command = Command::new(alloc, name.word())
+        .about(name.about_shelf())
+        .long_about(name.help_on_shelf());
+    for argument in name.arguments() {
+        command = command.arg(argument.arg_on_shelf(alloc))?;
+    }
+    match name {
+        Name::Act => Ok(command.arg(Argument::NewGroup.arg(alloc))?),
+        Name::Retire => Ok(command.after_long_help(name.example())),
+        _ => Ok(command),
+    }
 }

@@ -16,7 +16,7 @@ use crate::fault::ToolFault;
 use crate::file::{all_well, open_locked, release};
 use crate::folder::fault;
 use crate::inbox::run_desk_inbox;
-use crate::mail::{Mails, claim_mails};
+use crate::mail::{Incoming, Mails, begin_run, claim_mails, sorted_mails};
 use crate::mail_box::{MailBox, asked_bytes};
 use crate::outbox::{run_desk_outbox, run_desk_outbox_stream};
 use crate::outgoing::MailFolder;
@@ -25,11 +25,12 @@ use crate::person::{tell_person, wants_person};
 use crate::settle::{Place, settle_mails};
 use crate::tally::Tally;
 use crate::verdict::Verdict;
-use ill_saved::{Desk, FileStore, LockFiles, RECORD_LIMIT, Store};
+use ill_saved::{Desk, FileStore, LockFiles, RECORD_LIMIT, Role, Store};
 use ill_values::{Day, OutOfMemory};
 use std::alloc::Global;
 use std::fs::OpenOptions;
 use std::io::{ErrorKind, Write};
+use std::path::Path;
 use std::rt::Files;
 use std::{fs, io};
 
@@ -38,14 +39,14 @@ pub fn inbox<T: LockFiles, W: Write, E: Write>(
     rt: &T,
     alloc: Global,
     file: &str,
-    folder: &str,
+    incoming: Incoming<'_>,
     writer: &mut W,
     errors: &mut E,
 ) -> Result<bool, ToolFault>
     ensures { InboxAtFile (W.contents writer.old) (W.contents writer.new) result }
 {
     let (lock, mut desk) = open_locked(rt, alloc, file)?;
-    let taken = take_mails(rt, alloc, file, folder, false, &mut desk, writer, errors);
+    let taken = take_mails(rt, alloc, file, incoming, false, &mut desk, writer, errors);
     release(end(taken), desk, lock)
 }
 
@@ -71,7 +72,7 @@ fn take_mails<T: Files, S: Store, W: Write, E: Write>(
     rt: &T,
     alloc: Global,
     file: &str,
-    folder: &str,
+    incoming: Incoming<'_>,
     is_telling: bool,
     desk: &mut Desk<S>,
     writer: &mut W,
@@ -82,12 +83,12 @@ fn take_mails<T: Files, S: Store, W: Write, E: Write>(
 {
     let mail_box = blame(alloc, open_box(rt, alloc, file), file, NO_BOX, errors)?;
     let mut came = blame(alloc, open_came(rt, alloc, file), file, NO_CAME, errors)?;
-    let found = claim_mails(rt, alloc, &mail_box, folder);
-    let found = blame(alloc, found, folder, NOT_READ, errors)?;
+    let role = desk.sides().role();
+    let found = find_mails(rt, alloc, &mail_box, file, incoming, role, errors)?;
     let run = run_desk_inbox(alloc, desk, &found.mails, found.waiting, &mut came, writer);
     let place = Place {
         file,
-        folder,
+        folder: incoming.folder,
         mail_box: &mail_box,
         is_telling,
     };
@@ -97,10 +98,34 @@ fn take_mails<T: Files, S: Store, W: Write, E: Write>(
     }
 }
 
-/// What a person is told behind a path with which something is wrong.
-const NO_BOX: &str = ".mail is no folder that its owner alone may enter";
+/// Reads the mails of a desk: those of a folder, or those that a shelf has sorted to it.
+fn find_mails<T: Files, E: Write>(
+    rt: &T,
+    alloc: Global,
+    mail_box: &MailBox,
+    file: &str,
+    incoming: Incoming<'_>,
+    role: Role,
+    errors: &mut E,
+) -> Result<Mails, ToolFault>
+    ensures { IfErr result IsOpenFault }
+{
+    if incoming.is_sorted {
+        let found = sorted_mails(rt, alloc, mail_box, file, role);
+        return blame(alloc, found, file, NO_BOX, errors);
+    }
+    let run = begin_run(rt, alloc, mail_box);
+    let run = blame(alloc, run, file, NO_RUN, errors)?;
+    let found = claim_mails(rt, alloc, mail_box, incoming.folder, run.as_str());
+    blame(alloc, found, incoming.folder, NOT_READ, errors)
+}
 
-const NOT_READ: &str = " is no folder of mails that can be read";
+/// What a person is told behind a path with which something is wrong.
+pub(crate) const NO_BOX: &str = ".mail is no folder that its owner alone may enter";
+
+pub(crate) const NO_RUN: &str = ".mail cannot be written";
+
+pub(crate) const NOT_READ: &str = " is no folder of mails that can be read";
 
 const NO_CAME: &str = ".came cannot be read or written";
 
@@ -110,12 +135,12 @@ const NO_COPY: &str = " is not written, so nothing is sent";
 
 const NOT_SENT: &str = " is not written, so nothing more is sent";
 
-const NO_FOLDER: &str = " is no folder";
+pub(crate) const NO_FOLDER: &str = " is no folder";
 
 const NO_BEAT: &str = " is not made anew";
 
 /// The folder of the mail of the desk in a file.
-fn open_box<T: Files>(rt: &T, alloc: Global, file: &str) -> Result<MailBox, ToolFault>
+pub(crate) fn open_box<T: Files>(rt: &T, alloc: Global, file: &str) -> Result<MailBox, ToolFault>
     ensures { IfErr result IsOpenFault }
 {
     match MailBox::open(rt, alloc, file) {
@@ -280,39 +305,40 @@ fn asking<T: Files>(rt: &T, alloc: Global, file: &str) -> Result<Vec<u8>, ToolFa
 /// What a run of `ill exchange` is to do.
 #[derive(Clone, Copy)]
 pub struct Night<'a> {
-    /// The path of the desk's file.
-    pub file: &'a str,
     /// The folder of the mail that has come.
     pub incoming: &'a str,
     /// The folder of the mail that is to go.
     pub outgoing: &'a str,
     /// The day of the run, and what a responder says of days that have passed.
     pub dates: Option<(Day, Dates)>,
-    /// The path of the file of the copy.
+    /// The path of the file of the copy. On a shelf it is that of a folder, in which each copy has the name of its desk.
     pub copy: Option<&'a str>,
     /// The path of the file that is touched in the end.
     pub beat: Option<&'a str>,
+    /// Set if the desk stands on a shelf, which has sorted the mail.
+    pub is_on_shelf: bool,
 }
 
 /// `ill exchange`: takes the mail that has come, says what the date says, copies the desk, and sends.
 pub fn exchange<T: LockFiles, W: Write, E: Write>(
     rt: &T,
     alloc: Global,
+    file: &str,
     night: &Night<'_>,
     writer: &mut W,
     errors: &mut E,
 ) -> Result<bool, ToolFault>
     ensures { ExchangesAtFile night.now.dates (W.contents writer.old) (W.contents writer.new) result }
 {
-    let (lock, mut desk) = open_locked(rt, alloc, night.file)?;
+    let (lock, mut desk) = open_locked(rt, alloc, file)?;
     let found = find_folder(rt, night.outgoing);
     blame(alloc, found, night.outgoing, NO_FOLDER, errors)?;
-    let done = exchange_at(rt, alloc, night, &mut desk, writer, errors);
+    let done = exchange_at(rt, alloc, file, night, &mut desk, writer, errors);
     release(done, desk, lock)
 }
 
 /// Looks up the folder at a path.
-fn find_folder<T: Files>(rt: &T, path: &str) -> Result<(), ToolFault>
+pub(crate) fn find_folder<T: Files>(rt: &T, path: &str) -> Result<(), ToolFault>
     ensures { IfErr result IsOpenFault }
 {
     match fs::metadata(rt, path) {
@@ -325,6 +351,7 @@ fn find_folder<T: Files>(rt: &T, path: &str) -> Result<(), ToolFault>
 fn exchange_at<T: Files, S: Store, W: Write, E: Write>(
     rt: &T,
     alloc: Global,
+    file: &str,
     night: &Night<'_>,
     desk: &mut Desk<S>,
     writer: &mut W,
@@ -333,18 +360,12 @@ fn exchange_at<T: Files, S: Store, W: Write, E: Write>(
     ensures { ExchangesAt night.now.dates (many_view S.is_honest S.landed desk.old)
         (W.contents writer.old) (W.contents writer.new) result (many_view S.is_honest S.landed desk.new) }
 {
-    let taken = take_mails(
-        rt,
-        alloc,
-        night.file,
-        night.incoming,
-        true,
-        desk,
-        writer,
-        errors,
-    );
-    match taken {
-        Ok(taken) => go_on(rt, alloc, night, desk, &taken, writer, errors),
+    let incoming = Incoming {
+        folder: night.incoming,
+        is_sorted: night.is_on_shelf,
+    };
+    match take_mails(rt, alloc, file, incoming, true, desk, writer, errors) {
+        Ok(taken) => go_on(rt, alloc, file, night, desk, &taken, writer, errors),
         Err(fault) => Err(fault),
     }
 }
@@ -353,6 +374,7 @@ fn exchange_at<T: Files, S: Store, W: Write, E: Write>(
 fn go_on<T: Files, S: Store, W: Write, E: Write>(
     rt: &T,
     alloc: Global,
+    file: &str,
     night: &Night<'_>,
     desk: &mut Desk<S>,
     taken: &Taken,
@@ -363,13 +385,13 @@ fn go_on<T: Files, S: Store, W: Write, E: Write>(
         (many_view S.is_honest S.landed desk.old) result (many_view S.is_honest S.landed desk.new) }
 {
     match say_dates(alloc, desk, night.dates, writer) {
-        Ok(()) => send_all(rt, alloc, night, desk, taken, writer, errors),
+        Ok(()) => send_all(rt, alloc, file, night, desk, taken, writer, errors),
         Err(fault) => Err(fault),
     }
 }
 
 /// Hands an answer on. If a file or a folder has failed, a person is told which.
-fn blame<X: Drop, E: Write>(
+pub(crate) fn blame<X: Drop, E: Write>(
     alloc: Global,
     answer: Result<X, ToolFault>,
     path: &str,
@@ -416,6 +438,7 @@ fn say_dates<S: Store, W: Write>(
 fn send_all<T: Files, S: Store, W: Write, E: Write>(
     rt: &T,
     alloc: Global,
+    file: &str,
     night: &Night<'_>,
     desk: &Desk<S>,
     taken: &Taken,
@@ -425,8 +448,9 @@ fn send_all<T: Files, S: Store, W: Write, E: Write>(
     ensures { SendsAll (night_ending desk.now.live.role (taken_of taken.now)) desk.now.live.held
         (W.contents writer.old) (W.contents writer.new) (Ok tt) result }
 {
-    copy_to(rt, alloc, desk, night.copy, errors)?;
-    let sent = send_to(rt, alloc, night.file, desk, night.outgoing, writer, errors);
+    let copy = copy_path(alloc, file, night)?;
+    copy_to(rt, alloc, desk, copy.as_ref(), errors)?;
+    let sent = send_to(rt, alloc, file, desk, night.outgoing, writer, errors);
     match sent {
         Ok(()) => finish(rt, alloc, night.beat, desk, taken, errors),
         Err(fault) => Err(fault),
@@ -438,7 +462,7 @@ fn copy_to<T: Files, S: Store, E: Write>(
     rt: &T,
     alloc: Global,
     desk: &Desk<S>,
-    path: Option<&str>,
+    path: Option<&String>,
     errors: &mut E,
 ) -> Result<(), ToolFault>
     ensures { IfErr result IsFileFault }
@@ -446,13 +470,25 @@ fn copy_to<T: Files, S: Store, E: Write>(
     let Some(path) = path else {
         return Ok(());
     };
-    let mut copy = FileStore::at(rt, alloc, path, RECORD_LIMIT)?;
+    let mut copy = FileStore::at(rt, alloc, path.as_str(), RECORD_LIMIT)?;
     let copied = run_desk_copy(alloc, desk, &mut copy);
-    blame(alloc, copied, path, NO_COPY, errors)
+    blame(alloc, copied, path.as_str(), NO_COPY, errors)
+}
+
+/// Returns the path of the copy of the desk in a file, if one is wanted.
+fn copy_path(alloc: Global, file: &str, night: &Night<'_>) -> Result<Option<String>, OutOfMemory> {
+    let Some(copy) = night.copy else {
+        return Ok(None);
+    };
+    if !night.is_on_shelf {
+        return Ok(Some(String::from_str(alloc, copy)?));
+    }
+    let name = Path::new(file).file_name().unwrap_or(file);
+    Ok(Some(format!(in alloc; "{copy}/{name}")?))
 }
 
 /// Makes a file anew, if one is named, so that its time is that of the run.
-fn beat<T: Files, E: Write>(
+pub(crate) fn beat<T: Files, E: Write>(
     rt: &T,
     alloc: Global,
     path: Option<&str>,

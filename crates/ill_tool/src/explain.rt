@@ -7,10 +7,11 @@ mod action;
 mod arguments;
 mod file;
 mod input;
+mod shelf;
 mod shown;
 mod verbs;
 
-use crate::command_line::{Name, command};
+use crate::command_line::{Name, SHELF, command};
 use crate::fault::ToolFault;
 use arguments::tell_arguments;
 use clap::ArgMatches;
@@ -19,6 +20,7 @@ use ill_saved::LockFiles;
 use ill_values::OutOfMemory;
 pub use input::{Passed, Watched};
 use input::{tell_bad_bytes, tell_bad_line};
+use shelf::tell_shelf_fault;
 use std::alloc::Global;
 use std::io::Write;
 
@@ -60,9 +62,33 @@ fn tell<T: LockFiles>(
     passed: Option<Passed>,
 ) -> Option<()> {
     let matches = command(alloc).ok()?.try_get_matches_from(words).ok()?;
-    let (word, matches) = matches.subcommand()?;
-    let name = Name::read(word)?;
-    tell_fault(rt, alloc, text, name, matches, fault, passed).ok()
+    match matches.subcommand()? {
+        (word, matches) if word == SHELF => {
+            let (word, matches) = matches.subcommand()?;
+            let name = Name::read(word)?;
+            tell_on_shelf(rt, alloc, text, name, matches, fault, passed).ok()
+        }
+        (word, matches) => {
+            let name = Name::read(word)?;
+            tell_fault(rt, alloc, text, name, matches, fault, passed).ok()
+        }
+    }
+}
+
+/// Adds the lines on a fault of a command on a shelf with these arguments.
+fn tell_on_shelf<T: LockFiles>(
+    rt: &T,
+    alloc: Global,
+    text: &mut String,
+    name: Name,
+    matches: &ArgMatches<'_>,
+    fault: ToolFault,
+    passed: Option<Passed>,
+) -> Result<(), OutOfMemory> {
+    match fault {
+        ToolFault::Desk(fault) => tell_shelf_fault(rt, alloc, text, matches, fault),
+        fault => tell_fault(rt, alloc, text, name, matches, fault, passed),
+    }
 }
 
 /// Adds the lines on a fault of a command with these arguments.

@@ -424,7 +424,7 @@ fn end<D: Drop, S: Drop>(begun: Result<D, (ToolFault, S)>) -> Result<bool, ToolF
 }
 
 /// The lock of a file.
-fn lock<'a, T: LockFiles>(
+pub(crate) fn lock<'a, T: LockFiles>(
     rt: &'a T,
     alloc: Global,
     file: &str,

@@ -3,7 +3,9 @@
 ghost use Rattle.std.specs.Prelude.{IfErr};
 ghost use Rattle.ill_tool.specs.Commands.{IsOpenFault};
 
+use crate::came::CAME;
 use crate::fault::ToolFault;
+use crate::shelf::RETIRED;
 use ill_saved::{DeskFault, StoreFault};
 use std::alloc::Global;
 use std::io::{BufRead, BufReader, ErrorKind};
@@ -11,7 +13,7 @@ use std::rt::Files;
 use std::{fs, io};
 
 /// The endings of the names of files that stand beside a desk's.
-const BESIDE: [&str; 3] = [".new", ".lck", ".came"];
+const BESIDE: [&str; 4] = [".new", ".lck", CAME, RETIRED];
 
 /// How many bytes the names of a folder are read at once: any name has room there.
 const NAMES: usize = 4096;

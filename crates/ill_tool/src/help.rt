@@ -6,6 +6,7 @@ pub const ILL: &str = "\
 The commands stand in groups:
   for staff                  new, act, list, loan, status, report
   for the exchange           take, send, inbox, outbox, exchange
+  for more than 1,000 loans  shelf, which has commands of its own
   to look inside             verify, show, check, simulate, simulate-desks
 
 A desk is the loans of one library in one role, and it is kept in a file. `new`
@@ -761,3 +762,133 @@ written.";
 pub const SIMULATE_DESKS_EXAMPLE: &str = "Example:
   $ printf 'use G1 T1\\nrequester request none Maps\\n' | ill simulate-desks
   1 done requester PENDING - 0/1 responder IDLE - 0/0";
+
+pub const RETIRE: &str = "\
+Replace a desk whose loans are over by a mark of its group.
+
+Titles and names of loans that are over may have to be forgotten, and a desk
+cannot be removed alone: a request that is sent again would begin its loan a
+second time. So the mark stays in place of the desk, in DESK.retired, and no
+desk of GROUP is ever made again. Mail of the group is removed, and told.
+
+One line is written: `done`, or `not-now` if a loan of the group is not over.
+Then nothing is changed. Behind `done`, nothing is known of the loans any more.
+A requester may retire a group as soon as its loans are over; a responder once
+the requester asks no more, since it could not answer.
+
+The exit status is 0 behind `done`, 1 behind `not-now` or with `no-record`, 2
+for wrong arguments or a bad record, and 3 with `store failed`, `write` or
+`memory`.";
+
+pub const RETIRE_EXAMPLE: &str = "Example:
+  $ ill shelf new shelf requester
+  done
+  $ ill shelf act shelf North-2025 T1 --new-group request none Maps
+  done PENDING - 1/1
+  $ ill shelf retire shelf North-2025
+  not-now";
+
+pub const SHELF: &str = "\
+Keep a folder of desks, one for each group of loans.
+
+A desk has room for 1,000 loans, and nothing may be taken out of it. A shelf has
+room for any number: a folder DIR with a desk for each GROUP, all of one role.
+The group of a loan names its desk, so no loan can come to two of them. Begin a
+new group, such as a partner and a year, before a desk is full.
+
+The commands take the words of those for one desk, with DIR in place of FILE.
+`ill list DIR` and `ill report DIR` take a shelf too. The desk of GROUP is the
+file DIR/GROUP.requester or DIR/GROUP.responder. All bytes of the name but
+letters, digits, `-` and `_` are written as `%` and two digits. DIR/.shelf is
+the shelf's own desk: it says the role, and takes the mail that has no desk.
+
+A requester's shelf begins a group where `act --new-group` says so. A
+responder's begins one for an ILL-Request: the mail of one run makes 16 desks at
+most, and further requests wait for the next run.";
+
+pub const SHELF_EXAMPLE: &str = "Example:
+  $ ill shelf new shelf requester
+  done
+  $ ill shelf act shelf North-2025 T1 request none Maps
+  ill: no-record
+  $ ill shelf act shelf North-2025 T1 --new-group request none Maps
+  done PENDING - 1/1
+  $ ls shelf
+  North-2025.requester
+  $ ill shelf act shelf North-2025 T2 request none Atlas
+  done PENDING - 1/1";
+
+pub const SHELF_NEW: &str = "\
+Begin a shelf of one role, in a folder.
+
+DIR is made, if it is not there. Its folder must be there. One line, `done`, is
+written. `exists` tells that DIR is a shelf already.
+
+The exit status is 0 where the shelf is saved, 1 with `exists`, 2 for wrong
+arguments, and 3 with `store failed`, `write` or `memory`.";
+
+pub const SHELF_ACT: &str = "\
+Perform one action in a loan, at the desk of its group.
+
+The words and the answers are those of `ill act`. If DIR has no desk of GROUP,
+that is `no-record`, so that a slip of the pen begins no group. With
+--new-group a requester's `request` begins one. A retired group is
+`no-such-transaction`.
+
+Where a desk is full, go on in a new group, which you name: the other library
+needs no notice.";
+
+pub const SHELF_LOAN: &str = "\
+Show all of one loan: request, messages, what may be done.
+
+It shows what `ill loan` shows, of the desk of GROUP.";
+
+pub const SHELF_STATUS: &str = "\
+Show how each loan stands, desk by desk.
+
+The path of each desk stands on a line before its loans, which are shown as `ill
+status` shows them. With --json it does not. A desk that cannot be read is told
+on standard error, and the others are shown.";
+
+pub const SHELF_TAKE: &str = "\
+Take the APDUs on standard input, each at the desk of its group.
+
+It does what `ill take` does, and saves each desk as it goes. An ILL-Request of
+a new group makes its desk at a responder's shelf. Other messages of groups that
+have no desk are `no-such-transaction`; one of a retired group ends the command
+with that.";
+
+pub const SHELF_SEND: &str = "\
+Write the bytes of one message of a loan.
+
+It writes what `ill send` writes, of the desk of GROUP.";
+
+pub const SHELF_INBOX: &str = "\
+Take the mails of a folder, each at the desk of its group.
+
+Each mail of FOLDER goes to the desk of the group of its message, and then each
+desk takes its mails, as `ill inbox` does, behind a line of its path. Each desk
+is loaded and saved once. The shelf's own desk takes what has no desk: what is
+no message is put aside in DIR/.shelf.mail/aside.
+
+An ILL-Request of a new group makes its desk at a responder's shelf. A run makes
+16 desks at most; standard error tells of each, and of the requests that wait. A
+message of a retired group is removed, and told.
+
+A desk that fails is told on standard error, and the others go on. The exit
+status is the gravest: 3 for a fault or mails that are left, 1 if a mail wants a
+person, else 0.";
+
+pub const SHELF_OUTBOX: &str = "\
+Put the messages of all desks that want sending into a folder.
+
+Each desk puts its messages into FOLDER, or onto standard output, as `ill
+outbox` does.";
+
+pub const SHELF_EXCHANGE: &str = "\
+Take the mails of a folder, and send into another.
+
+The mails of IN are sorted to the desks, as `ill shelf inbox` does, and then
+each desk does what `ill exchange` does, behind a line of its path. --copy names
+a folder: each desk is copied into it before its messages leave. --beat makes
+its file anew in the end, unless a desk has failed.";

@@ -9,17 +9,24 @@ ghost use Rattle.ill_tool.specs.Commands.{IsOpenFault};
 
 use crate::fault::ToolFault;
 use crate::folder::{fault, raw_names};
-use crate::mail_box::{MailBox, make_folder};
+use crate::mail_box::MailBox;
+use crate::shelf::is_for_desk;
 use crate::verdict::Mail;
 use ill_der::APDU_LIMIT;
+use ill_saved::Role;
+use ill_values::OutOfMemory;
 use std::alloc::Global;
-use std::fs::Metadata;
+use std::fs::{DirBuilder, Metadata};
 use std::io::{ErrorKind, Read};
+use std::os::unix::fs::DirBuilderExt;
 use std::rt::Files;
 use std::{fs, io};
 
 /// The most mails of one run. Further ones wait for the next.
 const MAILS: usize = 10_000;
+
+/// How many folders of runs are tried, if others make them at the same time.
+const TRIES: u32 = 100;
 
 /// The mails of a run.
 #[derive(Drop)]
@@ -69,75 +76,162 @@ impl Mails {
     }
 }
 
-/// Claims the mails of a folder, and reads them.
+/// The folder from which the mails of a desk come.
+#[derive(Clone, Copy)]
+pub struct Incoming<'a> {
+    /// Its path.
+    pub folder: &'a str,
+    /// Set if a shelf sorts the folder: then the mails of the desk were claimed for it before.
+    pub is_sorted: bool,
+}
+
+/// Makes the folder of a run.
+pub fn begin_run<T: Files>(rt: &T, alloc: Global, mail_box: &MailBox) -> Result<String, ToolFault>
+    ensures { IfErr result IsOpenFault }
+{
+    match new_run(rt, alloc, mail_box) {
+        Ok(run) => Ok(run),
+        Err(error) => Err(fault(&error)),
+    }
+}
+
+/// Reads the mails of a desk: those that were claimed before, and those that are claimed from a folder into that of a run.
 pub fn claim_mails<T: Files>(
     rt: &T,
     alloc: Global,
     mail_box: &MailBox,
     folder: &str,
+    run: &str,
 ) -> Result<Mails, ToolFault>
     ensures { IfErr result IsOpenFault }
 {
-    match all_mails(rt, alloc, mail_box, folder) {
+    match all_mails(rt, alloc, mail_box, Some((folder, run))) {
         Ok(mails) => Ok(mails),
         Err(error) => Err(fault(&error)),
     }
 }
 
-/// The mails that were claimed before, and those of a folder, as many as one run takes.
+/// Reads the mails that a shelf has sorted to the desk in a file. Whoever brings mails may write to one that he has opened
+/// before it was claimed: then its message may be for another desk, and it is not read.
+pub fn sorted_mails<T: Files>(
+    rt: &T,
+    alloc: Global,
+    mail_box: &MailBox,
+    file: &str,
+    role: Role,
+) -> Result<Mails, ToolFault>
+    ensures { IfErr result IsOpenFault }
+{
+    match all_mails(rt, alloc, mail_box, None) {
+        Ok(mut mails) => match hide_others(alloc, file, role, &mut mails) {
+            Ok(()) => Ok(mails),
+            Err(_) => Err(ToolFault::OutOfMemory),
+        },
+        Err(error) => Err(fault(&error)),
+    }
+}
+
+/// Hides the bytes of the mails whose message is not for the desk in a file.
+fn hide_others(
+    alloc: Global,
+    file: &str,
+    role: Role,
+    mails: &mut Mails,
+) -> Result<(), OutOfMemory> {
+    for mail in &mut mails.mails {
+        let is_own = match &mail.bytes {
+            Some(bytes) => is_for_desk(alloc, file, role, bytes)?,
+            None => true,
+        };
+        if !is_own {
+            mail.bytes = None;
+        }
+    }
+    Ok(())
+}
+
+/// Reads the mails of a desk, as many as one run takes: those that were claimed, and those that are claimed from a folder
+/// into that of a run.
 fn all_mails<T: Files>(
     rt: &T,
     alloc: Global,
     mail_box: &MailBox,
-    folder: &str,
+    claiming: Option<(&str, &str)>,
 ) -> io::Result<Mails> {
-    if mail_box.is_at(rt, folder)? {
-        return Err(ErrorKind::InvalidInput.into());
-    }
     let mut mails = Mails {
         mails: Vec::new(alloc),
         files: Vec::new(alloc),
         waiting: 0,
         runs: Vec::new(alloc),
     };
-    let names = names_in(rt, alloc, folder)?;
-    let mut last = 0;
-    for run in names_in(rt, alloc, mail_box.claimed())? {
-        last = add_run(rt, mail_box.claimed(), &run, &mut mails)?.max(last);
+    for earlier in names_in(rt, alloc, mail_box.claimed())? {
+        add_run(rt, mail_box.claimed(), &earlier, &mut mails)?;
     }
-    let run = format!(in alloc; "{}/{:010}", mail_box.claimed(), last.saturating_add(1))?;
-    make_folder(rt, run.as_str())?;
-    for name in names {
-        add_mail(rt, folder, run.as_str(), name, &mut mails)?;
+    if let Some((folder, run)) = claiming {
+        claim_from(rt, alloc, mail_box, folder, run, &mut mails)?;
     }
-    mails.runs.push(run)?;
     Ok(mails)
 }
 
+/// Claims the mails of a folder into that of a run, as many as there is room for, and reads them.
+fn claim_from<T: Files>(
+    rt: &T,
+    alloc: Global,
+    mail_box: &MailBox,
+    folder: &str,
+    run: &str,
+    mails: &mut Mails,
+) -> io::Result<()> {
+    if mail_box.is_at(rt, folder)? {
+        return Err(ErrorKind::InvalidInput.into());
+    }
+    for name in names_in(rt, alloc, folder)? {
+        add_mail(rt, folder, run, name, mails)?;
+    }
+    Ok(())
+}
+
+/// Makes the folder of a run among the mails that were claimed, and returns its path. Its number is greater than those
+/// of all that are there. It was not there before, so that no other run has it.
+pub(crate) fn new_run<T: Files>(rt: &T, alloc: Global, mail_box: &MailBox) -> io::Result<String> {
+    let mut last = 0;
+    for run in names_in(rt, alloc, mail_box.claimed())? {
+        last = number_of(&run).unwrap_or_default().max(last);
+    }
+    for number in last.saturating_add(1)..=last.saturating_add(TRIES) {
+        let run = format!(in alloc; "{}/{number:010}", mail_box.claimed())?;
+        match DirBuilder::new().mode(0o700).create(rt, run.as_str()) {
+            Ok(()) => return Ok(run),
+            Err(error) if error.kind() == ErrorKind::AlreadyExists => {}
+            Err(error) => return Err(error),
+        }
+    }
+    Err(ErrorKind::AlreadyExists.into())
+}
+
 /// The names in a folder that begin with no dot, in the order of their bytes.
-fn names_in<T: Files>(rt: &T, alloc: Global, folder: &str) -> io::Result<Vec<Vec<u8>>> {
+pub(crate) fn names_in<T: Files>(rt: &T, alloc: Global, folder: &str) -> io::Result<Vec<Vec<u8>>> {
     let mut names = raw_names(rt, alloc, folder)?;
     names.retain(|name| !name.starts_with(b"."));
     names.sort()?;
     Ok(names)
 }
 
-/// Adds the mails that an earlier run has claimed, in the folder of this name, and answers the number of that run. What
-/// is no such folder has no mails.
-fn add_run<T: Files>(rt: &T, claimed: &str, run: &[u8], mails: &mut Mails) -> io::Result<u32> {
+/// Adds the mails that an earlier run has claimed, in the folder of this name. What is no such folder has no mails.
+fn add_run<T: Files>(rt: &T, claimed: &str, run: &[u8], mails: &mut Mails) -> io::Result<()> {
     let alloc = *mails.mails.allocator();
     let Some(number) = number_of(run) else {
-        return Ok(0);
+        return Ok(());
     };
     let folder = format!(in alloc; "{claimed}/{number:010}")?;
     if !is_folder(rt, folder.as_str()) {
-        return Ok(number);
+        return Ok(());
     }
     for name in names_in(rt, alloc, folder.as_str())? {
         add_again(rt, folder.as_str(), name, mails)?;
     }
     mails.runs.push(folder)?;
-    Ok(number)
+    Ok(())
 }
 
 /// Tells if a folder stands at a path.

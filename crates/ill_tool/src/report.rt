@@ -9,14 +9,14 @@ ghost use Rattle.ill_tool.specs.Output.{WritesText};
 ghost use Rattle.ill_tool.specs.Html.{html_escaped};
 ghost use Rattle.ill_tool.specs.Loan.{request_of};
 ghost use Rattle.ill_tool.specs.List.{item_asked, title_text};
-ghost use Rattle.ill_tool.specs.Report.{action_text, actor, day_text, desk_text, detail_text, field_text, is_on, loan_text, loans_text, message_text, page_head, report_page, shelf_text, shelves_text, value_text, verb_meaning};
+ghost use Rattle.ill_tool.specs.Report.{action_text, actor, day_text, desk_text, detail_text, field_text, is_on, loan_text, loans_text, message_text, page_head, report_page, section_text, sections_text, value_text, verb_meaning};
 
 use crate::fault::ToolFault;
 use crate::html::{push_html, push_text};
 use crate::output::write_whole;
 use crate::report_parts::{
     ARROW, DESK, DESK_END, DESKS, END, FOLDED, Field, LOAN, LOANS, NAME, OPEN, OPENING, OVER, PAGE,
-    ROW, Shelf, TASK, WAITING,
+    ROW, Section, TASK, WAITING,
 };
 use crate::row::push_title;
 use crate::waiting::{expiry, most_urgent_first, turn_on};
@@ -77,55 +77,55 @@ pub(crate) fn push_desk(
     page.extend_from_slice(DESK.as_bytes())?;
     push_text(page, file.as_bytes())?;
     page.extend_from_slice(LOANS.as_bytes())?;
-    push_shelves(page, today, &sides)?;
+    push_sections(page, today, &sides)?;
     page.extend_from_slice(DESK_END.as_bytes())?;
     Ok(())
 }
 
 /// Adds the loans of a desk: those that wait for this library, all that are open, and those that are over.
-#[tactic(auto, unfolding(crate::specs::Report::shelves_text))]
-fn push_shelves(page: &mut Vec<u8>, today: Day, sides: &[&Side]) -> Result<(), OutOfMemory>
+#[tactic(auto, unfolding(crate::specs::Report::sections_text))]
+fn push_sections(page: &mut Vec<u8>, today: Day, sides: &[&Side]) -> Result<(), OutOfMemory>
     ensures { OnOk result (page.new.items ≡ page.old.items
-        ++ shelves_text today (map (λ side. side.now) sides.now)) }
+        ++ sections_text today (map (λ side. side.now) sides.now)) }
 {
-    let waiting = Shelf {
+    let waiting = Section {
         heading: WAITING,
         turns: &[Turn::Mine],
         opening: OPENING,
         fields: &TASK,
     };
-    push_shelf(page, today, sides, &waiting)?;
-    let open = Shelf {
+    push_section(page, today, sides, &waiting)?;
+    let open = Section {
         heading: OPEN,
         turns: &[Turn::Mine, Turn::Theirs],
         opening: OPENING,
         fields: &LOAN,
     };
-    push_shelf(page, today, sides, &open)?;
-    let over = Shelf {
+    push_section(page, today, sides, &open)?;
+    let over = Section {
         heading: OVER,
         turns: &[Turn::Over],
         opening: FOLDED,
         fields: &LOAN,
     };
-    push_shelf(page, today, sides, &over)
+    push_section(page, today, sides, &over)
 }
 
 /// Adds the loans that stand together, behind their count.
-fn push_shelf(
+fn push_section(
     page: &mut Vec<u8>,
     today: Day,
     sides: &[&Side],
-    shelf: &Shelf<'_>,
+    section: &Section<'_>,
 ) -> Result<(), OutOfMemory>
     ensures { OnOk result (page.new.items ≡ page.old.items
-        ++ shelf_text today (map (λ side. side.now) sides.now) shelf.now.heading.now
-        shelf.now.turns.now shelf.now.opening.now shelf.now.fields.now) }
+        ++ section_text today (map (λ side. side.now) sides.now) section.now.heading.now
+        section.now.turns.now section.now.opening.now section.now.fields.now) }
 {
-    page.extend_from_slice(shelf.heading.as_bytes())?;
-    push_number(page, count(today, sides, shelf.turns))?;
-    page.extend_from_slice(shelf.opening.as_bytes())?;
-    push_loans(page, today, sides, shelf)
+    page.extend_from_slice(section.heading.as_bytes())?;
+    push_number(page, count(today, sides, section.turns))?;
+    page.extend_from_slice(section.opening.as_bytes())?;
+    push_loans(page, today, sides, section)
 }
 
 /// How many loans have one of these turns.
@@ -146,34 +146,34 @@ fn is_on(today: Day, turns: &[Turn], side: &Side) -> bool
     turns.iter().any(|other| turn == *other)
 }
 
-/// Adds the loans that have a turn of the shelf.
+/// Adds the loans that have a turn of the section.
 fn push_loans(
     page: &mut Vec<u8>,
     today: Day,
     sides: &[&Side],
-    shelf: &Shelf<'_>,
+    section: &Section<'_>,
 ) -> Result<(), OutOfMemory>
     ensures { OnOk result (page.new.items ≡ page.old.items
-        ++ loans_text today shelf.now.turns.now shelf.now.fields.now (map (λ side. side.now) sides.now)) }
+        ++ loans_text today section.now.turns.now section.now.fields.now (map (λ side. side.now) sides.now)) }
 {
     for side in sides {
-        push_loan_on(page, today, side, shelf)?;
+        push_loan_on(page, today, side, section)?;
     }
     Ok(())
 }
 
-/// Adds what is told of a loan, if it has a turn of the shelf.
+/// Adds what is told of a loan, if it has a turn of the section.
 fn push_loan_on(
     page: &mut Vec<u8>,
     today: Day,
     side: &Side,
-    shelf: &Shelf<'_>,
+    section: &Section<'_>,
 ) -> Result<(), OutOfMemory>
     ensures { OnOk result (page.new.items ≡ page.old.items
-        ++ loans_text today shelf.now.turns.now shelf.now.fields.now (side.now ∷ [])) }
+        ++ loans_text today section.now.turns.now section.now.fields.now (side.now ∷ [])) }
 {
-    if is_on(today, shelf.turns, side) {
-        return push_loan(page, today, side, shelf.fields);
+    if is_on(today, section.turns, side) {
+        return push_loan(page, today, side, section.fields);
     }
     Ok(())
 }

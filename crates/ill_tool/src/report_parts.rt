@@ -95,7 +95,7 @@ impl Field {
 
 /// Loans of a desk that stand together.
 #[derive(Clone, Copy)]
-pub(crate) struct Shelf<'a> {
+pub(crate) struct Section<'a> {
     /// The text before their count.
     pub heading: &'a str,
     /// The turns that they have.

@@ -5,9 +5,9 @@ ghost use Rattle.clap.specs.Words.{found_of, rows_of, subcommand_rows_of};
 ghost use Rattle.ill_tool.specs.declared.request.Refusal.TheVariants.{Usage, Fault};
 ghost use Rattle.ill_tool.specs.declared.fault.ToolFault.TheVariants.{OutOfMemory};
 ghost use Rattle.ill_tool.specs.declared.command_line.Name.TheVariants as names;
-ghost use Rattle.ill_tool.specs.Asked.{Gives, IsRefusal, asked_by, asked_in, asked_of, text_of, texts_of, role_of, loan_of, day_in, state_in, number_of_message, dates_of, outlet_of, is_set, which_of, form_of, wanted_of, report_day_of, asked};
+ghost use Rattle.ill_tool.specs.Asked.{Gives, IsRefusal, asked_by, asked_in, asked_of, text_of, texts_of, role_of, loan_of, group_of, day_in, state_in, number_of_message, dates_of, outlet_of, is_set, which_of, form_of, wanted_of, report_day_of, asked};
 
-use crate::command_line::{Argument, Name, command};
+use crate::command_line::{Argument, Name, SHELF, command};
 use crate::dates::Dates;
 use crate::exchange::Night;
 use crate::fault::ToolFault;
@@ -56,6 +56,8 @@ pub enum Request<'a> {
         txn: TxnId,
         /// The day on which it is done, if one is said.
         today: Option<Day>,
+        /// Set if a shelf may begin the group of the transaction.
+        is_new_group: bool,
         /// The words of the action.
         words: Vec<&'a str>,
     },
@@ -84,6 +86,8 @@ pub enum Request<'a> {
     },
     /// Exchange the mail of a desk: `ill exchange`.
     Exchange {
+        /// The path of the file.
+        file: &'a str,
         /// What is to be done.
         night: Night<'a>,
     },
@@ -122,6 +126,13 @@ pub enum Request<'a> {
         form: Form,
         /// Whether to draw its messages in place of that.
         is_picture: bool,
+    },
+    /// Retire a group of a shelf: `ill shelf retire`.
+    Retire {
+        /// The path of the shelf's folder.
+        file: &'a str,
+        /// The group.
+        group: &'a str,
     },
     /// Tell what a file has: `ill verify`.
     Verify {
@@ -170,10 +181,22 @@ impl From<AllocError> for Refusal {
     }
 }
 
+/// What a command line asks for, and of what.
+#[derive(Drop)]
+pub enum Call<'a> {
+    /// Of one desk, or of none.
+    Desk(Request<'a>),
+    /// Of a shelf: `ill shelf`.
+    Shelf(Request<'a>),
+}
+
 /// Reads the words of a command line, of which the first is the program's name.
-pub fn read_words<'a>(alloc: Global, words: &'a [&'a str]) -> Result<Request<'a>, Refusal> {
+pub fn read_words<'a>(alloc: Global, words: &'a [&'a str]) -> Result<Call<'a>, Refusal> {
     let matches = command(alloc)?.try_get_matches_from(words)?;
-    found(alloc, &matches)
+    match matches.subcommand() {
+        Some((word, matches)) if word == SHELF => Ok(Call::Shelf(found(alloc, matches)?)),
+        _ => Ok(Call::Desk(found(alloc, &matches)?)),
+    }
 }
 
 /// The request of what was found in words.
@@ -215,6 +238,7 @@ fn requested<'a>(
         Name::List => list_request(alloc, matches),
         Name::Status => status_request(alloc, matches),
         Name::Loan => loan_request(alloc, matches),
+        Name::Retire => retire_request(alloc, matches),
         Name::Verify => verify_request(alloc, matches),
         Name::Report => report_request(alloc, matches),
         Name::Show => Ok(Request::Show {
@@ -242,11 +266,13 @@ fn act_request<'a>(alloc: Global, matches: &ArgMatches<'a>) -> Result<Request<'a
     let file = text(alloc, matches, Argument::File)?;
     let today = day(matches, Argument::Today)?;
     let txn = loan(alloc, matches)?;
+    let is_new_group = is_set(matches, Argument::NewGroup);
     let words = texts(alloc, matches, Argument::Words)?;
     Ok(Request::Act {
         file,
         txn,
         today,
+        is_new_group,
         words,
     })
 }
@@ -316,13 +342,14 @@ fn exchange_request<'a>(alloc: Global, matches: &ArgMatches<'a>) -> Result<Reque
     let copy = said(matches, Argument::Copy);
     let beat = said(matches, Argument::Beat);
     Ok(Request::Exchange {
+        file,
         night: Night {
-            file,
             incoming,
             outgoing,
             dates,
             copy,
             beat,
+            is_on_shelf: false,
         },
     })
 }
@@ -392,6 +419,27 @@ fn loan_request<'a>(alloc: Global, matches: &ArgMatches<'a>) -> Result<Request<'
         form,
         is_picture,
     })
+}
+
+/// The request of `ill shelf retire`.
+fn retire_request<'a>(alloc: Global, matches: &ArgMatches<'a>) -> Result<Request<'a>, Refusal>
+    ensures { Gives asked (asked_of names.Retire (rows_of (found_of matches.now))) result }
+{
+    let file = text(alloc, matches, Argument::File)?;
+    let group = group(alloc, matches)?;
+    Ok(Request::Retire { file, group })
+}
+
+/// The group of an argument.
+fn group<'a>(alloc: Global, matches: &ArgMatches<'a>) -> Result<&'a str, Refusal>
+    ensures { Gives (λ group. group.now) (group_of (rows_of (found_of matches.now))) result }
+{
+    let group = text(alloc, matches, Argument::Group)?;
+    if TxnId::is_qualifier(group.as_bytes()) {
+        Ok(group)
+    } else {
+        Err(Refusal::Fault(ToolFault::Arguments))
+    }
 }
 
 /// The request of `ill verify`.

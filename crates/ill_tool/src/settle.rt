@@ -45,7 +45,7 @@ pub fn settle_mails<T: Files, E: Write>(
 }
 
 /// Removes the folders of runs in which no mail is left.
-fn remove_runs<T: Files>(rt: &T, found: &Mails) {
+pub(crate) fn remove_runs<T: Files>(rt: &T, found: &Mails) {
     for run in &found.runs {
         let _ = fs::remove_dir(rt, run.as_str());
     }
@@ -98,7 +98,7 @@ fn put_aside<T: Files>(
 
 /// Gives a mail back to the folder from which it was claimed. If that cannot be done, since another of its name has come
 /// there, it stays claimed, and the next run takes it first.
-fn give_back<T: Files>(
+pub(crate) fn give_back<T: Files>(
     rt: &T,
     alloc: Global,
     folder: &str,

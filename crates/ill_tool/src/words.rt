@@ -3,6 +3,7 @@
 ghost use Rattle.std.specs.Prelude.{◌≡◌, ◌≤◌};
 ghost use Rattle.ill_tool.specs.Asked.{asked};
 ghost use Rattle.ill_tool.specs.Commands.{Runs};
+ghost use Rattle.ill_tool.specs.Shelf.{RunsShelf};
 ghost use Rattle.ill_tool.specs.ExitStatus.{IsFlushed, desk_status, exit_status, status_of};
 
 use crate::check::run_check;
@@ -10,9 +11,15 @@ use crate::exchange::{exchange, inbox, outbox};
 use crate::explain::{Passed, Watched, explain, is_asked};
 use crate::fault::ToolFault;
 use crate::file::{act, all_well, list, loan, new, report, send, status, take, verify};
-use crate::request::{Refusal, Request, read_words};
+use crate::mail::Incoming;
+use crate::on_shelf::{
+    act_on_shelf, exchange_of_shelf, inbox_of_shelf, loan_on_shelf, new_shelf, outbox_of_shelf,
+    retire, send_on_shelf, status_of_shelf,
+};
+use crate::request::{Call, Refusal, Request, read_words};
 use crate::show::run_show_as;
 use crate::simulate::{run_simulate, run_simulate_desks};
+use crate::take_home::take_on_shelf;
 use clap::Error;
 use clap::error::ErrorKind;
 use ill_saved::{DeskFault, LockFiles};
@@ -34,9 +41,9 @@ pub fn run_words<T: LockFiles, R: Read, W: Write, E: Write>(
     ensures { result ≤ 3 }
 {
     match read_words(alloc, words) {
-        Ok(request) => {
+        Ok(call) => {
             let mut reader = Watched::new(alloc, reader, is_asked(words));
-            let done = perform(rt, alloc, &request, &mut reader, writer, errors);
+            let done = perform(rt, alloc, &call, &mut reader, writer, errors);
             conclude(rt, alloc, words, done, reader.passed(), errors)
         }
         Err(Refusal::Usage(error)) => tell(&error, writer, errors),
@@ -74,7 +81,7 @@ const BUFFER: usize = 65_536;
 fn perform<T: LockFiles, R: Read, W: Write, E: Write>(
     rt: &T,
     alloc: Global,
-    request: &Request<'_>,
+    call: &Call<'_>,
     reader: &mut R,
     writer: &mut W,
     errors: &mut E,
@@ -82,7 +89,10 @@ fn perform<T: LockFiles, R: Read, W: Write, E: Write>(
     let mut writer = BufWriter::with_capacity(alloc, BUFFER, writer).map_err(
         |_| ToolFault::OutOfMemory,
     )?;
-    let done = run(rt, alloc, request, reader, &mut writer, errors);
+    let done = match call {
+        Call::Desk(request) => run(rt, alloc, request, reader, &mut writer, errors),
+        Call::Shelf(request) => run_on_shelf(rt, alloc, request, reader, &mut writer, errors),
+    };
     finish_writing(writer, done)
 }
 
@@ -135,15 +145,18 @@ fn run<T: LockFiles, R: Read, W: Write, E: Write>(
             txn,
             today,
             words,
+            ..
         } => act(rt, alloc, file, txn, *today, words, writer),
         Request::Take {
             file,
             is_long,
             is_kept,
         } => take(rt, alloc, file, *is_long, *is_kept, reader, writer),
-        Request::Inbox { file, folder } => inbox(rt, alloc, file, folder, writer, errors),
+        Request::Inbox { file, folder } => {
+            inbox(rt, alloc, file, unsorted(folder), writer, errors)
+        }
         Request::Outbox { file, folder } => outbox(rt, alloc, file, *folder, writer, errors),
-        Request::Exchange { night } => exchange(rt, alloc, night, writer, errors),
+        Request::Exchange { file, night } => exchange(rt, alloc, file, night, writer, errors),
         Request::Send { file, txn, number } => send(rt, alloc, file, txn, *number, writer),
         Request::List {
             paths,
@@ -157,8 +170,65 @@ fn run<T: LockFiles, R: Read, W: Write, E: Write>(
             form,
             is_picture,
         } => loan(rt, alloc, file, txn, *form, *is_picture, writer),
+        Request::Retire { .. } => Err(ToolFault::Arguments),
         Request::Verify { file } => verify(rt, alloc, file, writer),
         Request::Report { paths, today } => report(rt, alloc, paths, *today, writer),
+    }
+}
+
+/// Returns a folder that no shelf sorts.
+fn unsorted(folder: &str) -> Incoming<'_> {
+    Incoming {
+        folder,
+        is_sorted: false,
+    }
+}
+
+/// Runs the engine of a command on a shelf. No other command is about shelves.
+fn run_on_shelf<T: LockFiles, R: Read, W: Write, E: Write>(
+    rt: &T,
+    alloc: Global,
+    request: &Request<'_>,
+    reader: &mut R,
+    writer: &mut W,
+    errors: &mut E,
+) -> Result<bool, ToolFault>
+    ensures { RunsShelf (asked request.now) (R.remaining reader.old) (R.remaining reader.new)
+        (W.contents writer.old) (W.contents writer.new) result }
+{
+    match request {
+        Request::New { file, role } => new_shelf(rt, alloc, file, *role, writer),
+        Request::Act {
+            file,
+            txn,
+            today,
+            is_new_group,
+            words,
+        } => act_on_shelf(rt, alloc, file, txn, *today, *is_new_group, words, writer),
+        Request::Take {
+            file,
+            is_long,
+            is_kept,
+        } => take_on_shelf(rt, alloc, file, *is_long, *is_kept, reader, writer),
+        Request::Send { file, txn, number } => {
+            send_on_shelf(rt, alloc, file, txn, *number, writer)
+        }
+        Request::Loan {
+            file,
+            txn,
+            form,
+            is_picture,
+        } => loan_on_shelf(rt, alloc, file, txn, *form, *is_picture, writer),
+        Request::Status { file, form } => status_of_shelf(rt, alloc, file, *form, writer, errors),
+        Request::Inbox { file, folder } => inbox_of_shelf(rt, alloc, file, folder, writer, errors),
+        Request::Outbox { file, folder } => {
+            outbox_of_shelf(rt, alloc, file, *folder, writer, errors)
+        }
+        Request::Exchange { file, night } => {
+            exchange_of_shelf(rt, alloc, file, night, writer, errors)
+        }
+        Request::Retire { file, group } => retire(rt, alloc, file, group, writer),
+        _ => Err(ToolFault::Arguments),
     }
 }
 

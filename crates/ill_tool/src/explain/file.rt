@@ -36,6 +36,18 @@ pub fn tell_desk_fault<T: LockFiles>(
         Some(path) => path.as_str(),
         None => matches.get_str(Argument::File.id()).unwrap_or_default(),
     };
+    tell_fault_at(rt, alloc, text, path, has_mails(matches), fault)
+}
+
+/// Adds what a fault of the desk in a file comes from.
+pub fn tell_fault_at<T: LockFiles>(
+    rt: &T,
+    alloc: Global,
+    text: &mut String,
+    path: &str,
+    has_mails: bool,
+    fault: DeskFault,
+) -> Result<(), OutOfMemory> {
     let shown = Shown::of(path);
     match fault {
         DeskFault::Exists => writeln!(
@@ -44,7 +56,7 @@ pub fn tell_desk_fault<T: LockFiles>(
         ),
         DeskFault::NoRecord => tell_absent(rt, text, path),
         DeskFault::Store(StoreFault::Failed)
-            if has_mails(matches) && !is_at_work(rt, alloc, path) && is_open(rt, alloc, path) => {
+            if has_mails && !is_at_work(rt, alloc, path) && is_open(rt, alloc, path) => {
             writeln!(
                 text,
                 "  The line before tells which file or folder it is. Without one {shown} is not saved: look at"

@@ -1,4 +1,4 @@
-use Rattle.std.proofs.Common.{rules, ◌≡◌, ◌+◌, ◌≤◌, length}
+use Rattle.std.proofs.Common.{rules, ◌+◌, ◌≤◌, length}
 use Rattle.ill_der.specs.ShortForm.{apdu_at}
 use Rattle.ill_tool.proofs.InboxLemmas.{trailing_unfit}
 use Rattle.ill_tool.proofs.inbox.one_message.Goals as goal

@@ -10,8 +10,8 @@ use Rattle.ill_tool.proofs.report.push_loans.Goals as goal
 pub returns : goal.returns
 returns c =
     let today = c.args.today in
-    let turns = c.args.shelf.now.turns.now in
-    let fields = c.args.shelf.now.fields.now in
+    let turns = c.args.section.now.turns.now in
+    let fields = c.args.section.now.fields.now in
     let sides = c.args.sides.now in
     let each = flat_map (λ (side : Bor Side). loans_text today turns fields (side.now ∷ [])) in
     let all = take_all c.loop-side.side-index sides c.loop-side-test.false in

@@ -4,8 +4,8 @@ use Rattle.ill_saved.specs.declared.side.Side.{Side}
 use Rattle.ill_tool.specs.Report.{loans_text}
 use Rattle.ill_tool.proofs.report.push_loans.Given as goal
 
--- the loans so far are told that have a turn of the shelf
+-- the loans so far are told that have a turn of the section
 abbrev pub invariant-loop-side : goal.invariant-loop-side
 invariant-loop-side l = record {
-  told : l.page.items ≡ l.initial.page.items ++ flat_map (λ (side : Bor Side). loans_text l.today l.shelf.turns.now l.shelf.fields.now (side.now ∷ [])) (take l.side-index l.sides);
+  told : l.page.items ≡ l.initial.page.items ++ flat_map (λ (side : Bor Side). loans_text l.today l.section.turns.now l.section.fields.now (side.now ∷ [])) (take l.side-index l.sides);
 }

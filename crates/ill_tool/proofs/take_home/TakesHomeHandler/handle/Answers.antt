@@ -1,0 +1,9 @@
+use Rattle.std.proofs.Common.{Some, inl, refl}
+use Rattle.ill_der.specs.ShortForm.{spelling}
+use Rattle.ill_tool.proofs.take_home.TakesHomeHandler.handle.Goals as goal
+
+pub returns-in-Err : goal.returns-in-Err
+returns-in-Err g c = (Some (spelling c.args.apdu.now), inl ((c.in-Err.ensures, refl), refl))
+
+pub returns-in-Err-spelled : goal.returns-in-Err-spelled
+returns-in-Err-spelled g c = (Some (spelling c.args.apdu.now), inl ((tt, refl), refl))

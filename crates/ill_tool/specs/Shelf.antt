@@ -1,0 +1,223 @@
+-- A shelf: a folder of desks of one role, one for each group. The group of a transaction names its desk (this
+-- profile's own).
+use Rattle.std.specs.Prelude.{◌≡◌, ◌⊎◌, All, ℕ, Bool, true, false, ◌&&◌, List, [], ◌∷◌, ◌++◌, map, fold, codes, Option, Some, is_some, Result, Ok, Err}
+use Rattle.std.specs.List.{list_all}
+use Rattle.percent_encoding.specs.Percent.{percent_encode}
+use Rattle.ill_saved.specs.declared.role.Role.{Role}
+use Rattle.ill_saved.specs.declared.role.Role.TheVariants.{Responder}
+use Rattle.ill_saved.specs.declared.side.Side.{Side}
+use Rattle.ill_world.specs.Night.{is_over}
+use Rattle.ill_tool.specs.declared.fault.ToolFault.{ToolFault}
+use Rattle.ill_tool.specs.declared.fault.ToolFault.TheVariants.{Arguments, Left, OutOfMemory}
+use Rattle.ill_tool.specs.declared.form.Form.{Form}
+use Rattle.ill_tool.specs.declared.form.Form.TheVariants.{Lines}
+use Rattle.ill_tool.specs.declared.shelf.TheConstants.{ESCAPED}
+use Rattle.ill_tool.specs.declared.sorting.Home.{Home}
+use Rattle.ill_tool.specs.declared.sorting.Home.TheVariants as homes
+use Rattle.ill_tool.specs.declared.sorting.Route.{Route}
+use Rattle.ill_tool.specs.declared.sorting.Route.TheVariants as routes
+use Rattle.ill_tool.specs.declared.visit.Visit.{Visit}
+use Rattle.ill_tool.specs.declared.visit.Visit.TheVariants as visits
+use Rattle.ill_der.specs.Handling.{Handles}
+use Rattle.ill_der.specs.ShortForm.{spelling}
+use Rattle.ill_tool.specs.Asked.{Asked}
+use Rattle.ill_tool.specs.Asked as asks
+use Rattle.ill_tool.specs.Commands.{ActsAtFile, ExchangesAtFile, InboxAtFile, IsShut, LoanAtFile, NewAtFile, OutboxAtFile, SendsAtFile, ShowsFile, TakesAtFile}
+use Rattle.ill_tool.specs.Copy.{Copies}
+use Rattle.ill_tool.specs.Input.{ReadsInput}
+use Rattle.ill_tool.specs.Take.{answer_of}
+use Rattle.ill_tool.specs.Listing.{heading}
+use Rattle.ill_tool.specs.Outbox.{IsFileFault}
+use Rattle.ill_tool.specs.Output.{WritesText}
+use Rattle.ill_tool.specs.Status.{role_name}
+
+-- ---- the names of desks
+
+-- The name of the desk of a group: the group in percent-encoding, and behind a full stop the role.
+abbrev pub desk_name : Role → List ℕ → List ℕ
+desk_name role group = percent_encode ESCAPED group ++ (codes "." ++ role_name role)
+
+-- The path of that desk, on the shelf in a folder.
+abbrev pub desk_path : List ℕ → Role → List ℕ → List ℕ
+desk_path folder role group = folder ++ (codes "/" ++ desk_name role group)
+
+-- ---- mail
+
+-- The way of a mail's message, by the role of the shelf, what the shelf has of its group, if it is an ILL-Request, and
+-- if further desks may be made in this run. Mail makes a desk of a group of which the shelf has nothing, and only an
+-- ILL-Request at a responder's does. No mail makes the desk anew of a group that is retired, or whose desk is lost.
+abbrev pub route_of : Role → Home → (is_request has_room : Bool) → Route
+route_of role homes.Desk is_request has_room = routes.Home
+route_of role homes.Retired is_request has_room = routes.Gone
+route_of role homes.Lost is_request has_room = routes.Back
+route_of Responder homes.Nothing true true = routes.New
+route_of Responder homes.Nothing true false = routes.Back
+route_of role homes.Nothing is_request has_room = routes.Stray
+
+-- ---- one desk after another
+
+-- The graver of two answers: a fault before mails that are left, these before something that wants a person.
+abbrev pub graver : Result Bool ToolFault → Result Bool ToolFault → Result Bool ToolFault
+graver (Err Left) (Err fault) = Err fault
+graver (Err fault) other = Err fault
+graver (Ok is_well) (Err fault) = Err fault
+graver (Ok is_well) (Ok other) = Ok (is_well && other)
+
+-- a visit to a desk: its path, what the writer held before and after it, and what it answered
+pub record Stop : Type 0 where
+  pub path : List ℕ
+  pub before : Option (List ℕ)
+  pub after : Option (List ℕ)
+  pub answer : Result Bool ToolFault
+
+-- The visits follow each other, from what the writer held to what it holds.
+unfoldable pub Follow : Option (List ℕ) → List Stop → Option (List ℕ) → Type 0
+Follow before [] after = after ≡ before
+Follow before (stop ∷ stops) after = (stop.before ≡ before) × Follow stop.after stops after
+
+-- what the visits come to together
+abbrev pub gravest : List Stop → Result Bool ToolFault
+gravest stops = fold graver (Ok true) (map (λ stop. stop.answer) stops)
+
+-- A desk was visited behind the line of its path; or that line could not be written.
+abbrev pub Behind : (Option (List ℕ) → Option (List ℕ) → Result Bool ToolFault → Type 0) → Result (Unit {0}) ToolFault →
+    Option (List ℕ) → Option (List ℕ) → Result Bool ToolFault → Type 0
+Behind Runs (Ok done) between after answer = Runs between after answer
+Behind Runs (Err fault) between after answer = (answer ≡ Err fault) × (after ≡ between)
+
+abbrev pub Headed : Bool → (Option (List ℕ) → Option (List ℕ) → Result Bool ToolFault → Type 0) → Stop → Type 0
+Headed is_headed Runs stop =
+    (between : Option (List ℕ)) × (told : Result (Unit {0}) ToolFault)
+    × WritesText stop.before between (heading is_headed stop.path) told × Behind Runs told between stop.after stop.answer
+
+-- a form in which a line of its path stands before each desk
+abbrev pub is_lines : Form → Bool
+is_lines Lines = true
+is_lines form = false
+
+-- the desks are told apart by a line of the path of each, unless bytes or objects are written
+abbrev pub is_headed : Visit → Bool
+is_headed (visits.Status form) = is_lines form
+is_headed (visits.Outbox folder) = is_some folder
+is_headed visit = true
+
+-- what a visit does at a desk: what the command for one desk does
+abbrev pub RunsVisit : Visit → Option (List ℕ) → Option (List ℕ) → Result Bool ToolFault → Type 0
+RunsVisit (visits.Status form) = ShowsFile form
+RunsVisit (visits.Inbox folder) = InboxAtFile
+RunsVisit (visits.Outbox folder) = OutboxAtFile (is_some folder)
+RunsVisit (visits.Exchange night) = ExchangesAtFile night.dates
+
+-- The desks at these paths were visited, one after another; and this is the gravest of what they answered.
+abbrev pub VisitsAll : Bool → (Option (List ℕ) → Option (List ℕ) → Result Bool ToolFault → Type 0) → List (List ℕ) →
+    Option (List ℕ) → Option (List ℕ) → Result Bool ToolFault → Type 0
+VisitsAll is_headed Runs paths before after answer =
+    (stops : List Stop) × (map (λ stop. stop.path) stops ≡ paths) × Follow before stops after
+    × All (Headed is_headed Runs) stops × (answer ≡ gravest stops)
+
+-- All is well, or mails wait that have no desk, or a file failed.
+abbrev pub IsFurther : Result Bool ToolFault → Type 0
+IsFurther (Ok is_well) = is_well ≡ true
+IsFurther (Err Left) = Unit {0}
+IsFurther (Err fault) = IsFileFault fault
+
+-- The desks of a shelf were visited. What it answers is graver yet if mails wait that have no desk, or a file failed.
+abbrev pub VisitsShelf : Bool → (Option (List ℕ) → Option (List ℕ) → Result Bool ToolFault → Type 0) → Option (List ℕ) →
+    Option (List ℕ) → Result Bool ToolFault → Type 0
+VisitsShelf is_headed Runs before after result =
+    IsShut before after result
+    ⊎ ((paths : List (List ℕ)) × (answer further : Result Bool ToolFault) × VisitsAll is_headed Runs paths before after answer
+    × IsFurther further × (result ≡ graver answer further))
+
+-- ---- retired groups
+
+-- all loans of a desk are over
+abbrev pub are_all_over : List Side → Bool
+are_all_over sides = list_all is_over sides
+
+-- the bytes of the file that marks a retired group
+abbrev pub retired_mark : List ℕ
+retired_mark = codes "retired\n"
+
+-- The group of a desk is marked as retired, in a store of which this is known, if all loans of the desk are over. If
+-- memory ran out before that was known, nothing is marked.
+abbrev pub Retires : List Side → Option (Option (List ℕ)) → Result Bool ToolFault → Option (Option (List ℕ)) → Type 0
+Retires sides old (Ok true) new = (are_all_over sides ≡ true) × Copies retired_mark old (Ok tt) new
+Retires sides old (Ok false) new = (are_all_over sides ≡ false) × (new ≡ old)
+Retires sides old (Err OutOfMemory) new = new ≡ old
+Retires sides old (Err fault) new = (are_all_over sides ≡ true) × Copies retired_mark old (Err fault) new
+
+-- the line of a group that is retired, or is not since a loan is not over
+abbrev pub retired_line : Bool → List ℕ
+retired_line true = codes "done\n"
+retired_line false = codes "not-now\n"
+
+-- what a line that was written answers
+abbrev pub told_with : Bool → Result (Unit {0}) ToolFault → Result Bool ToolFault
+told_with is_well (Ok done) = Ok is_well
+told_with is_well (Err fault) = Err fault
+
+-- A group was retired at a desk's file, or was before, or is not; and that was told.
+abbrev pub RetiresAtFile : Option (List ℕ) → Option (List ℕ) → Result Bool ToolFault → Type 0
+RetiresAtFile before after result =
+    IsShut before after result
+    ⊎ ((is_retired : Bool) × (told : Result (Unit {0}) ToolFault) × WritesText before after (retired_line is_retired) told
+    × (result ≡ told_with is_retired told))
+
+-- ---- an input
+
+-- how far an input is: if messages are kept and told at length, if all went well, and what the writer holds
+pub record AtHome : Type 0 where
+  pub is_kept : Bool
+  pub is_long : Bool
+  pub all_fine : Bool
+  pub written : Option (List ℕ)
+
+-- An APDU alone was taken as the input of the command for one desk.
+abbrev pub takes_home : Handles AtHome ToolFault
+takes_home old a (Ok done) new =
+    (is_well : Bool) × (rest : Option (List ℕ))
+    × TakesAtFile old.is_kept old.is_long (Some (spelling a)) rest old.written new.written (Ok is_well)
+    × (new ≡ record old { all_fine = old.all_fine && is_well; written = new.written })
+takes_home old a (Err fault) new =
+    (rest : Option (List ℕ))
+    × TakesAtFile old.is_kept old.is_long (Some (spelling a)) rest old.written new.written (Err fault)
+
+-- before the first APDU
+abbrev pub at_home : (is_kept is_long : Bool) → Option (List ℕ) → AtHome
+at_home is_kept is_long before = record { is_kept = is_kept; is_long = is_long; all_fine = true; written = before }
+
+-- The APDUs of an input were taken, each at a desk.
+abbrev pub TakesAtShelf : (is_kept is_long : Bool) → Option (List ℕ) → Option (List ℕ) → Option (List ℕ) →
+    Option (List ℕ) → Result Bool ToolFault → Type 0
+TakesAtShelf is_kept is_long left rest before after result =
+    (IsShut before after result × (rest ≡ left))
+    ⊎ ((count : Result ℕ ToolFault) × (end : AtHome)
+    × ReadsInput takes_home left rest (at_home is_kept is_long before) count end
+    × (after ≡ end.written) × (result ≡ answer_of count end.all_fine))
+
+-- ---- the commands
+
+-- A command on a shelf, from what the reader had left to what it has left, and from what the writer held to what it
+-- holds. In a transaction it does at the desk of its group what the command for one desk does.
+abbrev pub RunsShelf : Asked → Option (List ℕ) → Option (List ℕ) → Option (List ℕ) → Option (List ℕ) →
+    Result Bool ToolFault → Type 0
+RunsShelf (asks.New folder role) left rest before after result = (rest ≡ left) × NewAtFile before after result
+RunsShelf (asks.Act folder txn today is_new_group words) left rest before after result =
+    (rest ≡ left) × ActsAtFile txn today words before after result
+RunsShelf (asks.Take folder is_long is_kept) left rest before after result =
+    TakesAtShelf is_kept is_long left rest before after result
+RunsShelf (asks.Send folder txn number) left rest before after result =
+    (rest ≡ left) × SendsAtFile txn number before after result
+RunsShelf (asks.Loan folder txn form is_picture) left rest before after result =
+    (rest ≡ left) × LoanAtFile form is_picture txn before after result
+RunsShelf (asks.Status folder form) left rest before after result =
+    (rest ≡ left) × VisitsShelf (is_lines form) (ShowsFile form) before after result
+RunsShelf (asks.Inbox folder incoming) left rest before after result =
+    (rest ≡ left) × VisitsShelf true InboxAtFile before after result
+RunsShelf (asks.Outbox folder outgoing) left rest before after result =
+    (rest ≡ left) × VisitsShelf (is_some outgoing) (OutboxAtFile (is_some outgoing)) before after result
+RunsShelf (asks.Exchange folder incoming outgoing dates copy beat) left rest before after result =
+    (rest ≡ left) × VisitsShelf true (ExchangesAtFile dates) before after result
+RunsShelf (asks.Retire folder group) left rest before after result = (rest ≡ left) × RetiresAtFile before after result
+RunsShelf other left rest before after result = (rest ≡ left) × (after ≡ before) × (result ≡ Err Arguments)

@@ -1,0 +1,449 @@
+//! The commands on a shelf. In a transaction each does at the desk of its group what the command for one desk does.
+
+ghost use Rattle.std.specs.Prelude.{◌≡◌, true, map, is_some, IfErr};
+ghost use Rattle.ill_tool.specs.Commands.{ActsAtFile, ExchangesAtFile, InboxAtFile, IsOpenFault, LoanAtFile, NewAtFile, OutboxAtFile, SendsAtFile, ShowsFile};
+ghost use Rattle.ill_tool.specs.Shelf.{IsFurther, RetiresAtFile, VisitsShelf, is_lines, retired_line, told_with};
+ghost use Rattle.ill_tool.specs.Outbox.{IsFileFault};
+ghost use Rattle.ill_tool.specs.Output.{WritesText};
+
+use crate::act::run_desk_act;
+use crate::came::{CAME, STORE_FAILED};
+use crate::exchange::{NO_FOLDER, Night, beat, blame, find_folder};
+use crate::fault::ToolFault;
+use crate::file::{loan, lock, new, open, release, send};
+use crate::folder::fault;
+use crate::form::Form;
+use crate::mail::{names_in, path_of};
+use crate::mail_box::{MAIL, remove_if_there};
+use crate::output::write_whole;
+use crate::retire::{MARK, run_desk_retire};
+use crate::shelf::{
+    RETIRED, Shelf, is_retired, is_there, names_of_desks, own_path, refuse_retired, retired_path,
+};
+use crate::sorting::{refuse_lost, sort_mails};
+use crate::visit::{Visit, graver, visit_all};
+use ill_saved::{Desk, DeskFault, FileLock, FileStore, LockFiles, RECORD_LIMIT, Role, Store};
+use ill_values::{Day, Number, TxnId};
+use ill_world::Who;
+use std::alloc::Global;
+use std::fs::DirBuilder;
+use std::io::{ErrorKind, Write};
+use std::rt::Files;
+use std::{fs, io};
+
+/// `ill shelf new`: begins a shelf in a folder, which is made if it is not there.
+pub fn new_shelf<T: LockFiles, W: Write>(
+    rt: &T,
+    alloc: Global,
+    folder: &str,
+    role: Who,
+    writer: &mut W,
+) -> Result<bool, ToolFault>
+    ensures { NewAtFile (W.contents writer.old) (W.contents writer.new) result }
+{
+    make_shelf_folder(rt, folder)?;
+    let own = own_path(alloc, folder)?;
+    new(rt, alloc, own.as_str(), role, writer)
+}
+
+/// Makes the folder of a shelf, if it is not there.
+fn make_shelf_folder<T: Files>(rt: &T, folder: &str) -> Result<(), ToolFault>
+    ensures { IfErr result IsOpenFault }
+{
+    if folder.is_empty() {
+        return Err(STORE_FAILED);
+    }
+    match DirBuilder::new().create(rt, folder) {
+        Err(error) if error.kind() != ErrorKind::AlreadyExists => Err(fault(&error)),
+        _ => Ok(()),
+    }
+}
+
+/// `ill shelf act`: performs one action in a transaction, at the desk of its group. A new group is begun only if that is
+/// said.
+pub fn act_on_shelf<T: LockFiles, W: Write>(
+    rt: &T,
+    alloc: Global,
+    folder: &str,
+    txn: &TxnId,
+    today: Option<Day>,
+    is_new_group: bool,
+    words: &[&str],
+    writer: &mut W,
+) -> Result<bool, ToolFault>
+    ensures { ActsAtFile txn.now today (map (λ word. word.now) words.now)
+        (W.contents writer.old) (W.contents writer.new) result }
+{
+    let shelf = Shelf::open(rt, alloc, folder)?;
+    let file = shelf.desk_of(alloc, txn.group())?;
+    let role = if is_new_group { Some(shelf.role) } else { None };
+    let (lock, mut desk) = open_or_begin(rt, alloc, file.as_str(), role)?;
+    let acted = run_desk_act(alloc, &mut desk, txn, today, words, writer);
+    release(acted, desk, lock)
+}
+
+/// Opens the desk in a file under the file's lock. If the file is not there, a desk of this role is begun, of which
+/// nothing is saved yet.
+fn open_or_begin<'a, T: LockFiles>(
+    rt: &'a T,
+    alloc: Global,
+    file: &str,
+    role: Option<Role>,
+) -> Result<(FileLock<'a, T>, Desk<FileStore<'a, T>>), ToolFault>
+    ensures { IfErr result IsOpenFault }
+{
+    let held = lock(rt, alloc, file)?;
+    refuse_retired(rt, alloc, file)?;
+    refuse_lost(rt, alloc, file)?;
+    let store = FileStore::at(rt, alloc, file, RECORD_LIMIT)?;
+    let opened = start_or_begin(alloc, store, role)?;
+    Ok((held, opened))
+}
+
+/// Starts a desk over a store. If the store has no record, a desk of this role is begun.
+fn start_or_begin<S: Store + Drop>(
+    alloc: Global,
+    store: S,
+    role: Option<Role>,
+) -> Result<Desk<S>, ToolFault>
+    ensures { IfErr result IsOpenFault }
+{
+    match (Desk::start(alloc, store), role) {
+        (Err((DeskFault::NoRecord, store)), Some(role)) => Ok(Desk::create(alloc, store, role)?),
+        (started, _) => Ok(started?),
+    }
+}
+
+/// `ill shelf send`: gives the bytes of a message of a transaction.
+pub fn send_on_shelf<T: Files, W: Write>(
+    rt: &T,
+    alloc: Global,
+    folder: &str,
+    txn: &TxnId,
+    number: Number,
+    writer: &mut W,
+) -> Result<bool, ToolFault>
+    ensures { SendsAtFile txn.now number (W.contents writer.old) (W.contents writer.new) result }
+{
+    let file = home_of(rt, alloc, folder, txn)?;
+    send(rt, alloc, file.as_str(), txn, number, writer)
+}
+
+/// `ill shelf loan`: shows all that is known of a transaction, or draws it.
+pub fn loan_on_shelf<T: Files, W: Write>(
+    rt: &T,
+    alloc: Global,
+    folder: &str,
+    txn: &TxnId,
+    form: Form,
+    is_picture: bool,
+    writer: &mut W,
+) -> Result<bool, ToolFault>
+    ensures { LoanAtFile form is_picture txn.now (W.contents writer.old) (W.contents writer.new) result }
+{
+    let file = home_of(rt, alloc, folder, txn)?;
+    loan(rt, alloc, file.as_str(), txn, form, is_picture, writer)
+}
+
+/// Returns the path of the desk of a transaction's group, unless the group is retired.
+fn home_of<T: Files>(rt: &T, alloc: Global, folder: &str, txn: &TxnId) -> Result<String, ToolFault>
+    ensures { IfErr result IsOpenFault }
+{
+    let shelf = Shelf::open(rt, alloc, folder)?;
+    let file = shelf.desk_of(alloc, txn.group())?;
+    refuse_retired(rt, alloc, file.as_str())?;
+    Ok(file)
+}
+
+/// `ill shelf status`: shows the sides of each desk.
+pub fn status_of_shelf<T: LockFiles, W: Write, E: Write>(
+    rt: &T,
+    alloc: Global,
+    folder: &str,
+    form: Form,
+    writer: &mut W,
+    errors: &mut E,
+) -> Result<bool, ToolFault>
+    ensures { VisitsShelf (is_lines form) (ShowsFile form) (W.contents writer.old) (W.contents writer.new) result }
+{
+    let shelf = Shelf::open(rt, alloc, folder)?;
+    let desks = shelf.desks(rt, alloc)?;
+    visit_all(rt, alloc, &desks, &Visit::Status(form), writer, errors)
+}
+
+/// `ill shelf outbox`: puts the messages of the loans that want sending into a folder, or writes them one behind another.
+pub fn outbox_of_shelf<T: LockFiles, W: Write, E: Write>(
+    rt: &T,
+    alloc: Global,
+    folder: &str,
+    outgoing: Option<&str>,
+    writer: &mut W,
+    errors: &mut E,
+) -> Result<bool, ToolFault>
+    ensures { VisitsShelf (is_some outgoing.entry) (OutboxAtFile (is_some outgoing.entry)) (W.contents writer.old)
+        (W.contents writer.new) result }
+{
+    let shelf = Shelf::open(rt, alloc, folder)?;
+    let desks = shelf.desks(rt, alloc)?;
+    visit_all(rt, alloc, &desks, &Visit::Outbox(outgoing), writer, errors)
+}
+
+/// `ill shelf inbox`: takes the mails of a folder, each at the desk of its group.
+pub fn inbox_of_shelf<T: LockFiles, W: Write, E: Write>(
+    rt: &T,
+    alloc: Global,
+    folder: &str,
+    incoming: &str,
+    writer: &mut W,
+    errors: &mut E,
+) -> Result<bool, ToolFault>
+    ensures { VisitsShelf true InboxAtFile (W.contents writer.old) (W.contents writer.new) result }
+{
+    let shelf = Shelf::open(rt, alloc, folder)?;
+    let is_waiting = sort_mails(rt, alloc, &shelf, incoming, errors)?;
+    let desks = desks_and_own(rt, alloc, &shelf)?;
+    let answer = visit_all(rt, alloc, &desks, &Visit::Inbox(incoming), writer, errors);
+    graver(answer, waiting(is_waiting))
+}
+
+/// Returns the paths of the desks of a shelf, and behind them that of its own.
+fn desks_and_own<T: Files>(
+    rt: &T,
+    alloc: Global,
+    shelf: &Shelf<'_>,
+) -> Result<Vec<String>, ToolFault>
+    ensures { IfErr result IsOpenFault }
+{
+    let mut desks = shelf.desks(rt, alloc)?;
+    desks.push(shelf.own_desk(alloc)?)?;
+    Ok(desks)
+}
+
+/// Answers that mails wait, if they do.
+fn waiting(is_waiting: bool) -> Result<bool, ToolFault>
+    ensures { IsFurther result }
+{
+    if is_waiting {
+        Err(ToolFault::Left)
+    } else {
+        Ok(true)
+    }
+}
+
+/// `ill shelf exchange`: sorts the mail that has come, and exchanges the mail of each desk.
+pub fn exchange_of_shelf<T: LockFiles, W: Write, E: Write>(
+    rt: &T,
+    alloc: Global,
+    folder: &str,
+    night: &Night<'_>,
+    writer: &mut W,
+    errors: &mut E,
+) -> Result<bool, ToolFault>
+    ensures { VisitsShelf true (ExchangesAtFile night.now.dates) (W.contents writer.old) (W.contents writer.new) result }
+{
+    let shelf = Shelf::open(rt, alloc, folder)?;
+    let found = find_folder(rt, night.outgoing);
+    blame(alloc, found, night.outgoing, NO_FOLDER, errors)?;
+    let is_waiting = sort_mails(rt, alloc, &shelf, night.incoming, errors)?;
+    let desks = desks_and_own(rt, alloc, &shelf)?;
+    let visit = Visit::Exchange(at_each(night));
+    let answer = visit_all(rt, alloc, &desks, &visit, writer, errors);
+    let further = end_night(rt, alloc, &shelf, night, answer, is_waiting, errors);
+    graver(answer, further)
+}
+
+/// Returns what a night of a shelf does at each of its desks. The sign of life is given once, in the end.
+fn at_each<'a>(night: &Night<'a>) -> Night<'a>
+    ensures { result.dates ≡ night.now.dates }
+{
+    Night {
+        incoming: night.incoming,
+        outgoing: night.outgoing,
+        dates: night.dates,
+        copy: night.copy,
+        beat: None,
+        is_on_shelf: true,
+    }
+}
+
+/// Keeps the marks of retired groups with the copies, gives the sign of life of a night, unless a desk has failed, and
+/// tells if mails wait.
+fn end_night<T: Files, E: Write>(
+    rt: &T,
+    alloc: Global,
+    shelf: &Shelf<'_>,
+    night: &Night<'_>,
+    answer: Result<bool, ToolFault>,
+    is_waiting: bool,
+    errors: &mut E,
+) -> Result<bool, ToolFault>
+    ensures { IsFurther result }
+{
+    if let Some(folder) = night.copy
+        && let Err(error) = copy_marks(rt, alloc, shelf, folder)
+    {
+        return blame(alloc, Err(file_fault(&error)), folder, NO_MARKS, errors);
+    }
+    if let Ok(_) | Err(ToolFault::Left) = answer {
+        if let Err(fault) = beat(rt, alloc, night.beat, errors) {
+            return Err(fault);
+        }
+    }
+    waiting(is_waiting)
+}
+
+/// What a person is told behind the path of a folder of copies.
+const NO_MARKS: &str = " does not have the marks of all retired groups";
+
+/// Puts the mark of each retired group into a folder of copies, and removes the copy of its desk there.
+fn copy_marks<T: Files>(rt: &T, alloc: Global, shelf: &Shelf<'_>, folder: &str) -> io::Result<()> {
+    for name in names_of_desks(rt, alloc, shelf.folder, shelf.role, RETIRED)? {
+        let copy = format!(in alloc; "{folder}/{name}")?;
+        if !is_retired(rt, alloc, copy.as_str())? {
+            save_mark(rt, alloc, copy.as_str())?;
+        }
+        remove_if_there(rt, copy.as_str())?;
+    }
+    Ok(())
+}
+
+/// Saves the mark of the group of a desk that is retired, and all changes of its folder with it.
+fn save_mark<T: Files>(rt: &T, alloc: Global, desk: &str) -> io::Result<()> {
+    let path = retired_path(alloc, desk)?;
+    save_file(rt, alloc, path.as_str(), MARK)
+}
+
+/// Saves bytes in a file, and all changes of its folder with it.
+fn save_file<T: Files>(rt: &T, alloc: Global, path: &str, bytes: &[u8]) -> io::Result<()> {
+    let mut store = FileStore::at(rt, alloc, path, RECORD_LIMIT)?;
+    match store.save(alloc, bytes) {
+        Ok(()) => Ok(()),
+        Err(_) => Err(ErrorKind::Other.into()),
+    }
+}
+
+/// Returns the fault of a file that cannot be written.
+fn file_fault(error: &io::Error) -> ToolFault
+    ensures { IsFileFault result }
+{
+    match error.kind() {
+        ErrorKind::OutOfMemory => ToolFault::OutOfMemory,
+        _ => STORE_FAILED,
+    }
+}
+
+/// `ill shelf retire`: replaces a desk whose loans are all over by a mark of its group. No mail is sorted meanwhile.
+pub fn retire<T: LockFiles, W: Write>(
+    rt: &T,
+    alloc: Global,
+    folder: &str,
+    group: &str,
+    writer: &mut W,
+) -> Result<bool, ToolFault>
+    ensures { RetiresAtFile (W.contents writer.old) (W.contents writer.new) result }
+{
+    let shelf = Shelf::open(rt, alloc, folder)?;
+    let own = shelf.own_desk(alloc)?;
+    let sorting = lock(rt, alloc, own.as_str())?;
+    let file = shelf.desk_of(alloc, group.as_bytes())?;
+    let held = lock(rt, alloc, file.as_str())?;
+    let is_marked = mark_and_clear(rt, alloc, file.as_str())?;
+    let told = write_whole(writer, retired_line(is_marked));
+    drop(held);
+    drop(sorting);
+    tell_with(is_marked, told)
+}
+
+/// The line of a group that is retired, or is not since a loan is not over.
+fn retired_line(is_retired: bool) -> &'static [u8]
+    ensures { result.now ≡ retired_line is_retired }
+{
+    if is_retired { b"done\n" } else { b"not-now\n" }
+}
+
+/// What a line that was written answers.
+fn tell_with(is_well: bool, told: Result<(), ToolFault>) -> Result<bool, ToolFault>
+    ensures { result ≡ told_with is_well told }
+{
+    match told {
+        Ok(()) => Ok(is_well),
+        Err(fault) => Err(fault),
+    }
+}
+
+/// Marks the group of the desk in a file as retired, if all loans of the desk are over, and then removes the desk. It
+/// tells if the group is marked.
+fn mark_and_clear<T: Files>(rt: &T, alloc: Global, file: &str) -> Result<bool, ToolFault>
+    ensures { IfErr result IsOpenFault }
+{
+    let is_marked = mark_retired(rt, alloc, file)?;
+    if is_marked && let Err(error) = clear(rt, alloc, file) {
+        return Err(fault(&error));
+    }
+    Ok(is_marked)
+}
+
+/// Marks the group of the desk in a file as retired, if all loans of the desk are over. It may be marked already.
+fn mark_retired<T: Files>(rt: &T, alloc: Global, file: &str) -> Result<bool, ToolFault>
+    ensures { IfErr result IsOpenFault }
+{
+    match is_retired(rt, alloc, file) {
+        Ok(false) => {}
+        Ok(true) => return Ok(true),
+        Err(error) => return Err(fault(&error)),
+    }
+    let desk = open(rt, alloc, file)?;
+    let path = retired_path(alloc, file)?;
+    let mut mark = FileStore::at(rt, alloc, path.as_str(), RECORD_LIMIT)?;
+    run_desk_retire(alloc, &desk, &mut mark)
+}
+
+/// Removes the file of a desk, and what stands beside it, and saves that. A mail that was put aside stays, and its folder.
+fn clear<T: Files>(rt: &T, alloc: Global, file: &str) -> io::Result<()> {
+    let came = format!(in alloc; "{file}{CAME}")?;
+    let mail = format!(in alloc; "{file}{MAIL}")?;
+    remove_if_there(rt, came.as_str())?;
+    clear_mail(rt, alloc, mail.as_str())?;
+    remove_if_there(rt, file)?;
+    save_mark(rt, alloc, file)
+}
+
+/// Removes the mails that were claimed for a desk and the messages that ask, and their folder, unless mails were put aside
+/// there. Then it saves that no message asks, and all changes of the folder with it.
+fn clear_mail<T: Files>(rt: &T, alloc: Global, mail: &str) -> io::Result<()> {
+    let claimed = format!(in alloc; "{mail}/in")?;
+    let asked = format!(in alloc; "{mail}/asked")?;
+    let aside = format!(in alloc; "{mail}/aside")?;
+    if is_there(rt, claimed.as_str())? {
+        clear_claimed(rt, alloc, claimed.as_str())?;
+        let _ = fs::remove_dir(rt, claimed.as_str());
+    }
+    if is_there(rt, aside.as_str())? {
+        return save_file(rt, alloc, asked.as_str(), b"");
+    }
+    remove_if_there(rt, asked.as_str())?;
+    let _ = fs::remove_dir(rt, mail);
+    Ok(())
+}
+
+/// Removes the mails that were claimed for a desk.
+fn clear_claimed<T: Files>(rt: &T, alloc: Global, claimed: &str) -> io::Result<()> {
+    for run in names_in(rt, alloc, claimed)? {
+        let Some(run) = path_of(alloc, claimed, &run)? else {
+            continue;
+        };
+        clear_run(rt, alloc, run.as_str())?;
+        let _ = fs::remove_dir(rt, run.as_str());
+    }
+    Ok(())
+}
+
+/// Removes the mails that a run has claimed.
+fn clear_run<T: Files>(rt: &T, alloc: Global, run: &str) -> io::Result<()> {
+    for name in names_in(rt, alloc, run)? {
+        if let Some(path) = path_of(alloc, run, &name)? {
+            remove_if_there(rt, path.as_str())?;
+        }
+    }
+    Ok(())
+}

@@ -1,0 +1,213 @@
+//! A shelf: a folder of desks of one role, one for each group of transactions. The group of a transaction names its
+//! desk.
+
+ghost use Rattle.std.specs.Prelude.{◌≡◌, ℕ, List, IfErr, IfOk, string_bytes};
+ghost use Rattle.ill_values.specs.Text.{IsQualifier};
+ghost use Rattle.ill_saved.specs.declared.role.Role.{Role};
+ghost use Rattle.ill_tool.specs.Commands.{IsOpenFault};
+ghost use Rattle.ill_tool.specs.Shelf.{desk_name, desk_path};
+
+use crate::came::STORE_FAILED;
+use crate::fault::ToolFault;
+use crate::file::open;
+use crate::folder::{fault, raw_names};
+use crate::inbox::message_in;
+use crate::status::role_name;
+use ill_der::BodyView;
+use ill_saved::{DeskFault, Role};
+use ill_values::{OutOfMemory, TxnId};
+use percent_encoding::{AsciiSet, NON_ALPHANUMERIC, ascii_set, percent_decode, percent_encode};
+use std::alloc::Global;
+use std::io::ErrorKind;
+use std::path::Path;
+use std::rt::Files;
+use std::{fs, io};
+
+/// The name of the shelf's own desk, which has no loans. Its role is that of the shelf, and it takes the mail of no
+/// group.
+const OWN: &str = ".shelf";
+
+/// The name in front of `.mail` of the folder of mails that are not sorted yet.
+const UNSORTED: &str = ".unsorted";
+
+/// The ending of the name of the file that marks a retired group, behind that of its desk.
+pub(crate) const RETIRED: &str = ".retired";
+
+/// The bytes for which escapes stand in the name of a desk: all but letters, digits, the hyphen and the low line.
+pub(crate) const ESCAPED: AsciiSet = ascii_set!(NON_ALPHANUMERIC.remove(b'-').remove(b'_'));
+
+/// Returns the name of the file of the desk of a group.
+pub fn desk_name(alloc: Global, role: Role, group: &[u8]) -> Result<String, OutOfMemory>
+    ensures { IfOk result (λ name. string_bytes name ≡ desk_name role group.now) }
+{
+    let mut name = String::new(alloc);
+    percent_encode(group, ESCAPED).append_to(&mut name)?;
+    name.push_str(".")?;
+    name.push_str(role_name(role))?;
+    Ok(name)
+}
+
+/// A shelf.
+#[derive(Clone, Copy)]
+pub(crate) struct Shelf<'a> {
+    /// The path of its folder.
+    pub folder: &'a str,
+    /// The role of its desks.
+    pub role: Role,
+}
+
+impl<'a> Shelf<'a> {
+    /// Opens the shelf in a folder.
+    pub(crate) fn open<T: Files>(
+        rt: &T,
+        alloc: Global,
+        folder: &'a str,
+    ) -> Result<Shelf<'a>, ToolFault>
+        ensures { IfErr result IsOpenFault }
+    {
+        if folder.is_empty() {
+            return Err(STORE_FAILED);
+        }
+        let own = own_path(alloc, folder)?;
+        let desk = open(rt, alloc, own.as_str())?;
+        let role = desk.sides().role();
+        drop(desk);
+        Ok(Shelf { folder, role })
+    }
+
+    /// Returns the path of the desk of a group.
+    pub(crate) fn desk_of(&self, alloc: Global, group: &[u8]) -> Result<String, OutOfMemory>
+        ensures { IfOk result (λ path. string_bytes path ≡ desk_path self.now.folder.now self.now.role group.now) }
+    {
+        let name = desk_name(alloc, self.role, group)?;
+        let mut path = String::from_str(alloc, self.folder)?;
+        path.push_str("/")?;
+        path.push_str(name.as_str())?;
+        Ok(path)
+    }
+
+    /// Returns the path of the shelf's own desk.
+    pub(crate) fn own_desk(&self, alloc: Global) -> Result<String, OutOfMemory> {
+        own_path(alloc, self.folder)
+    }
+
+    /// Returns the path of a desk that is none, beside which the mails stand that are not sorted yet.
+    pub(crate) fn unsorted(&self, alloc: Global) -> Result<String, OutOfMemory> {
+        Ok(format!(in alloc; "{}/{UNSORTED}", self.folder)?)
+    }
+
+    /// Returns the paths of the desks of all groups that are not retired, in the order of their names.
+    pub(crate) fn desks<T: Files>(&self, rt: &T, alloc: Global) -> Result<Vec<String>, ToolFault>
+        ensures { IfErr result IsOpenFault }
+    {
+        match desks_in(rt, alloc, self.folder, self.role) {
+            Ok(desks) => Ok(desks),
+            Err(error) => Err(fault(&error)),
+        }
+    }
+}
+
+/// Returns the path of the own desk of the shelf in a folder.
+pub(crate) fn own_path(alloc: Global, folder: &str) -> Result<String, OutOfMemory> {
+    Ok(format!(in alloc; "{folder}/{OWN}")?)
+}
+
+/// Returns the paths of the desks of a role in a folder, in the order of their names, without those of retired groups.
+fn desks_in<T: Files>(rt: &T, alloc: Global, folder: &str, role: Role) -> io::Result<Vec<String>> {
+    let mut desks = Vec::new(alloc);
+    for name in names_of_desks(rt, alloc, folder, role, "")? {
+        let path = format!(in alloc; "{folder}/{name}")?;
+        if !is_retired(rt, alloc, path.as_str())? {
+            desks.push(path)?;
+        }
+    }
+    Ok(desks)
+}
+
+/// Returns the names of desks of a role, in their order, for which a folder has a file with an ending behind that name.
+pub(crate) fn names_of_desks<T: Files>(
+    rt: &T,
+    alloc: Global,
+    folder: &str,
+    role: Role,
+    ending: &str,
+) -> io::Result<Vec<String>> {
+    let mut names = raw_names(rt, alloc, folder)?;
+    names.sort()?;
+    let mut desks = Vec::new(alloc);
+    for name in &names {
+        if let Ok(name) = str::from_utf8(name)
+            && let Some(desk) = name.strip_suffix(ending)
+            && is_desk_name(alloc, role, desk)?
+        {
+            desks.push(String::from_str(alloc, desk)?)?;
+        }
+    }
+    Ok(desks)
+}
+
+/// Tells if a name is that of the desk of a group.
+fn is_desk_name(alloc: Global, role: Role, name: &str) -> Result<bool, OutOfMemory> {
+    let Some((stem, _)) = name.rsplit_once('.') else {
+        return Ok(false);
+    };
+    let mut group = Vec::new(alloc);
+    percent_decode(stem.as_bytes()).append_to(&mut group)?;
+    Ok(TxnId::is_qualifier(&group) && desk_name(alloc, role, &group)?.as_str() == name)
+}
+
+/// Tells if bytes are for the desk in a file of a shelf: no message, or one of its group. The shelf's own desk has none that
+/// would begin a loan there.
+pub(crate) fn is_for_desk(
+    alloc: Global,
+    file: &str,
+    role: Role,
+    bytes: &[u8],
+) -> Result<bool, OutOfMemory> {
+    let Ok(message) = message_in(bytes) else {
+        return Ok(true);
+    };
+    let name = Path::new(file).file_name().unwrap_or(file);
+    if name == OWN {
+        let is_request = matches!(message.body(), BodyView::IllRequest { .. });
+        return Ok(role == Role::Requester || !is_request);
+    }
+    Ok(desk_name(alloc, role, message.group())?.as_str() == name)
+}
+
+/// Tells if the group of the desk in a file is retired.
+pub(crate) fn is_retired<T: Files>(rt: &T, alloc: Global, file: &str) -> io::Result<bool> {
+    let mark = retired_path(alloc, file)?;
+    is_there(rt, mark.as_str())
+}
+
+/// Returns the path of the file that marks that the group of a desk is retired.
+pub(crate) fn retired_path(alloc: Global, file: &str) -> Result<String, OutOfMemory> {
+    Ok(format!(in alloc; "{file}{RETIRED}")?)
+}
+
+/// Tells if something stands at a path.
+pub(crate) fn is_there<T: Files>(rt: &T, path: &str) -> io::Result<bool> {
+    match fs::symlink_metadata(rt, path) {
+        Ok(_) => Ok(true),
+        Err(error) if error.kind() == ErrorKind::NotFound => Ok(false),
+        Err(error) => Err(error),
+    }
+}
+
+/// Refuses a retired group, as one whose loans no desk has.
+pub(crate) fn refuse_retired<T: Files>(rt: &T, alloc: Global, file: &str) -> Result<(), ToolFault>
+    ensures { IfErr result IsOpenFault }
+{
+    match is_retired(rt, alloc, file) {
+        Ok(false) => Ok(()),
+        Ok(true) => Err(ToolFault::Desk(DeskFault::NoSuchTransaction)),
+        Err(error) => Err(fault(&error)),
+    }
+}
+
+/// Two groups whose desks have one name are one group: each group has a desk of its own.
+pub fn groups_have_their_own_desks()
+    ensures { (role : Role) (one other : List ℕ) → IsQualifier one → IsQualifier other →
+        desk_name role one ≡ desk_name role other → one ≡ other }
+{}

@@ -1,0 +1,419 @@
+//! Mail that has come to a shelf: each message goes to the mail of the desk of its group.
+//!
+//! A mail is claimed into a folder of the shelf, and renamed from there into the mail of a desk. So one that a killed run
+//! has claimed is sorted by the next run. What has no desk goes to the shelf's own desk, which answers as a desk does
+//! that has not the loan: no message goes there that would begin one.
+
+ghost use Rattle.std.specs.Prelude.{◌≡◌, IfErr};
+ghost use Rattle.ill_tool.specs.Commands.{IsOpenFault};
+ghost use Rattle.ill_tool.specs.Shelf.{route_of};
+
+use crate::came::{CAME, STORE_FAILED};
+use crate::escape::push_escaped;
+use crate::exchange::{NO_BOX, NO_RUN, NOT_READ, blame, open_box};
+use crate::fault::ToolFault;
+use crate::file::lock;
+use crate::folder::fault;
+use crate::inbox::message_in;
+use crate::mail::{Mails, begin_run, claim_mails, new_run, path_of};
+use crate::mail_box::{MAIL, MailBox, remove_if_there};
+use crate::new::run_desk_new;
+use crate::settle::{give_back, remove_runs};
+use crate::shelf::{Shelf, is_retired, is_there, refuse_retired};
+use crate::verdict::Mail;
+use ill_der::{ApduView, BodyView};
+use ill_saved::{DeskFault, FileStore, LockFiles, RECORD_LIMIT, Role};
+use ill_values::OutOfMemory;
+use std::alloc::Global;
+use std::io::{ErrorKind, Write, sink};
+use std::path::Path;
+use std::rt::Files;
+use std::{fs, io};
+
+/// The most desks that the mail of one run makes: strangers must not fill a disk.
+const NEW_DESKS: usize = 16;
+
+/// What a shelf has of a group.
+#[derive(Clone, Copy)]
+pub(crate) enum Home {
+    /// The desk of the group.
+    Desk,
+    /// The mark of a retired group.
+    Retired,
+    /// What stands beside a desk, and no desk: its file was lost.
+    Lost,
+    /// Nothing.
+    Nothing,
+}
+
+/// The way of a mail.
+#[derive(Clone, Copy)]
+pub(crate) enum Route {
+    /// To the desk of its group.
+    Home,
+    /// To the desk of its group, which is made for it.
+    New,
+    /// Back to its folder: it waits for the next run.
+    Back,
+    /// Nowhere: it is removed.
+    Gone,
+    /// To the shelf's own desk.
+    Stray,
+}
+
+/// Returns the way of a mail.
+pub(crate) fn route_of(role: Role, home: Home, is_request: bool, has_room: bool) -> Route
+    ensures { result ≡ route_of role home is_request has_room }
+{
+    match (home, role) {
+        (Home::Desk, _) => Route::Home,
+        (Home::Retired, _) => Route::Gone,
+        (Home::Lost, _) => Route::Back,
+        (Home::Nothing, Role::Responder) if is_request => {
+            if has_room { Route::New } else { Route::Back }
+        }
+        (Home::Nothing, _) => Route::Stray,
+    }
+}
+
+/// Sorts the mails of a folder to the desks of a shelf, and tells if any wait for the next run. A person is told of
+/// those, of new desks, and of mails of retired groups.
+pub(crate) fn sort_mails<T: LockFiles, E: Write>(
+    rt: &T,
+    alloc: Global,
+    shelf: &Shelf<'_>,
+    folder: &str,
+    errors: &mut E,
+) -> Result<bool, ToolFault>
+    ensures { IfErr result IsOpenFault }
+{
+    let own = shelf.own_desk(alloc)?;
+    let held = lock(rt, alloc, own.as_str())?;
+    let sorted = sort_under_lock(rt, alloc, shelf, folder, errors);
+    drop(held);
+    sorted
+}
+
+/// Sorts the mails of a folder, while no other command does.
+fn sort_under_lock<T: LockFiles, E: Write>(
+    rt: &T,
+    alloc: Global,
+    shelf: &Shelf<'_>,
+    folder: &str,
+    errors: &mut E,
+) -> Result<bool, ToolFault>
+    ensures { IfErr result IsOpenFault }
+{
+    let unsorted = shelf.unsorted(alloc)?;
+    let mail_box = open_box(rt, alloc, unsorted.as_str());
+    let mail_box = blame(alloc, mail_box, unsorted.as_str(), NO_BOX, errors)?;
+    let run = begin_run(rt, alloc, &mail_box);
+    let run = blame(alloc, run, unsorted.as_str(), NO_RUN, errors)?;
+    let found = claim_mails(rt, alloc, &mail_box, folder, run.as_str());
+    let found = blame(alloc, found, folder, NOT_READ, errors)?;
+    match sort_found(rt, alloc, shelf, folder, &found, errors) {
+        Ok(is_waiting) => Ok(is_waiting),
+        Err(error) => Err(fault(&error)),
+    }
+}
+
+/// Sorts mails that were claimed.
+fn sort_found<T: LockFiles, E: Write>(
+    rt: &T,
+    alloc: Global,
+    shelf: &Shelf<'_>,
+    folder: &str,
+    found: &Mails,
+    errors: &mut E,
+) -> io::Result<bool> {
+    let mut sorting = Sorting {
+        rt,
+        alloc,
+        shelf: *shelf,
+        folder,
+        boxes: Vec::new(alloc),
+        made: 0,
+        is_waiting: found.waiting > 0,
+    };
+    for (mail, file) in found.mails.iter().zip(&found.files) {
+        match sorting.sort_mail(mail, file.as_ref(), errors) {
+            Ok(()) => {}
+            Err(error) if error.kind() == ErrorKind::OutOfMemory => return Err(error),
+            Err(_) => sorting.leave(&mail.name, NOT_SORTED, errors),
+        }
+    }
+    remove_runs(rt, found);
+    Ok(sorting.is_waiting)
+}
+
+/// Why a mail, or a desk, is told to a person.
+const NOT_READ_NOW: &str = " left not-read\n";
+
+const NOT_SORTED: &str = " is not sorted, and stays among the mails that were claimed\n";
+
+const NO_ROOM: &str = " left: mail has made 16 desks in this run, and makes no more\n";
+
+const LOST: &str = " is lost: mail for it is left, until it is there again\n";
+
+const RETIRED_GROUP: &str = " removed: its group is retired\n";
+
+const NEW_GROUP: &str = " is made: mail begins its group\n";
+
+/// The mails of one run of the shelf for a desk.
+#[derive(Drop)]
+struct SortedBox {
+    /// The path of the desk's file.
+    desk: String,
+    /// The folder in which they were claimed: in it their names differ.
+    from: String,
+    /// The folder into which they are renamed.
+    run: String,
+}
+
+/// How far the mails are sorted.
+#[derive(Drop)]
+struct Sorting<'a, T: LockFiles> {
+    rt: &'a T,
+    alloc: Global,
+    shelf: Shelf<'a>,
+    /// The folder from which the mails come.
+    folder: &'a str,
+    boxes: Vec<SortedBox>,
+    /// How many desks were made.
+    made: usize,
+    /// Set if mails wait for the next run.
+    is_waiting: bool,
+}
+
+impl<T: LockFiles> Sorting<'_, T> {
+    /// Sorts a mail, if it could be claimed and read.
+    fn sort_mail<E: Write>(
+        &mut self,
+        mail: &Mail,
+        file: Option<&String>,
+        errors: &mut E,
+    ) -> io::Result<()> {
+        let Some(file) = file else {
+            self.leave(&mail.name, NOT_READ_NOW, errors);
+            return Ok(());
+        };
+        match &mail.bytes {
+            Some(bytes) => self.sort_bytes(mail, bytes, file.as_str(), errors),
+            None => {
+                self.leave(&mail.name, NOT_READ_NOW, errors);
+                give_back(self.rt, self.alloc, self.folder, file.as_str(), mail)
+            }
+        }
+    }
+
+    /// Sorts a mail with these bytes. What is no message is for the shelf's own desk.
+    fn sort_bytes<E: Write>(
+        &mut self,
+        mail: &Mail,
+        bytes: &[u8],
+        file: &str,
+        errors: &mut E,
+    ) -> io::Result<()> {
+        match message_in(bytes) {
+            Ok(message) => self.sort_message(mail, &message, file, errors),
+            Err(_) => self.set_aside(mail, file),
+        }
+    }
+
+    /// Sorts a mail with this message.
+    fn sort_message<E: Write>(
+        &mut self,
+        mail: &Mail,
+        message: &ApduView<'_>,
+        file: &str,
+        errors: &mut E,
+    ) -> io::Result<()> {
+        let shelf = self.shelf;
+        let desk = shelf.desk_of(self.alloc, message.group())?;
+        let is_request = matches!(message.body(), BodyView::IllRequest { .. });
+        let home = home_at(self.rt, self.alloc, desk.as_str())?;
+        match route_of(shelf.role, home, is_request, self.made < NEW_DESKS) {
+            Route::Home => self.hand_over(mail, file, desk),
+            Route::New => {
+                make_desk(self.rt, self.alloc, shelf.role, desk.as_str()).map_err(error_of)?;
+                self.made = self.made.saturating_add(1);
+                self.tell(desk.as_bytes(), NEW_GROUP, errors);
+                self.hand_over(mail, file, desk)
+            }
+            Route::Back => {
+                self.tell_back(mail, home, desk.as_bytes(), errors);
+                give_back(self.rt, self.alloc, self.folder, file, mail)
+            }
+            Route::Gone => {
+                self.tell(&mail.name, RETIRED_GROUP, errors);
+                remove_if_there(self.rt, file)
+            }
+            Route::Stray => self.set_aside(mail, file),
+        }
+    }
+
+    /// Renames the file of a mail into the mails of the shelf's own desk.
+    fn set_aside(&mut self, mail: &Mail, file: &str) -> io::Result<()> {
+        let shelf = self.shelf;
+        let own = shelf.own_desk(self.alloc)?;
+        self.hand_over(mail, file, own)
+    }
+
+    /// Renames the file of a mail into the mails of a desk. If their folder has gone, since another run has removed it,
+    /// it is made again.
+    fn hand_over(&mut self, mail: &Mail, file: &str, desk: String) -> io::Result<()> {
+        let place = self.place_of(file, desk)?;
+        match self.rename_into(place, mail, file) {
+            Err(error) if error.kind() == ErrorKind::NotFound => {
+                self.renew(place)?;
+                self.rename_into(place, mail, file)
+            }
+            renamed => renamed,
+        }
+    }
+
+    /// Renames the file of a mail into the folder at a place.
+    fn rename_into(&self, place: usize, mail: &Mail, file: &str) -> io::Result<()> {
+        let Some(sorted) = self.boxes.get(place) else {
+            return Ok(());
+        };
+        match path_of(self.alloc, sorted.run.as_str(), &mail.name)? {
+            Some(path) => fs::rename(self.rt, file, path.as_str()),
+            None => Ok(()),
+        }
+    }
+
+    /// Returns the place of the folder into which a file is renamed for a desk. It is made for the first of them.
+    fn place_of(&mut self, file: &str, desk: String) -> io::Result<usize> {
+        let from = Path::new(file)
+            .parent()
+            .map(|folder| folder.as_str())
+            .unwrap_or_default();
+        let known = self.boxes.iter().position(|sorted| sorted.desk == desk
+            && sorted.from.as_str() == from);
+        if let Some(place) = known {
+            return Ok(place);
+        }
+        let run = self.run_at(desk.as_str())?;
+        let from = String::from_str(self.alloc, from)?;
+        self.boxes.push(SortedBox { desk, from, run })?;
+        Ok(self.boxes.len().saturating_sub(1))
+    }
+
+    /// Makes the folder at a place again.
+    fn renew(&mut self, place: usize) -> io::Result<()> {
+        let run = match self.boxes.get(place) {
+            Some(sorted) => self.run_at(sorted.desk.as_str())?,
+            None => return Ok(()),
+        };
+        if let Some(sorted) = self.boxes.get_mut(place) {
+            sorted.run = run;
+        }
+        Ok(())
+    }
+
+    /// Makes a folder for the mails of a desk.
+    fn run_at(&self, desk: &str) -> io::Result<String> {
+        let mail_box = MailBox::open(self.rt, self.alloc, desk)?;
+        new_run(self.rt, self.alloc, &mail_box)
+    }
+
+    /// Tells why a mail is given back.
+    fn tell_back<E: Write>(&mut self, mail: &Mail, home: Home, desk: &[u8], errors: &mut E) {
+        match home {
+            Home::Lost => self.leave(desk, LOST, errors),
+            _ => self.leave(&mail.name, NO_ROOM, errors),
+        }
+    }
+
+    /// Leaves a mail for the next run, and tells a person of it, or of its desk.
+    fn leave<E: Write>(&mut self, name: &[u8], text: &str, errors: &mut E) {
+        self.is_waiting = true;
+        self.tell(name, text, errors);
+    }
+
+    /// Tells a person of a mail or a desk.
+    fn tell<E: Write>(&self, name: &[u8], text: &str, errors: &mut E) {
+        let mut line = Vec::new(self.alloc);
+        if push_told(&mut line, name, text).is_ok() {
+            let _ = errors.write_all(&line);
+        }
+    }
+}
+
+/// Adds the line of a mail or a desk.
+fn push_told(line: &mut Vec<u8>, name: &[u8], text: &str) -> Result<(), OutOfMemory> {
+    line.extend_from_slice(b"ill: ")?;
+    push_escaped(line, name)?;
+    line.extend_from_slice(text.as_bytes())?;
+    Ok(())
+}
+
+/// Returns what a shelf has of the group of a desk.
+pub(crate) fn home_at<T: Files>(rt: &T, alloc: Global, desk: &str) -> io::Result<Home> {
+    if is_retired(rt, alloc, desk)? {
+        return Ok(Home::Retired);
+    }
+    if is_there(rt, desk)? {
+        return Ok(Home::Desk);
+    }
+    if is_lost(rt, alloc, desk)? {
+        Ok(Home::Lost)
+    } else {
+        Ok(Home::Nothing)
+    }
+}
+
+/// Tells if a file that stands beside a desk outlives it. So its group was begun before.
+fn is_lost<T: Files>(rt: &T, alloc: Global, desk: &str) -> io::Result<bool> {
+    let came = format!(in alloc; "{desk}{CAME}")?;
+    let mail = format!(in alloc; "{desk}{MAIL}")?;
+    Ok(is_there(rt, came.as_str())? || is_there(rt, mail.as_str())?)
+}
+
+/// Refuses a group whose desk is lost, as one that has no record.
+pub(crate) fn refuse_lost<T: Files>(rt: &T, alloc: Global, desk: &str) -> Result<(), ToolFault>
+    ensures { IfErr result IsOpenFault }
+{
+    match home_at(rt, alloc, desk) {
+        Ok(Home::Lost) => Err(ToolFault::Desk(DeskFault::NoRecord)),
+        Ok(_) => Ok(()),
+        Err(error) => Err(fault(&error)),
+    }
+}
+
+/// Makes the desk of a group at a path, unless the group is retired. It may be there already.
+pub(crate) fn make_desk<T: LockFiles>(
+    rt: &T,
+    alloc: Global,
+    role: Role,
+    desk: &str,
+) -> Result<(), ToolFault>
+    ensures { IfErr result IsOpenFault }
+{
+    let held = lock(rt, alloc, desk)?;
+    let made = make_under_lock(rt, alloc, role, desk);
+    drop(held);
+    made
+}
+
+/// Makes the desk of a group at a path, while no other command does.
+fn make_under_lock<T: Files>(rt: &T, alloc: Global, role: Role, desk: &str) -> Result<(), ToolFault>
+    ensures { IfErr result IsOpenFault }
+{
+    refuse_retired(rt, alloc, desk)?;
+    let store = FileStore::at(rt, alloc, desk, RECORD_LIMIT)?;
+    match run_desk_new(alloc, store, role, &mut sink()) {
+        Ok(_) | Err((ToolFault::Desk(DeskFault::Exists), _)) => Ok(()),
+        Err((ToolFault::OutOfMemory, _)) => Err(ToolFault::OutOfMemory),
+        Err(_) => Err(STORE_FAILED),
+    }
+}
+
+/// Returns the error of a desk that could not be made.
+fn error_of(fault: ToolFault) -> io::Error {
+    match fault {
+        ToolFault::OutOfMemory => ErrorKind::OutOfMemory.into(),
+        _ => ErrorKind::Other.into(),
+    }
+}

@@ -1,4 +1,4 @@
--- The order of days, and the dates that a responder grants in that order.
+-- The order of days, and the due dates that a responder grants in that order.
 use Rattle.std.proofs.Common.{rules, arith, ◌≡◌, ◌⊎◌, inl, inr, ℕ, zero, suc, ◌<◌, Bool, true, false, if◌then◌else◌, ◌==◌, nat_lt, List, [], ◌∷◌, Option, Some, None, refl, sym, ap, ◌∙◌, subst}
 use Rattle.std.specs.Prelude.{slice_get}
 use Rattle.std.specs.List.{filter_map, cons_option, last_or}
@@ -12,13 +12,15 @@ use Rattle.ill_core.specs.Responder.{are_rising, rise_from}
 
 -- ---- the order of days
 
--- one number is less, or they are equal and the rest decides
+-- One number is less than the other, or they are equal and `Rest` holds.
 abbrev Less : ℕ → ℕ → Type 0 → Type 0
 Less p q Rest = (p < q) ⊎ ((p ≡ q) × Rest)
 
+-- Returns true if p is less than q, or if they are equal and `rest` is true.
 abbrev less : ℕ → ℕ → Bool → Bool
 less p q rest = if p == q then rest else nat_lt p q
 
+-- If the test `less` is true, the order `Less` holds.
 less_is : (p q : ℕ) (rest : Bool) → less p q rest ≡ true → Less p q (rest ≡ true)
 less_is p q rest h = go (p == q) refl h
   where
@@ -26,15 +28,18 @@ less_is p q rest h = go (p == q) refl h
     go true e h = inr (eqb-true p q e, h)
     go false e h = inl (ltb-true p q h)
 
+-- If the order `Less` holds, the test `less` is true.
 is_less : (p q : ℕ) (rest : Bool) → Less p q (rest ≡ true) → less p q rest ≡ true
 is_less p q rest (inl lt) =
     let other : p ≡ q → ⊥ = λ e. omega (arith, e, lt) in
     ap (λ (same : Bool). if same then rest else nat_lt p q) (ne_eqb p q other) ∙ lt-ltb p q lt
 is_less p q rest (inr both) = ap (λ (same : Bool). if same then rest else nat_lt p q) (eq-eqb p q both.0) ∙ both.1
 
+-- Day a is before day b: by year, then by month, then by day.
 abbrev Before : Date → Date → Type 0
 Before a b = Less a.year b.year (Less a.month b.month (a.day < b.day))
 
+-- If the test `is_before` is true, day a is before day b.
 before_is : (a b : Date) → is_before a b ≡ true → Before a b
 before_is a b h =
     elim (less_is a.year b.year (less a.month b.month (nat_lt a.day b.day)) h) [
@@ -43,21 +48,24 @@ before_is a b h =
           inr (both.0, elim (less_is a.month b.month (nat_lt a.day b.day) both.1) [ inl lt ↦ inl lt | inr days ↦ inr (days.0, ltb-true a.day b.day days.1) ])
     ]
 
+-- If day a is before day b, the test `is_before` is true.
 is_before_by : (a b : Date) → Before a b → is_before a b ≡ true
 is_before_by a b (inl lt) = is_less a.year b.year _ (inl lt)
 is_before_by a b (inr (year, inl lt)) = is_less a.year b.year _ (inr (year, is_less a.month b.month _ (inl lt)))
 is_before_by a b (inr (year, inr (month, day))) = is_less a.year b.year _ (inr (year, is_less a.month b.month _ (inr (month, lt-ltb a.day b.day day))))
 
--- a later part decides only where the earlier ones are equal
+-- If p is less than q and q than r, p is less than r. If they are equal, the later parts decide.
 less_on : (p q r : ℕ) (A B C : Type 0) → (A → B → C) → Less p q A → Less q r B → Less p r C
 less_on p q r A B C on (inl lt) (inl lt') = inl (omega (arith, lt, lt'))
 less_on p q r A B C on (inl lt) (inr both) = inl (omega (arith, lt, both.0))
 less_on p q r A B C on (inr both) (inl lt) = inl (omega (arith, both.0, lt))
 less_on p q r A B C on (inr one) (inr two) = inr (one.0 ∙ two.0, on one.1 two.1)
 
+-- If p is less than q and q than r, p is less than r.
 day_on : (p q r : ℕ) → p < q → q < r → p < r
 day_on p q r one two = omega (arith, one, two)
 
+-- If day a is before b, and b before c, then a is before c.
 pub before_on : (a b c : Date) → is_before a b ≡ true → is_before b c ≡ true → is_before a c ≡ true
 before_on a b c one two =
     is_before_by a c
@@ -68,7 +76,7 @@ never_less : (p q : ℕ) (A : Type 0) → p ≡ q → (A → ⊥) → Less p q A
 never_less p q A same never (inl lt) = omega (arith, same, lt)
 never_less p q A same never (inr both) = never both.1
 
--- A day is not before the same day.
+-- A day is not before an equal day.
 pub not_before_same : (a b : Date) → is_same_day a b ≡ true → is_before a b ≡ true → ⊥
 not_before_same a b same h =
     let years = and_parts _ _ same in
@@ -76,7 +84,7 @@ not_before_same a b same h =
     never_less a.year b.year _ (eqb-true a.year b.year years.0)
     (never_less a.month b.month _ (eqb-true a.month b.month days.0) (λ lt. omega (arith, eqb-true a.day b.day days.1, lt))) (before_is a b h)
 
--- A day is the same as itself.
+-- A day is equal to itself.
 pub same_itself : (a : Date) → is_same_day a a ≡ true
 same_itself a = and_from _ _ (eq-eqb a.year a.year refl) (and_from _ _ (eq-eqb a.month a.month refl) (eq-eqb a.day a.day refl))
 
@@ -88,11 +96,11 @@ not_before_itself a h = not_before_same a a (same_itself a) h
 pub itself_not_before : (a : Date) → is_before a a ≡ false
 itself_not_before a = false_from_ne_true (is_before a a) (not_before_itself a)
 
--- what is not before a day is not before an earlier one
+-- If d is before c, and e is not before c, then e is not before d.
 not_before_earlier : (d c e : Date) → is_before d c ≡ true → is_before e c ≡ false → is_before e d ≡ false
 not_before_earlier d c e earlier not_before = false_from_ne_true (is_before e d) (λ h. let no : true ≡ false = sym (before_on e d c h earlier) ∙ not_before in search rules)
 
--- Of two that are in order, the first is less than a third, or the third is less than the second.
+-- If p is less than r, then p is less than q, or q is less than r.
 less_either : (p q r : ℕ) (A B C : Type 0) → (A → B ⊎ C) → Less p r A → (Less p q B) ⊎ (Less q r C)
 less_either p q r A B C either h = go (cases_order p q) h
   where
@@ -123,8 +131,9 @@ before_later a b c not_before before =
 
 -- ---- the dates that were granted
 
--- the last date is not before the first
-rise_above : (d : Date) (dates : List Date) → rise_from (Some d) dates ≡ true → (e : Date) × (last_or (Some d) dates ≡ Some e) × (is_before e d ≡ false)
+-- If the dates rise from d on, the last of them is not before d.
+rise_above : (d : Date) (dates : List Date) → rise_from (Some d) dates ≡ true
+    → (e : Date) × (last_or (Some d) dates ≡ Some e) × (is_before e d ≡ false)
 unfolding rise_from
 rise_above d [] rises = (d, refl, itself_not_before d)
 rise_above d (c ∷ dates) rises =
@@ -132,12 +141,16 @@ rise_above d (c ∷ dates) rises =
     let later = rise_above c dates parts.1 in
     (later.0, later.1, not_before_earlier d c later.0 parts.0 later.2)
 
-rise_rest : (last : Option Date) (o : Option Date) (dates : List Date) → rise_from last (cons_option o dates) ≡ true → (next : Option Date) × (rise_from next dates ≡ true)
+-- If dates rise, those after the first rise too.
+rise_rest : (last : Option Date) (o : Option Date) (dates : List Date) → rise_from last (cons_option o dates) ≡ true
+    → (next : Option Date) × (rise_from next dates ≡ true)
 unfolding rise_from
 rise_rest last None dates rises = (last, rises)
 rise_rest last (Some d) dates rises = (Some d, (and_parts _ _ rises).1)
 
-rise_here : (last : Option Date) (o : Option Date) (dates : List Date) (d : Date) (p : Option Date) → o ≡ Some d → rise_from last (cons_option o dates) ≡ true
+-- If dates rise, the last of them is not before the first one.
+rise_here : (last : Option Date) (o : Option Date) (dates : List Date) (d : Date) (p : Option Date) → o ≡ Some d
+    → rise_from last (cons_option o dates) ≡ true
     → (e : Date) × (last_or p (cons_option o dates) ≡ Some e) × (is_before e d ≡ false)
 unfolding rise_from
 rise_here last None dates d p is rises = search rules
@@ -145,13 +158,16 @@ rise_here last (Some c) dates d p is rises =
     let same : c ≡ d = search rules in
     subst (λ x. (e : Date) × (last_or (Some c) dates ≡ Some e) × (is_before e x ≡ false)) same (rise_above c dates (and_parts _ _ rises).1)
 
-last_skips : (o : Option Date) (dates : List Date) (d : Date) (p : Option Date) → ((p : Option Date) → (e : Date) × (last_or p dates ≡ Some e) × (is_before e d ≡ false))
+-- One more date in front leaves the last of `dates`, which is not before d.
+last_skips : (o : Option Date) (dates : List Date) (d : Date) (p : Option Date)
+    → ((p : Option Date) → (e : Date) × (last_or p dates ≡ Some e) × (is_before e d ≡ false))
     → (e : Date) × (last_or p (cons_option o dates) ≡ Some e) × (is_before e d ≡ false)
 last_skips None dates d p last = last p
 last_skips (Some c) dates d p last = last (Some c)
 
--- no date that was granted is after the last one
-last_is_latest : (last : Option Date) (apdus : List Apdu) (i : ℕ) (a : Apdu) (d : Date) (p : Option Date) → rise_from last (filter_map granted_day apdus) ≡ true → slice_get apdus i ≡ Some a
+-- If the granted dates rise, none of them is after the last one.
+last_is_latest : (last : Option Date) (apdus : List Apdu) (i : ℕ) (a : Apdu) (d : Date) (p : Option Date)
+    → rise_from last (filter_map granted_day apdus) ≡ true → slice_get apdus i ≡ Some a
     → granted_day a ≡ Some d → (e : Date) × (last_or p (filter_map granted_day apdus) ≡ Some e) × (is_before e d ≡ false)
 last_is_latest last [] i a d p rises e is = search rules
 last_is_latest last (b ∷ apdus) zero a d p rises e is = rise_here last (granted_day b) (filter_map granted_day apdus) d p (ap granted_day (same_Some b a e) ∙ is) rises
@@ -159,7 +175,9 @@ last_is_latest last (b ∷ apdus) (suc i) a d p rises e is =
     let rest = rise_rest last (granted_day b) (filter_map granted_day apdus) rises in
     last_skips (granted_day b) (filter_map granted_day apdus) d p (λ q. last_is_latest rest.0 apdus i a d q rest.1 e is)
 
-pub granted_not_later : (apdus : List Apdu) (n : ℕ) (a : Apdu) (d : Date) → are_rising (filter_map granted_day apdus) ≡ true → message apdus n ≡ Some a → granted_day a ≡ Some d
+-- If the granted dates rise, the due date is not before the date that message n grants.
+pub granted_not_later : (apdus : List Apdu) (n : ℕ) (a : Apdu) (d : Date)
+    → are_rising (filter_map granted_day apdus) ≡ true → message apdus n ≡ Some a → granted_day a ≡ Some d
     → (e : Date) × (last_of granted_day apdus ≡ Some e) × (is_before e d ≡ false)
 granted_not_later apdus zero a d rises e is = search rules
 granted_not_later apdus (suc i) a d rises e is = last_is_latest None apdus i a d None rises e is

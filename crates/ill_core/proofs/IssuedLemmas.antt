@@ -1,4 +1,4 @@
--- What one more APDU changes in a list of issued ones.
+-- The effect of one more APDU on the tests of a list of issued ones.
 use Rattle.std.proofs.Common.{rules, arith, ◌≡◌, ◌⊎◌, inl, inr, ℕ, zero, suc, ◌+◌, ◌<◌, ◌≤◌, Bool, true, false, not, ◌&&◌, ◌||◌, nat_eq, List, [], ◌∷◌, ◌++◌, length, take, drop, Option, Some, None, Ok, Err, nat_lt, if◌then◌else◌, refl, ap, append-nil, length-append, eq-eqb, subst, sym, ◌∙◌}
 use Rattle.std.proofs.lemmas.Bool.{and_parts, and_from, or_from, eqb-true}
 use Rattle.std.proofs.Math.Bool.{or-false}
@@ -18,17 +18,20 @@ use Rattle.ill_core.specs.Issued.{was, number_of_cancel, number_of_renew, next_n
 use Rattle.ill_core.specs.Requester.{begins_with_request}
 use Rattle.ill_core.specs.Issued.{is_none}
 
+-- A list is numbered exactly if its first APDU has `txn` and `number`, and the rest goes on from there.
 numbered_cons : (txn : Qualifiers) (number : ℕ) (a : Apdu) (apdus : List Apdu)
     → are_numbered txn number (a ∷ apdus) ≡ ((is_same_txn a.txn txn && (nat_eq a.number number)) && are_numbered txn (number + 1) apdus)
 unfolding are_numbered
 numbered_cons txn number a apdus = refl
 
+-- An empty list is numbered.
 pub numbered_none : (txn : Qualifiers) (number : ℕ) → are_numbered txn number [] ≡ true
 unfolding are_numbered
 numbered_none txn number = refl
 
--- the APDU at a place is judged, and then those behind it
-pub numbered_at : (txn : Qualifiers) (apdus : List Apdu) (i : ℕ) (a : Apdu) (judged : Bool) → i < length apdus → a ≡ get_or apdus i a
+-- The list from place `i` on is numbered exactly if its first APDU passes, and the rest goes on.
+pub numbered_at : (txn : Qualifiers) (apdus : List Apdu) (i : ℕ) (a : Apdu) (judged : Bool) → i < length apdus
+    → a ≡ get_or apdus i a
     → judged ≡ (is_same_txn a.txn txn && nat_eq a.number (i + 1))
     → are_numbered txn (i + 1) (drop i apdus) ≡ (judged && are_numbered txn (i + 1 + 1) (drop (i + 1) apdus))
 numbered_at txn apdus i a judged within there is =
@@ -36,22 +39,25 @@ numbered_at txn apdus i a judged within there is =
     let same : are_numbered txn (i + 1) (get_or apdus i a ∷ drop (i + 1) apdus) ≡ are_numbered txn (i + 1) (a ∷ drop (i + 1) apdus) = ap (λ b. are_numbered txn (i + 1) (b ∷ drop (i + 1) apdus)) (sym there) in
     front ∙ (same ∙ (numbered_cons txn (i + 1) a (drop (i + 1) apdus) ∙ ap (λ b. b && are_numbered txn (i + 1 + 1) (drop (i + 1) apdus)) (sym is)))
 
--- behind the last there is none to judge
-pub numbered_end : (txn : Qualifiers) (apdus : List Apdu) (i : ℕ) → length apdus ≤ i → are_numbered txn (i + 1) (drop i apdus) ≡ true
+-- After the last APDU, nothing is left to be numbered.
+pub numbered_end : (txn : Qualifiers) (apdus : List Apdu) (i : ℕ) → length apdus ≤ i
+    → are_numbered txn (i + 1) (drop i apdus) ≡ true
 numbered_end txn apdus i all = at_drop_all (are_numbered txn (i + 1)) apdus i all ∙ numbered_none txn (i + 1)
 
-found_first : {X : Type 0} (o found : Option X) (others : List X) → last_or o (cons_option found others) ≡ last_or (option_or found o) others
+-- A value found in the first APDU replaces the one found before, and the others replace both.
+found_first : {X : Type 0} (o found : Option X) (others : List X)
+    → last_or o (cons_option found others) ≡ last_or (option_or found o) others
 found_first o None others = refl
 found_first o (Some x) others = refl
 
--- what the APDU at a place has goes before what was found, and what those behind it have goes before both
+-- A value found in the APDU at place `i` replaces the one found before, and later ones replace both.
 pub last_at : {X : Type 0} (f : Apdu → Option X) (o : Option X) (apdus : List Apdu) (i : ℕ) (d : Apdu) → i < length apdus
     → last_or o (filter_map f (drop i apdus)) ≡ last_or (option_or (f (get_or apdus i d)) o) (filter_map f (drop (i + 1) apdus))
 last_at f o apdus i d within =
     let front : last_or o (filter_map f (drop i apdus)) ≡ last_or o (filter_map f (get_or apdus i d ∷ drop (i + 1) apdus)) = ap (λ xs. last_or o (filter_map f xs)) (drop_more apdus i d within) in
     front ∙ found_first o (f (get_or apdus i d)) (filter_map f (drop (i + 1) apdus))
 
--- the next APDU keeps the numbering
+-- An APDU of `txn` with the next number keeps the numbering.
 pub numbered_next : (txn : Qualifiers) (number : ℕ) (apdus : List Apdu) (a : Apdu)
     → are_numbered txn number apdus ≡ true → is_same_txn a.txn txn ≡ true → a.number ≡ number + length apdus
     → are_numbered txn number (apdus ++ a ∷ []) ≡ true
@@ -62,8 +68,9 @@ numbered_next txn number (b ∷ apdus) a numbered same next =
     let parts = and_parts _ _ numbered in
     and_from _ _ parts.0 (numbered_next txn (number + 1) apdus a parts.1 same (omega (arith, next)))
 
--- a front keeps the numbering
-pub numbered_front : (txn : Qualifiers) (number count : ℕ) (apdus : List Apdu) → are_numbered txn number apdus ≡ true → are_numbered txn number (take count apdus) ≡ true
+-- The first `count` APDUs of a numbered list are numbered.
+pub numbered_front : (txn : Qualifiers) (number count : ℕ) (apdus : List Apdu) → are_numbered txn number apdus ≡ true
+    → are_numbered txn number (take count apdus) ≡ true
 unfolding are_numbered
 numbered_front txn number zero apdus numbered = refl
 numbered_front txn number (suc count) [] numbered = refl
@@ -71,16 +78,19 @@ numbered_front txn number (suc count) (a ∷ apdus) numbered =
     let parts = and_parts _ _ numbered in
     and_from _ _ parts.0 (numbered_front txn (number + 1) count apdus parts.1)
 
+-- If a negation is true, the test is false.
 pub not_true : (b : Bool) → not b ≡ true → b ≡ false
 not_true b h = search rules
 
+-- If a number is left, it is n + 1, and n is below 255.
 pub next_of : (n number : ℕ) → (if nat_lt n 255 then Ok (n + 1) else Err NumbersUsed) ≡ Ok number → (number ≡ n + 1) × (n < 255)
 next_of n number h = search rules
 
+-- Each transaction is equal to itself.
 pub same_txn : (txn : Qualifiers) → is_same_txn txn txn ≡ true
 same_txn txn = search rules
 
--- an issued APDU keeps the numbering, and there are 255 at most
+-- An APDU of `txn` with the next number keeps the numbering, and the list has at most 255 APDUs.
 pub numbered_issue : (txn : Qualifiers) (apdus : List Apdu) (a : Apdu) (number : ℕ) → are_numbered txn 1 apdus ≡ true
     → next_number apdus ≡ Ok number → a.txn ≡ txn → a.number ≡ number
     → (are_numbered txn 1 (apdus ++ a ∷ []) ≡ true) × (length (apdus ++ a ∷ []) ≤ 255)
@@ -90,21 +100,23 @@ numbered_issue txn apdus a number numbered next same is =
       omega (arith, n.1, length-append apdus (a ∷ [])),
     )
 
--- one more APDU may say it
+-- A list with one more APDU says it if the old list or the new APDU does.
 pub has_more : (says : Body → Bool) (apdus : List Apdu) (a : Apdu) → has says (apdus ++ a ∷ []) ≡ (has says apdus || says a.body)
 has_more says apdus a =
     list_any-append (λ (b : Apdu). says b.body) apdus (a ∷ []) ∙ ap (λ b. has says apdus || b) (or-false (says a.body))
 
+-- If `says` holds of the old APDUs and of the next one, it holds of all.
 pub all_more : (says : Body → Bool) (apdus : List Apdu) (a : Apdu) → list_all (λ b. says b.body) apdus ≡ true → says a.body ≡ true
     → list_all (λ b. says b.body) (apdus ++ a ∷ []) ≡ true
 all_more says apdus a old next =
     list_all-append (λ (b : Apdu). says b.body) apdus (a ∷ []) ∙ and_from _ _ old (and_from _ _ next refl)
 
+-- A list with one more APDU is not empty.
 pub none_more : (apdus : List Apdu) (a : Apdu) → is_none (apdus ++ a ∷ []) ≡ false
 none_more [] a = refl
 none_more (b ∷ apdus) a = refl
 
--- the first is an ILL-Request, and no other
+-- A list still begins with its only ILL-Request, if a new APDU is one exactly when the list was empty.
 pub begins_more : (apdus : List Apdu) (a : Apdu) → begins_with_request apdus ≡ true → is_ill_request a.body ≡ is_none apdus
     → begins_with_request (apdus ++ a ∷ []) ≡ true
 begins_more [] a old is = and_from _ _ is refl
@@ -112,40 +124,46 @@ begins_more (b ∷ apdus) a old is =
     let parts = and_parts _ _ old in
     and_from _ _ parts.0 (ap not (has_more is_ill_request apdus a ∙ or_from _ _ (not_true _ parts.1) is))
 
+-- The last value of a list with `x` at its end is `x`.
 last_more : {X : Type 0} (o : Option X) (xs : List X) (x : X) → last_or o (xs ++ x ∷ []) ≡ Some x
 last_more o [] x = refl
 last_more o (y ∷ xs) x = last_more (Some y) xs x
 
--- one more APDU in which nothing is found
-pub found_none : {X : Type 0} (f : Apdu → Option X) (apdus : List Apdu) (a : Apdu) → f a ≡ None → filter_map f (apdus ++ a ∷ []) ≡ filter_map f apdus
+-- One more APDU in which f finds nothing leaves all that was found.
+pub found_none : {X : Type 0} (f : Apdu → Option X) (apdus : List Apdu) (a : Apdu) → f a ≡ None
+    → filter_map f (apdus ++ a ∷ []) ≡ filter_map f apdus
 found_none f apdus a none =
     filter_map-append f apdus (a ∷ []) ∙ (ap (λ o. filter_map f apdus ++ cons_option o []) none ∙ append-nil (filter_map f apdus))
 
--- one more APDU in which something is found
+-- One more APDU in which f finds x adds x at the end of all that was found.
 pub found_more : {X : Type 0} (f : Apdu → Option X) (apdus : List Apdu) (a : Apdu) (x : X) → f a ≡ Some x
     → filter_map f (apdus ++ a ∷ []) ≡ filter_map f apdus ++ x ∷ []
 found_more f apdus a x there = filter_map-append f apdus (a ∷ []) ∙ ap (λ o. filter_map f apdus ++ cons_option o []) there
 
-last_behind : {X : Type 0} (o : Option X) (xs : List X) (found : Option X) → last_or o (xs ++ cons_option found []) ≡ option_or found (last_or o xs)
+-- A value found at the end replaces the last one of the list. If none is found, that stays.
+last_behind : {X : Type 0} (o : Option X) (xs : List X) (found : Option X)
+    → last_or o (xs ++ cons_option found []) ≡ option_or found (last_or o xs)
 last_behind o [] None = refl
 last_behind o [] (Some x) = refl
 last_behind o (y ∷ xs) found = last_behind (Some y) xs found
 
--- what is found in one more APDU goes before what was found last
-pub last_of_next : {X : Type 0} (f : Apdu → Option X) (apdus : List Apdu) (a : Apdu) → last_of f (apdus ++ a ∷ []) ≡ option_or (f a) (last_of f apdus)
+-- A value found in one more APDU replaces the last one. If none is found, that stays.
+pub last_of_next : {X : Type 0} (f : Apdu → Option X) (apdus : List Apdu) (a : Apdu)
+    → last_of f (apdus ++ a ∷ []) ≡ option_or (f a) (last_of f apdus)
 last_of_next f apdus a = ap (last_or None) (filter_map-append f apdus (a ∷ [])) ∙ last_behind None (filter_map f apdus) (f a)
 
--- what is found in the APDU issued last is the last
-pub last_of_more : {X : Type 0} (f : Apdu → Option X) (apdus : List Apdu) (a : Apdu) (x : X) → f a ≡ Some x → last_of f (apdus ++ a ∷ []) ≡ Some x
+-- If f finds x in one more APDU, x is the last value.
+pub last_of_more : {X : Type 0} (f : Apdu → Option X) (apdus : List Apdu) (a : Apdu) (x : X) → f a ≡ Some x
+    → last_of f (apdus ++ a ∷ []) ≡ Some x
 last_of_more f apdus a x there = ap (last_or None) (found_more f apdus a x there) ∙ last_more None (filter_map f apdus) x
 
--- a number that is found in an APDU, or before it, is below the next one
+-- If each number found before is below `number`, and the APDU has `number`, the number found is below the next.
 number_found : (number a_number m : ℕ) (is_one : Bool) (o : Option ℕ) → a_number ≡ number → ((m : ℕ) → o ≡ Some m → m < number)
     → option_or (if is_one then Some a_number else None) o ≡ Some m → m < number + 1
 number_found number a_number m true o is within found = search rules
 number_found number a_number m false o is within found = omega (arith, within m found)
 
--- the number of the last Renew is below that which comes next
+-- In a numbered list, the number of the last Renew is below the number that comes next.
 renew_below : (txn : Qualifiers) (number : ℕ) (apdus : List Apdu) (o : Option ℕ) (n : ℕ) → ((m : ℕ) → o ≡ Some m → m < number)
     → are_numbered txn number apdus ≡ true → last_or o (filter_map number_of_renew apdus) ≡ Some n → n < number + length apdus
 renew_below txn number [] o n within numbered found = omega (arith, within n found)
@@ -157,33 +175,38 @@ renew_below txn number (a ∷ apdus) o n within numbered found =
     (sym (found_first o (number_of_renew a) (filter_map number_of_renew apdus)) ∙ found) in
     omega (arith, behind)
 
--- the number of the last Renew is one of those that were issued
-pub last_renew_within : (txn : Qualifiers) (apdus : List Apdu) (n : ℕ) → are_numbered txn 1 apdus ≡ true → last_of number_of_renew apdus ≡ Some n → n ≤ length apdus
+-- In a list numbered from 1 on, the number of the last Renew is at most the length.
+pub last_renew_within : (txn : Qualifiers) (apdus : List Apdu) (n : ℕ) → are_numbered txn 1 apdus ≡ true
+    → last_of number_of_renew apdus ≡ Some n → n ≤ length apdus
 last_renew_within txn apdus n numbered found = let below : n < 1 + length apdus = renew_below txn 1 apdus None n (λ m no. search rules) numbered found in omega (arith, below)
 
+-- If two APDUs are equal, so are their bodies.
 same_body : (a b : Apdu) → ◌≡◌ {A = List Apdu} (a ∷ []) (b ∷ []) → a.body ≡ b.body
 same_body a b same = search rules
 
--- what an APDU that was issued says
-pub issued_body : (txn : Qualifiers) (apdus : List Apdu) (body : Body) (a : Apdu) → with_next txn apdus body ≡ apdus ++ a ∷ [] → body ≡ a.body
+-- If the next APDU joins the list as `a`, then `a` has its body.
+pub issued_body : (txn : Qualifiers) (apdus : List Apdu) (body : Body) (a : Apdu)
+    → with_next txn apdus body ≡ apdus ++ a ∷ [] → body ≡ a.body
 issued_body txn apdus body a same = same_body (next_apdu txn apdus body) a (append_cancel_left apdus _ _ same)
 
+-- No number is one more than itself.
 more_than_itself : (n : ℕ) → n ≡ n + 1 → ⊥
 more_than_itself n h = omega (arith, h)
 
--- a list is no longer than itself
+-- A list cannot both stay and have one more APDU.
 pub not_longer : {P : Type 0} (old new : List Apdu) (a : Apdu) → new ≡ old → new ≡ old ++ a ∷ [] → P
 not_longer old new a same longer =
     absurd (more_than_itself (length old) (ap length (sym same ∙ longer) ∙ length-append old (a ∷ [])))
 
 -- ---- which message is a Cancel
 
+-- If message n is old or the new one, so is message n + 1 after one more in front.
 one_further : (says : Bool) (old : Bool) (n size : ℕ) → (old ≡ true) ⊎ ((suc n ≡ size + 1) × (says ≡ true))
     → (old ≡ true) ⊎ ((suc (suc n) ≡ suc size + 1) × (says ≡ true))
 one_further says old n size (inl is) = inl is
 one_further says old n size (inr (at, is)) = inr (omega (arith, at), is)
 
--- a message of a list that has one more is an old one or the new one
+-- If a message of a list with one more APDU says it, an old message does, or the new one.
 pub was_more : (says : Body → Bool) (apdus : List Apdu) (a : Apdu) (c : ℕ) → was says (apdus ++ a ∷ []) c ≡ true
     → (was says apdus c ≡ true) ⊎ ((c ≡ length apdus + 1) × (says a.body ≡ true))
 was_more says apdus a zero h = search rules
@@ -192,15 +215,18 @@ was_more says [] a (suc (suc n)) h = search rules
 was_more says (b ∷ apdus) a (suc zero) h = inl h
 was_more says (b ∷ apdus) a (suc (suc n)) h = one_further (says a.body) (was says apdus (suc n)) n (length apdus) (was_more says apdus a (suc n) h)
 
--- another message than a Cancel is none
-pub still_cancel : (apdus : List Apdu) (a : Apdu) (c : ℕ) → is_cancel a.body ≡ false → was is_cancel (apdus ++ a ∷ []) c ≡ true → was is_cancel apdus c ≡ true
+-- If the new APDU is no Cancel, each message that is a Cancel was one before.
+pub still_cancel : (apdus : List Apdu) (a : Apdu) (c : ℕ) → is_cancel a.body ≡ false
+    → was is_cancel (apdus ++ a ∷ []) c ≡ true → was is_cancel apdus c ≡ true
 still_cancel apdus a c other h = search (rules, was_more is_cancel apdus a c h)
 
--- the last Cancel is the one that was issued last
-pub last_cancel_more : (apdus : List Apdu) (a : Apdu) → is_cancel a.body ≡ true → last_of number_of_cancel (apdus ++ a ∷ []) ≡ Some a.number
+-- If the new APDU is a Cancel, the last Cancel is its number.
+pub last_cancel_more : (apdus : List Apdu) (a : Apdu) → is_cancel a.body ≡ true
+    → last_of number_of_cancel (apdus ++ a ∷ []) ≡ Some a.number
 last_cancel_more apdus a is = last_of_more number_of_cancel apdus a a.number (ap (λ b. if b then Some a.number else None) is)
 
--- a Cancel that is not the last one is an older one
-pub older_cancel : (c size : ℕ) (last : Option ℕ) (old : Bool) → last ≡ Some size → is_the c last ≡ false → (old ≡ true) ⊎ ((c ≡ size) × (true ≡ true)) → old ≡ true
+-- A Cancel that is not the last one was issued before the last one.
+pub older_cancel : (c size : ℕ) (last : Option ℕ) (old : Bool) → last ≡ Some size → is_the c last ≡ false
+    → (old ≡ true) ⊎ ((c ≡ size) × (true ≡ true)) → old ≡ true
 older_cancel c size last old is_last other (inl is) = is
 older_cancel c size last old is_last other (inr (same, h)) = search rules

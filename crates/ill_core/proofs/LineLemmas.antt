@@ -7,27 +7,29 @@ use Rattle.ill_core.specs.declared.refusal.Refusal.{Refusal}
 use Rattle.ill_core.specs.Issued.{next_apdu, next_number, with_next}
 use Rattle.ill_core.proofs.IssuedLemmas.{next_of}
 
+-- If two lines are equal as results, they are equal.
 pub line_is : {R : Type 0} (here row : R) → ◌≡◌ {A = Result R Refusal} (Ok here) (Ok row) → here ≡ row
 line_is here row e = search rules
 
--- a line of the table, or those behind it
+-- P holds of the first line that fits, if it holds of each line that may be the first.
 pub at_line : {R : Type 0} (P : R → Type 0) (is_here : Bool) (here others : Result R Refusal) (row : R)
     → (is_here ≡ true → here ≡ Ok row → P row) → (others ≡ Ok row → P row)
     → (if is_here then here else others) ≡ Ok row → P row
 at_line P true here others row leads behind e = leads refl e
 at_line P false here others row leads behind e = behind e
 
--- what a line says
+-- If P holds of the line `here`, it holds of each `row` that is equal to it as a result.
 pub is_this : {R : Type 0} (P : R → Type 0) (here row : R) → P here → ◌≡◌ {A = Result R Refusal} (Ok here) (Ok row) → P row
 is_this P here row there e = subst P (line_is here row e) there
 
--- behind the last line
+-- A refusal is no line, so nothing is left to prove after the last one.
 pub no_more : {R : Type 0} (P : R → Type 0) (refusal : Refusal) (row : R) → Err refusal ≡ Ok row → P row
 no_more P refusal row e = search rules
 
 -- ---- numbers
 
 -- A list to which a number is left has at most 255 APDUs with the next one.
-pub few_with_next : (txn : Qualifiers) (apdus : List Apdu) (body : Body) (number : ℕ) → next_number apdus ≡ Ok number → length (with_next txn apdus body) ≤ 255
+pub few_with_next : (txn : Qualifiers) (apdus : List Apdu) (body : Body) (number : ℕ) → next_number apdus ≡ Ok number
+    → length (with_next txn apdus body) ≤ 255
 few_with_next txn apdus body number left =
     omega (arith, (next_of (length apdus) number left).1, length-append apdus (next_apdu txn apdus body ∷ []))

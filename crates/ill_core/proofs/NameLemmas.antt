@@ -1,4 +1,4 @@
--- The name of each state and of each verb is read as it.
+-- Each state is read back from its name, and each verb too.
 use Rattle.std.proofs.Common.{◌≡◌, Some, refl}
 use Rattle.ill_core.specs.declared.state.State.{State}
 use Rattle.ill_core.specs.declared.state.State.TheVariants as states
@@ -7,6 +7,7 @@ use Rattle.ill_core.specs.declared.verb.Verb.TheVariants as verbs
 use Rattle.ill_core.specs.State.{state_name, state_named}
 use Rattle.ill_core.specs.Verbs.{verb_name, verb_named}
 
+-- The name of a state is read as that state.
 pub state_again : (state : State) → state_named (state_name state) ≡ Some state
 state_again states.Idle = refl
 state_again states.Pending = refl
@@ -25,6 +26,7 @@ state_again states.Recall = refl
 state_again states.Returned = refl
 state_again states.CheckedIn = refl
 
+-- The name of a verb is read as that verb.
 pub verb_again : (verb : Verb) → verb_named (verb_name verb) ≡ Some verb
 verb_again verbs.Request = refl
 verb_again verbs.Cancel = refl

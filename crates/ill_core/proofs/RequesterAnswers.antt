@@ -1,4 +1,4 @@
--- Conditions are answered once.
+-- A requester answers conditions once.
 use Rattle.std.proofs.Common.{rules, ◌≡◌, inl, inr, ℕ, Bool, true, false, ◌||◌, [], ◌∷◌, ◌++◌, Option, Some, None, is_some, if◌then◌else◌, refl, ap, sym, subst, ◌∙◌}
 use Rattle.std.specs.List.{list_all, filter_map, last_or}
 use Rattle.std.specs.Option.{unwrap_or}
@@ -19,7 +19,9 @@ use Rattle.ill_core.specs.RequesterFacts.{AnswersOnce, replies, replied_number, 
 use Rattle.ill_core.proofs.NumberLemmas.{all_weaker, below_new, at_most_below, distinct_more}
 use Rattle.ill_core.proofs.IssuedLemmas.{found_none, found_more, last_of_more, has_more}
 
-held_still : (x new : RequesterRecord) (k : ℕ) → Holds x k new → AnswersOnce x → is_among (Conditional ∷ []) new.state ≡ true → has declines x.issued ≡ false
+-- After a delivery in CONDITIONAL, the conditions answered so far are below those held, if none were declined.
+held_still : (x new : RequesterRecord) (k : ℕ) → Holds x k new → AnswersOnce x
+    → is_among (Conditional ∷ []) new.state ≡ true → has declines x.issued ≡ false
     → list_all (λ n. is_below n new.held) (replies x.issued) ≡ true
 held_still x new k (inl (held, inl state)) once here undeclined =
     subst (λ o. list_all (λ n. is_below n o) (replies x.issued) ≡ true) (sym held) (once.held (subst (λ s. is_among (Conditional ∷ []) s ≡ true) state here) undeclined)
@@ -29,7 +31,7 @@ held_still x new k (inr (inr fresh)) once here undeclined =
     subst (λ o. list_all (λ n. is_below n o) (replies x.issued) ≡ true) (sym fresh.2)
     (all_weaker (λ n. is_at_most n (accepted_number x)) (λ n. is_below n (Some k)) (below_new k (accepted_number x) fresh.3) (replies x.issued) (once.above undeclined))
 
--- the record after a delivery has answered what it had
+-- A change that issues nothing and holds conditions as `Holds` says keeps conditions answered once.
 pub still_once : (x new : RequesterRecord) (k : ℕ) → new.issued ≡ x.issued → Holds x k new → AnswersOnce x → AnswersOnce new
 still_once x new k same holds once =
     let undeclined : has declines new.issued ≡ false → has declines x.issued ≡ false = subst (λ l. has declines l ≡ false → has declines x.issued ≡ false) (sym same) (λ h. h) in
@@ -39,8 +41,9 @@ still_once x new k same holds once =
       held = λ here no. ap (λ l. list_all (λ n. is_below n new.held) (replies l)) same ∙ held_still x new k holds once here (undeclined no);
     }
 
--- an APDU that is no answer to conditions
-pub silent_once : (x : RequesterRecord) (body : Body) (state : State) (held : Option ℕ) → replied_number body ≡ None → accepts body ≡ None → declines body ≡ false
+-- An APDU that answers no conditions, and leads outside CONDITIONAL, keeps them answered once.
+pub silent_once : (x : RequesterRecord) (body : Body) (state : State) (held : Option ℕ) → replied_number body ≡ None
+    → accepts body ≡ None → declines body ≡ false
     → is_among (Conditional ∷ []) state ≡ false → AnswersOnce x
     → AnswersOnce (requester_of x.txn state held x.checked_in x.due (with_next x.txn x.issued body))
 silent_once x body state held silent accepts_none declines_not away once =
@@ -55,13 +58,15 @@ silent_once x body state held silent accepts_none declines_not away once =
       held = λ here undeclined. search rules;
     }
 
--- the numbers answered so far are below the one that is answered now
-below_held : (x : RequesterRecord) (n : ℕ) → x.held ≡ Some n → is_among (Conditional ∷ []) x.state ≡ true → has declines x.issued ≡ false → AnswersOnce x
+-- The conditions answered so far are below the held ones, n, in CONDITIONAL and with none declined.
+below_held : (x : RequesterRecord) (n : ℕ) → x.held ≡ Some n → is_among (Conditional ∷ []) x.state ≡ true
+    → has declines x.issued ≡ false → AnswersOnce x
     → list_all (λ m. is_below m (Some n)) (replies x.issued) ≡ true
 below_held x n is here undeclined once = subst (λ o. list_all (λ m. is_below m o) (replies x.issued) ≡ true) is (once.held here undeclined)
 
--- a yes to the conditions that are held
-yes_once : (x : RequesterRecord) (n : ℕ) → x.held ≡ Some n → is_among (Conditional ∷ []) x.state ≡ true → has declines x.issued ≡ false → AnswersOnce x
+-- A yes to the held conditions keeps conditions answered once.
+yes_once : (x : RequesterRecord) (n : ℕ) → x.held ≡ Some n → is_among (Conditional ∷ []) x.state ≡ true
+    → has declines x.issued ≡ false → AnswersOnce x
     → AnswersOnce (requester_of x.txn Pending None x.checked_in x.due (with_next x.txn x.issued (types.ConditionalReply n true)))
 yes_once x n is here undeclined once =
     let a : Apdu = next_apdu x.txn x.issued (types.ConditionalReply n true) in
@@ -76,8 +81,9 @@ yes_once x n is here undeclined once =
       held = λ here undeclined. search rules;
     }
 
--- a no to the conditions that are held
-no_once : (x : RequesterRecord) (n : ℕ) → x.held ≡ Some n → is_among (Conditional ∷ []) x.state ≡ true → has declines x.issued ≡ false → AnswersOnce x
+-- A no to the held conditions keeps conditions answered once.
+no_once : (x : RequesterRecord) (n : ℕ) → x.held ≡ Some n → is_among (Conditional ∷ []) x.state ≡ true
+    → has declines x.issued ≡ false → AnswersOnce x
     → AnswersOnce (requester_of x.txn Conditional x.held x.checked_in x.due (with_next x.txn x.issued (types.ConditionalReply n false)))
 no_once x n is here undeclined once =
     let a : Apdu = next_apdu x.txn x.issued (types.ConditionalReply n false) in
@@ -89,13 +95,15 @@ no_once x n is here undeclined once =
       held = λ here no. search (rules, declined);
     }
 
--- an answer to the conditions that are held
-pub reply_once : (x : RequesterRecord) (is_yes : Bool) (n : ℕ) → x.held ≡ Some n → is_among (Conditional ∷ []) x.state ≡ true → has declines x.issued ≡ false → AnswersOnce x
+-- A reply to the held conditions keeps conditions answered once.
+pub reply_once : (x : RequesterRecord) (is_yes : Bool) (n : ℕ) → x.held ≡ Some n
+    → is_among (Conditional ∷ []) x.state ≡ true → has declines x.issued ≡ false → AnswersOnce x
     → AnswersOnce (requester_of x.txn (if is_yes then Pending else Conditional) (if is_yes then None else x.held) x.checked_in x.due
     (with_next x.txn x.issued (types.ConditionalReply n is_yes)))
 reply_once x true = yes_once x
 reply_once x false = no_once x
 
+-- If a number is there, it is what `unwrap_or` gives.
 pub held_number : (o : Option ℕ) → is_some o ≡ true → o ≡ Some (unwrap_or o 0)
 held_number (Some n) there = refl
 held_number None there = search rules

@@ -1,4 +1,4 @@
--- A requester's record has heard a message that has come, and has still heard it after the next ones.
+-- A requester's record has heard a message after it has come, and hears it still after the next ones.
 use Rattle.std.proofs.Common.{rules, ◌≡◌, ℕ, Bool, true, false, not, ◌&&◌, ◌||◌, [], ◌∷◌, Some, None, Result, if◌then◌else◌, ap, refl}
 use Rattle.std.proofs.lemmas.Bool.{cond_both}
 use Rattle.ill_values.specs.Day.{Date}
@@ -24,14 +24,15 @@ use Rattle.ill_core.proofs.RequesterMoves.{Leads, nowhere, holds_conditions, end
 
 -- ---- a message that comes is heard
 
--- the first line that fits decides
+-- If the record has heard the message after each line that may fit, it has heard it after the answer.
 line : (number : ℕ) (body : Body) (fits : Bool) (here others : Result Taking Refusal × RequesterRecord)
     → (fits ≡ true → has_heard here.1 number body ≡ true) → (fits ≡ false → has_heard others.1 number body ≡ true)
     → has_heard (if fits then here else others).1 number body ≡ true
 line number body fits here others = cond_both fits here others (λ r. has_heard r.1 number body ≡ true)
 
--- a message that is not refused is heard once it has come
-message_heard : (x : RequesterRecord) (a : Apdu) (body : Body) → is_requesters body ≡ false → has_heard (take_message x a body).1 a.number body ≡ true
+-- After a responder's message that is not refused, the record has heard it.
+message_heard : (x : RequesterRecord) (a : Apdu) (body : Body) → is_requesters body ≡ false
+    → has_heard (take_message x a body).1 a.number body ≡ true
 message_heard x a (types.IllAnswer results.Conditional) theirs = search rules
 message_heard x a (types.IllAnswer results.WillSupply) theirs = search rules
 message_heard x a (types.IllAnswer results.HoldPlaced) theirs = search rules
@@ -49,21 +50,24 @@ message_heard x a types.Recall theirs = search rules
 message_heard x a types.CheckedIn theirs = search rules
 message_heard x a other theirs = refl
 
--- a message of the transaction from the other role is not refused
-admitted_heard : (x : RequesterRecord) (answer : Result Taking Refusal × RequesterRecord) (number : ℕ) (body : Body) (is_same is_own : Bool) → is_same ≡ true → is_own ≡ false
-    → has_heard answer.1 number body ≡ true → has_heard (unless_refused (if is_same then (if is_own then Some WrongRole else None) else Some OtherTransaction) x answer).1 number body ≡ true
+-- A responder's message of the transaction is not refused, so the record has heard it after the answer.
+admitted_heard : (x : RequesterRecord) (answer : Result Taking Refusal × RequesterRecord) (number : ℕ) (body : Body) (is_same is_own : Bool)
+    → is_same ≡ true → is_own ≡ false
+    → has_heard answer.1 number body ≡ true
+    → has_heard (unless_refused (if is_same then (if is_own then Some WrongRole else None) else Some OtherTransaction) x answer).1 number body ≡ true
 admitted_heard x answer number body true false same own heard = heard
 admitted_heard x answer number body true true same own heard = search rules
 admitted_heard x answer number body false is_own same own heard = search rules
 
--- A message of the transaction is heard once it has come.
-pub takes_heard : (x : RequesterRecord) (a : Apdu) → is_same_txn a.txn x.txn ≡ true → is_requesters a.body ≡ false → has_heard (takes x a).1 a.number a.body ≡ true
+-- After a responder's message of the transaction, the record has heard it.
+pub takes_heard : (x : RequesterRecord) (a : Apdu) → is_same_txn a.txn x.txn ≡ true → is_requesters a.body ≡ false
+    → has_heard (takes x a).1 a.number a.body ≡ true
 takes_heard x a same theirs =
     admitted_heard x (take_message x a a.body) a.number a.body (is_same_txn a.txn x.txn) (is_requesters a.body) same theirs (message_heard x a a.body theirs)
 
 -- ---- a message that was heard stays so
 
--- what a record has heard, it has heard after this message, unless that reopens it
+-- The record `new` has heard each message that x has, unless the body of the message between reopens it.
 record Hears (x : RequesterRecord) (body : Body) (new : RequesterRecord) : Type 0 where
   conditions : (number : ℕ) → reopens body (types.IllAnswer results.Conditional) ≡ false → not (is_among (Pending ∷ []) x.state) || is_at_most number (accepted_number x) ≡ true
       → not (is_among (Pending ∷ []) new.state) || is_at_most number (accepted_number new) ≡ true
@@ -75,7 +79,7 @@ record Hears (x : RequesterRecord) (body : Body) (new : RequesterRecord) : Type 
   recall : reopens body types.Recall ≡ false → not (is_among lent x.state) ≡ true → not (is_among lent new.state) ≡ true
   checked_in : implies (is_among (Returned ∷ []) x.state) x.checked_in ≡ true → implies (is_among (Returned ∷ []) new.state) new.checked_in ≡ true
 
--- what a record has heard, it has heard after each row, unless that reopens it
+-- After each row the record has heard what it had heard before, unless the message reopens it.
 hears : (x : RequesterRecord) (number : ℕ) (body : Body) (new : RequesterRecord) → Leads x number body new → Hears x body new
 hears x number _ _ (nowhere body) = search rules
 hears x number _ _ (holds_conditions is) = search rules
@@ -91,8 +95,9 @@ hears x number _ _ (refuses_renewal renew waits) = search rules
 hears x number _ _ (recalls is) = search rules
 hears x number _ _ (checks_in is) = search rules
 
--- a message of each type that was heard is heard still
-still_heard : (x : RequesterRecord) (first : Body) (new : RequesterRecord) → Hears x first new → (number : ℕ) (second : Body) → reopens first second ≡ false
+-- If `new` hears as `Hears` says, it has heard a message that x has and that `first` does not reopen.
+still_heard : (x : RequesterRecord) (first : Body) (new : RequesterRecord) → Hears x first new
+    → (number : ℕ) (second : Body) → reopens first second ≡ false
     → has_heard x number second ≡ true → has_heard new number second ≡ true
 still_heard x first new how number (types.IllAnswer results.Conditional) stays heard = how.conditions number stays heard
 still_heard x first new how number (types.IllAnswer results.WillSupply) stays heard = refl
@@ -108,7 +113,8 @@ still_heard x first new how number types.Recall stays heard = how.recall stays h
 still_heard x first new how number types.CheckedIn stays heard = how.checked_in heard
 still_heard x first new how number other stays heard = refl
 
--- A message that was heard stays so, until one comes that reopens it.
-pub takes_hearing : (x : RequesterRecord) (a : Apdu) (number : ℕ) (body : Body) → reopens a.body body ≡ false → has_heard x number body ≡ true
+-- A message that was heard stays heard after the next APDU, unless that reopens it.
+pub takes_hearing : (x : RequesterRecord) (a : Apdu) (number : ℕ) (body : Body) → reopens a.body body ≡ false
+    → has_heard x number body ≡ true
     → has_heard (takes x a).1 number body ≡ true
 takes_hearing x a = still_heard x a.body (takes x a).1 (hears x a.number a.body (takes x a).1 (delivery_leads x a))

@@ -19,7 +19,7 @@ use Rattle.ill_core.specs.RequesterActions.{Line, answer_held, line_of}
 use Rattle.ill_core.proofs.LineLemmas.{at_line, is_this, no_more}
 use Rattle.ill_core.proofs.IssuedLemmas.{numbered_next, not_true, same_txn, has_more, all_more, none_more, begins_more}
 
--- a state fits a record that has issued one more APDU
+-- The state and the conditions held fit the record x after it issues one more APDU of this body.
 abbrev pub FitsWith : State → Option ℕ → RequesterRecord → Body → Type 0
 FitsWith state held x body =
     PartsFit state (is_some held) (is_some x.due) x.checked_in
@@ -27,7 +27,7 @@ FitsWith state held x body =
     (has is_renew x.issued || is_renew body) (has is_returned x.issued || is_returned body) (has declines x.issued || declines body)
     × (is_requesters body ≡ true) × (is_ill_request body ≡ is_none x.issued)
 
--- the record with one more APDU and a state that fits is a requester's
+-- A record that keeps the rules keeps them with one more APDU, if the new state fits.
 kept : (x : RequesterRecord) (body : Body) (state : State) (held : Option ℕ) → RequesterRules x → FitsWith state held x body
     → RequesterRules (requester_of x.txn state held x.checked_in x.due (with_next x.txn x.issued body))
 kept x body state held h fits =
@@ -49,25 +49,29 @@ kept x body state held h fits =
       };
     }
 
+-- In CONDITIONAL with none declined, the state after a reply fits.
 reply_fits : (txn : Qualifiers) (held : Option ℕ) (checked_in : Bool) (due : Option Date) (issued : List Apdu) (is_yes : Bool)
     → RequesterRules (requester_of txn Conditional held checked_in due issued) → has declines issued ≡ false
     → (let x : RequesterRecord = requester_of txn Conditional held checked_in due issued in FitsWith (answer_held x is_yes).next (answer_held x is_yes).held x (answer_held x is_yes).body)
 reply_fits txn held checked_in due issued true h undeclined = search rules
 reply_fits txn held checked_in due issued false h undeclined = search rules
 
+-- In RECALL, if no Received was issued, RECALL fits after a Received.
 receive_fits : (txn : Qualifiers) (held : Option ℕ) (checked_in : Bool) (due : Option Date) (issued : List Apdu)
     → RequesterRules (requester_of txn Recall held checked_in due issued) → has is_received issued ≡ false
     → FitsWith Recall held (requester_of txn Recall held checked_in due issued) types.Received
 receive_fits txn held checked_in due issued h unreceived = search rules
 
+-- In RECALL, if a Received was issued, RETURNED fits after a Returned.
 return_fits : (txn : Qualifiers) (held : Option ℕ) (checked_in : Bool) (due : Option Date) (issued : List Apdu)
     → RequesterRules (requester_of txn Recall held checked_in due issued) → has is_received issued ≡ true
     → FitsWith Returned held (requester_of txn Recall held checked_in due issued) types.Returned
 return_fits txn held checked_in due issued h received = search rules
 
--- where a wish leads fits
+-- The state to which the line of a wish leads fits.
 pub fits : (txn : Qualifiers) (state : State) (held : Option ℕ) (checked_in : Bool) (due : Option Date) (issued : List Apdu) (wish : Wish) (row : Line)
-    → RequesterRules (requester_of txn state held checked_in due issued) → line_of (requester_of txn state held checked_in due issued) wish ≡ Ok row
+    → RequesterRules (requester_of txn state held checked_in due issued)
+    → line_of (requester_of txn state held checked_in due issued) wish ≡ Ok row
     → FitsWith row.next row.held (requester_of txn state held checked_in due issued) row.body
 fits txn Idle held checked_in due issued (wishes.Request expiry item) row h leads = search rules
 fits txn Conditional held checked_in due issued (wishes.Reply is_yes) row h leads =
@@ -87,9 +91,11 @@ fits txn Recall held checked_in due issued wishes.Return row h leads =
     (no_more (λ r. FitsWith r.next r.held x r.body) _ row) leads
 fits txn state held checked_in due issued wish row h leads = search rules
 
--- The record after a row that fits is a requester's.
-pub row_kept : (x : RequesterRecord) (row : Line) (txn : Qualifiers) (issued : List Apdu) → RequesterRules x → FitsWith row.next row.held x row.body
-    → txn ≡ x.txn → issued ≡ with_next x.txn x.issued row.body → RequesterRules (requester_of txn row.next row.held x.checked_in x.due issued)
+-- If the state after a line fits, the record after it keeps the rules of a requester.
+pub row_kept : (x : RequesterRecord) (row : Line) (txn : Qualifiers) (issued : List Apdu) → RequesterRules x
+    → FitsWith row.next row.held x row.body
+    → txn ≡ x.txn → issued ≡ with_next x.txn x.issued row.body
+    → RequesterRules (requester_of txn row.next row.held x.checked_in x.due issued)
 row_kept x row txn issued h fits same more =
     let parts : (txn, issued) ≡ (x.txn, with_next x.txn x.issued row.body) = cc in
     subst (λ (p : Qualifiers × List Apdu). RequesterRules (requester_of p.0 row.next row.held x.checked_in x.due p.1)) (sym parts)

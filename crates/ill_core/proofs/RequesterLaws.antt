@@ -19,68 +19,93 @@ use Rattle.ill_core.proofs.RequesterRows.{delivery_row, of_acts}
 
 -- ---- actions
 
+-- A wish that is done issues one APDU, with the next number.
 pub acts_issue : (x new : RequesterRecord) (wish : Wish) → acts x wish ≡ Ok new → IssuesNext x.txn x.issued new.issued
 acts_issue x new wish = of_acts (λ r. IssuesNext x.txn x.issued r.issued) x new wish (λ row there how. (row.body, refl))
 
+-- A wish keeps the transaction.
 pub acts_txn : (x new : RequesterRecord) (wish : Wish) → acts x wish ≡ Ok new → new.txn ≡ x.txn
 acts_txn x new wish = of_acts (λ r. r.txn ≡ x.txn) x new wish (λ row there how. refl)
 
+-- A wish leads from a requester's record to a requester's record.
 pub acts_kept : (x new : RequesterRecord) (wish : Wish) → acts x wish ≡ Ok new → IsRequester x → IsRequester new
 acts_kept x new wish = of_acts (λ r. IsRequester x → IsRequester r) x new wish (λ row there how h.
     let rules = requester_rules x h in
     is_requester _ (row_kept x row x.txn (with_next x.txn x.issued row.body) rules (fits x.txn x.state x.held x.checked_in x.due x.issued wish row rules there) refl refl))
 
+-- After a wish a requester is not in IDLE.
 pub acts_begun : (x new : RequesterRecord) (wish : Wish) → acts x wish ≡ Ok new → is_among (Idle ∷ []) new.state ≡ false
 acts_begun x new wish = of_acts (λ r. is_among (Idle ∷ []) r.state ≡ false) x new wish (λ row there how. how.begun)
 
-pub acts_final : (x new : RequesterRecord) (wish : Wish) → acts x wish ≡ Ok new → is_among (Cancelled ∷ NotSupplied ∷ Returned ∷ []) x.state ≡ true → new.state ≡ x.state
+-- A wish in CANCELLED, NOT-SUPPLIED or RETURNED keeps the state.
+pub acts_final : (x new : RequesterRecord) (wish : Wish) → acts x wish ≡ Ok new
+    → is_among (Cancelled ∷ NotSupplied ∷ Returned ∷ []) x.state ≡ true → new.state ≡ x.state
 acts_final x new wish = of_acts (λ r. is_among (Cancelled ∷ NotSupplied ∷ Returned ∷ []) x.state ≡ true → r.state ≡ x.state) x new wish (λ row there how. how.final)
 
-pub acts_later : (x new : RequesterRecord) (wish : Wish) → acts x wish ≡ Ok new → is_among later x.state ≡ true → is_among later new.state ≡ true
+-- A wish in SHIPPED or later leads to SHIPPED or later.
+pub acts_later : (x new : RequesterRecord) (wish : Wish) → acts x wish ≡ Ok new → is_among later x.state ≡ true
+    → is_among later new.state ≡ true
 acts_later x new wish = of_acts (λ r. is_among later x.state ≡ true → is_among later r.state ≡ true) x new wish (λ row there how. how.stays)
 
+-- A wish keeps the due date.
 pub acts_due : (x new : RequesterRecord) (wish : Wish) → acts x wish ≡ Ok new → new.due ≡ x.due
 acts_due x new wish = of_acts (λ r. r.due ≡ x.due) x new wish (λ row there how. refl)
 
+-- A record shows no fact after a wish that it did not show before.
 pub acts_shows : (x new : RequesterRecord) (wish : Wish) (fact : Fact) → acts x wish ≡ Ok new → Shows new fact → Shows x fact
 acts_shows x new wish fact = of_acts (λ r. Shows r fact → Shows x fact) x new wish (λ row there how. how.shows fact)
 
+-- A Conditional-Reply that a wish issues answers the conditions held, none of which was declined.
 pub acts_reply : (x new : RequesterRecord) (wish : Wish) → acts x wish ≡ Ok new → Replies x new
 acts_reply x new wish =
     of_acts (Replies x) x new wish (λ row there how a n is_yes same is. how.replies n is_yes (issued_body x.txn x.issued row.body a same ∙ is))
 
-pub acts_once : (x new : RequesterRecord) (wish : Wish) → acts x wish ≡ Ok new → is_some x.held ≡ is_among (Conditional ∷ []) x.state → AnswersOnce x → AnswersOnce new
+-- A wish keeps conditions answered once, if conditions are held exactly in CONDITIONAL.
+pub acts_once : (x new : RequesterRecord) (wish : Wish) → acts x wish ≡ Ok new
+    → is_some x.held ≡ is_among (Conditional ∷ []) x.state → AnswersOnce x → AnswersOnce new
 acts_once x new wish = of_acts (λ r. is_some x.held ≡ is_among (Conditional ∷ []) x.state → AnswersOnce x → AnswersOnce r) x new wish (λ row there how. how.once)
 
 -- ---- deliveries
 
+-- A message issues nothing.
 pub takes_issue : (x : RequesterRecord) (a : Apdu) → (takes x a).1.issued ≡ x.issued
 takes_issue x a = (delivery_row x a).issued
 
+-- A message keeps the transaction.
 pub takes_txn : (x : RequesterRecord) (a : Apdu) → (takes x a).1.txn ≡ x.txn
 takes_txn x a = (delivery_row x a).txn
 
+-- A message leads from a requester's record to a requester's record.
 pub takes_kept : (x : RequesterRecord) (a : Apdu) → IsRequester x → IsRequester (takes x a).1
 takes_kept x a h = is_requester _ ((delivery_row x a).kept (requester_rules x h))
 
+-- A message that is not taken leaves the record.
 pub takes_quiet : (x : RequesterRecord) (a : Apdu) → ((takes x a).0 ≡ Ok Taken) ⊎ ((takes x a).1 ≡ x)
 takes_quiet x a = (delivery_row x a).quiet
 
-pub takes_begun : (x : RequesterRecord) (a : Apdu) → is_among (Idle ∷ []) x.state ≡ false → is_among (Idle ∷ []) (takes x a).1.state ≡ false
+-- A message to a requester past IDLE leaves it past IDLE.
+pub takes_begun : (x : RequesterRecord) (a : Apdu) → is_among (Idle ∷ []) x.state ≡ false
+    → is_among (Idle ∷ []) (takes x a).1.state ≡ false
 takes_begun x a = (delivery_row x a).begun
 
-pub takes_final : (x : RequesterRecord) (a : Apdu) → is_among (Cancelled ∷ NotSupplied ∷ Returned ∷ []) x.state ≡ true → (takes x a).1.state ≡ x.state
+-- A message in CANCELLED, NOT-SUPPLIED or RETURNED keeps the state.
+pub takes_final : (x : RequesterRecord) (a : Apdu) → is_among (Cancelled ∷ NotSupplied ∷ Returned ∷ []) x.state ≡ true
+    → (takes x a).1.state ≡ x.state
 takes_final x a = (delivery_row x a).final
 
+-- A message in SHIPPED or later leads to SHIPPED or later.
 pub takes_later : (x : RequesterRecord) (a : Apdu) → is_among later x.state ≡ true → is_among later (takes x a).1.state ≡ true
 takes_later x a = (delivery_row x a).stays
 
+-- A message keeps or raises the due date, if a due date is there exactly in SHIPPED or later.
 pub takes_due : (x : RequesterRecord) (a : Apdu) → is_some x.due ≡ is_among later x.state → KeepsDue x.due (takes x a).1.due
 takes_due x a = (delivery_row x a).due
 
+-- A message leaves the conditions held, or frees them, or is itself the conditions that are held now.
 pub takes_holds : (x : RequesterRecord) (a : Apdu) → Holds x a.number (takes x a).1
 takes_holds x a = (delivery_row x a).holds
 
+-- Each fact that a record shows after a message was shown before, or the message tells it.
 pub takes_shows : (x : RequesterRecord) (a : Apdu) (fact : Fact) → Shows (takes x a).1 fact → Shows x fact ⊎ Tells a.body fact
 takes_shows x a facts.Cancelled = (delivery_row x a).cancelled
 takes_shows x a facts.Ended = (delivery_row x a).ended
@@ -88,5 +113,6 @@ takes_shows x a (facts.Granted due) = (delivery_row x a).granted due
 takes_shows x a (facts.Refused cancel) = (delivery_row x a).refused cancel
 takes_shows x a facts.GivenBack = (delivery_row x a).given_back
 
+-- A message keeps conditions answered once.
 pub takes_once : (x : RequesterRecord) (a : Apdu) → AnswersOnce x → AnswersOnce (takes x a).1
 takes_once x a = still_once x (takes x a).1 a.number (takes_issue x a) (takes_holds x a)

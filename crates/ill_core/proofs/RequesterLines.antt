@@ -12,7 +12,8 @@ use Rattle.ill_core.specs.Requester.{RequesterRecord, is_declined, is_received_b
 use Rattle.ill_core.specs.RequesterActions.{Line, line_of}
 use Rattle.ill_core.proofs.LineLemmas.{at_line, is_this, no_more}
 
--- A line of a wish: from which states it leads, to which one, what it issues, and what is held then.
+-- The lines of a requester's wishes. Each has the states before, the state after, the APDU, and the conditions held
+-- then.
 pub data IsLine (x : RequesterRecord) : Line → Type 0 where
   requests : (expiry : Option Date) (item : List ℕ) → is_among (Idle ∷ []) x.state ≡ true → IsLine x (record { next = Pending; body = types.IllRequest expiry item; held = x.held })
   cancels : is_among (Pending ∷ []) x.state ≡ true → IsLine x (record { next = CancelPending; body = types.Cancel; held = x.held })
@@ -26,7 +27,7 @@ pub data IsLine (x : RequesterRecord) : Line → Type 0 where
   returns : is_among (Received ∷ RenewPending ∷ Overdue ∷ RenewOverdue ∷ []) x.state ≡ true → IsLine x (record { next = Returned; body = types.Returned; held = x.held })
   returns_recalled : is_among (Recall ∷ []) x.state ≡ true → IsLine x (record { next = Returned; body = types.Returned; held = x.held })
 
--- the line of a wish is one of these
+-- The line of a wish is one of these.
 pub is_line : (x : RequesterRecord) (wish : Wish) (line : Line) → line_of x wish ≡ Ok line → IsLine x line
 is_line x (wishes.Request expiry item) line =
     at_line (IsLine x) (is_among (Idle ∷ []) x.state) _ _ line (λ is. is_this (IsLine x) _ line (requests expiry item is)) (no_more (IsLine x) _ line)

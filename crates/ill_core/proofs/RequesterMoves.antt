@@ -1,4 +1,4 @@
--- How a message changes a requester's record, by the rows of its table of deliveries.
+-- The changes that a message makes to a requester's record, by the rows of its table of deliveries.
 use Rattle.std.proofs.Common.{rules, ◌≡◌, ℕ, Bool, true, false, not, ◌&&◌, [], ◌∷◌, Option, Some, None, Result, if◌then◌else◌, refl}
 use Rattle.std.proofs.lemmas.Bool.{and_parts, cond_both}
 use Rattle.ill_values.specs.Day.{Date}
@@ -19,7 +19,7 @@ use Rattle.ill_core.specs.Requester.{RequesterRecord, later, accepted_number, la
 use Rattle.ill_core.specs.RequesterDeliveries.{take_message, takes, take_end, take_cancel_reply}
 use Rattle.ill_core.specs.RequesterNotices.{awaits, undecided, lent}
 
--- A message with this number leads a requester's record to another, by a row that changes it, or nowhere.
+-- A message with this number leads a requester's record to another by a row, or leads nowhere.
 pub data Leads (x : RequesterRecord) (number : ℕ) : Body → RequesterRecord → Type 0 where
   nowhere : (body : Body) → Leads x number body x
   holds_conditions : is_among (Pending ∷ []) x.state ≡ true → Leads x number (types.IllAnswer results.Conditional) (record x { state = Conditional; held = Some number })
@@ -36,18 +36,19 @@ pub data Leads (x : RequesterRecord) (number : ℕ) : Body → RequesterRecord �
   recalls : is_among lent x.state ≡ true → Leads x number types.Recall (record x { state = Recall })
   checks_in : is_among (Returned ∷ []) x.state ≡ true → Leads x number types.CheckedIn (record x { checked_in = true })
 
--- the first line that fits decides
+-- If each line that may be the first to fit leads so, the answer does.
 line : (x : RequesterRecord) (number : ℕ) (body : Body) (fits : Bool) (here others : Result Taking Refusal × RequesterRecord)
-    → (fits ≡ true → Leads x number body here.1) → (fits ≡ false → Leads x number body others.1) → Leads x number body (if fits then here else others).1
+    → (fits ≡ true → Leads x number body here.1) → (fits ≡ false → Leads x number body others.1)
+    → Leads x number body (if fits then here else others).1
 line x number body fits here others = cond_both fits here others (λ r. Leads x number body r.1)
 
--- an end of the request leads to NOT-SUPPLIED, or nowhere
+-- An end of the request leads to NOT-SUPPLIED, or nowhere.
 end_leads : (x : RequesterRecord) (number : ℕ) (body : Body) → is_unsupplied body ≡ true → Leads x number body (take_end x).1
 end_leads x number body is =
     line x number _ (is_among (NotSupplied ∷ []) x.state) _ _ (λ _. nowhere body) (λ _.
     line x number _ (is_among undecided x.state) _ _ (ends body is) (λ _. nowhere body))
 
--- an answer to a Cancel leads where it decides, or nowhere
+-- A Cancel-Reply leads to its decision if a Cancel waits, or nowhere.
 cancel_reply_leads : (x : RequesterRecord) (number cancel : ℕ) (is_yes : Bool)
     → (is_among (CancelPending ∷ []) x.state ≡ true → Leads x number (types.CancelReply cancel is_yes) (record x { state = (if is_yes then Cancelled else Pending) }))
     → Leads x number (types.CancelReply cancel is_yes) (take_cancel_reply x cancel is_yes).1
@@ -56,11 +57,12 @@ cancel_reply_leads x number cancel is_yes decided =
     line x number _ (is_among (Cancelled ∷ []) x.state && (is_yes && is_the cancel (last_cancel x))) _ _ (λ _. nowhere _) (λ _.
     line x number _ (was is_cancel x.issued cancel) _ _ (λ _. nowhere _) (λ _. nowhere _)))
 
--- an Overdue that is not stale in SHIPPED or later is for the due date
-due_now : (x : RequesterRecord) (due : Date) → is_among later x.state ≡ true → is_among later x.state && not (is_due_on due x.due) ≡ false → is_due_on due x.due ≡ true
+-- In SHIPPED or later, an Overdue that is not stale is for the due date.
+due_now : (x : RequesterRecord) (due : Date) → is_among later x.state ≡ true
+    → is_among later x.state && not (is_due_on due x.due) ≡ false → is_due_on due x.due ≡ true
 due_now x due is_later stale_not = search rules
 
--- an APDU that is not refused leads where its row says, or nowhere
+-- An APDU that is not refused leads as its row says, or nowhere.
 message_leads : (x : RequesterRecord) (a : Apdu) (body : Body) → Leads x a.number body (take_message x a body).1
 message_leads x a (types.IllAnswer results.Conditional) =
     line x a.number _ (is_at_most a.number (accepted_number x)) _ _ (λ _. nowhere _) (λ _.
@@ -96,12 +98,12 @@ message_leads x a types.CheckedIn =
     line x a.number _ (is_among (Returned ∷ []) x.state) _ _ (λ _. nowhere _) (λ _. nowhere _))
 message_leads x a other = nowhere _
 
--- a refused APDU leaves the record
+-- A refused APDU leads nowhere, and an admitted one as before.
 admitted : (x : RequesterRecord) (number : ℕ) (body : Body) (refused : Option Refusal) (answer : Result Taking Refusal × RequesterRecord)
     → Leads x number body answer.1 → Leads x number body (unless_refused refused x answer).1
 admitted x number body None answer leads = leads
 admitted x number body (Some refusal) answer leads = nowhere body
 
--- An APDU leads where its row says, or nowhere.
+-- An APDU leads as its row says, or nowhere.
 pub delivery_leads : (x : RequesterRecord) (a : Apdu) → Leads x a.number a.body (takes x a).1
 delivery_leads x a = admitted x a.number a.body (first_refusal x.txn (is_requesters a.body) a) (take_message x a a.body) (message_leads x a a.body)

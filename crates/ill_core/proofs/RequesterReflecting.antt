@@ -26,7 +26,7 @@ use Rattle.ill_core.proofs.RequesterRows.{of_acts}
 
 -- ---- due dates
 
--- days that are the same day are equal
+-- Two days are equal if year, month and day are.
 same_day : (a b : Date) → is_same_day a b ≡ true → a ≡ b
 same_day a b same =
     let p = and_parts (a.year == b.year) ((a.month == b.month) && (a.day == b.day)) same in
@@ -37,14 +37,14 @@ same_day a b same =
     let parts : (a.year, a.month, a.day) ≡ (b.year, b.month, b.day) = cc in
     ap (λ (d : ℕ × ℕ × ℕ). record { year = d.0; month = d.1; day = d.2 }) parts
 
--- a day on which the item is due is the due date
+-- If the item is due on `day`, and the due date is `due`, they are equal.
 due_on : (day due : Date) (known : Option Date) → is_due_on day known ≡ true → known ≡ Some due → day ≡ due
 due_on day due None on is = search rules
 due_on day due (Some other) on is = same_day day other on ∙ same_Some other due is
 
 -- ---- deliveries
 
--- a record reflected before a message what it reflects after that, or the message attests it
+-- Each notice that `new` reflects was reflected by x before, or the message attests it.
 record Keeps (x : RequesterRecord) (number : ℕ) (body : Body) (new : RequesterRecord) : Type 0 where
   recalled : Reflects new Recalled → Reflects x Recalled ⊎ Attests number body Recalled
   named : (conditions : ℕ) → Reflects new (Named conditions) → Reflects x (Named conditions) ⊎ Attests number body (Named conditions)
@@ -52,8 +52,9 @@ record Keeps (x : RequesterRecord) (number : ℕ) (body : Body) (new : Requester
   granted_before : (renew : ℕ) (due : Date) → Reflects new (GrantedBefore renew due) → Reflects x (GrantedBefore renew due) ⊎ Attests number body (GrantedBefore renew due)
   past_due : (due : Date) → Reflects new (PastDue due) → Reflects x (PastDue due) ⊎ Attests number body (PastDue due)
 
--- each row leads to a record that reflects what it reflected before, or what the message attests
-keeps : (x : RequesterRecord) (number : ℕ) (body : Body) (new : RequesterRecord) → Leads x number body new → is_some x.due ≡ is_among later x.state
+-- After each row the record reflects what it reflected before, or what the message attests.
+keeps : (x : RequesterRecord) (number : ℕ) (body : Body) (new : RequesterRecord) → Leads x number body new
+    → is_some x.due ≡ is_among later x.state
     → ((n : ℕ) → last_renew x ≡ Some n → n ≤ length x.issued) → Keeps x number body new
 keeps x number _ _ (nowhere body) fits within = record { recalled = λ h. inl h; named = λ c h. inl h; answered = λ n d h. inl h; granted_before = λ n d h. inl h; past_due = λ d h. inl h }
 keeps x number _ _ (holds_conditions is) fits within = search rules
@@ -69,7 +70,7 @@ keeps x number _ _ (refuses_renewal renew waits) fits within = search rules
 keeps x number _ _ (recalls is) fits within = search rules
 keeps x number _ _ (checks_in is) fits within = search rules
 
--- a notice of any kind was reflected before, or the message attests it
+-- A notice of any kind that `new` reflects was reflected before, or the message attests it.
 kept : (x : RequesterRecord) (number : ℕ) (body : Body) (new : RequesterRecord) (notice : Notice) → Keeps x number body new
     → Reflects new notice → Reflects x notice ⊎ Attests number body notice
 kept x number body new Recalled how = how.recalled
@@ -78,8 +79,9 @@ kept x number body new (Answered renew day) how = how.answered renew day
 kept x number body new (GrantedBefore renew due) how = how.granted_before renew due
 kept x number body new (PastDue due) how = how.past_due due
 
--- A record reflects after a message what it reflected before, or what the message attests.
-pub takes_reflects : (x : RequesterRecord) (a : Apdu) (notice : Notice) → IsRequester x → Reflects (takes x a).1 notice → Reflects x notice ⊎ Attests a.number a.body notice
+-- A notice that a record reflects after a message was reflected before, or the message attests it.
+pub takes_reflects : (x : RequesterRecord) (a : Apdu) (notice : Notice) → IsRequester x
+    → Reflects (takes x a).1 notice → Reflects x notice ⊎ Attests a.number a.body notice
 takes_reflects x a notice h =
     let rules_kept = requester_rules x h in
     kept x a.number a.body (takes x a).1 notice
@@ -87,7 +89,7 @@ takes_reflects x a notice h =
 
 -- ---- actions
 
--- what a line of a wish leaves to be reflected: nothing new
+-- The line of a wish leaves nothing new to reflect.
 record Leaves (x : RequesterRecord) (line : Line) : Type 0 where
   recalled : line.next ≡ Recall → x.state ≡ Recall
   held : (c : ℕ) → line.held ≡ Some c → x.held ≡ Some c
@@ -98,8 +100,9 @@ record Leaves (x : RequesterRecord) (line : Line) : Type 0 where
   waits : is_among (RenewPending ∷ RenewOverdue ∷ []) line.next ≡ true → is_renew line.body ≡ true
   past_due : is_among (NotReceivedOverdue ∷ Overdue ∷ RenewOverdue ∷ []) line.next ≡ true → is_among (NotReceivedOverdue ∷ Overdue ∷ RenewOverdue ∷ []) x.state ≡ true
 
--- each line leaves nothing new to be reflected
-leaves : (x : RequesterRecord) (line : Line) → IsLine x line → is_some x.held ≡ is_among (Conditional ∷ []) x.state → Leaves x line
+-- Each line of a wish leaves nothing new to reflect.
+leaves : (x : RequesterRecord) (line : Line) → IsLine x line → is_some x.held ≡ is_among (Conditional ∷ []) x.state
+    → Leaves x line
 leaves x _ (lines.requests expiry item is) fits = search rules
 leaves x _ (lines.cancels is) fits = search rules
 leaves x _ (lines.accepts is) fits = search rules
@@ -112,36 +115,41 @@ leaves x _ (lines.renews_late wished is) fits = search rules
 leaves x _ (lines.returns is) fits = search rules
 leaves x _ (lines.returns_recalled is) fits = search rules
 
--- the conditions that were accepted last were held or accepted before
-accepts_named : (x : RequesterRecord) (line : Line) (c : ℕ) (accepted : Option ℕ) → Leaves x line → accepts line.body ≡ accepted → option_or accepted (accepted_number x) ≡ Some c
+-- Conditions that are accepted last after a line were held or accepted before it.
+accepts_named : (x : RequesterRecord) (line : Line) (c : ℕ) (accepted : Option ℕ) → Leaves x line
+    → accepts line.body ≡ accepted → option_or accepted (accepted_number x) ≡ Some c
     → Reflects x (Named c)
 accepts_named x line c None how is found = inr found
 accepts_named x line c (Some n) how is found = inl (how.accepted c (is ∙ found))
 
--- the last Renew is the one that was issued last
-renew_next : (x : RequesterRecord) (line : Line) → is_renew line.body ≡ true → last_renew (record_after x line) ≡ Some (length x.issued + 1)
+-- If a line issues a Renew, that is the last Renew of the record after it.
+renew_next : (x : RequesterRecord) (line : Line) → is_renew line.body ≡ true
+    → last_renew (record_after x line) ≡ Some (length x.issued + 1)
 renew_next x line is =
     last_of_more number_of_renew x.issued (next_apdu x.txn x.issued line.body) (length x.issued + 1) (ap (λ b. if b then Some (length x.issued + 1) else None) is)
 
--- a Renew that was answered was issued before
+-- A Renew that does not wait after a line, and was issued by then, was issued before the line.
 was_before : (x : RequesterRecord) (line : Line) (renew : ℕ) → Leaves x line → awaits (record_after x line) renew ≡ false
-    → (was is_renew x.issued renew ≡ true) ⊎ ((renew ≡ length x.issued + 1) × (is_renew line.body ≡ true)) → was is_renew x.issued renew ≡ true
+    → (was is_renew x.issued renew ≡ true) ⊎ ((renew ≡ length x.issued + 1) × (is_renew line.body ≡ true))
+    → was is_renew x.issued renew ≡ true
 was_before x line renew how waits_not (inl was_one) = was_one
 was_before x line renew how waits_not (inr (at, is)) =
     let waits : awaits (record_after x line) renew ≡ true =
     and_from _ _ (how.renew is) (subst (λ o. is_the renew o ≡ true) (sym (renew_next x line is)) (eq-eqb renew (length x.issued + 1) at)) in
     search rules
 
--- a Renew that waits was issued last
-waits_last : (x : RequesterRecord) (line : Line) (renew : ℕ) → Leaves x line → awaits (record_after x line) renew ≡ true → length x.issued < renew
+-- A Renew that waits after a line has a number above those issued before it.
+waits_last : (x : RequesterRecord) (line : Line) (renew : ℕ) → Leaves x line
+    → awaits (record_after x line) renew ≡ true → length x.issued < renew
 waits_last x line renew how waits =
     let parts = and_parts (is_among (RenewPending ∷ RenewOverdue ∷ []) line.next) (is_the renew (last_renew (record_after x line))) waits in
     let same : renew ≡ length x.issued + 1 =
     eqb-true renew (length x.issued + 1) (subst (λ o. is_the renew o ≡ true) (renew_next x line (how.waits parts.0)) parts.1) in
     omega (arith, same)
 
--- a notice of any kind was reflected before the line
-left : (x : RequesterRecord) (line : Line) (notice : Notice) → Leaves x line → Reflects (record_after x line) notice → Reflects x notice
+-- A notice that is reflected after a line was reflected before it.
+left : (x : RequesterRecord) (line : Line) (notice : Notice) → Leaves x line → Reflects (record_after x line) notice
+    → Reflects x notice
 left x line Recalled how h = how.recalled h
 left x line (Named c) how (inl held) = inl (how.held c held)
 left x line (Named c) how (inr accepted) =
@@ -156,7 +164,8 @@ left x line (GrantedBefore renew due) how (same, inl waits) = (same, inr (waits_
 left x line (GrantedBefore renew due) how (same, inr above) = (same, inr (omega (arith, above, length-append x.issued (next_apdu x.txn x.issued line.body ∷ []))))
 left x line (PastDue due) how (same, past) = (same, how.past_due past)
 
--- A record reflects after a wish what it reflected before.
-pub acts_reflects : (x new : RequesterRecord) (wish : Wish) (notice : Notice) → acts x wish ≡ Ok new → IsRequester x → Reflects new notice → Reflects x notice
+-- A notice that a record reflects after a wish was reflected before it.
+pub acts_reflects : (x new : RequesterRecord) (wish : Wish) (notice : Notice) → acts x wish ≡ Ok new → IsRequester x
+    → Reflects new notice → Reflects x notice
 acts_reflects x new wish notice = of_acts (λ r. IsRequester x → Reflects r notice → Reflects x notice) x new wish (λ line there how h.
     left x line notice (leaves x line (is_line x wish line there) (requester_rules x h).parts.held))

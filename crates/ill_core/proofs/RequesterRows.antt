@@ -1,4 +1,4 @@
--- What each row of a requester's two tables changes.
+-- The changes that each row of a requester's two tables makes.
 use Rattle.std.proofs.Common.{rules, ◌≡◌, ◌⊎◌, ℕ, ◌+◌, ◌≤◌, Bool, true, false, not, ◌&&◌, [], ◌∷◌, ◌++◌, length, Option, Some, None, is_some, Result, Ok, Err, if◌then◌else◌, refl, subst, ◌∙◌}
 use Rattle.std.specs.Option.{unwrap_or}
 use Rattle.std.proofs.lemmas.Bool.{and_parts, cond_both}
@@ -30,12 +30,14 @@ use Rattle.ill_core.proofs.IssuedLemmas.{was_more, still_cancel, last_cancel_mor
 use Rattle.ill_core.proofs.LineLemmas.{at_line, few_with_next, is_this, no_more}
 use Rattle.ill_core.proofs.RequesterAnswers.{silent_once, reply_once, held_number}
 
+-- No test is both false and true.
 not_both : {P : Type 0} (b : Bool) → b ≡ false → b ≡ true → P
 not_both b is_false is_true = search rules
 
 -- ---- deliveries
 
--- a row that issues nothing
+-- A row of deliveries gives `answer` to message k with `body`. It issues nothing, keeps the rules, and lowers no due
+-- date. It shows only facts that were shown before or that the message tells.
 pub record Moves (x : RequesterRecord) (k : ℕ) (body : Body) (answer : Result Taking Refusal × RequesterRecord) : Type 0 where
   pub txn : answer.1.txn ≡ x.txn
   pub issued : answer.1.issued ≡ x.issued
@@ -52,55 +54,90 @@ pub record Moves (x : RequesterRecord) (k : ℕ) (body : Body) (answer : Result 
   pub refused : (c : ℕ) → ShowsRefused answer.1 c → ShowsRefused x c ⊎ Tells body (facts.Refused c)
   pub given_back : answer.1.checked_in ≡ true → (x.checked_in ≡ true) ⊎ Tells body facts.GivenBack
 
+-- An answer that leaves the record is a move.
 left : (x : RequesterRecord) (k : ℕ) (body : Body) (answer : Result Taking Refusal) → Moves x k body (answer, x)
 left x k body answer = search rules
 
-conditions_held : (x : RequesterRecord) (k : ℕ) (body : Body) → is_among (Pending ∷ []) x.state ≡ true → is_at_most k (accepted_number x) ≡ false → Moves x k body (taken (record x { state = Conditional; held = Some k }))
+-- To hold new conditions, with a number above the accepted one, is a move from PENDING to CONDITIONAL.
+conditions_held : (x : RequesterRecord) (k : ℕ) (body : Body) → is_among (Pending ∷ []) x.state ≡ true
+    → is_at_most k (accepted_number x) ≡ false
+    → Moves x k body (taken (record x { state = Conditional; held = Some k }))
 conditions_held x k body is above = search rules
 
-ended : (x : RequesterRecord) (k : ℕ) (body : Body) → Tells body facts.Ended → is_among (Pending ∷ Conditional ∷ CancelPending ∷ []) x.state ≡ true → Moves x k body (taken (record x { state = NotSupplied; held = None }))
+-- To go from PENDING, CONDITIONAL or CANCEL-PENDING to NOT-SUPPLIED by an end is a move.
+ended : (x : RequesterRecord) (k : ℕ) (body : Body) → Tells body facts.Ended
+    → is_among (Pending ∷ Conditional ∷ CancelPending ∷ []) x.state ≡ true
+    → Moves x k body (taken (record x { state = NotSupplied; held = None }))
 ended x k body told is = search rules
 
-cancelled : (x : RequesterRecord) (k : ℕ) (c : ℕ) → is_among (CancelPending ∷ []) x.state && is_the c (last_cancel x) ≡ true → Moves x k (types.CancelReply c true) (taken (record x { state = Cancelled }))
+-- To go from CANCEL-PENDING to CANCELLED by a yes to the last Cancel is a move.
+cancelled : (x : RequesterRecord) (k : ℕ) (c : ℕ)
+    → is_among (CancelPending ∷ []) x.state && is_the c (last_cancel x) ≡ true
+    → Moves x k (types.CancelReply c true) (taken (record x { state = Cancelled }))
 cancelled x k c is = search rules
 
-not_received : (x : RequesterRecord) (k : ℕ) (body : Body) → is_among (Shipped ∷ []) x.state ≡ true → Moves x k body (taken (record x { state = NotReceivedOverdue }))
+-- To go from SHIPPED to NOT-RECEIVED/OVERDUE is a move.
+not_received : (x : RequesterRecord) (k : ℕ) (body : Body) → is_among (Shipped ∷ []) x.state ≡ true
+    → Moves x k body (taken (record x { state = NotReceivedOverdue }))
 not_received x k body is = search rules
 
-overdue : (x : RequesterRecord) (k : ℕ) (body : Body) → is_among (Received ∷ []) x.state ≡ true → Moves x k body (taken (record x { state = Overdue }))
+-- To go from RECEIVED to OVERDUE is a move.
+overdue : (x : RequesterRecord) (k : ℕ) (body : Body) → is_among (Received ∷ []) x.state ≡ true
+    → Moves x k body (taken (record x { state = Overdue }))
 overdue x k body is = search rules
 
-renewal_overdue : (x : RequesterRecord) (k : ℕ) (body : Body) → is_among (RenewPending ∷ []) x.state ≡ true → Moves x k body (taken (record x { state = RenewOverdue }))
+-- To go from RENEW/PENDING to RENEW/OVERDUE is a move.
+renewal_overdue : (x : RequesterRecord) (k : ℕ) (body : Body) → is_among (RenewPending ∷ []) x.state ≡ true
+    → Moves x k body (taken (record x { state = RenewOverdue }))
 renewal_overdue x k body is = search rules
 
-not_renewed : (x : RequesterRecord) (k : ℕ) (body : Body) → is_among (RenewPending ∷ RenewOverdue ∷ []) x.state ≡ true → Moves x k body (taken (record x { state = (if is_among (RenewPending ∷ []) x.state then Received else Overdue) }))
+-- To go from RENEW/PENDING to RECEIVED, or from RENEW/OVERDUE to OVERDUE, is a move.
+not_renewed : (x : RequesterRecord) (k : ℕ) (body : Body) → is_among (RenewPending ∷ RenewOverdue ∷ []) x.state ≡ true
+    → Moves x k body (taken (record x { state = (if is_among (RenewPending ∷ []) x.state then Received else Overdue) }))
 not_renewed x k body is = search rules
 
-recalled : (x : RequesterRecord) (k : ℕ) (body : Body) → is_among (Shipped ∷ NotReceivedOverdue ∷ Received ∷ Overdue ∷ RenewPending ∷ RenewOverdue ∷ []) x.state ≡ true → Moves x k body (taken (record x { state = Recall }))
+-- To go to RECALL is a move from SHIPPED or later, but not from RECALL or RETURNED.
+recalled : (x : RequesterRecord) (k : ℕ) (body : Body)
+    → is_among (Shipped ∷ NotReceivedOverdue ∷ Received ∷ Overdue ∷ RenewPending ∷ RenewOverdue ∷ []) x.state ≡ true
+    → Moves x k body (taken (record x { state = Recall }))
 recalled x k body is = search rules
 
-given_back : (x : RequesterRecord) (k : ℕ) → is_among (Returned ∷ []) x.state ≡ true → Moves x k types.CheckedIn (taken (record x { checked_in = true }))
+-- To set the checked-in mark in RETURNED by a Checked-In is a move.
+given_back : (x : RequesterRecord) (k : ℕ) → is_among (Returned ∷ []) x.state ≡ true
+    → Moves x k types.CheckedIn (taken (record x { checked_in = true }))
 given_back x k is = search rules
 
-shipped : (x : RequesterRecord) (k : ℕ) (d : Date) → is_among (Pending ∷ Conditional ∷ CancelPending ∷ []) x.state ≡ true → Moves x k (types.Shipped d) (taken (record x { state = Shipped; due = Some d; held = None }))
+-- To go from PENDING, CONDITIONAL or CANCEL-PENDING to SHIPPED by a Shipped is a move. The due date becomes d.
+shipped : (x : RequesterRecord) (k : ℕ) (d : Date)
+    → is_among (Pending ∷ Conditional ∷ CancelPending ∷ []) x.state ≡ true
+    → Moves x k (types.Shipped d) (taken (record x { state = Shipped; due = Some d; held = None }))
 shipped x k d is = search rules
 
-renewed : (x : RequesterRecord) (k : ℕ) (c : ℕ) (d : Date) → is_among (RenewPending ∷ RenewOverdue ∷ []) x.state ≡ true → is_after_due d x.due ≡ true → Moves x k (types.RenewAnswer c (Some d)) (taken (record x { state = Received; due = Some d }))
+-- To go from RENEW/PENDING or RENEW/OVERDUE to RECEIVED by a yes for a later day d is a move. The due date becomes d.
+renewed : (x : RequesterRecord) (k : ℕ) (c : ℕ) (d : Date)
+    → is_among (RenewPending ∷ RenewOverdue ∷ []) x.state ≡ true → is_after_due d x.due ≡ true
+    → Moves x k (types.RenewAnswer c (Some d)) (taken (record x { state = Received; due = Some d }))
 renewed x k c d is after = search rules
 
-cancel_refused : (x : RequesterRecord) (k c : ℕ) → is_among (CancelPending ∷ []) x.state && is_the c (last_cancel x) ≡ true → Moves x k (types.CancelReply c false) (taken (record x { state = Pending }))
+-- To go from CANCEL-PENDING to PENDING by a no to the last Cancel is a move.
+cancel_refused : (x : RequesterRecord) (k c : ℕ)
+    → is_among (CancelPending ∷ []) x.state && is_the c (last_cancel x) ≡ true
+    → Moves x k (types.CancelReply c false) (taken (record x { state = Pending }))
 cancel_refused x k c is = search rules
 
--- the first line that fits decides
+-- If each line that may be the first to fit is a move, the answer is one.
 line : (x : RequesterRecord) (k : ℕ) (body : Body) (fits : Bool) (here others : Result Taking Refusal × RequesterRecord)
-    → (fits ≡ true → Moves x k body here) → (fits ≡ false → Moves x k body others) → Moves x k body (if fits then here else others)
+    → (fits ≡ true → Moves x k body here) → (fits ≡ false → Moves x k body others)
+    → Moves x k body (if fits then here else others)
 line x k body fits here others = cond_both fits here others (Moves x k body)
 
+-- The answer to an end without the item is a move.
 end_row : (x : RequesterRecord) (k : ℕ) (body : Body) → Tells body facts.Ended → Moves x k body (take_end x)
 end_row x k body told =
     line x k _ (is_among (NotSupplied ∷ []) x.state) _ _ (λ _. left x k _ _) (λ _.
     line x k _ (is_among (Pending ∷ Conditional ∷ CancelPending ∷ []) x.state) _ _ (ended x k body told) (λ _. left x k _ _))
 
+-- The answer to a Cancel-Reply is a move, if it is one when the last Cancel waits.
 cancel_reply_row : (x : RequesterRecord) (k c : ℕ) (is_yes : Bool)
     → (is_among (CancelPending ∷ []) x.state && is_the c (last_cancel x) ≡ true → Moves x k (types.CancelReply c is_yes) (taken (record x { state = (if is_yes then Cancelled else Pending) })))
     → Moves x k (types.CancelReply c is_yes) (take_cancel_reply x c is_yes)
@@ -109,6 +146,7 @@ cancel_reply_row x k c is_yes decided =
     line x k _ (is_among (Cancelled ∷ []) x.state && (is_yes && is_the c (last_cancel x))) _ _ (λ _. left x k _ _) (λ _.
     line x k _ (was is_cancel x.issued c) _ _ (λ _. left x k _ _) (λ _. left x k _ _)))
 
+-- The answer to a Renew-Answer is a move, if it is one when a Renew waits.
 renew_answer_row : (x : RequesterRecord) (k c : ℕ) (granted : Option Date)
     → (is_among (RenewPending ∷ RenewOverdue ∷ []) x.state ≡ true → Moves x k (types.RenewAnswer c granted) (take_renewal x granted))
     → Moves x k (types.RenewAnswer c granted) (take_renew_answer x c granted)
@@ -116,6 +154,7 @@ renew_answer_row x k c granted decided =
     line x k _ (is_among (RenewPending ∷ RenewOverdue ∷ []) x.state && is_the c (last_renew x)) _ _ (λ is. decided (and_parts _ _ is).0) (λ _.
     line x k _ (was is_renew x.issued c) _ _ (λ _. left x k _ _) (λ _. left x k _ _))
 
+-- The answer to an APDU that is not refused is a move.
 pub message_row : (x : RequesterRecord) (a : Apdu) (body : Body) → Moves x a.number body (take_message x a body)
 message_row x a (types.IllAnswer results.Conditional) =
     line x a.number _ (is_at_most a.number (accepted_number x)) _ _ (λ _. left x a.number _ _) (λ above.
@@ -147,18 +186,20 @@ message_row x a types.CheckedIn =
     line x a.number _ (is_among (Returned ∷ []) x.state) _ _ (λ _. left x a.number _ _) (λ _. left x a.number _ _))
 message_row x a other = left x a.number _ _
 
--- a refused APDU leaves the record, and an admitted one does what its row says
+-- If the answer to an admitted APDU is a move, so is a refusal before it, which leaves the record.
 admitted : (x : RequesterRecord) (k : ℕ) (body : Body) (refused : Option Refusal) (answer : Result Taking Refusal × RequesterRecord)
     → Moves x k body answer → Moves x k body (unless_refused refused x answer)
 admitted x k body None answer row = row
 admitted x k body (Some refusal) answer row = left x k body (Err refusal)
 
+-- The answer to each APDU is a move.
 pub delivery_row : (x : RequesterRecord) (a : Apdu) → Moves x a.number a.body (takes x a)
 delivery_row x a = admitted x a.number a.body (first_refusal x.txn (is_requesters a.body) a) (take_message x a a.body) (message_row x a a.body)
 
 -- ---- actions
 
--- a row that issues an APDU
+-- A row of wishes leads outside IDLE, and leaves no final state and no loan. It shows no new fact, and answers only
+-- held conditions, once.
 pub record Issues (x : RequesterRecord) (row : Line) : Type 0 where
   pub begun : is_among (Idle ∷ []) row.next ≡ false
   pub final : is_among (Cancelled ∷ NotSupplied ∷ Returned ∷ []) x.state ≡ true → row.next ≡ x.state
@@ -168,25 +209,31 @@ pub record Issues (x : RequesterRecord) (row : Line) : Type 0 where
       → (is_among (Conditional ∷ []) x.state ≡ true) × (has declines x.issued ≡ false) × (n ≡ unwrap_or x.held 0)
   pub once : is_some x.held ≡ is_among (Conditional ∷ []) x.state → AnswersOnce x → AnswersOnce (record_after x row)
 
+-- A state that is none of IDLE, CANCELLED and NOT-SUPPLIED is not IDLE.
 no_more_idle : (next : State) → is_among (Idle ∷ Cancelled ∷ NotSupplied ∷ []) next ≡ false → is_among (Idle ∷ []) next ≡ false
 no_more_idle Idle on = search rules
 no_more_idle next on = refl
 
--- no wish leads to IDLE, CANCELLED or NOT-SUPPLIED
+-- A row to no IDLE, CANCELLED or NOT-SUPPLIED shows no new fact, unless it shows a new refusal.
 goes_on : (x : RequesterRecord) (row : Line) → is_among (Idle ∷ Cancelled ∷ NotSupplied ∷ []) row.next ≡ false
-    → ((c : ℕ) → ShowsRefused (record_after x row) c → ShowsRefused x c) → (fact : Fact) → Shows (record_after x row) fact → Shows x fact
+    → ((c : ℕ) → ShowsRefused (record_after x row) c → ShowsRefused x c) → (fact : Fact)
+    → Shows (record_after x row) fact → Shows x fact
 goes_on x row away refused facts.Cancelled shown = search rules
 goes_on x row away refused facts.Ended shown = search rules
 goes_on x row away refused (facts.Granted due) shown = shown
 goes_on x row away refused (facts.Refused cancel) shown = refused cancel shown
 goes_on x row away refused facts.GivenBack shown = shown
 
-no_reply : {P : Type 0} (body : Body) (n : ℕ) (is_yes : Bool) → replied_number body ≡ None → body ≡ types.ConditionalReply n is_yes → P
+-- An APDU that answers no conditions is no Conditional-Reply.
+no_reply : {P : Type 0} (body : Body) (n : ℕ) (is_yes : Bool) → replied_number body ≡ None
+    → body ≡ types.ConditionalReply n is_yes → P
 no_reply body n is_yes silent is = search rules
 
--- a row that answers no conditions
-silent_row : (x : RequesterRecord) (next : State) (body : Body) → replied_number body ≡ None → accepts body ≡ None → declines body ≡ false
-    → is_among (Conditional ∷ []) next ≡ false → is_among (Idle ∷ Cancelled ∷ NotSupplied ∷ []) next ≡ false → is_among (Cancelled ∷ NotSupplied ∷ Returned ∷ []) x.state ≡ false
+-- A row that answers no conditions keeps to `Issues`, if its states allow that and it shows no new refusal.
+silent_row : (x : RequesterRecord) (next : State) (body : Body) → replied_number body ≡ None → accepts body ≡ None
+    → declines body ≡ false
+    → is_among (Conditional ∷ []) next ≡ false → is_among (Idle ∷ Cancelled ∷ NotSupplied ∷ []) next ≡ false
+    → is_among (Cancelled ∷ NotSupplied ∷ Returned ∷ []) x.state ≡ false
     → (is_among later x.state ≡ true → is_among later next ≡ true)
     → ((c : ℕ) → ShowsRefused (record_after x (record { next = next; body = body; held = x.held })) c → ShowsRefused x c)
     → Issues x (record { next = next; body = body; held = x.held })
@@ -200,13 +247,16 @@ silent_row x next body silent accepts_none declines_not held_no_more on settled_
       once = λ held once. silent_once x body next x.held silent accepts_none declines_not held_no_more once;
     }
 
--- a row of a loan
-loan_row : (x : RequesterRecord) (next : State) (body : Body) → replied_number body ≡ None → accepts body ≡ None → declines body ≡ false
-    → is_among (Shipped ∷ Received ∷ RenewPending ∷ Overdue ∷ RenewOverdue ∷ NotReceivedOverdue ∷ Recall ∷ []) x.state ≡ true → is_among later next ≡ true
+-- A row from SHIPPED or later, but RETURNED, to SHIPPED or later keeps to `Issues`, if it answers no conditions.
+loan_row : (x : RequesterRecord) (next : State) (body : Body) → replied_number body ≡ None → accepts body ≡ None
+    → declines body ≡ false
+    → is_among (Shipped ∷ Received ∷ RenewPending ∷ Overdue ∷ RenewOverdue ∷ NotReceivedOverdue ∷ Recall ∷ []) x.state ≡ true
+    → is_among later next ≡ true
     → Issues x (record { next = next; body = body; held = x.held })
 loan_row x next body silent accepts_none declines_not here there =
     silent_row x next body silent accepts_none declines_not (search rules) (search rules) (search rules) (λ _. there) (λ c shown. search rules)
 
+-- If Cancel c shows refused after a wish Cancel in PENDING, it showed so before.
 cancel_refused_before : (x : RequesterRecord) (c : ℕ) → is_among (Pending ∷ []) x.state ≡ true
     → ShowsRefused (record_after x (record { next = CancelPending; body = types.Cancel; held = x.held })) c → ShowsRefused x c
 cancel_refused_before x c is shown =
@@ -217,11 +267,15 @@ cancel_refused_before x c is shown =
       search (rules, is),
     )
 
-answer_goes_on : (is_yes : Bool) → is_among (Idle ∷ Cancelled ∷ NotSupplied ∷ []) (if is_yes then Pending else Conditional) ≡ false
+-- A reply leads to no IDLE, CANCELLED or NOT-SUPPLIED.
+answer_goes_on : (is_yes : Bool)
+    → is_among (Idle ∷ Cancelled ∷ NotSupplied ∷ []) (if is_yes then Pending else Conditional) ≡ false
 answer_goes_on true = refl
 answer_goes_on false = refl
 
-answers_held : (x : RequesterRecord) (is_yes : Bool) → is_among (Conditional ∷ []) x.state ≡ true → has declines x.issued ≡ false → Issues x (answer_held x is_yes)
+-- A reply to the held conditions keeps to `Issues`, in CONDITIONAL and if none were declined.
+answers_held : (x : RequesterRecord) (is_yes : Bool) → is_among (Conditional ∷ []) x.state ≡ true
+    → has declines x.issued ≡ false → Issues x (answer_held x is_yes)
 answers_held x is_yes here undeclined =
     record {
       begun = no_more_idle (answer_held x is_yes).next (answer_goes_on is_yes);
@@ -232,10 +286,13 @@ answers_held x is_yes here undeclined =
       once = λ held once. reply_once x is_yes (unwrap_or x.held 0) (held_number x.held (held ∙ here)) here undeclined once;
     }
 
-undeclined_there : (conditional declined : Bool) → conditional && not (conditional && declined) ≡ true → (conditional ≡ true) × (declined ≡ false)
+-- If a requester in CONDITIONAL has not declined, its list has no Conditional-Reply no.
+undeclined_there : (conditional declined : Bool) → conditional && not (conditional && declined) ≡ true
+    → (conditional ≡ true) × (declined ≡ false)
 undeclined_there true false h = (refl, refl)
 undeclined_there conditional declined h = search rules
 
+-- The line of each wish keeps to `Issues`.
 wish_row : (x : RequesterRecord) (wish : Wish) (row : Line) → line_of x wish ≡ Ok row → Issues x row
 wish_row x (wishes.Request expiry item) row =
     at_line (Issues x) (is_among (Idle ∷ []) x.state) _ _ row (λ is. is_this (Issues x) _ row
@@ -263,21 +320,25 @@ wish_row x wishes.Return row =
     at_line (Issues x) (is_among (Recall ∷ []) x.state && is_received_by x) _ _ row (λ is. is_this (Issues x) _ row
     (loan_row x Returned types.Returned refl refl refl (search (rules, (and_parts (is_among (Recall ∷ []) x.state) (is_received_by x) is).0)) refl)) (no_more (Issues x) _ row))
 
+-- If two records are equal as results, they are equal.
 ok_is : (x y : RequesterRecord) → ◌≡◌ {A = Result RequesterRecord Refusal} (Ok x) (Ok y) → x ≡ y
 ok_is x y h = search rules
 
+-- If P holds after each line that is found, it holds of the record after a wish.
 by_row : (P : RequesterRecord → Type 0) (x new : RequesterRecord) (found : Result Line Refusal) (number : Result ℕ Refusal)
     → ((row : Line) → found ≡ Ok row → P (record_after x row)) → acts_by x found number ≡ Ok new → P new
 by_row P x new (Err refusal) number leads acted = search rules
 by_row P x new (Ok row) (Err refusal) leads acted = search rules
 by_row P x new (Ok row) (Ok n) leads acted = subst P (ok_is (record_after x row) new acted) (leads row refl)
 
--- What holds after every row holds after a wish.
+-- If P holds after each line that keeps to `Issues`, it holds after a wish.
 pub of_acts : (P : RequesterRecord → Type 0) (x new : RequesterRecord) (wish : Wish)
     → ((row : Line) → line_of x wish ≡ Ok row → Issues x row → P (record_after x row)) → acts x wish ≡ Ok new → P new
 of_acts P x new wish leads acted = by_row P x new (line_of x wish) (next_number x.issued) (λ row there. leads row there (wish_row x wish row there)) acted
 
-by_few : (x new : RequesterRecord) (found : Result Line Refusal) (number : Result ℕ Refusal) → next_number x.issued ≡ number → acts_by x found number ≡ Ok new → length new.issued ≤ 255
+-- After a wish a record has at most 255 messages, since a number was left.
+by_few : (x new : RequesterRecord) (found : Result Line Refusal) (number : Result ℕ Refusal)
+    → next_number x.issued ≡ number → acts_by x found number ≡ Ok new → length new.issued ≤ 255
 by_few x new (Err refusal) number next acted = search rules
 by_few x new (Ok row) (Err refusal) next acted = search rules
 by_few x new (Ok row) (Ok n) next acted = subst (λ (r : RequesterRecord). length r.issued ≤ 255) (ok_is (record_after x row) new acted) (few_with_next x.txn x.issued row.body n next)

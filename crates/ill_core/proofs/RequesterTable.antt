@@ -1,4 +1,4 @@
--- The rows of a requester's two tables say what its definitions say.
+-- The rows of a requester's two tables give what its definitions give.
 use Rattle.std.proofs.Common.{rules, ◌≡◌, ℕ, ◌+◌, nat_lt, length, ◌||◌, Bool, true, false, not, List, Option, Some, None, Result, Ok, Err, IsOk, if◌then◌else◌, refl, ap, subst, sym, ◌∙◌}
 use Rattle.ill_values.specs.Day.{Date}
 use Rattle.ill_values.specs.TxnId.{Qualifiers}
@@ -34,23 +34,24 @@ use Rattle.ill_core.proofs.RequesterRows.{message_row}
 use Rattle.ill_core.proofs.Rules.{requester_rules, is_requester}
 use Rattle.ill_core.proofs.RequesterLaws.{acts_kept}
 
--- what a row answers
+-- Returns the answer of a row to an APDU, and the record after it.
 abbrev pub hit : RequesterRecord → Apdu → Body → Row ResponderKind → Result Taking Refusal × RequesterRecord
 hit x a body row = (Ok (taking_of row.3 x.state), after x row (number_in a body) (date_in body))
 
--- what the rows of a kind answer, as tests one after another
+-- Returns the answer of the rows of a kind, as tests one after another.
 abbrev pub lines_of : RequesterRecord → Apdu → Body → Option ResponderKind → Result Taking Refusal × RequesterRecord
 lines_of x a body None = conflict x.state x
 lines_of x a body (Some kind) =
     lines x.state (delivery_facts x (number_in a body) (date_in body)) (hit x a body) (conflict x.state x) (delivery_rows kind)
 
--- the fact that a definition tests once, and two rows ask for
+-- A fact that a definition tests once, and two rows ask for, gives one answer both ways.
 asked_twice : {A : Type 0} (last later : Bool) (taken none others : A)
     → (if last then (if later then taken else (if last then none else others)) else (if last then none else others))
     ≡ (if last then (if later then taken else none) else others)
 asked_twice true later taken none others = refl
 asked_twice false later taken none others = refl
 
+-- The rows of deliveries give what `take_message` gives, for each APDU and each state.
 pub tabled : (body : Body) (state : State) (txn : Qualifiers) (held : Option ℕ) (checked_in : Bool) (due : Option Date) (issued : List Apdu) (a : Apdu)
     → lines_of (requester_of txn state held checked_in due issued) a body (responder_kind body) ≡ take_message (requester_of txn state held checked_in due issued) a body
 tabled (types.IllAnswer results.Conditional) Idle txn held checked_in due issued a = refl
@@ -77,49 +78,58 @@ tabled (types.ConditionalReply c true) Idle txn held checked_in due issued a = r
 tabled body Idle txn held checked_in due issued a = refl
 tabled body state txn held checked_in due issued a = refl
 
+-- The answer of the first row that fits is what the tests of the rows of its kind give.
 found : (x : RequesterRecord) (a : Apdu) (body : Body) (kind : Option ResponderKind)
     → answer_of (hit x a body) (conflict x.state x) (delivery_row_of x a body kind) ≡ lines_of x a body kind
 found x a body None = refl
 found x a body (Some kind) = found_lines x.state (delivery_facts x (number_in a body) (date_in body)) (hit x a body) (conflict x.state x) (delivery_rows kind)
 
--- The first row that fits an APDU says what it does, and where none fits it is a conflict.
-pub takes_row : (x : RequesterRecord) (a : Apdu) → answer_of (hit x a a.body) (conflict x.state x) (delivery_row x a) ≡ take_message x a a.body
+-- The first row that fits an APDU gives its answer. If none fits, it is a conflict.
+pub takes_row : (x : RequesterRecord) (a : Apdu)
+    → answer_of (hit x a a.body) (conflict x.state x) (delivery_row x a) ≡ take_message x a a.body
 takes_row x a = found x a a.body (responder_kind a.body) ∙ tabled a.body x.state x.txn x.held x.checked_in x.due x.issued a
 
-pub takes_this : (x : RequesterRecord) (a : Apdu) (row : Row ResponderKind) → delivery_row x a ≡ Some row → hit x a a.body row ≡ take_message x a a.body
+-- A row that is the first to fit an APDU gives its answer.
+pub takes_this : (x : RequesterRecord) (a : Apdu) (row : Row ResponderKind) → delivery_row x a ≡ Some row
+    → hit x a a.body row ≡ take_message x a a.body
 takes_this x a row is = ap (answer_of (hit x a a.body) (conflict x.state x)) (sym is) ∙ takes_row x a
 
+-- If no row fits an APDU, it is a conflict.
 pub takes_none : (x : RequesterRecord) (a : Apdu) → delivery_row x a ≡ None → conflict x.state x ≡ take_message x a a.body
 takes_none x a is = ap (answer_of (hit x a a.body) (conflict x.state x)) (sym is) ∙ takes_row x a
 
--- A row leads to a requester's record.
+-- The first row that fits an APDU leads from a requester's record to a requester's record.
 pub takes_kept : (x : RequesterRecord) (a : Apdu) (row : Row ResponderKind) → IsRequester x → delivery_row x a ≡ Some row
     → IsRequester (after x row (number_in a a.body) (date_in a.body))
 takes_kept x a row h is = subst (λ answer. IsRequester answer.1) (sym (takes_this x a row is)) (is_requester _ ((message_row x a a.body).kept (requester_rules x h)))
 
--- the record after a row, by its parts
+-- Parts that are those after a row make the record after it.
 pub after_is : (x : RequesterRecord) (row : Row ResponderKind) (k : ℕ) (date : Option Date) (state : State) (held : Option ℕ) (checked_in : Bool) (due : Option Date)
-    → state ≡ next_state row.3 x.state → held ≡ held_after row.4 x.held k → checked_in ≡ (tables.has row.4 MARK || x.checked_in) → due ≡ due_after row.4 x.due date
+    → state ≡ next_state row.3 x.state → held ≡ held_after row.4 x.held k
+    → checked_in ≡ (tables.has row.4 MARK || x.checked_in) → due ≡ due_after row.4 x.due date
     → requester_of x.txn state held checked_in due x.issued ≡ after x row k date
 after_is x row k date state held checked_in due s h m d = cc
 
 -- ---- wishes
 
--- the record after a row that is followed for a wish, which issues message k
+-- Returns the record after a row is followed for a wish, which issues message k.
 abbrev pub wished : RequesterRecord → Wish → ℕ → Row RequesterKind → RequesterRecord
 wished x wish k row =
     requester_of x.txn (next_state row.3 x.state) (held_after row.4 x.held k) (tables.has row.4 MARK || x.checked_in) (due_after row.4 x.due None)
     (with_next x.txn x.issued (wish_body x wish))
 
--- the record after a line, where there is one
+-- Returns the record after a line, or the refusal if there is none.
 abbrev pub by_line : RequesterRecord → Result Line Refusal → Result RequesterRecord Refusal
 by_line x (Err refusal) = Err refusal
 by_line x (Ok line) = Ok (record_after x line)
 
-by_test : (x : RequesterRecord) (test : Bool) (here others : Result Line Refusal) → (if test then by_line x here else by_line x others) ≡ by_line x (if test then here else others)
+-- A choice of two lines leads to the choice of their two records.
+by_test : (x : RequesterRecord) (test : Bool) (here others : Result Line Refusal)
+    → (if test then by_line x here else by_line x others) ≡ by_line x (if test then here else others)
 by_test x true here others = refl
 by_test x false here others = refl
 
+-- The rows of a wish give what its line gives, in each state.
 wish_lines : (wish : Wish) (state : State) (txn : Qualifiers) (held : Option ℕ) (checked_in : Bool) (due : Option Date) (issued : List Apdu) (k : ℕ)
     → (let x : RequesterRecord = requester_of txn state held checked_in due issued in
     lines state (wish_facts x) (λ row. Ok (wished x wish k row)) (Err (refusals.NotNow state)) (wish_rows (wish_kind wish)) ≡ by_line x (line_of x wish))
@@ -134,72 +144,98 @@ wish_lines wishes.Return state txn held checked_in due issued k = refl
 wish_lines wish Idle txn held checked_in due issued k = refl
 wish_lines wish state txn held checked_in due issued k = refl
 
+-- The first row that fits a wish gives the record after its line, or `NotNow` if none fits.
 wish_rows_say : (x : RequesterRecord) (wish : Wish) (k : ℕ)
     → answer_of (λ row. Ok (wished x wish k row)) (Err (refusals.NotNow x.state)) (wish_row x wish) ≡ by_line x (line_of x wish)
 wish_rows_say x wish k =
     found_lines x.state (wish_facts x) (λ row. Ok (wished x wish k row)) (Err (refusals.NotNow x.state)) (wish_rows (wish_kind wish))
     ∙ wish_lines wish x.state x.txn x.held x.checked_in x.due x.issued k
 
-by_this : (x : RequesterRecord) (wish : Wish) (k : ℕ) (row : Row RequesterKind) → wish_row x wish ≡ Some row → Ok (wished x wish k row) ≡ by_line x (line_of x wish)
+-- A row that is the first to fit a wish gives the record after its line.
+by_this : (x : RequesterRecord) (wish : Wish) (k : ℕ) (row : Row RequesterKind) → wish_row x wish ≡ Some row
+    → Ok (wished x wish k row) ≡ by_line x (line_of x wish)
 by_this x wish k row is = ap (answer_of (λ r. Ok (wished x wish k r)) (Err (refusals.NotNow x.state))) (sym is) ∙ wish_rows_say x wish k
 
-by_none : (x : RequesterRecord) (wish : Wish) → wish_row x wish ≡ None → Err (refusals.NotNow x.state) ≡ by_line x (line_of x wish)
+-- If no row fits a wish, it has no line now.
+by_none : (x : RequesterRecord) (wish : Wish) → wish_row x wish ≡ None
+    → Err (refusals.NotNow x.state) ≡ by_line x (line_of x wish)
 by_none x wish is = ap (answer_of (λ r. Ok (wished x wish 0 r)) (Err (refusals.NotNow x.state))) (sym is) ∙ wish_rows_say x wish 0
 
-numbered : (x new : RequesterRecord) (found : Result Line Refusal) (n : ℕ) → Ok new ≡ by_line x found → acts_by x found (Ok n) ≡ Ok new
+-- If a number is left, the line that leads to `new` is done, and gives `new`.
+numbered : (x new : RequesterRecord) (found : Result Line Refusal) (n : ℕ) → Ok new ≡ by_line x found
+    → acts_by x found (Ok n) ≡ Ok new
 numbered x new (Ok line) n is = sym is
 numbered x new (Err refusal) n is = search rules
 
-used : (x new : RequesterRecord) (found : Result Line Refusal) (refusal : Refusal) → Ok new ≡ by_line x found → acts_by x found (Err refusal) ≡ Err refusal
+-- If no number is left, a wish that has a line is refused with the refusal of the number.
+used : (x new : RequesterRecord) (found : Result Line Refusal) (refusal : Refusal) → Ok new ≡ by_line x found
+    → acts_by x found (Err refusal) ≡ Err refusal
 used x new (Ok line) refusal is = refl
 used x new (Err other) refusal is = search rules
 
-not_now : (x : RequesterRecord) (found : Result Line Refusal) (refusal : Refusal) (number : Result ℕ Refusal) → Err refusal ≡ by_line x found → acts_by x found number ≡ Err refusal
+-- A wish that has no line is refused with `NotNow`, whatever the number is.
+not_now : (x : RequesterRecord) (found : Result Line Refusal) (refusal : Refusal) (number : Result ℕ Refusal)
+    → Err refusal ≡ by_line x found → acts_by x found number ≡ Err refusal
 not_now x (Err other) refusal number is = sym is
 not_now x (Ok line) refusal number is = search rules
 
--- A row that fits a wish says where it leads, and where none fits it is refused; behind that, where all numbers are used.
-pub acts_this : (x : RequesterRecord) (wish : Wish) (row : Row RequesterKind) (k n : ℕ) → wish_row x wish ≡ Some row → next_number x.issued ≡ Ok n
+-- If a row fits a wish and a number is left, the wish leads to the record after the row.
+pub acts_this : (x : RequesterRecord) (wish : Wish) (row : Row RequesterKind) (k n : ℕ) → wish_row x wish ≡ Some row
+    → next_number x.issued ≡ Ok n
     → acts x wish ≡ Ok (wished x wish k row)
 acts_this x wish row k n is next = ap (acts_by x (line_of x wish)) next ∙ numbered x (wished x wish k row) (line_of x wish) n (by_this x wish k row is)
 
-pub acts_used : (x : RequesterRecord) (wish : Wish) (row : Row RequesterKind) (refusal : Refusal) → wish_row x wish ≡ Some row → next_number x.issued ≡ Err refusal
+-- If a row fits a wish and no number is left, the wish is refused with that refusal.
+pub acts_used : (x : RequesterRecord) (wish : Wish) (row : Row RequesterKind) (refusal : Refusal)
+    → wish_row x wish ≡ Some row → next_number x.issued ≡ Err refusal
     → acts x wish ≡ Err refusal
 acts_used x wish row refusal is next = ap (acts_by x (line_of x wish)) next ∙ used x (wished x wish 0 row) (line_of x wish) refusal (by_this x wish 0 row is)
 
+-- If no row fits a wish, it is refused with `NotNow`.
 pub acts_none : (x : RequesterRecord) (wish : Wish) → wish_row x wish ≡ None → acts x wish ≡ Err (refusals.NotNow x.state)
 acts_none x wish is = not_now x (line_of x wish) (refusals.NotNow x.state) (next_number x.issued) (by_none x wish is)
 
+-- If a record is the one after a line, there is a line.
 there : (x new : RequesterRecord) (found : Result Line Refusal) → Ok new ≡ by_line x found → IsOk found
 there x new (Ok line) is = search rules
 there x new (Err refusal) is = search rules
 
-pub line_there : (x : RequesterRecord) (wish : Wish) (row : Row RequesterKind) → wish_row x wish ≡ Some row → IsOk (line_of x wish)
+-- If a row fits a wish, the wish has a line.
+pub line_there : (x : RequesterRecord) (wish : Wish) (row : Row RequesterKind) → wish_row x wish ≡ Some row
+    → IsOk (line_of x wish)
 line_there x wish row is = there x (wished x wish 0 row) (line_of x wish) (by_this x wish 0 row is)
 
--- A row leads to a requester's record.
-pub wished_kept : (x : RequesterRecord) (wish : Wish) (row : Row RequesterKind) (k n : ℕ) → IsRequester x → wish_row x wish ≡ Some row → next_number x.issued ≡ Ok n
+-- The first row that fits a wish leads to a requester's record, if a number is left.
+pub wished_kept : (x : RequesterRecord) (wish : Wish) (row : Row RequesterKind) (k n : ℕ) → IsRequester x
+    → wish_row x wish ≡ Some row → next_number x.issued ≡ Ok n
     → IsRequester (wished x wish k row)
 wished_kept x wish row k n h is next = acts_kept x (wished x wish k row) wish (acts_this x wish row k n is next) h
 
--- the record after a row, by its parts
+-- Parts that are those after a row make the record after it.
 pub wished_is : (x : RequesterRecord) (wish : Wish) (row : Row RequesterKind) (k : ℕ) (txn : Qualifiers) (state : State) (held : Option ℕ) (checked_in : Bool) (due : Option Date) (issued : List Apdu)
-    → (txn ≡ x.txn) → state ≡ next_state row.3 x.state → held ≡ held_after row.4 x.held k → checked_in ≡ (tables.has row.4 MARK || x.checked_in) → due ≡ due_after row.4 x.due None
-    → issued ≡ with_next x.txn x.issued (wish_body x wish) → requester_of txn state held checked_in due issued ≡ wished x wish k row
+    → (txn ≡ x.txn) → state ≡ next_state row.3 x.state → held ≡ held_after row.4 x.held k
+    → checked_in ≡ (tables.has row.4 MARK || x.checked_in) → due ≡ due_after row.4 x.due None
+    → issued ≡ with_next x.txn x.issued (wish_body x wish)
+    → requester_of txn state held checked_in due issued ≡ wished x wish k row
 wished_is x wish row k txn state held checked_in due issued t s h m d i = cc
 
--- the one refusal of a number
-refused_used : (x : RequesterRecord) (wish : Wish) (few : Bool) (refusal : Refusal) → acts x wish ≡ Err refusal → (if few then Ok (length x.issued + 1) else Err refusals.NumbersUsed) ≡ Err refusal
+-- If a wish is refused for want of a number, the requester answers with that refusal, and its record stays.
+refused_used : (x : RequesterRecord) (wish : Wish) (few : Bool) (refusal : Refusal) → acts x wish ≡ Err refusal
+    → (if few then Ok (length x.issued + 1) else Err refusals.NumbersUsed) ≡ Err refusal
     → Acts x wish (Err refusal) x
 refused_used x wish true refusal acted is = search rules
 refused_used x wish false refusals.NumbersUsed acted is = (acted, refl)
 refused_used x wish false refusal acted is = search rules
 
-pub act_used : (x : RequesterRecord) (wish : Wish) (row : Row RequesterKind) (refusal : Refusal) → wish_row x wish ≡ Some row → next_number x.issued ≡ Err refusal
+-- If a row fits a wish and no number is left, the requester answers with that refusal.
+pub act_used : (x : RequesterRecord) (wish : Wish) (row : Row RequesterKind) (refusal : Refusal)
+    → wish_row x wish ≡ Some row → next_number x.issued ≡ Err refusal
     → Acts x wish (Err refusal) x
 act_used x wish row refusal is next = refused_used x wish (nat_lt (length x.issued) 255) refusal (acts_used x wish row refusal is next) next
 
-pub act_memory : (x : RequesterRecord) (wish : Wish) (row : Row RequesterKind) (n : ℕ) (refusal : Refusal) → wish_row x wish ≡ Some row → next_number x.issued ≡ Ok n
+-- If a row fits a wish and a number is left, the requester may answer `OutOfMemory`, and its record stays.
+pub act_memory : (x : RequesterRecord) (wish : Wish) (row : Row RequesterKind) (n : ℕ) (refusal : Refusal)
+    → wish_row x wish ≡ Some row → next_number x.issued ≡ Ok n
     → refusal ≡ refusals.OutOfMemory → Acts x wish (Err refusal) x
 act_memory x wish row n refusal is next memory =
     subst (λ r. Acts x wish (Err r) x) (sym memory) (subst (λ found. IsOk found) (sym (acts_this x wish row n n is next)) (search rules), refl)

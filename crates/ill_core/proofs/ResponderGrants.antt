@@ -33,7 +33,7 @@ use Rattle.ill_core.proofs.ResponderLaws.{takes_issue}
 
 -- ---- what an APDU grants
 
--- If two grants are the same, so are their parts.
+-- If two grants are equal, so are their numbers and their dates.
 grant_parts : (m n : ℕ) (d e : Date) → Some (grant m d) ≡ Some (grant n e) → (m ≡ n) × (d ≡ e)
 grant_parts m n d e same = search rules
 
@@ -45,7 +45,8 @@ grant_date (types.RenewAnswer c None) m d is = search rules
 grant_date body m d is = search rules
 
 -- A grant is that of a Shipped, or has the number that its APDU answers.
-grant_number : (body : Body) (m : ℕ) (d : Date) → grant_of body ≡ Some (grant m d) → (m ≡ 0) ⊎ (answered_number MayRenew body ≡ Some m)
+grant_number : (body : Body) (m : ℕ) (d : Date) → grant_of body ≡ Some (grant m d)
+    → (m ≡ 0) ⊎ (answered_number MayRenew body ≡ Some m)
 grant_number (types.Shipped due) m d is = inl (search rules)
 grant_number (types.RenewAnswer c (Some due)) m d is = inr (search rules)
 grant_number (types.RenewAnswer c None) m d is = search rules
@@ -53,7 +54,7 @@ grant_number body m d is = search rules
 
 -- ---- one more APDU
 
--- the APDU grants no date, or answers at least what each older grant answers, with a later date
+-- The APDU grants no date, or answers at least the number of each older grant, with a later date.
 abbrev GrantsLater : List Apdu → Body → Type 0
 GrantsLater apdus body =
     (i m n : ℕ) (b : Apdu) (d e : Date) → message apdus i ≡ Some b → grant_of b.body ≡ Some (grant m d) → grant_of body ≡ Some (grant n e) → (m ≤ n) × (is_before d e ≡ true)
@@ -73,40 +74,44 @@ grants_more apdus a h newest i j m n b c d e at_i at_j one other below = go (mes
         let same = grant_parts m n d e (sym (ap (λ (x : Apdu). grant_of x.body) new.1 ∙ one) ∙ (ap (λ (x : Apdu). grant_of x.body) also.1 ∙ other)) in
         absurd (omega (arith, same.0, below))
 
--- An APDU that grants no date has none that is too early.
+-- An APDU that grants no date keeps to `GrantsLater`.
 none_later : (apdus : List Apdu) (body : Body) → grant_of body ≡ None → GrantsLater apdus body
 none_later apdus body none i m n b d e at old new = search rules
 
 -- ---- a Shipped
 
--- If no date was granted, none is the last.
+-- If no date was granted, there is no last one.
 pub last_none : (apdus : List Apdu) (e : Date) → filter_map granted_day apdus ≡ [] → last_of granted_day apdus ≡ Some e → ⊥
 last_none apdus e none last = let no : None ≡ Some e = sym (ap (last_or None) none) ∙ last in search rules
 
--- If no date was granted before, there is none that a new one follows.
-first_later : (apdus : List Apdu) (body : Body) → are_rising (filter_map granted_day apdus) ≡ true → filter_map granted_day apdus ≡ [] → GrantsLater apdus body
+-- If no date was granted before, each APDU keeps to `GrantsLater`.
+first_later : (apdus : List Apdu) (body : Body) → are_rising (filter_map granted_day apdus) ≡ true
+    → filter_map granted_day apdus ≡ [] → GrantsLater apdus body
 first_later apdus body rises none i m n b d e at old new =
     let last = granted_not_later apdus i b d rises at (grant_date b.body m d old) in
     absurd (last_none apdus last.0 none last.1)
 
 -- In IN-PROCESS no Shipped is counted.
-pub not_shipped : (state : State) (count : ℕ) → is_among (InProcess ∷ []) state ≡ true → count ≡ (if is_among later state then 1 else 0) → count ≡ 0
+pub not_shipped : (state : State) (count : ℕ) → is_among (InProcess ∷ []) state ≡ true
+    → count ≡ (if is_among later state then 1 else 0) → count ≡ 0
 not_shipped InProcess count is counted = counted
 not_shipped state count is counted = search rules
 
 -- ---- a Renew-Answer yes
 
 -- If all that is found passes a test, the first does.
-passes_first : (p : ℕ → Bool) (found : Option ℕ) (m : ℕ) (ns : List ℕ) → found ≡ Some m → list_all p (cons_option found ns) ≡ true → p m ≡ true
+passes_first : (p : ℕ → Bool) (found : Option ℕ) (m : ℕ) (ns : List ℕ) → found ≡ Some m
+    → list_all p (cons_option found ns) ≡ true → p m ≡ true
 passes_first p found m ns is all = (and_parts _ _ (ap (λ o. list_all p (cons_option o ns)) (sym is) ∙ all)).0
 
--- If all that is found passes a test, those behind the first do.
+-- If all that is found passes a test, all after the first does.
 passes_rest : (p : ℕ → Bool) (found : Option ℕ) (ns : List ℕ) → list_all p (cons_option found ns) ≡ true → list_all p ns ≡ true
 passes_rest p None ns all = all
 passes_rest p (Some m) ns all = (and_parts _ _ all).1
 
--- If all that is found passes a test, what is found in one APDU does.
-found_passes : (f : Apdu → Option ℕ) (p : ℕ → Bool) (apdus : List Apdu) (i m : ℕ) (b : Apdu) → list_all p (filter_map f apdus) ≡ true → slice_get apdus i ≡ Some b → f b ≡ Some m → p m ≡ true
+-- If all that f finds in a list passes a test, the number that it finds in one APDU does.
+found_passes : (f : Apdu → Option ℕ) (p : ℕ → Bool) (apdus : List Apdu) (i m : ℕ) (b : Apdu)
+    → list_all p (filter_map f apdus) ≡ true → slice_get apdus i ≡ Some b → f b ≡ Some m → p m ≡ true
 found_passes f p [] i m b all at is = search rules
 found_passes f p (c ∷ apdus) zero m b all at is =
     let same : c ≡ b = search rules in
@@ -114,7 +119,8 @@ found_passes f p (c ∷ apdus) zero m b all at is =
 found_passes f p (c ∷ apdus) (suc i) m b all at is = found_passes f p apdus i m b (passes_rest p (f c) (filter_map f apdus) all) at is
 
 -- The answers to the Renews are at most the last one.
-most_answered : (apdus : List Apdu) (last : Option ℕ) (i m : ℕ) (b : Apdu) → list_all (λ n. is_at_most n last) (answers_to MayRenew apdus) ≡ true → message apdus i ≡ Some b
+most_answered : (apdus : List Apdu) (last : Option ℕ) (i m : ℕ) (b : Apdu)
+    → list_all (λ n. is_at_most n last) (answers_to MayRenew apdus) ≡ true → message apdus i ≡ Some b
     → answered_number MayRenew b.body ≡ Some m → is_at_most m last ≡ true
 most_answered apdus last zero m b most at is = search rules
 most_answered apdus last (suc i) m b most at is = found_passes (λ a. answered_number MayRenew a.body) (λ n. is_at_most n last) apdus i m b most at is
@@ -125,17 +131,20 @@ at_most_last m None most = search rules
 at_most_last m (Some k) most = leb-true m k most
 
 -- A grant answers at most the last Renew.
-grant_most : (apdus : List Apdu) (last : Option ℕ) (i m : ℕ) (b : Apdu) → list_all (λ n. is_at_most n last) (answers_to MayRenew apdus) ≡ true → message apdus i ≡ Some b
+grant_most : (apdus : List Apdu) (last : Option ℕ) (i m : ℕ) (b : Apdu)
+    → list_all (λ n. is_at_most n last) (answers_to MayRenew apdus) ≡ true → message apdus i ≡ Some b
     → (m ≡ 0) ⊎ (answered_number MayRenew b.body ≡ Some m) → m ≤ unwrap_or last 0
 grant_most apdus last i m b most at (inl none) = omega (arith, none)
 grant_most apdus last i m b most at (inr is) = at_most_last m last (most_answered apdus last i m b most at is)
 
 -- A day after the due date is after each day that the due date is not before.
-pub after_granted : (due : Date) (last : Option Date) (e d : Date) → last ≡ Some e → is_before e d ≡ false → is_after_due due last ≡ true → is_before d due ≡ true
+pub after_granted : (due : Date) (last : Option Date) (e d : Date) → last ≡ Some e → is_before e d ≡ false
+    → is_after_due due last ≡ true → is_before d due ≡ true
 after_granted due last e d is not_before after = before_later e d due not_before (ap (is_after_due due) (sym is) ∙ after)
 
 -- A renewal to a date after the due date is later than each older grant.
-renewal_later : (y : ResponderRecord) (due : Date) → ResponderRules y → AnswersOnce MayRenew y → is_after_due due (due_of y) ≡ true
+renewal_later : (y : ResponderRecord) (due : Date) → ResponderRules y → AnswersOnce MayRenew y
+    → is_after_due due (due_of y) ≡ true
     → GrantsLater y.issued (types.RenewAnswer (unwrap_or y.last_renew 0) (Some due))
 renewal_later y due h once after i m n b d e at old new =
     let same = grant_parts (unwrap_or y.last_renew 0) n due e new in
@@ -146,7 +155,8 @@ renewal_later y due h once after i m n b d e at old new =
 -- ---- deeds and messages
 
 -- A line grants no date, or one that is later than each older grant.
-line_later : (y : ResponderRecord) (line : Line) → IsLine y line → ResponderRules y → AnswersOnce MayRenew y → GrantsLater y.issued line.body
+line_later : (y : ResponderRecord) (line : Line) → IsLine y line → ResponderRules y → AnswersOnce MayRenew y
+    → GrantsLater y.issued line.body
 line_later y _ (answers answer is) h once = none_later y.issued (types.IllAnswer answer) refl
 line_later y _ (allows_cancel is) h once = none_later y.issued (types.CancelReply (unwrap_or y.last_cancel 0) true) refl
 line_later y _ (refuses_cancel is) h once = none_later y.issued (types.CancelReply (unwrap_or y.last_cancel 0) false) refl
@@ -162,7 +172,8 @@ line_later y _ (checks_in is) h once = none_later y.issued types.CheckedIn refl
 line_later y _ (expires is) h once = none_later y.issued types.Expired refl
 
 -- A deed keeps the order of the grants.
-pub acts_rise : (y new : ResponderRecord) (deed : Deed) (today : Date) → acts y deed today ≡ Ok new → IsResponder y → AnswersOnce MayRenew y → GrantsRise y.issued → GrantsRise new.issued
+pub acts_rise : (y new : ResponderRecord) (deed : Deed) (today : Date) → acts y deed today ≡ Ok new → IsResponder y
+    → AnswersOnce MayRenew y → GrantsRise y.issued → GrantsRise new.issued
 acts_rise y new deed today done h once rise =
     of_acts (λ r. GrantsRise r.issued) y new deed today
     (λ line is how. grants_more y.issued (next_apdu y.txn y.issued line.body) rise (line_later y line is (responder_rules y h) once)) done

@@ -30,11 +30,11 @@ use Rattle.ill_core.proofs.ResponderLines.{IsLine, answers, allows_cancel, refus
 use Rattle.ill_core.proofs.IssuedLemmas.{numbered_next, same_txn, has_more, all_more, none_more, found_none, found_more}
 use Rattle.ill_core.proofs.ResponderLists.{count_more, ends_more, named_more, rise_more, ships_more, ships_renewed, no_grants}
 
--- the number of Shipped that a state wants
+-- Returns the number of Shipped that a state wants: one in SHIPPED or later, else none.
 abbrev pub shipped_in : State → ℕ
 shipped_in state = if is_among later state then 1 else 0
 
--- a state fits a record that issues one more APDU
+-- The state fits the record of y after it issues one more APDU of this body.
 pub record FitsNext (y : ResponderRecord) (body : Body) (state : State) : Type 0 where
   pub parts : PartsFit state (is_some y.request) (is_some y.accepted) (is_some y.last_cancel) (is_some y.last_renew) y.received false
   pub role : not (is_requesters body) ≡ true
@@ -42,17 +42,20 @@ pub record FitsNext (y : ResponderRecord) (body : Body) (state : State) : Type 0
   pub checked_in : (is_among (CheckedIn ∷ []) y.state || is_checked_in body) ≡ is_among (CheckedIn ∷ []) state
   pub conditions : implies (is_among (Conditional ∷ []) state) (names_conditions body) ≡ true
 
--- the dates that were granted, where one more APDU is issued: none more, a first one, or one after the last
+-- The APDU grants no date, or a first one, or one after the due date.
 pub data Grants (y : ResponderRecord) (body : Body) : Type 0 where
   no_grant : grant_in body ≡ None → is_renewal body ≡ false → Grants y body
   first_grant : (d : Date) → body ≡ types.Shipped d → is_among later y.state ≡ false → Grants y body
   later_grant : (d : Date) → grant_in body ≡ Some d → is_among later y.state ≡ true → is_after_due d (due_of y) ≡ true → Grants y body
 
+-- If the second test is true, one of the two is.
 or_right : (a b : Bool) → b ≡ true → a || b ≡ true
 or_right true b h = refl
 or_right false b h = h
 
-rising_next : (y : ResponderRecord) (a : Apdu) → ResponderRules y → Grants y a.body → are_rising (filter_map granted_day (y.issued ++ a ∷ [])) ≡ true
+-- The granted dates still rise after such an APDU.
+rising_next : (y : ResponderRecord) (a : Apdu) → ResponderRules y → Grants y a.body
+    → are_rising (filter_map granted_day (y.issued ++ a ∷ [])) ≡ true
 rising_next y a h (no_grant silent _) = ap are_rising (found_none granted_day y.issued a silent) ∙ h.rising
 rising_next y a h (first_grant d is away) =
     let nothing = no_grants y.issued h.ships_first (h.issued.shipped ∙ ap (λ b. if b then 1 else 0) away) in
@@ -61,14 +64,16 @@ rising_next y a h (first_grant d is away) =
 rising_next y a h (later_grant d is here after) =
     ap are_rising (found_more granted_day y.issued a d is) ∙ rise_more None (filter_map granted_day y.issued) d h.rising (or_right _ _ after)
 
+-- A list still ships first after such an APDU.
 ships_next : (y : ResponderRecord) (a : Apdu) → ResponderRules y → Grants y a.body → ships_first (y.issued ++ a ∷ []) ≡ true
 ships_next y a h (no_grant _ no_renewal) = ships_more y.issued a h.ships_first no_renewal
 ships_next y a h (first_grant d is away) = ships_more y.issued a h.ships_first (ap is_renewal is)
 ships_next y a h (later_grant d is here after) =
     ships_renewed y.issued a h.ships_first (omega (arith, h.issued.shipped ∙ ap (λ b. if b then 1 else 0) here))
 
--- the record with one more APDU, in a state that fits, is a responder's
-next_kept : (y : ResponderRecord) (body : Body) (state : State) → ResponderRules y → FitsNext y body state → Grants y body → ResponderRules (issues_to y body state)
+-- If the state fits and the date rises, the record with one more APDU keeps the rules.
+next_kept : (y : ResponderRecord) (body : Body) (state : State) → ResponderRules y → FitsNext y body state
+    → Grants y body → ResponderRules (issues_to y body state)
 next_kept y body state h fits grants =
     let a : Apdu = next_apdu y.txn y.issued body in
     record {
@@ -86,9 +91,10 @@ next_kept y body state h fits grants =
       ships_first = ships_next y a h grants;
     }
 
--- a line of the table of actions fits
+-- The state and the APDU of each line fit.
 line_fits : (txn : Qualifiers) (state : State) (accepted last_cancel last_renew : Option ℕ) (received : Bool) (request : Option Apdu) (issued : List Apdu) (line : Line)
-    → ResponderRules (responder_of txn state accepted last_cancel last_renew received request issued) → IsLine (responder_of txn state accepted last_cancel last_renew received request issued) line
+    → ResponderRules (responder_of txn state accepted last_cancel last_renew received request issued)
+    → IsLine (responder_of txn state accepted last_cancel last_renew received request issued) line
     → FitsNext (responder_of txn state accepted last_cancel last_renew received request issued) line.body line.next
 line_fits txn InProcess accepted last_cancel last_renew received request issued _ h (answers results.Conditional is) = search rules
 line_fits txn InProcess accepted last_cancel last_renew received request issued _ h (answers answer is) = search rules
@@ -119,7 +125,7 @@ line_fits txn InProcess accepted last_cancel last_renew received request issued 
 line_fits txn Conditional accepted last_cancel last_renew received request issued _ h (expires is) = search rules
 line_fits txn state accepted last_cancel last_renew received request issued _ h (expires is) = search rules
 
--- the dates of a line
+-- Each line grants no date, or a first one, or one after the due date.
 line_grants : (y : ResponderRecord) (line : Line) → IsLine y line → Grants y line.body
 line_grants y _ (answers answer is) = no_grant refl refl
 line_grants y _ (allows_cancel is) = no_grant refl refl
@@ -134,54 +140,64 @@ line_grants y _ (recalls is) = no_grant refl refl
 line_grants y _ (checks_in is) = no_grant refl refl
 line_grants y _ (expires is) = no_grant refl refl
 
--- A line leads to a responder's record.
+-- A line leads from a record that keeps the rules to one that keeps them.
 pub line_kept : (y : ResponderRecord) (line : Line) → ResponderRules y → IsLine y line → ResponderRules (record_after y line)
 line_kept y line h is =
     next_kept y line.body line.next h (line_fits y.txn y.state y.accepted y.last_cancel y.last_renew y.received y.request y.issued line h is) (line_grants y line is)
 
+-- In IN-PROCESS and CONDITIONAL, an ILL-Answer unfilled with NOT-SUPPLIED fits.
 no_fits : (txn : Qualifiers) (state : State) (accepted last_cancel last_renew : Option ℕ) (received : Bool) (request : Option Apdu) (issued : List Apdu)
-    → ResponderRules (responder_of txn state accepted last_cancel last_renew received request issued) → is_among (InProcess ∷ Conditional ∷ []) state ≡ true
+    → ResponderRules (responder_of txn state accepted last_cancel last_renew received request issued)
+    → is_among (InProcess ∷ Conditional ∷ []) state ≡ true
     → FitsNext (responder_of txn state accepted last_cancel last_renew received request issued) (types.IllAnswer results.Unfilled) NotSupplied
 no_fits txn InProcess accepted last_cancel last_renew received request issued h waits = search rules
 no_fits txn state accepted last_cancel last_renew received request issued h waits = search rules
 
--- a no is answered
+-- To answer a no with an ILL-Answer unfilled keeps the rules.
 no_kept : (y : ResponderRecord) → ResponderRules y → is_among (InProcess ∷ Conditional ∷ []) y.state ≡ true
     → ResponderRules (issues_to y (types.IllAnswer results.Unfilled) NotSupplied)
 no_kept y h waits =
     next_kept y (types.IllAnswer results.Unfilled) NotSupplied h
     (no_fits y.txn y.state y.accepted y.last_cancel y.last_renew y.received y.request y.issued h waits) (no_grant refl refl)
 
--- the outstanding conditions are the last message
+-- If c is outstanding, the state is CONDITIONAL, and the list has conditions with number c.
 outstanding_named : (txn : Qualifiers) (state : State) (accepted last_cancel last_renew : Option ℕ) (received : Bool) (request : Option Apdu) (issued : List Apdu) (c : ℕ)
-    → ResponderRules (responder_of txn state accepted last_cancel last_renew received request issued) → is_the c (outstanding_number (responder_of txn state accepted last_cancel last_renew received request issued)) ≡ true
+    → ResponderRules (responder_of txn state accepted last_cancel last_renew received request issued)
+    → is_the c (outstanding_number (responder_of txn state accepted last_cancel last_renew received request issued)) ≡ true
     → (is_among (Conditional ∷ []) state ≡ true) × (is_named (Some c) issued ≡ true)
 outstanding_named txn Conditional accepted last_cancel last_renew received request [] c h is = search rules
 outstanding_named txn Conditional accepted last_cancel last_renew received request (a ∷ issued) c h is =
     (refl, subst (λ n. was names_conditions (a ∷ issued) n ≡ true) (sym (eqb-true c (length (a ∷ issued)) is)) h.issued.conditions)
 outstanding_named txn state accepted last_cancel last_renew received request issued c h is = search rules
 
--- IN-PROCESS wants no more than CONDITIONAL and IDLE have
-parts_in_process : (state : State) (r a c n m z : Bool) → PartsFit state r a c n m z → is_among (Conditional ∷ []) state ≡ true → PartsFit InProcess r true c n m z
+-- After CONDITIONAL, with a number accepted, IN-PROCESS has the parts that it wants.
+parts_in_process : (state : State) (r a c n m z : Bool) → PartsFit state r a c n m z
+    → is_among (Conditional ∷ []) state ≡ true → PartsFit InProcess r true c n m z
 parts_in_process Conditional r a c n m z fits is = search rules
 parts_in_process state r a c n m z fits is = search rules
 
-parts_requested : (state : State) (r a c n m z : Bool) → PartsFit state r a c n m z → is_among (Idle ∷ []) state ≡ true → PartsFit InProcess true a c n m z
+-- After IDLE, with a request, IN-PROCESS has the parts that it wants.
+parts_requested : (state : State) (r a c n m z : Bool) → PartsFit state r a c n m z
+    → is_among (Idle ∷ []) state ≡ true → PartsFit InProcess true a c n m z
 parts_requested Idle r a c n m z fits is = search rules
 parts_requested state r a c n m z fits is = search rules
 
-issued_in_process : (state : State) (apdus : List Apdu) → IssuedFits state apdus → is_among (Idle ∷ Conditional ∷ []) state ≡ true → IssuedFits InProcess apdus
+-- A list that fits IDLE or CONDITIONAL fits IN-PROCESS.
+issued_in_process : (state : State) (apdus : List Apdu) → IssuedFits state apdus
+    → is_among (Idle ∷ Conditional ∷ []) state ≡ true → IssuedFits InProcess apdus
 issued_in_process Idle apdus fits is = search rules
 issued_in_process Conditional apdus fits is = search rules
 issued_in_process state apdus fits is = search rules
 
+-- A state that is CONDITIONAL is one of IDLE and CONDITIONAL.
 one_of_two : (state : State) → is_among (Conditional ∷ []) state ≡ true → is_among (Idle ∷ Conditional ∷ []) state ≡ true
 one_of_two state is = search rules
 
+-- A state that is IDLE is one of IDLE and CONDITIONAL.
 first_of_two : (state : State) → is_among (Idle ∷ []) state ≡ true → is_among (Idle ∷ Conditional ∷ []) state ≡ true
 first_of_two state is = search rules
 
--- conditions are accepted
+-- To accept the outstanding conditions keeps the rules.
 yes_kept : (y : ResponderRecord) (c : ℕ) → ResponderRules y → is_the c (outstanding_number y) ≡ true
     → ResponderRules (record y { state = InProcess; accepted = Some c })
 yes_kept y c h is =
@@ -197,8 +213,9 @@ yes_kept y c h is =
       ships_first = h.ships_first;
     }
 
--- a request is kept
-request_kept : (y : ResponderRecord) (a : Apdu) → ResponderRules y → is_among (Idle ∷ []) y.state ≡ true → is_same_txn a.txn y.txn ≡ true → is_ill_request a.body ≡ true
+-- To keep an ILL-Request of the transaction in IDLE keeps the rules.
+request_kept : (y : ResponderRecord) (a : Apdu) → ResponderRules y → is_among (Idle ∷ []) y.state ≡ true
+    → is_same_txn a.txn y.txn ≡ true → is_ill_request a.body ≡ true
     → ResponderRules (record y { state = InProcess; request = Some a })
 request_kept y a h idle same is =
     record {
@@ -212,12 +229,14 @@ request_kept y a h idle same is =
       ships_first = h.ships_first;
     }
 
+-- An APDU that is admitted has no first refusal.
 pub admits_none : (o : Option Refusal) → Admits o (Ok tt) → o ≡ None
 admits_none None h = refl
 admits_none (Some refusal) h = search rules
 
--- an APDU that is admitted does what its line says
-pub takes_admitted : (y new : ResponderRecord) (a : Apdu) (answer : Result Taking Refusal) → first_refusal y.txn (not (is_requesters a.body)) a ≡ None
+-- An APDU that is not refused first is answered as its line says.
+pub takes_admitted : (y new : ResponderRecord) (a : Apdu) (answer : Result Taking Refusal)
+    → first_refusal y.txn (not (is_requesters a.body)) a ≡ None
     → MayWantMemory (take_message y a a.body) (takes_memory y a.body) y answer new → Takes y a answer new
 takes_admitted y new a answer admitted comes =
     let same : takes y a ≡ take_message y a a.body = ap (λ o. unless_refused o y (take_message y a a.body)) admitted in
@@ -225,21 +244,29 @@ takes_admitted y new a answer admitted comes =
 
 -- ---- a delivery keeps the rules
 
+-- To take a Cancel in IN-PROCESS or CONDITIONAL keeps the rules.
 cancel_asked_kept : (txn : Qualifiers) (state : State) (accepted last_cancel last_renew : Option ℕ) (received : Bool) (request : Option Apdu) (issued : List Apdu) (number : ℕ)
-    → ResponderRules (responder_of txn state accepted last_cancel last_renew received request issued) → is_among (InProcess ∷ Conditional ∷ []) state ≡ true
+    → ResponderRules (responder_of txn state accepted last_cancel last_renew received request issued)
+    → is_among (InProcess ∷ Conditional ∷ []) state ≡ true
     → ResponderRules (responder_of txn CancelPending accepted (Some number) last_renew received request issued)
 cancel_asked_kept txn InProcess accepted last_cancel last_renew received request issued number h is = search rules
 cancel_asked_kept txn state accepted last_cancel last_renew received request issued number h is = search rules
 
-arrived_kept : (y : ResponderRecord) → ResponderRules y → is_among later y.state && not y.received ≡ true → ResponderRules (record y { received = true })
+-- To set the received mark in SHIPPED or later keeps the rules.
+arrived_kept : (y : ResponderRecord) → ResponderRules y → is_among later y.state && not y.received ≡ true
+    → ResponderRules (record y { received = true })
 arrived_kept y h is = search rules
 
+-- To take a Renew in SHIPPED or OVERDUE keeps the rules.
 renew_asked_kept : (txn : Qualifiers) (state next : State) (accepted last_cancel last_renew : Option ℕ) (received : Bool) (request : Option Apdu) (issued : List Apdu) (number : ℕ)
-    → ResponderRules (responder_of txn state accepted last_cancel last_renew received request issued) → is_among (Shipped ∷ Overdue ∷ []) state ≡ true
-    → is_among (RenewPending ∷ RenewOverdue ∷ []) next ≡ true → ResponderRules (responder_of txn next accepted last_cancel (Some number) received request issued)
+    → ResponderRules (responder_of txn state accepted last_cancel last_renew received request issued)
+    → is_among (Shipped ∷ Overdue ∷ []) state ≡ true
+    → is_among (RenewPending ∷ RenewOverdue ∷ []) next ≡ true
+    → ResponderRules (responder_of txn next accepted last_cancel (Some number) received request issued)
 renew_asked_kept txn Shipped RenewPending accepted last_cancel last_renew received request issued number h is there = search rules
 renew_asked_kept txn state next accepted last_cancel last_renew received request issued number h is there = search rules
 
+-- To take a Returned while the item is out keeps the rules.
 sent_back_kept : (txn : Qualifiers) (state : State) (accepted last_cancel last_renew : Option ℕ) (received : Bool) (request : Option Apdu) (issued : List Apdu)
     → ResponderRules (responder_of txn state accepted last_cancel last_renew received request issued)
     → is_among (Shipped ∷ RenewPending ∷ Overdue ∷ RenewOverdue ∷ Recall ∷ []) state ≡ true
@@ -247,16 +274,21 @@ sent_back_kept : (txn : Qualifiers) (state : State) (accepted last_cancel last_r
 sent_back_kept txn Shipped accepted last_cancel last_renew received request issued h is = search rules
 sent_back_kept txn state accepted last_cancel last_renew received request issued h is = search rules
 
--- the first line that fits decides
-line : (fits : Bool) (here others : Result Taking Refusal × ResponderRecord) → (fits ≡ true → ResponderRules here.1) → (fits ≡ false → ResponderRules others.1)
+-- If each line that may be the first to fit keeps the rules, the answer does.
+line : (fits : Bool) (here others : Result Taking Refusal × ResponderRecord) → (fits ≡ true → ResponderRules here.1)
+    → (fits ≡ false → ResponderRules others.1)
     → ResponderRules (if fits then here else others).1
 line fits here others = cond_both fits here others (λ r. ResponderRules r.1)
 
-answer_kept : (y : ResponderRecord) (next : Result ℕ Refusal) → ResponderRules y → is_among (InProcess ∷ Conditional ∷ []) y.state ≡ true → ResponderRules (answers_no y next).1
+-- To answer a no, or to refuse it for want of a number, keeps the rules.
+answer_kept : (y : ResponderRecord) (next : Result ℕ Refusal) → ResponderRules y
+    → is_among (InProcess ∷ Conditional ∷ []) y.state ≡ true → ResponderRules (answers_no y next).1
 answer_kept y (Ok number) h waits = no_kept y h waits
 answer_kept y (Err refusal) h waits = h
 
-pub message_kept : (y : ResponderRecord) (a : Apdu) (body : Body) → ResponderRules y → is_same_txn a.txn y.txn ≡ true → is_ill_request a.body ≡ is_ill_request body → ResponderRules (take_message y a body).1
+-- A message of the transaction that is not refused keeps the rules.
+pub message_kept : (y : ResponderRecord) (a : Apdu) (body : Body) → ResponderRules y → is_same_txn a.txn y.txn ≡ true
+    → is_ill_request a.body ≡ is_ill_request body → ResponderRules (take_message y a body).1
 message_kept y a (types.IllRequest expiry item) h same is =
     line (is_among (Idle ∷ []) y.state) _ _ (λ idle. request_kept y a h idle same is) (λ _. h)
 message_kept y a (types.ConditionalReply c true) h same is =
@@ -286,17 +318,20 @@ message_kept y a types.Returned h same is =
     line (is_among (Returned ∷ CheckedIn ∷ []) y.state) _ _ (λ _. h) (λ _. h))
 message_kept y a other h same is = h
 
--- an APDU that is admitted is of the transaction
-admitted_same : (same is_own : Bool) → (if same then (if is_own then Some WrongRole else None) else Some OtherTransaction) ≡ None → same ≡ true
+-- An APDU that is admitted is of the transaction.
+admitted_same : (same is_own : Bool)
+    → (if same then (if is_own then Some WrongRole else None) else Some OtherTransaction) ≡ None → same ≡ true
 admitted_same true is_own h = refl
 admitted_same false is_own h = search rules
 
-unless_kept : (refused : Option Refusal) (y : ResponderRecord) (answer : Result Taking Refusal × ResponderRecord) → ResponderRules y → (refused ≡ None → ResponderRules answer.1)
+-- A refusal keeps the rules, if the answer to an admitted APDU does.
+unless_kept : (refused : Option Refusal) (y : ResponderRecord) (answer : Result Taking Refusal × ResponderRecord)
+    → ResponderRules y → (refused ≡ None → ResponderRules answer.1)
     → ResponderRules (unless_refused refused y answer).1
 unless_kept (Some refusal) y answer h admitted = h
 unless_kept None y answer h admitted = admitted refl
 
--- A delivery leads to a responder's record.
+-- A delivery leads from a responder's record to a responder's record.
 pub takes_kept : (y : ResponderRecord) (a : Apdu) → IsResponder y → IsResponder (takes y a).1
 takes_kept y a h =
     let rules = responder_rules y h in

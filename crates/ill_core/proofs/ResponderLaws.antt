@@ -32,106 +32,142 @@ use Rattle.ill_core.proofs.ResponderKept.{line_kept}
 use Rattle.ill_core.proofs.ResponderRows.{Issues, Moves, of_takes, of_acts}
 use Rattle.ill_core.proofs.NumberLemmas.{all_weaker, below_new, at_most_below, distinct_more}
 
-pub acts_issue : (y new : ResponderRecord) (deed : Deed) (today : Date) → acts y deed today ≡ Ok new → IssuesNext y.txn y.issued new.issued
+-- A deed that is done issues one APDU, with the next number.
+pub acts_issue : (y new : ResponderRecord) (deed : Deed) (today : Date) → acts y deed today ≡ Ok new
+    → IssuesNext y.txn y.issued new.issued
 acts_issue y new deed today = of_acts (λ r. IssuesNext y.txn y.issued r.issued) y new deed today (λ line there how. (line.body, refl))
 
+-- A message issues nothing, or, if it is a Conditional-Reply no, one ILL-Answer unfilled.
 pub takes_issue : (y : ResponderRecord) (a : Apdu) → IssuesUnfilled y a.body (takes y a).1
 takes_issue y a = of_takes (IssuesUnfilled y a.body) y a (λ how. inl how.issued) (λ said how. inr (said, refl))
 
+-- A deed keeps the transaction.
 pub acts_txn : (y new : ResponderRecord) (deed : Deed) (today : Date) → acts y deed today ≡ Ok new → new.txn ≡ y.txn
 acts_txn y new deed today = of_acts (λ r. r.txn ≡ y.txn) y new deed today (λ line there how. refl)
 
+-- A message keeps the transaction.
 pub takes_txn : (y : ResponderRecord) (a : Apdu) → (takes y a).1.txn ≡ y.txn
 takes_txn y a = of_takes (λ r. r.txn ≡ y.txn) y a (λ how. how.txn) (λ said how. refl)
 
-pub acts_begun : (y new : ResponderRecord) (deed : Deed) (today : Date) → acts y deed today ≡ Ok new → is_among (Idle ∷ []) new.state ≡ false
+-- After a deed a responder is not in IDLE.
+pub acts_begun : (y new : ResponderRecord) (deed : Deed) (today : Date) → acts y deed today ≡ Ok new
+    → is_among (Idle ∷ []) new.state ≡ false
 acts_begun y new deed today = of_acts (λ r. is_among (Idle ∷ []) r.state ≡ false) y new deed today (λ line there how. how.on)
 
--- an ILL-Request that is taken was taken in IDLE
-asked_begins : (y : ResponderRecord) (a : Apdu) (here : Bool) → (if here then taken (record y { state = InProcess; request = Some a }) else repeat y).0 ≡ Ok Taken
+-- An ILL-Request that is taken leads outside IDLE.
+asked_begins : (y : ResponderRecord) (a : Apdu) (here : Bool)
+    → (if here then taken (record y { state = InProcess; request = Some a }) else repeat y).0 ≡ Ok Taken
     → is_among (Idle ∷ []) (if here then taken (record y { state = InProcess; request = Some a }) else repeat y).1.state ≡ false
 asked_begins y a true is = refl
 asked_begins y a false is = search rules
 
-message_begins : (y : ResponderRecord) (a : Apdu) (body : Body) → is_ill_request body ≡ true → (take_message y a body).0 ≡ Ok Taken → is_among (Idle ∷ []) (take_message y a body).1.state ≡ false
+-- An ILL-Request that is not refused, and is taken, leads outside IDLE.
+message_begins : (y : ResponderRecord) (a : Apdu) (body : Body) → is_ill_request body ≡ true
+    → (take_message y a body).0 ≡ Ok Taken → is_among (Idle ∷ []) (take_message y a body).1.state ≡ false
 message_begins y a (types.IllRequest expiry item) asks is = asked_begins y a (is_among (Idle ∷ []) y.state) is
 message_begins y a body asks is = search rules
 
-unless_begins : (refused : Option Refusal) (y : ResponderRecord) (answer : Result Taking Refusal × ResponderRecord) → (answer.0 ≡ Ok Taken → is_among (Idle ∷ []) answer.1.state ≡ false)
+-- If an APDU that is taken leads outside IDLE, it does so also if it might be refused before.
+unless_begins : (refused : Option Refusal) (y : ResponderRecord) (answer : Result Taking Refusal × ResponderRecord)
+    → (answer.0 ≡ Ok Taken → is_among (Idle ∷ []) answer.1.state ≡ false)
     → (unless_refused refused y answer).0 ≡ Ok Taken → is_among (Idle ∷ []) (unless_refused refused y answer).1.state ≡ false
 unless_begins (Some refusal) y answer begins is = search rules
 unless_begins None y answer begins is = begins is
 
-pub request_begins : (y : ResponderRecord) (a : Apdu) → is_ill_request a.body ≡ true → (takes y a).0 ≡ Ok Taken → is_among (Idle ∷ []) (takes y a).1.state ≡ false
+-- After an ILL-Request is taken, a responder is not in IDLE.
+pub request_begins : (y : ResponderRecord) (a : Apdu) → is_ill_request a.body ≡ true → (takes y a).0 ≡ Ok Taken
+    → is_among (Idle ∷ []) (takes y a).1.state ≡ false
 request_begins y a asks is =
     unless_begins (first_refusal y.txn (not (is_requesters a.body)) a) y (take_message y a a.body) (message_begins y a a.body asks) is
 
+-- Past IDLE a deed keeps the request.
 pub acts_request : (y new : ResponderRecord) (deed : Deed) (today : Date) → acts y deed today ≡ Ok new → KeepsRequest y new
 acts_request y new deed today = of_acts (KeepsRequest y) y new deed today (λ line there how begun. (how.on, refl))
 
+-- Past IDLE a message keeps the request.
 pub takes_request : (y : ResponderRecord) (a : Apdu) → KeepsRequest y (takes y a).1
 takes_request y a = of_takes (KeepsRequest y) y a (λ how. how.request) (λ said how begun. (how.on, refl))
 
-pub acts_kept : (y new : ResponderRecord) (deed : Deed) (today : Date) → acts y deed today ≡ Ok new → IsResponder y → IsResponder new
+-- A deed leads from a responder's record to a responder's record.
+pub acts_kept : (y new : ResponderRecord) (deed : Deed) (today : Date) → acts y deed today ≡ Ok new → IsResponder y
+    → IsResponder new
 acts_kept y new deed today = of_acts (λ r. IsResponder y → IsResponder r) y new deed today (λ line is how h. is_responder _ (line_kept y line (responder_rules y h) is))
 
+-- No test is both false and true.
 pub not_both : {P : Type 0} (b : Bool) → b ≡ false → b ≡ true → P
 not_both b is_false is_true = search rules
 
--- the states that are final
+-- The final states: NOT-SUPPLIED, CANCELLED and CHECKED-IN.
 abbrev final : List State
 final = NotSupplied ∷ Cancelled ∷ CheckedIn ∷ []
 
-pub acts_final : (y new : ResponderRecord) (deed : Deed) (today : Date) → acts y deed today ≡ Ok new → is_among final y.state ≡ true → new.state ≡ y.state
+-- A deed in a final state keeps the state.
+pub acts_final : (y new : ResponderRecord) (deed : Deed) (today : Date) → acts y deed today ≡ Ok new
+    → is_among final y.state ≡ true → new.state ≡ y.state
 acts_final y new deed today = of_acts (λ r. is_among final y.state ≡ true → r.state ≡ y.state) y new deed today (λ line there how. not_both _ how.final)
 
+-- A message in a final state keeps the state.
 pub takes_final : (y : ResponderRecord) (a : Apdu) → is_among final y.state ≡ true → (takes y a).1.state ≡ y.state
 takes_final y a = of_takes (λ r. is_among final y.state ≡ true → r.state ≡ y.state) y a (λ how. how.final) (λ said how. not_both _ how.final)
 
+-- RETURNED is one of RETURNED and CHECKED-IN.
 returned_or_later : (state : State) → is_among (Returned ∷ []) state ≡ true → is_among (Returned ∷ CheckedIn ∷ []) state ≡ true
 returned_or_later state is = search rules
 
+-- After a line of a deed, SHIPPED or later stays so, and RETURNED leads to CHECKED-IN at most.
 issues_stays : (y : ResponderRecord) (body : Body) (next : State) → Issues y body next → StaysLater y (issues_to y body next)
 issues_stays y body next how = (
   λ is. sym how.shipped ∙ ap (λ b. b || is_shipped body) is,
   λ is. how.sent_back ∙ returned_or_later y.state is,
 )
 
+-- After a deed, SHIPPED or later stays so, and RETURNED leads to CHECKED-IN at most.
 pub acts_later : (y new : ResponderRecord) (deed : Deed) (today : Date) → acts y deed today ≡ Ok new → StaysLater y new
 acts_later y new deed today = of_acts (StaysLater y) y new deed today (λ line there. issues_stays y line.body line.next)
 
+-- After a message, SHIPPED or later stays so, and RETURNED leads to CHECKED-IN at most.
 pub takes_later : (y : ResponderRecord) (a : Apdu) → StaysLater y (takes y a).1
 takes_later y a =
     of_takes (StaysLater y) y a
     (λ how. (λ is. sym how.shipped ∙ is, λ is. returned_or_later _ (ap (is_among (Returned ∷ [])) (how.returned is) ∙ is)))
     (λ said how. issues_stays y _ _ how)
 
+-- A line issues an end only while the request is open, and leads to the state of that end.
 issues_ends : (y : ResponderRecord) (body : Body) (next : State) → Issues y body next → Ends y (issues_to y body next)
 issues_ends y body next how a same is =
     let said = issued_body y.txn y.issued body a same in
     subst (λ b. (is_among (InProcess ∷ Conditional ∷ CancelPending ∷ []) y.state ≡ true) × (ends_in b next ≡ true)) said (how.ends (ap is_end said ∙ is))
 
+-- A deed issues an end only while the request is open, and leads to the state of that end.
 pub acts_end : (y new : ResponderRecord) (deed : Deed) (today : Date) → acts y deed today ≡ Ok new → Ends y new
 acts_end y new deed today = of_acts (Ends y) y new deed today (λ line there. issues_ends y line.body line.next)
 
+-- A message issues an end only while the request is open, and leads to the state of that end.
 pub takes_end : (y : ResponderRecord) (a : Apdu) → Ends y (takes y a).1
 takes_end y a = of_takes (Ends y) y a (λ how b same is. not_longer y.issued _ b how.issued same) (λ said how. issues_ends y _ _ how)
 
-by_end : (y new : ResponderRecord) (a : Apdu) → new.issued ≡ y.issued ++ a ∷ [] → (is_among ended y.state ≡ true) ⊎ (ends_in a.body new.state ≡ true)
+-- If the new APDU is an end that leads to the new state, some new APDU is.
+by_end : (y new : ResponderRecord) (a : Apdu) → new.issued ≡ y.issued ++ a ∷ []
+    → (is_among ended y.state ≡ true) ⊎ (ends_in a.body new.state ≡ true)
     → (is_among ended y.state ≡ true) ⊎ ((b : Apdu) × (new.issued ≡ y.issued ++ b ∷ []) × (ends_in b.body new.state ≡ true))
 by_end y new a same (inl old) = inl old
 by_end y new a same (inr is) = inr (a, same, is)
 
+-- A line enters the state of an end only by issuing that end.
 issues_enters : (y : ResponderRecord) (body : Body) (next : State) → Issues y body next → EntersByEnd y (issues_to y body next)
 issues_enters y body next how is = by_end y (issues_to y body next) (next_apdu y.txn y.issued body) refl (how.enters is)
 
+-- A deed enters the state of an end only by issuing that end.
 pub acts_enter : (y new : ResponderRecord) (deed : Deed) (today : Date) → acts y deed today ≡ Ok new → EntersByEnd y new
 acts_enter y new deed today = of_acts (EntersByEnd y) y new deed today (λ line there. issues_enters y line.body line.next)
 
+-- A message enters the state of an end only by issuing that end.
 pub takes_enter : (y : ResponderRecord) (a : Apdu) → EntersByEnd y (takes y a).1
 takes_enter y a = of_takes (EntersByEnd y) y a (λ how is. inl (how.ended ∙ is)) (λ said how. issues_enters y _ _ how)
 
-issues_once : (y : ResponderRecord) (body : Body) (next : State) → Issues y body next → EndsOnce y → EndsOnce (issues_to y body next)
+-- A line keeps the request ended once.
+issues_once : (y : ResponderRecord) (body : Body) (next : State) → Issues y body next → EndsOnce y
+    → EndsOnce (issues_to y body next)
 issues_once y body next how h =
     let a : Apdu = next_apdu y.txn y.issued body in
     record {
@@ -141,6 +177,7 @@ issues_once y body next how h =
       once = count_more is_end y.issued a ∙ (ap (λ n. n + (if is_end body then 1 else 0)) h.once ∙ how.once);
     }
 
+-- A move keeps the request ended once.
 moves_once : (y new : ResponderRecord) (number : ℕ) (body : Body) → Moves y number body new → EndsOnce y → EndsOnce new
 moves_once y new number body how h =
     record {
@@ -150,45 +187,61 @@ moves_once y new number body how h =
       once = ap (count_by (λ a. is_end a.body)) how.issued ∙ (h.once ∙ ap (λ b. if b then 1 else 0) how.ended);
     }
 
-pub acts_end_once : (y new : ResponderRecord) (deed : Deed) (today : Date) → acts y deed today ≡ Ok new → EndsOnce y → EndsOnce new
+-- A deed keeps the request ended once.
+pub acts_end_once : (y new : ResponderRecord) (deed : Deed) (today : Date) → acts y deed today ≡ Ok new → EndsOnce y
+    → EndsOnce new
 acts_end_once y new deed today = of_acts (λ r. EndsOnce y → EndsOnce r) y new deed today (λ line there. issues_once y line.body line.next)
 
+-- A message keeps the request ended once.
 pub takes_end_once : (y : ResponderRecord) (a : Apdu) → EndsOnce y → EndsOnce (takes y a).1
 takes_end_once y a = of_takes (λ r. EndsOnce y → EndsOnce r) y a (moves_once y (takes y a).1 a.number a.body) (λ said how. issues_once y _ _ how)
 
-issues_answer : (question : Question) (y : ResponderRecord) (body : Body) (next : State) → Issues y body next → AnswersLast question y (issues_to y body next)
+-- A line answers a question only while it waits, and answers the last one taken.
+issues_answer : (question : Question) (y : ResponderRecord) (body : Body) (next : State) → Issues y body next
+    → AnswersLast question y (issues_to y body next)
 issues_answer question y body next how a n same is =
     how.replies question n (ap (answered_number question) (issued_body y.txn y.issued body a same) ∙ is)
 
-pub acts_answer_last : (question : Question) (y new : ResponderRecord) (deed : Deed) (today : Date) → acts y deed today ≡ Ok new → AnswersLast question y new
+-- A deed answers a question only while it waits, and answers the last one taken.
+pub acts_answer_last : (question : Question) (y new : ResponderRecord) (deed : Deed) (today : Date)
+    → acts y deed today ≡ Ok new → AnswersLast question y new
 acts_answer_last question y new deed today = of_acts (AnswersLast question y) y new deed today (λ line there. issues_answer question y line.body line.next)
 
+-- A message issues an answer to a question only while it waits, and that names the last one taken.
 pub takes_answer_last : (question : Question) (y : ResponderRecord) (a : Apdu) → AnswersLast question y (takes y a).1
 takes_answer_last question y a =
     of_takes (AnswersLast question y) y a (λ how b n same is. not_longer y.issued _ b how.issued same) (λ said how. issues_answer question y _ _ how)
 
 -- A line keeps the last question.
-pub last_same : (question : Question) (y : ResponderRecord) (body : Body) (next : State) → last_asked question (issues_to y body next) ≡ last_asked question y
+pub last_same : (question : Question) (y : ResponderRecord) (body : Body) (next : State)
+    → last_asked question (issues_to y body next) ≡ last_asked question y
 last_same MayCancel y body next = refl
 last_same MayRenew y body next = refl
 
-issues_keeps : (question : Question) (y : ResponderRecord) (body : Body) (next : State) → Issues y body next → KeepsLast question y (issues_to y body next)
+-- A line keeps the last question, and lets none wait that did not wait before.
+issues_keeps : (question : Question) (y : ResponderRecord) (body : Body) (next : State) → Issues y body next
+    → KeepsLast question y (issues_to y body next)
 issues_keeps question y body next how = (last_same question y body next, how.asked question)
 
-pub acts_keep_last : (question : Question) (y new : ResponderRecord) (deed : Deed) (today : Date) → acts y deed today ≡ Ok new → KeepsLast question y new
+-- A deed keeps the last question, and lets none wait that did not wait before.
+pub acts_keep_last : (question : Question) (y new : ResponderRecord) (deed : Deed) (today : Date)
+    → acts y deed today ≡ Ok new → KeepsLast question y new
 acts_keep_last question y new deed today = of_acts (KeepsLast question y) y new deed today (λ line there. issues_keeps question y line.body line.next)
 
+-- A message keeps the last question, or asks a new one with a higher number.
 pub takes_keep_last : (question : Question) (y : ResponderRecord) (a : Apdu)
     → KeepsLast question y (takes y a).1 ⊎ TakesNew question a.number a.body y (takes y a).1
 takes_keep_last question y a =
     of_takes (λ r. KeepsLast question y r ⊎ TakesNew question a.number a.body y r) y a (λ how. how.asked question) (λ said how. inl (issues_keeps question y _ _ how))
 
--- no question waits that did not
-each_kept : (ns : List ℕ) (last : Option ℕ) (waited waiting : Bool) → (waiting ≡ true → waited ≡ true) → AnsweredOnce ns last waited → AnsweredOnce ns last waiting
+-- If a question waits only when it waited before, those answered stay answered once.
+each_kept : (ns : List ℕ) (last : Option ℕ) (waited waiting : Bool) → (waiting ≡ true → waited ≡ true)
+    → AnsweredOnce ns last waited → AnsweredOnce ns last waiting
 each_kept ns last waited waiting still h = record { distinct = h.distinct; most = h.most; below = λ is. h.below (still is) }
 
--- a new question is above those that were answered
-each_asked : (ns : List ℕ) (last : Option ℕ) (waited waiting : Bool) (n : ℕ) → is_at_most n last ≡ false → AnsweredOnce ns last waited → AnsweredOnce ns (Some n) waiting
+-- A new question, with a number above the last one, keeps those answered once.
+each_asked : (ns : List ℕ) (last : Option ℕ) (waited waiting : Bool) (n : ℕ) → is_at_most n last ≡ false
+    → AnsweredOnce ns last waited → AnsweredOnce ns (Some n) waiting
 each_asked ns last waited waiting n above h =
     let below = all_weaker (λ m. is_at_most m last) (λ m. is_below m (Some n)) (below_new n last above) ns h.most in
     record {
@@ -197,10 +250,11 @@ each_asked ns last waited waiting n above h =
       below = λ _. below;
     }
 
+-- A number is at most itself.
 most_itself : (n : ℕ) → is_at_most n (Some n) ≡ true
 most_itself n = search rules
 
--- the last question is answered
+-- The answer to the last question, which waits, keeps all answered once.
 each_answered : (ns : List ℕ) (n : ℕ) → AnsweredOnce ns (Some n) true → AnsweredOnce (ns ++ n ∷ []) (Some n) false
 each_answered ns n h =
     let below = h.below refl in
@@ -210,11 +264,14 @@ each_answered ns n h =
       below = λ is. search rules;
     }
 
--- The last question is there while it waits.
-pub known : (o : Option ℕ) (n : ℕ) (waiting : Bool) → implies waiting (is_some o) ≡ true → waiting ≡ true → n ≡ unwrap_or o 0 → o ≡ Some n
+-- The last question is there while it waits, so its number is what `unwrap_or` gives.
+pub known : (o : Option ℕ) (n : ℕ) (waiting : Bool) → implies waiting (is_some o) ≡ true → waiting ≡ true
+    → n ≡ unwrap_or o 0 → o ≡ Some n
 known o n waiting there is same = search rules
 
-answer_issued : (question : Question) (y : ResponderRecord) (body : Body) (next : State) (o : Option ℕ) → answered_number question body ≡ o → Issues y body next
+-- A line that answers a question, or none, keeps all questions answered once.
+answer_issued : (question : Question) (y : ResponderRecord) (body : Body) (next : State) (o : Option ℕ)
+    → answered_number question body ≡ o → Issues y body next
     → implies (waits question y.state) (is_some (last_asked question y)) ≡ true → AnswersOnce question y
     → AnsweredOnce (answers_to question (with_next y.txn y.issued body)) (last_asked question y) (waits question next)
 answer_issued question y body next None none how there h =
@@ -230,18 +287,24 @@ answer_issued question y body next (Some n) some how there h =
     (subst (λ b. AnsweredOnce (answers_to question y.issued ++ n ∷ []) (Some n) b) (sym row.1) (each_answered _ n before)) in
     subst (λ ns. AnsweredOnce ns (last_asked question y) (waits question next)) (sym (found_more (λ a. answered_number question a.body) y.issued (next_apdu y.txn y.issued body) n some)) after
 
+-- A line keeps all questions answered once, if the last one is there while it waits.
 issues_each : (question : Question) (y : ResponderRecord) (body : Body) (next : State) → Issues y body next
-    → implies (waits question y.state) (is_some (last_asked question y)) ≡ true → AnswersOnce question y → AnswersOnce question (issues_to y body next)
+    → implies (waits question y.state) (is_some (last_asked question y)) ≡ true → AnswersOnce question y
+    → AnswersOnce question (issues_to y body next)
 issues_each question y body next how there h =
     subst (λ o. AnsweredOnce (answers_to question (with_next y.txn y.issued body)) o (waits question next)) (sym (last_same question y body next))
     (answer_issued question y body next (answered_number question body) refl how there h)
 
+-- A deed keeps all questions answered once, if the last one is there while it waits.
 pub acts_once : (question : Question) (y new : ResponderRecord) (deed : Deed) (today : Date) → acts y deed today ≡ Ok new
-    → implies (waits question y.state) (is_some (last_asked question y)) ≡ true → AnswersOnce question y → AnswersOnce question new
+    → implies (waits question y.state) (is_some (last_asked question y)) ≡ true → AnswersOnce question y
+    → AnswersOnce question new
 acts_once question y new deed today done there =
     of_acts (λ r. AnswersOnce question y → AnswersOnce question r) y new deed today (λ line leads how. issues_each question y line.body line.next how there) done
 
-moves_each : (question : Question) (y new : ResponderRecord) (number : ℕ) (body : Body) → new.issued ≡ y.issued → KeepsLast question y new ⊎ TakesNew question number body y new
+-- A move keeps all questions answered once.
+moves_each : (question : Question) (y new : ResponderRecord) (number : ℕ) (body : Body) → new.issued ≡ y.issued
+    → KeepsLast question y new ⊎ TakesNew question number body y new
     → AnswersOnce question y → AnswersOnce question new
 moves_each question y new number body same (inl keeps) h =
     subst (λ apdus. AnsweredOnce (answers_to question apdus) (last_asked question new) (waits question new.state)) (sym same)
@@ -250,40 +313,46 @@ moves_each question y new number body same (inr asked) h =
     subst (λ apdus. AnsweredOnce (answers_to question apdus) (last_asked question new) (waits question new.state)) (sym same)
     (subst (λ o. AnsweredOnce (answers_to question y.issued) o (waits question new.state)) (sym asked.2) (each_asked _ _ _ _ number asked.1 h))
 
--- an ILL-Answer answers no question
+-- An ILL-Answer unfilled answers no question.
 pub no_answer : (question : Question) → answered_number question (types.IllAnswer results.Unfilled) ≡ None
 no_answer MayCancel = refl
 no_answer MayRenew = refl
 
--- an ILL-Answer keeps each question answered once
-unfilled_each : (question : Question) (y : ResponderRecord) → Issues y (types.IllAnswer results.Unfilled) NotSupplied → AnswersOnce question y
+-- An ILL-Answer unfilled keeps all questions answered once.
+unfilled_each : (question : Question) (y : ResponderRecord) → Issues y (types.IllAnswer results.Unfilled) NotSupplied
+    → AnswersOnce question y
     → AnswersOnce question (issues_to y (types.IllAnswer results.Unfilled) NotSupplied)
 unfilled_each question y how h =
     subst (λ ns. AnsweredOnce ns (last_asked question (issues_to y (types.IllAnswer results.Unfilled) NotSupplied)) (waits question NotSupplied))
     (sym (found_none (λ a. answered_number question a.body) y.issued (next_apdu y.txn y.issued (types.IllAnswer results.Unfilled)) (no_answer question)))
     (subst (λ o. AnsweredOnce (answers_to question y.issued) o (waits question NotSupplied)) (sym (last_same question y _ _)) (each_kept _ _ _ _ (how.asked question) h))
 
-pub takes_once : (question : Question) (y : ResponderRecord) (a : Apdu) → AnswersOnce question y → AnswersOnce question (takes y a).1
+-- A message keeps all questions answered once.
+pub takes_once : (question : Question) (y : ResponderRecord) (a : Apdu) → AnswersOnce question y
+    → AnswersOnce question (takes y a).1
 takes_once question y a =
     of_takes (λ r. AnswersOnce question y → AnswersOnce question r) y a
     (λ how. moves_each question y (takes y a).1 a.number a.body how.issued (how.asked question))
     (λ said how. unfilled_each question y how)
 
+-- If one of two tests holds, the first or the second holds.
 or_either : (a b : Bool) → a || b ≡ true → (a ≡ true) ⊎ (b ≡ true)
 or_either true b either = inl refl
 or_either false b either = inr either
 
--- a Cancel-Reply yes answers a Cancel
+-- A Cancel-Reply yes to Cancel c answers the question c.
 cancels_answered : (c : ℕ) (body : Body) → cancels c body ≡ true → answered_number MayCancel body ≡ Some c
 cancels_answered c (types.CancelReply n true) is = ap Some (eqb-true n c is)
 cancels_answered c other is = search rules
 
--- a yes that is issued was shown by the Cancel that it answers, or by an older yes
-yes_shown : (y : ResponderRecord) (body : Body) (c : ℕ) → (cancels c body ≡ true → y.last_cancel ≡ Some c) → (has (cancels c) y.issued ≡ true) ⊎ (cancels c body ≡ true)
+-- A yes to Cancel c, issued before or now, shows c, if one issued now answers the last Cancel.
+yes_shown : (y : ResponderRecord) (body : Body) (c : ℕ) → (cancels c body ≡ true → y.last_cancel ≡ Some c)
+    → (has (cancels c) y.issued ≡ true) ⊎ (cancels c body ≡ true)
     → Shows y (CancelAsked c)
 yes_shown y body c asked (inl older) = inr older
 yes_shown y body c asked (inr is) = inl (asked is)
 
+-- A line shows no new fact, if a yes that it issues answers the last Cancel.
 issues_shows : (y : ResponderRecord) (body : Body) (next : State) (fact : Fact) → Issues y body next
     → ((c : ℕ) → cancels c body ≡ true → y.last_cancel ≡ Some c) → Shows (issues_to y body next) fact → Shows y fact
 issues_shows y body next Requested how asked shown = how.begun
@@ -294,19 +363,22 @@ issues_shows y body next (CancelAsked c) how asked (inr yes_there) =
 issues_shows y body next Arrived how asked shown = shown
 issues_shows y body next SentBack how asked shown = sym how.sent_back ∙ shown
 
--- a Cancel-Reply yes answers the last Cancel
-yes_answers_last : (y : ResponderRecord) (body : Body) (next : State) → Issues y body next → implies (waits MayCancel y.state) (is_some y.last_cancel) ≡ true
+-- A Cancel-Reply yes that is issued answers the last Cancel, if that is there while it waits.
+yes_answers_last : (y : ResponderRecord) (body : Body) (next : State) → Issues y body next
+    → implies (waits MayCancel y.state) (is_some y.last_cancel) ≡ true
     → (c : ℕ) → cancels c body ≡ true → y.last_cancel ≡ Some c
 yes_answers_last y body next how there c is =
     let row = how.replies MayCancel c (cancels_answered c body is) in
     known y.last_cancel c (waits MayCancel y.state) there row.0 row.2
 
+-- A deed shows no new fact, if the last Cancel is there while it waits.
 pub acts_shows : (y new : ResponderRecord) (deed : Deed) (today : Date) (fact : Fact) → acts y deed today ≡ Ok new
     → implies (waits MayCancel y.state) (is_some y.last_cancel) ≡ true → Shows new fact → Shows y fact
 acts_shows y new deed today fact done there =
     of_acts (λ r. Shows r fact → Shows y fact) y new deed today
     (λ line leads how. issues_shows y line.body line.next fact how (yes_answers_last y line.body line.next how there)) done
 
+-- Each fact that a record shows after a move was shown before, or the message tells it.
 moves_shows : (y new : ResponderRecord) (number : ℕ) (body : Body) (fact : Fact) → Moves y number body new → Shows new fact
     → Shows y fact ⊎ Tells number body fact
 moves_shows y new number body Requested how shown = how.requested shown
@@ -316,6 +388,7 @@ moves_shows y new number body (CancelAsked c) how (inr yes_there) = inl (inr (sy
 moves_shows y new number body Arrived how shown = how.arrived shown
 moves_shows y new number body SentBack how shown = how.sent_back shown
 
+-- Each fact that a record shows after a message was shown before, or the message tells it.
 pub takes_shows : (y : ResponderRecord) (a : Apdu) (fact : Fact) → Shows (takes y a).1 fact
     → Shows y fact ⊎ Tells a.number a.body fact
 takes_shows y a fact =

@@ -14,6 +14,7 @@ use Rattle.ill_core.specs.Responder.{ResponderRecord, due_of}
 use Rattle.ill_core.specs.ResponderActions.{Line, after_answer, if_allowed, no_date, line_of}
 use Rattle.ill_core.proofs.LineLemmas.{line_is, at_line, is_this, no_more}
 
+-- The lines of a responder's deeds. Each has the states before, the state after and the APDU.
 pub data IsLine (y : ResponderRecord) : Line → Type 0 where
   answers : (answer : AnswerResult) → is_among (InProcess ∷ []) y.state ≡ true → IsLine y (record { next = after_answer answer; body = types.IllAnswer answer })
   allows_cancel : is_among (CancelPending ∷ []) y.state ≡ true → IsLine y (record { next = Cancelled; body = types.CancelReply (unwrap_or y.last_cancel 0) true })
@@ -29,17 +30,23 @@ pub data IsLine (y : ResponderRecord) : Line → Type 0 where
   checks_in : is_among (Returned ∷ []) y.state ≡ true → IsLine y (record { next = CheckedIn; body = types.CheckedIn })
   expires : is_among (InProcess ∷ Conditional ∷ []) y.state ≡ true → IsLine y (record { next = NotSupplied; body = types.Expired })
 
--- a line that its date allows
-allowed : (P : Line → Type 0) (is_allowed : Bool) (refusal : Refusal) (here line : Line) → (is_allowed ≡ true → P here) → if_allowed is_allowed refusal (Ok here) ≡ Ok line → P line
+-- P holds of a line that its date allows, if it holds of it whenever the date does.
+allowed : (P : Line → Type 0) (is_allowed : Bool) (refusal : Refusal) (here line : Line)
+    → (is_allowed ≡ true → P here) → if_allowed is_allowed refusal (Ok here) ≡ Ok line → P line
 allowed P true refusal here line there e = subst P (line_is here line e) (there refl)
 allowed P false refusal here line there e = search rules
 
-one_of_renewing : (y : ResponderRecord) → is_among (RenewPending ∷ []) y.state ≡ true → is_among (RenewPending ∷ RenewOverdue ∷ []) y.state ≡ true
+-- RENEW/PENDING is one of the two states that wait for a renewal.
+one_of_renewing : (y : ResponderRecord) → is_among (RenewPending ∷ []) y.state ≡ true
+    → is_among (RenewPending ∷ RenewOverdue ∷ []) y.state ≡ true
 one_of_renewing y is = search rules
 
-other_renewing : (y : ResponderRecord) → is_among (RenewOverdue ∷ []) y.state ≡ true → is_among (RenewPending ∷ RenewOverdue ∷ []) y.state ≡ true
+-- RENEW/OVERDUE is one of the two states that wait for a renewal.
+other_renewing : (y : ResponderRecord) → is_among (RenewOverdue ∷ []) y.state ≡ true
+    → is_among (RenewPending ∷ RenewOverdue ∷ []) y.state ≡ true
 other_renewing y is = search rules
 
+-- The line of a deed is one of these.
 pub is_line : (y : ResponderRecord) (deed : Deed) (today : Date) (line : Line) → line_of y deed today ≡ Ok line → IsLine y line
 is_line y (deeds.Answer answer) today line =
     at_line (IsLine y) (is_among (InProcess ∷ []) y.state) _ _ line (λ is. is_this (IsLine y) _ line (answers answer is)) (no_more (IsLine y) _ line)

@@ -1,4 +1,4 @@
--- What one more APDU changes in what a responder has issued.
+-- The effect of one more APDU on the tests of a list that a responder has issued.
 use Rattle.std.proofs.Common.{rules, arith, ◌≡◌, ◌⊎◌, inl, inr, ℕ, zero, suc, ◌+◌, ◌<◌, ◌≤◌, Bool, true, false, not, ◌&&◌, ◌||◌, List, [], ◌∷◌, ◌++◌, length, Option, Some, None, is_some, if◌then◌else◌, cond, drop, refl, ap, length-append, sym, subst, ◌∙◌}
 use Rattle.std.specs.List.{filter_map, cons_option, last_or, count_by}
 use Rattle.std.proofs.lemmas.Bool.{and_parts, and_from}
@@ -20,33 +20,38 @@ use Rattle.ill_core.specs.Issued.{was, granted_day, last_of}
 use Rattle.ill_core.specs.Responder.{rises, rise_from, ships_first, ends_with_conditions, is_named, is_request_of, request_in}
 use Rattle.ill_core.proofs.IssuedLemmas.{not_true}
 
--- one more APDU may count
-pub count_more : (says : Body → Bool) (apdus : List Apdu) (a : Apdu) → count_by (λ b. says b.body) (apdus ++ a ∷ []) ≡ count_by (λ b. says b.body) apdus + (if says a.body then 1 else 0)
+-- One more APDU adds one to the count if `says` holds of it, and else nothing.
+pub count_more : (says : Body → Bool) (apdus : List Apdu) (a : Apdu)
+    → count_by (λ b. says b.body) (apdus ++ a ∷ []) ≡ count_by (λ b. says b.body) apdus + (if says a.body then 1 else 0)
 count_more says apdus a = search (rules, sum_by-append (λ (b : Apdu). cond (says b.body) 1 0) apdus (a ∷ []))
 
+-- The message after the last one of a list is the new APDU.
 last_message : (says : Body → Bool) (apdus : List Apdu) (a : Apdu) → was says (apdus ++ a ∷ []) (suc (length apdus)) ≡ says a.body
 last_message says [] a = refl
 last_message says (b ∷ apdus) a = last_message says apdus a
 
--- the APDU issued last is the one that ends the list
+-- A list with one more APDU ends with conditions exactly if that APDU names them.
 pub ends_more : (apdus : List Apdu) (a : Apdu) → ends_with_conditions (apdus ++ a ∷ []) ≡ names_conditions a.body
 ends_more apdus a =
     let size : length (apdus ++ a ∷ []) ≡ suc (length apdus) = omega (arith, length-append apdus (a ∷ [])) in
     ap (was names_conditions (apdus ++ a ∷ [])) size ∙ last_message names_conditions apdus a
 
--- message n of a list is message n of a longer one
-pub was_longer : (says : Body → Bool) (apdus : List Apdu) (a : Apdu) (c : ℕ) → was says apdus c ≡ true → was says (apdus ++ a ∷ []) c ≡ true
+-- Message c of a list is message c of the list with one more APDU.
+pub was_longer : (says : Body → Bool) (apdus : List Apdu) (a : Apdu) (c : ℕ) → was says apdus c ≡ true
+    → was says (apdus ++ a ∷ []) c ≡ true
 was_longer says apdus a zero h = search rules
 was_longer says [] a (suc n) h = search rules
 was_longer says (b ∷ apdus) a (suc zero) h = h
 was_longer says (b ∷ apdus) a (suc (suc n)) h = was_longer says apdus a (suc n) h
 
+-- If a list has the accepted conditions, it has them with one more APDU.
 pub named_more : (c : Option ℕ) (apdus : List Apdu) (a : Apdu) → is_named c apdus ≡ true → is_named c (apdus ++ a ∷ []) ≡ true
 named_more None apdus a h = refl
 named_more (Some c) apdus a h = was_longer names_conditions apdus a c h
 
--- a date that is after the last keeps the dates rising
-pub rise_more : (o : Option Date) (dates : List Date) (d : Date) → rise_from o dates ≡ true → not (is_some (last_or o dates)) || is_after_due d (last_or o dates) ≡ true
+-- If dates rise, they rise with one more date that is after the last.
+pub rise_more : (o : Option Date) (dates : List Date) (d : Date) → rise_from o dates ≡ true
+    → not (is_some (last_or o dates)) || is_after_due d (last_or o dates) ≡ true
     → rise_from o (dates ++ d ∷ []) ≡ true
 unfolding rise_from
 rise_more o [] d rising after = and_from _ _ after refl
@@ -54,20 +59,26 @@ rise_more o (e ∷ dates) d rising after =
     let parts = and_parts _ _ rising in
     and_from _ _ parts.0 (rise_more (Some e) dates d parts.1 after)
 
-rise_first : (o : Option Date) (d : Date) (dates : List Date) → rise_from o (d ∷ dates) ≡ ((not (is_some o) || is_after_due d o) && rise_from (Some d) dates)
+-- Dates rise from `o` on exactly if the first is after `o`, and the others rise from the first on.
+rise_first : (o : Option Date) (d : Date) (dates : List Date)
+    → rise_from o (d ∷ dates) ≡ ((not (is_some o) || is_after_due d o) && rise_from (Some d) dates)
 unfolding rise_from
 rise_first o d dates = refl
 
+-- An empty list of dates rises.
 pub rise_none : (o : Option Date) → rise_from o [] ≡ true
 unfolding rise_from
 rise_none o = refl
 
-grant_rises : (last found : Option Date) (dates : List Date) → rise_from last (cons_option found dates) ≡ (rises last found && rise_from (option_or found last) dates)
+-- Dates with a found date in front rise exactly if that is after `last`, and the others rise after it.
+grant_rises : (last found : Option Date) (dates : List Date)
+    → rise_from last (cons_option found dates) ≡ (rises last found && rise_from (option_or found last) dates)
 grant_rises last None dates = refl
 grant_rises last (Some d) dates = rise_first last d dates
 
--- the APDU at a place, and those behind it
-pub rise_at : (last found next : Option Date) (follows : Bool) (apdus : List Apdu) (i : ℕ) (a : Apdu) → i < length apdus → a ≡ get_or apdus i a
+-- The dates from place `i` on rise exactly if the date there follows `last`, and later ones rise on.
+pub rise_at : (last found next : Option Date) (follows : Bool) (apdus : List Apdu) (i : ℕ) (a : Apdu)
+    → i < length apdus → a ≡ get_or apdus i a
     → found ≡ granted_day a → follows ≡ rises last found → next ≡ option_or found last
     → rise_from last (filter_map granted_day (drop i apdus)) ≡ (follows && rise_from next (filter_map granted_day (drop (i + 1) apdus)))
 rise_at last found next follows apdus i a within there is may then_last =
@@ -77,17 +88,23 @@ rise_at last found next follows apdus i a within there is may then_last =
     let known : rise_from last (filter_map granted_day (a ∷ drop (i + 1) apdus)) ≡ rise_from last (cons_option found others) = ap (λ o. rise_from last (cons_option o others)) (sym is) in
     front ∙ (same ∙ (known ∙ (grant_rises last found others ∙ (ap (λ b. b && rise_from (option_or found last) others) (sym may) ∙ ap (λ o. follows && rise_from o others) (sym then_last)))))
 
-pub rise_end : (last : Option Date) (apdus : List Apdu) (i : ℕ) → length apdus ≤ i → rise_from last (filter_map granted_day (drop i apdus)) ≡ true
+-- After the last APDU, no date is left to rise.
+pub rise_end : (last : Option Date) (apdus : List Apdu) (i : ℕ) → length apdus ≤ i
+    → rise_from last (filter_map granted_day (drop i apdus)) ≡ true
 rise_end last apdus i all = at_drop_all (λ xs. rise_from last (filter_map granted_day xs)) apdus i all ∙ rise_none last
 
-ships_cons : (a : Apdu) (apdus : List Apdu) → ships_first (a ∷ apdus) ≡ (is_shipped a.body || (not (is_renewal a.body) && ships_first apdus))
+-- A list ships first if its first APDU is a Shipped, or is no renewal and the others ship first.
+ships_cons : (a : Apdu) (apdus : List Apdu)
+    → ships_first (a ∷ apdus) ≡ (is_shipped a.body || (not (is_renewal a.body) && ships_first apdus))
 unfolding ships_first
 ships_cons a apdus = refl
 
+-- An empty list ships first.
 ships_none : ships_first [] ≡ true
 unfolding ships_first
 ships_none = refl
 
+-- The list from place `i` on ships first as `ships_first` tests the APDU there and the rest.
 pub ships_at : (shipped renewal : Bool) (apdus : List Apdu) (i : ℕ) (a : Apdu) → i < length apdus → a ≡ get_or apdus i a
     → shipped ≡ is_shipped a.body → renewal ≡ is_renewal a.body
     → ships_first (drop i apdus) ≡ (shipped || (not renewal && ships_first (drop (i + 1) apdus)))
@@ -97,54 +114,67 @@ ships_at shipped renewal apdus i a within there is_s is_r =
     let same : ships_first (get_or apdus i a ∷ drop (i + 1) apdus) ≡ ships_first (a ∷ drop (i + 1) apdus) = ap (λ b. ships_first (b ∷ drop (i + 1) apdus)) (sym there) in
     front ∙ (same ∙ (ships_cons a (drop (i + 1) apdus) ∙ (ap (λ b. b || (not (is_renewal a.body) && others)) (sym is_s) ∙ ap (λ b. shipped || (not b && others)) (sym is_r))))
 
+-- After the last APDU, the list ships first.
 pub ships_end : (apdus : List Apdu) (i : ℕ) → length apdus ≤ i → ships_first (drop i apdus) ≡ true
 ships_end apdus i all = at_drop_all ships_first apdus i all ∙ ships_none
 
--- an APDU that is no renewal keeps the order
-pub ships_more : (apdus : List Apdu) (a : Apdu) → ships_first apdus ≡ true → is_renewal a.body ≡ false → ships_first (apdus ++ a ∷ []) ≡ true
+-- If no renewal is issued, a list that ships first still does.
+pub ships_more : (apdus : List Apdu) (a : Apdu) → ships_first apdus ≡ true → is_renewal a.body ≡ false
+    → ships_first (apdus ++ a ∷ []) ≡ true
 unfolding ships_first
 ships_more [] a first none = search rules
 ships_more (b ∷ apdus) a first none = search (rules, ships_more apdus a)
 
--- a renewal keeps it where a Shipped is there
-pub ships_renewed : (apdus : List Apdu) (a : Apdu) → ships_first apdus ≡ true → 1 ≤ count_by (λ b. is_shipped b.body) apdus → ships_first (apdus ++ a ∷ []) ≡ true
+-- If a Shipped is in the list, a list that ships first still does with any APDU.
+pub ships_renewed : (apdus : List Apdu) (a : Apdu) → ships_first apdus ≡ true
+    → 1 ≤ count_by (λ b. is_shipped b.body) apdus → ships_first (apdus ++ a ∷ []) ≡ true
 unfolding ships_first
 ships_renewed [] a first there = search rules
 ships_renewed (b ∷ apdus) a first there = search (rules, ships_renewed apdus a)
 
-count_first : (b : Apdu) (apdus : List Apdu) → count_by (λ c. is_shipped c.body) (b ∷ apdus) ≡ cond (is_shipped b.body) 1 0 + count_by (λ c. is_shipped c.body) apdus
+-- The count of Shipped is that of the first APDU and that of the others together.
+count_first : (b : Apdu) (apdus : List Apdu)
+    → count_by (λ c. is_shipped c.body) (b ∷ apdus) ≡ cond (is_shipped b.body) 1 0 + count_by (λ c. is_shipped c.body) apdus
 count_first b apdus = sum_by-cons (λ (c : Apdu). cond (is_shipped c.body) 1 0) b apdus
 
+-- If no Shipped is counted, the first APDU is none, and none is among the others.
 none_counted : (shipped : Bool) (others : ℕ) → cond shipped 1 0 + others ≡ 0 → (shipped ≡ false) × (others ≡ 0)
 none_counted true others none = search rules
 none_counted false others none = (refl, omega (arith, none))
 
--- other types than a Shipped and a Renew-Answer yes grant no date
+-- An APDU that is no Shipped and no Renew-Answer yes grants no date.
 grants_none : (body : Body) → is_shipped body ≡ false → is_renewal body ≡ false → grant_in body ≡ None
 grants_none (types.Shipped due) shipped renewal = search rules
 grants_none (types.RenewAnswer answers (Some due)) shipped renewal = search rules
 grants_none (types.RenewAnswer answers None) shipped renewal = refl
 grants_none other shipped renewal = refl
 
+-- A Shipped grants a date.
 grants_some : (body : Body) → is_shipped body ≡ true → is_some (grant_in body) ≡ true
 grants_some (types.Shipped due) shipped = refl
 grants_some other shipped = search rules
 
+-- If a value was found before, a last value is there.
 last_some : {X : Type 0} (o : Option X) (xs : List X) → is_some o ≡ true → is_some (last_or o xs) ≡ true
 last_some o [] there = there
 last_some o (x ∷ xs) there = last_some (Some x) xs refl
 
+-- If a list has a last value, it has one whatever was found before.
 last_any : {X : Type 0} (o : Option X) (xs : List X) → is_some (last_or None xs) ≡ true → is_some (last_or o xs) ≡ true
 last_any o [] there = search rules
 last_any o (x ∷ xs) there = there
 
-last_first : {X : Type 0} (found : Option X) (xs : List X) → (is_some found ≡ true) ⊎ (is_some (last_or None xs) ≡ true) → is_some (last_or None (cons_option found xs)) ≡ true
+-- If a value is found first, or among the others, a last value is there.
+last_first : {X : Type 0} (found : Option X) (xs : List X)
+    → (is_some found ≡ true) ⊎ (is_some (last_or None xs) ≡ true)
+    → is_some (last_or None (cons_option found xs)) ≡ true
 last_first None xs (inl there) = search rules
 last_first None xs (inr there) = there
 last_first (Some x) xs either = last_some (Some x) xs refl
 
--- without a Shipped no date was granted
-pub no_grants : (apdus : List Apdu) → ships_first apdus ≡ true → count_by (λ b. is_shipped b.body) apdus ≡ 0 → filter_map granted_day apdus ≡ []
+-- If a list ships first and has no Shipped, it grants no date.
+pub no_grants : (apdus : List Apdu) → ships_first apdus ≡ true → count_by (λ b. is_shipped b.body) apdus ≡ 0
+    → filter_map granted_day apdus ≡ []
 unfolding ships_first
 no_grants [] first none = refl
 no_grants (b ∷ apdus) first none =
@@ -153,21 +183,26 @@ no_grants (b ∷ apdus) first none =
     let parts = and_parts _ _ others in
     ap (λ o. cons_option o (filter_map granted_day apdus)) (grants_none b.body counted.0 (not_true _ parts.0)) ∙ no_grants apdus parts.1 counted.1
 
-one_there : (shipped : Bool) (others : ℕ) {A B : Type 0} → 1 ≤ cond shipped 1 0 + others → (shipped ≡ true → A) → (1 ≤ others → B) → A ⊎ B
+-- If one Shipped is counted, the first APDU is one, or one is among the others.
+one_there : (shipped : Bool) (others : ℕ) {A B : Type 0} → 1 ≤ cond shipped 1 0 + others → (shipped ≡ true → A)
+    → (1 ≤ others → B) → A ⊎ B
 one_there true others there here rest = inl (here refl)
 one_there false others there here rest = inr (rest (omega (arith, there)))
 
--- with a Shipped there is a due date
+-- A list with a Shipped has a due date.
 pub due_there : (apdus : List Apdu) → 1 ≤ count_by (λ b. is_shipped b.body) apdus → is_some (last_of granted_day apdus) ≡ true
 due_there [] there = search rules
 due_there (b ∷ apdus) there =
     last_first (granted_day b) (filter_map granted_day apdus)
     (one_there (is_shipped b.body) (count_by (λ c. is_shipped c.body) apdus) (subst (λ n. 1 ≤ n) (count_first b apdus) there) (grants_some b.body) (due_there apdus))
 
-unless_idle : (txn : Qualifiers) (is_idle : Bool) (request : Option Apdu) → is_request_of txn request ≡ true → is_request_of txn (if is_idle then None else request) ≡ true
+-- A request that is of `txn`, or none in IDLE, is of `txn`.
+unless_idle : (txn : Qualifiers) (is_idle : Bool) (request : Option Apdu) → is_request_of txn request ≡ true
+    → is_request_of txn (if is_idle then None else request) ≡ true
 unless_idle txn true request is = refl
 unless_idle txn false request is = is
 
--- the request of a state is of the transaction
-pub request_in_is : (txn : Qualifiers) (state : State) (request : Option Apdu) → is_request_of txn request ≡ true → is_request_of txn (request_in state request) ≡ true
+-- The request of a responder in a state is of `txn`, if its request is.
+pub request_in_is : (txn : Qualifiers) (state : State) (request : Option Apdu) → is_request_of txn request ≡ true
+    → is_request_of txn (request_in state request) ≡ true
 request_in_is txn state request is = unless_idle txn (is_among (Idle ∷ []) state) request is

@@ -1,4 +1,4 @@
--- The ways in which a message changes a responder's record, and what the record has heard after it.
+-- The ways in which a message changes a responder's record, and the messages that the record has heard after it.
 use Rattle.std.proofs.Common.{rules, arith, ◌≡◌, ℕ, suc, ◌+◌, ◌≤◌, nat_lt, length, length-append, Bool, true, false, not, ◌&&◌, ◌||◌, List, [], ◌∷◌, Option, Some, None, Result, Ok, Err, if◌then◌else◌, refl, sym, subst}
 use Rattle.std.proofs.lemmas.Bool.{cond_both, leb-true, or_left, or_right, not_from_false, not_from_true}
 use Rattle.ill_values.specs.Day.{Date}
@@ -22,7 +22,7 @@ use Rattle.ill_core.specs.ResponderActions.{issues_to}
 use Rattle.ill_core.specs.ResponderDeliveries.{takes, take_message, answers_no}
 use Rattle.ill_core.specs.ResponderNotices.{has_heard, reopens, undecided, lent}
 
--- a way in which a message with this number changes a record, or leaves it
+-- A way in which a message with this number changes a record, or leaves it.
 pub data Change (y : ResponderRecord) (number : ℕ) : Body → ResponderRecord → Type 0 where
   leaves : (body : Body) → Change y number body y
   requests : (expiry : Option Date) (item : List ℕ) (a : Apdu) → is_among (Idle ∷ []) y.state ≡ true
@@ -40,17 +40,21 @@ pub data Change (y : ResponderRecord) (number : ℕ) : Body → ResponderRecord 
       → Change y number (types.Renew wished) (record y { state = RenewOverdue; last_renew = Some number })
   returns : is_among lent y.state ≡ true → Change y number types.Returned (record y { state = Returned })
 
--- The first line that fits decides.
+-- If each line that may be the first to fit changes the record so, the answer does.
 line : (y : ResponderRecord) (number : ℕ) (body : Body) (fits : Bool) (here others : Result Taking Refusal × ResponderRecord)
-    → (fits ≡ true → Change y number body here.1) → (fits ≡ false → Change y number body others.1) → Change y number body (if fits then here else others).1
+    → (fits ≡ true → Change y number body here.1) → (fits ≡ false → Change y number body others.1)
+    → Change y number body (if fits then here else others).1
 line y number body fits here others = cond_both fits here others (λ r. Change y number body r.1)
 
 -- Conditions wait for an answer in CONDITIONAL alone.
-waits_conditional : (c : ℕ) (state : State) (size : Option ℕ) → is_the c (if is_among (Conditional ∷ []) state then size else None) ≡ true → is_among (Conditional ∷ []) state ≡ true
+waits_conditional : (c : ℕ) (state : State) (size : Option ℕ)
+    → is_the c (if is_among (Conditional ∷ []) state then size else None) ≡ true
+    → is_among (Conditional ∷ []) state ≡ true
 waits_conditional c state size is = search rules
 
--- A no is answered, or leaves the record where no number is left.
-no_changes : (y : ResponderRecord) (number c : ℕ) (left : Bool) → nat_lt (length y.issued) 255 ≡ left → is_among undecided y.state ≡ true
+-- A no is answered, or leaves the record if no number is left.
+no_changes : (y : ResponderRecord) (number c : ℕ) (left : Bool) → nat_lt (length y.issued) 255 ≡ left
+    → is_among undecided y.state ≡ true
     → Change y number (types.ConditionalReply c false) (answers_no y (if left then Ok (length y.issued + 1) else Err NumbersUsed)).1
 no_changes y number c true few waiting = declines c waiting few
 no_changes y number c false few waiting = leaves _
@@ -94,7 +98,8 @@ takes_changes y a = unless_changes y a.number a.body (first_refusal y.txn (not (
 -- ---- numbers
 
 -- A change leaves at most 255 messages.
-change_few : (y new : ResponderRecord) (number : ℕ) (body : Body) → Change y number body new → length y.issued ≤ 255 → length new.issued ≤ 255
+change_few : (y new : ResponderRecord) (number : ℕ) (body : Body) → Change y number body new → length y.issued ≤ 255
+    → length new.issued ≤ 255
 change_few y new number body (leaves _) few = few
 change_few y new number body (requests expiry item a idle) few = few
 change_few y new number body (accepts c waits) few = few
@@ -112,16 +117,17 @@ takes_few y a = change_few y (takes y a).1 a.number a.body (takes_changes y a)
 
 -- ---- a message that has come was heard
 
--- the record after an answer has heard the message
+-- The record after the answer has heard the message.
 data Heard (number : ℕ) (body : Body) (answer : Result Taking Refusal × ResponderRecord) : Type 0 where
   hears : has_heard answer.1 number body ≡ true → Heard number body answer
 
 -- If each line leads to a record that has heard the message, the first that fits does.
 heard_line : (number : ℕ) (body : Body) (fits : Bool) (here others : Result Taking Refusal × ResponderRecord)
-    → (fits ≡ true → Heard number body here) → (fits ≡ false → Heard number body others) → Heard number body (if fits then here else others)
+    → (fits ≡ true → Heard number body here) → (fits ≡ false → Heard number body others)
+    → Heard number body (if fits then here else others)
 heard_line number body fits here others = cond_both fits here others (Heard number body)
 
--- A no that was not answered for want of a number has been heard.
+-- After a no the record has heard it, with a number left for the answer or without.
 no_heard : (y : ResponderRecord) (number c : ℕ) (left : Bool) → nat_lt (length y.issued) 255 ≡ left
     → has_heard (answers_no y (if left then Ok (length y.issued + 1) else Err NumbersUsed)).1 number (types.ConditionalReply c false) ≡ true
 no_heard y number c true few = refl
@@ -131,11 +137,12 @@ no_heard y number c false few = or_right (not (is_among undecided y.state)) _ (n
 received_heard : (is_later marked : Bool) → is_later && not marked ≡ false → implies is_later marked ≡ true
 received_heard is_later marked none = search rules
 
--- A Renew that is above the last one, and finds no state for it, has been heard.
-renew_heard : (state : State) (above : Bool) → is_among (Shipped ∷ []) state ≡ false → is_among (Overdue ∷ []) state ≡ false → not (is_among (Shipped ∷ Overdue ∷ []) state) || above ≡ true
+-- A Renew in neither SHIPPED nor OVERDUE has been heard.
+renew_heard : (state : State) (above : Bool) → is_among (Shipped ∷ []) state ≡ false
+    → is_among (Overdue ∷ []) state ≡ false → not (is_among (Shipped ∷ Overdue ∷ []) state) || above ≡ true
 renew_heard state above one other = search rules
 
--- A message that is not refused has been heard.
+-- After a message that is not refused, the record has heard it.
 message_heard : (y : ResponderRecord) (a : Apdu) (body : Body) → Heard a.number body (take_message y a body)
 message_heard y a (types.IllRequest expiry item) =
     heard_line _ _ (is_among (Idle ∷ []) y.state) _ _ (λ _. hears refl) (λ begun. hears (not_from_false _ begun))
@@ -162,18 +169,21 @@ message_heard y a types.Returned =
 message_heard y a other = hears refl
 
 -- The record after such an answer has heard the message.
-is_heard : (number : ℕ) (body : Body) (answer : Result Taking Refusal × ResponderRecord) → Heard number body answer → has_heard answer.1 number body ≡ true
+is_heard : (number : ℕ) (body : Body) (answer : Result Taking Refusal × ResponderRecord) → Heard number body answer
+    → has_heard answer.1 number body ≡ true
 is_heard number body answer (hears is) = is
 
 -- A message of the transaction that the other side issues is not refused before its line.
-not_refused : (same theirs : Bool) (y : ResponderRecord) (answer : Result Taking Refusal × ResponderRecord) → same ≡ true → theirs ≡ true
+not_refused : (same theirs : Bool) (y : ResponderRecord) (answer : Result Taking Refusal × ResponderRecord)
+    → same ≡ true → theirs ≡ true
     → unless_refused (if same then (if not theirs then Some WrongRole else None) else Some OtherTransaction) y answer ≡ answer
 not_refused true true y answer here issued = refl
 not_refused false theirs y answer here issued = search rules
 not_refused true false y answer here issued = search rules
 
--- A message of the transaction that has come was heard.
-pub takes_heard : (y : ResponderRecord) (a : Apdu) → is_same_txn a.txn y.txn ≡ true → is_requesters a.body ≡ true → has_heard (takes y a).1 a.number a.body ≡ true
+-- After a requester's message of the transaction, the record has heard it.
+pub takes_heard : (y : ResponderRecord) (a : Apdu) → is_same_txn a.txn y.txn ≡ true → is_requesters a.body ≡ true
+    → has_heard (takes y a).1 a.number a.body ≡ true
 takes_heard y a same theirs =
     let line = not_refused (is_same_txn a.txn y.txn) (is_requesters a.body) y (take_message y a a.body) same theirs in
     is_heard a.number a.body (takes y a) (subst (Heard a.number a.body) (sym line) (message_heard y a a.body))
@@ -184,20 +194,21 @@ takes_heard y a same theirs =
 undecided_conditional : (state : State) → is_among (Conditional ∷ []) state ≡ true → is_among undecided state ≡ true
 undecided_conditional state is = search rules
 
--- An item that is out was shipped.
+-- If the item is out, the state is SHIPPED or later.
 later_lent : (state : State) → is_among lent state ≡ true → is_among later state ≡ true
 later_lent state is = search rules
 
--- An item in SHIPPED is out.
+-- In SHIPPED the item is out.
 lent_shipped : (state : State) → is_among (Shipped ∷ []) state ≡ true → is_among lent state ≡ true
 lent_shipped state is = search rules
 
--- An item in OVERDUE is out.
+-- In OVERDUE the item is out.
 lent_overdue : (state : State) → is_among (Overdue ∷ []) state ≡ true → is_among lent state ≡ true
 lent_overdue state is = search rules
 
--- A request reopens a no and a Cancel alone.
-requests_stays : (y : ResponderRecord) (a : Apdu) (expiry : Option Date) (item : List ℕ) (number : ℕ) (body : Body) → reopens (types.IllRequest expiry item) body ≡ false
+-- An ILL-Request reopens a Conditional-Reply no and a Cancel alone.
+requests_stays : (y : ResponderRecord) (a : Apdu) (expiry : Option Date) (item : List ℕ) (number : ℕ) (body : Body)
+    → reopens (types.IllRequest expiry item) body ≡ false
     → has_heard (record y { state = InProcess; request = Some a }) number body ≡ true
 requests_stays y a expiry item number (types.ConditionalReply c false) none = search rules
 requests_stays y a expiry item number (types.ConditionalReply c true) none = refl
@@ -205,7 +216,8 @@ requests_stays y a expiry item number types.Cancel none = search rules
 requests_stays y a expiry item number body none = refl
 
 -- Conditions that are accepted reopen nothing.
-accepts_stays : (y : ResponderRecord) (c number : ℕ) (body : Body) → is_among undecided y.state ≡ true → has_heard y number body ≡ true
+accepts_stays : (y : ResponderRecord) (c number : ℕ) (body : Body) → is_among undecided y.state ≡ true
+    → has_heard y number body ≡ true
     → has_heard (record y { state = InProcess; accepted = Some c }) number body ≡ true
 accepts_stays y c number (types.ConditionalReply n false) waiting h = search rules
 accepts_stays y c number (types.ConditionalReply n true) waiting h = refl
@@ -213,26 +225,30 @@ accepts_stays y c number types.Cancel waiting h = search rules
 accepts_stays y c number body waiting h = refl
 
 -- A no that is answered reopens nothing.
-declines_stays : (y : ResponderRecord) (number : ℕ) (body : Body) → has_heard (issues_to y (types.IllAnswer results.Unfilled) NotSupplied) number body ≡ true
+declines_stays : (y : ResponderRecord) (number : ℕ) (body : Body)
+    → has_heard (issues_to y (types.IllAnswer results.Unfilled) NotSupplied) number body ≡ true
 declines_stays y number (types.ConditionalReply n true) = refl
 declines_stays y number (types.ConditionalReply n false) = refl
 declines_stays y number body = refl
 
 -- A Cancel reopens nothing.
-cancels_stays : (y : ResponderRecord) (last : Option ℕ) (number : ℕ) (body : Body) → has_heard (record y { state = CancelPending; last_cancel = last }) number body ≡ true
+cancels_stays : (y : ResponderRecord) (last : Option ℕ) (number : ℕ) (body : Body)
+    → has_heard (record y { state = CancelPending; last_cancel = last }) number body ≡ true
 cancels_stays y last number (types.ConditionalReply n true) = refl
 cancels_stays y last number (types.ConditionalReply n false) = refl
 cancels_stays y last number body = refl
 
 -- A Received reopens nothing.
-arrives_stays : (y : ResponderRecord) (number : ℕ) (body : Body) → has_heard y number body ≡ true → has_heard (record y { received = true }) number body ≡ true
+arrives_stays : (y : ResponderRecord) (number : ℕ) (body : Body) → has_heard y number body ≡ true
+    → has_heard (record y { received = true }) number body ≡ true
 arrives_stays y number (types.ConditionalReply n true) h = h
 arrives_stays y number (types.ConditionalReply n false) h = h
 arrives_stays y number types.Received h = or_right (not (is_among later y.state)) _ refl
 arrives_stays y number body h = h
 
 -- A Renew reopens nothing.
-renews_stays : (y : ResponderRecord) (next : State) (last : Option ℕ) (number : ℕ) (body : Body) → is_among lent y.state ≡ true → is_among (RenewPending ∷ RenewOverdue ∷ []) next ≡ true
+renews_stays : (y : ResponderRecord) (next : State) (last : Option ℕ) (number : ℕ) (body : Body)
+    → is_among lent y.state ≡ true → is_among (RenewPending ∷ RenewOverdue ∷ []) next ≡ true
     → has_heard y number body ≡ true → has_heard (record y { state = next; last_renew = last }) number body ≡ true
 renews_stays y RenewPending last number (types.ConditionalReply n true) out there h = refl
 renews_stays y RenewPending last number (types.ConditionalReply n false) out there h = refl
@@ -247,14 +263,16 @@ renews_stays y RenewOverdue last number body out there h = refl
 renews_stays y next last number body out there h = search rules
 
 -- A Returned reopens nothing.
-returns_stays : (y : ResponderRecord) (number : ℕ) (body : Body) → is_among lent y.state ≡ true → has_heard y number body ≡ true → has_heard (record y { state = Returned }) number body ≡ true
+returns_stays : (y : ResponderRecord) (number : ℕ) (body : Body) → is_among lent y.state ≡ true
+    → has_heard y number body ≡ true → has_heard (record y { state = Returned }) number body ≡ true
 returns_stays y number (types.ConditionalReply n true) out h = refl
 returns_stays y number (types.ConditionalReply n false) out h = refl
 returns_stays y number types.Received out h = search (rules, later_lent y.state out)
 returns_stays y number body out h = refl
 
 -- A change reopens nothing but what its message reopens.
-change_stays : (y new : ResponderRecord) (first : ℕ) (by : Body) (number : ℕ) (body : Body) → Change y first by new → reopens by body ≡ false → has_heard y number body ≡ true
+change_stays : (y new : ResponderRecord) (first : ℕ) (by : Body) (number : ℕ) (body : Body) → Change y first by new
+    → reopens by body ≡ false → has_heard y number body ≡ true
     → has_heard new number body ≡ true
 change_stays y _ first _ number body (leaves by) none h = h
 change_stays y _ first _ number body (requests expiry item a idle) none h = requests_stays y a expiry item number body none
@@ -266,6 +284,7 @@ change_stays y _ first _ number body (renews wished above here) none h = renews_
 change_stays y _ first _ number body (renews_late wished above here) none h = renews_stays y RenewOverdue (Some first) number body (lent_overdue y.state here) refl h
 change_stays y _ first _ number body (returns out) none h = returns_stays y number body out h
 
--- What a record has heard it has heard after each message that does not reopen it.
-pub takes_stays : (y : ResponderRecord) (a : Apdu) (number : ℕ) (body : Body) → reopens a.body body ≡ false → has_heard y number body ≡ true → has_heard (takes y a).1 number body ≡ true
+-- A message that was heard stays heard after the next APDU, unless that reopens it.
+pub takes_stays : (y : ResponderRecord) (a : Apdu) (number : ℕ) (body : Body) → reopens a.body body ≡ false
+    → has_heard y number body ≡ true → has_heard (takes y a).1 number body ≡ true
 takes_stays y a number body = change_stays y (takes y a).1 a.number a.body number body (takes_changes y a)

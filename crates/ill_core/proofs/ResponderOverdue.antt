@@ -33,54 +33,56 @@ use Rattle.ill_core.proofs.ResponderLaws.{not_both}
 use Rattle.ill_core.proofs.ResponderMoves.{Change, takes_changes, leaves, requests, accepts, declines, cancels, arrives, returns}
 use Rattle.ill_core.proofs.ResponderMoves as changes
 
--- the states in which an Overdue for the due date was issued
+-- The states in which an Overdue for the due date was issued.
 abbrev overdue : List State
 overdue = Overdue ∷ RenewOverdue ∷ []
 
--- the states in which one may have been issued
+-- The states in which an Overdue for the due date may have been issued.
 abbrev reminded : List State
 reminded = Overdue ∷ RenewOverdue ∷ Recall ∷ Returned ∷ CheckedIn ∷ []
 
--- an Overdue for this day was issued
+-- Returns true if an Overdue for this day was issued.
 abbrev has_overdue : Date → List Apdu → Bool
 has_overdue due apdus = has (is_overdue_of due) apdus
 
--- the day is not after the due date
+-- The day is not after the due date.
 abbrev IsDated : List Apdu → Date → Type 0
 IsDated apdus day = (due : Date) × (last_of granted_day apdus ≡ Some due) × (is_before due day ≡ false)
 
--- each Overdue has such a date
+-- P holds of the date of each Overdue.
 abbrev AllOverdues : (Date → Type 0) → List Apdu → Type 0
 AllOverdues P apdus = (n : ℕ) (a : Apdu) (day : Date) → message apdus n ≡ Some a → a.body ≡ types.Overdue day → P day
 
--- an Overdue has its date and its state, and its place behind the grant of its date
+-- An Overdue has its date and its state, and its place after the grant of its date.
 abbrev HasOverduePlace : ResponderRecord → Type 0
 HasOverduePlace y = OverdueFits y × GrantsBeforeOverdue y.issued
 
--- the day is after that of each Overdue
+-- The day is after that of each Overdue.
 abbrev IsAfterOverdues : List Apdu → Date → Type 0
 IsAfterOverdues apdus due = AllOverdues (λ day. is_before day due ≡ true) apdus
 
 -- ---- what an APDU says of days
 
--- An Overdue for a day has a date that is the same day.
-overdue_day : (due : Date) (body : Body) → is_overdue_of due body ≡ true → (day : Date) × (body ≡ types.Overdue day) × (is_same_day day due ≡ true)
+-- An Overdue for a day has a date that is equal to it.
+overdue_day : (due : Date) (body : Body) → is_overdue_of due body ≡ true
+    → (day : Date) × (body ≡ types.Overdue day) × (is_same_day day due ≡ true)
 overdue_day due (types.Overdue day) is = (day, refl, is)
 overdue_day due body is = search rules
 
 -- An APDU that is no Overdue for any day is none.
-never_overdue : {P : Type 0} (body : Body) (day : Date) → ((due : Date) → is_overdue_of due body ≡ false) → body ≡ types.Overdue day → P
+never_overdue : {P : Type 0} (body : Body) (day : Date) → ((due : Date) → is_overdue_of due body ≡ false)
+    → body ≡ types.Overdue day → P
 never_overdue body day other is = not_both _ (other day) (ap (is_overdue_of day) is ∙ same_itself day)
 
--- If two Overdues are the same, so are their days.
+-- If two Overdues are equal, so are their dates.
 overdue_same : (due day : Date) → types.Overdue due ≡ types.Overdue day → due ≡ day
 overdue_same due day is = search rules
 
--- Two days that stand in one place are equal.
+-- Two days that are the value of one option are equal.
 day_same : (o : Option Date) (d e : Date) → o ≡ Some d → o ≡ Some e → d ≡ e
 day_same o d e one other = search rules
 
--- A day is not there if none is.
+-- No day is there if the option is empty.
 none_there : {P : Type 0} (o : Option Date) (d : Date) → o ≡ None → o ≡ Some d → P
 none_there o d none there = search rules
 
@@ -97,14 +99,15 @@ none_for apdus due after there =
     let day = overdue_day due said.1.body said.3 in
     absurd (not_before_same day.0 due day.2 (after said.0 said.1 day.0 said.2 day.1))
 
--- If a day is before another, that is not before it.
+-- If a day is before another, the other is not before it.
 not_before_back : (a b : Date) → is_before a b ≡ true → is_before b a ≡ false
 not_before_back a b before = false_from_ne_true (is_before b a) (λ back. not_before_itself a (before_on a b a before back))
 
 -- ---- one more APDU
 
--- Every Overdue of a list that has one more is after the grant of its date, if a new grant is of a later one.
-order_more : (apdus : List Apdu) (a : Apdu) → GrantsBeforeOverdue apdus → ((due : Date) → grant_in a.body ≡ Some due → IsAfterOverdues apdus due) → GrantsBeforeOverdue (apdus ++ a ∷ [])
+-- With one more APDU each Overdue still follows the grant of its date, if new grants are for later dates.
+order_more : (apdus : List Apdu) (a : Apdu) → GrantsBeforeOverdue apdus
+    → ((due : Date) → grant_in a.body ≡ Some due → IsAfterOverdues apdus due) → GrantsBeforeOverdue (apdus ++ a ∷ [])
 order_more apdus a h newest m n c b e due day at_m at_n grants is same = go (message_more apdus a b m at_m) (message_more apdus a e n at_n)
   where
     go : ((message apdus m ≡ Some b) × (m ≤ length apdus)) ⊎ ((m ≡ length apdus + 1) × (a ≡ b))
@@ -116,8 +119,9 @@ order_more apdus a h newest m n c b e due day at_m at_n grants is same = go (mes
         absurd (not_before_same day due same (newest due granted n e day older.0 is))
     go (inr new) (inr also) = one_type a.body c due day (ap (λ (x : Apdu). grant_of x.body) new.1 ∙ grants) (ap (λ (x : Apdu). x.body) also.1 ∙ is)
 
--- Each Overdue of a list that has one more has such a date, if the older ones and the new one have.
-overdue_more : (P : Date → Type 0) (apdus : List Apdu) (a : Apdu) → AllOverdues P apdus → ((day : Date) → a.body ≡ types.Overdue day → P day) → AllOverdues P (apdus ++ a ∷ [])
+-- P holds of each Overdue with one more APDU, if it holds of the old ones and the new one.
+overdue_more : (P : Date → Type 0) (apdus : List Apdu) (a : Apdu) → AllOverdues P apdus
+    → ((day : Date) → a.body ≡ types.Overdue day → P day) → AllOverdues P (apdus ++ a ∷ [])
 overdue_more P apdus a old newest n b day at is = go (message_more apdus a b n at)
   where
     go : ((message apdus n ≡ Some b) × (n ≤ length apdus)) ⊎ ((n ≡ length apdus + 1) × (a ≡ b)) → P day
@@ -125,21 +129,24 @@ overdue_more P apdus a old newest n b day at is = go (message_more apdus a b n a
     go (inr new) = newest day (ap (λ (x : Apdu). x.body) new.1 ∙ is)
 
 -- One more APDU that is no Overdue leaves those for a day.
-overdue_stays : (apdus : List Apdu) (a : Apdu) (due : Date) → is_overdue_of due a.body ≡ false → has_overdue due (apdus ++ a ∷ []) ≡ has_overdue due apdus
+overdue_stays : (apdus : List Apdu) (a : Apdu) (due : Date) → is_overdue_of due a.body ≡ false
+    → has_overdue due (apdus ++ a ∷ []) ≡ has_overdue due apdus
 overdue_stays apdus a due other = has_more (is_overdue_of due) apdus a ∙ (ap (λ b. has_overdue due apdus || b) other ∙ or-false (has_overdue due apdus))
 
 -- One more APDU that grants no date leaves the due date.
-due_stays : (apdus : List Apdu) (a : Apdu) → grant_in a.body ≡ None → last_of granted_day (apdus ++ a ∷ []) ≡ last_of granted_day apdus
+due_stays : (apdus : List Apdu) (a : Apdu) → grant_in a.body ≡ None
+    → last_of granted_day (apdus ++ a ∷ []) ≡ last_of granted_day apdus
 due_stays apdus a none = ap (last_or None) (found_none granted_day apdus a none)
 
 -- A date that is not after the due date stays so if no date is granted.
-dated_stays : (apdus : List Apdu) (a : Apdu) → grant_in a.body ≡ None → AllOverdues (IsDated apdus) apdus → AllOverdues (IsDated (apdus ++ a ∷ [])) apdus
+dated_stays : (apdus : List Apdu) (a : Apdu) → grant_in a.body ≡ None → AllOverdues (IsDated apdus) apdus
+    → AllOverdues (IsDated (apdus ++ a ∷ [])) apdus
 dated_stays apdus a none h n b day at is =
     let old = h n b day at is in
     (old.0, due_stays apdus a none ∙ old.1, old.2)
 
--- an APDU that is issued, and the state that it leads to: neither a grant nor an Overdue, or a grant of a date after
--- that of each Overdue, or an Overdue for the due date
+-- The APDU that is issued is neither a grant nor an Overdue. Or it grants a date after that of each Overdue, or is an
+-- Overdue for the due date.
 data Notice (y : ResponderRecord) : Body → State → Type 0 where
   says_neither : (body : Body) (next : State) → grant_in body ≡ None → ((due : Date) → is_overdue_of due body ≡ false)
       → (is_among overdue next ≡ true → is_among overdue y.state ≡ true) → (is_among reminded y.state ≡ true → is_among reminded next ≡ true) → Notice y body next
@@ -148,8 +155,10 @@ data Notice (y : ResponderRecord) : Body → State → Type 0 where
   warns : (next : State) (due : Date) → due_of y ≡ Some due → is_among reminded next ≡ true → Notice y (types.Overdue due) next
 
 -- An APDU that is neither a grant nor an Overdue keeps the place of an Overdue.
-neither_place : (y : ResponderRecord) (body : Body) (next : State) → grant_in body ≡ None → ((due : Date) → is_overdue_of due body ≡ false)
-    → (is_among overdue next ≡ true → is_among overdue y.state ≡ true) → (is_among reminded y.state ≡ true → is_among reminded next ≡ true)
+neither_place : (y : ResponderRecord) (body : Body) (next : State) → grant_in body ≡ None
+    → ((due : Date) → is_overdue_of due body ≡ false)
+    → (is_among overdue next ≡ true → is_among overdue y.state ≡ true)
+    → (is_among reminded y.state ≡ true → is_among reminded next ≡ true)
     → OverdueFits y → GrantsBeforeOverdue y.issued → HasOverduePlace (issues_to y body next)
 neither_place y body next none other leads stays h order =
     let a : Apdu = next_apdu y.txn y.issued body in
@@ -163,8 +172,10 @@ neither_place y body next none other leads stays h order =
     )
 
 -- A grant of a date after that of each Overdue keeps the place of an Overdue.
-grants_place : (y : ResponderRecord) (body : Body) (next : State) (due : Date) → grant_in body ≡ Some due → ((day : Date) → is_overdue_of day body ≡ false)
-    → IsAfterOverdues y.issued due → is_among overdue next ≡ false → OverdueFits y → GrantsBeforeOverdue y.issued → HasOverduePlace (issues_to y body next)
+grants_place : (y : ResponderRecord) (body : Body) (next : State) (due : Date) → grant_in body ≡ Some due
+    → ((day : Date) → is_overdue_of day body ≡ false)
+    → IsAfterOverdues y.issued due → is_among overdue next ≡ false → OverdueFits y → GrantsBeforeOverdue y.issued
+    → HasOverduePlace (issues_to y body next)
 grants_place y body next due granted other later_day leaves_off h order =
     let a : Apdu = next_apdu y.txn y.issued body in
     let new_due = last_of_more granted_day y.issued a due granted in (
@@ -193,8 +204,9 @@ warns_place y next due there leads h order =
       order_more y.issued a order (λ d is. none_there None d refl is),
     )
 
--- An APDU that is issued so keeps the place of an Overdue.
-notice_place : (y : ResponderRecord) (body : Body) (next : State) → Notice y body next → OverdueFits y → GrantsBeforeOverdue y.issued → HasOverduePlace (issues_to y body next)
+-- An APDU of `Notice` keeps the place of an Overdue.
+notice_place : (y : ResponderRecord) (body : Body) (next : State) → Notice y body next → OverdueFits y
+    → GrantsBeforeOverdue y.issued → HasOverduePlace (issues_to y body next)
 notice_place y _ _ (says_neither body next none other leads stays) = neither_place y body next none other leads stays
 notice_place y _ _ (grants body next due granted other later_day off) = grants_place y body next due granted other later_day off
 notice_place y _ _ (warns next due there leads) = warns_place y next due there leads
@@ -202,18 +214,20 @@ notice_place y _ _ (warns next due there leads) = warns_place y next due there l
 -- ---- deeds
 
 -- A day after the due date is after that of each Overdue.
-renewal_after : (y : ResponderRecord) (due : Date) → OverdueFits y → is_after_due due (due_of y) ≡ true → IsAfterOverdues y.issued due
+renewal_after : (y : ResponderRecord) (due : Date) → OverdueFits y → is_after_due due (due_of y) ≡ true
+    → IsAfterOverdues y.issued due
 renewal_after y due h after n a day at is =
     let dated = h.dated n a day at is in
     after_granted due (due_of y) dated.0 day dated.1 dated.2 after
 
--- If no date was granted, there is no Overdue that a day has to be after.
-first_after : (y : ResponderRecord) (due : Date) → OverdueFits y → filter_map granted_day y.issued ≡ [] → IsAfterOverdues y.issued due
+-- If no date was granted, each day is after that of each Overdue, since there is none.
+first_after : (y : ResponderRecord) (due : Date) → OverdueFits y → filter_map granted_day y.issued ≡ []
+    → IsAfterOverdues y.issued due
 first_after y due h none n a day at is =
     let dated = h.dated n a day at is in
     absurd (last_none y.issued dated.0 none dated.1)
 
--- A day that is there is what it is with no_date in place of none.
+-- A day that is there is the day that `unwrap_or` gives.
 there_is : (o : Option Date) → is_some o ≡ true → o ≡ Some (unwrap_or o no_date)
 there_is None there = search rules
 there_is (Some d) there = refl
@@ -224,16 +238,17 @@ due_is y h here =
     let counted = h.issued.shipped ∙ ap (λ b. if b then 1 else 0) here in
     there_is (due_of y) (due_there y.issued (omega (arith, counted)))
 
--- An item in SHIPPED was shipped.
+-- SHIPPED is one of the states SHIPPED or later.
 later_shipped : (state : State) → is_among (Shipped ∷ []) state ≡ true → is_among later state ≡ true
 later_shipped state is = search rules
 
--- An item in RENEW/PENDING was shipped.
+-- RENEW/PENDING is one of the states SHIPPED or later.
 later_renewing : (state : State) → is_among (RenewPending ∷ []) state ≡ true → is_among later state ≡ true
 later_renewing state is = search rules
 
--- A line issues such an APDU and leads to such a state.
-line_notice : (y : ResponderRecord) (line : Line) → IsLine y line → ResponderRules y → OverdueFits y → Notice y line.body line.next
+-- A line issues an APDU of `Notice`, and leads to a state of it.
+line_notice : (y : ResponderRecord) (line : Line) → IsLine y line → ResponderRules y → OverdueFits y
+    → Notice y line.body line.next
 line_notice y _ (answers answer is) h fits = says_neither _ _ refl (λ due. refl) (λ there. search rules) (λ there. search rules)
 line_notice y _ (allows_cancel is) h fits = says_neither _ _ refl (λ due. refl) (λ there. search rules) (λ there. search rules)
 line_notice y _ (refuses_cancel is) h fits = says_neither _ _ refl (λ due. refl) (λ there. search rules) (λ there. search rules)
@@ -258,8 +273,10 @@ acts_overdue y new deed today done kept h order =
 -- ---- messages
 
 -- A change that issues nothing keeps the place of an Overdue, if its states fit.
-moves_overdue : (y new : ResponderRecord) → new.issued ≡ y.issued → (is_among overdue new.state ≡ true → is_among overdue y.state ≡ true)
-    → (is_among reminded y.state ≡ true → is_among reminded new.state ≡ true) → OverdueFits y → GrantsBeforeOverdue y.issued → HasOverduePlace new
+moves_overdue : (y new : ResponderRecord) → new.issued ≡ y.issued
+    → (is_among overdue new.state ≡ true → is_among overdue y.state ≡ true)
+    → (is_among reminded y.state ≡ true → is_among reminded new.state ≡ true) → OverdueFits y
+    → GrantsBeforeOverdue y.issued → HasOverduePlace new
 moves_overdue y new same leads stays h order = (
   record {
     dated = subst (λ apdus. AllOverdues (IsDated apdus) apdus) (sym same) h.dated;
@@ -269,12 +286,14 @@ moves_overdue y new same leads stays h order = (
   subst GrantsBeforeOverdue (sym same) order,
 )
 
--- An ILL-Answer to a no is such an APDU, and leads to such a state.
-declines_notice : (y : ResponderRecord) → is_among undecided y.state ≡ true → Notice y (types.IllAnswer results.Unfilled) NotSupplied
+-- The ILL-Answer to a no is an APDU of `Notice`, and leads to a state of it.
+declines_notice : (y : ResponderRecord) → is_among undecided y.state ≡ true
+    → Notice y (types.IllAnswer results.Unfilled) NotSupplied
 declines_notice y waiting = says_neither _ _ refl (λ due. refl) (λ there. search rules) (λ there. search rules)
 
 -- A change keeps the place of an Overdue.
-change_overdue : (y new : ResponderRecord) (number : ℕ) (body : Body) → Change y number body new → OverdueFits y → GrantsBeforeOverdue y.issued → HasOverduePlace new
+change_overdue : (y new : ResponderRecord) (number : ℕ) (body : Body) → Change y number body new → OverdueFits y
+    → GrantsBeforeOverdue y.issued → HasOverduePlace new
 change_overdue y _ number _ (leaves body) = λ h order. (h, order)
 change_overdue y _ number _ (requests expiry item a idle) = moves_overdue y _ refl (λ is. search rules) (λ is. search rules)
 change_overdue y _ number _ (accepts c there) = moves_overdue y _ refl (λ is. search rules) (λ is. search rules)
@@ -286,5 +305,6 @@ change_overdue y _ number _ (changes.renews_late wished above here) = moves_over
 change_overdue y _ number _ (returns out) = moves_overdue y _ refl (λ is. search rules) (λ is. refl)
 
 -- A message keeps the place of an Overdue.
-pub takes_overdue : (y : ResponderRecord) (a : Apdu) → OverdueFits y → GrantsBeforeOverdue y.issued → OverdueFits (takes y a).1 × GrantsBeforeOverdue (takes y a).1.issued
+pub takes_overdue : (y : ResponderRecord) (a : Apdu) → OverdueFits y → GrantsBeforeOverdue y.issued
+    → OverdueFits (takes y a).1 × GrantsBeforeOverdue (takes y a).1.issued
 takes_overdue y a = change_overdue y (takes y a).1 a.number a.body (takes_changes y a)

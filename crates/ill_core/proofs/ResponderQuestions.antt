@@ -1,4 +1,4 @@
--- The questions that a responder was asked, and that the last one was answered unless it waits.
+-- The questions that a responder was asked, and the answer to the last one, unless it waits.
 use Rattle.std.proofs.Common.{rules, ◌≡◌, ◌⊎◌, inl, inr, ℕ, Bool, true, false, ◌||◌, ◌==◌, List, [], ◌∷◌, ◌++◌, Option, Some, None, is_some, Ok, refl, ap, sym, eq-eqb, ◌∙◌}
 use Rattle.std.specs.List.{list_any, cons_option}
 use Rattle.std.specs.Option.{unwrap_or}
@@ -31,11 +31,11 @@ use Rattle.ill_core.proofs.ResponderMoves as changes
 
 -- ---- what was asked
 
--- a number is in the list
+-- Returns true if the number is in the list.
 abbrev is_in : ℕ → List ℕ → Bool
 is_in number ns = list_any (λ n. n == number) ns
 
--- Of two tests one is true, or the second is false at its end.
+-- If one of two tests holds, the first or the second holds.
 one_of : (a b : Bool) → a || (b || false) ≡ true → (a ≡ true) ⊎ (b ≡ true)
 one_of true b either = inl refl
 one_of false true either = inr refl
@@ -50,19 +50,23 @@ in_more ns m number is = go (one_of _ _ (sym (list_any-append (λ n. n == number
     go (inr new) = inr (eqb-true m number new)
 
 -- A question that was answered before or is answered now was asked, if its answer names the last one.
-last_or_before : (last : Option ℕ) (m number : ℕ) (before : Bool) → last ≡ Some m → (before ≡ true) ⊎ (m ≡ number) → (last ≡ Some number) ⊎ (before ≡ true)
+last_or_before : (last : Option ℕ) (m number : ℕ) (before : Bool) → last ≡ Some m → (before ≡ true) ⊎ (m ≡ number)
+    → (last ≡ Some number) ⊎ (before ≡ true)
 last_or_before last m number before is (inl old) = inr old
 last_or_before last m number before is (inr same) = inl (is ∙ ap Some same)
 
--- An APDU that answers no question answers no more of them.
-none_answered : (question : Question) (y : ResponderRecord) (body : Body) (next : State) (number : ℕ) → answered_number question body ≡ None
+-- An APDU that answers no question leaves those answered.
+none_answered : (question : Question) (y : ResponderRecord) (body : Body) (next : State) (number : ℕ)
+    → answered_number question body ≡ None
     → has_answered question (issues_to y body next) number ≡ has_answered question y number
 none_answered question y body next number none =
     ap (is_in number) (found_none (λ a. answered_number question a.body) y.issued (next_apdu y.txn y.issued body) none)
 
 -- A question that was answered after a line was asked before it.
-answered_asked : (question : Question) (y : ResponderRecord) (body : Body) (next : State) (number : ℕ) (o : Option ℕ) → answered_number question body ≡ o → Issues y body next
-    → implies (waits question y.state) (is_some (last_asked question y)) ≡ true → has_answered question (issues_to y body next) number ≡ true → WasAsked question y number
+answered_asked : (question : Question) (y : ResponderRecord) (body : Body) (next : State) (number : ℕ) (o : Option ℕ)
+    → answered_number question body ≡ o → Issues y body next
+    → implies (waits question y.state) (is_some (last_asked question y)) ≡ true
+    → has_answered question (issues_to y body next) number ≡ true → WasAsked question y number
 answered_asked question y body next number None none how there is = inr (sym (none_answered question y body next number none) ∙ is)
 answered_asked question y body next number (Some m) some how there is =
     let row = how.replies question m some in
@@ -72,30 +76,36 @@ answered_asked question y body next number (Some m) some how there is =
 
 -- A question that was asked after a line was asked before it.
 issues_asked : (question : Question) (y : ResponderRecord) (body : Body) (next : State) (number : ℕ) → Issues y body next
-    → implies (waits question y.state) (is_some (last_asked question y)) ≡ true → WasAsked question (issues_to y body next) number → WasAsked question y number
+    → implies (waits question y.state) (is_some (last_asked question y)) ≡ true
+    → WasAsked question (issues_to y body next) number → WasAsked question y number
 issues_asked question y body next number how there (inl last) = inl (sym (last_same question y body next) ∙ last)
 issues_asked question y body next number how there (inr is) = answered_asked question y body next number (answered_number question body) refl how there is
 
 -- A deed asks nothing.
-pub acts_asked : (question : Question) (y new : ResponderRecord) (deed : Deed) (today : Date) (number : ℕ) → acts y deed today ≡ Ok new
-    → implies (waits question y.state) (is_some (last_asked question y)) ≡ true → WasAsked question new number → WasAsked question y number
+pub acts_asked : (question : Question) (y new : ResponderRecord) (deed : Deed) (today : Date) (number : ℕ)
+    → acts y deed today ≡ Ok new
+    → implies (waits question y.state) (is_some (last_asked question y)) ≡ true → WasAsked question new number
+    → WasAsked question y number
 acts_asked question y new deed today number done there =
     of_acts (λ r. WasAsked question r number → WasAsked question y number) y new deed today
     (λ line leads how. issues_asked question y line.body line.next number how there) done
 
--- a question was asked, or it is the message that comes
+-- A question was asked, or it is the message that comes.
 abbrev AskedOrComes : Question → ResponderRecord → ℕ → Body → ℕ → Type 0
 AskedOrComes question y came body number = WasAsked question y number ⊎ ((asks question body ≡ true) × (came ≡ number))
 
 -- A message that issues nothing asks at most its own question.
-moves_asked : (question : Question) (y new : ResponderRecord) (came : ℕ) (body : Body) (number : ℕ) → new.issued ≡ y.issued → KeepsLast question y new ⊎ TakesNew question came body y new
+moves_asked : (question : Question) (y new : ResponderRecord) (came : ℕ) (body : Body) (number : ℕ)
+    → new.issued ≡ y.issued → KeepsLast question y new ⊎ TakesNew question came body y new
     → WasAsked question new number → AskedOrComes question y came body number
 moves_asked question y new came body number same how (inr is) = inl (inr (sym (ap (λ apdus. is_in number (answers_to question apdus)) same) ∙ is))
 moves_asked question y new came body number same (inl keeps) (inl last) = inl (inl (sym keeps.0 ∙ last))
 moves_asked question y new came body number same (inr asked) (inl last) = inr (asked.0, same_Some came number (sym asked.2 ∙ last))
 
 -- An ILL-Answer asks nothing.
-unfilled_asked : (question : Question) (y : ResponderRecord) (number : ℕ) → WasAsked question (issues_to y (types.IllAnswer results.Unfilled) NotSupplied) number → WasAsked question y number
+unfilled_asked : (question : Question) (y : ResponderRecord) (number : ℕ)
+    → WasAsked question (issues_to y (types.IllAnswer results.Unfilled) NotSupplied) number
+    → WasAsked question y number
 unfilled_asked question y number (inl last) = inl (sym (last_same question y (types.IllAnswer results.Unfilled) NotSupplied) ∙ last)
 unfilled_asked question y number (inr is) = inr (sym (none_answered question y (types.IllAnswer results.Unfilled) NotSupplied number (no_answer question)) ∙ is)
 
@@ -110,7 +120,8 @@ takes_asked question y a number =
 -- ---- that the last was answered
 
 -- A question that was answered stays so when one more APDU is issued.
-answered_more : (question : Question) (apdus : List Apdu) (a : Apdu) (number : ℕ) → is_in number (answers_to question apdus) ≡ true → is_in number (answers_to question (apdus ++ a ∷ [])) ≡ true
+answered_more : (question : Question) (apdus : List Apdu) (a : Apdu) (number : ℕ)
+    → is_in number (answers_to question apdus) ≡ true → is_in number (answers_to question (apdus ++ a ∷ [])) ≡ true
 answered_more question apdus a number is =
     ap (is_in number) (filter_map-append (λ b. answered_number question b.body) apdus (a ∷ []))
     ∙ (list_any-append (λ n. n == number) (answers_to question apdus) (cons_option (answered_number question a.body) []) ∙ or_left _ _ is)
@@ -120,7 +131,9 @@ in_end : (ns : List ℕ) (m number : ℕ) → m ≡ number → is_in number (ns 
 in_end ns m number same = list_any-append (λ n. n == number) ns (m ∷ []) ∙ or_right (is_in number ns) _ (or_left _ _ (eq-eqb m number same))
 
 -- A question is answered by one more APDU that names it.
-answered_now : (question : Question) (apdus : List Apdu) (a : Apdu) (m number : ℕ) → answered_number question a.body ≡ Some m → m ≡ number → is_in number (answers_to question (apdus ++ a ∷ [])) ≡ true
+answered_now : (question : Question) (apdus : List Apdu) (a : Apdu) (m number : ℕ)
+    → answered_number question a.body ≡ Some m → m ≡ number
+    → is_in number (answers_to question (apdus ++ a ∷ [])) ≡ true
 answered_now question apdus a m number names same =
     ap (is_in number) (found_more (λ b. answered_number question b.body) apdus a m names) ∙ in_end (answers_to question apdus) m number same
 
@@ -165,19 +178,21 @@ line_has_answered question y line (inr (inr now)) h number last decided =
 
 -- A deed leaves the last question answered, unless it waits or the item came back.
 pub acts_has_answered : (question : Question) (y new : ResponderRecord) (deed : Deed) (today : Date) → acts y deed today ≡ Ok new
-    → implies (waits question y.state) (is_some (last_asked question y)) ≡ true → HasAnsweredLast question y → HasAnsweredLast question new
+    → implies (waits question y.state) (is_some (last_asked question y)) ≡ true → HasAnsweredLast question y
+    → HasAnsweredLast question new
 acts_has_answered question y new deed today done there =
     of_acts (λ r. HasAnsweredLast question y → HasAnsweredLast question r) y new deed today
     (λ line is how. line_has_answered question y line (line_answers question y line is)) done
 
--- the last question may have no answer, or it is the one before, and had one if it has one now
+-- The last question may have no answer now. Or it is the one before, and needs an answer now only if it did then.
 abbrev KeepsAnswer : Question → ResponderRecord → ResponderRecord → Type 0
 KeepsAnswer question y new =
     (is_among (unanswered question) new.state ≡ true)
     ⊎ ((last_asked question new ≡ last_asked question y) × (is_among (unanswered question) new.state ≡ false → is_among (unanswered question) y.state ≡ false))
 
 -- A change keeps an answer, or leads to a state in which the last question may have none.
-change_answers : (question : Question) (y new : ResponderRecord) (number : ℕ) (body : Body) → Change y number body new → KeepsAnswer question y new
+change_answers : (question : Question) (y new : ResponderRecord) (number : ℕ) (body : Body) → Change y number body new
+    → KeepsAnswer question y new
 change_answers MayCancel y _ number _ (leaves body) = inr (refl, λ decided. decided)
 change_answers MayCancel y _ number _ (requests expiry item a idle) = inr (refl, λ _. search rules)
 change_answers MayCancel y _ number _ (accepts c there) = inr (refl, λ _. search rules)
@@ -198,20 +213,23 @@ change_answers MayRenew y _ number _ (changes.renews_late wished above here) = i
 change_answers MayRenew y _ number _ (returns out) = inl refl
 
 -- A question that was answered stays so when a message comes.
-answered_stays : (question : Question) (y new : ResponderRecord) (body : Body) (number : ℕ) → IssuesUnfilled y body new → has_answered question y number ≡ true → has_answered question new number ≡ true
+answered_stays : (question : Question) (y new : ResponderRecord) (body : Body) (number : ℕ)
+    → IssuesUnfilled y body new → has_answered question y number ≡ true → has_answered question new number ≡ true
 answered_stays question y new body number (inl same) is = ap (λ apdus. is_in number (answers_to question apdus)) same ∙ is
 answered_stays question y new body number (inr (said, more)) is =
     ap (λ apdus. is_in number (answers_to question apdus)) more
     ∙ answered_more question y.issued (next_apdu y.txn y.issued (types.IllAnswer results.Unfilled)) number is
 
 -- If the last question was answered before such a change, it was after it.
-change_has_answered : (question : Question) (y new : ResponderRecord) (body : Body) → KeepsAnswer question y new → IssuesUnfilled y body new
+change_has_answered : (question : Question) (y new : ResponderRecord) (body : Body) → KeepsAnswer question y new
+    → IssuesUnfilled y body new
     → HasAnsweredLast question y → HasAnsweredLast question new
 change_has_answered question y new body (inl may) issued h number last decided = not_both _ decided may
 change_has_answered question y new body (inr (same, before)) issued h number last decided =
     answered_stays question y new body number issued (h number (sym same ∙ last) (before decided))
 
 -- A message leaves the last question answered, unless it waits or the item came back.
-pub takes_has_answered : (question : Question) (y : ResponderRecord) (a : Apdu) → HasAnsweredLast question y → HasAnsweredLast question (takes y a).1
+pub takes_has_answered : (question : Question) (y : ResponderRecord) (a : Apdu) → HasAnsweredLast question y
+    → HasAnsweredLast question (takes y a).1
 takes_has_answered question y a =
     change_has_answered question y (takes y a).1 a.body (change_answers question y (takes y a).1 a.number a.body (takes_changes y a)) (takes_issue y a)

@@ -1,4 +1,4 @@
--- A responder issues its Recall after its Shipped, and it stands in RECALL, RETURNED and CHECKED-IN alone.
+-- A responder issues its Recall after its Shipped, and a record with a Recall is in RECALL, RETURNED or CHECKED-IN.
 use Rattle.std.proofs.Common.{rules, arith, ◌≡◌, ◌⊎◌, inl, inr, ℕ, ◌+◌, ◌<◌, ◌≤◌, true, false, List, [], ◌∷◌, ◌++◌, length, Some, Ok, refl, ap, sym, subst, ◌∙◌}
 use Rattle.std.proofs.lemmas.Bool.{or_cases, or_right, false_from_ne_true}
 use Rattle.ill_values.specs.Day.{Date}
@@ -24,7 +24,7 @@ use Rattle.ill_core.proofs.ResponderLaws.{not_both}
 use Rattle.ill_core.proofs.ResponderMoves.{Change, takes_changes, leaves, requests, accepts, declines, cancels, arrives, returns}
 use Rattle.ill_core.proofs.ResponderMoves as changes
 
--- the states in which a Recall may have been issued
+-- The states in which a Recall may have been issued.
 abbrev recalled : List State
 recalled = Recall ∷ Returned ∷ CheckedIn ∷ []
 
@@ -33,8 +33,9 @@ one_type : {P : Type 0} (body : Body) → is_shipped body ≡ true → is_recall
 one_type (types.Shipped due) shipped recall = search rules
 one_type body shipped recall = search rules
 
--- Every Recall of a list that has one more is after every Shipped, if a Shipped comes before any Recall.
-ships_before_more : (apdus : List Apdu) (a : Apdu) → ShipsBeforeRecall apdus → (is_shipped a.body ≡ true → has is_recall apdus ≡ false) → ShipsBeforeRecall (apdus ++ a ∷ [])
+-- With one more APDU every Recall is after every Shipped, if no Recall was issued before a new Shipped.
+ships_before_more : (apdus : List Apdu) (a : Apdu) → ShipsBeforeRecall apdus
+    → (is_shipped a.body ≡ true → has is_recall apdus ≡ false) → ShipsBeforeRecall (apdus ++ a ∷ [])
 ships_before_more apdus a h none m n b c at_m at_n shipped recall = go (message_more apdus a b m at_m) (message_more apdus a c n at_n)
   where
     go : ((message apdus m ≡ Some b) × (m ≤ length apdus)) ⊎ ((m ≡ length apdus + 1) × (a ≡ b))
@@ -45,14 +46,14 @@ ships_before_more apdus a h none m n b c at_m at_n shipped recall = go (message_
         not_both _ (none (ap (λ (x : Apdu). is_shipped x.body) new.1 ∙ shipped)) (message_says is_recall apdus n c older.0 recall)
     go (inr new) (inr also) = one_type a.body (ap (λ (x : Apdu). is_shipped x.body) new.1 ∙ shipped) (ap (λ (x : Apdu). is_recall x.body) also.1 ∙ recall)
 
--- an APDU that is issued, and the state that it leads to, fit a Recall
+-- The APDU that is issued, and the state to which it leads, fit a Recall.
 record FitsRecall (state : State) (body : Body) (next : State) : Type 0 where
   leads : is_among (Recall ∷ []) next ≡ true → is_recall body ≡ true
   after : is_recall body ≡ true → is_among recalled next ≡ true
   stays : is_among recalled state ≡ true → is_among recalled next ≡ true
   ships : is_shipped body ≡ true → is_among recalled state ≡ false
 
--- A line fits a Recall.
+-- The APDU of each line, and the state to which it leads, fit a Recall.
 line_recall : (y : ResponderRecord) (line : Line) → IsLine y line → FitsRecall y.state line.body line.next
 line_recall y _ (answers answer is) = search rules
 line_recall y _ (allows_cancel is) = search rules
@@ -67,12 +68,13 @@ line_recall y _ (recalls is) = search rules
 line_recall y _ (checks_in is) = search rules
 line_recall y _ (expires is) = search rules
 
--- a Recall has its state, and its place behind every Shipped
+-- A Recall has its state, and its place after every Shipped.
 abbrev HasRecallPlace : ResponderRecord → Type 0
 HasRecallPlace y = RecallFits y × ShipsBeforeRecall y.issued
 
 -- An APDU that fits a Recall keeps its place.
-issues_recall : (y : ResponderRecord) (body : Body) (next : State) → FitsRecall y.state body next → RecallFits y → ShipsBeforeRecall y.issued → HasRecallPlace (issues_to y body next)
+issues_recall : (y : ResponderRecord) (body : Body) (next : State) → FitsRecall y.state body next → RecallFits y
+    → ShipsBeforeRecall y.issued → HasRecallPlace (issues_to y body next)
 issues_recall y body next fits h order =
     let a : Apdu = next_apdu y.txn y.issued body in
     let none : is_shipped body ≡ true → has is_recall y.issued ≡ false = λ is. false_from_ne_true _ (λ there. not_both _ (fits.ships is) (h.after there)) in (
@@ -95,8 +97,10 @@ acts_recall y new deed today done =
     (λ line is how. issues_recall y line.body line.next (line_recall y line is)) done
 
 -- A change that issues nothing keeps the place of a Recall, if its states fit.
-moves_recall : (y new : ResponderRecord) → new.issued ≡ y.issued → (is_among (Recall ∷ []) new.state ≡ true → is_among (Recall ∷ []) y.state ≡ true)
-    → (is_among recalled y.state ≡ true → is_among recalled new.state ≡ true) → RecallFits y → ShipsBeforeRecall y.issued → HasRecallPlace new
+moves_recall : (y new : ResponderRecord) → new.issued ≡ y.issued
+    → (is_among (Recall ∷ []) new.state ≡ true → is_among (Recall ∷ []) y.state ≡ true)
+    → (is_among recalled y.state ≡ true → is_among recalled new.state ≡ true) → RecallFits y
+    → ShipsBeforeRecall y.issued → HasRecallPlace new
 moves_recall y new same before after h order = (
   record {
     issued = λ is. ap (has is_recall) same ∙ h.issued (before is);
@@ -105,12 +109,14 @@ moves_recall y new same before after h order = (
   subst ShipsBeforeRecall (sym same) order,
 )
 
--- An item that is not supplied was not recalled.
-declines_fits : (y : ResponderRecord) → is_among undecided y.state ≡ true → FitsRecall y.state (types.IllAnswer results.Unfilled) NotSupplied
+-- The ILL-Answer unfilled to a no, and NOT-SUPPLIED, fit a Recall: the item was not recalled.
+declines_fits : (y : ResponderRecord) → is_among undecided y.state ≡ true
+    → FitsRecall y.state (types.IllAnswer results.Unfilled) NotSupplied
 declines_fits y waiting = search rules
 
 -- A change keeps the place of a Recall.
-change_recall : (y new : ResponderRecord) (number : ℕ) (body : Body) → Change y number body new → RecallFits y → ShipsBeforeRecall y.issued → HasRecallPlace new
+change_recall : (y new : ResponderRecord) (number : ℕ) (body : Body) → Change y number body new → RecallFits y
+    → ShipsBeforeRecall y.issued → HasRecallPlace new
 change_recall y _ number _ (leaves body) = λ h order. (h, order)
 change_recall y _ number _ (requests expiry item a idle) = moves_recall y _ refl (λ is. search rules) (λ is. search rules)
 change_recall y _ number _ (accepts c there) = moves_recall y _ refl (λ is. search rules) (λ is. search rules)
@@ -122,5 +128,6 @@ change_recall y _ number _ (changes.renews_late wished above here) = moves_recal
 change_recall y _ number _ (returns out) = moves_recall y _ refl (λ is. search rules) (λ is. refl)
 
 -- A message keeps the place of a Recall.
-pub takes_recall : (y : ResponderRecord) (a : Apdu) → RecallFits y → ShipsBeforeRecall y.issued → RecallFits (takes y a).1 × ShipsBeforeRecall (takes y a).1.issued
+pub takes_recall : (y : ResponderRecord) (a : Apdu) → RecallFits y → ShipsBeforeRecall y.issued
+    → RecallFits (takes y a).1 × ShipsBeforeRecall (takes y a).1.issued
 takes_recall y a = change_recall y (takes y a).1 a.number a.body (takes_changes y a)

@@ -1,4 +1,4 @@
--- What each line of a responder's two tables changes.
+-- The changes that each line of a responder's two tables makes.
 use Rattle.std.proofs.Common.{rules, ◌≡◌, ◌⊎◌, inl, inr, ℕ, ◌+◌, ◌≤◌, length, Bool, true, false, not, ◌&&◌, ◌||◌, List, [], ◌∷◌, Option, Some, None, Result, Ok, Err, if◌then◌else◌, refl, ap, sym, subst}
 use Rattle.std.specs.Option.{unwrap_or}
 use Rattle.std.proofs.lemmas.Bool.{cond_both}
@@ -26,7 +26,8 @@ use Rattle.ill_core.specs.ResponderFacts.{Tells, Requested, Accepted, CancelAske
 use Rattle.ill_core.proofs.LineLemmas.{few_with_next}
 use Rattle.ill_core.proofs.ResponderLines.{IsLine, is_line, answers, allows_cancel, refuses_cancel, ships, renews, refuses_renewal, refuses_late, reminds, reminds_renewing, recalls, checks_in, expires}
 
--- a line that issues this, and leads to this state
+-- A line issues `body` and leads to `state`, from neither IDLE nor a final state. It enters the state of an end only
+-- by that end. It answers only the last question, while that waits.
 pub record Issues (y : ResponderRecord) (body : Body) (state : State) : Type 0 where
   pub begun : is_among (Idle ∷ []) y.state ≡ false
   pub final : is_among (NotSupplied ∷ Cancelled ∷ CheckedIn ∷ []) y.state ≡ false
@@ -42,7 +43,8 @@ pub record Issues (y : ResponderRecord) (body : Body) (state : State) : Type 0 w
   pub replies : (question : Question) (n : ℕ) → answered_number question body ≡ Some n
       → (waits question y.state ≡ true) × (waits question state ≡ false) × (n ≡ unwrap_or (last_asked question y) 0)
 
--- a line that issues nothing
+-- A line issues nothing, and leads to `new` for message `number` with `body`. It neither enters nor leaves an end,
+-- and keeps a request. It shows only facts that were shown before or that the message tells.
 pub record Moves (y : ResponderRecord) (number : ℕ) (body : Body) (new : ResponderRecord) : Type 0 where
   pub txn : new.txn ≡ y.txn
   pub issued : new.issued ≡ y.issued
@@ -60,6 +62,7 @@ pub record Moves (y : ResponderRecord) (number : ℕ) (body : Body) (new : Respo
   pub arrived : new.received ≡ true → (y.received ≡ true) ⊎ Tells number body Arrived
   pub sent_back : is_among (Returned ∷ CheckedIn ∷ []) new.state ≡ true → (is_among (Returned ∷ CheckedIn ∷ []) y.state ≡ true) ⊎ Tells number body SentBack
 
+-- Each line of a deed keeps to `Issues`.
 issues : (txn : Qualifiers) (state : State) (accepted last_cancel last_renew : Option ℕ) (received : Bool) (request : Option Apdu) (issued : List Apdu) (line : Line)
     → IsLine (responder_of txn state accepted last_cancel last_renew received request issued) line
     → Issues (responder_of txn state accepted last_cancel last_renew received request issued) line.body line.next
@@ -92,69 +95,83 @@ issues txn InProcess accepted last_cancel last_renew received request issued _ (
 issues txn Conditional accepted last_cancel last_renew received request issued _ (expires is) = search rules
 issues txn state accepted last_cancel last_renew received request issued _ (expires is) = search rules
 
--- a no is answered
+-- In IN-PROCESS and CONDITIONAL, the ILL-Answer unfilled to a no keeps to `Issues`.
 issues_no : (txn : Qualifiers) (state : State) (accepted last_cancel last_renew : Option ℕ) (received : Bool) (request : Option Apdu) (issued : List Apdu)
     → is_among (InProcess ∷ Conditional ∷ []) state ≡ true
     → Issues (responder_of txn state accepted last_cancel last_renew received request issued) (types.IllAnswer results.Unfilled) NotSupplied
 issues_no txn InProcess accepted last_cancel last_renew received request issued waiting = search rules
 issues_no txn state accepted last_cancel last_renew received request issued waiting = search rules
 
+-- To leave the record is a move.
 left : (y : ResponderRecord) (number : ℕ) (body : Body) → Moves y number body y
 left y number body = search rules
 
+-- To keep an ILL-Request in IDLE, and go to IN-PROCESS, is a move.
 requested : (txn : Qualifiers) (state : State) (accepted last_cancel last_renew : Option ℕ) (received : Bool) (request kept : Option Apdu) (issued : List Apdu) (number : ℕ) (expiry : Option Date) (item : List ℕ)
     → is_among (Idle ∷ []) state ≡ true
     → Moves (responder_of txn state accepted last_cancel last_renew received request issued) number (types.IllRequest expiry item) (responder_of txn InProcess accepted last_cancel last_renew received kept issued)
 requested txn Idle accepted last_cancel last_renew received request kept issued number expiry item idle = search rules
 requested txn state accepted last_cancel last_renew received request kept issued number expiry item idle = search rules
 
+-- To accept the outstanding conditions, and go to IN-PROCESS, is a move.
 accepts : (txn : Qualifiers) (state : State) (accepted last_cancel last_renew : Option ℕ) (received : Bool) (request : Option Apdu) (issued : List Apdu) (number c : ℕ)
     → is_the c (outstanding_number (responder_of txn state accepted last_cancel last_renew received request issued)) ≡ true
     → Moves (responder_of txn state accepted last_cancel last_renew received request issued) number (types.ConditionalReply c true) (responder_of txn InProcess (Some c) last_cancel last_renew received request issued)
 accepts txn Conditional accepted last_cancel last_renew received request issued number c there = search rules
 accepts txn state accepted last_cancel last_renew received request issued number c there = search rules
 
+-- To take a Cancel above the last one in IN-PROCESS or CONDITIONAL, and go to CANCEL-PENDING, is a move.
 cancel_asked : (txn : Qualifiers) (state : State) (accepted last_cancel last_renew : Option ℕ) (received : Bool) (request : Option Apdu) (issued : List Apdu) (number : ℕ)
     → is_at_most number last_cancel ≡ false → is_among (InProcess ∷ Conditional ∷ []) state ≡ true
     → Moves (responder_of txn state accepted last_cancel last_renew received request issued) number types.Cancel (responder_of txn CancelPending accepted (Some number) last_renew received request issued)
 cancel_asked txn InProcess accepted last_cancel last_renew received request issued number above waiting = search rules
 cancel_asked txn state accepted last_cancel last_renew received request issued number above waiting = search rules
 
+-- To set the received mark by a Received is a move.
 arrived : (y : ResponderRecord) (number : ℕ) → Moves y number types.Received (record y { received = true })
 arrived y number = search rules
 
+-- To take a Renew above the last one in SHIPPED or OVERDUE, and wait for its answer, is a move.
 renew_asked : (txn : Qualifiers) (state next : State) (accepted last_cancel last_renew : Option ℕ) (received : Bool) (request : Option Apdu) (issued : List Apdu) (number : ℕ) (wished : Option Date)
-    → is_at_most number last_renew ≡ false → is_among (Shipped ∷ Overdue ∷ []) state ≡ true → is_among (RenewPending ∷ RenewOverdue ∷ []) next ≡ true
+    → is_at_most number last_renew ≡ false → is_among (Shipped ∷ Overdue ∷ []) state ≡ true
+    → is_among (RenewPending ∷ RenewOverdue ∷ []) next ≡ true
     → Moves (responder_of txn state accepted last_cancel last_renew received request issued) number (types.Renew wished) (responder_of txn next accepted last_cancel (Some number) received request issued)
 renew_asked txn Shipped RenewPending accepted last_cancel last_renew received request issued number wished above here there = search rules
 renew_asked txn state next accepted last_cancel last_renew received request issued number wished above here there = search rules
 
+-- To take a Returned while the item is out, and go to RETURNED, is a move.
 sent_back : (txn : Qualifiers) (state : State) (accepted last_cancel last_renew : Option ℕ) (received : Bool) (request : Option Apdu) (issued : List Apdu) (number : ℕ)
     → is_among (Shipped ∷ RenewPending ∷ Overdue ∷ RenewOverdue ∷ Recall ∷ []) state ≡ true
     → Moves (responder_of txn state accepted last_cancel last_renew received request issued) number types.Returned (responder_of txn Returned accepted last_cancel last_renew received request issued)
 sent_back txn Shipped accepted last_cancel last_renew received request issued number out = search rules
 sent_back txn state accepted last_cancel last_renew received request issued number out = search rules
 
--- a row of deliveries: it moves or leaves the record, or answers a no
+-- A row of deliveries is a move that is taken or leaves the record, or it answers a no.
 data DeliveryRow (y : ResponderRecord) (number : ℕ) (body : Body) (answer : Result Taking Refusal × ResponderRecord) : Type 0 where
   moves : (answer.0 ≡ Ok Taken) ⊎ (answer.1 ≡ y) → Moves y number body answer.1 → DeliveryRow y number body answer
   replies_no : declines body ≡ true → answer ≡ (Ok Taken, issues_to y (types.IllAnswer results.Unfilled) NotSupplied)
       → Issues y (types.IllAnswer results.Unfilled) NotSupplied → DeliveryRow y number body answer
 
-left_row : (y : ResponderRecord) (number : ℕ) (body : Body) (answer : Result Taking Refusal) → DeliveryRow y number body (answer, y)
+-- An answer that leaves the record is a row of deliveries.
+left_row : (y : ResponderRecord) (number : ℕ) (body : Body) (answer : Result Taking Refusal)
+    → DeliveryRow y number body (answer, y)
 left_row y number body answer = moves (inr refl) (left y number body)
 
--- the first line that fits decides
+-- If each line that may be the first to fit is a row of deliveries, the answer is one.
 line : (y : ResponderRecord) (number : ℕ) (body : Body) (fits : Bool) (here others : Result Taking Refusal × ResponderRecord)
-    → (fits ≡ true → DeliveryRow y number body here) → (fits ≡ false → DeliveryRow y number body others) → DeliveryRow y number body (if fits then here else others)
+    → (fits ≡ true → DeliveryRow y number body here) → (fits ≡ false → DeliveryRow y number body others)
+    → DeliveryRow y number body (if fits then here else others)
 line y number body fits here others = cond_both fits here others (DeliveryRow y number body)
 
-answers_row : (y : ResponderRecord) (number c : ℕ) (next : Result ℕ Refusal) → is_among (InProcess ∷ Conditional ∷ []) y.state ≡ true
+-- In IN-PROCESS and CONDITIONAL, the answer to a no is a row of deliveries.
+answers_row : (y : ResponderRecord) (number c : ℕ) (next : Result ℕ Refusal)
+    → is_among (InProcess ∷ Conditional ∷ []) y.state ≡ true
     → DeliveryRow y number (types.ConditionalReply c false) (answers_no y next)
 answers_row y number c (Ok n) waiting =
     replies_no refl refl (issues_no y.txn y.state y.accepted y.last_cancel y.last_renew y.received y.request y.issued waiting)
 answers_row y number c (Err refusal) waiting = left_row y number _ _
 
+-- The answer to an APDU that is not refused is a row of deliveries.
 message_row : (y : ResponderRecord) (a : Apdu) (body : Body) → DeliveryRow y a.number body (take_message y a body)
 message_row y a (types.IllRequest expiry item) =
     line y _ _ (is_among (Idle ∷ []) y.state) _ _ (λ idle. moves (inl refl) (requested y.txn y.state y.accepted y.last_cancel y.last_renew y.received y.request (Some a) y.issued a.number expiry item idle)) (λ _.
@@ -183,51 +200,65 @@ message_row y a types.Returned =
     line y _ _ (is_among (Returned ∷ CheckedIn ∷ []) y.state) _ _ (λ _. left_row y _ _ _) (λ _. left_row y _ _ _))
 message_row y a other = left_row y a.number _ _
 
+-- A refusal is a row of deliveries, and the answer to an admitted APDU stays one.
 by_admission : (y : ResponderRecord) (number : ℕ) (body : Body) (refused : Option Refusal) (answer : Result Taking Refusal × ResponderRecord)
     → DeliveryRow y number body answer → DeliveryRow y number body (unless_refused refused y answer)
 by_admission y number body None answer row = row
 by_admission y number body (Some refusal) answer row = left_row y number body (Err refusal)
 
+-- The answer to each APDU is a row of deliveries.
 delivery_row : (y : ResponderRecord) (a : Apdu) → DeliveryRow y a.number a.body (takes y a)
 delivery_row y a = by_admission y a.number a.body (first_refusal y.txn (not (is_requesters a.body)) a) (take_message y a a.body) (message_row y a a.body)
 
-of_row : (P : ResponderRecord → Type 0) (y : ResponderRecord) (number : ℕ) (body : Body) (answer : Result Taking Refusal × ResponderRecord) → DeliveryRow y number body answer
+-- If P holds after each move, and after an answered no, it holds after a row of deliveries.
+of_row : (P : ResponderRecord → Type 0) (y : ResponderRecord) (number : ℕ) (body : Body) (answer : Result Taking Refusal × ResponderRecord)
+    → DeliveryRow y number body answer
     → (Moves y number body answer.1 → P answer.1)
-    → (declines body ≡ true → Issues y (types.IllAnswer results.Unfilled) NotSupplied → P (issues_to y (types.IllAnswer results.Unfilled) NotSupplied)) → P answer.1
+    → (declines body ≡ true → Issues y (types.IllAnswer results.Unfilled) NotSupplied → P (issues_to y (types.IllAnswer results.Unfilled) NotSupplied))
+    → P answer.1
 of_row P y number body answer (moves quiet how) where_moved where_answered = where_moved how
 of_row P y number body answer (replies_no said same how) where_moved where_answered = subst (λ r. P r.1) (sym same) (where_answered said how)
 
--- What holds where a message moves the record, and where it is answered, holds after every message.
+-- If P holds after each move, and after an answered no, it holds after each message.
 pub of_takes : (P : ResponderRecord → Type 0) (y : ResponderRecord) (a : Apdu)
     → (Moves y a.number a.body (takes y a).1 → P (takes y a).1)
-    → (declines a.body ≡ true → Issues y (types.IllAnswer results.Unfilled) NotSupplied → P (issues_to y (types.IllAnswer results.Unfilled) NotSupplied)) → P (takes y a).1
+    → (declines a.body ≡ true → Issues y (types.IllAnswer results.Unfilled) NotSupplied → P (issues_to y (types.IllAnswer results.Unfilled) NotSupplied))
+    → P (takes y a).1
 of_takes P y a = of_row P y a.number a.body (takes y a) (delivery_row y a)
 
-row_quiet : (y : ResponderRecord) (number : ℕ) (body : Body) (answer : Result Taking Refusal × ResponderRecord) → DeliveryRow y number body answer → (answer.0 ≡ Ok Taken) ⊎ (answer.1 ≡ y)
+-- A row of deliveries is taken, or leaves the record.
+row_quiet : (y : ResponderRecord) (number : ℕ) (body : Body) (answer : Result Taking Refusal × ResponderRecord)
+    → DeliveryRow y number body answer → (answer.0 ≡ Ok Taken) ⊎ (answer.1 ≡ y)
 row_quiet y number body answer (moves quiet how) = quiet
 row_quiet y number body answer (replies_no said same how) = inl (ap (λ r. r.0) same)
 
+-- A message that is not taken leaves the record.
 pub takes_quiet : (y : ResponderRecord) (a : Apdu) → ((takes y a).0 ≡ Ok Taken) ⊎ ((takes y a).1 ≡ y)
 takes_quiet y a = row_quiet y a.number a.body (takes y a) (delivery_row y a)
 
+-- If two records are equal as results, they are equal.
 ok_is : (x y : ResponderRecord) → ◌≡◌ {A = Result ResponderRecord Refusal} (Ok x) (Ok y) → x ≡ y
 ok_is x y h = search rules
 
+-- If P holds after each line that is found, it holds of the record after a deed.
 by_line : (P : ResponderRecord → Type 0) (y new : ResponderRecord) (found : Result Line Refusal) (number : Result ℕ Refusal)
     → ((line : Line) → found ≡ Ok line → P (record_after y line)) → acts_by y found number ≡ Ok new → P new
 by_line P y new (Err refusal) number leads done = search rules
 by_line P y new (Ok line) (Err refusal) leads done = search rules
 by_line P y new (Ok line) (Ok n) leads done = subst P (ok_is (record_after y line) new done) (leads line refl)
 
--- What holds after every line holds after a deed.
+-- If P holds after each line that keeps to `Issues`, it holds after a deed.
 pub of_acts : (P : ResponderRecord → Type 0) (y new : ResponderRecord) (deed : Deed) (today : Date)
-    → ((line : Line) → IsLine y line → Issues y line.body line.next → P (record_after y line)) → acts y deed today ≡ Ok new → P new
+    → ((line : Line) → IsLine y line → Issues y line.body line.next → P (record_after y line))
+    → acts y deed today ≡ Ok new → P new
 of_acts P y new deed today leads done =
     by_line P y new (line_of y deed today) (next_number y.issued) (λ line there.
     let is = is_line y deed today line there in
     leads line is (issues y.txn y.state y.accepted y.last_cancel y.last_renew y.received y.request y.issued line is)) done
 
-by_few : (y new : ResponderRecord) (found : Result Line Refusal) (number : Result ℕ Refusal) → next_number y.issued ≡ number → acts_by y found number ≡ Ok new → length new.issued ≤ 255
+-- After a deed a record has at most 255 messages, since a number was left.
+by_few : (y new : ResponderRecord) (found : Result Line Refusal) (number : Result ℕ Refusal)
+    → next_number y.issued ≡ number → acts_by y found number ≡ Ok new → length new.issued ≤ 255
 by_few y new (Err refusal) number next done = search rules
 by_few y new (Ok line) (Err refusal) next done = search rules
 by_few y new (Ok line) (Ok n) next done = subst (λ (r : ResponderRecord). length r.issued ≤ 255) (ok_is (record_after y line) new done) (few_with_next y.txn y.issued line.body n next)

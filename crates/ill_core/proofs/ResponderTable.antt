@@ -1,4 +1,4 @@
--- The rows of a responder's two tables say what its definitions say.
+-- The rows of a responder's two tables give what its definitions give.
 use Rattle.std.proofs.Common.{rules, ◌≡◌, ℕ, ◌+◌, nat_lt, length, IsOk, ◌&&◌, ◌||◌, not, Bool, true, false, List, Option, Some, None, Result, Ok, Err, if◌then◌else◌, refl, ap, subst, sym, ◌∙◌}
 use Rattle.std.specs.List.{list_all}
 use Rattle.std.specs.Option.{unwrap_or}
@@ -40,26 +40,28 @@ use Rattle.ill_core.proofs.ResponderKept.{message_kept, line_kept}
 use Rattle.ill_core.proofs.ResponderRows.{of_acts}
 use Rattle.ill_core.proofs.TableLemmas.{answer_of, lines, found_lines, lines_true}
 
--- what a row answers
+-- Returns the answer of a row to an APDU, and the record after it.
 abbrev pub hit : ResponderRecord → Apdu → Body → Row RequesterKind → Result Taking Refusal × ResponderRecord
 hit y a body row = unless_refused (number_refusal row.4 y.issued) y (Ok (taking_of row.3 y.state), after_delivery y a row (number_in a body))
 
--- what the rows of a kind answer, as tests one after another
+-- Returns the answer of the rows of a kind, as tests one after another.
 abbrev pub lines_of : ResponderRecord → Apdu → Body → Option RequesterKind → Result Taking Refusal × ResponderRecord
 lines_of y a body None = conflict y.state y
 lines_of y a body (Some kind) = lines y.state (delivery_facts y (number_in a body)) (hit y a body) (conflict y.state y) (delivery_rows kind)
 
+-- The rows of deliveries give what `take_message` gives, for this APDU and this record.
 abbrev pub LinesAre : Body → State → Qualifiers → Option ℕ → Option ℕ → Option ℕ → Bool → Option Apdu → List Apdu → Apdu → Type 0
 LinesAre body state txn accepted last_cancel last_renew received request issued a =
     lines_of (responder_of txn state accepted last_cancel last_renew received request issued) a body (requester_kind body)
     ≡ take_message (responder_of txn state accepted last_cancel last_renew received request issued) a body
 
--- a no takes the last number that is left, or is refused
+-- A no takes the last number that is left, or is refused.
 answered : (y : ResponderRecord) (next : Result ℕ Refusal)
     → unless_refused (refusal_of next) y (taken (issues_to y (types.IllAnswer Unfilled) NotSupplied)) ≡ answers_no y next
 answered y (Ok number) = refl
 answered y (Err refusal) = refl
 
+-- The rows of deliveries give what `take_message` gives, for each APDU and each state.
 pub tabled : (body : Body) (state : State) (txn : Qualifiers) (accepted last_cancel last_renew : Option ℕ) (received : Bool) (request : Option Apdu) (issued : List Apdu) (a : Apdu)
     → LinesAre body state txn accepted last_cancel last_renew received request issued a
 tabled (types.ConditionalReply c true) Idle txn accepted last_cancel last_renew received request issued a = refl
@@ -76,60 +78,72 @@ tabled types.Received state txn accepted last_cancel last_renew false request is
 tabled body Idle txn accepted last_cancel last_renew received request issued a = refl
 tabled body state txn accepted last_cancel last_renew received request issued a = refl
 
+-- The answer of the first row that fits is what the tests of the rows of its kind give.
 found : (y : ResponderRecord) (a : Apdu) (body : Body) (kind : Option RequesterKind)
     → answer_of (hit y a body) (conflict y.state y) (delivery_row_of y a body kind) ≡ lines_of y a body kind
 found y a body None = refl
 found y a body (Some kind) = found_lines y.state (delivery_facts y (number_in a body)) (hit y a body) (conflict y.state y) (delivery_rows kind)
 
--- The first row that fits an APDU says what it does, and where none fits it is a conflict.
-pub takes_row : (y : ResponderRecord) (a : Apdu) → answer_of (hit y a a.body) (conflict y.state y) (delivery_row y a) ≡ take_message y a a.body
+-- The first row that fits an APDU gives its answer. If none fits, it is a conflict.
+pub takes_row : (y : ResponderRecord) (a : Apdu)
+    → answer_of (hit y a a.body) (conflict y.state y) (delivery_row y a) ≡ take_message y a a.body
 takes_row y a = found y a a.body (requester_kind a.body) ∙ tabled a.body y.state y.txn y.accepted y.last_cancel y.last_renew y.received y.request y.issued a
 
-pub takes_this : (y : ResponderRecord) (a : Apdu) (row : Row RequesterKind) → delivery_row y a ≡ Some row → hit y a a.body row ≡ take_message y a a.body
+-- A row that is the first to fit an APDU gives its answer.
+pub takes_this : (y : ResponderRecord) (a : Apdu) (row : Row RequesterKind) → delivery_row y a ≡ Some row
+    → hit y a a.body row ≡ take_message y a a.body
 takes_this y a row is = ap (answer_of (hit y a a.body) (conflict y.state y)) (sym is) ∙ takes_row y a
 
+-- If no row fits an APDU, it is a conflict.
 pub takes_none : (y : ResponderRecord) (a : Apdu) → delivery_row y a ≡ None → conflict y.state y ≡ take_message y a a.body
 takes_none y a is = ap (answer_of (hit y a a.body) (conflict y.state y)) (sym is) ∙ takes_row y a
 
--- a row for which there is a number
-pub takes_numbered : (y : ResponderRecord) (a : Apdu) (row : Row RequesterKind) → delivery_row y a ≡ Some row → number_refusal row.4 y.issued ≡ None
+-- If a row is the first to fit, and no number is wanting, it gives the record after it.
+pub takes_numbered : (y : ResponderRecord) (a : Apdu) (row : Row RequesterKind) → delivery_row y a ≡ Some row
+    → number_refusal row.4 y.issued ≡ None
     → (Ok (taking_of row.3 y.state), after_delivery y a row (number_in a a.body)) ≡ take_message y a a.body
 takes_numbered y a row is left =
     sym (ap (λ o. unless_refused o y (Ok (taking_of row.3 y.state), after_delivery y a row (number_in a a.body))) left) ∙ takes_this y a row is
 
--- A row leads to a responder's record.
-pub delivery_kept : (y : ResponderRecord) (a : Apdu) (row : Row RequesterKind) → IsResponder y → is_same_txn a.txn y.txn ≡ true → delivery_row y a ≡ Some row
+-- The first row that fits an APDU of the transaction leads to a responder's record, if no number is wanting.
+pub delivery_kept : (y : ResponderRecord) (a : Apdu) (row : Row RequesterKind) → IsResponder y
+    → is_same_txn a.txn y.txn ≡ true → delivery_row y a ≡ Some row
     → number_refusal row.4 y.issued ≡ None → IsResponder (after_delivery y a row (number_in a a.body))
 delivery_kept y a row h same is left = subst (λ answer. IsResponder answer.1) (sym (takes_numbered y a row is left)) (is_responder _ (message_kept y a a.body (responder_rules y h) same refl))
 
--- the record after a row, by its parts
+-- Parts that are those after a row make the record after it.
 pub after_is : (y : ResponderRecord) (a : Apdu) (row : Row RequesterKind) (k : ℕ) (txn : Qualifiers) (state : State) (accepted last_cancel last_renew : Option ℕ) (received : Bool) (request : Option Apdu) (issued : List Apdu)
-    → txn ≡ y.txn → state ≡ next_state row.3 y.state → accepted ≡ number_after ACCEPTS row.4 y.accepted k → last_cancel ≡ number_after CANCELS row.4 y.last_cancel k
-    → last_renew ≡ number_after RENEWS row.4 y.last_renew k → received ≡ (has row.4 RECEIVES || y.received) → request ≡ request_after row.4 y.request a → issued ≡ issued_after row.4 y.txn y.issued
+    → txn ≡ y.txn → state ≡ next_state row.3 y.state → accepted ≡ number_after ACCEPTS row.4 y.accepted k
+    → last_cancel ≡ number_after CANCELS row.4 y.last_cancel k
+    → last_renew ≡ number_after RENEWS row.4 y.last_renew k → received ≡ (has row.4 RECEIVES || y.received)
+    → request ≡ request_after row.4 y.request a → issued ≡ issued_after row.4 y.txn y.issued
     → responder_of txn state accepted last_cancel last_renew received request issued ≡ after_delivery y a row k
 after_is y a row k txn state accepted last_cancel last_renew received request issued t s c n m r q i = cc
 
 -- ---- memory
 
--- what is taken and new, or done
+-- Returns true if a row answers Taken: it leads to a state, or stays.
 abbrev is_new : Then → Bool
 is_new (To next) = true
 is_new Stay = true
 is_new other = false
 
+-- A row that is new answers Taken.
 new_taken : (what : Then) (state : State) → is_new what ≡ true → taking_of what state ≡ Taken
 new_taken (To next) state is = refl
 new_taken Stay state is = refl
 new_taken other state is = search rules
 
--- a row that takes memory is for a message that takes it, and that is new
+-- A row that takes memory is for a message that takes memory, and is news.
 abbrev grows_new : ResponderRecord → Body → Row RequesterKind → Bool
 grows_new y body row = implies (grows row.4) (takes_memory y body && is_new row.3)
 
+-- Each row of the kind that has the state takes memory only for news that takes it.
 abbrev kind_grows_new : ResponderRecord → Body → Option RequesterKind → Bool
 kind_grows_new y body None = true
 kind_grows_new y body (Some kind) = list_all (λ row. implies (has_state row.1 y.state) (grows_new y body row)) (delivery_rows kind)
 
+-- The rows of each kind take memory only for news that takes it, in each state.
 grown : (body : Body) (state : State) (txn : Qualifiers) (accepted last_cancel last_renew : Option ℕ) (received : Bool) (request : Option Apdu) (issued : List Apdu)
     → kind_grows_new (responder_of txn state accepted last_cancel last_renew received request issued) body (requester_kind body) ≡ true
 grown (types.ConditionalReply c true) Idle txn accepted last_cancel last_renew received request issued = refl
@@ -139,6 +153,7 @@ grown (types.ConditionalReply c false) state txn accepted last_cancel last_renew
 grown body Idle txn accepted last_cancel last_renew received request issued = refl
 grown body state txn accepted last_cancel last_renew received request issued = refl
 
+-- The first row that fits takes memory only for news that takes it, if the rows of its kind do.
 found_grown : (y : ResponderRecord) (a : Apdu) (body : Body) (kind : Option RequesterKind) → kind_grows_new y body kind ≡ true
     → answer_of (grows_new y body) true (delivery_row_of y a body kind) ≡ true
 found_grown y a body None h = refl
@@ -146,17 +161,21 @@ found_grown y a body (Some kind) h =
     let facts = delivery_facts y (number_in a body) in
     found_lines y.state facts (grows_new y body) true (delivery_rows kind) ∙ lines_true y.state facts (grows_new y body) (delivery_rows kind) h
 
-row_grown : (y : ResponderRecord) (a : Apdu) (row : Row RequesterKind) → delivery_row y a ≡ Some row → grows_new y a.body row ≡ true
+-- A row that is the first to fit an APDU takes memory only for news that takes it.
+row_grown : (y : ResponderRecord) (a : Apdu) (row : Row RequesterKind) → delivery_row y a ≡ Some row
+    → grows_new y a.body row ≡ true
 row_grown y a row is =
     ap (answer_of (grows_new y a.body) true) (sym is)
     ∙ found_grown y a a.body (requester_kind a.body) (grown a.body y.state y.txn y.accepted y.last_cancel y.last_renew y.received y.request y.issued)
 
+-- If a implies b, and a holds, then b holds.
 implied : (a b : Bool) → implies a b ≡ true → a ≡ true → b ≡ true
 implied true b h is = h
 implied false b h is = search rules
 
--- What refuses a row is what the definitions expect.
-pub takes_refused : (y : ResponderRecord) (a : Apdu) (row : Row RequesterKind) (refusal : Refusal) → delivery_row y a ≡ Some row → IsRefused row.4 y.issued refusal
+-- If a row that fits is refused, the definitions allow that refusal.
+pub takes_refused : (y : ResponderRecord) (a : Apdu) (row : Row RequesterKind) (refusal : Refusal)
+    → delivery_row y a ≡ Some row → IsRefused row.4 y.issued refusal
     → MayWantMemory (take_message y a a.body) (takes_memory y a.body) y (Err refusal) y
 takes_refused y a row OutOfMemory is refused =
     let both = and_parts _ _ (implied _ _ (row_grown y a row is) refused.0) in
@@ -166,19 +185,20 @@ takes_refused y a row refusal is refused =
 
 -- ---- deeds
 
--- what a row leads to, beside what its date says
+-- Returns the line of a row, the refusal of the date, or `NotNow` if there is no row.
 abbrev pub line_by : State → Option (Row ResponderKind) → Result Unit Refusal → Body → Result Line Refusal
 line_by state None allowed body = Err (refusals.NotNow state)
 line_by state (Some row) (Err refusal) body = Err refusal
 line_by state (Some row) (Ok done) body = leads_to (next_state row.3 state) body
 
--- a date allows the deed or not
+-- If the row gives `line` with its date allowed, and the refusal without, it gives `if_allowed` of both.
 dated : (state : State) (found : Option (Row ResponderKind)) (is_allowed : Bool) (forbids : Refusal) (line : Result Line Refusal) (body : Body)
     → line_by state found (Ok tt) body ≡ line → line_by state found (Err forbids) body ≡ Err forbids
     → line_by state found (check is_allowed forbids) body ≡ if_allowed is_allowed forbids line
 dated state found true forbids line body here forbidden = here
 dated state found false forbids line body here forbidden = forbidden
 
+-- The row of a deed and its date give its line, in each state.
 deeded : (deed : Deed) (state : State) (y : ResponderRecord) (today : Date)
     → line_by state (deed_row state deed) (check_date y deed today) (deed_body y deed) ≡ line_of (record y { state = state }) deed today
 deeded (deeds.Answer results.Conditional) Idle y today = refl
@@ -214,7 +234,7 @@ deeded deeds.Expire Conditional y today =
 deeded deed Idle y today = refl
 deeded deed state y today = refl
 
--- a row of actions changes the state alone
+-- A row of deeds changes only the state and the list.
 state_alone : (deed : Deed) (state : State) (y : ResponderRecord) (number : ℕ) (body : Body)
     → answer_of (λ row. after_deed (record y { state = state }) row number body) y (deed_row state deed)
     ≡ answer_of (λ row. issues_to y body (next_state row.3 state)) y (deed_row state deed)
@@ -233,18 +253,22 @@ state_alone (deeds.RenewAnswer None) state y number body = refl
 state_alone deed Idle y number body = refl
 state_alone deed state y number body = refl
 
--- The first row that has the state says what a deed does, beside its date, and where none has it the deed has no place.
-acts_none : (y : ResponderRecord) (deed : Deed) (today : Date) → deed_row y.state deed ≡ None → acts y deed today ≡ Err (refusals.NotNow y.state)
+-- If no row has the state, the deed is refused with `NotNow`.
+acts_none : (y : ResponderRecord) (deed : Deed) (today : Date) → deed_row y.state deed ≡ None
+    → acts y deed today ≡ Err (refusals.NotNow y.state)
 acts_none y deed today is =
     ap (λ line. acts_by y line (next_number y.issued))
     (sym (deeded deed y.state y today) ∙ ap (λ found. line_by y.state found (check_date y deed today) (deed_body y deed)) is)
 
-row_line : (y : ResponderRecord) (deed : Deed) (today : Date) (row : Row ResponderKind) (allowed : Result Unit Refusal) → deed_row y.state deed ≡ Some row → check_date y deed today ≡ allowed
+-- If a row has the state, the line of the deed is that of the row and the date.
+row_line : (y : ResponderRecord) (deed : Deed) (today : Date) (row : Row ResponderKind) (allowed : Result Unit Refusal)
+    → deed_row y.state deed ≡ Some row → check_date y deed today ≡ allowed
     → line_of y deed today ≡ line_by y.state (Some row) allowed (deed_body y deed)
 row_line y deed today row allowed is date =
     sym (deeded deed y.state y today) ∙ (ap (λ found. line_by y.state found (check_date y deed today) (deed_body y deed)) is
     ∙ ap (λ found. line_by y.state (Some row) found (deed_body y deed)) date)
 
+-- If a row has the state, the deed goes by the row, the date and the number.
 acts_by_row : (y : ResponderRecord) (deed : Deed) (today : Date) (row : Row ResponderKind) (allowed : Result Unit Refusal) (number : Result ℕ Refusal)
     → deed_row y.state deed ≡ Some row → check_date y deed today ≡ allowed → next_number y.issued ≡ number
     → acts y deed today ≡ acts_by y (line_by y.state (Some row) allowed (deed_body y deed)) number
@@ -252,6 +276,7 @@ acts_by_row y deed today row allowed number is date next =
     ap (λ line. acts_by y line (next_number y.issued)) (row_line y deed today row allowed is date)
     ∙ ap (acts_by y (line_by y.state (Some row) allowed (deed_body y deed))) next
 
+-- If a row, the date and a number allow a deed, it leads to the record after the row.
 pub acts_this : (y : ResponderRecord) (deed : Deed) (today : Date) (row : Row ResponderKind) (number : ℕ)
     → deed_row y.state deed ≡ Some row → check_date y deed today ≡ Ok tt → next_number y.issued ≡ Ok number
     → acts y deed today ≡ Ok (after_deed y row number (deed_body y deed))
@@ -261,14 +286,18 @@ acts_this y deed today row number is date next =
     sym (ap (answer_of (λ r. after_deed y r number body) y) is) ∙ (state_alone deed y.state y number body ∙ ap (answer_of (λ r. issues_to y body (next_state r.3 y.state)) y) is) in
     acts_by_row y deed today row (Ok tt) (Ok number) is date next ∙ ap Ok (sym alone)
 
+-- Returns true if the result is `OutOfMemory`.
 abbrev is_memory : {T : Type 0} → Result T Refusal → Bool
 is_memory (Err OutOfMemory) = true
 is_memory other = false
 
-check_takes_none : (is_allowed : Bool) (refusal : Refusal) → is_memory {T = Unit} (Err refusal) ≡ false → is_memory (check is_allowed refusal) ≡ false
+-- A check whose refusal is not `OutOfMemory` never gives it.
+check_takes_none : (is_allowed : Bool) (refusal : Refusal) → is_memory {T = Unit} (Err refusal) ≡ false
+    → is_memory (check is_allowed refusal) ≡ false
 check_takes_none true refusal other = refl
 check_takes_none false refusal other = other
 
+-- The check of the dates never gives `OutOfMemory`.
 date_takes_none : (y : ResponderRecord) (deed : Deed) (today : Date) → is_memory (check_date y deed today) ≡ false
 date_takes_none y (deeds.Ship due) today = check_takes_none (not (is_before due today)) refusals.DateEarlier refl
 date_takes_none y (deeds.RenewAnswer (Some d)) today = check_takes_none (is_after_due d (due_of y)) refusals.DateNotLater refl
@@ -276,39 +305,46 @@ date_takes_none y deeds.Overdue today = check_takes_none (is_after_due today (du
 date_takes_none y deeds.Expire today = check_takes_none (is_after_due today (expiry_of y.request)) refusals.NotExpired refl
 date_takes_none y deed today = refl
 
+-- The next number is never refused with `OutOfMemory`.
 number_takes_none : (is_left : Bool) (number : ℕ) → is_memory (if is_left then Ok number else Err refusals.NumbersUsed) ≡ false
 number_takes_none true number = refl
 number_takes_none false number = refl
 
+-- A result that is not `OutOfMemory` is not equal to it.
 other_refusal : {T : Type 0} (refused : Result T Refusal) → is_memory refused ≡ false → refused ≡ Err OutOfMemory → ⊥
 other_refusal (Err OutOfMemory) other is = search rules
 other_refusal refused other is = search rules
 
--- a deed that its date forbids
+-- If a row has the state and a date forbids the deed, the responder answers with that refusal.
 pub acts_forbidden : (y : ResponderRecord) (deed : Deed) (today : Date) (row : Row ResponderKind) (refusal : Refusal)
     → deed_row y.state deed ≡ Some row → check_date y deed today ≡ Err refusal → Acts y deed today (Err refusal) y
 acts_forbidden y deed today row OutOfMemory is date = absurd (other_refusal (check_date y deed today) (date_takes_none y deed today) date)
 acts_forbidden y deed today row refusal is date = (acts_by_row y deed today row (Err refusal) (next_number y.issued) is date refl, refl)
 
--- a deed for which no number is left
+-- If a row and the date allow a deed and no number is left, the responder answers with that refusal.
 pub acts_numberless : (y : ResponderRecord) (deed : Deed) (today : Date) (row : Row ResponderKind) (refusal : Refusal)
-    → deed_row y.state deed ≡ Some row → check_date y deed today ≡ Ok tt → next_number y.issued ≡ Err refusal → Acts y deed today (Err refusal) y
+    → deed_row y.state deed ≡ Some row → check_date y deed today ≡ Ok tt → next_number y.issued ≡ Err refusal
+    → Acts y deed today (Err refusal) y
 acts_numberless y deed today row OutOfMemory is date next =
     absurd (other_refusal (next_number y.issued) (number_takes_none (nat_lt (length y.issued) 255) (length y.issued + 1)) next)
 acts_numberless y deed today row refusal is date next = (acts_by_row y deed today row (Ok tt) (Err refusal) is date next, refl)
 
--- a deed for which memory is wanting
+-- If a row, the date and a number allow a deed, the responder may answer `OutOfMemory`, and its record stays.
 pub acts_wanting : (y : ResponderRecord) (deed : Deed) (today : Date) (row : Row ResponderKind) (number : ℕ)
-    → deed_row y.state deed ≡ Some row → check_date y deed today ≡ Ok tt → next_number y.issued ≡ Ok number → Acts y deed today (Err OutOfMemory) y
+    → deed_row y.state deed ≡ Some row → check_date y deed today ≡ Ok tt → next_number y.issued ≡ Ok number
+    → Acts y deed today (Err OutOfMemory) y
 acts_wanting y deed today row number is date next = (subst IsOk (sym (acts_this y deed today row number is date next)) refl, refl)
 
--- A deed leads to a responder's record.
-pub deed_kept : (y new : ResponderRecord) (deed : Deed) (today : Date) → IsResponder y → acts y deed today ≡ Ok new → IsResponder new
+-- A deed leads from a responder's record to a responder's record.
+pub deed_kept : (y new : ResponderRecord) (deed : Deed) (today : Date) → IsResponder y → acts y deed today ≡ Ok new
+    → IsResponder new
 deed_kept y new deed today h done = of_acts IsResponder y new deed today (λ line is how. is_responder _ (line_kept y line (responder_rules y h) is)) done
 
--- the record after a deed, by its parts
+-- Parts that are those after a row make the record after the deed.
 pub deed_is : (y : ResponderRecord) (row : Row ResponderKind) (k : ℕ) (body : Body) (txn : Qualifiers) (state : State) (accepted last_cancel last_renew : Option ℕ) (received : Bool) (issued : List Apdu)
-    → txn ≡ y.txn → state ≡ next_state row.3 y.state → accepted ≡ number_after ACCEPTS row.4 y.accepted k → last_cancel ≡ number_after CANCELS row.4 y.last_cancel k
-    → last_renew ≡ number_after RENEWS row.4 y.last_renew k → received ≡ (has row.4 RECEIVES || y.received) → issued ≡ with_next y.txn y.issued body
+    → txn ≡ y.txn → state ≡ next_state row.3 y.state → accepted ≡ number_after ACCEPTS row.4 y.accepted k
+    → last_cancel ≡ number_after CANCELS row.4 y.last_cancel k
+    → last_renew ≡ number_after RENEWS row.4 y.last_renew k → received ≡ (has row.4 RECEIVES || y.received)
+    → issued ≡ with_next y.txn y.issued body
     → responder_of txn state accepted last_cancel last_renew received y.request issued ≡ after_deed y row k body
 deed_is y row k body txn state accepted last_cancel last_renew received issued t s c n m r i = cc

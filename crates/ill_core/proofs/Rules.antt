@@ -14,20 +14,24 @@ use Rattle.ill_core.proofs.IssuedLemmas.{numbered_front}
 use Rattle.ill_core.proofs.ResponderLists.{request_in_is}
 use Rattle.ill_core.specs.ResponderRules.{ResponderRules}
 
+-- If two tests are alike, they are equal.
 alike : (a b : Bool) → are_alike a b ≡ true → a ≡ b
 alike a true h = h
 alike a false h = not-true a h
 
+-- Two equal tests are alike.
 alike_from : (a b : Bool) → a ≡ b → are_alike a b ≡ true
 alike_from true true h = refl
 alike_from false false h = refl
 alike_from true false h = search rules
 alike_from false true h = search rules
 
+-- If a test is false, its negation is true.
 not_from : (a : Bool) → a ≡ false → not a ≡ true
 not_from true h = search rules
 not_from false h = refl
 
+-- A requester's record keeps each rule.
 pub requester_rules : (x : RequesterRecord) → IsRequester x → RequesterRules x
 unfolding requester.keeps_rules
 requester_rules x h =
@@ -65,6 +69,7 @@ requester_rules x h =
       };
     }
 
+-- A record that keeps each rule is a requester's.
 pub is_requester : (x : RequesterRecord) → RequesterRules x → IsRequester x
 unfolding requester.keeps_rules
 is_requester x h =
@@ -76,6 +81,7 @@ is_requester x h =
     and_from _ _ (alike_from _ _ i.idle) (and_from _ _ (and_from _ _ i.received i.not_received) (
     and_from _ _ i.cancel (and_from _ _ i.renew (and_from _ _ (alike_from _ _ i.returned) i.declined))))))))
 
+-- A responder's record keeps each rule.
 pub responder_rules : (y : ResponderRecord) → IsResponder y → ResponderRules y
 unfolding responder.keeps_rules
 responder_rules y h =
@@ -115,6 +121,7 @@ responder_rules y h =
       ships_first = rising.1;
     }
 
+-- A record that keeps each rule is a responder's.
 pub is_responder : (y : ResponderRecord) → ResponderRules y → IsResponder y
 unfolding responder.keeps_rules
 is_responder y h =
@@ -127,18 +134,20 @@ is_responder y h =
     and_from _ _ (and_from _ _ (eq-eqb _ _ i.shipped) (and_from _ _ (alike_from _ _ i.checked_in) i.conditions)) (
     and_from _ _ h.accepted (and_from _ _ h.rising h.ships_first))))))
 
--- a requester could stand so exactly where the parts fit together with the front of what it issued
+-- If the parts of standing `s` fit with the first `count` messages, the requester with them keeps its rules.
 pub requester_back : (x : RequesterRecord) (s : requesters.Standing) (count : ℕ) → IsRequester x
     → (requester.parts_fit s.state (is_some s.held) (is_some s.due) s.checked_in && requester.issued_keeps_rules s.state (take count x.issued)) ≡ true
     → IsRequester (requester.back_to s count x)
 unfolding requester.keeps_rules
 requester_back x s count h fits = and_from _ _ (numbered_front x.txn 1 count x.issued (and_parts _ _ h).0) fits
 
+-- If the requester with the parts of standing `s` and the first `count` messages keeps its rules, these fit together.
 pub requester_back_fits : (x : RequesterRecord) (s : requesters.Standing) (count : ℕ) → IsRequester (requester.back_to s count x)
     → (requester.parts_fit s.state (is_some s.held) (is_some s.due) s.checked_in && requester.issued_keeps_rules s.state (take count x.issued)) ≡ true
 unfolding requester.keeps_rules
 requester_back_fits x s count h = (and_parts _ _ h).1
 
+-- If the parts of standing `s` fit with the first `count` messages, the responder with them keeps its rules.
 pub responder_back : (y : ResponderRecord) (s : responders.Standing) (count : ℕ) → IsResponder y
     → (responder.parts_fit s.state (is_some (responder.request_in s.state y.request)) (is_some s.accepted) (is_some s.last_cancel) (is_some s.last_renew) s.received (is_none (take count y.issued))
     && responder.issued_keeps_rules s.state s.accepted (take count y.issued)) ≡ true
@@ -149,6 +158,7 @@ responder_back y s count h fits =
     and_from _ _ (numbered_front y.txn 1 count y.issued numbered.0) (
     and_from _ _ (request_in_is y.txn s.state y.request (and_parts _ _ numbered.1).0) fits)
 
+-- If the responder with the parts of standing `s` and the first `count` messages keeps its rules, these fit together.
 pub responder_back_fits : (y : ResponderRecord) (s : responders.Standing) (count : ℕ) → IsResponder (responder.back_to s count y)
     → (responder.parts_fit s.state (is_some (responder.request_in s.state y.request)) (is_some s.accepted) (is_some s.last_cancel) (is_some s.last_renew) s.received (is_none (take count y.issued))
     && responder.issued_keeps_rules s.state s.accepted (take count y.issued)) ≡ true

@@ -1,5 +1,5 @@
--- What the first row that fits gives, as a list of tests: one for each row that has the state, and within it one for each fact
--- that it asks for.
+-- The first row that fits, as a list of tests. Each row that has the state is a test, and within it each fact that it
+-- asks for is one.
 use Rattle.std.proofs.Common.{◌≡◌, ℕ, Bool, true, false, ◌&&◌, ◌||◌, ◌==◌, bit_and, List, [], ◌∷◌, ◌++◌, Option, Some, None, if◌then◌else◌, refl, ap, sym, ◌∙◌}
 use Rattle.std.specs.List.{find, list_all}
 use Rattle.std.proofs.lemmas.Bool.{and_parts}
@@ -9,23 +9,26 @@ use Rattle.ill_core.specs.declared.table.Row.{Row}
 use Rattle.ill_core.specs.Rules.{implies}
 use Rattle.ill_core.specs.Tables.{Fact, has_state, are_met, fits}
 
--- the answer of a row, or that of none
+-- Returns the answer of a row, or `miss` if there is none.
 abbrev pub answer_of : {K A : Type 0} → (Row K → A) → A → Option (Row K) → A
 answer_of hit miss None = miss
 answer_of hit miss (Some row) = hit row
 
+-- Returns `hit` if each fact holds that `asked` has a bit of, and else `miss`. Each fact is a test of its own.
 abbrev pub where_asked : {A : Type 0} → ℕ → List Fact → A → A → A
 where_asked asked [] hit miss = hit
 where_asked asked (f ∷ facts) hit miss =
     if bit_and asked f.bit == 0 then where_asked asked facts hit miss
     else (if f.holds then where_asked asked facts hit miss else miss)
 
+-- Returns `hit` of the first row that has `state` and whose facts hold, or `miss`, test by test.
 abbrev pub lines : {K A : Type 0} → State → List Fact → (Row K → A) → A → List (Row K) → A
 lines state facts hit miss [] = miss
 lines state facts hit miss (row ∷ rows) =
     if has_state row.1 state then where_asked row.2 facts (hit row) (lines state facts hit miss rows)
     else lines state facts hit miss rows
 
+-- To test a fact and the others at once gives what testing one after the other gives.
 fact_met : {A : Type 0} (is_unasked holds others : Bool) (hit miss : A)
     → (if (is_unasked || holds) && others then hit else miss)
     ≡ (if is_unasked then (if others then hit else miss) else (if holds then (if others then hit else miss) else miss))
@@ -33,18 +36,22 @@ fact_met true holds others hit miss = refl
 fact_met false true others hit miss = refl
 fact_met false false others hit miss = refl
 
-met_asked : {A : Type 0} (asked : ℕ) (facts : List Fact) (hit miss : A) → (if are_met asked facts then hit else miss) ≡ where_asked asked facts hit miss
+-- The test of all facts at once gives what the tests of each fact give.
+met_asked : {A : Type 0} (asked : ℕ) (facts : List Fact) (hit miss : A)
+    → (if are_met asked facts then hit else miss) ≡ where_asked asked facts hit miss
 met_asked asked [] hit miss = refl
 met_asked asked (f ∷ facts) hit miss =
     fact_met (bit_and asked f.bit == 0) f.holds (are_met asked facts) hit miss
     ∙ ap (λ others. if bit_and asked f.bit == 0 then others else (if f.holds then others else miss)) (met_asked asked facts hit miss)
 
+-- The test of a row gives what a test of its state gives, and within it one of its facts.
 row_fits : {K A : Type 0} (is_in is_met : Bool) (hit : Row K → A) (miss : A) (row : Row K) (others : Option (Row K))
     → answer_of hit miss (if is_in && is_met then Some row else others) ≡ (if is_in then (if is_met then hit row else answer_of hit miss others) else answer_of hit miss others)
 row_fits true true hit miss row others = refl
 row_fits true false hit miss row others = refl
 row_fits false is_met hit miss row others = refl
 
+-- The answer of the first row that fits is what the tests of the rows give, one after another.
 pub found_lines : {K A : Type 0} (state : State) (facts : List Fact) (hit : Row K → A) (miss : A) (rows : List (Row K))
     → answer_of hit miss (find (fits state facts) rows) ≡ lines state facts hit miss rows
 found_lines state facts hit miss [] = refl
@@ -54,32 +61,37 @@ found_lines state facts hit miss (row ∷ rows) =
     (met_asked row.2 facts (hit row) (answer_of hit miss (find (fits state facts) rows)))
     ∙ ap (λ others. if has_state row.1 state then where_asked row.2 facts (hit row) others else others) (found_lines state facts hit miss rows))
 
--- where none is asked for, all hold that are asked for
+-- If no fact is asked for, all facts that are asked for hold.
 pub none_asked : (facts : List Fact) → are_met 0 facts ≡ true
 none_asked [] = refl
 none_asked (f ∷ facts) = none_asked facts
 
--- the facts of two lists hold where those of each do
-pub both_met : (asked : ℕ) (facts others : List Fact) (a b : Bool) → a ≡ are_met asked facts → b ≡ are_met asked others → (a && b) ≡ are_met asked (facts ++ others)
+-- The facts of two lists hold together exactly if those of each list do.
+pub both_met : (asked : ℕ) (facts others : List Fact) (a b : Bool) → a ≡ are_met asked facts
+    → b ≡ are_met asked others → (a && b) ≡ are_met asked (facts ++ others)
 both_met asked facts others a b met met_too =
     ap (λ c. c && b) met ∙ (ap (λ c. are_met asked facts && c) met_too ∙ sym (list_all-append (λ f. (bit_and asked f.bit == 0) || f.holds) facts others))
 
+-- If both sides of a choice are true, the choice is true.
 either : (b here others : Bool) → here ≡ true → others ≡ true → (if b then here else others) ≡ true
 either true here others h o = h
 either false here others h o = o
 
-asked_true : (asked : ℕ) (facts : List Fact) (here others : Bool) → here ≡ true → others ≡ true → where_asked asked facts here others ≡ true
+-- If `here` and `others` are true, the tests of the facts give true.
+asked_true : (asked : ℕ) (facts : List Fact) (here others : Bool) → here ≡ true → others ≡ true
+    → where_asked asked facts here others ≡ true
 asked_true asked [] here others h o = h
 asked_true asked (f ∷ facts) here others h o =
     either (bit_and asked f.bit == 0) (where_asked asked facts here others) (if f.holds then where_asked asked facts here others else others) (asked_true asked facts here others h o)
     (either f.holds (where_asked asked facts here others) others (asked_true asked facts here others h o) o)
 
+-- If a row that has the state gives true, and the other rows do, then the tests give true.
 row_true : (is_in : Bool) (asked : ℕ) (facts : List Fact) (here others : Bool) → implies is_in here ≡ true → others ≡ true
     → (if is_in then where_asked asked facts here others else others) ≡ true
 row_true true asked facts here others h o = asked_true asked facts here others h o
 row_true false asked facts here others h o = o
 
--- what holds of each row that has the state, holds of the one that is found
+-- If `holds` is true of each row that has the state, it is true of the one that is found.
 pub lines_true : {K : Type 0} (state : State) (facts : List Fact) (holds : Row K → Bool) (rows : List (Row K))
     → list_all (λ row. implies (has_state row.1 state) (holds row)) rows ≡ true → lines state facts holds true rows ≡ true
 lines_true state facts holds [] h = refl

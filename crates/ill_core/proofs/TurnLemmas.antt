@@ -1,4 +1,4 @@
--- What is over stays over.
+-- A loan that is over stays over.
 use Rattle.std.proofs.Common.{rules, ◌≡◌, ℕ, true, [], ◌∷◌, ap, sym, refl}
 use Rattle.ill_values.specs.declared.apdu.Apdu.{Apdu}
 use Rattle.ill_values.specs.declared.apdu.Body.{Body}
@@ -40,7 +40,8 @@ pub requester_stays : (x : RequesterRecord) (a : Apdu) → requester_turn x ≡ 
 requester_stays x a = led_nowhere x _ a.number a.body (delivery_leads x a)
 
 -- A responder that says that it is over keeps its state.
-keeps_state : (y new : ResponderRecord) (number : ℕ) (body : Body) → Change y number body new → responder_turn y ≡ Over → new.state ≡ y.state
+keeps_state : (y new : ResponderRecord) (number : ℕ) (body : Body) → Change y number body new
+    → responder_turn y ≡ Over → new.state ≡ y.state
 keeps_state y new number body (changes.leaves _) over = refl
 keeps_state y new number body (changes.requests expiry item a at) over = search rules
 keeps_state y new number body (changes.accepts c at) over = search rules

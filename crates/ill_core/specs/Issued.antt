@@ -1,4 +1,4 @@
--- What a side has issued in a transaction, and what both roles ask of it (this profile's own).
+-- The APDUs that a side has issued in a transaction, and tests on them (this profile's own).
 use Rattle.std.specs.Prelude.{◌≡◌, ℕ, zero, suc, ◌+◌, Bool, true, false, ◌&&◌, ◌==◌, nat_lt, List, [], ◌∷◌, ◌++◌, length, slice_get, Option, Some, None, Result, Ok, Err, if◌then◌else◌}
 use Rattle.std.specs.List.{list_any, filter_map, last_or}
 use Rattle.std.specs.Str.{bytes_eq}
@@ -12,95 +12,98 @@ use Rattle.ill_core.specs.declared.issued.Sought.TheVariants.{Accepted, CancelNu
 use Rattle.ill_core.specs.declared.refusal.Refusal.{Refusal}
 use Rattle.ill_core.specs.declared.refusal.Refusal.TheVariants.{OtherTransaction, WrongRole, NumbersUsed}
 
--- the transaction, and the APDUs that the side has issued in it, in their order
+-- A transaction, and the APDUs that a side has issued in it, in their order.
 pub record IssuedList : Type 0 where
   pub txn : Qualifiers
   pub apdus : List Apdu
 
--- both qualifiers are the same
+-- Returns true if the group qualifiers are equal, and the transaction qualifiers too.
 abbrev pub is_same_txn : Qualifiers → Qualifiers → Bool
 is_same_txn a b = bytes_eq a.group b.group && bytes_eq a.transaction b.transaction
 
--- every APDU is of the transaction, and they have the numbers from this one on, one by one
+-- Returns true if every APDU is of `txn`, and they have the numbers from `number` on, one by one.
 unfoldable pub are_numbered : Qualifiers → ℕ → List Apdu → Bool
 are_numbered txn number [] = true
 are_numbered txn number (a ∷ apdus) =
     (is_same_txn a.txn txn && (a.number == number)) && are_numbered txn (number + 1) apdus
 
--- message n: the n-th that was issued, from 1 on
+-- Returns message n: the n-th APDU that was issued, from 1 on.
 abbrev pub message : List Apdu → ℕ → Option Apdu
 message apdus zero = None
 message apdus (suc n) = slice_get apdus n
 
--- nothing has been issued
+-- Returns true if nothing has been issued.
 abbrev pub is_none : List Apdu → Bool
 is_none [] = true
 is_none (a ∷ apdus) = false
 
--- one of the APDUs says this
+-- Returns true if `says` holds of the body of one of the APDUs.
 abbrev pub has : (Body → Bool) → List Apdu → Bool
 has says apdus = list_any (λ a. says a.body) apdus
 
--- an APDU is there, and says this
+-- Returns true if there is an APDU, and `says` holds of its body.
 abbrev pub is_there : (Body → Bool) → Option Apdu → Bool
 is_there says None = false
 is_there says (Some a) = says a.body
 
--- message n is there, and says this
+-- Returns true if there is a message `n`, and `says` holds of its body.
 abbrev pub was : (Body → Bool) → List Apdu → ℕ → Bool
 was says apdus n = is_there says (message apdus n)
 
--- the last of what f finds in the APDUs
+-- Returns the last value that `f` finds in the APDUs.
 abbrev pub last_of : {X : Type 0} → (Apdu → Option X) → List Apdu → Option X
 last_of f apdus = last_or None (filter_map f apdus)
 
+-- Returns the due date that an APDU grants, if it is a Shipped or a Renew-Answer yes.
 abbrev pub granted_day : Apdu → Option Date
 granted_day a = grant_in a.body
 
+-- Returns the number of the conditions that an APDU accepts, if it is a Conditional-Reply yes.
 abbrev pub accepted_in : Apdu → Option ℕ
 accepted_in a = accepts a.body
 
+-- Returns the number of an APDU if it is a Cancel.
 abbrev pub number_of_cancel : Apdu → Option ℕ
 number_of_cancel a = if is_cancel a.body then Some a.number else None
 
+-- Returns the number of an APDU if it is a Renew.
 abbrev pub number_of_renew : Apdu → Option ℕ
 number_of_renew a = if is_renew a.body then Some a.number else None
 
--- an end of the request
+-- Returns the number of an APDU if it ends the request.
 abbrev pub number_of_end : Apdu → Option ℕ
 number_of_end a = if is_end a.body then Some a.number else None
 
--- what is sought in an APDU
+-- Returns the number that is sought in an APDU, if the APDU has it.
 abbrev pub sought_number : Sought → Apdu → Option ℕ
 sought_number Accepted a = accepted_in a
 sought_number CancelNumber a = number_of_cancel a
 sought_number RenewNumber a = number_of_renew a
 sought_number EndNumber a = number_of_end a
 
--- the number of the next APDU: there are 255
+-- Returns the number of the next APDU, or `NumbersUsed` once 255 are issued.
 abbrev pub next_number : List Apdu → Result ℕ Refusal
 next_number apdus = if nat_lt (length apdus) 255 then Ok (length apdus + 1) else Err NumbersUsed
 
--- the next APDU
+-- Returns the next APDU: it has the next number and this body.
 abbrev pub next_apdu : Qualifiers → List Apdu → Body → Apdu
 next_apdu txn apdus body = record { txn = txn; number = length apdus + 1; body = body }
 
--- the APDUs and the next one
+-- Returns the APDUs with the next one at the end.
 abbrev pub with_next : Qualifiers → List Apdu → Body → List Apdu
 with_next txn apdus body = apdus ++ next_apdu txn apdus body ∷ []
 
--- one more APDU is issued, with the next number
+-- The list `new` is `old` with one more APDU, which has the next number.
 abbrev pub IssuesNext : Qualifiers → List Apdu → List Apdu → Type 0
 IssuesNext txn old new = (body : Body) × (new ≡ with_next txn old body)
 
--- Before its table a side refuses an APDU of another transaction, and then one that its own role
--- issues.
+-- Before its table, a side refuses an APDU of another transaction, and then one that its own role issues.
 abbrev pub first_refusal : Qualifiers → Bool → Apdu → Option Refusal
 first_refusal txn is_own a =
     if is_same_txn a.txn txn then (if is_own then Some WrongRole else None)
     else Some OtherTransaction
 
--- A side admits an APDU, or refuses it.
+-- If the first refusal is there, the side answers with it. Else it admits the APDU.
 abbrev pub Admits : Option Refusal → Result Unit Refusal → Type 0
 Admits None (Ok done) = Unit
 Admits None (Err refusal) = ⊥

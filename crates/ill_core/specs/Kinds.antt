@@ -15,21 +15,21 @@ use Rattle.ill_core.specs.declared.kind.RequesterKind.TheVariants as requester
 use Rattle.ill_core.specs.declared.kind.ResponderKind.{ResponderKind}
 use Rattle.ill_core.specs.declared.kind.ResponderKind.TheVariants as responder
 
--- the number that an APDU tells: that which it answers, or its own
+-- Returns the number that an APDU tells: the number that it answers, or else its own.
 abbrev pub number_in : Apdu → Body → ℕ
 number_in a (types.ConditionalReply answers is_yes) = answers
 number_in a (types.CancelReply answers is_yes) = answers
 number_in a (types.RenewAnswer answers granted) = answers
 number_in a other = a.number
 
--- the due date that an APDU tells
+-- Returns the due date that an APDU tells, if it tells one.
 abbrev pub date_in : Body → Option Date
 date_in (types.Shipped due) = Some due
 date_in (types.Overdue due) = Some due
 date_in (types.RenewAnswer answers granted) = granted
 date_in other = None
 
--- the place of a kind in their order
+-- Returns the place of a requester's kind in their order, from 0.
 abbrev pub requester_place : RequesterKind → ℕ
 requester_place requester.Request = 0
 requester_place requester.Yes = 1
@@ -39,6 +39,7 @@ requester_place requester.Received = 4
 requester_place requester.Renew = 5
 requester_place requester.Returned = 6
 
+-- Returns the place of a responder's kind in their order, from 0.
 abbrev pub responder_place : ResponderKind → ℕ
 responder_place responder.Conditions = 0
 responder_place responder.Promise = 1
@@ -53,6 +54,7 @@ responder_place responder.RenewNo = 9
 responder_place responder.Recall = 10
 responder_place responder.CheckedIn = 11
 
+-- Returns the kind of a requester's message. A responder's has none.
 abbrev pub requester_kind : Body → Option RequesterKind
 requester_kind (types.IllRequest expiry item) = Some requester.Request
 requester_kind (types.ConditionalReply answers true) = Some requester.Yes
@@ -63,7 +65,7 @@ requester_kind (types.Renew wished) = Some requester.Renew
 requester_kind types.Returned = Some requester.Returned
 requester_kind other = None
 
--- the kind of the message that a wish issues
+-- Returns the kind of the message that a wish issues.
 abbrev pub wish_kind : Wish → RequesterKind
 wish_kind (wishes.Request expiry item) = requester.Request
 wish_kind wishes.Cancel = requester.Cancel
@@ -73,13 +75,14 @@ wish_kind wishes.Receive = requester.Received
 wish_kind (wishes.Renew wished) = requester.Renew
 wish_kind wishes.Return = requester.Returned
 
+-- Returns the kind of an ILL-Answer: conditions, a promise, or no supply.
 abbrev pub answer_kind : AnswerResult → ResponderKind
 answer_kind Conditional = responder.Conditions
 answer_kind WillSupply = responder.Promise
 answer_kind HoldPlaced = responder.Promise
 answer_kind other = responder.NoSupply
 
--- the kind of the message that a deed issues
+-- Returns the kind of the message that a deed issues.
 abbrev pub deed_kind : Deed → ResponderKind
 deed_kind (deeds.Answer answer) = answer_kind answer
 deed_kind (deeds.CancelReply true) = responder.CancelYes
@@ -92,6 +95,7 @@ deed_kind deeds.Recall = responder.Recall
 deed_kind deeds.CheckIn = responder.CheckedIn
 deed_kind deeds.Expire = responder.Expired
 
+-- Returns the kind of a responder's message. A requester's has none.
 abbrev pub responder_kind : Body → Option ResponderKind
 responder_kind (types.IllAnswer answer) = Some (answer_kind answer)
 responder_kind types.Expired = Some responder.Expired

@@ -12,6 +12,7 @@ use Rattle.ill_core.specs.Rules.{implies, are_alike}
 use Rattle.ill_core.specs.Bodies.{declines, is_requesters, is_ill_request, is_cancel, is_received, is_renew, is_returned}
 use Rattle.ill_core.specs.Issued.{is_none, are_numbered, has, last_of, number_of_cancel, number_of_renew, accepted_in}
 
+-- The record of a requester: its transaction, its state, three parts, and all APDUs that it has issued.
 pub record RequesterRecord : Type 0 where
   pub txn : Qualifiers
   pub state : State
@@ -20,7 +21,7 @@ pub record RequesterRecord : Type 0 where
   pub due : Option Date
   pub issued : List Apdu
 
--- the record of these parts
+-- Returns the record with these parts.
 abbrev pub requester_of : Qualifiers → State → Option ℕ → Bool → Option Date → List Apdu →
     RequesterRecord
 requester_of txn state held checked_in due issued =
@@ -33,46 +34,47 @@ requester_of txn state held checked_in due issued =
       issued = issued;
     }
 
--- where a requester stands
+-- Returns the standing of a requester: all parts of its record that a row may change, but for the list.
 abbrev pub standing_of : RequesterRecord → Standing
 standing_of x = record { state = x.state; held = x.held; checked_in = x.checked_in; due = x.due }
 
--- the requester where it stood so, and had issued the first so many of its messages
+-- Returns requester `x` with the parts of standing `s` and the first `count` of its messages.
 abbrev pub back_to : Standing → ℕ → RequesterRecord → RequesterRecord
 back_to s count x = requester_of x.txn s.state s.held s.checked_in s.due (take count x.issued)
 
--- the number answered by the last Conditional-Reply yes
+-- Returns the number that the last Conditional-Reply yes answers.
 abbrev pub accepted_number : RequesterRecord → Option ℕ
 accepted_number x = last_of accepted_in x.issued
 
--- the conditions that stand were declined
+-- Returns true if the requester is in CONDITIONAL and has issued a Conditional-Reply no.
 abbrev pub is_declined : RequesterRecord → Bool
 is_declined x = is_among (Conditional ∷ []) x.state && has declines x.issued
 
--- the item has come
+-- Returns true if the requester has issued a Received.
 abbrev pub is_received_by : RequesterRecord → Bool
 is_received_by x = has is_received x.issued
 
+-- Returns the number of the last Cancel in the list.
 abbrev pub last_cancel : RequesterRecord → Option ℕ
 last_cancel x = last_of number_of_cancel x.issued
 
+-- Returns the number of the last Renew in the list.
 abbrev pub last_renew : RequesterRecord → Option ℕ
 last_renew x = last_of number_of_renew x.issued
 
--- SHIPPED or later
+-- The states from SHIPPED on.
 abbrev pub later : List State
 later =
     Shipped ∷ Received ∷ RenewPending ∷ Overdue ∷ RenewOverdue ∷ NotReceivedOverdue ∷ Recall
     ∷ Returned ∷ []
 
--- the first APDU, and no other, is an ILL-Request
+-- Returns true if the first APDU, and no other, is an ILL-Request. An empty list passes.
 abbrev pub begins_with_request : List Apdu → Bool
 begins_with_request [] = true
 begins_with_request (a ∷ apdus) = is_ill_request a.body && not (has is_ill_request apdus)
 
--- A state is a requester's and has the parts that it wants, and no others: conditions are held in
--- CONDITIONAL and a due date is there in SHIPPED or later, and nowhere else, and the item was checked
--- in only in RETURNED.
+-- The state is a requester's. Conditions are held exactly in CONDITIONAL, and a due date is there exactly in SHIPPED
+-- or later. The checked-in mark is set only in RETURNED.
 abbrev pub parts_fit : State → Bool → Bool → Bool → Bool
 parts_fit state is_held is_due is_marked =
     not (is_among (InProcess ∷ CheckedIn ∷ []) state)
@@ -80,7 +82,7 @@ parts_fit state is_held is_due is_marked =
     && (are_alike is_due (is_among later state)
     && implies is_marked (is_among (Returned ∷ []) state)))
 
--- a Received was issued in the states that want one, and in no state that has none
+-- A Received was issued in each state that wants one, and in no state that has none.
 abbrev pub received_fits : State → Bool → Bool
 received_fits state has_received =
     implies (is_among (Received ∷ RenewPending ∷ Overdue ∷ RenewOverdue ∷ Returned ∷ []) state)
@@ -88,21 +90,21 @@ received_fits state has_received =
     && implies has_received
     (is_among (Received ∷ RenewPending ∷ Overdue ∷ RenewOverdue ∷ Recall ∷ Returned ∷ []) state)
 
--- a Cancel was issued where one waits or was agreed to
+-- A Cancel was issued in CANCEL-PENDING and CANCELLED.
 abbrev pub cancel_fits : State → Bool → Bool
 cancel_fits state has_cancel = implies (is_among (CancelPending ∷ Cancelled ∷ []) state) has_cancel
 
--- a Renew was issued where one waits
+-- A Renew was issued in RENEW/PENDING and RENEW/OVERDUE.
 abbrev pub renew_fits : State → Bool → Bool
 renew_fits state has_renew = implies (is_among (RenewPending ∷ RenewOverdue ∷ []) state) has_renew
 
--- no conditions were declined where the request goes on without them, or a Cancel went instead
+-- No conditions were declined in PENDING, CANCEL-PENDING and CANCELLED.
 abbrev pub declined_fits : State → Bool → Bool
 declined_fits state has_no =
     implies has_no (not (is_among (Pending ∷ CancelPending ∷ Cancelled ∷ []) state))
 
--- What was issued fits a state: nothing in IDLE and something elsewhere, a Returned in RETURNED and
--- nowhere else, and a Received, a Cancel, a Renew and a Conditional-Reply no as they fit.
+-- The list fits `state`: it is empty exactly in IDLE, and has a Returned exactly in RETURNED. A Received, a Cancel, a
+-- Renew and a Conditional-Reply no fit as above.
 abbrev pub issued_fits : State → List Apdu → Bool
 issued_fits state issued =
     are_alike (is_none issued) (is_among (Idle ∷ []) state)
@@ -112,21 +114,21 @@ issued_fits state issued =
     && (are_alike (has is_returned issued) (is_among (Returned ∷ []) state)
     && declined_fits state (has declines issued)))))
 
--- What was issued keeps the rules of a requester: it issues each of these types, the first and no
--- other is an ILL-Request, and they fit its state.
+-- The list keeps the rules of a requester. Each type is a requester's, the first APDU alone is an ILL-Request, and
+-- the list fits `state`.
 abbrev pub issued_keeps_rules : State → List Apdu → Bool
 issued_keeps_rules state issued =
     list_all (λ a. is_requesters a.body) issued
     && (begins_with_request issued && issued_fits state issued)
 
--- Whether a record keeps the rules of a requester: its messages are numbered from 1 on, its parts fit
--- its state, and so does what it issued.
+-- Returns true if a record keeps the rules of a requester. Its messages have numbers from 1 on, and its parts and its
+-- list fit its state.
 unfoldable pub keeps_rules : RequesterRecord → Bool
 keeps_rules x =
     are_numbered x.txn 1 x.issued
     && (parts_fit x.state (is_some x.held) (is_some x.due) x.checked_in
     && issued_keeps_rules x.state x.issued)
 
--- a record is a requester's where it keeps these rules
+-- A record is a requester's if it keeps these rules.
 abbrev pub IsRequester : RequesterRecord → Type 0
 IsRequester x = keeps_rules x ≡ true

@@ -1,6 +1,6 @@
--- What a requester does: its table of actions (this profile's own; the services are those of ISO
--- 10160). A line says from which states, to which state, what is issued, and what is held then; a
--- wish that no line has is not done now.
+-- The wishes of a requester: its table of actions (this profile's own; the services are those of ISO 10160). A line
+-- has the states before, the state after, the APDU that is issued, and the conditions held then. A wish that no line
+-- has is not done now.
 use Rattle.std.specs.Prelude.{◌≡◌, ℕ, Bool, not, ◌&&◌, [], ◌∷◌, List, Option, None, Result, Ok, Err, IsOk, if◌then◌else◌}
 use Rattle.std.specs.Option.{unwrap_or}
 use Rattle.ill_values.specs.Day.{Date}
@@ -16,30 +16,33 @@ use Rattle.ill_core.specs.State.{is_among}
 use Rattle.ill_core.specs.Issued.{next_number, with_next}
 use Rattle.ill_core.specs.Requester.{RequesterRecord, is_declined, is_received_by}
 
--- where a wish leads: the next state, what is issued, and the conditions that are held then
+-- The effect of a wish: the next state, the APDU that is issued, and the conditions held then.
 pub record Line : Type 0 where
   pub next : State
   pub body : Body
   pub held : Option ℕ
 
--- to this state, and this is issued; the conditions stay as they are
+-- The line that leads to `next`, issues `body`, and keeps the conditions.
 abbrev pub leads_to : State → Body → RequesterRecord → Result Line Refusal
 leads_to next body x = Ok (record { next = next; body = body; held = x.held })
 
+-- The wish is refused with `NotNow` and the present state.
 abbrev pub not_now : RequesterRecord → Result Line Refusal
 not_now x = Err (refusals.NotNow x.state)
 
+-- Request leads from IDLE to PENDING, and issues an ILL-Request with `expiry` and `item`.
 abbrev pub request_line : RequesterRecord → Option Date → List ℕ → Result Line Refusal
 request_line x expiry item =
     if is_among (Idle ∷ []) x.state then leads_to Pending (types.IllRequest expiry item) x
     else not_now x
 
+-- Cancel leads from PENDING to CANCEL-PENDING, and issues a Cancel.
 abbrev pub cancel_line : RequesterRecord → Result Line Refusal
 cancel_line x =
     if is_among (Pending ∷ []) x.state then leads_to CancelPending types.Cancel x
     else not_now x
 
--- the answer to the conditions held; none are held once they are accepted
+-- A reply answers the conditions held. A yes leads to PENDING and holds none; a no stays in CONDITIONAL.
 abbrev pub answer_held : RequesterRecord → Bool → Line
 answer_held x is_yes =
     record {
@@ -48,11 +51,14 @@ answer_held x is_yes =
       held = if is_yes then None else x.held;
     }
 
+-- Reply has a line in CONDITIONAL, unless the conditions were declined.
 abbrev pub reply_line : RequesterRecord → Bool → Result Line Refusal
 reply_line x is_yes =
     if is_among (Conditional ∷ []) x.state && not (is_declined x) then Ok (answer_held x is_yes)
     else not_now x
 
+-- Receive leads from SHIPPED to RECEIVED, and from NOT-RECEIVED/OVERDUE to OVERDUE. In RECALL it stays, and needs
+-- that no Received was issued.
 abbrev pub receive_line : RequesterRecord → Result Line Refusal
 receive_line x =
     if is_among (Shipped ∷ []) x.state then leads_to Received types.Received x
@@ -61,12 +67,14 @@ receive_line x =
     then leads_to Recall types.Received x
     else not_now x
 
+-- Renew leads from RECEIVED to RENEW/PENDING, and from OVERDUE to RENEW/OVERDUE.
 abbrev pub renew_line : RequesterRecord → Option Date → Result Line Refusal
 renew_line x wished =
     if is_among (Received ∷ []) x.state then leads_to RenewPending (types.Renew wished) x
     else if is_among (Overdue ∷ []) x.state then leads_to RenewOverdue (types.Renew wished) x
     else not_now x
 
+-- Return leads to RETURNED, from each state in which the item is with the requester.
 abbrev pub return_line : RequesterRecord → Result Line Refusal
 return_line x =
     if is_among (Received ∷ RenewPending ∷ Overdue ∷ RenewOverdue ∷ []) x.state
@@ -75,7 +83,7 @@ return_line x =
     then leads_to Returned types.Returned x
     else not_now x
 
--- the line of a wish, or that it has no place now
+-- Returns the line of a wish, or the refusal `NotNow`.
 abbrev pub line_of : RequesterRecord → Wish → Result Line Refusal
 line_of x (wishes.Request expiry item) = request_line x expiry item
 line_of x wishes.Cancel = cancel_line x
@@ -84,7 +92,7 @@ line_of x wishes.Receive = receive_line x
 line_of x (wishes.Renew wished) = renew_line x wished
 line_of x wishes.Return = return_line x
 
--- the record after a line
+-- Returns the record after a line: it has the next state, the conditions of the line, and one more APDU.
 abbrev pub record_after : RequesterRecord → Line → RequesterRecord
 record_after x line =
     record {
@@ -96,19 +104,19 @@ record_after x line =
       issued = with_next x.txn x.issued line.body;
     }
 
+-- Returns the record after a line, or the refusal of the line, or else that of the number.
 abbrev pub acts_by : RequesterRecord → Result Line Refusal → Result ℕ Refusal →
     Result RequesterRecord Refusal
 acts_by x (Err refusal) number = Err refusal
 acts_by x (Ok line) (Err refusal) = Err refusal
 acts_by x (Ok line) (Ok number) = Ok (record_after x line)
 
--- The record after a wish, or why it is refused: first that it has no place now, then that all
--- numbers are used.
+-- Returns the record after a wish, or its refusal: first `NotNow`, then `NumbersUsed`.
 abbrev pub acts : RequesterRecord → Wish → Result RequesterRecord Refusal
 acts x wish = acts_by x (line_of x wish) (next_number x.issued)
 
--- What a requester answers to a wish, and the record after it. Memory is wanted only where the wish
--- would be done.
+-- A requester answers `wish` so, and `new` is the record after it. `OutOfMemory` comes only for a wish that would be
+-- done. A refusal leaves the record.
 abbrev pub Acts : RequesterRecord → Wish → Result Unit Refusal → RequesterRecord → Type 0
 Acts old wish (Ok done) new = acts old wish ≡ Ok new
 Acts old wish (Err refusals.OutOfMemory) new = IsOk (acts old wish) × (new ≡ old)

@@ -1,5 +1,5 @@
--- What the messages of a responder do to a requester: its table of deliveries (this profile's own).
--- The first line that fits decides; an APDU that no line fits is a conflict with the present state.
+-- The messages of a responder to a requester: the table of deliveries (this profile's own). The first line that fits
+-- decides. An APDU that no line fits is a conflict with the present state.
 use Rattle.std.specs.Prelude.{◌≡◌, ℕ, Bool, true, not, ◌&&◌, [], ◌∷◌, Option, Some, None, Result, if◌then◌else◌}
 use Rattle.ill_values.specs.Day.{Date}
 use Rattle.ill_values.specs.declared.apdu.Apdu.{Apdu}
@@ -18,6 +18,8 @@ use Rattle.ill_core.specs.Bodies.{is_cancel, is_renew, is_requesters}
 use Rattle.ill_core.specs.Issued.{was, first_refusal}
 use Rattle.ill_core.specs.Requester.{RequesterRecord, accepted_number, last_cancel, last_renew, later}
 
+-- Conditions with number k are a repeat if k is at most the accepted number, or is held in CONDITIONAL. Else a
+-- requester in PENDING takes them, and goes to CONDITIONAL with k held.
 abbrev pub take_conditions : RequesterRecord → ℕ → Result Taking Refusal × RequesterRecord
 take_conditions x k =
     if is_at_most k (accepted_number x) then repeat x
@@ -26,9 +28,12 @@ take_conditions x k =
     then taken (record x { state = Conditional; held = Some k })
     else conflict x.state x
 
+-- PENDING takes an ILL-Answer will-supply or hold-placed, and the record stays.
 abbrev pub take_promise : RequesterRecord → Result Taking Refusal × RequesterRecord
 take_promise x = if is_among (Pending ∷ []) x.state then taken x else conflict x.state x
 
+-- An end without the item is a repeat in NOT-SUPPLIED. PENDING, CONDITIONAL and CANCEL-PENDING take it, and lead to
+-- NOT-SUPPLIED.
 abbrev pub take_end : RequesterRecord → Result Taking Refusal × RequesterRecord
 take_end x =
     if is_among (NotSupplied ∷ []) x.state then repeat x
@@ -36,6 +41,8 @@ take_end x =
     then taken (record x { state = NotSupplied; held = None })
     else conflict x.state x
 
+-- In CANCEL-PENDING a Cancel-Reply to the last Cancel leads to CANCELLED on yes, and to PENDING on no. In CANCELLED
+-- that yes is a repeat. Any other reply to a Cancel is stale.
 abbrev pub take_cancel_reply : RequesterRecord → ℕ → Bool → Result Taking Refusal × RequesterRecord
 take_cancel_reply x c is_yes =
     if is_among (CancelPending ∷ []) x.state && is_the c (last_cancel x)
@@ -45,6 +52,8 @@ take_cancel_reply x c is_yes =
     else if was is_cancel x.issued c then stale x
     else conflict x.state x
 
+-- PENDING, CONDITIONAL and CANCEL-PENDING take a Shipped, and lead to SHIPPED with its due date. In SHIPPED or later
+-- it is a repeat.
 abbrev pub take_shipped : RequesterRecord → Date → Result Taking Refusal × RequesterRecord
 take_shipped x d =
     if is_among (Pending ∷ Conditional ∷ CancelPending ∷ []) x.state
@@ -52,6 +61,8 @@ take_shipped x d =
     else if is_among later x.state then repeat x
     else conflict x.state x
 
+-- In SHIPPED or later, an Overdue for another day than the due date is stale. One for the due date leads to the
+-- overdue form of SHIPPED, RECEIVED and RENEW/PENDING.
 abbrev pub take_overdue : RequesterRecord → Date → Result Taking Refusal × RequesterRecord
 take_overdue x d =
     if is_among later x.state && not (is_due_on d x.due) then stale x
@@ -61,7 +72,7 @@ take_overdue x d =
     else if is_among (NotReceivedOverdue ∷ Overdue ∷ RenewOverdue ∷ []) x.state then repeat x
     else conflict x.state x
 
--- the answer to the open Renew
+-- A yes to the open Renew leads to RECEIVED if its date is after the due date. A no leads to RECEIVED or OVERDUE.
 abbrev pub take_renewal : RequesterRecord → Option Date → Result Taking Refusal × RequesterRecord
 take_renewal x (Some d) =
     if is_after_due d x.due then taken (record x { state = Received; due = Some d })
@@ -69,6 +80,7 @@ take_renewal x (Some d) =
 take_renewal x None =
     taken (record x { state = (if is_among (RenewPending ∷ []) x.state then Received else Overdue) })
 
+-- An answer to the last Renew decides it while it waits. Any other answer to a Renew is stale.
 abbrev pub take_renew_answer : RequesterRecord → ℕ → Option Date →
     Result Taking Refusal × RequesterRecord
 take_renew_answer x c granted =
@@ -77,6 +89,7 @@ take_renew_answer x c granted =
     else if was is_renew x.issued c then stale x
     else conflict x.state x
 
+-- Each state from SHIPPED on but RECALL and RETURNED takes a Recall, and leads to RECALL. There it is a repeat.
 abbrev pub take_recall : RequesterRecord → Result Taking Refusal × RequesterRecord
 take_recall x =
     if is_among
@@ -85,6 +98,7 @@ take_recall x =
     else if is_among (Recall ∷ []) x.state then repeat x
     else conflict x.state x
 
+-- RETURNED takes the first Checked-In, which sets the mark. A later one is a repeat.
 abbrev pub take_checked_in : RequesterRecord → Result Taking Refusal × RequesterRecord
 take_checked_in x =
     if is_among (Returned ∷ []) x.state && not x.checked_in
@@ -92,6 +106,7 @@ take_checked_in x =
     else if is_among (Returned ∷ []) x.state then repeat x
     else conflict x.state x
 
+-- An ILL-Answer names conditions, promises to go on, or ends the request.
 abbrev pub take_answer : RequesterRecord → ℕ → AnswerResult →
     Result Taking Refusal × RequesterRecord
 take_answer x k results.Conditional = take_conditions x k
@@ -99,7 +114,7 @@ take_answer x k results.WillSupply = take_promise x
 take_answer x k results.HoldPlaced = take_promise x
 take_answer x k other = take_end x
 
--- what an APDU of a responder does
+-- Returns the answer of a requester to an APDU of a responder, and the record after it.
 abbrev pub take_message : RequesterRecord → Apdu → Body → Result Taking Refusal × RequesterRecord
 take_message x a (types.IllAnswer answer) = take_answer x a.number answer
 take_message x a types.Expired = take_end x
@@ -111,11 +126,12 @@ take_message x a types.Recall = take_recall x
 take_message x a types.CheckedIn = take_checked_in x
 take_message x a other = conflict x.state x
 
--- What an APDU does to a requester.
+-- Returns the answer of a requester to an APDU, and the record after it. An APDU of another transaction, or of the
+-- requester's own role, is refused.
 abbrev pub takes : RequesterRecord → Apdu → Result Taking Refusal × RequesterRecord
 takes x a =
     unless_refused (first_refusal x.txn (is_requesters a.body) a) x (take_message x a a.body)
 
--- What a requester answers to an APDU, and the record after it.
+-- A requester answers APDU `a` with `answer`, and `new` is the record after it.
 abbrev pub Takes : RequesterRecord → Apdu → Result Taking Refusal → RequesterRecord → Type 0
 Takes old a answer new = (answer, new) ≡ takes old a

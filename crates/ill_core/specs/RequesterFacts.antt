@@ -1,5 +1,4 @@
--- What a requester's record shows to have come, and which APDU of a responder tells it (this
--- profile's own).
+-- The facts that a requester's record shows, and the APDUs of a responder that tell them (this profile's own).
 use Rattle.std.specs.Prelude.{◌≡◌, ◌⊎◌, ℕ, Bool, true, false, ◌&&◌, List, [], ◌∷◌, ◌++◌, Option, Some, None, Result, Ok}
 use Rattle.ill_values.specs.Day.{Date}
 use Rattle.ill_values.specs.declared.apdu.Apdu.{Apdu}
@@ -19,7 +18,7 @@ use Rattle.ill_core.specs.declared.taking.Taking.TheVariants.{Taken, Repeat}
 use Rattle.std.specs.Option.{unwrap_or}
 use Rattle.std.specs.List.{list_all, filter_map}
 
--- what a message of the responder may tell
+-- A fact that a message of the responder may tell.
 pub data Fact : Type 0 where
   Cancelled : Fact  -- a Cancel was accepted
   Ended : Fact  -- the item is not supplied
@@ -27,19 +26,18 @@ pub data Fact : Type 0 where
   Refused : (cancel : ℕ) → Fact  -- the Cancel with that number was refused
   GivenBack : Fact  -- the item is back
 
--- A Cancel is open while it is the last one, in the states that wait for its answer or have the
--- answer yes.
+-- The Cancel c is open while it is the last one, in CANCEL-PENDING and CANCELLED.
 abbrev pub is_open : RequesterRecord → ℕ → Bool
 is_open x c =
     is_among (states.CancelPending ∷ states.Cancelled ∷ []) x.state && is_the c (last_cancel x)
 
--- A record shows that a Cancel was refused where it issued that one, the Cancel is not open, and no
--- other end has come.
+-- A record shows Cancel c refused if it issued c, c is not open, and no other end has come.
 abbrev pub ShowsRefused : RequesterRecord → ℕ → Type 0
 ShowsRefused x c =
     (was is_cancel x.issued c ≡ true) × (is_among (states.NotSupplied ∷ later) x.state ≡ false)
     × (is_open x c ≡ false)
 
+-- The record of a requester shows a fact.
 abbrev pub Shows : RequesterRecord → Fact → Type 0
 Shows x Cancelled = x.state ≡ states.Cancelled
 Shows x Ended = x.state ≡ states.NotSupplied
@@ -47,6 +45,7 @@ Shows x (Granted due) = x.due ≡ Some due
 Shows x (Refused cancel) = ShowsRefused x cancel
 Shows x GivenBack = x.checked_in ≡ true
 
+-- The body of an APDU tells a fact.
 abbrev pub Tells : Body → Fact → Type 0
 Tells (types.CancelReply c true) Cancelled = Unit {0}
 Tells (types.IllAnswer answer) Ended = is_final answer ≡ true
@@ -57,24 +56,24 @@ Tells (types.CancelReply c false) (Refused cancel) = c ≡ cancel
 Tells types.CheckedIn GivenBack = Unit {0}
 Tells other fact = ⊥
 
--- a due date is there, and it is after another
+-- Returns true if both due dates are there, and the new one is after the old one.
 abbrev pub is_raised : Option Date → Option Date → Bool
 is_raised old None = false
 is_raised old (Some d) = is_after_due d old
 
--- a due date that was there is kept or raised
+-- A due date that was there is kept or raised.
 abbrev pub KeepsDue : Option Date → Option Date → Type 0
 KeepsDue old new = (old ≡ None) ⊎ (new ≡ old) ⊎ (is_raised old new ≡ true)
 
--- Conditions are held that were not: in PENDING, with the number of the message, above those
--- accepted.
+-- Conditions k are held that were not. The record went from PENDING to CONDITIONAL, and k is not at most the accepted
+-- number.
 abbrev pub HoldsNew : RequesterRecord → ℕ → RequesterRecord → Type 0
 HoldsNew x k new =
     (x.state ≡ states.Pending) × (new.state ≡ states.Conditional) × (new.held ≡ Some k)
     × (is_at_most k (accepted_number x) ≡ false)
 
--- Conditions are held as they were, in the same state or another than CONDITIONAL; or no more; or
--- new ones are.
+-- The record holds new conditions k, or keeps its state and those held. Otherwise it is outside CONDITIONAL, with
+-- those held or none.
 abbrev pub Holds : RequesterRecord → ℕ → RequesterRecord → Type 0
 Holds x k new =
     ((new.held ≡ x.held) × ((new.state ≡ x.state)
@@ -82,8 +81,8 @@ Holds x k new =
     ⊎ ((new.held ≡ None) × (is_among (states.Conditional ∷ []) new.state ≡ false))
     ⊎ HoldsNew x k new
 
--- A Conditional-Reply that is issued answers the conditions that are held, in CONDITIONAL, and they
--- were not declined.
+-- A Conditional-Reply that is issued answers the conditions held. The state before was CONDITIONAL, and no conditions
+-- were declined.
 abbrev pub Replies : RequesterRecord → RequesterRecord → Type 0
 Replies x new =
     (a : Apdu) (n : ℕ) (is_yes : Bool) → new.issued ≡ x.issued ++ a ∷ [] →
@@ -91,22 +90,22 @@ Replies x new =
     → (is_among (states.Conditional ∷ []) x.state ≡ true) × (has declines x.issued ≡ false)
     × (n ≡ unwrap_or x.held 0)
 
--- taken or a repeat, and the record after it is in one of these states
+-- The message was taken or a repeat, and the record after it is in one of `states`.
 abbrev pub LeadsTo : List State → Result Taking Refusal × RequesterRecord → Type 0
 LeadsTo states answer =
     ((answer.0 ≡ Ok Taken) ⊎ (answer.0 ≡ Ok Repeat)) × (is_among states answer.1.state ≡ true)
 
--- the number of the conditions that a Conditional-Reply answers
+-- Returns the number of the conditions that a Conditional-Reply answers.
 abbrev pub replied_number : Body → Option ℕ
 replied_number (types.ConditionalReply answers is_yes) = Some answers
 replied_number other = None
 
--- the numbers of the conditions that were answered, in the order of the answers
+-- Returns the numbers of the conditions that were answered, in the order of the answers.
 abbrev pub replies : List Apdu → List ℕ
 replies apdus = filter_map (λ a. replied_number a.body) apdus
 
--- Conditions are answered once. Until some are declined, those answered are at most the accepted
--- ones, and below the ones that are held.
+-- Conditions are answered once. Until some are declined, those answered are at most the accepted number, and in
+-- CONDITIONAL below the one held.
 pub record AnswersOnce (x : RequesterRecord) : Type 0 where
   pub distinct : are_distinct (replies x.issued) ≡ true
   pub above : has declines x.issued ≡ false →

@@ -1,5 +1,5 @@
--- What else a requester's record reflects, which APDU of a responder attests it, and which APDUs the record has
--- heard (this profile's own).
+-- The notices that a requester's record reflects, with the APDUs of a responder that attest them (this profile's
+-- own). Then the APDUs that the record has heard.
 use Rattle.std.specs.Prelude.{◌≡◌, ◌⊎◌, ℕ, ◌<◌, Bool, true, false, not, ◌&&◌, ◌||◌, List, [], ◌∷◌, length, Option, Some, None}
 use Rattle.ill_values.specs.Day.{Date}
 use Rattle.ill_values.specs.declared.apdu.Body.{Body}
@@ -17,29 +17,31 @@ use Rattle.ill_core.specs.Requester.{RequesterRecord, accepted_number, last_canc
 
 -- ---- what a message gives notice of
 
+-- A notice that a message of the responder may give.
 pub data Notice : Type 0 where
   Recalled : Notice  -- the item is asked back
   Named : (conditions : ℕ) → Notice  -- there are conditions with that number
   -- the Renew with that number was answered, and grants no day after this one
   Answered : (renew : ℕ) → (day : Date) → Notice
-  -- the item may be kept until that day, by a Shipped or by the answer to a Renew with a lower number
+  -- a Shipped, or an answer to a Renew with a lower number, grants that day
   GrantedBefore : (renew : ℕ) → (due : Date) → Notice
   PastDue : (due : Date) → Notice  -- the item was not back on that day, on which it was due
 
--- a Renew waits for its answer
+-- The Renew with this number is the last one, and waits for its answer.
 abbrev pub awaits : RequesterRecord → ℕ → Bool
 awaits x renew =
     is_among (states.RenewPending ∷ states.RenewOverdue ∷ []) x.state && is_the renew (last_renew x)
 
--- a Cancel waits for its answer
+-- The Cancel with this number is the last one, and waits for its answer.
 abbrev pub awaits_cancel : RequesterRecord → ℕ → Bool
 awaits_cancel x cancel = is_among (states.CancelPending ∷ []) x.state && is_the cancel (last_cancel x)
 
--- there is a due date, and it is after this day
+-- Returns true if there is a due date, and it is after `day`.
 abbrev pub is_due_after : Date → Option Date → Bool
 is_due_after day None = false
 is_due_after day (Some due) = is_before day due
 
+-- The record of a requester reflects a notice.
 abbrev pub Reflects : RequesterRecord → Notice → Type 0
 Reflects x Recalled = x.state ≡ states.Recall
 Reflects x (Named conditions) = (x.held ≡ Some conditions) ⊎ (accepted_number x ≡ Some conditions)
@@ -53,7 +55,7 @@ Reflects x (PastDue due) =
     (x.due ≡ Some due)
     × (is_among (states.NotReceivedOverdue ∷ states.Overdue ∷ states.RenewOverdue ∷ []) x.state ≡ true)
 
--- An APDU with this number attests what it gives notice of.
+-- An APDU with this number and body attests a notice.
 abbrev pub Attests : ℕ → Body → Notice → Type 0
 Attests number types.Recall Recalled = Unit {0}
 Attests number (types.IllAnswer results.Conditional) (Named conditions) = number ≡ conditions
@@ -67,21 +69,21 @@ Attests number other notice = ⊥
 
 -- ---- which messages a record has heard
 
--- the states that wait for the responder to ship, to cancel or to give up
+-- The states that wait for the responder to ship, to cancel or to give up.
 abbrev pub undecided : List State
 undecided = states.Pending ∷ states.Conditional ∷ states.CancelPending ∷ []
 
--- the states in which the item is with the requester, or on its way there, and nobody has asked for it back
+-- The states in which the item is with the requester, or on its way there, and was not recalled.
 abbrev pub lent : List State
 lent =
     states.Shipped ∷ states.NotReceivedOverdue ∷ states.Received ∷ states.Overdue ∷ states.RenewPending
     ∷ states.RenewOverdue ∷ []
 
--- the states that an Overdue for the due date leads on from
+-- The states that an Overdue for the due date changes.
 abbrev pub in_time : List State
 in_time = states.Shipped ∷ states.Received ∷ states.RenewPending ∷ []
 
--- A record has heard an APDU with this number if it would not be taken now.
+-- A record has heard an APDU with this number and body if that would not change it now.
 abbrev pub has_heard : RequesterRecord → ℕ → Body → Bool
 has_heard x number (types.IllAnswer results.Conditional) =
     not (is_among (states.Pending ∷ []) x.state) || is_at_most number (accepted_number x)
@@ -98,7 +100,7 @@ has_heard x number types.Recall = not (is_among lent x.state)
 has_heard x number types.CheckedIn = implies (is_among (states.Returned ∷ []) x.state) x.checked_in
 has_heard x number other = true
 
--- The first APDU leads to a state in which the second one, though it was heard, would be taken.
+-- Returns true if `first` leads to a state in which `second`, though heard before, would change the record.
 abbrev pub reopens : Body → Body → Bool
 reopens (types.CancelReply answers false) (types.IllAnswer results.Conditional) = true
 reopens (types.Shipped due) types.Recall = true

@@ -1,4 +1,4 @@
--- The rules of a requester's record one by one, as what is known of a record that keeps them.
+-- The rules of a requester's record one by one. A proof takes them from `keeps_rules`, and back.
 use Rattle.std.specs.Prelude.{◌≡◌, Bool, true, false, not, List, [], ◌∷◌, is_some}
 use Rattle.std.specs.List.{list_all}
 use Rattle.ill_values.specs.declared.apdu.Apdu.{Apdu}
@@ -10,16 +10,15 @@ use Rattle.ill_core.specs.Bodies.{declines, is_requesters, is_cancel, is_receive
 use Rattle.ill_core.specs.Issued.{is_none, are_numbered, has}
 use Rattle.ill_core.specs.Requester.{RequesterRecord, later, begins_with_request}
 
--- A state has the parts that it wants, and no others: whether conditions are held, a due date is
--- there and the item was checked in.
+-- The state is a requester's, and has the parts that it wants. `is_held` is of conditions, `is_due` of a due date,
+-- `is_marked` of the checked-in mark.
 pub record PartsFit (state : State) (is_held is_due is_marked : Bool) : Type 0 where
   pub role : is_among (InProcess ∷ CheckedIn ∷ []) state ≡ false
   pub held : is_held ≡ is_among (Conditional ∷ []) state
   pub due : is_due ≡ is_among later state
   pub checked_in : implies is_marked (is_among (Returned ∷ []) state) ≡ true
 
--- What was issued fits a state: whether nothing was, and whether a Received, a Cancel, a Renew, a
--- Returned and a Conditional-Reply no were.
+-- The list fits the state. `none` says that it is empty, and each other test that it has one kind of APDU.
 pub record IssuedFit (state : State) (none has_received has_cancel has_renew has_returned has_no : Bool)
     : Type 0 where
   pub idle : none ≡ is_among (Idle ∷ []) state
@@ -35,11 +34,13 @@ pub record IssuedFit (state : State) (none has_received has_cancel has_renew has
   pub declined : implies has_no
       (not (is_among (Pending ∷ CancelPending ∷ Cancelled ∷ []) state)) ≡ true
 
+-- The list of a record fits its state.
 abbrev pub IssuedFits : State → List Apdu → Type 0
 IssuedFits state issued =
     IssuedFit state (is_none issued) (has is_received issued) (has is_cancel issued)
     (has is_renew issued) (has is_returned issued) (has declines issued)
 
+-- A record keeps all rules of a requester.
 pub record RequesterRules (x : RequesterRecord) : Type 0 where
   pub numbered : are_numbered x.txn 1 x.issued ≡ true
   pub role : list_all (λ a. is_requesters a.body) x.issued ≡ true

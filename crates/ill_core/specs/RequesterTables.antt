@@ -1,4 +1,4 @@
--- A requester's tables as arrays of rows: what their facts and changes are (this profile's own).
+-- A requester's tables as arrays of rows: their facts and their changes (this profile's own).
 use Rattle.std.specs.Prelude.{ℕ, Bool, false, not, ◌||◌, ◌==◌, List, [], ◌∷◌, ◌++◌, Option, Some, None, if◌then◌else◌}
 use Rattle.std.specs.List.{filter, find}
 use Rattle.std.specs.Option.{unwrap_or}
@@ -22,15 +22,15 @@ use Rattle.ill_core.specs.Kinds.{responder_kind, responder_place, requester_plac
 use Rattle.ill_core.specs.Tables.{Fact, has, next_state, fits}
 use Rattle.ill_core.specs.Requester.{RequesterRecord, accepted_number, is_declined, is_received_by, last_cancel, last_renew}
 
--- the conditions held after a row that is followed for message k
+-- Returns the conditions held after a row is followed for message k: k, none, or those held before.
 abbrev pub held_after : ℕ → Option ℕ → ℕ → Option ℕ
 held_after changes held k = if has changes HOLDS then Some k else (if has changes FREES then None else held)
 
--- the due date after a row that is followed for a date
+-- Returns the due date after a row is followed for `date`.
 abbrev pub due_after : ℕ → Option Date → Option Date → Option Date
 due_after changes due date = if has changes DUE then date else due
 
--- the record after a row that is followed for message k with a date
+-- Returns the record after a row is followed for message k with `date`.
 abbrev pub after : {K : Type 0} → RequesterRecord → Row K → ℕ → Option Date → RequesterRecord
 after x row k date =
     record x {
@@ -40,52 +40,57 @@ after x row k date =
       due = due_after row.4 x.due date;
     }
 
--- a day is there, and it is so
+-- Returns true if there is a day, and `f` holds of it.
 abbrev pub is_dated : (Date → Bool) → Option Date → Bool
 is_dated f None = false
 is_dated f (Some d) = f d
 
--- the facts of a message with number k, or that answers k, and with a date
+-- The facts of conditions that message k names: k is at most the accepted number, or k is held.
 abbrev pub number_facts : RequesterRecord → ℕ → List Fact
 number_facts x k =
     record { bit = delivery.PASSED; holds = is_at_most k (accepted_number x) }
     ∷ record { bit = delivery.HELD; holds = is_the k x.held } ∷ []
 
+-- The facts of an answer to message c: c is the last Cancel, or some Cancel.
 abbrev pub cancel_facts : RequesterRecord → ℕ → List Fact
 cancel_facts x c =
     record { bit = delivery.LAST_CANCEL; holds = is_the c (last_cancel x) }
     ∷ record { bit = delivery.WAS_CANCEL; holds = was is_cancel x.issued c } ∷ []
 
+-- The facts of an answer to message c: c is the last Renew, or some Renew.
 abbrev pub renew_facts : RequesterRecord → ℕ → List Fact
 renew_facts x c =
     record { bit = delivery.LAST_RENEW; holds = is_the c (last_renew x) }
     ∷ record { bit = delivery.WAS_RENEW; holds = was is_renew x.issued c } ∷ []
 
+-- The facts of a date: it is not the due date; it is later; the checked-in mark is not set.
 abbrev pub due_facts : RequesterRecord → Option Date → List Fact
 due_facts x date =
     record { bit = delivery.NOT_DUE; holds = not (is_dated (λ d. is_due_on d x.due) date) }
     ∷ record { bit = delivery.LATER; holds = is_dated (λ d. is_after_due d x.due) date }
     ∷ record { bit = delivery.UNMARKED; holds = not x.checked_in } ∷ []
 
+-- The facts that rows of deliveries may ask for, of a message that tells k and `date`.
 abbrev pub delivery_facts : RequesterRecord → ℕ → Option Date → List Fact
 delivery_facts x k date =
     number_facts x k ++ (cancel_facts x k ++ (renew_facts x k ++ due_facts x date))
 
--- the rows of a kind, in their order
+-- Returns the rows of a kind, in the order of the table.
 abbrev pub delivery_rows : ResponderKind → List (Row ResponderKind)
 delivery_rows kind = filter (λ r. responder_place r.0 == responder_place kind) delivery.ROWS
 
--- the first row that fits an APDU
+-- Returns the first row of the kind that fits an APDU. Without a kind there is none.
 abbrev pub delivery_row_of : RequesterRecord → Apdu → Body → Option ResponderKind →
     Option (Row ResponderKind)
 delivery_row_of x a body None = None
 delivery_row_of x a body (Some kind) =
     find (fits x.state (delivery_facts x (number_in a body) (date_in body))) (delivery_rows kind)
 
+-- Returns the first row that fits an APDU.
 abbrev pub delivery_row : RequesterRecord → Apdu → Option (Row ResponderKind)
 delivery_row x a = delivery_row_of x a a.body (responder_kind a.body)
 
--- what a wish issues
+-- Returns the body of the APDU that a wish issues.
 abbrev pub wish_body : RequesterRecord → Wish → Body
 wish_body x (wishes.Request expiry item) = types.IllRequest expiry item
 wish_body x wishes.Cancel = types.Cancel
@@ -94,16 +99,17 @@ wish_body x wishes.Receive = types.Received
 wish_body x (wishes.Renew wished) = types.Renew wished
 wish_body x wishes.Return = types.Returned
 
--- the facts that the rows of wishes ask for
+-- The facts that rows of wishes may ask for: no conditions declined, no item received, item received.
 abbrev pub wish_facts : RequesterRecord → List Fact
 wish_facts x =
     record { bit = wish.UNDECLINED; holds = not (is_declined x) }
     ∷ record { bit = wish.NOT_HERE; holds = not (is_received_by x) }
     ∷ record { bit = wish.IS_HERE; holds = is_received_by x } ∷ []
 
+-- Returns the rows of wishes of a kind, in the order of the table.
 abbrev pub wish_rows : RequesterKind → List (Row RequesterKind)
 wish_rows kind = filter (λ r. requester_place r.0 == requester_place kind) wish.ROWS
 
--- the first row that fits a wish
+-- Returns the first row that fits a wish.
 abbrev pub wish_row : RequesterRecord → Wish → Option (Row RequesterKind)
 wish_row x w = find (fits x.state (wish_facts x)) (wish_rows (wish_kind w))

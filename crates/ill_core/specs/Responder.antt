@@ -13,6 +13,7 @@ use Rattle.ill_core.specs.Rules.{implies, are_alike}
 use Rattle.ill_core.specs.Bodies.{is_requesters, is_ill_request, is_shipped, is_checked_in, names_conditions, is_renewal}
 use Rattle.ill_core.specs.Issued.{are_numbered, is_same_txn, has, was, last_of, is_none, granted_day, number_of_end}
 
+-- The record of a responder: its transaction, its state, four parts, the request, and all APDUs that it has issued.
 pub record ResponderRecord : Type 0 where
   pub txn : Qualifiers
   pub state : State
@@ -23,7 +24,7 @@ pub record ResponderRecord : Type 0 where
   pub request : Option Apdu
   pub issued : List Apdu
 
--- the record of these parts
+-- Returns the record with these parts.
 abbrev pub responder_of : Qualifiers → State → Option ℕ → Option ℕ → Option ℕ → Bool → Option Apdu →
     List Apdu → ResponderRecord
 responder_of txn state accepted last_cancel last_renew received request issued =
@@ -38,7 +39,7 @@ responder_of txn state accepted last_cancel last_renew received request issued =
       issued = issued;
     }
 
--- where a responder stands
+-- Returns the standing of a responder: its record without the transaction, the request and the list.
 abbrev pub standing_of : ResponderRecord → Standing
 standing_of y =
     record {
@@ -49,76 +50,76 @@ standing_of y =
       received = y.received;
     }
 
--- the request of a responder in this state: none in IDLE
+-- Returns the request of a responder in this state: none in IDLE.
 abbrev pub request_in : State → Option Apdu → Option Apdu
 request_in state request = if is_among (Idle ∷ []) state then None else request
 
--- the responder where it stood so, and had issued the first so many of its messages
+-- Returns responder `y` with the parts of standing `s` and the first `count` of its messages.
 abbrev pub back_to : Standing → ℕ → ResponderRecord → ResponderRecord
 back_to s count y =
     responder_of y.txn s.state s.accepted s.last_cancel s.last_renew s.received
     (request_in s.state y.request) (take count y.issued)
 
--- the date of the last Shipped or Renew-Answer yes
+-- Returns the due date: the date of the last Shipped or Renew-Answer yes.
 abbrev pub due_of : ResponderRecord → Option Date
 due_of y = last_of granted_day y.issued
 
--- the number of the last APDU that ends the request
+-- Returns the number of the last APDU that ends the request.
 abbrev pub end_number : ResponderRecord → Option ℕ
 end_number y = last_of number_of_end y.issued
 
--- the number of the conditions that wait for an answer: in CONDITIONAL alone, that of the last APDU
--- issued
+-- Returns the number of the conditions that wait for an answer: in CONDITIONAL that of the last APDU, else none.
 abbrev pub outstanding_number : ResponderRecord → Option ℕ
 outstanding_number y =
     if is_among (Conditional ∷ []) y.state
     then (if is_none y.issued then None else Some (length y.issued))
     else None
 
--- SHIPPED or later
+-- The states from SHIPPED on.
 abbrev pub later : List State
 later = Shipped ∷ RenewPending ∷ Overdue ∷ RenewOverdue ∷ Recall ∷ Returned ∷ CheckedIn ∷ []
 
--- no date comes, or the first, or one that is after the last
+-- Returns true if no new date comes, or none was there, or the new one is after the last.
 abbrev pub rises : Option Date → Option Date → Bool
 rises last None = true
 rises last (Some d) = not (is_some last) || is_after_due d last
 
--- each date is after the one before it
+-- Returns true if each date is after the one before it, and the first after `last`.
 unfoldable pub rise_from : Option Date → List Date → Bool
 rise_from last [] = true
 rise_from last (d ∷ dates) = rises last (Some d) && rise_from (Some d) dates
 
+-- Returns true if each date is after the one before it.
 abbrev pub are_rising : List Date → Bool
 are_rising dates = rise_from None dates
 
--- no date is granted before a Shipped
+-- Returns true if a Shipped stands before each Renew-Answer yes.
 unfoldable pub ships_first : List Apdu → Bool
 ships_first [] = true
 ships_first (a ∷ apdus) = is_shipped a.body || (not (is_renewal a.body) && ships_first apdus)
 
--- the last APDU names conditions
+-- Returns true if the last APDU is an ILL-Answer conditional.
 abbrev pub ends_with_conditions : List Apdu → Bool
 ends_with_conditions apdus = was names_conditions apdus (length apdus)
 
--- there is no such number, or message n of that number names conditions
+-- Returns true if there is no number, or the message of that number is an ILL-Answer conditional.
 abbrev pub is_named : Option ℕ → List Apdu → Bool
 is_named None apdus = true
 is_named (Some c) apdus = was names_conditions apdus c
 
--- there is no request, or it is an ILL-Request of the transaction
+-- Returns true if there is no request, or it is an ILL-Request of `txn`.
 abbrev pub is_request_of : Qualifiers → Option Apdu → Bool
 is_request_of txn None = true
 is_request_of txn (Some a) = is_same_txn a.txn txn && is_ill_request a.body
 
--- in IDLE a responder has no number, no mark and no message
+-- In IDLE a responder has no number, no mark and no message.
 abbrev pub idle_fits : State → Bool → Bool → Bool → Bool → Bool → Bool
 idle_fits state has_accepted has_cancel has_renew is_marked none =
     implies (is_among (Idle ∷ []) state)
     (not has_accepted && (not has_cancel && (not has_renew && (not is_marked && none))))
 
--- A state is a responder's and has the parts that it wants: a request everywhere but in IDLE, the mark
--- in SHIPPED or later alone, and a Cancel and a Renew where one waits or, of a Cancel, was agreed to.
+-- The state is a responder's. A request is there everywhere but in IDLE, and the received mark only in SHIPPED or
+-- later. A Cancel is there if one waits or was agreed to, a Renew if one waits.
 abbrev pub parts_fit : State → Bool → Bool → Bool → Bool → Bool → Bool → Bool
 parts_fit state has_request has_accepted has_cancel has_renew is_marked none =
     not (is_among (Pending ∷ Received ∷ NotReceivedOverdue ∷ []) state)
@@ -128,16 +129,16 @@ parts_fit state has_request has_accepted has_cancel has_renew is_marked none =
     && (implies (is_among (CancelPending ∷ Cancelled ∷ []) state) has_cancel
     && implies (is_among (RenewPending ∷ RenewOverdue ∷ []) state) has_renew))))
 
--- What was issued fits the state: one Shipped in SHIPPED or later and none elsewhere, a Checked-In
--- in CHECKED-IN, and conditions last in CONDITIONAL.
+-- The list fits the state. It has one Shipped exactly in SHIPPED or later, a Checked-In exactly in CHECKED-IN, and
+-- conditions last in CONDITIONAL.
 abbrev pub issued_fits : State → List Apdu → Bool
 issued_fits state apdus =
     (count_by (λ a. is_shipped a.body) apdus == (if is_among later state then 1 else 0))
     && (are_alike (has is_checked_in apdus) (is_among (CheckedIn ∷ []) state)
     && implies (is_among (Conditional ∷ []) state) (ends_with_conditions apdus))
 
--- What was issued keeps the rules of a responder: it issues each of these types, they fit its
--- state, the conditions accepted are among them, and the due dates rise from that of a Shipped on.
+-- The list keeps the rules of a responder. Each type is a responder's, and the list fits `state`. The accepted
+-- conditions are in it, and the due dates rise, a Shipped first.
 abbrev pub issued_keeps_rules : State → Option ℕ → List Apdu → Bool
 issued_keeps_rules state accepted apdus =
     list_all (λ a. not (is_requesters a.body)) apdus
@@ -145,8 +146,8 @@ issued_keeps_rules state accepted apdus =
     && (is_named accepted apdus
     && (are_rising (filter_map granted_day apdus) && ships_first apdus)))
 
--- Whether a record keeps the rules of a responder: its messages are numbered from 1 on, its request is
--- one of the transaction, its parts fit its state, and so does what it issued.
+-- Returns true if a record keeps the rules of a responder. Its messages have numbers from 1 on. Its request is of the
+-- transaction, and its parts and its list fit its state.
 unfoldable pub keeps_rules : ResponderRecord → Bool
 keeps_rules y =
     are_numbered y.txn 1 y.issued
@@ -155,6 +156,6 @@ keeps_rules y =
     (is_some y.last_renew) y.received (is_none y.issued)
     && issued_keeps_rules y.state y.accepted y.issued))
 
--- a record is a responder's where it keeps these rules
+-- A record is a responder's if it keeps these rules.
 abbrev pub IsResponder : ResponderRecord → Type 0
 IsResponder y = keeps_rules y ≡ true

@@ -1,6 +1,6 @@
--- What a responder does: its table of actions (this profile's own; the services are those of ISO
--- 10160). A line says from which states, to which state, what is issued, and which date forbids it;
--- a deed that no line has is not done now.
+-- The deeds of a responder: its table of actions (this profile's own; the services are those of ISO 10160). A line
+-- has the states before, the state after, the APDU that is issued, and the date that forbids it. A deed that no line
+-- has is not done now.
 use Rattle.std.specs.Prelude.{◌≡◌, ℕ, Bool, true, false, not, [], ◌∷◌, Option, Some, None, Result, Ok, Err, IsOk, if◌then◌else◌}
 use Rattle.std.specs.Option.{unwrap_or}
 use Rattle.ill_values.specs.Day.{Date}
@@ -20,36 +20,38 @@ use Rattle.ill_core.specs.Dates.{is_before, is_after_due}
 use Rattle.ill_core.specs.Issued.{next_number, with_next}
 use Rattle.ill_core.specs.Responder.{ResponderRecord, due_of}
 
--- what a deed leads to
+-- The effect of a deed.
 pub record Line : Type 0 where
   pub next : State  -- the state after the deed
-  pub body : Body  -- what is issued
+  pub body : Body  -- the body of the APDU that is issued
 
--- to this state, and this is issued
+-- The line that leads to `next` and issues `body`.
 abbrev pub leads_to : State → Body → Result Line Refusal
 leads_to next body = Ok (record { next = next; body = body })
 
+-- The deed is refused with `NotNow` and the present state.
 abbrev pub not_now : ResponderRecord → Result Line Refusal
 not_now y = Err (refusals.NotNow y.state)
 
--- a date that forbids it goes before the line
+-- Returns the line if its date allows it, and else the refusal.
 abbrev pub if_allowed : Bool → Refusal → Result Line Refusal → Result Line Refusal
 if_allowed true refusal line = line
 if_allowed false refusal line = Err refusal
 
--- the state that an ILL-Answer leads to
+-- Returns the state after an ILL-Answer is issued.
 abbrev pub after_answer : AnswerResult → State
 after_answer results.Conditional = Conditional
 after_answer results.WillSupply = InProcess
 after_answer results.HoldPlaced = InProcess
 after_answer other = NotSupplied
 
+-- Answer has a line in IN-PROCESS, and leads to the state of its result.
 abbrev pub answer_line : ResponderRecord → AnswerResult → Result Line Refusal
 answer_line y answer =
     if is_among (InProcess ∷ []) y.state then leads_to (after_answer answer) (types.IllAnswer answer)
     else not_now y
 
--- the number of the last Cancel taken, which is there while that waits; and so with the last Renew
+-- CancelReply leads from CANCEL-PENDING to CANCELLED on yes, and to IN-PROCESS on no. It answers the last Cancel.
 abbrev pub cancel_reply_line : ResponderRecord → Bool → Result Line Refusal
 cancel_reply_line y is_yes =
     if is_among (CancelPending ∷ []) y.state
@@ -57,6 +59,7 @@ cancel_reply_line y is_yes =
     (types.CancelReply (unwrap_or y.last_cancel 0) is_yes)
     else not_now y
 
+-- Ship leads from IN-PROCESS to SHIPPED, unless `due` is before `today`.
 abbrev pub ship_line : ResponderRecord → Date → Date → Result Line Refusal
 ship_line y due today =
     if is_among (InProcess ∷ []) y.state
@@ -64,53 +67,61 @@ ship_line y due today =
     (leads_to Shipped (types.Shipped due))
     else not_now y
 
--- a renewal, which has to be later than the due date, or none
+-- A RenewAnswer yes leads to SHIPPED if its date is after the due date. A no leads to `unrenewed`. Both answer the
+-- last Renew.
 abbrev pub renewal_line : ResponderRecord → State → Option Date → Result Line Refusal
 renewal_line y unrenewed None = leads_to unrenewed (types.RenewAnswer (unwrap_or y.last_renew 0) None)
 renewal_line y unrenewed (Some d) =
     if_allowed (is_after_due d (due_of y)) refusals.DateNotLater
     (leads_to Shipped (types.RenewAnswer (unwrap_or y.last_renew 0) (Some d)))
 
+-- RenewAnswer has a line in RENEW/PENDING and in RENEW/OVERDUE. After a no the item is in SHIPPED or in OVERDUE.
 abbrev pub renew_answer_line : ResponderRecord → Option Date → Result Line Refusal
 renew_answer_line y granted =
     if is_among (RenewPending ∷ []) y.state then renewal_line y Shipped granted
     else if is_among (RenewOverdue ∷ []) y.state then renewal_line y Overdue granted
     else not_now y
 
+-- A date that stands for none.
 abbrev pub no_date : Date
 no_date = record { year = 0; month = 0; day = 0 }
 
--- the due date, which is there once the item was shipped
+-- Overdue leads to `next` if `today` is after the due date. It issues an Overdue for the due date.
 abbrev pub overdue_line_to : ResponderRecord → Date → State → Result Line Refusal
 overdue_line_to y today next =
     if_allowed (is_after_due today (due_of y)) refusals.NotDue
     (leads_to next (types.Overdue (unwrap_or (due_of y) no_date)))
 
+-- Overdue leads from SHIPPED to OVERDUE, and from RENEW/PENDING to RENEW/OVERDUE.
 abbrev pub overdue_line : ResponderRecord → Date → Result Line Refusal
 overdue_line y today =
     if is_among (Shipped ∷ []) y.state then overdue_line_to y today Overdue
     else if is_among (RenewPending ∷ []) y.state then overdue_line_to y today RenewOverdue
     else not_now y
 
+-- Recall leads from SHIPPED and OVERDUE to RECALL.
 abbrev pub recall_line : ResponderRecord → Result Line Refusal
 recall_line y =
     if is_among (Shipped ∷ Overdue ∷ []) y.state then leads_to Recall types.Recall
     else not_now y
 
+-- CheckIn leads from RETURNED to CHECKED-IN.
 abbrev pub check_in_line : ResponderRecord → Result Line Refusal
 check_in_line y =
     if is_among (Returned ∷ []) y.state then leads_to CheckedIn types.CheckedIn
     else not_now y
 
--- the expiry date of a request
+-- Returns the expiry date of an ILL-Request.
 abbrev pub expiry_in : Body → Option Date
 expiry_in (types.IllRequest expiry item) = expiry
 expiry_in other = None
 
+-- Returns the expiry date of a request, if there is one.
 abbrev pub expiry_of : Option Apdu → Option Date
 expiry_of None = None
 expiry_of (Some a) = expiry_in a.body
 
+-- Expire leads from IN-PROCESS and CONDITIONAL to NOT-SUPPLIED, if `today` is after the expiry date.
 abbrev pub expire_line : ResponderRecord → Date → Result Line Refusal
 expire_line y today =
     if is_among (InProcess ∷ Conditional ∷ []) y.state
@@ -118,7 +129,7 @@ expire_line y today =
     (leads_to NotSupplied types.Expired)
     else not_now y
 
--- the line of a deed, or why it has no place now, or which date forbids it
+-- Returns the line of a deed, or the refusal: `NotNow`, or that of its date.
 abbrev pub line_of : ResponderRecord → Deed → Date → Result Line Refusal
 line_of y (deeds.Answer answer) today = answer_line y answer
 line_of y (deeds.CancelReply is_yes) today = cancel_reply_line y is_yes
@@ -129,7 +140,7 @@ line_of y deeds.Recall today = recall_line y
 line_of y deeds.CheckIn today = check_in_line y
 line_of y deeds.Expire today = expire_line y today
 
--- the record in a state, with one APDU more
+-- Returns the record in `state`, with one more APDU of this body.
 abbrev pub issues_to : ResponderRecord → Body → State → ResponderRecord
 issues_to y body state =
     record {
@@ -143,23 +154,23 @@ issues_to y body state =
       issued = with_next y.txn y.issued body;
     }
 
--- the record after a line
+-- Returns the record after a line.
 abbrev pub record_after : ResponderRecord → Line → ResponderRecord
 record_after y line = issues_to y line.body line.next
 
+-- Returns the record after a line, or the refusal of the line, or else that of the number.
 abbrev pub acts_by : ResponderRecord → Result Line Refusal → Result ℕ Refusal →
     Result ResponderRecord Refusal
 acts_by y (Err refusal) number = Err refusal
 acts_by y (Ok line) (Err refusal) = Err refusal
 acts_by y (Ok line) (Ok number) = Ok (record_after y line)
 
--- The record after a deed, or why it is refused: first that it has no place now, then its date,
--- then that all numbers are used.
+-- Returns the record after a deed, or its refusal: first `NotNow`, then that of its date, then `NumbersUsed`.
 abbrev pub acts : ResponderRecord → Deed → Date → Result ResponderRecord Refusal
 acts y deed today = acts_by y (line_of y deed today) (next_number y.issued)
 
--- What a responder answers to a deed, and the record after it. Memory is wanted only where the deed
--- would be done.
+-- A responder answers `deed` so on the day `today`, and `new` is the record after it. `OutOfMemory` comes only for a
+-- deed that would be done. A refusal leaves the record.
 abbrev pub Acts : ResponderRecord → Deed → Date → Result Unit Refusal → ResponderRecord → Type 0
 Acts old deed today (Ok done) new = acts old deed today ≡ Ok new
 Acts old deed today (Err refusals.OutOfMemory) new = IsOk (acts old deed today) × (new ≡ old)

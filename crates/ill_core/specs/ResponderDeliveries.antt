@@ -1,5 +1,5 @@
--- What the messages of a requester do to a responder: its table of deliveries (this profile's own).
--- The first line that fits decides; an APDU that no line fits is a conflict with the present state.
+-- The messages of a requester to a responder: the table of deliveries (this profile's own). The first line that fits
+-- decides. An APDU that no line fits is a conflict with the present state.
 use Rattle.std.specs.Prelude.{◌≡◌, ℕ, Bool, true, false, not, ◌&&◌, [], ◌∷◌, Some, Result, Ok, Err, if◌then◌else◌}
 use Rattle.ill_values.specs.declared.apdu.Apdu.{Apdu}
 use Rattle.ill_values.specs.declared.apdu.Body.{Body}
@@ -18,11 +18,14 @@ use Rattle.ill_core.specs.Issued.{was, first_refusal, next_number}
 use Rattle.ill_core.specs.Responder.{ResponderRecord, outstanding_number, later}
 use Rattle.ill_core.specs.ResponderActions.{issues_to}
 
+-- IDLE takes an ILL-Request, keeps it, and leads to IN-PROCESS. In any other state it is a repeat.
 abbrev pub take_request : ResponderRecord → Apdu → Result Taking Refusal × ResponderRecord
 take_request y a =
     if is_among (Idle ∷ []) y.state then taken (record y { state = InProcess; request = Some a })
     else repeat y
 
+-- A yes to the outstanding conditions leads to IN-PROCESS, and accepts them. A yes to those accepted is a repeat, and
+-- one to other conditions is stale.
 abbrev pub take_yes : ResponderRecord → ℕ → Result Taking Refusal × ResponderRecord
 take_yes y c =
     if is_the c (outstanding_number y) then taken (record y { state = InProcess; accepted = Some c })
@@ -30,17 +33,20 @@ take_yes y c =
     else if was names_conditions y.issued c then stale y
     else conflict y.state y
 
--- the answer to a no, where a number is left for it
+-- A no is answered by an ILL-Answer unfilled, which leads to NOT-SUPPLIED. It is refused if no number is left.
 abbrev pub answers_no : ResponderRecord → Result ℕ Refusal → Result Taking Refusal × ResponderRecord
 answers_no y (Ok number) = taken (issues_to y (types.IllAnswer Unfilled) NotSupplied)
 answers_no y (Err refusal) = (Err refusal, y)
 
+-- IN-PROCESS and CONDITIONAL take a no. In NOT-SUPPLIED it is a repeat.
 abbrev pub take_no : ResponderRecord → Result Taking Refusal × ResponderRecord
 take_no y =
     if is_among (InProcess ∷ Conditional ∷ []) y.state then answers_no y (next_number y.issued)
     else if is_among (NotSupplied ∷ []) y.state then repeat y
     else conflict y.state y
 
+-- A Cancel is a repeat if its number is at most the last Cancel. Else IN-PROCESS and CONDITIONAL take it, and lead to
+-- CANCEL-PENDING.
 abbrev pub take_cancel : ResponderRecord → ℕ → Result Taking Refusal × ResponderRecord
 take_cancel y n =
     if is_at_most n y.last_cancel then repeat y
@@ -48,12 +54,15 @@ take_cancel y n =
     then taken (record y { state = CancelPending; last_cancel = Some n })
     else conflict y.state y
 
+-- SHIPPED and later states take the first Received, which sets the mark. A later one is a repeat.
 abbrev pub take_received : ResponderRecord → Result Taking Refusal × ResponderRecord
 take_received y =
     if is_among later y.state && not y.received then taken (record y { received = true })
     else if is_among later y.state then repeat y
     else conflict y.state y
 
+-- A Renew is a repeat if its number is at most the last Renew. Else SHIPPED takes it to RENEW/PENDING, and OVERDUE to
+-- RENEW/OVERDUE.
 abbrev pub take_renew : ResponderRecord → ℕ → Result Taking Refusal × ResponderRecord
 take_renew y n =
     if is_at_most n y.last_renew then repeat y
@@ -63,6 +72,7 @@ take_renew y n =
     then taken (record y { state = RenewOverdue; last_renew = Some n })
     else conflict y.state y
 
+-- A Returned leads to RETURNED while the item is out. In RETURNED and CHECKED-IN it is a repeat.
 abbrev pub take_returned : ResponderRecord → Result Taking Refusal × ResponderRecord
 take_returned y =
     if is_among (Shipped ∷ RenewPending ∷ Overdue ∷ RenewOverdue ∷ Recall ∷ []) y.state
@@ -70,7 +80,7 @@ take_returned y =
     else if is_among (Returned ∷ CheckedIn ∷ []) y.state then repeat y
     else conflict y.state y
 
--- what an APDU of a requester does
+-- Returns the answer of a responder to an APDU of a requester, and the record after it.
 abbrev pub take_message : ResponderRecord → Apdu → Body → Result Taking Refusal × ResponderRecord
 take_message y a (types.IllRequest expiry item) = take_request y a
 take_message y a (types.ConditionalReply c true) = take_yes y c
@@ -81,25 +91,26 @@ take_message y a (types.Renew wished) = take_renew y a.number
 take_message y a types.Returned = take_returned y
 take_message y a other = conflict y.state y
 
--- What an APDU does to a responder.
+-- Returns the answer of a responder to an APDU, and the record after it. An APDU of another transaction, or of the
+-- responder's own role, is refused.
 abbrev pub takes : ResponderRecord → Apdu → Result Taking Refusal × ResponderRecord
 takes y a =
     unless_refused (first_refusal y.txn (not (is_requesters a.body)) a) y (take_message y a a.body)
 
--- an APDU that is kept, or that is answered by issuing one, takes memory
+-- Returns true for an ILL-Request in IDLE, and for a Conditional-Reply no in IN-PROCESS or CONDITIONAL.
 abbrev pub takes_memory : ResponderRecord → Body → Bool
 takes_memory y (types.IllRequest expiry item) = is_among (Idle ∷ []) y.state
 takes_memory y (types.ConditionalReply c false) = is_among (InProcess ∷ Conditional ∷ []) y.state
 takes_memory y other = false
 
--- A call answers what is expected, with the record after it; or want of memory, where memory is
--- taken for what would be taken, and the record is as it was.
+-- A call gives the expected answer and record. If it takes memory for news, it may also answer `OutOfMemory` and
+-- leave the record.
 abbrev pub MayWantMemory : Result Taking Refusal × ResponderRecord → Bool → ResponderRecord →
     Result Taking Refusal → ResponderRecord → Type 0
 MayWantMemory expected memory old (Err refusals.OutOfMemory) new =
     (expected.0 ≡ Ok Taken) × (memory ≡ true) × (new ≡ old)
 MayWantMemory expected memory old answer new = (answer, new) ≡ expected
 
--- What a responder answers to an APDU, and the record after it.
+-- A responder answers APDU `a` with `answer`, and `new` is the record after it.
 abbrev pub Takes : ResponderRecord → Apdu → Result Taking Refusal → ResponderRecord → Type 0
 Takes old a answer new = MayWantMemory (takes old a) (takes_memory old a.body) old answer new

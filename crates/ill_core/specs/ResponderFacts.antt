@@ -1,5 +1,5 @@
--- What a responder's record shows to have come, which APDU of a requester tells it, and what its
--- rows keep (this profile's own).
+-- The facts that a responder's record shows, with the APDUs of a requester that tell them (this profile's own). Then
+-- the rules that its rows keep.
 use Rattle.std.specs.Prelude.{◌≡◌, ◌⊎◌, ℕ, Bool, true, false, ◌&&◌, ◌||◌, ◌==◌, List, [], ◌∷◌, ◌++◌, Option, Some, None, Result, Ok, if◌then◌else◌}
 use Rattle.std.specs.List.{list_all, filter_map, count_by}
 use Rattle.std.specs.Option.{unwrap_or}
@@ -19,7 +19,7 @@ pub use Rattle.ill_core.specs.Bodies.{is_unsupplied, is_cancelled, is_end}
 use Rattle.ill_core.specs.Issued.{has, with_next}
 use Rattle.ill_core.specs.Responder.{ResponderRecord, later}
 
--- what a message of the requester may tell
+-- A fact that a message of the requester may tell.
 pub data Fact : Type 0 where
   Requested : Fact  -- the item was asked for
   Accepted : (conditions : ℕ) → Fact  -- the conditions with that number were accepted
@@ -27,11 +27,12 @@ pub data Fact : Type 0 where
   Arrived : Fact  -- the requester has the item
   SentBack : Fact  -- the requester has sent the item back
 
--- a Cancel-Reply yes to the Cancel with this number
+-- Returns true if the APDU is a Cancel-Reply yes to Cancel n.
 abbrev pub cancels : ℕ → Body → Bool
 cancels n (types.CancelReply c true) = c == n
 cancels n other = false
 
+-- The record of a responder shows a fact.
 abbrev pub Shows : ResponderRecord → Fact → Type 0
 Shows y Requested = is_among (Idle ∷ []) y.state ≡ false
 Shows y (Accepted conditions) = y.accepted ≡ Some conditions
@@ -39,7 +40,7 @@ Shows y (CancelAsked cancel) = (y.last_cancel ≡ Some cancel) ⊎ (has (cancels
 Shows y Arrived = y.received ≡ true
 Shows y SentBack = is_among (Returned ∷ CheckedIn ∷ []) y.state ≡ true
 
--- what an APDU with this number tells
+-- An APDU with this number and body tells a fact.
 abbrev pub Tells : ℕ → Body → Fact → Type 0
 Tells number (types.IllRequest expiry item) Requested = Unit {0}
 Tells number (types.ConditionalReply c true) (Accepted conditions) = c ≡ conditions
@@ -48,44 +49,44 @@ Tells number types.Received Arrived = Unit {0}
 Tells number types.Returned SentBack = Unit {0}
 Tells number other fact = ⊥
 
--- past IDLE the request stays, and so does being past it
+-- A record past IDLE keeps its request, and stays past IDLE.
 abbrev pub KeepsRequest : ResponderRecord → ResponderRecord → Type 0
 KeepsRequest y new =
     is_among (Idle ∷ []) y.state ≡ false →
     (is_among (Idle ∷ []) new.state ≡ false) × (new.request ≡ y.request)
 
--- An APDU issues one ILL-Answer unfilled, where it is a Conditional-Reply no, or none.
+-- An APDU issues nothing, or, if it is a Conditional-Reply no, one ILL-Answer unfilled.
 abbrev pub IssuesUnfilled : ResponderRecord → Body → ResponderRecord → Type 0
 IssuesUnfilled y body new =
     (new.issued ≡ y.issued) ⊎ ((declines body ≡ true)
     × (new.issued ≡ with_next y.txn y.issued (types.IllAnswer Unfilled)))
 
--- SHIPPED or later stays so, and RETURNED stays or is left for CHECKED-IN.
+-- SHIPPED or later stays so. RETURNED stays, or leads to CHECKED-IN.
 abbrev pub StaysLater : ResponderRecord → ResponderRecord → Type 0
 StaysLater y new =
     (is_among later y.state ≡ true → is_among later new.state ≡ true)
     × (is_among (Returned ∷ []) y.state ≡ true →
     is_among (Returned ∷ CheckedIn ∷ []) new.state ≡ true)
 
--- the states in which an end was issued
+-- The states after an end of the request.
 abbrev pub ended : List State
 ended = NotSupplied ∷ Cancelled ∷ later
 
--- the state is one that an end leads to
+-- Returns true if `body` is an end, and `state` is one that this end leads to.
 abbrev pub ends_in : Body → State → Bool
 ends_in body state =
     (is_unsupplied body && is_among (NotSupplied ∷ []) state)
     || ((is_cancelled body && is_among (Cancelled ∷ []) state)
     || (is_shipped body && is_among later state))
 
--- An end is issued only while the request is open, and leads to its state.
+-- An end is issued only while the request is open, and leads to its own state.
 abbrev pub Ends : ResponderRecord → ResponderRecord → Type 0
 Ends y new =
     (a : Apdu) → new.issued ≡ y.issued ++ a ∷ [] → is_end a.body ≡ true
     → (is_among (InProcess ∷ Conditional ∷ CancelPending ∷ []) y.state ≡ true)
     × (ends_in a.body new.state ≡ true)
 
--- The state of an end is entered only by issuing that end.
+-- A record enters a state after an end only by issuing that end.
 abbrev pub EntersByEnd : ResponderRecord → ResponderRecord → Type 0
 EntersByEnd y new =
     is_among ended new.state ≡ true
@@ -99,51 +100,52 @@ pub record EndsOnce (y : ResponderRecord) : Type 0 where
   pub shipped : has is_shipped y.issued ≡ is_among later y.state
   pub once : count_by (λ a. is_end a.body) y.issued ≡ (if is_among ended y.state then 1 else 0)
 
--- what a requester asks, and a responder answers yes or no
+-- A question of the requester, which the responder answers yes or no.
 pub data Question : Type 0 where
   MayCancel : Question
   MayRenew : Question
 
+-- Returns true if the APDU asks the question.
 abbrev pub asks : Question → Body → Bool
 asks MayCancel body = is_cancel body
 asks MayRenew body = is_renew body
 
--- the number of the question that an APDU answers
+-- Returns the number of the question that an APDU answers.
 abbrev pub answered_number : Question → Body → Option ℕ
 answered_number MayCancel (types.CancelReply c is_yes) = Some c
 answered_number MayRenew (types.RenewAnswer c granted) = Some c
 answered_number question other = None
 
--- the number of the last such question taken
+-- Returns the number of the last such question taken.
 abbrev pub last_asked : Question → ResponderRecord → Option ℕ
 last_asked MayCancel y = y.last_cancel
 last_asked MayRenew y = y.last_renew
 
--- the question waits for its answer
+-- Returns true if the question waits for its answer in this state.
 abbrev pub waits : Question → State → Bool
 waits MayCancel state = is_among (CancelPending ∷ []) state
 waits MayRenew state = is_among (RenewPending ∷ RenewOverdue ∷ []) state
 
--- A question is answered only while it waits, and then no more; the answer names the last one taken.
+-- A question is answered only while it waits, and waits no more after that. The answer names the last one taken.
 abbrev pub AnswersLast : Question → ResponderRecord → ResponderRecord → Type 0
 AnswersLast question y new =
     (a : Apdu) (n : ℕ) → new.issued ≡ y.issued ++ a ∷ [] → answered_number question a.body ≡ Some n
     → (waits question y.state ≡ true) × (waits question new.state ≡ false)
     × (n ≡ unwrap_or (last_asked question y) 0)
 
--- The last question is the same, and no question waits that did not.
+-- The last question stays, and none waits that did not wait before.
 abbrev pub KeepsLast : Question → ResponderRecord → ResponderRecord → Type 0
 KeepsLast question y new =
     (last_asked question new ≡ last_asked question y)
     × (waits question new.state ≡ true → waits question y.state ≡ true)
 
--- A question with a number above the last one's is the last one now.
+-- The APDU asks the question. Its number is not at most the last one, and is the last one now.
 abbrev pub TakesNew : Question → ℕ → Body → ResponderRecord → ResponderRecord → Type 0
 TakesNew question number body y new =
     (asks question body ≡ true) × (is_at_most number (last_asked question y) ≡ false)
     × (last_asked question new ≡ Some number)
 
--- the numbers of the questions that were answered, in the order of the answers
+-- Returns the numbers of the questions that were answered, in the order of the answers.
 abbrev pub answers_to : Question → List Apdu → List ℕ
 answers_to question apdus = filter_map (λ a. answered_number question a.body) apdus
 
@@ -153,11 +155,12 @@ pub record AnsweredOnce (answers : List ℕ) (last : Option ℕ) (is_waiting : B
   pub most : list_all (λ n. is_at_most n last) answers ≡ true
   pub below : is_waiting ≡ true → list_all (λ n. is_below n last) answers ≡ true
 
+-- A responder answers each question of this kind once.
 abbrev pub AnswersOnce : Question → ResponderRecord → Type 0
 AnswersOnce question y =
     AnsweredOnce (answers_to question y.issued) (last_asked question y) (waits question y.state)
 
--- taken or a repeat, and the record after it is in one of these states
+-- The message was taken or a repeat, and the record after it is in one of `states`.
 abbrev pub LeadsTo : List State → Result Taking Refusal × ResponderRecord → Type 0
 LeadsTo states answer =
     ((answer.0 ≡ Ok Taken) ⊎ (answer.0 ≡ Ok Repeat)) × (is_among states answer.1.state ≡ true)

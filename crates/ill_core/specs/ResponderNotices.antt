@@ -1,5 +1,5 @@
--- What a responder's record keeps of the questions that it was asked and of the order in which it issued, and which
--- APDUs of a requester the record has heard (this profile's own).
+-- The questions that a responder's record has, and the order in which it issued (this profile's own). Then the APDUs
+-- of a requester that the record has heard.
 use Rattle.std.specs.Prelude.{◌≡◌, ◌⊎◌, ℕ, ◌<◌, Bool, true, false, not, ◌||◌, ◌==◌, nat_lt, List, [], ◌∷◌, length, Option, Some, None}
 use Rattle.std.specs.List.{list_any}
 use Rattle.ill_values.specs.Day.{Date}
@@ -19,7 +19,7 @@ use Rattle.ill_core.specs.ResponderFacts.{Question, MayCancel, MayRenew, last_as
 
 -- ---- questions
 
--- a question with this number was answered
+-- Returns true if the question with this number was answered.
 abbrev pub has_answered : Question → ResponderRecord → ℕ → Bool
 has_answered question y number = list_any (λ n. n == number) (answers_to question y.issued)
 
@@ -27,7 +27,7 @@ has_answered question y number = list_any (λ n. n == number) (answers_to questi
 abbrev pub WasAsked : Question → ResponderRecord → ℕ → Type 0
 WasAsked question y number = (last_asked question y ≡ Some number) ⊎ (has_answered question y number ≡ true)
 
--- the states in which the last question may have no answer: it waits, or the item came back without one
+-- The states in which the last question may have no answer. It waits, or the item came back first.
 abbrev pub unanswered : Question → List State
 unanswered MayCancel = states.CancelPending ∷ []
 unanswered MayRenew = states.RenewPending ∷ states.RenewOverdue ∷ states.Returned ∷ states.CheckedIn ∷ []
@@ -40,11 +40,12 @@ HasAnsweredLast question y =
 
 -- ---- the order of what was issued
 
+-- Returns true if the APDU is a Recall.
 abbrev pub is_recall : Body → Bool
 is_recall types.Recall = true
 is_recall other = false
 
--- A Recall was issued in RECALL, and elsewhere only in RETURNED and CHECKED-IN.
+-- In RECALL a Recall was issued. A record with a Recall is in RECALL, RETURNED or CHECKED-IN.
 pub record RecallFits (y : ResponderRecord) : Type 0 where
   pub issued : is_among (states.Recall ∷ []) y.state ≡ true → has is_recall y.issued ≡ true
   pub after : has is_recall y.issued ≡ true →
@@ -56,28 +57,29 @@ ShipsBeforeRecall apdus =
     (m n : ℕ) (a b : Apdu) → message apdus m ≡ Some a → message apdus n ≡ Some b →
     is_shipped a.body ≡ true → is_recall b.body ≡ true → m < n
 
--- A due date that is granted, and by which answer: a Shipped grants as if it answered number 0.
+-- A due date that is granted, with the number that its APDU answers. A Shipped grants as if it answered number 0.
 pub data Grant : Type 0 where
   grant : (answers : ℕ) → (due : Date) → Grant
 
+-- Returns the grant of a Shipped or a Renew-Answer yes.
 abbrev pub grant_of : Body → Option Grant
 grant_of (types.Shipped due) = Some (grant 0 due)
 grant_of (types.RenewAnswer answers (Some due)) = Some (grant answers due)
 grant_of other = None
 
--- Of two dates that were granted, the one that answers the higher number is the later one.
+-- Of two granted dates, the one that answers the higher number is the later one.
 abbrev pub GrantsRise : List Apdu → Type 0
 GrantsRise apdus =
     (i j m n : ℕ) (a b : Apdu) (d e : Date) → message apdus i ≡ Some a → message apdus j ≡ Some b →
     grant_of a.body ≡ Some (grant m d) → grant_of b.body ≡ Some (grant n e) → m < n → is_before d e ≡ true
 
--- an Overdue for this due date
+-- Returns true if the APDU is an Overdue for `due`.
 abbrev pub is_overdue_of : Date → Body → Bool
 is_overdue_of due (types.Overdue day) = is_same_day day due
 is_overdue_of due other = false
 
--- Each Overdue has a date that is not after the due date. One for the due date was issued in OVERDUE and
--- RENEW/OVERDUE, and elsewhere only in RECALL, RETURNED and CHECKED-IN.
+-- No Overdue has a date after the due date. In OVERDUE and RENEW/OVERDUE one for the due date was issued. A record
+-- with such a one is in these states, RECALL, RETURNED or CHECKED-IN.
 pub record OverdueFits (y : ResponderRecord) : Type 0 where
   pub dated : (n : ℕ) (a : Apdu) (day : Date) → message y.issued n ≡ Some a → a.body ≡ types.Overdue day →
       (due : Date) × (due_of y ≡ Some due) × (is_before due day ≡ false)
@@ -96,16 +98,16 @@ GrantsBeforeOverdue apdus =
 
 -- ---- which messages a record has heard
 
--- the states in which the request is open, and no Cancel waits
+-- The states in which the request is open, and no Cancel waits.
 abbrev pub undecided : List State
 undecided = states.InProcess ∷ states.Conditional ∷ []
 
--- the states in which the item is out
+-- The states in which the item is out.
 abbrev pub lent : List State
 lent =
     states.Shipped ∷ states.RenewPending ∷ states.Overdue ∷ states.RenewOverdue ∷ states.Recall ∷ []
 
--- A record has heard an APDU with this number if it would not be taken now, or not for want of a number.
+-- A record has heard an APDU with this number and body if that would not change it now.
 abbrev pub has_heard : ResponderRecord → ℕ → Body → Bool
 has_heard y number (types.IllRequest expiry item) = not (is_among (states.Idle ∷ []) y.state)
 has_heard y number (types.ConditionalReply answers true) = not (is_the answers (outstanding_number y))
@@ -118,7 +120,7 @@ has_heard y number (types.Renew wished) =
 has_heard y number types.Returned = not (is_among lent y.state)
 has_heard y number other = true
 
--- The first APDU leads to a state in which the second one, though it was heard, would be taken.
+-- Returns true if `first` leads to a state in which `second`, though heard before, would change the record.
 abbrev pub reopens : Body → Body → Bool
 reopens (types.IllRequest expiry item) (types.ConditionalReply answers false) = true
 reopens (types.IllRequest expiry item) types.Cancel = true

@@ -1,4 +1,4 @@
--- The rules of a responder's record one by one, as what is known of a record that keeps them.
+-- The rules of a responder's record one by one. A proof takes them from `keeps_rules`, and back.
 use Rattle.std.specs.Prelude.{◌≡◌, Bool, true, false, not, ◌&&◌, List, [], ◌∷◌, is_some, if◌then◌else◌}
 use Rattle.std.specs.List.{list_all, filter_map, count_by}
 use Rattle.ill_values.specs.declared.apdu.Apdu.{Apdu}
@@ -10,8 +10,8 @@ use Rattle.ill_core.specs.Bodies.{is_requesters, is_shipped, is_checked_in}
 use Rattle.ill_core.specs.Issued.{are_numbered, has, is_none, granted_day}
 use Rattle.ill_core.specs.Responder.{ResponderRecord, later, are_rising, ships_first, ends_with_conditions, is_named, is_request_of}
 
--- A state has the numbers and the mark that it wants, and in IDLE none: whether a request is there,
--- a number of each kind, the mark, and whether nothing was issued.
+-- The state is a responder's, and has the parts that it wants. The tests are of a request, of each number, of the
+-- received mark, and of the empty list.
 pub record PartsFit (state : State) (has_request has_accepted has_cancel has_renew is_marked none : Bool)
     : Type 0 where
   pub role : is_among (Pending ∷ Received ∷ NotReceivedOverdue ∷ []) state ≡ false
@@ -22,13 +22,14 @@ pub record PartsFit (state : State) (has_request has_accepted has_cancel has_ren
   pub cancel : implies (is_among (CancelPending ∷ Cancelled ∷ []) state) has_cancel ≡ true
   pub renew : implies (is_among (RenewPending ∷ RenewOverdue ∷ []) state) has_renew ≡ true
 
--- What was issued fits the state: one Shipped in SHIPPED or later and none elsewhere, a Checked-In
--- in CHECKED-IN, and conditions last in CONDITIONAL.
+-- The list fits the state. It has one Shipped exactly in SHIPPED or later, a Checked-In exactly in CHECKED-IN, and
+-- conditions last in CONDITIONAL.
 pub record IssuedFits (state : State) (apdus : List Apdu) : Type 0 where
   pub shipped : count_by (λ a. is_shipped a.body) apdus ≡ (if is_among later state then 1 else 0)
   pub checked_in : has is_checked_in apdus ≡ is_among (CheckedIn ∷ []) state
   pub conditions : implies (is_among (Conditional ∷ []) state) (ends_with_conditions apdus) ≡ true
 
+-- A record keeps all rules of a responder.
 pub record ResponderRules (y : ResponderRecord) : Type 0 where
   pub numbered : are_numbered y.txn 1 y.issued ≡ true
   pub role : list_all (λ a. not (is_requesters a.body)) y.issued ≡ true

@@ -1,4 +1,4 @@
--- A responder's tables as arrays of rows: what their facts and changes are (this profile's own).
+-- A responder's tables as arrays of rows: their facts and their changes (this profile's own).
 use Rattle.std.specs.Prelude.{◌≡◌, ℕ, Bool, true, false, not, ◌||◌, ◌==◌, List, [], ◌∷◌, ◌++◌, Option, Some, None, IsSome, Result, Ok, Err, if◌then◌else◌}
 use Rattle.std.specs.List.{filter, find}
 use Rattle.std.specs.Option.{unwrap_or}
@@ -28,11 +28,11 @@ use Rattle.ill_core.specs.Tables.{Fact, has, next_state, fits}
 use Rattle.ill_core.specs.Responder.{ResponderRecord, outstanding_number, due_of}
 use Rattle.ill_core.specs.ResponderActions.{no_date, expiry_of}
 
--- a number after a row that is followed for message k: that, where its bit is among the changes
+-- Returns k if `changes` has `bit`, and else the number before, `last`.
 abbrev pub number_after : ℕ → ℕ → Option ℕ → ℕ → Option ℕ
 number_after bit changes last k = if has changes bit then Some k else last
 
--- the record after a row that is followed for message k, beside what the row keeps or issues
+-- Returns the record after a row is followed for message k, without its effects on the request and the list.
 abbrev pub after : {K : Type 0} → ResponderRecord → Row K → ℕ → ResponderRecord
 after y row k =
     record y {
@@ -43,17 +43,17 @@ after y row k =
       received = has row.4 RECEIVES || y.received;
     }
 
--- the request after a row that is followed for an APDU: one that ends it keeps none
+-- Returns the request after a row is followed for an APDU. A row that ends the request keeps it as it was.
 abbrev pub request_after : ℕ → Option Apdu → Apdu → Option Apdu
 request_after changes request a =
     if has changes ENDS then request else (if has changes KEEPS then Some a else request)
 
--- what is issued after such a row
+-- Returns the list after a row. A row that ends the request issues an ILL-Answer unfilled.
 abbrev pub issued_after : ℕ → Qualifiers → List Apdu → List Apdu
 issued_after changes txn issued =
     if has changes ENDS then with_next txn issued (types.IllAnswer Unfilled) else issued
 
--- the record after such a row
+-- Returns the record after a row of deliveries is followed for APDU `a`, which tells k.
 abbrev pub after_delivery : ResponderRecord → Apdu → Row RequesterKind → ℕ → ResponderRecord
 after_delivery y a row k =
     record (after y row k) {
@@ -61,68 +61,74 @@ after_delivery y a row k =
       issued = issued_after row.4 y.txn y.issued;
     }
 
--- that no number is left, where a row issues a message
+-- Returns the refusal of a number, if no number is left.
 abbrev pub refusal_of : Result ℕ Refusal → Option Refusal
 refusal_of (Ok number) = None
 refusal_of (Err refusal) = Some refusal
 
+-- Returns the refusal of a row that issues a message while no number is left.
 abbrev pub number_refusal : ℕ → List Apdu → Option Refusal
 number_refusal changes issued = if has changes ENDS then refusal_of (next_number issued) else None
 
--- a row takes memory
+-- Returns true if a row takes memory: it keeps a request, or issues a message.
 abbrev pub grows : ℕ → Bool
 grows changes = has changes KEEPS || has changes ENDS
 
--- Changes are refused where no number is left for them, or for want of memory.
+-- A row is refused with `NumbersUsed` if it issues a message and none is left. It is refused with `OutOfMemory` if it
+-- takes memory, and a number is left.
 abbrev pub IsRefused : ℕ → List Apdu → Refusal → Type 0
 IsRefused changes issued refusals.OutOfMemory =
     (grows changes ≡ true) × (number_refusal changes issued ≡ None)
 IsRefused changes issued refusal = number_refusal changes issued ≡ Some refusal
 
--- the facts of a message that answers c, or has the number n
+-- The facts of an answer to message c: c is outstanding, c is accepted, c named conditions.
 abbrev pub reply_facts : ResponderRecord → ℕ → List Fact
 reply_facts y c =
     record { bit = delivery.OUTSTANDING; holds = is_the c (outstanding_number y) }
     ∷ record { bit = delivery.ACCEPTED; holds = is_the c y.accepted }
     ∷ record { bit = delivery.WAS_CONDITIONAL; holds = was names_conditions y.issued c } ∷ []
 
+-- The facts of a message with number n: n is at most the last Cancel, or the last Renew. The last fact is that the
+-- received mark is not set.
 abbrev pub past_facts : ResponderRecord → ℕ → List Fact
 past_facts y n =
     record { bit = delivery.PAST_CANCEL; holds = is_at_most n y.last_cancel }
     ∷ record { bit = delivery.PAST_RENEW; holds = is_at_most n y.last_renew }
     ∷ record { bit = delivery.UNMARKED; holds = not y.received } ∷ []
 
+-- The facts that rows of deliveries may ask for, of a message that tells k.
 abbrev pub delivery_facts : ResponderRecord → ℕ → List Fact
 delivery_facts y k = reply_facts y k ++ past_facts y k
 
--- the rows of a kind, in their order
+-- Returns the rows of deliveries of a kind, in the order of the table.
 abbrev pub delivery_rows : RequesterKind → List (Row RequesterKind)
 delivery_rows kind = filter (λ r. requester_place r.0 == requester_place kind) delivery.ROWS
 
--- the first row that fits an APDU
+-- Returns the first row of the kind that fits an APDU. Without a kind there is none.
 abbrev pub delivery_row_of : ResponderRecord → Apdu → Body → Option RequesterKind →
     Option (Row RequesterKind)
 delivery_row_of y a body None = None
 delivery_row_of y a body (Some kind) =
     find (fits y.state (delivery_facts y (number_in a body))) (delivery_rows kind)
 
+-- Returns the first row that fits an APDU.
 abbrev pub delivery_row : ResponderRecord → Apdu → Option (Row RequesterKind)
 delivery_row y a = delivery_row_of y a a.body (requester_kind a.body)
 
--- the rows of a kind, in their order
+-- Returns the rows of deeds of a kind, in the order of the table.
 abbrev pub deed_rows : ResponderKind → List (Row ResponderKind)
 deed_rows kind = filter (λ r. responder_place r.0 == responder_place kind) action.ROWS
 
--- the row of a deed, which asks for no facts
+-- Returns the first row that has the state and the kind of a deed. It asks for no facts.
 abbrev pub deed_row : State → Deed → Option (Row ResponderKind)
 deed_row state deed = find (fits state []) (deed_rows (deed_kind deed))
 
--- what is allowed, or why it is not
+-- Returns Ok if a test holds, and else the refusal.
 abbrev pub check : Bool → Refusal → Result Unit Refusal
 check true refusal = Ok tt
 check false refusal = Err refusal
 
--- that its date allows a deed, or why it does not
+-- Returns Ok if the dates allow a deed `today`, and else the refusal of its date.
 abbrev pub check_date : ResponderRecord → Deed → Date → Result Unit Refusal
 check_date y (deeds.Ship due) today = check (not (is_before due today)) refusals.DateEarlier
 check_date y (deeds.RenewAnswer (Some d)) today =
@@ -132,7 +138,7 @@ check_date y deeds.Expire today =
     check (is_after_due today (expiry_of y.request)) refusals.NotExpired
 check_date y other today = Ok tt
 
--- what a deed issues
+-- Returns the body of the APDU that a deed issues.
 abbrev pub deed_body : ResponderRecord → Deed → Body
 deed_body y (deeds.Answer answer) = types.IllAnswer answer
 deed_body y (deeds.CancelReply is_yes) = types.CancelReply (unwrap_or y.last_cancel 0) is_yes
@@ -143,14 +149,14 @@ deed_body y deeds.Recall = types.Recall
 deed_body y deeds.CheckIn = types.CheckedIn
 deed_body y deeds.Expire = types.Expired
 
--- The number or the date is there that the APDU of a deed tells.
+-- The record has the number or the date that the APDU of a deed tells.
 abbrev pub HasTold : ResponderRecord → Deed → Type 0
 HasTold y (deeds.CancelReply is_yes) = IsSome y.last_cancel
 HasTold y (deeds.RenewAnswer granted) = IsSome y.last_renew
 HasTold y deeds.Overdue = IsSome (due_of y)
 HasTold y other = Unit
 
--- the record after a row that is followed for a deed, whose APDU has this number and body
+-- Returns the record after a row is followed for a deed, whose APDU has this number and body.
 abbrev pub after_deed : ResponderRecord → Row ResponderKind → ℕ → Body → ResponderRecord
 after_deed y row number body =
     record (after y row number) { issued = with_next y.txn y.issued body }

@@ -5,7 +5,7 @@ use Rattle.ill_values.specs.Names.{named_by}
 use Rattle.ill_core.specs.declared.state.State.{State}
 use Rattle.ill_core.specs.declared.state.State.TheVariants.{Idle, Pending, InProcess, Conditional, CancelPending, Cancelled, NotSupplied, Shipped, Received, RenewPending, Overdue, RenewOverdue, NotReceivedOverdue, Recall, Returned, CheckedIn}
 
--- the place of a state in their order
+-- Returns the place of a state in their order, from 0.
 abbrev pub place_of : State → ℕ
 place_of Idle = 0
 place_of Pending = 1
@@ -24,11 +24,11 @@ place_of Recall = 13
 place_of Returned = 14
 place_of CheckedIn = 15
 
--- whether a state is one of these
+-- Returns true if `state` is one of `states`.
 abbrev pub is_among : List State → State → Bool
 is_among states state = list_any (λ s. place_of s == place_of state) states
 
--- the name of a state
+-- Returns the name of a state.
 abbrev pub state_name : State → List ℕ
 state_name Idle = codes "IDLE"
 state_name Pending = codes "PENDING"
@@ -47,11 +47,12 @@ state_name Recall = codes "RECALL"
 state_name Returned = codes "RETURNED"
 state_name CheckedIn = codes "CHECKED-IN"
 
+-- All sixteen states, in their order.
 abbrev pub all_states : List State
 all_states =
     Idle ∷ Pending ∷ InProcess ∷ Conditional ∷ CancelPending ∷ Cancelled ∷ NotSupplied ∷ Shipped
     ∷ Received ∷ RenewPending ∷ Overdue ∷ RenewOverdue ∷ NotReceivedOverdue ∷ Recall ∷ Returned ∷ CheckedIn ∷ []
 
--- the state with a name
+-- Returns the state whose name is given, if there is one.
 abbrev pub state_named : List ℕ → Option State
 state_named = named_by state_name all_states

@@ -1,5 +1,5 @@
--- What each side may do now, by its verbs, and whose turn it is (this profile's own). A verb is the first word of an
--- action, without what it is about; a turn says whose library acts next, so far as the record of a side tells.
+-- The verbs of a side, and whose turn it is (this profile's own). A verb is the first word of an action. A turn says
+-- whose library acts next, as far as the record of a side tells.
 use Rattle.std.specs.Prelude.{ℕ, Bool, true, false, ◌==◌, List, [], ◌∷◌, Option, Result, Ok, Err, codes}
 use Rattle.std.specs.List.{list_any}
 use Rattle.ill_values.specs.Names.{named_by}
@@ -20,6 +20,7 @@ use Rattle.ill_core.specs.Responder.{ResponderRecord}
 
 -- ---- verbs
 
+-- Returns the verb of a wish.
 abbrev pub wish_verb : Wish → Verb
 wish_verb (wishes.Request expiry item) = Request
 wish_verb wishes.Cancel = Cancel
@@ -28,6 +29,7 @@ wish_verb wishes.Receive = Receive
 wish_verb (wishes.Renew wished) = Renew
 wish_verb wishes.Return = Return
 
+-- Returns the verb of a deed.
 abbrev pub deed_verb : Deed → Verb
 deed_verb (deeds.Answer answer) = Answer
 deed_verb (deeds.CancelReply is_yes) = CancelReply
@@ -38,7 +40,7 @@ deed_verb deeds.Recall = Recall
 deed_verb deeds.CheckIn = CheckIn
 deed_verb deeds.Expire = Expire
 
--- the name of a verb
+-- Returns the name of a verb.
 abbrev pub verb_name : Verb → List ℕ
 verb_name Request = codes "request"
 verb_name Cancel = codes "cancel"
@@ -55,16 +57,17 @@ verb_name Recall = codes "recall"
 verb_name CheckIn = codes "check-in"
 verb_name Expire = codes "expire"
 
+-- All fourteen verbs, in their order.
 abbrev pub all_verbs : List Verb
 all_verbs =
     Request ∷ Cancel ∷ Reply ∷ Receive ∷ Renew ∷ Return ∷ Answer ∷ CancelReply ∷ Ship ∷ RenewAnswer ∷ Overdue ∷ Recall
     ∷ CheckIn ∷ Expire ∷ []
 
--- the verb with a name
+-- Returns the verb whose name is given, if there is one.
 abbrev pub verb_named : List ℕ → Option Verb
 verb_named = named_by verb_name all_verbs
 
--- the place of a verb in their order
+-- Returns the place of a verb in their order, from 0.
 abbrev pub verb_place : Verb → ℕ
 verb_place Request = 0
 verb_place Cancel = 1
@@ -81,31 +84,31 @@ verb_place Recall = 11
 verb_place CheckIn = 12
 verb_place Expire = 13
 
--- whether a verb is one of these
+-- Returns true if `verb` is one of `verbs`.
 abbrev pub is_verb_among : List Verb → Verb → Bool
 is_verb_among verbs verb = list_any (λ v. verb_place v == verb_place verb) verbs
 
 -- ---- what may be done now
 
--- An action has a place now: it is not refused for the state or the role. A date may forbid it, all numbers may be
--- used, and memory may be wanting.
+-- An action has a place now if it is not refused for the state or the role. Its date, the numbers or memory may still
+-- refuse it.
 abbrev pub is_now : {R : Type 0} → Result R Refusal → Bool
 is_now (Ok done) = true
 is_now (Err (refusals.NotNow state)) = false
 is_now (Err refusals.WrongRole) = false
 is_now (Err other) = true
 
--- if conditions stand that were not declined
+-- Returns the verbs in CONDITIONAL: reply, unless the conditions were declined.
 abbrev pub reply_verbs : Bool → List Verb
 reply_verbs true = []
 reply_verbs false = Reply ∷ []
 
--- of an item that was recalled, and was received or not
+-- Returns the verbs in RECALL: return if the item was received, and else receive.
 abbrev pub recalled_verbs : Bool → List Verb
 recalled_verbs true = Return ∷ []
 recalled_verbs false = Receive ∷ []
 
--- in this state, with conditions that were declined or not, and an item that was received or not
+-- Returns a requester's verbs in a state. `declined` is of its conditions, `received` of the item.
 abbrev pub requester_verbs_in : State → Bool → Bool → List Verb
 requester_verbs_in states.Idle declined received = Request ∷ []
 requester_verbs_in states.Pending declined received = Cancel ∷ []
@@ -119,10 +122,11 @@ requester_verbs_in states.NotReceivedOverdue declined received = Receive ∷ []
 requester_verbs_in states.Recall declined received = recalled_verbs received
 requester_verbs_in other declined received = []
 
--- the verbs of the wishes that have a place now
+-- Returns the verbs of the wishes that have a place now.
 abbrev pub requester_verbs : RequesterRecord → List Verb
 requester_verbs x = requester_verbs_in x.state (is_declined x) (is_received_by x)
 
+-- Returns a responder's verbs in a state.
 abbrev pub responder_verbs_in : State → List Verb
 responder_verbs_in states.InProcess = Answer ∷ Ship ∷ Expire ∷ []
 responder_verbs_in states.Conditional = Expire ∷ []
@@ -134,23 +138,23 @@ responder_verbs_in states.RenewOverdue = RenewAnswer ∷ []
 responder_verbs_in states.Returned = CheckIn ∷ []
 responder_verbs_in other = []
 
--- the verbs of the deeds that have a place now
+-- Returns the verbs of the deeds that have a place now.
 abbrev pub responder_verbs : ResponderRecord → List Verb
 responder_verbs y = responder_verbs_in y.state
 
 -- ---- whose turn it is
 
--- in CONDITIONAL the requester replies; once it has declined, the responder ends the request or goes on with it
+-- In CONDITIONAL the requester replies. Once it has declined, the responder ends the request or goes on with it.
 abbrev pub reply_turn : Bool → Turn
 reply_turn true = Theirs
 reply_turn false = Mine
 
--- in RETURNED the responder checks the item in; once the requester knows that, it is over
+-- In RETURNED the responder checks the item in. Once the requester knows that, the loan is over.
 abbrev pub returned_turn : Bool → Turn
 returned_turn true = Over
 returned_turn false = Theirs
 
--- in this state, with conditions that were declined or not, and an item that was checked in or not
+-- Returns the turn in a requester's state. `declined` is of its conditions, `checked_in` of the item.
 abbrev pub requester_turn_in : State → Bool → Bool → Turn
 requester_turn_in states.Idle declined checked_in = Mine
 requester_turn_in states.Pending declined checked_in = Theirs
@@ -166,10 +170,11 @@ requester_turn_in states.Recall declined checked_in = Mine
 requester_turn_in states.Returned declined checked_in = returned_turn checked_in
 requester_turn_in other declined checked_in = Over
 
--- whose turn it is, as far as a requester knows
+-- Returns the turn, as far as a requester's record tells.
 abbrev pub requester_turn : RequesterRecord → Turn
 requester_turn x = requester_turn_in x.state (is_declined x) x.checked_in
 
+-- Returns the turn in a responder's state.
 abbrev pub responder_turn_in : State → Turn
 responder_turn_in states.Idle = Theirs
 responder_turn_in states.InProcess = Mine
@@ -183,6 +188,6 @@ responder_turn_in states.Recall = Theirs
 responder_turn_in states.Returned = Mine
 responder_turn_in other = Over
 
--- whose turn it is, as far as a responder knows
+-- Returns the turn, as far as a responder's record tells.
 abbrev pub responder_turn : ResponderRecord → Turn
 responder_turn y = responder_turn_in y.state

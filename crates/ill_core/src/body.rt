@@ -1,11 +1,11 @@
-//! What an APDU says by its type and fields.
+//! Tests on the type and the fields of an APDU.
 
 ghost use Rattle.std.specs.Prelude.{◌≡◌};
 ghost use Rattle.ill_core.specs.Bodies.{is_requesters, is_ill_request, is_shipped, is_end, is_renewal, names_conditions, grant_in};
 
 use ill_values::{AnswerResult, Body, Day};
 
-/// Whether a requester issues APDUs of this type. A responder issues the others.
+/// Returns true if a requester issues APDUs of this type. A responder issues the others.
 pub fn is_requesters(body: &Body) -> bool
     ensures { result ≡ is_requesters body.now }
 {
@@ -20,22 +20,22 @@ pub fn is_requesters(body: &Body) -> bool
     }
 }
 
-/// Whether it is an ILL-Request.
+/// Returns true if `body` is an ILL-Request.
 pub fn is_ill_request(body: &Body) -> bool
     ensures { result ≡ is_ill_request body.now }
 {
     matches!(body, Body::IllRequest { .. })
 }
 
-/// Whether it is a Shipped.
+/// Returns true if `body` is a Shipped.
 pub fn is_shipped(body: &Body) -> bool
     ensures { result ≡ is_shipped body.now }
 {
     matches!(body, Body::Shipped { .. })
 }
 
-/// Whether it ends a request: an ILL-Answer after which the item is not supplied, an Expired, a
-/// Cancel-Reply yes, or a Shipped.
+/// Returns true if `body` ends a request: an ILL-Answer after which the item is not supplied, an
+/// Expired, a Cancel-Reply yes, or a Shipped.
 pub fn is_end(body: &Body) -> bool
     ensures { result ≡ is_end body.now }
 {
@@ -50,7 +50,7 @@ pub fn is_end(body: &Body) -> bool
     }
 }
 
-/// Whether it is a Renew-Answer yes.
+/// Returns true if `body` is a Renew-Answer yes.
 pub fn is_renewal(body: &Body) -> bool
     ensures { result ≡ is_renewal body.now }
 {
@@ -63,7 +63,7 @@ pub fn is_renewal(body: &Body) -> bool
     )
 }
 
-/// Whether it is an ILL-Answer conditional.
+/// Returns true if `body` is an ILL-Answer conditional.
 pub fn names_conditions(body: &Body) -> bool
     ensures { result ≡ names_conditions body.now }
 {
@@ -75,7 +75,7 @@ pub fn names_conditions(body: &Body) -> bool
     )
 }
 
-/// The date that a Shipped or a Renew-Answer yes grants.
+/// Returns the date that a Shipped or a Renew-Answer yes grants.
 pub fn grant_in(body: &Body) -> Option<Day>
     ensures { result ≡ grant_in body.now }
 {

@@ -5,7 +5,7 @@ ghost use Rattle.ill_core.specs.Dates.{is_due_on, is_after_due};
 
 use ill_values::Day;
 
-/// Whether there is a due date, and this day is it.
+/// Returns true if there is a due date, and `day` is it.
 pub fn is_due_on(day: Day, due: Option<Day>) -> bool
     ensures { result ≡ is_due_on day due }
 {
@@ -15,7 +15,7 @@ pub fn is_due_on(day: Day, due: Option<Day>) -> bool
     }
 }
 
-/// Whether there is a date, and this day is after it.
+/// Returns true if there is a date, and `day` is after it.
 pub fn is_after(day: Day, date: Option<Day>) -> bool
     ensures { result ≡ is_after_due day date }
 {

@@ -1,4 +1,4 @@
-//! What a side has issued, with what both roles do alike.
+//! The APDUs that a side has issued, with the calls that both roles share.
 
 ghost use Rattle.std.specs.Prelude.{◌≡◌, ◌≤◌, ◌<◌, ◌==◌, ◌&&◌, true, length, take, [], Ok, Some, is_some, IfOk, IfErr, IfSome, OnOk, OnErr, option_map};
 ghost use Rattle.ill_core.specs.declared.refusal.Refusal.TheVariants as refusals;
@@ -20,7 +20,7 @@ pub struct Issued {
     granted: Option<Day>,
 }
 
-/// What is looked for among the APDUs: the last number of this kind.
+/// A kind of number, of which the last is sought among the APDUs.
 #[derive(Clone, Copy)]
 pub enum Sought {
     /// The number that a Conditional-Reply yes answers.
@@ -58,7 +58,7 @@ impl Sought {
 }
 
 impl Issued {
-    /// None yet.
+    /// Returns an empty list for the transaction.
     #[tactic(auto, unfolding(crate::specs::Issued::are_numbered))]
     pub fn none(alloc: Global, txn: TxnId) -> Issued
         ensures { result ≡ record { txn = txn; apdus = [] } }
@@ -70,7 +70,7 @@ impl Issued {
         }
     }
 
-    /// These APDUs, each of the transaction, the n-th with number n.
+    /// Returns the list of `apdus`. Each is of the transaction, and the n-th has number n.
     pub fn of_numbered(txn: TxnId, apdus: Vec<Apdu>) -> Issued
         requires numbered { are_numbered txn 1 apdus.items ≡ true }
         requires few { length apdus.items ≤ 255 }
@@ -84,14 +84,14 @@ impl Issued {
         }
     }
 
-    /// The transaction.
+    /// Returns the transaction.
     pub fn txn(&self) -> &TxnId
         ensures { result.now ≡ self.now.txn }
     {
         &self.txn
     }
 
-    /// The APDUs, in their order.
+    /// Returns the APDUs, in their order.
     pub fn apdus(&self) -> &[Apdu]
         ensures value { result.now ≡ self.now.apdus }
         ensures numbered { are_numbered self.now.txn 1 self.now.apdus ≡ true }
@@ -100,21 +100,21 @@ impl Issued {
         &self.apdus
     }
 
-    /// How many there are.
+    /// Returns the number of APDUs.
     pub fn count(&self) -> u8
         ensures { result ≡ length self.now.apdus }
     {
         self.apdus.len() as u8
     }
 
-    /// APDU number n.
+    /// Returns APDU `number`, if it was issued.
     pub fn get(&self, number: Number) -> Option<&Apdu>
         ensures { option_map (λ a. a.now) result ≡ message self.now.apdus number }
     {
         self.apdus.get(usize::from(number.get()) - 1)
     }
 
-    /// The last number of what is sought.
+    /// Returns the last number of the kind `sought`.
     #[tactic(auto, using(crate::proofs::IssuedLemmas::last_at))]
     pub fn last(&self, sought: Sought) -> Option<Number>
         ensures { result ≡ last_of (sought_number sought) self.now.apdus }
@@ -133,7 +133,7 @@ impl Issued {
         self.granted
     }
 
-    /// The first so many APDUs, or all.
+    /// Returns the first `count` APDUs, or all if there are fewer.
     pub fn front(&self, count: u8) -> &[Apdu]
         ensures { result.now ≡ take count self.now.apdus }
     {
@@ -141,7 +141,7 @@ impl Issued {
         &self.apdus[..count]
     }
 
-    /// Goes back to the first so many APDUs: the others are let go.
+    /// Keeps the first `count` APDUs, and drops the others.
     #[tactic(auto, using(crate::proofs::IssuedLemmas::numbered_front))]
     pub fn go_back(&mut self, count: u8)
         ensures txn { self.new.txn ≡ self.old.txn }
@@ -151,7 +151,7 @@ impl Issued {
         self.granted = last_granted(&self.apdus);
     }
 
-    /// The number of the next APDU.
+    /// Returns the number of the next APDU.
     pub fn next_number(&self) -> Result<Number, Refusal>
         ensures { result ≡ next_number self.now.apdus }
     {
@@ -161,7 +161,7 @@ impl Issued {
             .ok_or(Refusal::NumbersUsed)
     }
 
-    /// Issues the next APDU, or changes nothing.
+    /// Issues the next APDU, with `number` and `body`, or changes nothing.
     #[tactic(auto, using(crate::proofs::IssuedLemmas::numbered_issue, crate::proofs::IssuedLemmas::last_of_next))]
     pub fn issue(&mut self, alloc: Global, number: Number, body: Body) -> Result<(), Refusal>
         requires next { next_number self.old.apdus ≡ Ok number }
@@ -203,7 +203,7 @@ fn last_granted(apdus: &[Apdu]) -> Option<Day>
     last
 }
 
-/// Whether each APDU is of the transaction, and the n-th has number n.
+/// Returns true if each APDU is of the transaction, and the n-th has number n.
 pub fn are_numbered(txn: &TxnId, apdus: &[Apdu]) -> bool
     ensures value { result ≡ are_numbered txn.now 1 apdus.now }
     ensures few { result ≡ true → length apdus.now ≤ 255 }
@@ -216,7 +216,7 @@ pub fn are_numbered(txn: &TxnId, apdus: &[Apdu]) -> bool
     true
 }
 
-/// Whether the APDU is of the transaction and has this number.
+/// Returns true if the APDU is of the transaction and has this number.
 fn is_message(apdu: &Apdu, txn: &TxnId, number: usize) -> bool
     ensures value { result ≡ (is_same_txn apdu.now.txn txn.now && (apdu.now.number == number)) }
     ensures few { result ≡ true → number ≤ 255 }
@@ -224,28 +224,28 @@ fn is_message(apdu: &Apdu, txn: &TxnId, number: usize) -> bool
     apdu.txn == *txn && usize::from(apdu.number.get()) == number
 }
 
-/// Whether an ILL-Request is among the APDUs.
+/// Returns true if an ILL-Request is among the APDUs.
 pub fn has_ill_request(apdus: &[Apdu]) -> bool
     ensures { result ≡ has is_ill_request apdus.now }
 {
     apdus.iter().any(|apdu| is_ill_request(&apdu.body))
 }
 
-/// Whether a Received is among the APDUs.
+/// Returns true if a Received is among the APDUs.
 pub fn has_received(apdus: &[Apdu]) -> bool
     ensures { result ≡ has is_received apdus.now }
 {
     apdus.iter().any(|apdu| matches!(apdu.body, Body::Received))
 }
 
-/// Whether a Cancel is among the APDUs.
+/// Returns true if a Cancel is among the APDUs.
 pub fn has_cancel(apdus: &[Apdu]) -> bool
     ensures { result ≡ has is_cancel apdus.now }
 {
     apdus.iter().any(|apdu| matches!(apdu.body, Body::Cancel))
 }
 
-/// Whether a Renew is among the APDUs.
+/// Returns true if a Renew is among the APDUs.
 pub fn has_renew(apdus: &[Apdu]) -> bool
     ensures { result ≡ has is_renew apdus.now }
 {
@@ -254,21 +254,21 @@ pub fn has_renew(apdus: &[Apdu]) -> bool
         .any(|apdu| matches!(apdu.body, Body::Renew { .. }))
 }
 
-/// Whether a Returned is among the APDUs.
+/// Returns true if a Returned is among the APDUs.
 pub fn has_returned(apdus: &[Apdu]) -> bool
     ensures { result ≡ has is_returned apdus.now }
 {
     apdus.iter().any(|apdu| matches!(apdu.body, Body::Returned))
 }
 
-/// Whether a Conditional-Reply no is among the APDUs.
+/// Returns true if a Conditional-Reply no is among the APDUs.
 pub fn has_declined(apdus: &[Apdu]) -> bool
     ensures { result ≡ has declines apdus.now }
 {
     apdus.iter().any(|apdu| matches!(apdu.body, Body::ConditionalReply { yes: false, .. }))
 }
 
-/// Whether a Checked-In is among the APDUs.
+/// Returns true if a Checked-In is among the APDUs.
 pub fn has_checked_in(apdus: &[Apdu]) -> bool
     ensures { result ≡ has is_checked_in apdus.now }
 {

@@ -1,4 +1,4 @@
-//! The kinds of messages: what the tables tell apart in them.
+//! The kinds of messages that the tables tell apart.
 
 ghost use Rattle.std.specs.Prelude.{◌≡◌, ◌<◌, Some, None, IsSome};
 ghost use Rattle.ill_core.specs.Kinds.{requester_kind, responder_kind, answer_kind, requester_place, responder_place, number_in, date_in};
@@ -62,7 +62,7 @@ impl RequesterKind {
         self as usize
     }
 
-    /// The kind of a message, if a requester issues it.
+    /// Returns the kind of a message, if a requester issues it.
     pub fn of(body: &Body) -> Option<RequesterKind>
         ensures { result ≡ requester_kind body.now }
     {
@@ -88,7 +88,7 @@ impl ResponderKind {
         self as usize
     }
 
-    /// The kind of a message, if a responder issues it.
+    /// Returns the kind of a message, if a responder issues it.
     pub fn of(body: &Body) -> Option<ResponderKind>
         ensures { result ≡ responder_kind body.now }
     {
@@ -110,7 +110,7 @@ impl ResponderKind {
         }
     }
 
-    /// The kind of an ILL-Answer with this result.
+    /// Returns the kind of an ILL-Answer with this result.
     pub fn of_answer(answer: AnswerResult) -> ResponderKind
         ensures { result ≡ answer_kind answer }
     {
@@ -122,7 +122,7 @@ impl ResponderKind {
     }
 }
 
-/// The number that a message tells: that of the message which it answers, or its own.
+/// Returns the number that a message tells: the number that it answers, or else its own.
 pub fn number_in(apdu: &Apdu) -> Number
     ensures { result ≡ number_in apdu.now apdu.now.body }
 {
@@ -134,7 +134,7 @@ pub fn number_in(apdu: &Apdu) -> Number
     }
 }
 
-/// The due date that a message tells.
+/// Returns the due date that a message tells.
 pub fn date_in(body: &Body) -> Option<Day>
     ensures { result ≡ date_in body.now }
 {
@@ -145,7 +145,7 @@ pub fn date_in(body: &Body) -> Option<Day>
     }
 }
 
-/// A number or a date that is there, for a message to tell.
+/// Returns the number or the date that a message tells, which is there.
 pub fn told<T: Copy>(value: Option<T>) -> T
     requires there { IsSome value }
     ensures { Some result ≡ value }

@@ -1,4 +1,4 @@
-//! What holds of single rows of the tables, as contracts of functions that do nothing.
+//! The laws of single rows of the tables, as contracts of functions that do nothing.
 //!
 //! They are over the definitions alone, and of every record unless a premise says otherwise.
 

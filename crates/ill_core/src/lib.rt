@@ -1,7 +1,6 @@
 //! Both sides of an interlibrary loan, as records that act and take messages by tables.
 //!
-//! Each side is a value of its own: `act` is what its library decides, and `take` what a message
-//! does.
+//! Each side is a value of its own: `act` does a decision of its library, and `take` follows a message.
 #![tactic(auto)]
 
 mod body;

@@ -5,7 +5,7 @@ ghost use Rattle.ill_core.specs.Numbers.{is_at_most};
 
 use ill_values::Number;
 
-/// Whether there is a number, and this one is at most that.
+/// Returns true if `most` is there, and `number` is at most that.
 pub fn is_at_most(number: Number, most: Option<Number>) -> bool
     ensures { result ≡ is_at_most number most }
 {

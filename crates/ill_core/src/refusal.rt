@@ -1,4 +1,4 @@
-//! Why a side refused an action or a message.
+//! The refusals of an action or a message.
 
 ghost use Rattle.std.specs.Prelude.{◌≡◌};
 ghost use Rattle.ill_core.specs.declared.refusal.Refusal.TheVariants.{OutOfMemory};
@@ -7,9 +7,9 @@ use crate::state::State;
 use std::alloc::{AllocError, AllocFailed};
 use thiserror::Error;
 
-/// Why an action or a message was refused. The side is unchanged.
+/// The cause for which an action or a message was refused. The side is unchanged.
 ///
-/// Where more than one holds, it is the first in this order.
+/// If more than one holds, it is the first in this order.
 #[derive(Clone, Copy, Debug, PartialEq, Eq, Hash, Error)]
 pub enum Refusal {
     /// The APDU belongs to another transaction. Only `take` gives this.

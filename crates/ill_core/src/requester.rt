@@ -35,7 +35,7 @@ pub struct Requester {
     issued: Issued,
 }
 
-/// What the library of a requester may decide to do.
+/// A decision of a requester's library.
 #[derive(Debug, PartialEq, Eq, Drop)]
 pub enum Wish {
     /// Ask for an item: issue the ILL-Request.
@@ -49,7 +49,7 @@ pub enum Wish {
     Cancel,
     /// Accept or decline the responder's conditions: issue a Conditional-Reply.
     Reply {
-        /// Whether the conditions are accepted.
+        /// True if the conditions are accepted.
         yes: bool,
     },
     /// Tell the responder that the item has arrived.
@@ -64,7 +64,7 @@ pub enum Wish {
 }
 
 impl Wish {
-    /// The verb of the wish, without what it is about.
+    /// Returns the verb of the wish.
     pub fn verb(&self) -> Verb
         ensures { result ≡ wish_verb self.now }
     {
@@ -107,7 +107,7 @@ impl Requester {
         }
     }
 
-    /// The requester with these parts, or `None` if the parts do not fit together.
+    /// Returns the requester with these parts, or `None` if they do not fit together.
     #[tactic(auto, unfolding(crate::specs::Requester::keeps_rules))]
     pub fn of_parts(
         txn: TxnId,
@@ -140,8 +140,8 @@ impl Requester {
         })
     }
 
-    /// Goes back to where it stood so and had issued the first so many of its messages, if these parts
-    /// fit together. Otherwise it answers `false`, and nothing changes.
+    /// Goes back to `standing` and the first `count` messages, if these parts fit together. Otherwise
+    /// it answers `false`, and nothing changes.
     pub fn go_back(&mut self, standing: Standing, count: u8) -> bool
         ensures fits { (result ≡ true) ↔ IsRequester (back_to standing count self.old) }
         ensures back { self.new ≡ (if result then back_to standing count self.old else self.old) }
@@ -154,7 +154,7 @@ impl Requester {
         true
     }
 
-    /// Whether it could stand so behind the first so many of its messages.
+    /// Returns true if `standing` fits with the first `count` messages.
     #[tactic(auto, using(crate::proofs::Rules::requester_back, crate::proofs::Rules::requester_back_fits))]
     fn could_stand(&self, standing: &Standing, count: u8) -> bool
         ensures { (result ≡ true) ↔ IsRequester (back_to standing.now count self.now) }
@@ -162,9 +162,9 @@ impl Requester {
         rules::fit_together(standing, self.issued.front(count))
     }
 
-    /// Does what the library decides, and issues the message that tells the responder.
+    /// Does the decision `wish` of the library, and issues the message that tells the responder.
     ///
-    /// It refuses what has no place in this state, then a 256th message, then want of memory; a
+    /// It refuses a wish without a place in this state, then a 256th message, then want of memory. A
     /// refusal changes nothing.
     pub fn act(&mut self, alloc: Global, wish: &Wish) -> Result<(), Refusal>
         ensures { Acts self.old wish.now result self.new }
@@ -180,7 +180,7 @@ impl Requester {
         Ok(())
     }
 
-    /// Takes a message of the responder, and answers what it did. A refusal changes nothing, and no
+    /// Takes a message of the responder, and returns the answer. A refusal changes nothing, and no
     /// memory is wanted.
     pub fn take(&mut self, apdu: &Apdu) -> Result<Taking, Refusal>
         ensures takes { Takes self.old apdu.now result self.new }
@@ -197,7 +197,7 @@ impl Requester {
         self.issued.txn()
     }
 
-    /// Where the requester stands.
+    /// Returns the standing of the requester.
     pub fn standing(&self) -> Standing
         ensures value { result ≡ standing_of self.now }
         ensures requester { IsRequester self.now }
@@ -220,7 +220,7 @@ impl Requester {
         self.standing.due
     }
 
-    /// How many messages the requester has issued: 0 to 255.
+    /// Returns the number of messages that the requester has issued: 0 to 255.
     pub fn issued_count(&self) -> u8
         ensures { result ≡ length self.now.issued }
     {
@@ -242,7 +242,7 @@ impl Requester {
         self.issued.get(number)
     }
 
-    /// Whether the requester has issued a Received.
+    /// Returns true if the requester has issued a Received.
     pub fn is_received(&self) -> bool
         ensures { result ≡ is_received_by self.now }
     {
@@ -263,14 +263,14 @@ impl Requester {
         self.standing.held
     }
 
-    /// Whether the conditions that stand were declined.
+    /// Returns true if the conditions that stand were declined.
     pub fn is_declined(&self) -> bool
         ensures { result ≡ is_declined self.now }
     {
         self.standing.state == State::Conditional && has_declined(self.issued.apdus())
     }
 
-    /// Whether the responder has said that the item is back.
+    /// Returns true if the responder has said that the item is back.
     pub fn is_checked_in(&self) -> bool
         ensures { result ≡ self.now.checked_in }
     {
@@ -297,7 +297,7 @@ impl Requester {
         }
     }
 
-    /// Who acts next, as far as the requester knows. When it is the requester's turn, it has a verb.
+    /// Returns the turn, as far as the requester knows. In its own turn the requester has a verb.
     pub fn turn(&self) -> Turn
         ensures value { result ≡ requester_turn self.now }
         ensures mine { result ≡ Mine → requester_verbs self.now ≡ [] → ⊥ }
@@ -320,7 +320,7 @@ impl Requester {
     }
 }
 
-/// Whether the state is SHIPPED or later.
+/// Returns true if `state` is SHIPPED or later.
 fn is_later(state: State) -> bool
     ensures { result ≡ is_among later state }
 {

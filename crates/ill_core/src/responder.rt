@@ -36,14 +36,14 @@ pub struct Responder {
     issued: Issued,
 }
 
-/// What the library of a responder may decide to do.
+/// A decision of a responder's library.
 #[derive(Clone, Copy, Debug, PartialEq, Eq, Hash)]
 pub enum Deed {
     /// Answer the request: issue an ILL-Answer with this result.
     Answer(AnswerResult),
     /// Agree to the last Cancel or refuse it.
     CancelReply {
-        /// Whether the request is cancelled.
+        /// True if the request is cancelled.
         yes: bool,
     },
     /// Send the item.
@@ -53,7 +53,7 @@ pub enum Deed {
     },
     /// Grant the last Renew or refuse it.
     RenewAnswer {
-        /// The new due date, where the answer is yes. Without a date the answer is no.
+        /// The new due date, if the answer is yes. Without a date the answer is no.
         granted: Option<Day>,
     },
     /// Tell the requester that the due date has passed.
@@ -67,7 +67,7 @@ pub enum Deed {
 }
 
 impl Deed {
-    /// The verb of the deed, without what it is about.
+    /// Returns the verb of the deed.
     pub fn verb(&self) -> Verb
         ensures { result ≡ deed_verb self.now }
     {
@@ -115,7 +115,7 @@ impl Responder {
         }
     }
 
-    /// The responder with these parts, or `None` if the parts do not fit together.
+    /// Returns the responder with these parts, or `None` if they do not fit together.
     #[tactic(auto, unfolding(crate::specs::Responder::keeps_rules))]
     pub fn of_parts(
         txn: TxnId,
@@ -157,8 +157,8 @@ impl Responder {
         })
     }
 
-    /// Goes back to where it stood so and had issued the first so many of its messages, if these parts
-    /// fit together. Otherwise it answers `false`, and nothing changes. In IDLE it has no request.
+    /// Goes back to `standing` and the first `count` messages, if these parts fit together. Otherwise
+    /// it answers `false`, and nothing changes. In IDLE it has no request.
     pub fn go_back(&mut self, standing: Standing, count: u8) -> bool
         ensures fits { (result ≡ true) ↔ IsResponder (back_to standing count self.old) }
         ensures back { self.new ≡ (if result then back_to standing count self.old else self.old) }
@@ -172,7 +172,7 @@ impl Responder {
         true
     }
 
-    /// Whether it could stand so behind the first so many of its messages.
+    /// Returns true if `standing` fits with the first `count` messages.
     #[tactic(auto, using(crate::proofs::Rules::responder_back, crate::proofs::Rules::responder_back_fits))]
     fn could_stand(&self, standing: &Standing, count: u8) -> bool
         ensures { (result ≡ true) ↔ IsResponder (back_to standing.now count self.now) }
@@ -181,10 +181,11 @@ impl Responder {
         rules::fit_together(standing, is_asked, self.issued.front(count))
     }
 
-    /// Does what the library decides on this day, and issues the message that tells the requester.
+    /// Does the decision `deed` of the library on the day `today`, and issues the message that tells
+    /// the requester.
     ///
-    /// It refuses what has no place in this state or on this day, then a 256th message, then want of
-    /// memory; a refusal changes nothing.
+    /// It refuses a deed without a place in this state or on this day, then a 256th message, then want
+    /// of memory. A refusal changes nothing.
     pub fn act(&mut self, alloc: Global, deed: &Deed, today: Day) -> Result<(), Refusal>
         ensures { Acts self.old deed.now today result self.new }
     {
@@ -200,7 +201,7 @@ impl Responder {
         Ok(())
     }
 
-    /// Takes a message of the requester, and answers what it did. A refusal changes nothing.
+    /// Takes a message of the requester, and returns the answer. A refusal changes nothing.
     ///
     /// Only the ILL-Request, which is kept, and a Conditional-Reply no, which is answered with an
     /// ILL-Answer unfilled, take memory.
@@ -218,7 +219,7 @@ impl Responder {
         self.issued.txn()
     }
 
-    /// Where the responder stands.
+    /// Returns the standing of the responder.
     pub fn standing(&self) -> Standing
         ensures value { result ≡ standing_of self.now }
         ensures responder { IsResponder self.now }
@@ -242,7 +243,7 @@ impl Responder {
         self.issued.granted()
     }
 
-    /// How many messages the responder has issued: 0 to 255.
+    /// Returns the number of messages that the responder has issued: 0 to 255.
     pub fn issued_count(&self) -> u8
         ensures { result ≡ length self.now.issued }
     {
@@ -264,7 +265,7 @@ impl Responder {
         self.issued.get(number)
     }
 
-    /// Whether the responder has taken a Received.
+    /// Returns true if the responder has taken a Received.
     pub fn is_received(&self) -> bool
         ensures { result ≡ self.now.received }
     {
@@ -338,7 +339,7 @@ impl Responder {
         }
     }
 
-    /// Who acts next, as far as the responder knows. When it is the responder's turn, it has a verb.
+    /// Returns the turn, as far as the responder knows. In its own turn the responder has a verb.
     pub fn turn(&self) -> Turn
         ensures value { result ≡ responder_turn self.now }
         ensures mine { result ≡ Mine → responder_verbs self.now ≡ [] → ⊥ }
@@ -356,14 +357,14 @@ impl Responder {
     }
 }
 
-/// Whether there is a request in this state: in IDLE there is none.
+/// Returns true if there is a request in this state: in IDLE there is none.
 fn is_asked_in(state: State, request: &Option<Apdu>) -> bool
     ensures { result ≡ is_some (request_in state request.now) }
 {
     state != State::Idle && request.is_some()
 }
 
-/// Drops the request where the state is IDLE.
+/// Drops the request if the state is IDLE.
 fn drop_in_idle(state: State, request: &mut Option<Apdu>)
     ensures { request.new ≡ request_in state request.old }
 {
@@ -372,7 +373,7 @@ fn drop_in_idle(state: State, request: &mut Option<Apdu>)
     }
 }
 
-/// Whether the state is SHIPPED or later.
+/// Returns true if `state` is SHIPPED or later.
 fn is_later(state: State) -> bool
     ensures { result ≡ is_among later state }
 {

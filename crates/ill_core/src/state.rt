@@ -66,7 +66,7 @@ pub const STATES: [State; 16] = [
 ];
 
 impl State {
-    /// The name of the state, as `NOT-SUPPLIED`.
+    /// Returns the name of the state, as `NOT-SUPPLIED`.
     pub fn name(self) -> &'static str
         ensures { result.now ≡ state_name self }
     {
@@ -90,7 +90,7 @@ impl State {
         }
     }
 
-    /// The state with this name, if it is one.
+    /// Returns the state whose name is `text`, if there is one.
     pub fn read(text: &[u8]) -> Option<State>
         ensures { result ≡ state_named text.now }
     {

@@ -8,14 +8,14 @@ ghost use Rattle.ill_core.specs.Tables.{Fact, are_met, has_state, fits, taking_o
 use crate::state::State;
 use crate::taking::Taking;
 
-/// A row: the kind of action or message, the states and the facts that it asks for, what comes of
-/// it, and what changes beside the state.
+/// A row: the kind of action or message, the states and the facts that it asks for, its effect, and
+/// its changes beside the state.
 ///
 /// Bit i of the states is variant i of `State`, from 0. Each role names the bits of its facts and of
 /// its changes. The rows of a kind stand together, and the first of them that fits decides.
 pub struct Row<K>(pub K, pub u16, pub u16, pub Then, pub u16);
 
-/// What comes of an action or a message: its answer, and the next state.
+/// The effect of an action or a message: its answer, and the next state.
 #[derive(Clone, Copy)]
 pub enum Then {
     /// It is done, or is new, and leads to this state.
@@ -31,7 +31,7 @@ pub enum Then {
 }
 
 impl Then {
-    /// What is answered in a state.
+    /// Returns the answer in `state`.
     pub fn taking(self, state: State) -> Taking
         ensures { result ≡ taking_of self state }
     {
@@ -43,7 +43,7 @@ impl Then {
         }
     }
 
-    /// The state that follows.
+    /// Returns the state after `state`.
     pub fn next_state(self, state: State) -> State
         ensures { result ≡ next_state self state }
     {
@@ -54,17 +54,17 @@ impl Then {
     }
 }
 
-/// What the facts are in which rows may be interested.
+/// The facts that rows may ask for.
 pub trait Facts {
     /// Each fact with its bit.
     ghost facts: { Self → List Fact };
 
-    /// Whether all these facts hold.
+    /// Returns true if all facts with a bit in `asked` hold.
     fn hold(&self, asked: u16) -> bool
         ensures { result ≡ are_met asked (facts self.now) };
 }
 
-/// The first of the rows that has the state and of which the facts hold.
+/// Returns the first of `rows` that has `state`, and whose facts hold.
 pub fn find<'a, K, F: Facts>(rows: &'a [Row<K>], state: State, facts: &F) -> Option<&'a Row<K>>
     ensures { option_copied result ≡ find (fits state (F.facts facts.now)) rows.now }
 {
@@ -72,7 +72,7 @@ pub fn find<'a, K, F: Facts>(rows: &'a [Row<K>], state: State, facts: &F) -> Opt
         .find(|row| has_state(row.1, state) && are_met(facts, row.2))
 }
 
-/// Whether all these facts hold; where a row asks for none, none is looked at.
+/// Returns true if all facts with a bit in `asked` hold. If it has none, no fact is looked at.
 #[tactic(auto, using(crate::proofs::TableLemmas::none_asked))]
 fn are_met<F: Facts>(facts: &F, asked: u16) -> bool
     ensures { result ≡ are_met asked (F.facts facts.now) }
@@ -80,14 +80,14 @@ fn are_met<F: Facts>(facts: &F, asked: u16) -> bool
     asked == NONE || facts.hold(asked)
 }
 
-/// Whether a state is among these.
+/// Returns true if `state` has its bit in `states`.
 fn has_state(states: u16, state: State) -> bool
     ensures { result ≡ has_state states state }
 {
     states >> place_of(state) & 1 == 1
 }
 
-/// The place of a state in their order.
+/// Returns the place of `state` in their order.
 fn place_of(state: State) -> u16
     ensures { result ≡ place_of state }
 {

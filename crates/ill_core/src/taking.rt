@@ -1,8 +1,8 @@
-//! What a message did.
+//! The answer of a side to a message.
 
 use crate::state::State;
 
-/// What a message did to the side that took it.
+/// The answer of a side to a message that it did not refuse.
 #[derive(Clone, Copy, Debug, PartialEq, Eq, Hash)]
 pub enum Taking {
     /// It was new, and the side has followed it.

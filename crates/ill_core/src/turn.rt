@@ -1,6 +1,6 @@
-//! Who acts next.
+//! The turn: the library that acts next.
 
-/// Who acts next in a transaction, as far as the record of a side tells. A side may have verbs though it is
+/// The library that acts next in a transaction, as far as the record of a side tells. A side may have verbs in
 /// the other's turn: a requester in PENDING may cancel.
 #[derive(Clone, Copy, Debug, PartialEq, Eq, Hash)]
 pub enum Turn {

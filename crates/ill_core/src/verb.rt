@@ -1,4 +1,4 @@
-//! What a library may do, by the first word of it.
+//! The verbs: the first words of all actions.
 
 ghost use Rattle.std.specs.Prelude.{◌≡◌, Some};
 ghost use Rattle.std.specs.Fmt.{padded};
@@ -6,7 +6,7 @@ ghost use Rattle.ill_core.specs.Verbs.{verb_name, verb_named};
 
 use std::fmt;
 
-/// What a library may do, without what it is about. It is displayed by its name, as `cancel-reply`.
+/// The first word of an action of a library. It is displayed by its name, as `cancel-reply`.
 #[derive(Clone, Copy, Debug, PartialEq, Eq, Hash)]
 pub enum Verb {
     /// A requester asks for an item.
@@ -58,7 +58,7 @@ const VERBS: [Verb; 14] = [
 ];
 
 impl Verb {
-    /// The name of the verb, as `cancel-reply`.
+    /// Returns the name of the verb, as `cancel-reply`.
     pub fn name(self) -> &'static str
         ensures { result.now ≡ verb_name self }
     {
@@ -80,7 +80,7 @@ impl Verb {
         }
     }
 
-    /// The verb with this name, if it is one.
+    /// Returns the verb whose name is `text`, if there is one.
     pub fn read(text: &[u8]) -> Option<Verb>
         ensures { result ≡ verb_named text.now }
     {

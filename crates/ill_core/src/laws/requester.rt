@@ -79,7 +79,7 @@ pub fn requester_stays_later()
         is_among later x.state ≡ true → is_among later (takes x a).1.state ≡ true }
 {}
 
-/// A due date is kept or raised, where it is there exactly in SHIPPED or later.
+/// A due date is kept or raised, if it is there exactly in SHIPPED or later.
 pub fn requester_keeps_due()
     ensures acts { (x new : RequesterRecord) (wish : Wish) → acts x wish ≡ Ok new →
         new.due ≡ x.due }
@@ -87,7 +87,8 @@ pub fn requester_keeps_due()
         is_some x.due ≡ is_among later x.state → KeepsDue x.due (takes x a).1.due }
 {}
 
-/// What a record shows to have come was shown before, or is told by the message that it took.
+/// Each fact that a record shows after a message was shown before, or the message tells it. A wish
+/// shows nothing new.
 pub fn requester_shows()
     ensures acts { (x new : RequesterRecord) (wish : Wish) (fact : Fact) → acts x wish ≡ Ok new →
         Shows new fact → Shows x fact }
@@ -106,7 +107,7 @@ pub fn requester_holds()
     ensures { (x : RequesterRecord) (a : Apdu) → Holds x a.number (takes x a).1 }
 {}
 
-/// Conditions are answered once, where they are held exactly in CONDITIONAL.
+/// Conditions are answered once, if they are held exactly in CONDITIONAL.
 pub fn requester_answers_once()
     ensures acts { (x new : RequesterRecord) (wish : Wish) → acts x wish ≡ Ok new →
         is_some x.held ≡ is_among (states.Conditional ∷ []) x.state →
@@ -114,8 +115,8 @@ pub fn requester_answers_once()
     ensures takes { (x : RequesterRecord) (a : Apdu) → AnswersOnce x → AnswersOnce (takes x a).1 }
 {}
 
-/// Where the loan can still end so, and the message is of the transaction, Shipped leads to SHIPPED
-/// or later, the end of the request to NOT-SUPPLIED, and the yes to the last Cancel to CANCELLED.
+/// If the request can still end so, a message of the transaction ends it. Shipped leads to SHIPPED or
+/// later, an end without the item to NOT-SUPPLIED, and a yes to the last Cancel to CANCELLED.
 pub fn requester_follows()
     ensures shipped { (x : RequesterRecord) (a : Apdu) (due : Date) →
         is_same_txn a.txn x.txn ≡ true → a.body ≡ types.Shipped due →
@@ -131,8 +132,8 @@ pub fn requester_follows()
         LeadsTo (states.Cancelled ∷ []) (takes x a) }
 {}
 
-/// A record that keeps its rules reflects after a wish what it reflected before; after a message it reflects that,
-/// or what the message attests.
+/// Each notice that a record reflects after a wish was reflected before. After a message it was, or the
+/// message attests it. The record keeps its rules.
 pub fn requester_reflects()
     ensures acts { (x new : RequesterRecord) (wish : Wish) (notice : Notice) → acts x wish ≡ Ok new →
         IsRequester x → Reflects new notice → Reflects x notice }

@@ -120,8 +120,8 @@ pub fn responder_answers_last()
         AnswersLast question y (takes y a).1 }
 {}
 
-/// The last Cancel or Renew changes, and one waits that did not, only where one comes with a number
-/// above the last one's.
+/// The last Cancel or Renew changes, or one waits that did not, only if one comes with a number above
+/// the last one's.
 pub fn responder_keeps_last()
     ensures acts { (question : Question) (y new : ResponderRecord) (deed : Deed) (today : Date) →
         acts y deed today ≡ Ok new → KeepsLast question y new }
@@ -129,7 +129,7 @@ pub fn responder_keeps_last()
         KeepsLast question y (takes y a).1 ⊎ TakesNew question a.number a.body y (takes y a).1 }
 {}
 
-/// Each Cancel and each Renew is answered once, where one that waits is there.
+/// Each Cancel and each Renew is answered once, if one that waits is there.
 pub fn responder_answers_once()
     ensures acts { (question : Question) (y new : ResponderRecord) (deed : Deed) (today : Date) →
         acts y deed today ≡ Ok new →
@@ -139,8 +139,8 @@ pub fn responder_answers_once()
         AnswersOnce question y → AnswersOnce question (takes y a).1 }
 {}
 
-/// What a record shows to have come was shown before, or is told by the message that it took; a
-/// deed shows nothing new, where a Cancel that waits is there.
+/// Each fact that a record shows after a message was shown before, or the message tells it. A deed
+/// shows nothing new, if a Cancel that waits is there.
 pub fn responder_shows()
     ensures acts { (y new : ResponderRecord) (deed : Deed) (today : Date) (fact : Fact) →
         acts y deed today ≡ Ok new →
@@ -150,15 +150,15 @@ pub fn responder_shows()
         Shows (takes y a).1 fact → Shows y fact ⊎ Tells a.number a.body fact }
 {}
 
-/// Where the item was shipped, a Returned of the transaction leads to RETURNED, or the item is
-/// checked in already.
+/// If the item was shipped, a Returned of the transaction leads to RETURNED, or the item is checked
+/// in already.
 pub fn responder_follows()
     ensures { (y : ResponderRecord) (a : Apdu) → is_same_txn a.txn y.txn ≡ true →
         a.body ≡ types.Returned → is_among later y.state ≡ true →
         LeadsTo (states.Returned ∷ states.CheckedIn ∷ []) (takes y a) }
 {}
 
-/// What was asked was asked before, or it is the message that came.
+/// A question that was asked was asked before, or it is the message that came.
 pub fn responder_was_asked()
     ensures acts { (question : Question) (y new : ResponderRecord) (deed : Deed) (today : Date) (number : ℕ) →
         acts y deed today ≡ Ok new →

@@ -27,7 +27,7 @@ pub fn responder_verbs_are_exact()
         ≡ is_now (responder_actions.acts y deed today) }
 {}
 
-/// Whoever's turn it is has a verb, and nobody has one when it is over.
+/// The side whose turn it is has a verb. When it is over, no side has one.
 pub fn turns_have_verbs()
     ensures requester_acts { (x : RequesterRecord) → requester_turn x ≡ Mine →
         requester_verbs x ≡ [] → ⊥ }

@@ -1,4 +1,4 @@
-//! What a requester does: its table of wishes.
+//! The wishes of a requester: its table of actions.
 
 ghost use Rattle.std.specs.Prelude.{◌≡◌, IsOk, IsSome, IfOk, IfErr, option_copied};
 ghost use Rattle.std.specs.Option.{unwrap_or};
@@ -52,7 +52,7 @@ const ROWS: [Row<Kind>; 11] = [
     Row(Kind::Returned, RECALL, IS_HERE, To(Returned), NONE),
 ];
 
-/// Where the rows of each kind begin, and where those of the last end.
+/// The place at which the rows of each kind begin, and that at which those of the last end.
 const BEGINNINGS: [usize; 8] = [0, 1, 2, 3, 4, 7, 9, 11];
 
 /// The first row that fits a wish.
@@ -100,7 +100,7 @@ impl Facts for Requester {
     }
 }
 
-/// What a wish that a line has issues.
+/// Returns the body of the APDU that a wish with a line issues.
 pub fn body_of(requester: &Requester, alloc: Global, wish: &Wish) -> Result<Body, Refusal>
     requires done { IsOk (line_of requester.now wish.now) }
     ensures value { IfOk result (λ body. body ≡ wish_body requester.now wish.now) }

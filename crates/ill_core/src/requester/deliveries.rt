@@ -1,4 +1,4 @@
-//! What the messages of a responder do: the requester's table of deliveries.
+//! The messages of a responder: the requester's table of deliveries.
 
 ghost use Rattle.std.specs.Prelude.{◌≡◌, ◌==◌, ◌&&◌, Ok, List, filter, option_copied};
 ghost use Rattle.ill_core.specs.Bodies.{is_cancel, is_renew};
@@ -93,10 +93,10 @@ const ROWS: [Row<Kind>; 30] = [
     Row(Kind::CheckedIn, RETURNED, NONE, Repeat, NONE),
 ];
 
-/// Where the rows of each kind begin, and where those of the last end.
+/// The place at which the rows of each kind begin, and that at which those of the last end.
 const BEGINNINGS: [usize; 13] = [0, 3, 4, 6, 8, 11, 13, 15, 20, 23, 26, 28, 30];
 
-/// What a message does.
+/// Follows the first row that fits a message, and returns the answer.
 pub fn take_message(requester: &mut Requester, apdu: &Apdu) -> Taking
     ensures { (Ok result, requester.new) ≡ take_message requester.old apdu.now apdu.now.body }
 {

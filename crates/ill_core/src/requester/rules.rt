@@ -1,4 +1,4 @@
-//! Which parts make a requester.
+//! The rules of a requester's parts.
 
 ghost use Rattle.std.specs.Prelude.{◌≡◌, ◌&&◌, false, [], ◌∷◌, is_some};
 ghost use Rattle.std.specs.List.{list_all};
@@ -15,7 +15,7 @@ use crate::issued::{
 use crate::state::State;
 use ill_values::Apdu;
 
-/// Whether these parts fit together, and with what was issued.
+/// Returns true if the parts of `standing` fit together, and with `apdus`.
 pub fn fit_together(standing: &Standing, apdus: &[Apdu]) -> bool
     ensures { result ≡ (parts_fit standing.now.state (is_some standing.now.held)
         (is_some standing.now.due) standing.now.checked_in
@@ -33,7 +33,7 @@ pub fn fit_together(standing: &Standing, apdus: &[Apdu]) -> bool
     are_kept(state, apdus)
 }
 
-/// Whether what was issued keeps the rules of a requester in this state.
+/// Returns true if `apdus` keep the rules of a requester in this state.
 fn are_kept(state: State, apdus: &[Apdu]) -> bool
     requires role { is_among (states.InProcess ∷ states.CheckedIn ∷ []) state ≡ false }
     ensures { result ≡ issued_keeps_rules state apdus.now }
@@ -47,14 +47,14 @@ fn are_kept(state: State, apdus: &[Apdu]) -> bool
     issued_fits(state, apdus)
 }
 
-/// Whether a requester issues each of them.
+/// Returns true if a requester issues APDUs of the types of `apdus`.
 fn is_role(apdus: &[Apdu]) -> bool
     ensures { result ≡ list_all (λ a. is_requesters a.body) apdus.now }
 {
     apdus.iter().all(|apdu| is_requesters(&apdu.body))
 }
 
-/// Whether the first, and no other, is an ILL-Request.
+/// Returns true if the first APDU, and no other, is an ILL-Request. An empty list passes.
 fn begins_with_request(apdus: &[Apdu]) -> bool
     ensures { result ≡ begins_with_request apdus.now }
 {
@@ -64,7 +64,7 @@ fn begins_with_request(apdus: &[Apdu]) -> bool
     }
 }
 
-/// Whether the state has the conditions, the due date and the mark that it wants, and no more.
+/// Returns true if the state has the conditions, the due date and the mark that it wants, and no more.
 fn parts_fit(state: State, held: bool, due: bool, checked_in: bool) -> bool
     ensures { result ≡ parts_fit state held due checked_in }
 {
@@ -76,7 +76,7 @@ fn parts_fit(state: State, held: bool, due: bool, checked_in: bool) -> bool
     }
 }
 
-/// Whether what was issued fits the state.
+/// Returns true if `apdus` fit the state.
 fn issued_fits(state: State, apdus: &[Apdu]) -> bool
     requires role { is_among (states.InProcess ∷ states.CheckedIn ∷ []) state ≡ false }
     ensures { result ≡ issued_fits state apdus.now }

@@ -1,4 +1,4 @@
-//! Where a requester stands: the parts of its record that a row of its tables may change.
+//! The standing of a requester: the parts of its record that a row of its tables may change.
 
 ghost use Rattle.std.specs.Prelude.{◌≡◌, ◌||◌};
 ghost use Rattle.ill_core.specs.Tables.{has, next_state};
@@ -9,7 +9,7 @@ use crate::state::State;
 use crate::table::Row;
 use ill_values::{Day, Number};
 
-// What changes beside the state, where a row is followed for a message of number k with the date d.
+// The changes beside the state when a row is followed for a message of number k with the date d.
 pub const HOLDS: u16 = 1; // k is held
 
 pub const FREES: u16 = 1 << 1; // no conditions are held
@@ -18,21 +18,21 @@ pub const DUE: u16 = 1 << 2; // the due date is d
 
 pub const MARK: u16 = 1 << 3; // a Checked-In was taken
 
-/// Where a requester stands: its record but for the transaction and the messages issued.
+/// The standing of a requester: its record without the transaction and the messages issued.
 #[derive(Clone, Copy, Debug)]
 pub struct Standing {
     /// The present state.
     pub state: State,
     /// The number of the ILL-Answer whose conditions stand.
     pub held: Option<Number>,
-    /// Whether the responder has said that the item is back.
+    /// True if the responder has said that the item is back.
     pub checked_in: bool,
     /// The day on which the item is due.
     pub due: Option<Day>,
 }
 
 impl Standing {
-    /// Where the row leads from here.
+    /// Returns the standing to which `row` leads.
     pub fn after<K>(self, row: &Row<K>, number: Number, date: Option<Day>) -> Standing
         ensures state { result.state ≡ next_state row.now.3 self.state }
         ensures held { result.held ≡ held_after row.now.4 self.held number }

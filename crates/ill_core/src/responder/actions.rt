@@ -1,4 +1,4 @@
-//! What a responder does: its table of actions.
+//! The deeds of a responder: its table of actions.
 
 ghost use Rattle.std.specs.Prelude.{◌≡◌, Bool, [], filter, option_copied};
 ghost use Rattle.ill_core.specs.Kinds.{deed_kind};
@@ -42,7 +42,7 @@ const ROWS: [Row<Kind>; 14] = [
     Row(Kind::CheckedIn, RETURNED, NONE, To(CheckedIn), NONE),
 ];
 
-/// Where the rows of each kind begin, and where those of the last end.
+/// The place at which the rows of each kind begin, and that at which those of the last end.
 const BEGINNINGS: [usize; 13] = [0, 1, 2, 3, 4, 5, 6, 7, 9, 10, 12, 13, 14];
 
 /// The row of a deed, if it has a place in this state.

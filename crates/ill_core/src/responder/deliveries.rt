@@ -1,4 +1,4 @@
-//! What the messages of a requester do: the responder's table of deliveries.
+//! The messages of a requester: the responder's table of deliveries.
 
 ghost use Rattle.std.specs.Prelude.{◌≡◌, true, OnOk, OnErr, IfErr, None, filter, option_copied};
 ghost use Rattle.ill_core.specs.Bodies.{names_conditions};
@@ -67,10 +67,11 @@ const ROWS: [Row<Kind>; 16] = [
     Row(Kind::Returned, BACK, NONE, Repeat, NONE),
 ];
 
-/// Where the rows of each kind begin, and where those of the last end.
+/// The place at which the rows of each kind begin, and that at which those of the last end.
 const BEGINNINGS: [usize; 8] = [0, 2, 5, 7, 9, 11, 14, 16];
 
-/// What a message does. Only an ILL-Request that is kept and a Conditional-Reply no take memory.
+/// Follows the first row that fits a message, and returns the answer. Only an ILL-Request that is kept
+/// and a Conditional-Reply no take memory.
 pub fn take_message(
     responder: &mut Responder,
     alloc: Global,
@@ -121,8 +122,8 @@ fn rows_of(kind: Kind) -> &'static [Row<Kind>]
     &ROWS[BEGINNINGS[place]..BEGINNINGS[place + 1]]
 }
 
-/// Issues the answer to a no, or keeps the request, where that is among the changes. Where it is
-/// refused, nothing changes.
+/// Issues the answer to a no, or keeps the request, if that is among the changes. If it is refused,
+/// nothing changes.
 fn grow(
     request: &mut Option<Apdu>,
     issued: &mut Issued,

@@ -1,4 +1,4 @@
-//! Which parts make a responder.
+//! The rules of a responder's parts.
 
 ghost use Rattle.std.specs.Prelude.{◌≡◌, false, not, ◌&&◌, is_some};
 ghost use Rattle.std.specs.List.{list_all, filter_map, count_by};
@@ -14,7 +14,7 @@ use crate::issued::has_checked_in;
 use crate::state::State;
 use ill_values::{Apdu, Day, Number, TxnId};
 
-/// Whether these parts fit together, with the request and with what was issued.
+/// Returns true if the parts of `standing` fit together, with the request and with `apdus`.
 pub fn fit_together(standing: &Standing, is_asked: bool, apdus: &[Apdu]) -> bool
     ensures { result ≡ (parts_fit standing.now.state is_asked
         (is_some standing.now.accepted) (is_some standing.now.last_cancel)
@@ -35,7 +35,7 @@ pub fn fit_together(standing: &Standing, is_asked: bool, apdus: &[Apdu]) -> bool
     are_kept(standing.state, &standing.accepted, apdus)
 }
 
-/// Whether what was issued keeps the rules of a responder in this state.
+/// Returns true if `apdus` keep the rules of a responder in this state.
 fn are_kept(state: State, accepted: &Option<Number>, apdus: &[Apdu]) -> bool
     ensures { result ≡ issued_keeps_rules state accepted.now apdus.now }
 {
@@ -54,7 +54,7 @@ fn are_kept(state: State, accepted: &Option<Number>, apdus: &[Apdu]) -> bool
     ships_first(apdus)
 }
 
-/// Whether there is no request, or it is an ILL-Request of the transaction.
+/// Returns true if there is no request, or it is an ILL-Request of the transaction.
 pub fn is_request_of(txn: &TxnId, request: &Option<Apdu>) -> bool
     ensures { result ≡ is_request_of txn.now request.now }
 {
@@ -64,14 +64,14 @@ pub fn is_request_of(txn: &TxnId, request: &Option<Apdu>) -> bool
     }
 }
 
-/// Whether a responder issues each of them.
+/// Returns true if a responder issues APDUs of the types of `apdus`.
 pub fn is_role(apdus: &[Apdu]) -> bool
     ensures { result ≡ list_all (λ a. not (is_requesters a.body)) apdus.now }
 {
     apdus.iter().all(|apdu| !is_requesters(&apdu.body))
 }
 
-/// Which parts of a responder are there.
+/// The parts of a responder that are there.
 #[derive(Clone, Copy)]
 struct Present {
     /// The ILL-Request.
@@ -82,13 +82,13 @@ struct Present {
     last_cancel: bool,
     /// The number of the last Renew.
     last_renew: bool,
-    /// Whether a Received was taken.
+    /// True if a Received was taken.
     received: bool,
-    /// Whether no message was issued.
+    /// True if no message was issued.
     nothing_issued: bool,
 }
 
-/// Whether the state has the parts that it wants.
+/// Returns true if the state has the parts that it wants.
 fn parts_fit(state: State, present: Present) -> bool
     ensures { result ≡ parts_fit state present.request present.accepted present.last_cancel
         present.last_renew present.received present.nothing_issued }
@@ -115,7 +115,7 @@ fn is_empty(present: Present) -> bool
         && present.nothing_issued
 }
 
-/// Whether there is no number, or it is that of conditions that were issued.
+/// Returns true if there is no number, or it is that of conditions that were issued.
 pub fn is_named(accepted: &Option<Number>, apdus: &[Apdu]) -> bool
     ensures { result ≡ is_named accepted.now apdus.now }
 {
@@ -128,7 +128,7 @@ pub fn is_named(accepted: &Option<Number>, apdus: &[Apdu]) -> bool
     }
 }
 
-/// Whether what was issued fits the state.
+/// Returns true if `apdus` fit the state.
 pub fn issued_fits(state: State, apdus: &[Apdu]) -> bool
     ensures { result ≡ issued_fits state apdus.now }
 {
@@ -150,7 +150,7 @@ fn shipped_count(apdus: &[Apdu]) -> usize
     apdus.iter().filter(|apdu| is_shipped(&apdu.body)).count()
 }
 
-/// Whether the last of them names conditions.
+/// Returns true if the last of `apdus` names conditions.
 fn ends_with_conditions(apdus: &[Apdu]) -> bool
     ensures { result ≡ ends_with_conditions apdus.now }
 {
@@ -163,7 +163,7 @@ fn ends_with_conditions(apdus: &[Apdu]) -> bool
     }
 }
 
-/// Whether each date that was granted is after those before it.
+/// Returns true if each date that was granted is after those before it.
 #[tactic(auto, using(crate::proofs::ResponderLists::rise_end))]
 pub fn dates_rise(apdus: &[Apdu]) -> bool
     ensures { result ≡ are_rising (filter_map granted_day apdus.now) }
@@ -179,7 +179,7 @@ pub fn dates_rise(apdus: &[Apdu]) -> bool
     true
 }
 
-/// Whether no date comes, or the first, or one that is after the last.
+/// Returns true if no date comes, or the first, or one that is after the last.
 fn may_follow(found: &Option<Day>, last: &Option<Day>) -> bool
     ensures { result ≡ rises last.now found.now }
 {
@@ -189,7 +189,7 @@ fn may_follow(found: &Option<Day>, last: &Option<Day>) -> bool
     }
 }
 
-/// Whether no date was granted before a Shipped.
+/// Returns true if a Shipped stands before each Renew-Answer yes.
 #[tactic(auto, using(crate::proofs::ResponderLists::ships_end))]
 pub fn ships_first(apdus: &[Apdu]) -> bool
     ensures { result ≡ ships_first apdus.now }

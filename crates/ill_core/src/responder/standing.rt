@@ -1,4 +1,4 @@
-//! Where a responder stands: the parts of its record that a row of either table may change.
+//! The standing of a responder: the parts of its record that a row of either table may change.
 
 ghost use Rattle.std.specs.Prelude.{◌≡◌, ◌||◌};
 ghost use Rattle.ill_core.specs.Tables.{has, next_state};
@@ -9,7 +9,7 @@ use crate::state::State;
 use crate::table::Row;
 use ill_values::Number;
 
-// What changes beside the state, where a row is followed for a message that tells the number k.
+// The changes beside the state when a row is followed for a message that tells the number k.
 pub const ACCEPTS: u16 = 1; // the conditions accepted last are k
 
 pub const CANCELS: u16 = 1 << 1; // the last Cancel is k
@@ -22,7 +22,7 @@ pub const KEEPS: u16 = 1 << 4; // the ILL-Request is kept
 
 pub const ENDS: u16 = 1 << 5; // an ILL-Answer unfilled is issued
 
-/// Where a responder stands: its record but for the transaction, the request and the messages issued.
+/// The standing of a responder: its record without the transaction, the request and the messages issued.
 #[derive(Clone, Copy, Debug)]
 pub struct Standing {
     /// The present state.
@@ -33,12 +33,12 @@ pub struct Standing {
     pub last_cancel: Option<Number>,
     /// The number of the last Renew that was taken.
     pub last_renew: Option<Number>,
-    /// Whether a Received was taken.
+    /// True if a Received was taken.
     pub received: bool,
 }
 
 impl Standing {
-    /// Where the row leads from here.
+    /// Returns the standing to which `row` leads.
     pub fn after<K>(self, row: &Row<K>, number: Number) -> Standing
         ensures state { result.state ≡ next_state row.now.3 self.state }
         ensures accepted { result.accepted ≡ number_after ACCEPTS row.now.4 self.accepted number }
@@ -58,7 +58,7 @@ impl Standing {
     }
 }
 
-/// The number, where its bit is among the changes, or the one before.
+/// Returns `number` if `bit` is among `changes`, and else `last`.
 fn number_after(bit: u16, changes: u16, last: Option<Number>, number: Number) -> Option<Number>
     ensures { result ≡ number_after bit changes last number }
 {

@@ -1,3 +1,4 @@
+-- Answers the contract of `are_numbered` (`src/issued.rt`).
 use Rattle.std.proofs.Common.{arith, true, false, sym, refl, ◌∙◌}
 use Rattle.ill_core.proofs.IssuedLemmas.{numbered_at, numbered_end}
 use Rattle.ill_core.proofs.issued.are_numbered.Goals as goal

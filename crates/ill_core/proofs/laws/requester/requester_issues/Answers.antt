@@ -1,3 +1,4 @@
+-- Answers the contract of `requester_issues` (`src/laws/requester.rt`).
 use Rattle.ill_core.proofs.RequesterRows.{acts_few}
 use Rattle.ill_core.proofs.RequesterLaws.{acts_issue, takes_issue}
 use Rattle.ill_core.proofs.laws.requester.requester_issues.Goals as goal

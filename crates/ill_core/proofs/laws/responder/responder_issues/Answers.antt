@@ -1,3 +1,4 @@
+-- Answers the contract of `responder_issues` (`src/laws/responder.rt`).
 use Rattle.ill_core.proofs.ResponderMoves.{takes_few}
 use Rattle.ill_core.proofs.ResponderRows.{acts_few}
 use Rattle.ill_core.proofs.ResponderLaws.{acts_issue, takes_issue}

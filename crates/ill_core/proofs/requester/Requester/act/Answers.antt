@@ -1,3 +1,4 @@
+-- Answers the contract of `Requester::act` (`src/requester.rt`).
 use Rattle.std.proofs.Common.{rules, ◌≡◌, Ok, Err, Some, sym, subst}
 use Rattle.ill_core.specs.declared.refusal.Refusal.TheVariants as refusals
 use Rattle.ill_core.specs.RequesterActions.{Acts}

@@ -1,3 +1,4 @@
+-- Answers the contract of `body_of` (`src/requester/actions.rt`).
 use Rattle.std.proofs.Common.{rules}
 use Rattle.ill_core.specs.Requester.{RequesterRecord, requester_of}
 use Rattle.ill_core.proofs.Rules.{requester_rules}

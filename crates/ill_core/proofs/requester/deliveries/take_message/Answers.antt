@@ -1,3 +1,4 @@
+-- Answers the contract of `take_message` (`src/requester/deliveries.rt`).
 use Rattle.std.proofs.Common.{rules, ◌≡◌, Some, sym, subst}
 use Rattle.ill_core.specs.Requester.{RequesterRecord, requester_of, IsRequester}
 use Rattle.ill_core.specs.RequesterTables.{delivery_row}

@@ -1,3 +1,4 @@
+-- Answers the contract of `Responder::act` (`src/responder.rt`).
 use Rattle.std.proofs.Common.{rules, ◌≡◌, Some, Ok, sym, subst}
 use Rattle.ill_core.specs.Issued.{next_number, with_next}
 use Rattle.ill_core.specs.Responder.{ResponderRecord, responder_of, IsResponder}

@@ -1,3 +1,4 @@
+-- Answers the contract of `take_message` (`src/responder/deliveries.rt`).
 use Rattle.std.proofs.Common.{rules, ◌≡◌, true, Some, sym, subst}
 use Rattle.ill_core.specs.Issued.{is_same_txn}
 use Rattle.ill_core.specs.Responder.{ResponderRecord, responder_of, IsResponder}

@@ -1,3 +1,4 @@
+-- Answers the contract of `dates_rise` (`src/responder/rules.rt`).
 use Rattle.std.proofs.Common.{true, false, refl, sym, ◌∙◌}
 use Rattle.ill_core.proofs.ResponderLists.{rise_at}
 use Rattle.ill_core.proofs.responder.rules.dates_rise.Goals as goal

@@ -1,3 +1,4 @@
+-- Answers the contract of `ships_first` (`src/responder/rules.rt`).
 use Rattle.std.proofs.Common.{true, false, refl, sym, ◌∙◌}
 use Rattle.ill_core.proofs.ResponderLists.{ships_at}
 use Rattle.ill_core.proofs.responder.rules.ships_first.Goals as goal

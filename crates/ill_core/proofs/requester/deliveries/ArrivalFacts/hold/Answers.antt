@@ -1,3 +1,4 @@
+-- Answers the contract of `ArrivalFacts::hold` (`src/requester/deliveries.rt`).
 use Rattle.std.proofs.Common.{◌++◌}
 use Rattle.ill_core.specs.RequesterTables.{number_facts, cancel_facts, renew_facts, due_facts}
 use Rattle.ill_core.proofs.TableLemmas.{both_met}

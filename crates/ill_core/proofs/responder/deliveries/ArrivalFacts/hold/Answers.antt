@@ -1,3 +1,4 @@
+-- Answers the contract of `ArrivalFacts::hold` (`src/responder/deliveries.rt`).
 use Rattle.ill_core.specs.ResponderTables.{reply_facts, past_facts}
 use Rattle.ill_core.proofs.TableLemmas.{both_met}
 use Rattle.ill_core.proofs.responder.deliveries.ArrivalFacts.hold.Goals as goal

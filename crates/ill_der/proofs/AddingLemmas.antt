@@ -1,14 +1,14 @@
--- Text that is added behind bytes, one part after another.
+-- A proper prefix of a text that is appended to bytes, one part after another.
 use Rattle.std.proofs.Common.{◌≡◌, ℕ, List, [], ◌++◌, ◌<◌, length, Result, Ok, Err, OnErr, refl, sym, ap, ◌∙◌, arith, append_assoc, length-append}
 use Rattle.std.proofs.lemmas.List.{append-nil}
 use Rattle.std.proofs.lemmas.Result.{on_err_weaker}
 use Rattle.ill_der.specs.Adding.{AddsFront}
 
--- Bytes that stay have the empty front of a text behind them.
+-- If `new` is `old` and `text` has a byte, `new` is `old` and a proper prefix of `text`: the empty one.
 pub adds_nothing : (old new text : List ℕ) → new ≡ old → 0 < length text → AddsFront old new text
 adds_nothing old new text same some = record { front = []; rest = text; parts = refl; added = same ∙ sym (append-nil old); lacks = some }
 
--- A front of the first part is a front of both.
+-- A proper prefix of `first` after `old` is a proper prefix of `first ++ second` after `old`.
 pub adds_first : (old new first second : List ℕ) → AddsFront old new first → AddsFront old new (first ++ second)
 adds_first old new first second is = record {
   front = is.front;
@@ -18,8 +18,9 @@ adds_first old new first second is = record {
   lacks = omega (arith, is.lacks, length-append is.rest second);
 }
 
--- All of the first part and a front of the second are a front of both.
-pub adds_second : (old middle new first second : List ℕ) → middle ≡ old ++ first → AddsFront middle new second → AddsFront old new (first ++ second)
+-- A proper prefix of `second` after `old ++ first` is a proper prefix of `first ++ second` after `old`.
+pub adds_second : (old middle new first second : List ℕ) → middle ≡ old ++ first → AddsFront middle new second
+    → AddsFront old new (first ++ second)
 adds_second old middle new first second all is = record {
   front = first ++ is.front;
   rest = is.rest;
@@ -28,12 +29,13 @@ adds_second old middle new first second all is = record {
   lacks = is.lacks;
 }
 
--- What holds, holds at an error.
+-- If `P` holds, it holds at an error of `result`.
 pub at_err : {T E P : Type 0} (result : Result T E) → P → OnErr result P
 at_err (Ok value) holds = tt
 at_err (Err fault) holds = holds
 
--- The second part is added by a call that may fail: at its error a front of both was added.
-pub adds_last : {T E : Type 0} (result : Result T E) (old middle new first second : List ℕ) → middle ≡ old ++ first → OnErr result (AddsFront middle new second)
+-- At an error, a proper prefix of `second` after `old ++ first` is one of `first ++ second` after `old`.
+pub adds_last : {T E : Type 0} (result : Result T E) (old middle new first second : List ℕ) → middle ≡ old ++ first
+    → OnErr result (AddsFront middle new second)
     → OnErr result (AddsFront old new (first ++ second))
 adds_last result old middle new first second all is = on_err_weaker result (adds_second old middle new first second all) is

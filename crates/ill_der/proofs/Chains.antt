@@ -1,48 +1,53 @@
--- What a step of reading that did not fail says.
+-- The consequences of a step of reading, by its result.
 use Rattle.std.proofs.Common.{◌≡◌, ℕ, Bool, true, false, cond, Result, Ok, Err, refl, subst, inl, inr, ◌⊎◌}
 use Rattle.ill_der.specs.declared.fault.DerFault.{DerFault}
 use Rattle.ill_der.specs.declared.fault.DerFault.TheVariants.{Short, Tag, Length, Field, OutOfMemory}
 use Rattle.ill_der.specs.Format.{◌>>=◌}
 
--- the value of a step
-pub bind_ok : {E A B : Type 0} (r : Result A E) (f : A → Result B E) (y : B) → (r >>= f) ≡ Ok y → (x : A) × (r ≡ Ok x) × (f x ≡ Ok y)
+-- If `r >>= f` gives `y`, `r` gives some `x`, and `f x` gives `y`.
+pub bind_ok : {E A B : Type 0} (r : Result A E) (f : A → Result B E) (y : B) → (r >>= f) ≡ Ok y
+    → (x : A) × (r ≡ Ok x) × (f x ≡ Ok y)
 bind_ok (Ok x) f y e = (x, refl, e)
 bind_ok (Err d) f y e = absurd cc
 
--- where the fault comes from
-pub bind_err : {E A B : Type 0} (r : Result A E) (f : A → Result B E) (d : E) → (r >>= f) ≡ Err d → (r ≡ Err d) ⊎ ((x : A) × (r ≡ Ok x) × (f x ≡ Err d))
+-- If `r >>= f` has the fault `d`, `r` has it, or `r` gives some `x` and `f x` has it.
+pub bind_err : {E A B : Type 0} (r : Result A E) (f : A → Result B E) (d : E) → (r >>= f) ≡ Err d
+    → (r ≡ Err d) ⊎ ((x : A) × (r ≡ Ok x) × (f x ≡ Err d))
 bind_err (Ok x) f d e = inr (x, refl, e)
 bind_err (Err c) f d e = inl cc
 
--- a test that passed
+-- If `cond b r (Err d)` gives `x`, `b` is true and `r` gives `x`.
 pub passed : {E A : Type 0} (b : Bool) (r : Result A E) (d : E) (x : A) → cond b r (Err d) ≡ Ok x → (b ≡ true) × (r ≡ Ok x)
 passed true r d x e = (refl, e)
 passed false r d x e = absurd cc
 
--- a test that did not stop the reading
+-- If `cond b (Err d) r` gives `x`, `b` is false and `r` gives `x`.
 pub went_on : {E A : Type 0} (b : Bool) (r : Result A E) (d : E) (x : A) → cond b (Err d) r ≡ Ok x → (b ≡ false) × (r ≡ Ok x)
 went_on true r d x e = absurd cc
 went_on false r d x e = (refl, e)
 
--- which way a test went
+-- If `cond b x y` is `z`, then `x` is `z` for a true `b`, or `y` is `z` for a false one.
 pub chosen : {A : Type 0} (b : Bool) (x y z : A) → cond b x y ≡ z → ((b ≡ true) × (x ≡ z)) ⊎ ((b ≡ false) × (y ≡ z))
 chosen true x y z e = inl (refl, e)
 chosen false x y z e = inr (refl, e)
 
+-- Returns `Ok x`. A statement can give both of its types.
 abbrev pub done : {E A : Type 0} → A → Result A E
 done x = Ok x
 
+-- If `Ok x` equals `Ok y`, `x` equals `y`.
 pub ok_is : {E A : Type 0} (x y : A) → done {E = E} x ≡ done y → x ≡ y
 ok_is x y e = cc
 
+-- Returns `Err d`. A statement can give both of its types.
 abbrev pub failed : {E A : Type 0} → E → Result A E
 failed d = Err d
 
--- a fault is no value
+-- `Ok x` is never `Err d`.
 pub no_value : {E A : Type 0} (d : E) (x : A) → done x ≡ failed d → ⊥
 no_value d x e = cc
 
--- the faults that are met inside an APDU's contents
+-- Holds of Tag, Length and Field, the faults of the contents of an APDU.
 abbrev pub IsInside : DerFault → Type 0
 IsInside (Short n) = ⊥
 IsInside (Tag at) = Unit {0}
@@ -50,21 +55,26 @@ IsInside (Length at) = Unit {0}
 IsInside (Field at) = Unit {0}
 IsInside OutOfMemory = ⊥
 
--- a fault that is another one
+-- If `Err c` equals `Err d`, `c` equals `d`.
 pub fault_is : {A : Type 0} (c d : DerFault) → failed {A = A} c ≡ failed d → c ≡ d
 fault_is c d e = cc
 
+-- If `Err (Tag at)` equals `Err d`, `d` is Tag, Length or Field.
 pub tag_inside : {A : Type 0} (at : ℕ) (d : DerFault) → failed {A = A} (Tag at) ≡ failed d → IsInside d
 tag_inside at d e = subst IsInside (fault_is (Tag at) d e) tt
 
+-- If `Err (Length at)` equals `Err d`, `d` is Tag, Length or Field.
 pub length_inside : {A : Type 0} (at : ℕ) (d : DerFault) → failed {A = A} (Length at) ≡ failed d → IsInside d
 length_inside at d e = subst IsInside (fault_is (Length at) d e) tt
 
+-- If `Err (Field at)` equals `Err d`, `d` is Tag, Length or Field.
 pub field_inside : {A : Type 0} (at : ℕ) (d : DerFault) → failed {A = A} (Field at) ≡ failed d → IsInside d
 field_inside at d e = subst IsInside (fault_is (Field at) d e) tt
 
+-- If `Err (Short m)` equals `Err (Short n)`, `m` equals `n`.
 pub short_is : {A : Type 0} (m n : ℕ) → failed {A = A} (Short m) ≡ failed (Short n) → m ≡ n
 short_is m n e = cc
 
+-- `Short n` is never OutOfMemory.
 pub short_or_memory : {A : Type 0} (n : ℕ) → failed {A = A} (Short n) ≡ failed OutOfMemory → ⊥
 short_or_memory n e = cc

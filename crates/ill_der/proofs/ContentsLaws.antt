@@ -19,32 +19,38 @@ use Rattle.ill_der.proofs.Chains.{chosen}
 use Rattle.ill_der.specs.Laws.{IsBytes}
 use Rattle.ill_der.proofs.Formats.{IsContents}
 
--- What the laws of ill_values say: a day is read from its text alone, and how long the texts are.
+-- The laws of `ill_values` that the proofs use: a date is read from its text alone, and texts have these sizes.
 pub record Values : Type 0 where
   pub day_spelled : (d : Date) → IsDate d → read_date (date_text d) ≡ Ok d
   pub day_read : (text : List ℕ) (d : Date) → read_date text ≡ Ok d → IsDate d × (text ≡ date_text d)
   pub qualifier_size : (text : List ℕ) → IsQualifier text → (1 ≤ length text) × (length text ≤ 64)
   pub item_size : (text : List ℕ) → IsItem text → (1 ≤ length text) × (length text ≤ 200)
 
+-- Holds of each result.
 abbrev pub IsAnyResult : AnswerResult → Type 0
 IsAnyResult v = Unit {0}
 
+-- Holds of yes and of no.
 abbrev pub IsYesOrNo : Bool → Type 0
 IsYesOrNo v = Unit {0}
 
--- the first of a list is found, or one behind it
-found_first : {A : Type 0} (b : Bool) (a : A) (o : Option A) (x : A) → cond b (Some a) o ≡ Some x → ((b ≡ true) × (a ≡ x)) ⊎ (o ≡ Some x)
+-- If `cond b (Some a) o` is `Some x`, then `a` is `x` for a true `b`, or `o` is `Some x`.
+found_first : {A : Type 0} (b : Bool) (a : A) (o : Option A) (x : A) → cond b (Some a) o ≡ Some x
+    → ((b ≡ true) × (a ≡ x)) ⊎ (o ≡ Some x)
 found_first true a o x e = inl (refl, same_Some a x e)
 found_first false a o x e = inr e
 
 -- ---- numbers
 
+-- A number below 128 is encoded as one octet, itself.
 one_octet : (n : ℕ) → n < 128 → number_octets n ≡ n ∷ []
 one_octet n lt = rw (lt-ltb n 128 lt) refl
 
+-- A number `n` from 128 on is encoded as 0 and `n`.
 two_octets : (n : ℕ) → 128 ≤ n → number_octets n ≡ 0 ∷ n ∷ []
 two_octets n le = rw (le-ltb n 128 le) refl
 
+-- If `number_from` reads `v` from octets `bytes`, they are the encoding of `v`, which is 1 to 255.
 number_takes : (bytes : List ℕ) (v : ℕ) → IsBytes bytes → number_from bytes ≡ Some v → (bytes ≡ number_octets v) × IsNumber v
 number_takes [] v fits e = absurd cc
 number_takes (n ∷ []) v fits e =
@@ -62,6 +68,7 @@ number_takes (high ∷ n ∷ []) v fits e =
     subst (λ (x : ℕ). (high ∷ n ∷ [] ≡ number_octets x) × IsNumber x) is.1 (ap (λ (x : ℕ). x ∷ n ∷ []) none ∙ sym (two_octets n from), (omega arith, omega arith))
 number_takes (high ∷ n ∷ more ∷ rest) v fits e = absurd cc
 
+-- `number_from` reads each number from 1 to 255 from its encoding.
 number_again : (v : ℕ) → IsNumber v → number_from (number_octets v) ≡ Some v
 number_again v is =
     elim (cases_lt v 128) [
@@ -69,6 +76,7 @@ number_again v is =
       | inr le ↦ rw (two_octets v le) (rw (le-leb 128 v le) refl)
     ]
 
+-- The encoding of a number has at most 2 octets.
 number_bound : (v : ℕ) → IsNumber v → length (number_octets v) ≤ 2
 number_bound v is =
     elim (cases_lt v 128) [
@@ -76,31 +84,38 @@ number_bound v is =
       | inr le ↦ rw (two_octets v le) (omega arith)
     ]
 
+-- `number` reads exactly the encodings of the numbers 1 to 255, of at most 2 octets.
 pub number_is : IsContents IsNumber 2 number
 number_is = record { takes = number_takes; again = number_again; bound = number_bound }
 
 -- ---- the version
 
+-- Holds of the version, which has one value.
 abbrev pub Always : Unit {0} → Type 0
 Always v = Unit {0}
 
+-- If `version_from` reads a version from `bytes`, they are the one octet 01.
 version_takes : (bytes : List ℕ) (v : Unit {0}) → IsBytes bytes → version_from bytes ≡ Some v → (bytes ≡ 1 ∷ []) × Always v
 version_takes bytes v fits e = ((bytes_eq-Decides bytes (1 ∷ [])).0 (cond_some (bytes_eq bytes (1 ∷ [])) tt v e).0, tt)
 
+-- `version` reads exactly the encoding of the version, of 1 octet.
 pub version_is : IsContents Always 1 version
 version_is = record { takes = version_takes; again = λ v p. refl; bound = λ v p. omega arith }
 
 -- ---- texts
 
+-- If `r` is no fault, it is `Ok tt`.
 checked : (r : Result (Unit {0}) TextFault) → is_ok r ≡ true → r ≡ Ok tt
 checked (Ok x) e = refl
 checked (Err f) e = absurd cc
 
+-- If `qualifier_from` reads `v` from `bytes`, `bytes` is `v`, which is a qualifier.
 qualifier_takes : (bytes v : List ℕ) → IsBytes bytes → qualifier_from bytes ≡ Some v → (bytes ≡ v) × IsQualifier v
 qualifier_takes bytes v fits e =
     let is = cond_some (is_ok (qualifier_check bytes)) bytes v e in
     (is.1, subst IsQualifier is.1 (checked (qualifier_check bytes) is.0))
 
+-- `qualifier` reads exactly the encodings of qualifiers, of at most 64 octets.
 pub qualifier_is : Values → IsContents IsQualifier 64 qualifier
 qualifier_is values = record {
   takes = qualifier_takes;
@@ -108,11 +123,13 @@ qualifier_is values = record {
   bound = λ v p. (values.qualifier_size v p).1;
 }
 
+-- If `item_from` reads `v` from `bytes`, `bytes` is `v`, which is an item.
 item_takes : (bytes v : List ℕ) → IsBytes bytes → item_from bytes ≡ Some v → (bytes ≡ v) × IsItem v
 item_takes bytes v fits e =
     let is = cond_some (is_ok (item_check bytes)) bytes v e in
     (is.1, subst IsItem is.1 (checked (item_check bytes) is.0))
 
+-- `item` reads exactly the encodings of items, of at most 200 octets.
 pub item_is : Values → IsContents IsItem 200 item
 item_is values = record {
   takes = item_takes;
@@ -122,13 +139,17 @@ item_is values = record {
 
 -- ---- days
 
+-- If `result_ok r` is `Some d`, `r` is `Ok d`.
 day_found : (r : Result Date DayFault) (d : Date) → result_ok r ≡ Some d → r ≡ Ok d
 day_found (Ok x) d e = ap Ok (same_Some x d e)
 day_found (Err f) d e = absurd cc
 
-date_takes : Values → (bytes : List ℕ) (d : Date) → IsBytes bytes → result_ok (read_date bytes) ≡ Some d → (bytes ≡ date_text d) × IsDate d
+-- If `bytes` are read as the day `d`, they are its date text, and `d` is in range.
+date_takes : Values → (bytes : List ℕ) (d : Date) → IsBytes bytes → result_ok (read_date bytes) ≡ Some d
+    → (bytes ≡ date_text d) × IsDate d
 date_takes values bytes d fits e = let is = values.day_read bytes d (day_found (read_date bytes) d e) in (is.1, is.0)
 
+-- `date` reads exactly the encodings of days in range, of at most 8 octets.
 pub date_is : Values → IsContents IsDate 8 date
 date_is values = record {
   takes = date_takes values;
@@ -138,8 +159,9 @@ date_is values = record {
 
 -- ---- results
 
--- a value that was found has the code
-pub found_with : {A : Type 0} (code : A → ℕ) (wanted : ℕ) (all : List A) (x : A) → find (λ a. eqb wanted (code a)) all ≡ Some x → wanted ≡ code x
+-- If a search for the code `wanted` finds `x`, `wanted` is the code of `x`.
+pub found_with : {A : Type 0} (code : A → ℕ) (wanted : ℕ) (all : List A) (x : A)
+    → find (λ a. eqb wanted (code a)) all ≡ Some x → wanted ≡ code x
 found_with code wanted [] x e = absurd cc
 found_with {A} code wanted (a ∷ all) x e =
     elim (found_first (eqb wanted (code a)) a (find (λ b. eqb wanted (code b)) all) x e) [
@@ -147,11 +169,14 @@ found_with {A} code wanted (a ∷ all) x e =
       | inr h ↦ found_with code wanted all x h
     ]
 
-result_takes : (bytes : List ℕ) (v : AnswerResult) → IsBytes bytes → result_from bytes ≡ Some v → (bytes ≡ code_of v ∷ []) × IsAnyResult v
+-- If `result_from` reads `v` from `bytes`, they are the one octet of `v`.
+result_takes : (bytes : List ℕ) (v : AnswerResult) → IsBytes bytes → result_from bytes ≡ Some v
+    → (bytes ≡ code_of v ∷ []) × IsAnyResult v
 result_takes [] v fits e = absurd cc
 result_takes (code ∷ []) v fits e = (ap (λ (x : ℕ). x ∷ []) (found_with code_of code all_results v e), tt)
 result_takes (code ∷ more ∷ rest) v fits e = absurd cc
 
+-- `result_from` reads each result from its octet.
 result_again : (v : AnswerResult) → IsAnyResult v → result_from (code_of v ∷ []) ≡ Some v
 result_again Conditional p = refl
 result_again Retry p = refl
@@ -161,11 +186,13 @@ result_again WillSupply p = refl
 result_again HoldPlaced p = refl
 result_again Estimate p = refl
 
+-- `answer_result` reads exactly the encodings of results, of 1 octet.
 pub result_is : IsContents IsAnyResult 1 answer_result
 result_is = record { takes = result_takes; again = result_again; bound = λ v p. omega arith }
 
 -- ---- yes and no
 
+-- If `yes_no_from` reads `v` from `bytes`, they are the one octet of `v`.
 yes_no_takes : (bytes : List ℕ) (v : Bool) → IsBytes bytes → yes_no_from bytes ≡ Some v → (bytes ≡ yes_no.spell v) × IsYesOrNo v
 yes_no_takes [] v fits e = absurd cc
 yes_no_takes (octet ∷ []) v fits e =
@@ -177,9 +204,11 @@ yes_no_takes (octet ∷ []) v fits e =
     ]
 yes_no_takes (octet ∷ more ∷ rest) v fits e = absurd cc
 
+-- `yes_no_from` reads yes and no from their octets.
 yes_no_again : (v : Bool) → IsYesOrNo v → yes_no_from (yes_no.spell v) ≡ Some v
 yes_no_again true p = refl
 yes_no_again false p = refl
 
+-- `yes_no` reads exactly the encodings of yes and no, of 1 octet.
 pub yes_no_is : IsContents IsYesOrNo 1 yes_no
 yes_no_is = record { takes = yes_no_takes; again = yes_no_again; bound = λ v p. omega arith }

@@ -14,7 +14,9 @@ use Rattle.ill_der.proofs.FeedLemmas.{AgainLaw, ShortLaw, begins_join, begins_mo
 
 -- ---- pieces one after another
 
-pub two_pushes : (old middle new : Held) (front piece : List ℕ) (first more : List Apdu) → Feeds old front first middle → Feeds middle piece more new → Feeds old (front ++ piece) (first ++ more) new
+-- If `front` and then `piece` are pushed, one push of `front ++ piece` gives all their APDUs and the last feed.
+pub two_pushes : (old middle new : Held) (front piece : List ℕ) (first more : List Apdu) → Feeds old front first middle
+    → Feeds middle piece more new → Feeds old (front ++ piece) (first ++ more) new
 two_pushes (Ok held) (Ok between) new front piece first more a b =
     let bytes : (held ++ front) ++ piece ≡ held ++ (front ++ piece) = append_assoc held front piece in
     let begun = subst (λ (x : List ℕ). Begins ((held ++ front) ++ piece) first (x ++ piece)) (sym a.2.0) (begins_more (held ++ front) a.0 piece first a.1) in
@@ -33,48 +35,56 @@ two_pushes (Err fault) middle new front piece first more a b =
     let closed : Feeds (Err fault) piece more new = subst (λ (m : Held). Feeds m piece more new) a.1 b in
     (ap (λ (x : List Apdu). x ++ more) a.0 ∙ closed.0, closed.1)
 
--- what is held is less than an APDU
+-- Holds of each closed feed, and of an open one that holds unfinished bytes.
 abbrev IsFeed : Held → Type 0
 IsFeed (Ok held) = IsUnfinished held
 IsFeed (Err fault) = Unit {0}
 
+-- A feed that a rest leaves is closed or holds unfinished bytes.
 is_left : (rest : List ℕ) (new : Held) → Leaves rest new → IsFeed new
 is_left rest (Ok held) leaves = subst IsUnfinished (sym leaves.0) leaves.1
 is_left rest (Err fault) leaves = tt
 
+-- After a push, the feed `new` is closed or holds unfinished bytes.
 is_fed : (old : Held) (piece : List ℕ) (apdus : List Apdu) (new : Held) → Feeds old piece apdus new → IsFeed new
 is_fed (Ok held) piece apdus new feeds = is_left feeds.0 new feeds.2
 is_fed (Err fault) piece apdus new feeds = subst IsFeed (sym feeds.1) tt
 
+-- If `old` is closed or holds unfinished bytes, a push of no bytes gives no APDU and keeps it.
 no_push : (old : Held) → IsFeed old → Feeds old [] [] old
 no_push (Ok held) is = (held, record { spelled = tt; parts = append-nil held }, (refl, is))
 no_push (Err fault) is = (refl, refl)
 
-pub all_pushes : (pieces : List (List ℕ)) (old : Held) (apdus : List Apdu) (new : Held) → IsFeed old → FeedsAll old pieces apdus new → Feeds old (concat pieces) apdus new
+-- If `pieces` are pushed into `old` one after another, one push of all their bytes gives the APDUs and the feed.
+pub all_pushes : (pieces : List (List ℕ)) (old : Held) (apdus : List Apdu) (new : Held) → IsFeed old
+    → FeedsAll old pieces apdus new → Feeds old (concat pieces) apdus new
 all_pushes [] old apdus new is all =
     subst (λ (x : List Apdu). Feeds old [] x new) (sym all.0) (subst (λ (h : Held). Feeds old [] [] h) (sym all.1) (no_push old is))
 all_pushes (piece ∷ pieces) old apdus new is all =
     let later = all_pushes pieces all.2 all.1 new (is_fed old piece all.0 all.2 all.3) all.4 in
     subst (λ (x : List Apdu). Feeds old (piece ++ concat pieces) x new) (sym all.5) (two_pushes old all.2 new piece (concat pieces) all.0 all.1 all.3 later)
 
--- ---- one cut is as another
+-- ---- all cuts agree
 
--- a rest has a fault
+-- A rest that leaves a feed has a fault.
 has_fault : (rest : List ℕ) (new : Held) → Leaves rest new → (d : DerFault) × (apdu_at rest ≡ Err d)
 has_fault rest (Ok held) leaves = (Short (length rest), leaves.1)
 has_fault rest (Err fault) leaves = (fault, leaves.0)
 
--- an APDU that stands at the front is read there
-first_again : AgainLaw → (bytes rest : List ℕ) (apdu : Apdu) (apdus : List Apdu) → Begins bytes (apdu ∷ apdus) rest → apdu_at bytes ≡ Ok (apdu, flat_map spelling apdus ++ rest)
+-- If `apdu` and then `apdus` begin `bytes`, `apdu_at` reads `apdu` and leaves the encodings of `apdus`, and `rest`.
+first_again : AgainLaw → (bytes rest : List ℕ) (apdu : Apdu) (apdus : List Apdu) → Begins bytes (apdu ∷ apdus) rest
+    → apdu_at bytes ≡ Ok (apdu, flat_map spelling apdus ++ rest)
 first_again again bytes rest apdu apdus begins =
     ap apdu_at (begins.parts ∙ append_assoc (spelling apdu) (flat_map spelling apdus) rest) ∙ again apdu (flat_map spelling apdus ++ rest) begins.spelled.0
 
--- no APDU stands at the front of a rest
-no_first : AgainLaw → (bytes rest behind : List ℕ) (new : Held) (apdu : Apdu) (apdus : List Apdu) → Begins bytes [] rest → Leaves rest new → Begins bytes (apdu ∷ apdus) behind → ⊥
+-- If `bytes` are all a rest that leaves a feed, no APDU begins them.
+no_first : AgainLaw → (bytes rest behind : List ℕ) (new : Held) (apdu : Apdu) (apdus : List Apdu) → Begins bytes [] rest
+    → Leaves rest new → Begins bytes (apdu ∷ apdus) behind → ⊥
 no_first again bytes rest behind new apdu apdus none leaves some =
     let fault = has_fault rest new leaves in
     no_value fault.0 (apdu, flat_map spelling apdus ++ behind) (sym (first_again again bytes behind apdu apdus some) ∙ ap apdu_at none.parts ∙ fault.1)
 
+-- If `rest` leaves the feed `a` and leaves the feed `b`, `a` equals `b`.
 same_left : (rest : List ℕ) (a b : Held) → Leaves rest a → Leaves rest b → a ≡ b
 same_left rest (Ok one) (Ok other) a b = ap Ok (a.0 ∙ sym b.0)
 same_left rest (Ok one) (Err fault) a b =
@@ -83,11 +93,16 @@ same_left rest (Err fault) (Ok other) a b =
     absurd (subst (λ (f : DerFault). IfShort f ⊥) (fault_is fault (Short (length rest)) (sym a.0 ∙ b.1)) a.1)
 same_left rest (Err one) (Err other) a b = ap Err (fault_is one other (sym a.0 ∙ b.0))
 
-one_cut : AgainLaw → (first second : List Apdu) (bytes rest behind : List ℕ) (a b : Held) → Begins bytes first rest → Leaves rest a → Begins bytes second behind → Leaves behind b
+-- If `bytes` are divided into APDUs and a rest in two ways, the APDUs are equal, and the feeds left are.
+one_cut : AgainLaw → (first second : List Apdu) (bytes rest behind : List ℕ) (a b : Held) → Begins bytes first rest
+    → Leaves rest a → Begins bytes second behind → Leaves behind b
     → (first ≡ second) × (a ≡ b)
-one_cut again [] [] bytes rest behind a b x leaves y other = (refl, same_left rest a b leaves (subst (λ (r : List ℕ). Leaves r b) (sym y.parts ∙ x.parts) other))
-one_cut again [] (apdu ∷ apdus) bytes rest behind a b x leaves y other = absurd (no_first again bytes rest behind a apdu apdus x leaves y)
-one_cut again (apdu ∷ apdus) [] bytes rest behind a b x leaves y other = absurd (no_first again bytes behind rest b apdu apdus y other x)
+one_cut again [] [] bytes rest behind a b x leaves y other =
+    (refl, same_left rest a b leaves (subst (λ (r : List ℕ). Leaves r b) (sym y.parts ∙ x.parts) other))
+one_cut again [] (apdu ∷ apdus) bytes rest behind a b x leaves y other =
+    absurd (no_first again bytes rest behind a apdu apdus x leaves y)
+one_cut again (apdu ∷ apdus) [] bytes rest behind a b x leaves y other =
+    absurd (no_first again bytes behind rest b apdu apdus y other x)
 one_cut again (apdu ∷ apdus) (one ∷ ones) bytes rest behind a b x leaves y other =
     let tail = flat_map spelling apdus ++ rest in
     let last = flat_map spelling ones ++ behind in
@@ -98,18 +113,23 @@ one_cut again (apdu ∷ apdus) (one ∷ ones) bytes rest behind a b x leaves y o
     one_cut again apdus ones tail rest behind a b (record { spelled = x.spelled.1; parts = refl }) leaves (record { spelled = y.spelled.1; parts = tails }) other in
     (ap (λ (e : Apdu). e ∷ apdus) head ∙ ap (λ (es : List Apdu). one ∷ es) later.0, later.1)
 
+-- No bytes at all are unfinished: they are less than an APDU.
 nothing_held : IsUnfinished []
 unfolding apdu_at outer_at header_at
 nothing_held = refl
 
-pub any_cut : AgainLaw → (pieces others : List (List ℕ)) (first second : List Apdu) (a b : Held) → concat pieces ≡ concat others → FeedsAll (Ok []) pieces first a → FeedsAll (Ok []) others second b
+-- If two lists of pieces have equal bytes, an empty feed gives equal APDUs for them and comes to equal ends.
+pub any_cut : AgainLaw → (pieces others : List (List ℕ)) (first second : List Apdu) (a b : Held)
+    → concat pieces ≡ concat others → FeedsAll (Ok []) pieces first a → FeedsAll (Ok []) others second b
     → (first ≡ second) × (a ≡ b)
 any_cut again pieces others first second a b same one other =
     let x = all_pushes pieces (Ok []) first a nothing_held one in
     let y = all_pushes others (Ok []) second b nothing_held other in
     one_cut again first second (concat pieces) x.0 y.0 a b x.1 x.2 (subst (λ (bytes : List ℕ). Begins bytes second y.0) (sym same) y.1) y.2
 
-pub few_are_held : ShortLaw → (pieces : List (List ℕ)) (apdus : List Apdu) (held : List ℕ) → FeedsAll (Ok []) pieces apdus (Ok held) → length held ≤ 358
+-- If a feed was empty, it holds at most 358 bytes after any pushes.
+pub few_are_held : ShortLaw → (pieces : List (List ℕ)) (apdus : List Apdu) (held : List ℕ)
+    → FeedsAll (Ok []) pieces apdus (Ok held) → length held ≤ 358
 few_are_held law pieces apdus held all =
     let fed = all_pushes pieces (Ok []) apdus (Ok held) nothing_held all in
     let most = law fed.0 (length fed.0) fed.2.1 in

@@ -1,4 +1,4 @@
--- Elements: what is read is spelled so, and what is spelled is read again.
+-- Elements: bytes that are read are their encoding, and an encoding is read as its element.
 use Rattle.std.proofs.Common.{◌≡◌, ℕ, ◌+◌, ◌<◌, ◌≤◌, true, false, eqb, ltb, List, [], ◌∷◌, ◌++◌, length, take, drop, Ok, Err, refl, sym, ap, subst, ◌∙◌, inl, inr, eq-eqb, append_assoc, arith}
 use Rattle.std.proofs.lemmas.Bool.{ltb-false, le-ltb, eqb-true}
 use Rattle.std.proofs.lemmas.List.{take_at, drop_at, take-append-drop, length-append, length-take, length-drop, drop-drop, nil_from_length}
@@ -12,13 +12,15 @@ use Rattle.ill_der.specs.Laws.{IsBytes}
 use Rattle.ill_der.proofs.Bytes.{IsBytes-drop, IsBytes-take}
 use Rattle.ill_der.proofs.Lengths.{length_again, length_takes, overhead, few_octets}
 
--- ---- what is read is spelled so
+-- ---- bytes that are read are an encoding
 
+-- If `bytes` begins with `identifier`, it is `identifier` and the bytes after the first.
 begins_true : (identifier : ℕ) (bytes : List ℕ) → begins_with identifier bytes ≡ true → bytes ≡ identifier ∷ drop 1 bytes
 begins_true identifier [] e = absurd cc
 begins_true identifier (first ∷ rest) e = ap (λ (x : ℕ). x ∷ rest) (eqb-true first identifier e)
 
--- what was taken of the bytes behind an identifier
+-- Holds if `bytes` begins with the definite length `n`, of `octets` octets, and has the `n` octets `inside`, then
+-- `rest`.
 record TakesContents (bytes inside rest : List ℕ) : Type 0 where
   n : ℕ
   octets : ℕ
@@ -27,7 +29,9 @@ record TakesContents (bytes inside rest : List ℕ) : Type 0 where
   inside-is : take n (drop octets bytes) ≡ inside
   rest-is : drop (octets + n) bytes ≡ rest
 
-contents_found : (form : LengthForm) (left inside rest : Cursor) → length_of left.bytes ≡ form → contents_by form left ≡ Ok (inside, rest) → TakesContents left.bytes inside.bytes rest.bytes
+-- If `contents_by` gives `inside` and `rest`, `left` begins with a definite length, its contents `inside`, and `rest`.
+contents_found : (form : LengthForm) (left inside rest : Cursor) → length_of left.bytes ≡ form
+    → contents_by form left ≡ Ok (inside, rest) → TakesContents left.bytes inside.bytes rest.bytes
 contents_found Truncated left inside rest f e = absurd cc
 contents_found Invalid left inside rest f e = absurd cc
 contents_found (Definite n octets) left inside rest f e =
@@ -44,20 +48,24 @@ contents_found (Definite n octets) left inside rest f e =
       rest-is = ap (λ (p : Cursor × Cursor). p.1.bytes) both;
     }
 
--- what an element takes from the front
+-- Holds if `bytes` is the element of `identifier` and `inside`, then `rest`, and both are octets.
 pub record TakesElement (identifier : ℕ) (bytes inside rest : List ℕ) : Type 0 where
   pub parts : bytes ≡ element identifier inside ++ rest
   pub inside_fits : IsBytes inside
   pub rest_fits : IsBytes rest
 
-pub assembled : (identifier n octets : ℕ) (bytes behind inside rest : List ℕ) → bytes ≡ identifier ∷ behind → behind ≡ length_octets n ++ drop octets behind
+-- If `bytes` is `identifier`, the length octets of `inside`, `inside` and `rest`, it is that element and `rest`.
+pub assembled : (identifier n octets : ℕ) (bytes behind inside rest : List ℕ) → bytes ≡ identifier ∷ behind
+    → behind ≡ length_octets n ++ drop octets behind
     → drop octets behind ≡ inside ++ rest → length inside ≡ n → bytes ≡ element identifier inside ++ rest
 unfolding element
 assembled identifier n octets bytes behind inside rest first second third size =
     first ∙ ap (λ (x : List ℕ). identifier ∷ x) (second ∙ ap (λ (x : List ℕ). length_octets n ++ x) third
     ∙ sym (append_assoc (length_octets n) inside rest) ∙ ap (λ (k : ℕ). (length_octets k ++ inside) ++ rest) (sym size))
 
-pub element_takes : (identifier : ℕ) (left inside rest : Cursor) → IsBytes left.bytes → element_at identifier left ≡ Ok (inside, rest) → TakesElement identifier left.bytes inside.bytes rest.bytes
+-- If `element_at` gives `inside` and `rest`, `left` is the element of `identifier` and `inside`, and then `rest`.
+pub element_takes : (identifier : ℕ) (left inside rest : Cursor) → IsBytes left.bytes
+    → element_at identifier left ≡ Ok (inside, rest) → TakesElement identifier left.bytes inside.bytes rest.bytes
 unfolding element_at
 element_takes identifier left inside rest fits e =
     let behind = drop 1 left.bytes in
@@ -76,8 +84,9 @@ element_takes identifier left inside rest fits e =
       rest_fits = subst IsBytes found.rest-is (IsBytes-drop (found.octets + found.n) behind fits1);
     }
 
--- ---- what is spelled is read again
+-- ---- an encoding is read as its element
 
+-- `contents_by` splits `octets ++ (contents ++ more)` into `contents` and `more`, by the lengths of the first two.
 contents_again : (at : ℕ) (octets contents more : List ℕ)
     → contents_by (Definite (length contents) (length octets)) (cursor_at at (octets ++ (contents ++ more)))
     ≡ Ok (cursor_at (at + length octets) contents, cursor_at (at + (length octets + length contents)) more)
@@ -92,12 +101,14 @@ contents_again at octets contents more =
     ∙ drop_at (octets ++ contents) more (length octets + length contents) (length-append octets contents) in
     rw (enough, inside, behind) refl
 
--- an element was read, with these contents and this behind it
+-- Holds if `element_at` reads the element of `identifier` and `contents` from `left`, and leaves `more`.
 abbrev pub ReadsElement : ℕ → Cursor → List ℕ → List ℕ → Type 0
 ReadsElement identifier left contents more =
     (inside_at : ℕ) × (after : ℕ) × (element_at identifier left ≡ Ok (cursor_at inside_at contents, cursor_at after more))
 
-pub element_again : (identifier at : ℕ) (contents more : List ℕ) → length contents < 65536 → ReadsElement identifier (cursor_at at (element identifier contents ++ more)) contents more
+-- `element_at` reads an element from its encoding, whatever follows, if it has fewer than 65536 contents octets.
+pub element_again : (identifier at : ℕ) (contents more : List ℕ) → length contents < 65536
+    → ReadsElement identifier (cursor_at at (element identifier contents ++ more)) contents more
 unfolding element element_at
 element_again identifier at contents more small =
     let octets = length_octets (length contents) in (
@@ -107,19 +118,24 @@ element_again identifier at contents more small =
           (contents_again (at + 1) octets contents more),
     )
 
-pub element_begins : (identifier : ℕ) (contents more : List ℕ) → begins_with identifier (element identifier contents ++ more) ≡ true
+-- The encoding of an element begins with its identifier, whatever follows.
+pub element_begins : (identifier : ℕ) (contents more : List ℕ)
+    → begins_with identifier (element identifier contents ++ more) ≡ true
 unfolding element
 element_begins identifier contents more = eq-eqb identifier identifier refl
 
--- ---- how long an element is
+-- ---- the size of an element
 
-pub element_bound : (identifier most : ℕ) (contents : List ℕ) → length contents ≤ most → length (element identifier contents) ≤ overhead most + most
+-- If `contents` has at most `most` octets, its element has at most `overhead most + most`.
+pub element_bound : (identifier most : ℕ) (contents : List ℕ) → length contents ≤ most
+    → length (element identifier contents) ≤ overhead most + most
 unfolding element
 element_bound identifier most contents le =
     omega (arith, few_octets (length contents) most le, length-append (length_octets (length contents)) contents)
 
--- ---- no element is short
+-- ---- the faults of an element
 
+-- Each fault of `contents_by` is Tag, Length or Field.
 contents_faults : (form : LengthForm) (left : Cursor) (d : DerFault) → contents_by form left ≡ Err d → IsInside d
 contents_faults Truncated left d e = length_inside left.at d e
 contents_faults Invalid left d e = length_inside left.at d e
@@ -131,6 +147,7 @@ contents_faults (Definite m octets) left d e =
       | inr h ↦ absurd (no_value d (part, behind) h.1)
     ]
 
+-- Each fault of `element_at` is Tag, Length or Field.
 pub element_faults : (identifier : ℕ) (left : Cursor) (d : DerFault) → element_at identifier left ≡ Err d → IsInside d
 unfolding element_at
 element_faults identifier left d e =
@@ -140,6 +157,7 @@ element_faults identifier left d e =
       | inr h ↦ tag_inside left.at d h.1
     ]
 
+-- Each fault of `ended` is Tag, Length or Field.
 pub ended_faults : (left : Cursor) (d : DerFault) → ended left ≡ Err d → IsInside d
 ended_faults left d e =
     elim (chosen (eqb (length left.bytes) 0) (Ok tt) (Err (Tag left.at)) (Err d) e) [
@@ -147,5 +165,7 @@ ended_faults left d e =
       | inr h ↦ tag_inside left.at d h.1
     ]
 
+-- If `ended left` is no fault, `left` has no bytes.
 pub ended_is : (left : Cursor) (x : Unit {0}) → ended left ≡ Ok x → left.bytes ≡ []
-ended_is left x e = nil_from_length left.bytes (eqb-true (length left.bytes) 0 (passed (eqb (length left.bytes) 0) (Ok tt) (Tag left.at) x e).0)
+ended_is left x e =
+    nil_from_length left.bytes (eqb-true (length left.bytes) 0 (passed (eqb (length left.bytes) 0) (Ok tt) (Tag left.at) x e).0)

@@ -1,4 +1,4 @@
--- APDUs in bytes that come in pieces: how they are handed on, and what is left of the bytes.
+-- APDUs in bytes that come in pieces: handling them, and the bytes that are left.
 use Rattle.std.proofs.Common.{◌≡◌, ℕ, ◌+◌, ◌-◌, ◌<◌, ◌≤◌, List, [], ◌∷◌, ◌++◌, length, take, drop, Option, Some, None, Result, Ok, Err, IsOk, inl, inr, refl, sym, ap, subst, ◌∙◌, arith, append_assoc}
 use Rattle.std.specs.List.{flat_map, AllByRecursion}
 use Rattle.std.proofs.lemmas.Bool.{cases_lt}
@@ -18,22 +18,29 @@ use Rattle.ill_der.specs.FeedView.{held_of, closing, Holds, Fills, HandlesFirst,
 use Rattle.ill_der.proofs.Chains.{no_value}
 use Rattle.ill_der.proofs.ShortFormLaws.{fault_stays}
 
--- ---- APDUs one behind another
+-- ---- APDUs one after another
 
-pub all_join : (front more : List Apdu) → AllByRecursion IsApdu front → AllByRecursion IsApdu more → AllByRecursion IsApdu (front ++ more)
+-- If each APDU of `front` and of `more` is in range, so is each of `front ++ more`.
+pub all_join : (front more : List Apdu) → AllByRecursion IsApdu front → AllByRecursion IsApdu more
+    → AllByRecursion IsApdu (front ++ more)
 all_join [] more all others = others
 all_join (apdu ∷ front) more all others = (all.0, all_join front more all.1 others)
 
+-- `bytes` begins with no APDUs, and all of it is the rest.
 pub begins_none : (bytes : List ℕ) → Begins bytes [] bytes
 begins_none bytes = record { spelled = tt; parts = refl }
 
-pub begins_one : ((bytes : List ℕ) → IsBytes bytes → BeginsWithOne bytes (apdu_at bytes)) → (bytes : List ℕ) (apdu : Apdu) (rest : List ℕ) → IsBytes bytes → apdu_at bytes ≡ Ok (apdu, rest)
+-- If `apdu_at` reads `apdu` from `bytes` and leaves `rest`, `apdu` begins `bytes`, and `rest` is the rest.
+pub begins_one : ((bytes : List ℕ) → IsBytes bytes → BeginsWithOne bytes (apdu_at bytes))
+    → (bytes : List ℕ) (apdu : Apdu) (rest : List ℕ) → IsBytes bytes → apdu_at bytes ≡ Ok (apdu, rest)
     → Begins bytes (apdu ∷ []) rest
 begins_one law bytes apdu rest fits e =
     let is = subst (BeginsWithOne bytes) e (law bytes fits) in
     record { spelled = (is.0.0, tt); parts = is.0.1 ∙ ap (λ (x : List ℕ). x ++ rest) (sym (append-nil (spelling apdu))) }
 
-pub begins_join : (bytes middle rest : List ℕ) (front more : List Apdu) → Begins bytes front middle → Begins middle more rest → Begins bytes (front ++ more) rest
+-- If `front` begins `bytes` with the rest `middle`, and `more` begins `middle`, `front ++ more` begins `bytes`.
+pub begins_join : (bytes middle rest : List ℕ) (front more : List Apdu) → Begins bytes front middle
+    → Begins middle more rest → Begins bytes (front ++ more) rest
 begins_join bytes middle rest front more first second =
     let text = flat_map spelling front in
     record {
@@ -43,14 +50,17 @@ begins_join bytes middle rest front more first second =
           ∙ ap (λ (x : List ℕ). x ++ rest) (sym (flat_map-append spelling front more));
     }
 
-pub begins_more : (bytes rest more : List ℕ) (apdus : List Apdu) → Begins bytes apdus rest → Begins (bytes ++ more) apdus (rest ++ more)
+-- If `apdus` begin `bytes` with `rest`, they begin `bytes ++ more` with `rest ++ more`.
+pub begins_more : (bytes rest more : List ℕ) (apdus : List Apdu) → Begins bytes apdus rest
+    → Begins (bytes ++ more) apdus (rest ++ more)
 begins_more bytes rest more apdus is = record {
   spelled = is.spelled;
   parts = ap (λ (x : List ℕ). x ++ more) is.parts ∙ append_assoc (flat_map spelling apdus) rest more;
 }
 
--- the first of some APDUs stands at the front
-begins_first : (bytes : List ℕ) (apdus : List Apdu) (apdu : Apdu) (rest : List ℕ) → Begins bytes (apdus ++ apdu ∷ []) rest → (first : Apdu) × (behind : List ℕ) × Begins bytes (first ∷ []) behind
+-- If one or more APDUs begin `bytes`, the first of them alone begins `bytes`.
+begins_first : (bytes : List ℕ) (apdus : List Apdu) (apdu : Apdu) (rest : List ℕ)
+    → Begins bytes (apdus ++ apdu ∷ []) rest → (first : Apdu) × (behind : List ℕ) × Begins bytes (first ∷ []) behind
 begins_first bytes [] apdu rest begins = (apdu, rest, begins)
 begins_first bytes (first ∷ apdus) apdu rest begins =
     let behind = flat_map spelling (apdus ++ apdu ∷ []) ++ rest in (
@@ -66,12 +76,15 @@ begins_first bytes (first ∷ apdus) apdu rest begins =
 
 -- ---- handling one more, and one before
 
-pub handled_then : {S F : Type 0} (handles : Handles S F) (before now after : S) (apdus : List Apdu) (apdu : Apdu) → Handled handles before apdus now → handles now apdu (Ok tt) after
+-- If `apdus` were handled and then `apdu`, the list of `apdus` with `apdu` at its end was handled.
+pub handled_then : {S F : Type 0} (handles : Handles S F) (before now after : S) (apdus : List Apdu) (apdu : Apdu)
+    → Handled handles before apdus now → handles now apdu (Ok tt) after
     → Handled handles before (apdus ++ apdu ∷ []) after
 handled_then handles before now after [] apdu so_far next = (after, subst (λ s. handles s apdu (Ok tt) after) so_far next, refl)
-handled_then handles before now after (first ∷ apdus) apdu so_far next = (so_far.0, so_far.1, handled_then handles so_far.0 now after apdus apdu so_far.2 next)
+handled_then handles before now after (first ∷ apdus) apdu so_far next =
+    (so_far.0, so_far.1, handled_then handles so_far.0 now after apdus apdu so_far.2 next)
 
--- handling failed behind APDUs that were handled
+-- If the APDUs before the offset `at` were handled, and handling the next failed, handling `bytes` failed.
 pub fails_behind : {S F : Type 0} (handles : Handles S F) (bytes : List ℕ) (at : ℕ) (before now after : S) (fault : F)
     → ((apdus : List Apdu) × Begins bytes apdus (drop at bytes) × Handled handles before apdus now) → HandlesFirst handles (take (length bytes - at) (drop at bytes)) now (Err fault) after
     → FailsIn handles bytes before fault after
@@ -79,9 +92,11 @@ fails_behind handles bytes at before now after fault so_far next =
     let begins = subst (λ (x : List ℕ). Begins x (next.0 ∷ []) next.1) (take_rest bytes at) next.2 in
     (so_far.0, next.0, next.1, now, begins_join bytes (drop at bytes) next.1 so_far.0 (next.0 ∷ []) so_far.1 begins, so_far.2, next.3)
 
--- one more of the APDUs of bytes was handled
-pub one_more_handled : {S F : Type 0} (handles : Handles S F) (bytes : List ℕ) (at size : ℕ) (before now after : S) → at ≤ length bytes
-    → ((apdus : List Apdu) × Begins bytes apdus (drop at bytes) × Handled handles before apdus now) → HandlesFirst handles (take (length bytes - at) (drop at bytes)) now (Ok (Ok size)) after
+-- If the APDUs before `at` were handled, and the next, of `size` bytes, then those before `at + size` were.
+pub one_more_handled : {S F : Type 0} (handles : Handles S F) (bytes : List ℕ) (at size : ℕ) (before now after : S)
+    → at ≤ length bytes
+    → ((apdus : List Apdu) × Begins bytes apdus (drop at bytes) × Handled handles before apdus now)
+    → HandlesFirst handles (take (length bytes - at) (drop at bytes)) now (Ok (Ok size)) after
     → (at + size ≤ length bytes) × ((apdus : List Apdu) × Begins bytes apdus (drop (at + size) bytes) × Handled handles before apdus after)
 one_more_handled handles bytes at size before now after within so_far next =
     let first = subst (λ (x : List ℕ). HandlesFirst handles x now (Ok (Ok size)) after) (take_rest bytes at) next in
@@ -94,24 +109,28 @@ one_more_handled handles bytes at size before now after within so_far next =
       ),
     )
 
--- handling failed behind one APDU that was handled
-pub fails_later : {S F : Type 0} (handles : Handles S F) (bytes middle : List ℕ) (before now after : S) (apdu : Apdu) (fault : F) → Begins bytes (apdu ∷ []) middle → handles before apdu (Ok tt) now
+-- If the first APDU of `bytes` was handled, and handling failed in the rest `middle`, handling `bytes` failed.
+pub fails_later : {S F : Type 0} (handles : Handles S F) (bytes middle : List ℕ) (before now after : S) (apdu : Apdu) (fault : F)
+    → Begins bytes (apdu ∷ []) middle → handles before apdu (Ok tt) now
     → FailsIn handles middle now fault after → FailsIn handles bytes before fault after
 fails_later handles bytes middle before now after apdu fault begins first later =
     (apdu ∷ later.0, later.1, later.2, later.3, begins_join bytes middle later.2 (apdu ∷ []) (later.0 ++ later.1 ∷ []) begins later.4, (now, first, later.5), later.6)
 
 -- ---- the buffer
 
--- an open feed holds the front of its buffer
+-- If the feed `now` is open, no fault closed it.
 pub is_open : (closed : Option DerFault) (bytes : List ℕ) (now : Held) → held_of closed bytes ≡ now → IsOk now → closed ≡ None
 is_open None bytes now e opened = refl
 is_open (Some fault) bytes now e opened =
     let not_open : IsOk (held_of (Some fault) bytes) = subst IsOk (sym e) opened in
     absurd cc
 
-pub holds_front : (closed : Option DerFault) (bytes : List ℕ) (now : Held) → held_of closed bytes ≡ now → IsOk now → now ≡ Ok bytes
+-- If the feed `now` is open, it holds `bytes`.
+pub holds_front : (closed : Option DerFault) (bytes : List ℕ) (now : Held) → held_of closed bytes ≡ now → IsOk now
+    → now ≡ Ok bytes
 holds_front closed bytes now e opened = sym e ∙ ap (λ (k : Option DerFault). held_of k bytes) (is_open closed bytes now e opened)
 
+-- If `fault` closes no feed, it is Short.
 pub closing_none : (fault : DerFault) → None ≡ closing fault → (n : ℕ) × (fault ≡ Short n)
 closing_none (Short n) e = (n, refl)
 closing_none (Tag at) e = absurd cc
@@ -119,6 +138,7 @@ closing_none (Length at) e = absurd cc
 closing_none (Field at) e = absurd cc
 closing_none OutOfMemory e = absurd cc
 
+-- If `fault` closes a feed as `closed`, they are equal, and not Short.
 pub closing_some : (fault closed : DerFault) → Some closed ≡ closing fault → (fault ≡ closed) × IfShort fault ⊥
 closing_some (Short n) closed e = absurd cc
 closing_some (Tag at) closed e = (let is : Tag at ≡ closed = cc in is, tt)
@@ -126,25 +146,29 @@ closing_some (Length at) closed e = (let is : Length at ≡ closed = cc in is, t
 closing_some (Field at) closed e = (let is : Field at ≡ closed = cc in is, tt)
 closing_some OutOfMemory closed e = (let is : OutOfMemory ≡ closed = cc in is, tt)
 
+-- Each buffer holds its first 0 bytes, which are unfinished.
 pub holds_nothing : (buffer : List ℕ) → Holds 0 buffer
 unfolding apdu_at outer_at header_at
 holds_nothing buffer = record { most = omega arith; unfinished = refl }
 
+-- If the first `size` bytes of `buffer` are `front`, unfinished and at most 358, `buffer` holds them.
 pub holds : (size : ℕ) (buffer front : List ℕ) → size ≤ 358 → take size buffer ≡ front → IsUnfinished front → Holds size buffer
 holds size buffer front few is unfinished = record { most = few; unfinished = subst IsUnfinished (sym is) unfinished }
 
--- bytes that are short are held, whatever follows the law of short bytes
+-- The law of short bytes: the number of Short is that of all bytes, and at most 358.
 abbrev pub ShortLaw : Type 0
 ShortLaw = (bytes : List ℕ) (n : ℕ) → apdu_at bytes ≡ Err (Short n) → (n ≡ length bytes) × (n ≤ 358)
 
-pub filled_length : (old new piece : List ℕ) (size filled : ℕ) → Fills old new size piece filled → length (take filled new) ≡ filled
+-- If a fill ends with `filled` bytes, `new` has that many bytes or more.
+pub filled_length : (old new piece : List ℕ) (size filled : ℕ) → Fills old new size piece filled
+    → length (take filled new) ≡ filled
 filled_length old new piece size filled fills =
     let k = filled - size in
     let long = length-take-le size old (omega (arith, fills.few, fills.room)) in
     let more = length-take-le k piece (omega (arith, fills.count)) in
     omega (arith, ap length fills.parts, length-append (take size old) (take k piece), long, more, fills.count, fills.few)
 
--- what was held still stands in front
+-- A fill keeps the first `size` bytes of the buffer.
 pub still_held : (old new piece : List ℕ) (size filled : ℕ) → Fills old new size piece filled → take size new ≡ take size old
 still_held old new piece size filled fills =
     let held = take size old in
@@ -154,26 +178,32 @@ still_held old new piece size filled fills =
     ap (take size) (sym (take-append-drop filled new)) ∙ take-append-le size (take filled new) (drop filled new) enough ∙ ap (take size) fills.parts
     ∙ take_at held more size long
 
+-- If `old` holds its first `size` bytes, `new` holds its first `size` bytes after a fill.
 pub holds_still : (old new piece : List ℕ) (size filled : ℕ) → Fills old new size piece filled → Holds size old → Holds size new
-holds_still old new piece size filled fills is = holds size new (take size old) is.most (still_held old new piece size filled fills) is.unfinished
+holds_still old new piece size filled fills is =
+    holds size new (take size old) is.most (still_held old new piece size filled fills) is.unfinished
 
--- all of a piece had room
-pub all_filled : (old new piece : List ℕ) (size filled : ℕ) → Fills old new size piece filled → filled ≤ 358 → take filled new ≡ take size old ++ piece
+-- If a fill ends with at most 358 bytes, all of `piece` was copied.
+pub all_filled : (old new piece : List ℕ) (size filled : ℕ) → Fills old new size piece filled → filled ≤ 358
+    → take filled new ≡ take size old ++ piece
 all_filled old new piece size filled fills few =
     let held = take size old in
     let all : filled - size ≡ length piece = omega (arith, fills.count, few) in
     fills.parts ∙ ap (λ (n : ℕ). held ++ take n piece) all ∙ ap (λ (x : List ℕ). held ++ x) (take-length piece)
 
--- a fault that does not close a feed leaves bytes unfinished
-short_unfinished : ShortLaw → (bytes : List ℕ) (fault : DerFault) → None ≡ closing fault → apdu_at bytes ≡ Err fault → IsUnfinished bytes × (length bytes ≤ 358)
+-- If `bytes` have a fault that closes no feed, they are unfinished and at most 358.
+short_unfinished : ShortLaw → (bytes : List ℕ) (fault : DerFault) → None ≡ closing fault → apdu_at bytes ≡ Err fault
+    → IsUnfinished bytes × (length bytes ≤ 358)
 short_unfinished law bytes fault none e =
     let short = closing_none fault none in
     let at : apdu_at bytes ≡ Err (Short short.0) = e ∙ ap (λ (f : DerFault). Err f) short.1 in
     let is = law bytes short.0 at in
     (at ∙ ap (λ (k : ℕ). Err (Short k)) is.0, omega (arith, is.0, is.1))
 
--- what was held and the piece are unfinished, and held
-pub short_held : ShortLaw → (old new piece : List ℕ) (size filled : ℕ) (fault : DerFault) → Fills old new size piece filled → None ≡ closing fault → apdu_at (take filled new) ≡ Err fault
+-- If the filled bytes have a fault that closes no feed, they are held.
+-- They are the held bytes and all of `piece`, and unfinished.
+pub short_held : ShortLaw → (old new piece : List ℕ) (size filled : ℕ) (fault : DerFault)
+    → Fills old new size piece filled → None ≡ closing fault → apdu_at (take filled new) ≡ Err fault
     → Holds filled new × (take filled new ≡ take size old ++ piece) × IsUnfinished (take size old ++ piece)
 short_held law old new piece size filled fault fills none e =
     let short = short_unfinished law (take filled new) fault none e in
@@ -181,8 +211,9 @@ short_held law old new piece size filled fault fills none e =
     let all = all_filled old new piece size filled fills few in
     (record { most = few; unfinished = short.0 }, all, subst IsUnfinished all short.0)
 
--- a rest is unfinished, and held
-pub rest_held : ShortLaw → (old new rest : List ℕ) (filled : ℕ) (fault : DerFault) → Fills old new 0 rest filled → None ≡ closing fault → apdu_at rest ≡ Err fault
+-- If `rest` has a fault that closes no feed, a fill from 0 copies all of it, unfinished and held.
+pub rest_held : ShortLaw → (old new rest : List ℕ) (filled : ℕ) (fault : DerFault) → Fills old new 0 rest filled
+    → None ≡ closing fault → apdu_at rest ≡ Err fault
     → Holds filled new × (take filled new ≡ rest) × IsUnfinished rest
 rest_held law old new rest filled fault fills none e =
     let short = short_unfinished law rest fault none e in
@@ -190,18 +221,20 @@ rest_held law old new rest filled fault fills none e =
     let all : take filled new ≡ rest = all_filled old new rest 0 filled fills few in
     (holds filled new rest few all short.0, all, short.0)
 
--- the bytes before and behind what was filled
+-- If `front` is `held` and the first `k` bytes of `piece`, `front` and its other bytes are `held ++ piece`.
 pub whole_piece : (k : ℕ) (held piece front : List ℕ) → front ≡ held ++ take k piece → front ++ drop k piece ≡ held ++ piece
 whole_piece k held piece front parts =
     ap (λ (x : List ℕ). x ++ drop k piece) parts ∙ append_assoc held (take k piece) (drop k piece) ∙ ap (λ (x : List ℕ). held ++ x) (take-append-drop k piece)
 
--- ---- the APDU that begins with what is held
+-- ---- the APDU that begins with the held bytes
 
+-- The law of reading again: `apdu_at` reads each APDU in range from its encoding, whatever follows.
 abbrev pub AgainLaw : Type 0
 AgainLaw = (apdu : Apdu) (rest : List ℕ) → IsApdu apdu → apdu_at (spelling apdu ++ rest) ≡ Ok (apdu, rest)
 
--- it ends behind what is held
-pub ends_behind : AgainLaw → (held more front : List ℕ) (size : ℕ) (apdu : Apdu) → IsUnfinished held → front ≡ held ++ more → size ≤ length front
+-- If an APDU begins `front`, which begins with the unfinished `held`, the APDU has more bytes than `held`.
+pub ends_behind : AgainLaw → (held more front : List ℕ) (size : ℕ) (apdu : Apdu) → IsUnfinished held
+    → front ≡ held ++ more → size ≤ length front
     → Begins front (apdu ∷ []) (drop size front) → length held < size
 ends_behind again held more front size apdu unfinished parts within begins =
     elim (cases_lt (length held) size) [
@@ -216,8 +249,10 @@ ends_behind again held more front size apdu unfinished parts within begins =
           absurd (no_value (Short (length held)) (apdu, drop size held) (sym (again apdu (drop size held) begins.spelled.0) ∙ ap apdu_at (sym is) ∙ unfinished))
     ]
 
--- it and what is behind it, in the whole of the piece
-begins_held : (held piece front : List ℕ) (k size : ℕ) (apdu : Apdu) → k ≤ length piece → front ≡ held ++ take k piece → length held ≤ size → size ≤ length front
+-- If `apdu` begins `front`, which is `held` and a prefix of `piece`, it begins `held ++ piece`.
+-- The rest is `piece` after the bytes that `apdu` took of it.
+begins_held : (held piece front : List ℕ) (k size : ℕ) (apdu : Apdu) → k ≤ length piece → front ≡ held ++ take k piece
+    → length held ≤ size → size ≤ length front
     → Begins front (apdu ∷ []) (drop size front) → Begins (held ++ piece) (apdu ∷ []) (drop (size - length held) piece)
 begins_held held piece front k size apdu few parts behind within begins =
     let more = take k piece in
@@ -231,10 +266,11 @@ begins_held held piece front k size apdu few parts behind within begins =
     subst (λ (x : List ℕ). Begins x (apdu ∷ []) (drop at piece)) (whole_piece k held piece front parts)
     (subst (Begins (front ++ drop k piece) (apdu ∷ [])) last (begins_more front (drop size front) (drop k piece) (apdu ∷ []) begins))
 
--- ---- what a push comes to
+-- ---- the outcome of a push
 
--- where the piece goes on behind the APDU that begins with what is held
-pub goes_on_from : {S F : Type 0} (handles : Handles S F) → AgainLaw → (old new piece : List ℕ) (size filled end : ℕ) (before now : S) → Fills old new size piece filled → Holds size old
+-- If the first APDU of the filled bytes has `end` bytes, it has all held bytes, and ends within `piece`.
+pub goes_on_from : {S F : Type 0} (handles : Handles S F) → AgainLaw
+    → (old new piece : List ℕ) (size filled end : ℕ) (before now : S) → Fills old new size piece filled → Holds size old
     → HandlesFirst handles (take filled new) before (Ok (Ok end)) now → (size ≤ end) × (end - size ≤ length piece)
 goes_on_from handles again old new piece size filled end before now fills is first =
     let behind = ends_behind again (take size old) (take (filled - size) piece) (take filled new) end first.2.0 is.unfinished fills.parts first.1 first.2.1 in
@@ -242,6 +278,7 @@ goes_on_from handles again old new piece size filled end before now fills is fir
     let whole = filled_length old new piece size filled fills in
     (omega (arith, behind, long), omega (arith, first.1, whole, fills.count))
 
+-- If the first APDU of `held ++ piece` was handled, going on with the rest has the outcome of a push.
 on_behind : {S F : Type 0} (handles : Handles S F) (held piece behind : List ℕ) (apdu : Apdu) (before now after : S) (result : Result (Option DerFault) F) (new : Held)
     → Begins (held ++ piece) (apdu ∷ []) behind → handles before apdu (Ok tt) now → GoesOn handles (Ok held) behind now result new after
     → HandlesEach handles (Ok held) piece before result new after
@@ -256,10 +293,13 @@ on_behind handles held piece behind apdu before now after (Ok fault) new begins 
 on_behind handles held piece behind apdu before now after (Err fault) new begins first on =
     (on.0, fails_later handles (held ++ piece) behind before now after apdu fault begins first on.1)
 
--- the APDU that begins with what is held was handled, and the piece went on behind it
-pub goes_on_behind : {S F : Type 0} (handles : Handles S F) → AgainLaw → (old new piece : List ℕ) (size filled end : ℕ) (before now after : S) (was : Held) (result : Result (Option DerFault) F) (feed : Held)
-    → Fills old new size piece filled → Holds size old → was ≡ Ok (take size old) → HandlesFirst handles (take filled new) before (Ok (Ok end)) now
-    → GoesOn handles (Ok (take size new)) (take (length piece - (end - size)) (drop (end - size) piece)) now result feed after → HandlesEach handles was piece before result feed after
+-- If the first APDU of the filled bytes was handled, going on with the rest has the outcome of a push.
+pub goes_on_behind : {S F : Type 0} (handles : Handles S F) → AgainLaw
+    → (old new piece : List ℕ) (size filled end : ℕ) (before now after : S) (was : Held) (result : Result (Option DerFault) F) (feed : Held)
+    → Fills old new size piece filled → Holds size old → was ≡ Ok (take size old)
+    → HandlesFirst handles (take filled new) before (Ok (Ok end)) now
+    → GoesOn handles (Ok (take size new)) (take (length piece - (end - size)) (drop (end - size) piece)) now result feed after
+    → HandlesEach handles was piece before result feed after
 goes_on_behind handles again old new piece size filled end before now after was result feed fills is opened first on =
     let held = take size old in
     let there = goes_on_from handles again old new piece size filled end before now fills is first in
@@ -273,36 +313,44 @@ goes_on_behind handles again old new piece size filled end before now after was 
     subst (λ (h : Held). HandlesEach handles h piece before result feed after) (sym opened)
     (on_behind handles held piece (drop (end - size) piece) first.2.0 before now after result feed begun first.2.2 on_held)
 
-on_alone : {S F : Type 0} (handles : Handles S F) (held piece : List ℕ) (before after : S) (result : Result (Option DerFault) F) (new : Held) → held ≡ []
+-- If nothing was held, going on with `piece` has the outcome of a push.
+on_alone : {S F : Type 0} (handles : Handles S F) (held piece : List ℕ) (before after : S) (result : Result (Option DerFault) F) (new : Held)
+    → held ≡ []
     → GoesOn handles (Ok held) piece before result new after → HandlesEach handles (Ok held) piece before result new after
-on_alone handles held piece before after (Ok fault) new none on = subst (λ (x : List ℕ). HandlesEach handles (Ok x) piece before (Ok fault) new after) (sym none) on
+on_alone handles held piece before after (Ok fault) new none on =
+    subst (λ (x : List ℕ). HandlesEach handles (Ok x) piece before (Ok fault) new after) (sym none) on
 on_alone handles held piece before after (Err fault) new none on =
     (on.0, subst (λ (x : List ℕ). FailsIn handles (x ++ piece) before fault after) (sym none) on.1)
 
--- nothing was held
-pub goes_on_alone : {S F : Type 0} (handles : Handles S F) (held piece : List ℕ) (before after : S) (was : Held) (result : Result (Option DerFault) F) (new : Held) → was ≡ Ok held → held ≡ []
+-- If `was` is open and holds nothing, going on with `piece` has the outcome of a push.
+pub goes_on_alone : {S F : Type 0} (handles : Handles S F) (held piece : List ℕ) (before after : S) (was : Held) (result : Result (Option DerFault) F) (new : Held)
+    → was ≡ Ok held → held ≡ []
     → GoesOn handles was piece before result new after → HandlesEach handles was piece before result new after
 goes_on_alone handles held piece before after was result new opened none on =
     subst (λ (h : Held). HandlesEach handles h piece before result new after) (sym opened)
     (on_alone handles held piece before after result new none (subst (λ (h : Held). GoesOn handles h piece before result new after) opened on))
 
--- nothing is handed on, and what was held and the piece are left
-pub all_left : {S F : Type 0} (handles : Handles S F) (held piece : List ℕ) (before after : S) (was new : Held) → was ≡ Ok held → Leaves (held ++ piece) new → after ≡ before
+-- If `held ++ piece` is all a rest, which leaves `new`, a push of `piece` handles nothing and keeps the state.
+pub all_left : {S F : Type 0} (handles : Handles S F) (held piece : List ℕ) (before after : S) (was new : Held)
+    → was ≡ Ok held → Leaves (held ++ piece) new → after ≡ before
     → HandlesEach handles was piece before (Ok (fault_of new)) new after
 all_left handles held piece before after was new opened leaves same =
     subst (λ (h : Held). HandlesEach handles h piece before (Ok (fault_of new)) new after) (sym opened)
     (refl, ([], (held ++ piece, begins_none (held ++ piece), leaves), same))
 
--- a fault of the bytes in the buffer is the fault of all, unless it is Short
-pub fault_of_all : (old new piece : List ℕ) (size filled : ℕ) (fault : DerFault) → Fills old new size piece filled → IfShort fault ⊥ → apdu_at (take filled new) ≡ Err fault
+-- A fault of the filled bytes other than Short is the fault of the held bytes and all of `piece`.
+pub fault_of_all : (old new piece : List ℕ) (size filled : ℕ) (fault : DerFault) → Fills old new size piece filled
+    → IfShort fault ⊥ → apdu_at (take filled new) ≡ Err fault
     → Leaves (take size old ++ piece) (Err fault)
 fault_of_all old new piece size filled fault fills other e =
     let k = filled - size in
     (ap apdu_at (sym (whole_piece k (take size old) piece (take filled new) fills.parts)) ∙ fault_stays (take filled new) (drop k piece) fault other e, other)
 
--- the APDU that begins with what is held was not handled
-pub fails_first : {S F : Type 0} (handles : Handles S F) (old new piece : List ℕ) (size filled : ℕ) (before after : S) (was : Held) (fault : F) → Fills old new size piece filled
-    → was ≡ Ok (take size old) → HandlesFirst handles (take filled new) before (Err fault) after → FailsAt handles was piece before fault after
+-- If handling the first APDU of the filled bytes failed, handling failed at an APDU of `was` and `piece`.
+pub fails_first : {S F : Type 0} (handles : Handles S F) (old new piece : List ℕ) (size filled : ℕ) (before after : S) (was : Held) (fault : F)
+    → Fills old new size piece filled
+    → was ≡ Ok (take size old) → HandlesFirst handles (take filled new) before (Err fault) after
+    → FailsAt handles was piece before fault after
 fails_first handles old new piece size filled before after was fault fills opened first =
     let k = filled - size in
     let held = take size old in
@@ -312,15 +360,17 @@ fails_first handles old new piece size filled before after was fault fills opene
     let failed : FailsIn handles (held ++ piece) before fault after = ([], first.0, rest, before, begins, refl, first.3) in
     subst (λ (h : Held). FailsAt handles h piece before fault after) (sym opened) failed
 
--- handling fails only where the bytes of an open feed and of the piece begin with an APDU
-pub fails_at_apdu : {S F : Type 0} (handles : Handles S F) (old : Held) (piece : List ℕ) (before after : S) (fault : F) → FailsAt handles old piece before fault after → HasApdu old piece
+-- If handling failed, the feed is open, and an APDU begins its bytes and `piece`.
+pub fails_at_apdu : {S F : Type 0} (handles : Handles S F) (old : Held) (piece : List ℕ) (before after : S) (fault : F)
+    → FailsAt handles old piece before fault after → HasApdu old piece
 fails_at_apdu handles (Ok held) piece before after fault fails = begins_first (held ++ piece) fails.0 fails.1 fails.2 fails.4
 fails_at_apdu handles (Err closed) piece before after fault fails = fails
 
 -- ---- keeping the APDUs
 
--- a handler that puts each APDU behind those that it has has all of them at last
-pub all_kept : {S F : Type 0} (handles : Handles S F) (kept : S → List Apdu) → ((before after : S) (apdu : Apdu) → handles before apdu (Ok tt) after → kept after ≡ kept before ++ apdu ∷ [])
+-- If `handles` appends each APDU to those kept, handling `apdus` appends all of them in order.
+pub all_kept : {S F : Type 0} (handles : Handles S F) (kept : S → List Apdu)
+    → ((before after : S) (apdu : Apdu) → handles before apdu (Ok tt) after → kept after ≡ kept before ++ apdu ∷ [])
     → (before after : S) (apdus : List Apdu) → Handled handles before apdus after → kept after ≡ kept before ++ apdus
 all_kept handles kept law before after [] same = ap kept same ∙ sym (append-nil (kept before))
 all_kept handles kept law before after (apdu ∷ apdus) handled =

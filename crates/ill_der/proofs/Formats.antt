@@ -1,6 +1,4 @@
--- The laws of a description of fields: what is read is spelled so, what is spelled is read again,
--- how long it is at most, and that none of its faults is short. They are kept by each way to make a
--- description of others.
+-- The laws of a description of fields, which each way to build one from others keeps.
 use Rattle.std.proofs.Common.{Result, ◌≡◌, ℕ, ◌+◌, ◌<◌, ◌≤◌, Bool, false, List, [], ◌++◌, length, Option, Some, None, Ok, Err, refl, sym, ap, subst, ◌∙◌, inl, inr, append_assoc, arith, cond, true}
 use Rattle.std.specs.Prelude.{IfSome}
 use Rattle.std.proofs.lemmas.List.{append-nil, length-append}
@@ -14,6 +12,7 @@ use Rattle.ill_der.proofs.Elements.{element_takes, element_again, element_bound,
 
 -- ---- contents
 
+-- Holds if `kind` reads exactly the encodings of values in `P`, and these have at most `most` octets.
 pub record IsContents {V : Type 0} (P : V → Type 0) (most : ℕ) (kind : Contents V) : Type 0 where
   pub takes : (bytes : List ℕ) (v : V) → IsBytes bytes → kind.read bytes ≡ Some v → (bytes ≡ kind.spell v) × P v
   pub again : (v : V) → P v → kind.read (kind.spell v) ≡ Some v
@@ -21,35 +20,42 @@ pub record IsContents {V : Type 0} (P : V → Type 0) (most : ℕ) (kind : Conte
 
 -- ---- fields
 
--- a description was read from bytes, and left what follows
+-- Holds if `bytes` is the encoding of `v` and then `rest`, `v` is in `P`, and `rest` are octets.
 abbrev pub Takes : {V : Type 0} → Format V → (V → Type 0) → List ℕ → V → List ℕ → Type 0
 Takes f P bytes v rest = (bytes ≡ f.spell v ++ rest) × P v × IsBytes rest
 
--- a spelled value was read again, from whatever place
+-- Holds if `f` reads `v` from its encoding at the offset `at`, and leaves `more`.
 abbrev pub ReadsAgain : {V : Type 0} → Format V → V → ℕ → List ℕ → Type 0
 ReadsAgain f v at more = (after : ℕ) × (f.read (cursor_at at (f.spell v ++ more)) ≡ Ok (v, cursor_at after more))
 
+-- Holds if `f` reads only encodings of values in `P`, and reads each of them if `Follows` holds of what follows.
+-- An encoding has at most `most` bytes, and each fault of reading is Tag, Length or Field.
 pub record IsFormat {V : Type 0} (P : V → Type 0) (Follows : List ℕ → Type 0) (most : ℕ) (f : Format V) : Type 0 where
   pub takes : (left : Cursor) (v : V) (rest : Cursor) → IsBytes left.bytes → f.read left ≡ Ok (v, rest) → Takes f P left.bytes v rest.bytes
   pub again : (v : V) (at : ℕ) (more : List ℕ) → P v → Follows more → ReadsAgain f v at more
   pub bound : (v : V) → P v → length (f.spell v) ≤ most
   pub faults : (left : Cursor) (d : DerFault) → f.read left ≡ Err d → IsInside d
 
+-- Holds of all bytes.
 abbrev pub Any : List ℕ → Type 0
 Any more = Unit {0}
 
 -- ---- a primitive field that must stand
 
+-- If `value_of o at` gives `v`, `o` is `Some v`.
 value_found : {V : Type 0} (o : Option V) (at : ℕ) (v : V) → value_of o at ≡ Ok v → o ≡ Some v
 value_found (Some x) at v e = ap Some (ok_is x v e)
 value_found None at v e = absurd cc
 
+-- Each fault of `value_of` is Tag, Length or Field.
 value_faults : {V : Type 0} (o : Option V) (at : ℕ) (d : DerFault) → value_of o at ≡ Err d → IsInside d
 value_faults (Some x) at d e = absurd (no_value d x e)
 value_faults None at d e = field_inside at d e
 
+-- If `required` reads `v` from `left`, `left` is the encoding of `v` and then `rest`, and `v` is in `P`.
 required_takes : {V : Type 0} (P : V → Type 0) (most : ℕ) (kind : Contents V) (identifier : ℕ) → IsContents P most kind
-    → (left : Cursor) (v : V) (rest : Cursor) → IsBytes left.bytes → (required identifier kind).read left ≡ Ok (v, rest) → Takes (required identifier kind) P left.bytes v rest.bytes
+    → (left : Cursor) (v : V) (rest : Cursor) → IsBytes left.bytes → (required identifier kind).read left ≡ Ok (v, rest)
+    → Takes (required identifier kind) P left.bytes v rest.bytes
 required_takes {V} P most kind identifier is left v rest fits e =
     let part = bind_ok (element_at identifier left) (λ part. value_of (kind.read part.0.bytes) part.0.at >>= λ value. Ok (value, part.1)) (v, rest) e in
     let found = bind_ok (value_of (kind.read part.0.0.bytes) part.0.0.at) (λ value. Ok (value, part.0.1)) (v, rest) part.2 in
@@ -60,13 +66,17 @@ required_takes {V} P most kind identifier is left v rest fits e =
     taken.parts ∙ ap (λ (x : List ℕ). element identifier x ++ part.0.1.bytes) value.0 in
     subst (λ (x : V × Cursor). Takes (required identifier kind) P left.bytes x.0 x.1.bytes) both (parts, value.1, taken.rest_fits)
 
-required_again : {V : Type 0} (P : V → Type 0) (most : ℕ) (kind : Contents V) (identifier : ℕ) → most < 65536 → IsContents P most kind
+-- `required` reads each value in `P` from its encoding, whatever follows, if `most` is below 65536.
+required_again : {V : Type 0} (P : V → Type 0) (most : ℕ) (kind : Contents V) (identifier : ℕ) → most < 65536
+    → IsContents P most kind
     → (v : V) (at : ℕ) (more : List ℕ) → P v → ReadsAgain (required identifier kind) v at more
 required_again P most kind identifier small is v at more p =
     let read = element_again identifier at (kind.spell v) more (omega (arith, is.bound v p)) in
     (read.1, rw (read.2, is.again v p) refl)
 
-required_faults : {V : Type 0} (kind : Contents V) (identifier : ℕ) (left : Cursor) (d : DerFault) → (required identifier kind).read left ≡ Err d → IsInside d
+-- Each fault of `required` is Tag, Length or Field.
+required_faults : {V : Type 0} (kind : Contents V) (identifier : ℕ) (left : Cursor) (d : DerFault)
+    → (required identifier kind).read left ≡ Err d → IsInside d
 required_faults {V} kind identifier left d e =
     elim (bind_err (element_at identifier left) (λ part. value_of (kind.read part.0.bytes) part.0.at >>= λ value. Ok (value, part.1)) d e) [
       | inl h ↦ element_faults identifier left d h
@@ -76,7 +86,9 @@ required_faults {V} kind identifier left d e =
       ]
     ]
 
-pub required_is : {V : Type 0} (P : V → Type 0) (most : ℕ) (kind : Contents V) (identifier : ℕ) → most < 65536 → IsContents P most kind
+-- If `kind` obeys the laws of contents, in fewer than 65536 octets, its required field obeys those of a format.
+pub required_is : {V : Type 0} (P : V → Type 0) (most : ℕ) (kind : Contents V) (identifier : ℕ) → most < 65536
+    → IsContents P most kind
     → IsFormat P Any (overhead most + most) (required identifier kind)
 required_is P most kind identifier small is = record {
   takes = required_takes P most kind identifier is;
@@ -87,10 +99,11 @@ required_is P most kind identifier small is = record {
 
 -- ---- a primitive field that may stand
 
--- another element stands here, or none
+-- Holds if the test of `more` for `identifier` at its start gives `b`.
 abbrev pub Begins : Bool → ℕ → List ℕ → Type 0
 Begins b identifier more = begins_with identifier more ≡ b
 
+-- If `optional` reads `o` from `left`, `left` is the encoding of `o` and then `rest`, and a value is in `P`.
 optional_takes : {V : Type 0} (P : V → Type 0) (most : ℕ) (kind : Contents V) (identifier : ℕ) → IsContents P most kind
     → (left : Cursor) (o : Option V) (rest : Cursor) → IsBytes left.bytes → (optional identifier kind).read left ≡ Ok (o, rest)
     → Takes (optional identifier kind) (λ o. IfSome o P) left.bytes o rest.bytes
@@ -106,19 +119,25 @@ optional_takes {V} P most kind identifier is left o rest fits e =
           subst (λ (x : Option V × Cursor). Takes (optional identifier kind) (λ o. IfSome o P) left.bytes x.0 x.1.bytes) both (refl, tt, fits)
     ]
 
-optional_again : {V : Type 0} (P : V → Type 0) (most : ℕ) (kind : Contents V) (identifier : ℕ) → most < 65536 → IsContents P most kind
-    → (o : Option V) (at : ℕ) (more : List ℕ) → IfSome o P → Begins false identifier more → ReadsAgain (optional identifier kind) o at more
+-- `optional` reads each `o` from its encoding, if what follows does not begin with `identifier`.
+optional_again : {V : Type 0} (P : V → Type 0) (most : ℕ) (kind : Contents V) (identifier : ℕ) → most < 65536
+    → IsContents P most kind
+    → (o : Option V) (at : ℕ) (more : List ℕ) → IfSome o P → Begins false identifier more
+    → ReadsAgain (optional identifier kind) o at more
 optional_again P most kind identifier small is None at more p follows = (at, rw follows refl)
 optional_again P most kind identifier small is (Some v) at more p follows =
     let read = required_again P most kind identifier small is v at more p in
     (read.0, rw (element_begins identifier (kind.spell v) more, read.1) refl)
 
+-- The encoding of an optional field has at most `overhead most + most` bytes.
 optional_bound : {V : Type 0} (P : V → Type 0) (most : ℕ) (kind : Contents V) (identifier : ℕ) → IsContents P most kind
     → (o : Option V) → IfSome o P → length ((optional identifier kind).spell o) ≤ overhead most + most
 optional_bound P most kind identifier is None p = omega arith
 optional_bound P most kind identifier is (Some v) p = element_bound identifier most (kind.spell v) (is.bound v p)
 
-optional_faults : {V : Type 0} (kind : Contents V) (identifier : ℕ) (left : Cursor) (d : DerFault) → (optional identifier kind).read left ≡ Err d → IsInside d
+-- Each fault of `optional` is Tag, Length or Field.
+optional_faults : {V : Type 0} (kind : Contents V) (identifier : ℕ) (left : Cursor) (d : DerFault)
+    → (optional identifier kind).read left ≡ Err d → IsInside d
 optional_faults {V} kind identifier left d e =
     elim (chosen (begins_with identifier left.bytes) ((required identifier kind).read left >>= λ field. Ok (Some field.0, field.1)) (Ok (None, left)) (Err d) e) [
       | inl h ↦ elim (bind_err ((required identifier kind).read left) (λ field. Ok (Some field.0, field.1)) d h.1) [
@@ -128,7 +147,10 @@ optional_faults {V} kind identifier left d e =
       | inr h ↦ absurd (no_value d (None, left) h.1)
     ]
 
-pub optional_is : {V : Type 0} (P : V → Type 0) (most : ℕ) (kind : Contents V) (identifier : ℕ) → most < 65536 → IsContents P most kind
+-- If `kind` obeys the laws of contents, in fewer than 65536 octets, its optional field obeys those of a format.
+-- Bytes that follow the field must not begin with `identifier`.
+pub optional_is : {V : Type 0} (P : V → Type 0) (most : ℕ) (kind : Contents V) (identifier : ℕ) → most < 65536
+    → IsContents P most kind
     → IsFormat (λ o. IfSome o P) (Begins false identifier) (overhead most + most) (optional identifier kind)
 optional_is P most kind identifier small is = record {
   takes = optional_takes P most kind identifier is;
@@ -139,11 +161,15 @@ optional_is P most kind identifier small is = record {
 
 -- ---- fields, and then further fields
 
+-- Holds of a pair if `P` holds of its first part, and `Q` of its second.
 abbrev pub Both : {V W : Type 0} → (V → Type 0) → (W → Type 0) → V × W → Type 0
 Both P Q v = P v.0 × Q v.1
 
-followed_takes : {V W : Type 0} (P : V → Type 0) (Q : W → Type 0) (F G : List ℕ → Type 0) (m n : ℕ) (f : Format V) (g : Format W) → IsFormat P F m f → IsFormat Q G n g
-    → (left : Cursor) (v : V × W) (rest : Cursor) → IsBytes left.bytes → (followed_by f g).read left ≡ Ok (v, rest) → Takes (followed_by f g) (Both P Q) left.bytes v rest.bytes
+-- If `followed_by f g` reads `v` from `left`, `left` is the encoding of `v`, in range, and then `rest`.
+followed_takes : {V W : Type 0} (P : V → Type 0) (Q : W → Type 0) (F G : List ℕ → Type 0) (m n : ℕ) (f : Format V) (g : Format W)
+    → IsFormat P F m f → IsFormat Q G n g
+    → (left : Cursor) (v : V × W) (rest : Cursor) → IsBytes left.bytes → (followed_by f g).read left ≡ Ok (v, rest)
+    → Takes (followed_by f g) (Both P Q) left.bytes v rest.bytes
 followed_takes {V} {W} P Q F G m n f g fs gs left v rest fits e =
     let a = bind_ok (f.read left) (λ a. g.read a.1 >>= λ b. Ok ((a.0, b.0), b.1)) (v, rest) e in
     let b = bind_ok (g.read a.0.1) (λ b. Ok ((a.0.0, b.0), b.1)) (v, rest) a.2 in
@@ -154,7 +180,9 @@ followed_takes {V} {W} P Q F G m n f g fs gs left v rest fits e =
     first.0 ∙ ap (λ (x : List ℕ). f.spell a.0.0 ++ x) second.0 ∙ sym (append_assoc (f.spell a.0.0) (g.spell b.0.0) b.0.1.bytes) in
     subst (λ (x : (V × W) × Cursor). Takes (followed_by f g) (Both P Q) left.bytes x.0 x.1.bytes) both (parts, (first.1, second.1), second.2)
 
-followed_again : {V W : Type 0} (P : V → Type 0) (Q : W → Type 0) (F G : List ℕ → Type 0) (m n : ℕ) (f : Format V) (g : Format W) → IsFormat P F m f → IsFormat Q G n g
+-- `followed_by f g` reads each pair from its encoding, if `g` may follow `f`, and `more` may follow `g`.
+followed_again : {V W : Type 0} (P : V → Type 0) (Q : W → Type 0) (F G : List ℕ → Type 0) (m n : ℕ) (f : Format V) (g : Format W)
+    → IsFormat P F m f → IsFormat Q G n g
     → ((w : W) (more : List ℕ) → Q w → F (g.spell w ++ more))
     → (v : V × W) (at : ℕ) (more : List ℕ) → Both P Q v → G more → ReadsAgain (followed_by f g) v at more
 followed_again P Q F G m n f g fs gs joins v at more p follows =
@@ -162,7 +190,9 @@ followed_again P Q F G m n f g fs gs joins v at more p follows =
     let second = gs.again v.1 first.0 more p.1 follows in
     (second.0, rw (append_assoc (f.spell v.0) (g.spell v.1) more, first.1, second.1) refl)
 
-followed_faults : {V W : Type 0} (P : V → Type 0) (Q : W → Type 0) (F G : List ℕ → Type 0) (m n : ℕ) (f : Format V) (g : Format W) → IsFormat P F m f → IsFormat Q G n g
+-- Each fault of `followed_by f g` is Tag, Length or Field.
+followed_faults : {V W : Type 0} (P : V → Type 0) (Q : W → Type 0) (F G : List ℕ → Type 0) (m n : ℕ) (f : Format V) (g : Format W)
+    → IsFormat P F m f → IsFormat Q G n g
     → (left : Cursor) (d : DerFault) → (followed_by f g).read left ≡ Err d → IsInside d
 followed_faults P Q F G m n f g fs gs left d e =
     elim (bind_err (f.read left) (λ a. g.read a.1 >>= λ b. Ok ((a.0, b.0), b.1)) d e) [
@@ -173,7 +203,9 @@ followed_faults P Q F G m n f g fs gs left d e =
       ]
     ]
 
-pub followed_is : {V W : Type 0} (P : V → Type 0) (Q : W → Type 0) (F G : List ℕ → Type 0) (m n : ℕ) (f : Format V) (g : Format W) → IsFormat P F m f → IsFormat Q G n g
+-- If `f` and `g` obey the laws of a format, and `g` may follow `f`, `followed_by f g` obeys them.
+pub followed_is : {V W : Type 0} (P : V → Type 0) (Q : W → Type 0) (F G : List ℕ → Type 0) (m n : ℕ) (f : Format V) (g : Format W)
+    → IsFormat P F m f → IsFormat Q G n g
     → ((w : W) (more : List ℕ) → Q w → F (g.spell w ++ more)) → IsFormat (Both P Q) G (m + n) (followed_by f g)
 followed_is P Q F G m n f g fs gs joins = record {
   takes = followed_takes P Q F G m n f g fs gs;
@@ -182,10 +214,14 @@ followed_is P Q F G m n f g fs gs joins = record {
   faults = followed_faults P Q F G m n f g fs gs;
 }
 
--- ---- a yes or no, and behind a yes a further field
+-- ---- a yes or no, and after a yes a further field
 
-where_takes : {V : Type 0} (Q : Bool → Type 0) (P : V → Type 0) (F G : List ℕ → Type 0) (m n : ℕ) (yes_no : Format Bool) (field : Format V) → IsFormat Q F m yes_no → IsFormat P G n field
-    → (left : Cursor) (o : Option V) (rest : Cursor) → IsBytes left.bytes → (where_yes yes_no field).read left ≡ Ok (o, rest) → Takes (where_yes yes_no field) (λ o. IfSome o P) left.bytes o rest.bytes
+-- If `where_yes` reads `o` from `left`, `left` is the encoding of `o` and then `rest`, and a value is in `P`.
+where_takes : {V : Type 0} (Q : Bool → Type 0) (P : V → Type 0) (F G : List ℕ → Type 0) (m n : ℕ) (yes_no : Format Bool) (field : Format V)
+    → IsFormat Q F m yes_no → IsFormat P G n field
+    → (left : Cursor) (o : Option V) (rest : Cursor) → IsBytes left.bytes
+    → (where_yes yes_no field).read left ≡ Ok (o, rest)
+    → Takes (where_yes yes_no field) (λ o. IfSome o P) left.bytes o rest.bytes
 where_takes {V} Q P F G m n yes_no field qs fs left o rest fits e =
     let is_yes = bind_ok (yes_no.read left) (λ is_yes. cond is_yes.0 (field.read is_yes.1 >>= λ found. Ok (Some found.0, found.1)) (Ok (None, is_yes.1))) (o, rest) e in
     let first = qs.takes left is_yes.0.0 is_yes.0.1 fits is_yes.1 in
@@ -205,8 +241,11 @@ where_takes {V} Q P F G m n yes_no field qs fs left o rest fits e =
           subst (λ (x : Option V × Cursor). Takes (where_yes yes_no field) (λ o. IfSome o P) left.bytes x.0 x.1.bytes) both (parts, tt, first.2)
     ]
 
-where_again : {V : Type 0} (Q : Bool → Type 0) (P : V → Type 0) (G : List ℕ → Type 0) (m n : ℕ) (yes_no : Format Bool) (field : Format V) → IsFormat Q Any m yes_no → IsFormat P G n field
-    → ((b : Bool) → Q b) → (o : Option V) (at : ℕ) (more : List ℕ) → IfSome o P → G more → ReadsAgain (where_yes yes_no field) o at more
+-- `where_yes` reads each `o` from its encoding, if yes and no are in range, and `more` may follow `field`.
+where_again : {V : Type 0} (Q : Bool → Type 0) (P : V → Type 0) (G : List ℕ → Type 0) (m n : ℕ) (yes_no : Format Bool) (field : Format V)
+    → IsFormat Q Any m yes_no → IsFormat P G n field
+    → ((b : Bool) → Q b) → (o : Option V) (at : ℕ) (more : List ℕ) → IfSome o P → G more
+    → ReadsAgain (where_yes yes_no field) o at more
 where_again Q P G m n yes_no field qs fs each None at more p follows =
     let first = qs.again false at more (each false) tt in
     (first.0, rw (append-nil (yes_no.spell false), first.1) refl)
@@ -215,12 +254,18 @@ where_again Q P G m n yes_no field qs fs each (Some v) at more p follows =
     let second = fs.again v first.0 more p follows in
     (second.0, rw (append_assoc (yes_no.spell true) (field.spell v) more, first.1, second.1) refl)
 
-where_bound : {V : Type 0} (Q : Bool → Type 0) (P : V → Type 0) (F G : List ℕ → Type 0) (m n : ℕ) (yes_no : Format Bool) (field : Format V) → IsFormat Q F m yes_no → IsFormat P G n field
+-- The encoding of `o` by `where_yes` has at most `m + n` bytes.
+where_bound : {V : Type 0} (Q : Bool → Type 0) (P : V → Type 0) (F G : List ℕ → Type 0) (m n : ℕ) (yes_no : Format Bool) (field : Format V)
+    → IsFormat Q F m yes_no → IsFormat P G n field
     → ((b : Bool) → Q b) → (o : Option V) → IfSome o P → length ((where_yes yes_no field).spell o) ≤ m + n
-where_bound Q P F G m n yes_no field qs fs each None p = omega (arith, length-append (yes_no.spell false) [], qs.bound false (each false))
-where_bound Q P F G m n yes_no field qs fs each (Some v) p = omega (arith, length-append (yes_no.spell true) (field.spell v), qs.bound true (each true), fs.bound v p)
+where_bound Q P F G m n yes_no field qs fs each None p =
+    omega (arith, length-append (yes_no.spell false) [], qs.bound false (each false))
+where_bound Q P F G m n yes_no field qs fs each (Some v) p =
+    omega (arith, length-append (yes_no.spell true) (field.spell v), qs.bound true (each true), fs.bound v p)
 
-where_faults : {V : Type 0} (Q : Bool → Type 0) (P : V → Type 0) (F G : List ℕ → Type 0) (m n : ℕ) (yes_no : Format Bool) (field : Format V) → IsFormat Q F m yes_no → IsFormat P G n field
+-- Each fault of `where_yes` is Tag, Length or Field.
+where_faults : {V : Type 0} (Q : Bool → Type 0) (P : V → Type 0) (F G : List ℕ → Type 0) (m n : ℕ) (yes_no : Format Bool) (field : Format V)
+    → IsFormat Q F m yes_no → IsFormat P G n field
     → (left : Cursor) (d : DerFault) → (where_yes yes_no field).read left ≡ Err d → IsInside d
 where_faults {V} Q P F G m n yes_no field qs fs left d e =
     elim (bind_err (yes_no.read left) (λ is_yes. cond is_yes.0 (field.read is_yes.1 >>= λ found. Ok (Some found.0, found.1)) (Ok (None, is_yes.1))) d e) [
@@ -234,7 +279,9 @@ where_faults {V} Q P F G m n yes_no field qs fs left d e =
       ]
     ]
 
-pub where_is : {V : Type 0} (Q : Bool → Type 0) (P : V → Type 0) (G : List ℕ → Type 0) (m n : ℕ) (yes_no : Format Bool) (field : Format V) → IsFormat Q Any m yes_no → IsFormat P G n field
+-- If `yes_no` and `field` obey the laws of a format, and yes and no are in range, `where_yes` obeys them.
+pub where_is : {V : Type 0} (Q : Bool → Type 0) (P : V → Type 0) (G : List ℕ → Type 0) (m n : ℕ) (yes_no : Format Bool) (field : Format V)
+    → IsFormat Q Any m yes_no → IsFormat P G n field
     → ((b : Bool) → Q b) → IsFormat (λ o. IfSome o P) G (m + n) (where_yes yes_no field)
 where_is Q P G m n yes_no field qs fs each = record {
   takes = where_takes Q P Any G m n yes_no field qs fs;
@@ -245,8 +292,10 @@ where_is Q P G m n yes_no field qs fs each = record {
 
 -- ---- a constructed field
 
+-- If `constructed` reads `v` from `left`, `left` is the encoding of `v` and then `rest`, and `v` is in `P`.
 constructed_takes : {V : Type 0} (P : V → Type 0) (F : List ℕ → Type 0) (m : ℕ) (f : Format V) (identifier : ℕ) → IsFormat P F m f
-    → (left : Cursor) (v : V) (rest : Cursor) → IsBytes left.bytes → (constructed identifier f).read left ≡ Ok (v, rest) → Takes (constructed identifier f) P left.bytes v rest.bytes
+    → (left : Cursor) (v : V) (rest : Cursor) → IsBytes left.bytes → (constructed identifier f).read left ≡ Ok (v, rest)
+    → Takes (constructed identifier f) P left.bytes v rest.bytes
 constructed_takes {V} P F m f identifier fs left v rest fits e =
     let part = bind_ok (element_at identifier left) (λ part. f.read part.0 >>= λ found. ended found.1 >>= λ _. Ok (found.0, part.1)) (v, rest) e in
     let found = bind_ok (f.read part.0.0) (λ found. ended found.1 >>= λ _. Ok (found.0, part.0.1)) (v, rest) part.2 in
@@ -259,7 +308,9 @@ constructed_takes {V} P F m f identifier fs left v rest fits e =
     taken.parts ∙ ap (λ (x : List ℕ). element identifier x ++ part.0.1.bytes) whole in
     subst (λ (x : V × Cursor). Takes (constructed identifier f) P left.bytes x.0 x.1.bytes) both (parts, inside.1, taken.rest_fits)
 
-constructed_again : {V : Type 0} (P : V → Type 0) (F : List ℕ → Type 0) (m : ℕ) (f : Format V) (identifier : ℕ) → m < 65536 → IsFormat P F m f → F []
+-- `constructed` reads each value in `P` from its encoding, whatever follows, if `f` may stand last.
+constructed_again : {V : Type 0} (P : V → Type 0) (F : List ℕ → Type 0) (m : ℕ) (f : Format V) (identifier : ℕ)
+    → m < 65536 → IsFormat P F m f → F []
     → (v : V) (at : ℕ) (more : List ℕ) → P v → ReadsAgain (constructed identifier f) v at more
 constructed_again P F m f identifier small fs closes v at more p =
     let read = element_again identifier at (f.spell v) more (omega (arith, fs.bound v p)) in
@@ -267,7 +318,9 @@ constructed_again P F m f identifier small fs closes v at more p =
     let whole : f.read (cursor_at read.0 (f.spell v)) ≡ Ok (v, cursor_at inside.0 []) = ap (λ (x : List ℕ). f.read (cursor_at read.0 x)) (sym (append-nil (f.spell v))) ∙ inside.1 in
     (read.1, rw (read.2, whole) refl)
 
-constructed_faults : {V : Type 0} (P : V → Type 0) (F : List ℕ → Type 0) (m : ℕ) (f : Format V) (identifier : ℕ) → IsFormat P F m f
+-- Each fault of `constructed` is Tag, Length or Field.
+constructed_faults : {V : Type 0} (P : V → Type 0) (F : List ℕ → Type 0) (m : ℕ) (f : Format V) (identifier : ℕ)
+    → IsFormat P F m f
     → (left : Cursor) (d : DerFault) → (constructed identifier f).read left ≡ Err d → IsInside d
 constructed_faults P F m f identifier fs left d e =
     elim (bind_err (element_at identifier left) (λ part. f.read part.0 >>= λ found. ended found.1 >>= λ _. Ok (found.0, part.1)) d e) [
@@ -281,7 +334,9 @@ constructed_faults P F m f identifier fs left d e =
       ]
     ]
 
-pub constructed_is : {V : Type 0} (P : V → Type 0) (F : List ℕ → Type 0) (m : ℕ) (f : Format V) (identifier : ℕ) → m < 65536 → IsFormat P F m f → F []
+-- If `f` obeys the laws of a format, in fewer than 65536 bytes, and may stand last, `constructed` obeys them.
+pub constructed_is : {V : Type 0} (P : V → Type 0) (F : List ℕ → Type 0) (m : ℕ) (f : Format V) (identifier : ℕ)
+    → m < 65536 → IsFormat P F m f → F []
     → IsFormat P Any (overhead m + m) (constructed identifier f)
 constructed_is P F m f identifier small fs closes = record {
   takes = constructed_takes P F m f identifier fs;

@@ -1,4 +1,4 @@
--- Length octets: what is read is spelled so, and what is spelled is read again.
+-- Length octets: octets that are read as a length are its encoding, and an encoding is read as its length.
 use Rattle.std.proofs.Common.{◌≡◌, ℕ, zero, suc, ◌+◌, ◌*◌, ◌/◌, ◌%◌, ◌<◌, ◌≤◌, Bool, true, false, cond, eqb, ltb, List, [], ◌∷◌, ◌++◌, length, drop, refl, sym, subst, inl, inr, arith}
 use Rattle.std.proofs.lemmas.Bool.{cases_lt, lt-ltb, le-ltb, ltb-true, ltb-false, eqb-true}
 use Rattle.std.proofs.Math.Dec.{eqb-suc-zero}
@@ -12,25 +12,31 @@ use Rattle.ill_der.proofs.Bytes.{IsBytes-rest}
 
 -- ---- the three forms
 
+-- A length `n` below 128 is encoded as one octet, `n`.
 pub short_form : (n : ℕ) → n < 128 → length_octets n ≡ n ∷ []
 unfolding length_octets
 short_form n lt = rw (lt-ltb n 128 lt) refl
 
+-- A length `n` from 128 to 255 is encoded as two octets, 81 and `n`.
 pub middle_form : (n : ℕ) → 128 ≤ n → n < 256 → length_octets n ≡ 0x81 ∷ n ∷ []
 unfolding length_octets
 middle_form n le lt = rw (le-ltb n 128 le, lt-ltb n 256 lt) refl
 
+-- A length `n` from 256 on is encoded as three octets, 82, `n / 256` and `n % 256`.
 pub long_form : (n : ℕ) → 256 ≤ n → length_octets n ≡ 0x82 ∷ n / 256 ∷ n % 256 ∷ []
 unfolding length_octets
 long_form n le = let big : 128 ≤ n = omega arith in rw (le-ltb n 128 big, le-ltb n 256 le) refl
 
--- ---- what is spelled is read again
+-- ---- an encoding is read as its length
 
+-- If `n` is at least 1, the test for 0 is false.
 not_zero : (n : ℕ) → 1 ≤ n → eqb n 0 ≡ false
 not_zero zero h = absurd (omega arith)
 not_zero (suc n) h = eqb-suc-zero n
 
-pub length_again : (n : ℕ) (more : List ℕ) → n < 65536 → length_of (length_octets n ++ more) ≡ Definite n (length (length_octets n))
+-- `length_of` reads each length below 65536 from its octets, whatever follows.
+pub length_again : (n : ℕ) (more : List ℕ) → n < 65536
+    → length_of (length_octets n ++ more) ≡ Definite n (length (length_octets n))
 unfolding length_of
 length_again n more small =
     elim (cases_lt n 128) [
@@ -44,22 +50,28 @@ length_again n more small =
       ]
     ]
 
+-- If the test of `n` for 0 is false, `n` is at least 1.
 not_zero_is : (n : ℕ) → eqb n 0 ≡ false → 1 ≤ n
 not_zero_is zero e = absurd (let both : eqb 0 0 ≡ false = e in cc)
 not_zero_is (suc n) e = omega arith
 
--- ---- what is read is spelled so
+-- ---- octets that are read as a length are its encoding
 
+-- Holds if `bytes` begins with the length octets of `n`, and these are `octets` octets.
 abbrev pub IsSpelledLength : List ℕ → ℕ → ℕ → Type 0
 IsSpelledLength bytes n octets = (bytes ≡ length_octets n ++ drop octets bytes) × (length (length_octets n) ≡ octets)
 
-along : (bytes : List ℕ) (a b n octets : ℕ) → Definite a b ≡ Definite n octets → IsSpelledLength bytes a b → IsSpelledLength bytes n octets
+-- If `Definite a b` is `Definite n octets`, `IsSpelledLength` holds of `n` and `octets` as of `a` and `b`.
+along : (bytes : List ℕ) (a b n octets : ℕ) → Definite a b ≡ Definite n octets → IsSpelledLength bytes a b
+    → IsSpelledLength bytes n octets
 along bytes a b n octets e h =
     let ea : a ≡ n = cc in
     let eb : b ≡ octets = cc in
     subst (λ (x : ℕ). IsSpelledLength bytes x octets) ea (subst (λ (x : ℕ). IsSpelledLength bytes a x) eb h)
 
-one_takes : (rest : List ℕ) (n octets : ℕ) → IsBytes rest → one_octet_length rest ≡ Definite n octets → IsSpelledLength (0x81 ∷ rest) n octets
+-- If `one_octet_length rest` is `Definite n octets`, 81 and `rest` begin with the length octets of `n`.
+one_takes : (rest : List ℕ) (n octets : ℕ) → IsBytes rest → one_octet_length rest ≡ Definite n octets
+    → IsSpelledLength (0x81 ∷ rest) n octets
 one_takes [] n octets fits e = absurd cc
 one_takes (m ∷ rest) n octets fits e =
     elim (chosen (ltb m 128) Invalid (Definite m 2) (Definite n octets) e) [
@@ -67,7 +79,9 @@ one_takes (m ∷ rest) n octets fits e =
       | inr h ↦ along (0x81 ∷ m ∷ rest) m 2 n octets h.1 (rw (middle_form m (ltb-false m 128 h.0) (fits 0)) (refl, refl))
     ]
 
-two_takes : (rest : List ℕ) (n octets : ℕ) → IsBytes rest → two_octet_length rest ≡ Definite n octets → IsSpelledLength (0x82 ∷ rest) n octets
+-- If `two_octet_length rest` is `Definite n octets`, 82 and `rest` begin with the length octets of `n`.
+two_takes : (rest : List ℕ) (n octets : ℕ) → IsBytes rest → two_octet_length rest ≡ Definite n octets
+    → IsSpelledLength (0x82 ∷ rest) n octets
 two_takes [] n octets fits e = absurd cc
 two_takes (high ∷ []) n octets fits e = absurd cc
 two_takes (high ∷ low ∷ rest) n octets fits e =
@@ -81,7 +95,9 @@ two_takes (high ∷ low ∷ rest) n octets fits e =
           along (0x82 ∷ high ∷ low ∷ rest) (256 * high + low) 3 n octets h.1 (rw (long_form (256 * high + low) (omega arith), quotient, remainder) (refl, refl))
     ]
 
-pub length_takes : (bytes : List ℕ) (n octets : ℕ) → IsBytes bytes → length_of bytes ≡ Definite n octets → IsSpelledLength bytes n octets
+-- If `length_of bytes` is `Definite n octets`, `bytes` begins with the length octets of `n`.
+pub length_takes : (bytes : List ℕ) (n octets : ℕ) → IsBytes bytes → length_of bytes ≡ Definite n octets
+    → IsSpelledLength bytes n octets
 unfolding length_of
 length_takes [] n octets fits e = absurd cc
 length_takes (first ∷ rest) n octets fits e =
@@ -97,12 +113,13 @@ length_takes (first ∷ rest) n octets fits e =
       ]
     ]
 
--- ---- how many octets there are
+-- ---- numbers of octets
 
--- how many octets the identifier and the length of so many contents octets take at most
+-- Returns the number of octets that the identifier and the length of `n` contents octets take.
 abbrev pub overhead : ℕ → ℕ
 overhead n = if nat_lt n 128 then 2 else (if nat_lt n 256 then 3 else 4)
 
+-- A length below 256 has at most two length octets.
 two_at_most : (n : ℕ) → n < 256 → length (length_octets n) ≤ 2
 two_at_most n small =
     elim (cases_lt n 128) [
@@ -110,6 +127,7 @@ two_at_most n small =
       | inr le ↦ rw (middle_form n le small) (omega arith)
     ]
 
+-- A length has at most three length octets.
 three_at_most : (n : ℕ) → length (length_octets n) ≤ 3
 three_at_most n =
     elim (cases_lt n 256) [
@@ -117,6 +135,7 @@ three_at_most n =
       | inr le ↦ rw (long_form n le) (omega arith)
     ]
 
+-- If `n` is at most `most`, the identifier and the length of `n` contents octets take at most `overhead most` octets.
 pub few_octets : (n most : ℕ) → n ≤ most → 1 + length (length_octets n) ≤ overhead most
 few_octets n most le =
     elim (cases_lt most 128) [
@@ -127,20 +146,24 @@ few_octets n most le =
       ]
     ]
 
+-- If `IsFew` holds of `x` and of `y`, it holds of `cond b x y`.
 few_chosen : (b : Bool) (x y : LengthForm) (bytes : ℕ) → IsFew x bytes → IsFew y bytes → IsFew (cond b x y) bytes
 few_chosen true x y bytes hx hy = hx
 few_chosen false x y bytes hx hy = hy
 
+-- If 81 and `rest` are a definite length, it has at most three octets; if truncated, they are at most two.
 one_few : (rest : List ℕ) → IsFew (one_octet_length rest) (suc (length rest))
 one_few [] = omega arith
 one_few (n ∷ rest) = few_chosen (nat_lt n 128) Invalid (Definite n 2) (suc (suc (length rest))) tt (omega arith)
 
+-- If 82 and `rest` are a definite length, it has at most three octets; if truncated, they are at most two.
 two_few : (rest : List ℕ) → IsFew (two_octet_length rest) (suc (length rest))
 two_few [] = omega arith
 two_few (high ∷ []) = omega arith
-two_few (high ∷ low ∷ rest) = few_chosen (eqb high 0) Invalid (Definite (256 * high + low) 3) (suc (suc (suc (length rest)))) tt (omega arith)
+two_few (high ∷ low ∷ rest) =
+    few_chosen (eqb high 0) Invalid (Definite (256 * high + low) 3) (suc (suc (suc (length rest)))) tt (omega arith)
 
--- how many octets a length has, and the truncated ones
+-- If `bytes` begins with a definite length, it has at most three octets; if truncated, `bytes` has at most two.
 pub length_few : (bytes : List ℕ) → IsFew (length_of bytes) (length bytes)
 unfolding length_of
 length_few [] = omega arith

@@ -1,4 +1,4 @@
--- How many more bytes an APDU needs at least: shorter bytes are short, and bytes that need no more are not.
+-- The bytes that an APDU lacks at least. Fewer than these leave it short; bytes that lack none are not short.
 use Rattle.std.proofs.Common.{◌≡◌, ℕ, ◌+◌, ◌-◌, ◌<◌, ◌≤◌, Bool, true, false, cond, ltb, List, [], ◌∷◌, ◌++◌, length, take, drop, Option, Some, None, is_some, Result, Ok, Err, inl, inr, refl, sym, ap, subst, ◌∙◌, arith}
 use Rattle.std.proofs.lemmas.Bool.{cases_lt, ltb-true, ltb-false, lt-ltb}
 use Rattle.std.proofs.lemmas.List.{append-nil, length-append, length-take-le, length-drop, take-append-le, take-append-drop}
@@ -24,71 +24,92 @@ use Rattle.ill_der.proofs.StreamLemmas.{decodes_err, spelled_without_memory}
 use Rattle.ill_der.proofs.ContentsLaws.{Values}
 use Rattle.ill_der.proofs.ShortFormLaws.{IsFinal, length_more, outer_with, outer_behind, outer_of, outer_is, outer_none, inside_faults}
 
--- ---- what is missing behind an identifier
+-- ---- bytes that are missing after an identifier
 
+-- Returns how many more bytes a length and its contents need at least, if `size` bytes follow the identifier.
 abbrev missing_behind : LengthForm → ℕ → ℕ
 missing_behind Truncated size = 1
 missing_behind Invalid size = 0
 missing_behind (Definite n octets) size = cond (ltb 355 n) 0 (octets + n - size)
 
+-- For a definite length, `missing_by` is the number of bytes up to the end of the contents, or 0 if `large`.
 missing_in : (apdu_type : ApduType) (n octets size : ℕ) (large : Bool)
     → missing_by (cond large (Err (Length 1)) (Ok (record { apdu_type = apdu_type; start = 1 + octets; size = 1 + (octets + n) }))) (size + 1) ≡ cond large 0 (octets + n - size)
 missing_in apdu_type n octets size true = refl
 missing_in apdu_type n octets size false = omega arith
 
-missing_cases : (apdu_type : ApduType) (form : LengthForm) (size : ℕ) → missing_by (header_by apdu_type form (size + 1)) (size + 1) ≡ missing_behind form size
+-- For an APDU of a known type, `missing_by` of its header is `missing_behind` of its length.
+missing_cases : (apdu_type : ApduType) (form : LengthForm) (size : ℕ)
+    → missing_by (header_by apdu_type form (size + 1)) (size + 1) ≡ missing_behind form size
 missing_cases apdu_type Truncated size = refl
 missing_cases apdu_type Invalid size = refl
 missing_cases apdu_type (Definite n octets) size = missing_in apdu_type n octets size (ltb 355 n)
 
-missing_from : (o : Option ApduType) (bytes : List ℕ) → missing_by (header_of o bytes) (length bytes + 1) ≡ cond (is_some o) (missing_behind (length_of bytes) (length bytes)) 0
+-- `missing_by` of the header is `missing_behind` of the length, or 0 if the identifier has no type.
+missing_from : (o : Option ApduType) (bytes : List ℕ)
+    → missing_by (header_of o bytes) (length bytes + 1) ≡ cond (is_some o) (missing_behind (length_of bytes) (length bytes)) 0
 missing_from None bytes = refl
 missing_from (Some apdu_type) bytes = missing_cases apdu_type (length_of bytes) (length bytes)
 
-missing_is : (first : ℕ) (bytes : List ℕ) → missing_of (first ∷ bytes) ≡ cond (is_some (type_with first)) (missing_behind (length_of bytes) (length bytes)) 0
+-- `missing_of (first ∷ bytes)` is `missing_behind` of the length in `bytes`, or 0 if `first` has no type.
+missing_is : (first : ℕ) (bytes : List ℕ)
+    → missing_of (first ∷ bytes) ≡ cond (is_some (type_with first)) (missing_behind (length_of bytes) (length bytes)) 0
 unfolding missing_of header_at
 missing_is first bytes =
     ap (λ (size : ℕ). missing_by (header_of (type_with first) bytes) size) (let e : length (first ∷ bytes) ≡ length bytes + 1 = omega arith in e) ∙ missing_from (type_with first) bytes
 
+-- No bytes at all lack one byte at least.
 missing_none : missing_of [] ≡ 1
 unfolding missing_of header_at
 missing_none = refl
 
--- ---- bytes of which some are missing, with fewer behind them
+-- ---- bytes that lack some, followed by fewer
 
-wanted_is : (apdu_type : ApduType) (n octets : ℕ) (large : Bool) (bytes more : List ℕ) → ltb 355 n ≡ large → length_of bytes ≡ Definite n octets
-    → length more < cond large 0 (octets + n - length bytes) → outer_behind apdu_type (length_of (bytes ++ more)) (bytes ++ more) ≡ Err (Short (length (bytes ++ more) + 1))
+-- If `more` has fewer bytes than `bytes` lacks by a definite length, `bytes ++ more` is short.
+wanted_is : (apdu_type : ApduType) (n octets : ℕ) (large : Bool) (bytes more : List ℕ) → ltb 355 n ≡ large
+    → length_of bytes ≡ Definite n octets
+    → length more < cond large 0 (octets + n - length bytes)
+    → outer_behind apdu_type (length_of (bytes ++ more)) (bytes ++ more) ≡ Err (Short (length (bytes ++ more) + 1))
 wanted_is apdu_type n octets true bytes more large e lt = absurd (omega (arith, lt))
 wanted_is apdu_type n octets false bytes more large e lt =
     let same : length_of (bytes ++ more) ≡ Definite n octets = length_more bytes more (subst IsFinal (sym e) tt) ∙ e in
     let few : ltb (length (bytes ++ more)) (octets + n) ≡ true = lt-ltb _ _ (omega (arith, lt, length-append bytes more)) in
     rw (same, large, few) refl
 
-wanted_by : (apdu_type : ApduType) (form : LengthForm) (bytes more : List ℕ) → length_of bytes ≡ form → length more < missing_behind form (length bytes)
+-- If `more` has fewer bytes than `bytes` lacks by its length `form`, `bytes ++ more` is short.
+wanted_by : (apdu_type : ApduType) (form : LengthForm) (bytes more : List ℕ) → length_of bytes ≡ form
+    → length more < missing_behind form (length bytes)
     → outer_behind apdu_type (length_of (bytes ++ more)) (bytes ++ more) ≡ Err (Short (length (bytes ++ more) + 1))
 wanted_by apdu_type Truncated bytes [] e lt = rw (append-nil bytes, e) refl
 wanted_by apdu_type Truncated bytes (x ∷ more) e lt = absurd (omega (arith, lt))
 wanted_by apdu_type Invalid bytes more e lt = absurd (omega (arith, lt))
 wanted_by apdu_type (Definite n octets) bytes more e lt = wanted_is apdu_type n octets (ltb 355 n) bytes more refl e lt
 
-wanted_of : (o : Option ApduType) (bytes more : List ℕ) → length more < cond (is_some o) (missing_behind (length_of bytes) (length bytes)) 0
+-- If `more` has fewer bytes than are missing after an identifier, `bytes ++ more` is short.
+wanted_of : (o : Option ApduType) (bytes more : List ℕ)
+    → length more < cond (is_some o) (missing_behind (length_of bytes) (length bytes)) 0
     → outer_of o (bytes ++ more) ≡ Err (Short (length (bytes ++ more) + 1))
 wanted_of None bytes more lt = absurd (omega (arith, lt))
 wanted_of (Some apdu_type) bytes more lt = wanted_by apdu_type (length_of bytes) bytes more refl lt
 
-wanted_outer : (bytes more : List ℕ) → length more < missing_of bytes → outer_at (bytes ++ more) ≡ Err (Short (length (bytes ++ more)))
+-- If `more` has fewer bytes than `bytes` lacks, `outer_at (bytes ++ more)` is Short with the number of all bytes.
+wanted_outer : (bytes more : List ℕ) → length more < missing_of bytes
+    → outer_at (bytes ++ more) ≡ Err (Short (length (bytes ++ more)))
 wanted_outer [] [] lt = outer_none
 wanted_outer [] (x ∷ more) lt = absurd (omega (arith, lt, missing_none))
 wanted_outer (first ∷ bytes) more lt =
     outer_is first (bytes ++ more) ∙ wanted_of (type_with first) bytes more (subst (λ (k : ℕ). length more < k) (missing_is first bytes) lt) ∙ ap (λ (k : ℕ). Err (Short k)) (omega arith)
 
+-- If `more` has fewer bytes than `bytes` lacks, `bytes ++ more` is unfinished.
 pub wanted : (bytes more : List ℕ) → length more < missing_of bytes → IsUnfinished (bytes ++ more)
 unfolding apdu_at
 wanted bytes more lt = rw (wanted_outer bytes more lt) refl
 
--- ---- bytes of which none is missing
+-- ---- bytes that lack none
 
-enough_by : (apdu_type : ApduType) (form : LengthForm) (bytes : List ℕ) (n : ℕ) → missing_behind form (length bytes) ≡ 0 → outer_behind apdu_type form bytes ≡ Err (Short n) → ⊥
+-- If `bytes` lacks no byte by its length `form`, `outer_behind` is not Short.
+enough_by : (apdu_type : ApduType) (form : LengthForm) (bytes : List ℕ) (n : ℕ) → missing_behind form (length bytes) ≡ 0
+    → outer_behind apdu_type form bytes ≡ Err (Short n) → ⊥
 enough_by apdu_type Truncated bytes n none e = omega (arith, none)
 enough_by apdu_type Invalid bytes n none e = length_inside 1 (Short n) e
 enough_by apdu_type (Definite m octets) bytes n none e =
@@ -102,14 +123,19 @@ enough_by apdu_type (Definite m octets) bytes n none e =
       ]
     ]
 
-enough_of : (o : Option ApduType) (bytes : List ℕ) (n : ℕ) → cond (is_some o) (missing_behind (length_of bytes) (length bytes)) 0 ≡ 0 → outer_of o bytes ≡ Err (Short n) → ⊥
+-- If `bytes` lacks no byte after an identifier, `outer_of` is not Short.
+enough_of : (o : Option ApduType) (bytes : List ℕ) (n : ℕ)
+    → cond (is_some o) (missing_behind (length_of bytes) (length bytes)) 0 ≡ 0 → outer_of o bytes ≡ Err (Short n) → ⊥
 enough_of None bytes n none e = tag_inside 0 (Short n) e
 enough_of (Some apdu_type) bytes n none e = enough_by apdu_type (length_of bytes) bytes n none e
 
+-- If `bytes` lacks no byte, `outer_at bytes` is not Short.
 enough_outer : (bytes : List ℕ) (n : ℕ) → missing_of bytes ≡ 0 → outer_at bytes ≡ Err (Short n) → ⊥
 enough_outer [] n none e = omega (arith, none, missing_none)
-enough_outer (first ∷ bytes) n none e = enough_of (type_with first) bytes n (sym (missing_is first bytes) ∙ none) (sym (outer_is first bytes) ∙ e)
+enough_outer (first ∷ bytes) n none e =
+    enough_of (type_with first) bytes n (sym (missing_is first bytes) ∙ none) (sym (outer_is first bytes) ∙ e)
 
+-- If `bytes` lacks no byte, `apdu_at bytes` is not Short.
 enough : Values → (bytes : List ℕ) (n : ℕ) → missing_of bytes ≡ 0 → apdu_at bytes ≡ Err (Short n) → ⊥
 unfolding apdu_at
 enough values bytes n none e =
@@ -121,7 +147,7 @@ enough values bytes n none e =
       ]
     ]
 
--- a fault of bytes of which none is missing is not Short
+-- If `bytes` lacks no byte, its fault is not Short.
 pub not_short : Values → (bytes : List ℕ) (fault : DerFault) → missing_of bytes ≡ 0 → apdu_at bytes ≡ Err fault → IfShort fault ⊥
 not_short values bytes (Short n) none e = enough values bytes n none e
 not_short values bytes (Tag at) none e = tt
@@ -129,8 +155,9 @@ not_short values bytes (Length at) none e = tt
 not_short values bytes (Field at) none e = tt
 not_short values bytes OutOfMemory none e = tt
 
--- a fault other than want of memory, of bytes of which none is missing
-pub refused : Values → (bytes : List ℕ) (fault : DerFault) → (fault ≡ OutOfMemory → ⊥) → missing_of bytes ≡ 0 → Decodes bytes (apdu_at bytes) (Err fault)
+-- If `bytes` lacks no byte, and decoding has a fault other than OutOfMemory, `bytes` has it, and it is not Short.
+pub refused : Values → (bytes : List ℕ) (fault : DerFault) → (fault ≡ OutOfMemory → ⊥) → missing_of bytes ≡ 0
+    → Decodes bytes (apdu_at bytes) (Err fault)
     → (apdu_at bytes ≡ Err fault) × IfShort fault ⊥
 refused values bytes fault other none h =
     elim (decodes_err bytes (apdu_at bytes) fault h) [
@@ -138,8 +165,9 @@ refused values bytes fault other none h =
       | inr e ↦ absurd (other e.0)
     ]
 
--- the fault of unfinished bytes of which none is missing, as it is handed on
-judged_fault : Values → (bytes : List ℕ) (fault : DerFault) → IsBytes bytes → AreUnfinished bytes → missing_of bytes ≡ 0 → Decodes bytes (apdu_at bytes) (Err fault)
+-- If `bytes` lacks no byte and its proper prefixes are unfinished, `read_fault` of decoding's fault judges it.
+judged_fault : Values → (bytes : List ℕ) (fault : DerFault) → IsBytes bytes → AreUnfinished bytes → missing_of bytes ≡ 0
+    → Decodes bytes (apdu_at bytes) (Err fault)
     → IsJudged bytes (Err (read_fault fault))
 judged_fault values bytes OutOfMemory fits fronts none h = spelled_without_memory values bytes fits fronts h
 judged_fault values bytes (Short at) fits fronts none h = refused values bytes (Short at) (λ e. absurd cc) none h
@@ -147,7 +175,9 @@ judged_fault values bytes (Tag at) fits fronts none h = refused values bytes (Ta
 judged_fault values bytes (Length at) fits fronts none h = refused values bytes (Length at) (λ e. absurd cc) none h
 judged_fault values bytes (Field at) fits fronts none h = refused values bytes (Field at) (λ e. absurd cc) none h
 
-pub handed_on : Values → (bytes : List ℕ) (fault : DerFault) (r : Result (Option Apdu) ReadFault) → IsBytes bytes → AreUnfinished bytes → missing_of bytes ≡ 0
+-- If `bytes` lacks no byte and its proper prefixes are unfinished, a result that hands on decoding's fault judges it.
+pub handed_on : Values → (bytes : List ℕ) (fault : DerFault) (r : Result (Option Apdu) ReadFault) → IsBytes bytes
+    → AreUnfinished bytes → missing_of bytes ≡ 0
     → Decodes bytes (apdu_at bytes) (Err fault) → IsErrAnd r (λ handed. handed ≡ read_fault fault) → IsJudged bytes r
 handed_on values bytes fault (Ok found) fits fronts none h is = absurd is
 handed_on values bytes fault (Err handed) fits fronts none h is =
@@ -155,29 +185,37 @@ handed_on values bytes fault (Err handed) fits fronts none h is =
 
 -- ---- no APDU is longer than 359 bytes
 
-most_is : (n octets size : ℕ) (large : Bool) → ltb 355 n ≡ large → octets ≤ 3 → 0 < cond large 0 (octets + n - size) → size + cond large 0 (octets + n - size) ≤ 358
+-- If some of a definite length's contents are missing, those and the `size` bytes before are at most 358.
+most_is : (n octets size : ℕ) (large : Bool) → ltb 355 n ≡ large → octets ≤ 3 → 0 < cond large 0 (octets + n - size)
+    → size + cond large 0 (octets + n - size) ≤ 358
 most_is n octets size true e few some = absurd (omega (arith, some))
 most_is n octets size false e few some = omega (arith, few, some, ltb-false 355 n e)
 
+-- If bytes are missing by the length `form`, those and the `size` bytes before are at most 358.
 most_by : (form : LengthForm) (size : ℕ) → IsFew form size → 0 < missing_behind form size → size + missing_behind form size ≤ 358
 most_by Truncated size few some = omega (arith, few)
 most_by Invalid size few some = absurd (omega (arith, some))
 most_by (Definite n octets) size few some = most_is n octets size (ltb 355 n) refl few some
 
+-- If bytes are missing after an identifier, those and `bytes` are at most 358.
 most_of : (o : Option ApduType) (bytes : List ℕ) → 0 < cond (is_some o) (missing_behind (length_of bytes) (length bytes)) 0
     → length bytes + cond (is_some o) (missing_behind (length_of bytes) (length bytes)) 0 ≤ 358
 most_of None bytes some = absurd (omega (arith, some))
 most_of (Some apdu_type) bytes some = most_by (length_of bytes) (length bytes) (length_few bytes) some
 
+-- If `bytes` lacks a byte, `bytes` and the missing bytes are at most 359.
 pub most_missing : (bytes : List ℕ) → 0 < missing_of bytes → length bytes + missing_of bytes ≤ 359
 most_missing [] some = omega (arith, missing_none)
 most_missing (first ∷ bytes) some = omega (arith, missing_is first bytes, most_of (type_with first) bytes (subst (λ (k : ℕ). 0 < k) (missing_is first bytes) some))
 
--- ---- what was read, and a read of no more than is missing
+-- ---- a read of no more bytes than are missing
 
+-- If `bytes` lacks a byte, it is unfinished.
 pub unfinished_alone : (bytes : List ℕ) → 0 < missing_of bytes → IsUnfinished bytes
 unfinished_alone bytes some = subst IsUnfinished (append-nil bytes) (wanted bytes [] some)
 
+-- Let `front` have unfinished proper prefixes, and `more` at most the bytes that it lacks.
+-- Then the proper prefixes of `front ++ more` are unfinished.
 pub read_on : (front more : List ℕ) → AreUnfinished front → length more ≤ missing_of front → AreUnfinished (front ++ more)
 read_on front more fronts few size lt =
     elim (cases_lt size (length front)) [
@@ -190,7 +228,7 @@ read_on front more fronts few size lt =
           subst IsUnfinished (sym is) (wanted front (take k more) (omega (arith, few, fewer, length-take-le k more (omega (arith, fewer)))))
     ]
 
--- the front of a buffer that a read has filled further
+-- The first `size + count` bytes after a put at `size` are `size` old ones and `count` of `buffer`.
 pub filled : (size k count : ℕ) (bytes buffer : List ℕ) → size ≤ length bytes → count ≤ length buffer
     → take (size + count) (put_mid size k bytes buffer) ≡ take size bytes ++ take count buffer
 filled size k count bytes buffer fits few =
@@ -203,7 +241,9 @@ filled size k count bytes buffer fits few =
     ap (take (size + count)) parts ∙ take-append-le (size + count) (front ++ buffer) (drop n all) (omega (arith, long, few, length-append front buffer))
     ∙ ap (λ (m : ℕ). take (m + count) (front ++ buffer)) (sym long) ∙ take-append-add front buffer count
 
-pub filled_length : (size k : ℕ) (bytes buffer : List ℕ) → length buffer ≡ k → size + k ≤ length bytes → length (put_mid size k bytes buffer) ≡ length bytes
+-- If `buffer` fits into `bytes` at `size`, putting it there keeps the length of `bytes`.
+pub filled_length : (size k : ℕ) (bytes buffer : List ℕ) → length buffer ≡ k → size + k ≤ length bytes
+    → length (put_mid size k bytes buffer) ≡ length bytes
 filled_length size k bytes buffer room fits =
     let all = put_mid size k bytes buffer in
     let n = size + length buffer in

@@ -1,4 +1,4 @@
--- The short form: what is read is spelled so, what is spelled is read again, and what is short.
+-- The laws of the short form: bytes that are read are an encoding, and an encoding is read as its APDU.
 use Rattle.ill_der.specs.Stream.{IfShort}
 use Rattle.std.proofs.Common.{◌≡◌, ℕ, ◌+◌, ◌-◌, ◌≤◌, false, cond, eqb, ltb, List, [], ◌∷◌, ◌++◌, length, take, drop, Option, Some, None, Result, Ok, Err, refl, sym, ap, subst, ◌∙◌, inl, inr, append_assoc, arith, Bool, true}
 use Rattle.std.specs.Prelude.{IfSome}
@@ -31,12 +31,15 @@ use Rattle.ill_der.proofs.ContentsLaws.{Values, Always, IsAnyResult, IsYesOrNo, 
 
 -- ---- the fields that each type has
 
+-- Holds if both parts of a transaction id are qualifiers.
 abbrev IsId : List ℕ × List ℕ → Type 0
 IsId = Both IsQualifier IsQualifier
 
+-- Holds if the transaction id and the number are in range.
 abbrev IsHead : Unit {0} × ((List ℕ × List ℕ) × ℕ) → Type 0
 IsHead = Both Always (Both IsId IsNumber)
 
+-- `txn_id` reads exactly the encodings of transaction ids, of at most 135 bytes, whatever follows.
 txn_id_is : Values → IsFormat IsId Any 135 txn_id
 txn_id_is values =
     constructed_is IsId Any 132 (followed_by (required 0x81 qualifier) (required 0x82 qualifier)) 0xA1 (omega arith)
@@ -46,6 +49,7 @@ txn_id_is values =
     (λ w more q. tt))
     tt
 
+-- `head` reads exactly the encodings of heads in range, of at most 142 bytes, whatever follows.
 head_is : Values → IsFormat IsHead Any 142 head
 head_is values =
     followed_is Always (Both IsId IsNumber) Any Any 3 139 (required 0x80 version) (followed_by txn_id (required 0x82 number))
@@ -55,13 +59,16 @@ head_is values =
 
 -- ---- the further fields of each type
 
+-- Holds if the expiry date, if any, is in range, and the text is an item.
 abbrev IsRequest : Option Date × List ℕ → Type 0
 IsRequest = Both (λ o. IfSome o IsDate) IsItem
 
+-- An item does not begin with the identifier of a date.
 item_no_date : (text more : List ℕ) → begins_with 0x85 (element 0x86 text ++ more) ≡ false
 unfolding element
 item_no_date text more = refl
 
+-- `request` reads exactly the encodings of fields in range, of at most 213 bytes, whatever follows.
 request_is : Values → IsFormat IsRequest Any 213 request
 request_is values =
     followed_is (λ o. IfSome o IsDate) IsItem (Begins false 0x85) Any 10 203 (optional 0x85 date) (required 0x86 item)
@@ -69,20 +76,25 @@ request_is values =
     (required_is IsItem 200 item 0x86 (omega arith) (item_is values))
     (λ text more q. item_no_date text more)
 
+-- `reply` reads exactly the encodings of fields in range, of at most 7 bytes, whatever follows.
 reply_is : IsFormat (Both IsNumber IsYesOrNo) Any 7 reply
 reply_is =
     followed_is IsNumber IsYesOrNo Any Any 4 3 (required 0x83 number) (required 0x84 yes_no)
     (required_is IsNumber 2 number 0x83 (omega arith) number_is) (required_is IsYesOrNo 1 yes_no 0x84 (omega arith) yes_no_is) (λ w more q. tt)
 
+-- `due_date` reads exactly the encodings of days in range, of at most 10 bytes, whatever follows.
 due_date_is : Values → IsFormat IsDate Any 10 due_date
 due_date_is values = required_is IsDate 8 date 0x85 (omega arith) (date_is values)
 
+-- `answer` reads exactly the encodings of results, of at most 3 bytes, whatever follows.
 answer_is : IsFormat IsAnyResult Any 3 answer
 answer_is = required_is IsAnyResult 1 answer_result 0x84 (omega arith) result_is
 
+-- `wish` reads exactly the encodings of an optional day, of at most 10 bytes, if no date follows.
 wish_is : Values → IsFormat (λ o. IfSome o IsDate) (Begins false 0x85) 10 wish
 wish_is values = optional_is IsDate 8 date 0x85 (omega arith) (date_is values)
 
+-- `grant` reads exactly the encodings of fields in range, of at most 17 bytes, whatever follows.
 grant_is : Values → IsFormat (Both IsNumber (λ o. IfSome o IsDate)) Any 17 grant
 grant_is values =
     followed_is IsNumber (λ o. IfSome o IsDate) Any Any 4 13 (required 0x83 number) (where_yes (required 0x84 yes_no) (required 0x85 date))
@@ -90,14 +102,16 @@ grant_is values =
     (where_is IsYesOrNo IsDate Any 3 10 (required 0x84 yes_no) (required 0x85 date) (required_is IsYesOrNo 1 yes_no 0x84 (omega arith) yes_no_is) (due_date_is values) (λ b. tt))
     (λ w more q. tt)
 
--- the further fields of a type were read
+-- Holds if `bytes` is the further fields of `body`, of type `apdu_type` and in range, and then `rest`.
 abbrev TakesBody : ApduType → List ℕ → Body → List ℕ → Type 0
 TakesBody apdu_type bytes body rest = (bytes ≡ spell_body body ++ rest) × IsBody body × (type_of body ≡ apdu_type) × IsBytes rest
 
--- a body that is made of its fields
-made_takes : {V : Type 0} (P : V → Type 0) (F : List ℕ → Type 0) (n : ℕ) (f : Format V) (make : V → Body) (apdu_type : ApduType) → IsFormat P F n f
+-- If `made_of f make` reads `body` from `left`, `left` is the fields of `body`, in range, and then `rest`.
+made_takes : {V : Type 0} (P : V → Type 0) (F : List ℕ → Type 0) (n : ℕ) (f : Format V) (make : V → Body) (apdu_type : ApduType)
+    → IsFormat P F n f
     → ((v : V) → spell_body (make v) ≡ f.spell v) → ((v : V) → P v → IsBody (make v)) → ((v : V) → type_of (make v) ≡ apdu_type)
-    → (left : Cursor) (body : Body) (rest : Cursor) → IsBytes left.bytes → made_of f make left ≡ Ok (body, rest) → TakesBody apdu_type left.bytes body rest.bytes
+    → (left : Cursor) (body : Body) (rest : Cursor) → IsBytes left.bytes → made_of f make left ≡ Ok (body, rest)
+    → TakesBody apdu_type left.bytes body rest.bytes
 made_takes P F n f make apdu_type fs spells ranges types left body rest fits e =
     let fields = bind_ok (f.read left) (λ found. Ok (make found.0, found.1)) (body, rest) e in
     let both : (make fields.0.0, fields.0.1) ≡ (body, rest) = ok_is (make fields.0.0, fields.0.1) (body, rest) fields.2 in
@@ -105,20 +119,27 @@ made_takes P F n f make apdu_type fs spells ranges types left body rest fits e =
     let parts : left.bytes ≡ spell_body (make fields.0.0) ++ fields.0.1.bytes = taken.0 ∙ ap (λ (x : List ℕ). x ++ fields.0.1.bytes) (sym (spells fields.0.0)) in
     subst (λ (x : Body × Cursor). TakesBody apdu_type left.bytes x.0 x.1.bytes) both (parts, ranges fields.0.0 taken.1, types fields.0.0, taken.2)
 
--- a body with no fields
-plain_takes : (make body : Body) (apdu_type : ApduType) (left rest : Cursor) → spell_body make ≡ [] → IsBody make → type_of make ≡ apdu_type → IsBytes left.bytes → done {E = DerFault} {A = Body × Cursor} (make, left) ≡ done (body, rest)
+-- If `make` is in range and has no further fields, reading it takes no bytes: `left` is its fields and `rest`.
+plain_takes : (make body : Body) (apdu_type : ApduType) (left rest : Cursor) → spell_body make ≡ [] → IsBody make
+    → type_of make ≡ apdu_type → IsBytes left.bytes
+    → done {E = DerFault} {A = Body × Cursor} (make, left) ≡ done (body, rest)
     → TakesBody apdu_type left.bytes body rest.bytes
 plain_takes make body apdu_type left rest spells is k fits e =
     let both : (make, left) ≡ (body, rest) = ok_is (make, left) (body, rest) e in
     subst (λ (x : Body × Cursor). TakesBody apdu_type left.bytes x.0 x.1.bytes) both (ap (λ (x : List ℕ). x ++ left.bytes) (sym spells), is, k, fits)
 
-body_takes : Values → (apdu_type : ApduType) (left : Cursor) (body : Body) (rest : Cursor) → IsBytes left.bytes → read_body apdu_type left ≡ Ok (body, rest) → TakesBody apdu_type left.bytes body rest.bytes
+-- If `read_body` reads `body` from `left`, `left` is the fields of `body`, in range and of its type, then `rest`.
+body_takes : Values → (apdu_type : ApduType) (left : Cursor) (body : Body) (rest : Cursor) → IsBytes left.bytes
+    → read_body apdu_type left ≡ Ok (body, rest) → TakesBody apdu_type left.bytes body rest.bytes
 body_takes values types.IllRequest = made_takes IsRequest Any 213 request (λ found. IllRequest found.0 found.1) types.IllRequest (request_is values) (λ v. refl) (λ v p. p) (λ v. refl)
-body_takes values types.Shipped = made_takes IsDate Any 10 due_date Shipped types.Shipped (due_date_is values) (λ v. refl) (λ v p. p) (λ v. refl)
-body_takes values types.IllAnswer = made_takes IsAnyResult Any 3 answer IllAnswer types.IllAnswer answer_is (λ v. refl) (λ v p. p) (λ v. refl)
+body_takes values types.Shipped =
+    made_takes IsDate Any 10 due_date Shipped types.Shipped (due_date_is values) (λ v. refl) (λ v p. p) (λ v. refl)
+body_takes values types.IllAnswer =
+    made_takes IsAnyResult Any 3 answer IllAnswer types.IllAnswer answer_is (λ v. refl) (λ v p. p) (λ v. refl)
 body_takes values types.ConditionalReply = made_takes (Both IsNumber IsYesOrNo) Any 7 reply (λ found. ConditionalReply found.0 found.1) types.ConditionalReply reply_is (λ v. refl) (λ v p. p.0) (λ v. refl)
 body_takes values types.CancelReply = made_takes (Both IsNumber IsYesOrNo) Any 7 reply (λ found. CancelReply found.0 found.1) types.CancelReply reply_is (λ v. refl) (λ v p. p.0) (λ v. refl)
-body_takes values types.Overdue = made_takes IsDate Any 10 due_date Overdue types.Overdue (due_date_is values) (λ v. refl) (λ v p. p) (λ v. refl)
+body_takes values types.Overdue =
+    made_takes IsDate Any 10 due_date Overdue types.Overdue (due_date_is values) (λ v. refl) (λ v p. p) (λ v. refl)
 body_takes values types.Renew = made_takes (λ o. IfSome o IsDate) (Begins false 0x85) 10 wish Renew types.Renew (wish_is values) (λ v. refl) (λ v p. p) (λ v. refl)
 body_takes values types.RenewAnswer = made_takes (Both IsNumber (λ o. IfSome o IsDate)) Any 17 grant (λ found. RenewAnswer found.0 found.1) types.RenewAnswer (grant_is values) (λ v. refl) (λ v p. p) (λ v. refl)
 body_takes values types.Cancel = λ left body rest. plain_takes Cancel body types.Cancel left rest refl tt refl
@@ -128,25 +149,30 @@ body_takes values types.Returned = λ left body rest. plain_takes Returned body 
 body_takes values types.CheckedIn = λ left body rest. plain_takes CheckedIn body types.CheckedIn left rest refl tt refl
 body_takes values types.Expired = λ left body rest. plain_takes Expired body types.Expired left rest refl tt refl
 
--- a spelled body is read again, at the end of an APDU
+-- Holds if `read_body` reads `body` from its further fields at the offset `at`, and leaves no bytes.
 abbrev BodyAgain : Body → ℕ → Type 0
 BodyAgain body at = (after : ℕ) × (read_body (type_of body) (cursor_at at (spell_body body)) ≡ Ok (body, cursor_at after []))
 
-made_again : {V : Type 0} (P : V → Type 0) (F : List ℕ → Type 0) (n : ℕ) (f : Format V) (make : V → Body) → IsFormat P F n f → F []
+-- `made_of f make` reads `make v` from the encoding of `v`, if nothing follows.
+made_again : {V : Type 0} (P : V → Type 0) (F : List ℕ → Type 0) (n : ℕ) (f : Format V) (make : V → Body)
+    → IsFormat P F n f → F []
     → (v : V) (at : ℕ) → P v → (after : ℕ) × (made_of f make (cursor_at at (f.spell v)) ≡ Ok (make v, cursor_at after []))
 made_again P F n f make fs closes v at p =
     let read = fs.again v at [] p closes in
     let whole : f.read (cursor_at at (f.spell v)) ≡ Ok (v, cursor_at read.0 []) = ap (λ (x : List ℕ). f.read (cursor_at at x)) (sym (append-nil (f.spell v))) ∙ read.1 in
     (read.0, rw whole refl)
 
+-- `read_body` reads each body in range from its further fields, if nothing follows.
 body_again : Values → (body : Body) (at : ℕ) → IsBody body → BodyAgain body at
-body_again values (IllRequest expiry text) at is = made_again IsRequest Any 213 request (λ found. IllRequest found.0 found.1) (request_is values) tt (expiry, text) at is
+body_again values (IllRequest expiry text) at is =
+    made_again IsRequest Any 213 request (λ found. IllRequest found.0 found.1) (request_is values) tt (expiry, text) at is
 body_again values (Shipped due) at is = made_again IsDate Any 10 due_date Shipped (due_date_is values) tt due at is
 body_again values (IllAnswer result) at is = made_again IsAnyResult Any 3 answer IllAnswer answer_is tt result at tt
 body_again values (ConditionalReply answers is_yes) at is = made_again (Both IsNumber IsYesOrNo) Any 7 reply (λ found. ConditionalReply found.0 found.1) reply_is tt (answers, is_yes) at (is, tt)
 body_again values (CancelReply answers is_yes) at is = made_again (Both IsNumber IsYesOrNo) Any 7 reply (λ found. CancelReply found.0 found.1) reply_is tt (answers, is_yes) at (is, tt)
 body_again values (Overdue due) at is = made_again IsDate Any 10 due_date Overdue (due_date_is values) tt due at is
-body_again values (Renew wished) at is = made_again (λ o. IfSome o IsDate) (Begins false 0x85) 10 wish Renew (wish_is values) refl wished at is
+body_again values (Renew wished) at is =
+    made_again (λ o. IfSome o IsDate) (Begins false 0x85) 10 wish Renew (wish_is values) refl wished at is
 body_again values (RenewAnswer answers granted) at is = made_again (Both IsNumber (λ o. IfSome o IsDate)) Any 17 grant (λ found. RenewAnswer found.0 found.1) (grant_is values) tt (answers, granted) at is
 body_again values Cancel at is = (at, refl)
 body_again values Received at is = (at, refl)
@@ -155,6 +181,7 @@ body_again values Returned at is = (at, refl)
 body_again values CheckedIn at is = (at, refl)
 body_again values Expired at is = (at, refl)
 
+-- The further fields of a body in range have at most 213 bytes.
 body_bound : Values → (body : Body) → IsBody body → length (spell_body body) ≤ 213
 body_bound values (IllRequest expiry text) is = (request_is values).bound (expiry, text) is
 body_bound values (Shipped due) is = omega (arith, (due_date_is values).bound due is)
@@ -166,7 +193,7 @@ body_bound values (Renew wished) is = omega (arith, (wish_is values).bound wishe
 body_bound values (RenewAnswer answers granted) is = omega (arith, (grant_is values).bound (answers, granted) is)
 body_bound values _ is = omega arith
 
--- but for a request's, the further fields are few
+-- The further fields of a body in range that is no ILL-Request have at most 17 bytes.
 short_body : Values → (body : Body) → IsBody body → (type_of body ≡ types.IllRequest → ⊥) → length (spell_body body) ≤ 17
 short_body values (IllRequest expiry text) is other = absurd (other refl)
 short_body values (Shipped due) is other = omega (arith, (due_date_is values).bound due is)
@@ -178,6 +205,7 @@ short_body values (Renew wished) is other = omega (arith, (wish_is values).bound
 short_body values (RenewAnswer answers granted) is other = (grant_is values).bound (answers, granted) is
 short_body values _ is other = omega arith
 
+-- Each fault of `made_of f make` is Tag, Length or Field.
 made_faults : {V : Type 0} (P : V → Type 0) (F : List ℕ → Type 0) (n : ℕ) (f : Format V) (make : V → Body) → IsFormat P F n f
     → (left : Cursor) (d : DerFault) → made_of f make left ≡ Err d → IsInside d
 made_faults P F n f make fs left d e =
@@ -186,15 +214,20 @@ made_faults P F n f make fs left d e =
       | inr h ↦ absurd (no_value d (make h.0.0, h.0.1) h.2)
     ]
 
+-- Each fault of `read_body` is Tag, Length or Field.
 body_faults : Values → (apdu_type : ApduType) (left : Cursor) (d : DerFault) → read_body apdu_type left ≡ Err d → IsInside d
-body_faults values types.IllRequest = made_faults IsRequest Any 213 request (λ found. IllRequest found.0 found.1) (request_is values)
+body_faults values types.IllRequest =
+    made_faults IsRequest Any 213 request (λ found. IllRequest found.0 found.1) (request_is values)
 body_faults values types.Shipped = made_faults IsDate Any 10 due_date Shipped (due_date_is values)
 body_faults values types.IllAnswer = made_faults IsAnyResult Any 3 answer IllAnswer answer_is
-body_faults values types.ConditionalReply = made_faults (Both IsNumber IsYesOrNo) Any 7 reply (λ found. ConditionalReply found.0 found.1) reply_is
-body_faults values types.CancelReply = made_faults (Both IsNumber IsYesOrNo) Any 7 reply (λ found. CancelReply found.0 found.1) reply_is
+body_faults values types.ConditionalReply =
+    made_faults (Both IsNumber IsYesOrNo) Any 7 reply (λ found. ConditionalReply found.0 found.1) reply_is
+body_faults values types.CancelReply =
+    made_faults (Both IsNumber IsYesOrNo) Any 7 reply (λ found. CancelReply found.0 found.1) reply_is
 body_faults values types.Overdue = made_faults IsDate Any 10 due_date Overdue (due_date_is values)
 body_faults values types.Renew = made_faults (λ o. IfSome o IsDate) (Begins false 0x85) 10 wish Renew (wish_is values)
-body_faults values types.RenewAnswer = made_faults (Both IsNumber (λ o. IfSome o IsDate)) Any 17 grant (λ found. RenewAnswer found.0 found.1) (grant_is values)
+body_faults values types.RenewAnswer =
+    made_faults (Both IsNumber (λ o. IfSome o IsDate)) Any 17 grant (λ found. RenewAnswer found.0 found.1) (grant_is values)
 body_faults values types.Cancel = λ left d e. absurd (no_value d (Cancel, left) e)
 body_faults values types.Received = λ left d e. absurd (no_value d (Received, left) e)
 body_faults values types.Recall = λ left d e. absurd (no_value d (Recall, left) e)
@@ -204,11 +237,13 @@ body_faults values types.Expired = λ left d e. absurd (no_value d (Expired, lef
 
 -- ---- the contents of an APDU
 
--- all of what is left is a body
+-- Holds if `bytes` is the further fields of `body`, of type `apdu_type` and in range.
 abbrev IsBodyOf : ApduType → List ℕ → Body → Type 0
 IsBodyOf apdu_type bytes body = (bytes ≡ spell_body body) × IsBody body × (type_of body ≡ apdu_type)
 
-whole_body_takes : Values → (apdu_type : ApduType) (left : Cursor) (body : Body) → IsBytes left.bytes → body_of apdu_type left ≡ Ok body → IsBodyOf apdu_type left.bytes body
+-- If `body_of` reads `body` from `left`, all of `left` is the further fields of `body`.
+whole_body_takes : Values → (apdu_type : ApduType) (left : Cursor) (body : Body) → IsBytes left.bytes
+    → body_of apdu_type left ≡ Ok body → IsBodyOf apdu_type left.bytes body
 unfolding body_of
 whole_body_takes values apdu_type left body fits e =
     let found = bind_ok (read_body apdu_type left) (λ body. ended body.1 >>= λ _. Ok body.0) body e in
@@ -217,10 +252,13 @@ whole_body_takes values apdu_type left body fits e =
     let whole : left.bytes ≡ spell_body found.0.0 = taken.0 ∙ ap (λ (x : List ℕ). spell_body found.0.0 ++ x) (ended_is found.0.1 over.0 over.1) ∙ append-nil (spell_body found.0.0) in
     subst (IsBodyOf apdu_type left.bytes) (ok_is found.0.0 body over.2) (whole, taken.1, taken.2)
 
-whole_body_again : Values → (body : Body) (at : ℕ) → IsBody body → body_of (type_of body) (cursor_at at (spell_body body)) ≡ Ok body
+-- `body_of` reads each body in range from its further fields.
+whole_body_again : Values → (body : Body) (at : ℕ) → IsBody body
+    → body_of (type_of body) (cursor_at at (spell_body body)) ≡ Ok body
 unfolding body_of
 whole_body_again values body at is = rw (body_again values body at is).1 refl
 
+-- Each fault of `body_of` is Tag, Length or Field.
 whole_body_faults : Values → (apdu_type : ApduType) (left : Cursor) (d : DerFault) → body_of apdu_type left ≡ Err d → IsInside d
 unfolding body_of
 whole_body_faults values apdu_type left d e =
@@ -232,13 +270,17 @@ whole_body_faults values apdu_type left d e =
       ]
     ]
 
+-- Returns the APDU with the transaction id and the number of `front`, and with `body`.
 abbrev made : (Unit {0} × ((List ℕ × List ℕ) × ℕ)) → Body → Apdu
 made front body = record { txn = record { group = front.1.0.0; transaction = front.1.0.1 }; number = front.1.1; body = body }
 
+-- Holds if `bytes` is the contents of `apdu`, of type `apdu_type` and in range.
 abbrev IsWhole : ApduType → List ℕ → Apdu → Type 0
 IsWhole apdu_type bytes apdu = (bytes ≡ contents_of apdu) × IsApdu apdu × (type_of apdu.body ≡ apdu_type)
 
-inside_takes : Values → (apdu_type : ApduType) (left : Cursor) (apdu : Apdu) → IsBytes left.bytes → inside_of apdu_type left ≡ Ok apdu → IsWhole apdu_type left.bytes apdu
+-- If `inside_of` reads `apdu` from `left`, all of `left` is the contents of `apdu`.
+inside_takes : Values → (apdu_type : ApduType) (left : Cursor) (apdu : Apdu) → IsBytes left.bytes
+    → inside_of apdu_type left ≡ Ok apdu → IsWhole apdu_type left.bytes apdu
 unfolding inside_of
 inside_takes values apdu_type left apdu fits e =
     let front = bind_ok (head.read left) (λ front. body_of apdu_type front.1 >>= λ body. Ok (made front.0 body)) apdu e in
@@ -254,24 +296,31 @@ inside_takes values apdu_type left apdu fits e =
     } in
     subst (λ (x : Apdu). IsWhole apdu_type left.bytes x) is (whole, parts, second.2)
 
-inside_again : Values → (apdu : Apdu) (at : ℕ) → IsApdu apdu → inside_of (type_of apdu.body) (cursor_at at (contents_of apdu)) ≡ Ok apdu
+-- `inside_of` reads each APDU in range from its contents.
+inside_again : Values → (apdu : Apdu) (at : ℕ) → IsApdu apdu
+    → inside_of (type_of apdu.body) (cursor_at at (contents_of apdu)) ≡ Ok apdu
 unfolding inside_of
 inside_again values apdu at is =
     let front : Unit {0} × ((List ℕ × List ℕ) × ℕ) = (tt, ((apdu.txn.group, apdu.txn.transaction), apdu.number)) in
     let first = (head_is values).again front at (spell_body apdu.body) (tt, ((is.txn.group, is.txn.transaction), is.number)) tt in
     rw (first.1, whole_body_again values apdu.body first.0 is.body) refl
 
+-- The contents of an APDU in range have at most 142 bytes more than its further fields.
 contents_by_body : Values → (apdu : Apdu) → IsApdu apdu → length (contents_of apdu) ≤ 142 + length (spell_body apdu.body)
 contents_by_body values apdu is =
     let front : Unit {0} × ((List ℕ × List ℕ) × ℕ) = (tt, ((apdu.txn.group, apdu.txn.transaction), apdu.number)) in
     omega (arith, length-append (head.spell front) (spell_body apdu.body), (head_is values).bound front (tt, ((is.txn.group, is.txn.transaction), is.number)))
 
+-- The contents of an APDU in range have at most 355 bytes.
 pub contents_bound : Values → (apdu : Apdu) → IsApdu apdu → length (contents_of apdu) ≤ 355
 contents_bound values apdu is = omega (arith, contents_by_body values apdu is, body_bound values apdu.body is.body)
 
-pub short_contents : Values → (apdu : Apdu) → IsApdu apdu → (type_of apdu.body ≡ types.IllRequest → ⊥) → length (contents_of apdu) ≤ 159
+-- The contents of an APDU in range that is no ILL-Request have at most 159 bytes.
+pub short_contents : Values → (apdu : Apdu) → IsApdu apdu → (type_of apdu.body ≡ types.IllRequest → ⊥)
+    → length (contents_of apdu) ≤ 159
 short_contents values apdu is other = omega (arith, contents_by_body values apdu is, short_body values apdu.body is.body other)
 
+-- Each fault of `inside_of` is Tag, Length or Field.
 pub inside_faults : Values → (apdu_type : ApduType) (left : Cursor) (d : DerFault) → inside_of apdu_type left ≡ Err d → IsInside d
 unfolding inside_of
 inside_faults values apdu_type left d e =
@@ -285,9 +334,12 @@ inside_faults values apdu_type left d e =
 
 -- ---- the identifier and the length of an APDU
 
-identifier_with : (identifier : ℕ) (apdu_type : ApduType) → type_with identifier ≡ Some apdu_type → identifier ≡ identifier_of apdu_type
+-- If the type with `identifier` is `apdu_type`, `identifier` is the octet of `apdu_type`.
+identifier_with : (identifier : ℕ) (apdu_type : ApduType) → type_with identifier ≡ Some apdu_type
+    → identifier ≡ identifier_of apdu_type
 identifier_with identifier apdu_type e = found_with identifier_of identifier all_types apdu_type e
 
+-- `type_with` finds each type by its identifier.
 type_again : (apdu_type : ApduType) → type_with (identifier_of apdu_type) ≡ Some apdu_type
 type_again types.IllRequest = refl
 type_again types.Shipped = refl
@@ -304,25 +356,28 @@ type_again types.Renew = refl
 type_again types.RenewAnswer = refl
 type_again types.Expired = refl
 
--- an APDU is all there at the front
+-- Holds if `bytes` begins with the element of the type and the contents of `outer`, of `outer.size` bytes.
 record IsOuter (bytes : List ℕ) (outer : Outer) : Type 0 where
   parts : bytes ≡ element (identifier_of outer.apdu_type) outer.inside.bytes ++ drop outer.size bytes
   inside_fits : IsBytes outer.inside.bytes
 
+-- Returns the complete APDU of `apdu_type`, with `n` contents octets after `octets` length octets of `bytes`.
 abbrev pub outer_with : ApduType → ℕ → ℕ → List ℕ → Outer
 outer_with apdu_type n octets bytes = record { apdu_type = apdu_type; inside = cursor_at (1 + octets) (take n (drop octets bytes)); size = 1 + (octets + n) }
 
--- the header and the contents in one, of the bytes behind an identifier
+-- Reads the contents of an APDU of a known type, by its length, from the bytes after the identifier.
 abbrev pub outer_behind : ApduType → LengthForm → List ℕ → Result Outer DerFault
 outer_behind apdu_type (Definite n octets) bytes =
     cond (ltb 355 n) (Err (Length 1)) (cond (ltb (length bytes) (octets + n)) (Err (Short (length bytes + 1))) (Ok (outer_with apdu_type n octets bytes)))
 outer_behind apdu_type Truncated bytes = Err (Short (length bytes + 1))
 outer_behind apdu_type Invalid bytes = Err (Length 1)
 
+-- Reads the length and the contents of an APDU from the bytes after the identifier, if that has a type.
 abbrev pub outer_of : Option ApduType → List ℕ → Result Outer DerFault
 outer_of None bytes = Err (Tag 0)
 outer_of (Some apdu_type) bytes = outer_behind apdu_type (length_of bytes) bytes
 
+-- For a definite length, reading the header and then the contents agrees with `outer_behind`.
 outer_in : (first : ℕ) (apdu_type : ApduType) (n octets : ℕ) (large : Bool) (bytes : List ℕ)
     → (cond large (Err (Length 1)) (Ok (record { apdu_type = apdu_type; start = 1 + octets; size = 1 + (octets + n) })) >>= λ header. outer_by header (first ∷ bytes))
     ≡ cond large (Err (Length 1)) (cond (ltb (length bytes) (octets + n)) (Err (Short (length bytes + 1))) (Ok (outer_with apdu_type n octets bytes)))
@@ -339,25 +394,33 @@ outer_in first apdu_type n octets false bytes =
     let many : 1 + (octets + n) - (1 + octets) ≡ n = omega arith in
     rw (fewer, count, behind, many) refl
 
+-- For a known type, reading the header and then the contents agrees with `outer_behind`.
 outer_cases : (first : ℕ) (apdu_type : ApduType) (form : LengthForm) (bytes : List ℕ)
     → (header_by apdu_type form (length bytes + 1) >>= λ header. outer_by header (first ∷ bytes)) ≡ outer_behind apdu_type form bytes
 outer_cases first apdu_type Truncated bytes = refl
 outer_cases first apdu_type Invalid bytes = refl
 outer_cases first apdu_type (Definite n octets) bytes = outer_in first apdu_type n octets (ltb 355 n) bytes
 
-outer_from : (first : ℕ) (o : Option ApduType) (bytes : List ℕ) → (header_of o bytes >>= λ header. outer_by header (first ∷ bytes)) ≡ outer_of o bytes
+-- Reading the header and then the contents agrees with `outer_of`.
+outer_from : (first : ℕ) (o : Option ApduType) (bytes : List ℕ)
+    → (header_of o bytes >>= λ header. outer_by header (first ∷ bytes)) ≡ outer_of o bytes
 outer_from first None bytes = refl
 outer_from first (Some apdu_type) bytes = outer_cases first apdu_type (length_of bytes) bytes
 
+-- `outer_at (first ∷ bytes)` is `outer_of`, of the type with `first`, and `bytes`.
 pub outer_is : (first : ℕ) (bytes : List ℕ) → outer_at (first ∷ bytes) ≡ outer_of (type_with first) bytes
 unfolding outer_at header_at
 outer_is first bytes = outer_from first (type_with first) bytes
 
+-- `outer_at` of no bytes is Short 0.
 pub outer_none : outer_at [] ≡ Err (Short 0)
 unfolding outer_at header_at
 outer_none = refl
 
-outer_by_takes : (first : ℕ) (apdu_type : ApduType) (form : LengthForm) (bytes : List ℕ) (outer : Outer) → IsBytes bytes → first ≡ identifier_of apdu_type → length_of bytes ≡ form → outer_behind apdu_type form bytes ≡ Ok outer → IsOuter (first ∷ bytes) outer
+-- If `outer_behind` gives `outer`, and `first` is the octet of the type, `first ∷ bytes` begins with its element.
+outer_by_takes : (first : ℕ) (apdu_type : ApduType) (form : LengthForm) (bytes : List ℕ) (outer : Outer) → IsBytes bytes
+    → first ≡ identifier_of apdu_type → length_of bytes ≡ form → outer_behind apdu_type form bytes ≡ Ok outer
+    → IsOuter (first ∷ bytes) outer
 outer_by_takes first apdu_type Truncated bytes outer fits k f e = absurd cc
 outer_by_takes first apdu_type Invalid bytes outer fits k f e = absurd cc
 outer_by_takes first apdu_type (Definite n octets) bytes outer fits k f e =
@@ -375,19 +438,25 @@ outer_by_takes first apdu_type (Definite n octets) bytes outer fits k f e =
     ∙ ap (λ (x : List ℕ). element (identifier_of apdu_type) (take n taken) ++ x) (sym behind) in
     subst (λ (x : Outer). IsOuter (first ∷ bytes) x) is (record { parts = parts; inside_fits = IsBytes-take n taken (IsBytes-drop octets bytes fits) })
 
-outer_of_takes : (first : ℕ) (o : Option ApduType) (bytes : List ℕ) (outer : Outer) → IsBytes bytes → type_with first ≡ o → outer_of o bytes ≡ Ok outer → IsOuter (first ∷ bytes) outer
+-- If `outer_of` gives `outer`, and `o` is the type with `first`, `first ∷ bytes` begins with its element.
+outer_of_takes : (first : ℕ) (o : Option ApduType) (bytes : List ℕ) (outer : Outer) → IsBytes bytes
+    → type_with first ≡ o → outer_of o bytes ≡ Ok outer → IsOuter (first ∷ bytes) outer
 outer_of_takes first None bytes outer fits k e = absurd cc
-outer_of_takes first (Some apdu_type) bytes outer fits k e = outer_by_takes first apdu_type (length_of bytes) bytes outer fits (identifier_with first apdu_type k) refl e
+outer_of_takes first (Some apdu_type) bytes outer fits k e =
+    outer_by_takes first apdu_type (length_of bytes) bytes outer fits (identifier_with first apdu_type k) refl e
 
+-- If `outer_at bytes` gives `outer`, `bytes` begins with its element.
 outer_takes : (bytes : List ℕ) (outer : Outer) → IsBytes bytes → outer_at bytes ≡ Ok outer → IsOuter bytes outer
 outer_takes [] outer fits e = absurd (no_value (Short 0) outer (sym e ∙ outer_none))
 outer_takes (first ∷ bytes) outer fits e =
     outer_of_takes first (type_with first) bytes outer (IsBytes-drop 1 (first ∷ bytes) fits) refl (sym (outer_is first bytes) ∙ e)
 
+-- Holds if `outer_at` reads the element of `apdu_type` and `contents`, with its size, before `more`.
 abbrev OuterAgain : ApduType → List ℕ → List ℕ → Type 0
 OuterAgain apdu_type contents more =
     (at : ℕ) × (outer_at (element (identifier_of apdu_type) contents ++ more) ≡ Ok (record { apdu_type = apdu_type; inside = cursor_at at contents; size = length (element (identifier_of apdu_type) contents) }))
 
+-- `outer_behind` reads `contents` after the length octets, whatever follows, if they are at most 355.
 outer_by_again : (apdu_type : ApduType) (octets contents more : List ℕ) → length contents ≤ 355
     → outer_behind apdu_type (Definite (length contents) (length octets)) (octets ++ (contents ++ more))
     ≡ Ok (record { apdu_type = apdu_type; inside = cursor_at (1 + length octets) contents; size = 1 + (length octets + length contents) })
@@ -400,6 +469,7 @@ outer_by_again apdu_type octets contents more small =
     ap (take (length contents)) (drop_at octets (contents ++ more) (length octets) refl) ∙ take_at contents more (length contents) refl in
     rw (short, enough, inside) refl
 
+-- `outer_at` reads an APDU of at most 355 contents octets from its encoding, whatever follows.
 outer_again : (apdu_type : ApduType) (contents more : List ℕ) → length contents ≤ 355 → OuterAgain apdu_type contents more
 unfolding element
 outer_again apdu_type contents more small =
@@ -411,7 +481,9 @@ outer_again apdu_type contents more small =
     rw (type_again apdu_type, append_assoc octets contents more, length_again (length contents) (contents ++ more) (omega arith)) (rw (← size) (outer_by_again apdu_type octets contents more small)) in
     (1 + length octets, outer_is identifier behind ∙ read)
 
-outer_by_short : (apdu_type : ApduType) (form : LengthForm) (bytes : List ℕ) (n : ℕ) → IsFew form (length bytes) → outer_behind apdu_type form bytes ≡ Err (Short n) → (n ≡ length bytes + 1) × (length bytes ≤ 357)
+-- If `outer_behind` is `Short n`, `n` is the number of `bytes` and the identifier, and `bytes` are at most 357.
+outer_by_short : (apdu_type : ApduType) (form : LengthForm) (bytes : List ℕ) (n : ℕ) → IsFew form (length bytes)
+    → outer_behind apdu_type form bytes ≡ Err (Short n) → (n ≡ length bytes + 1) × (length bytes ≤ 357)
 outer_by_short apdu_type Truncated bytes n few e = (sym (short_is (length bytes + 1) n e), omega arith)
 outer_by_short apdu_type Invalid bytes n few e = absurd (length_inside 1 (Short n) e)
 outer_by_short apdu_type (Definite m octets) bytes n few e =
@@ -423,10 +495,13 @@ outer_by_short apdu_type (Definite m octets) bytes n few e =
       ]
     ]
 
-outer_of_short : (o : Option ApduType) (bytes : List ℕ) (n : ℕ) → outer_of o bytes ≡ Err (Short n) → (n ≡ length bytes + 1) × (length bytes ≤ 357)
+-- If `outer_of` is `Short n`, `n` is the number of `bytes` and the identifier, and `bytes` are at most 357.
+outer_of_short : (o : Option ApduType) (bytes : List ℕ) (n : ℕ) → outer_of o bytes ≡ Err (Short n)
+    → (n ≡ length bytes + 1) × (length bytes ≤ 357)
 outer_of_short None bytes n e = absurd (tag_inside 0 (Short n) e)
 outer_of_short (Some apdu_type) bytes n e = outer_by_short apdu_type (length_of bytes) bytes n (length_few bytes) e
 
+-- If `outer_at bytes` is `Short n`, `n` is the number of `bytes`, which is at most 358.
 outer_short : (bytes : List ℕ) (n : ℕ) → outer_at bytes ≡ Err (Short n) → (n ≡ length bytes) × (length bytes ≤ 358)
 outer_short [] n e = (sym (short_is 0 n (sym outer_none ∙ e)), omega arith)
 outer_short (first ∷ bytes) n e =
@@ -435,11 +510,13 @@ outer_short (first ∷ bytes) n e =
 
 -- ---- whole APDUs
 
+-- Holds if `bytes` is the encoding of `apdu`, which is in range, and then `rest`.
 abbrev IsAtFront : List ℕ → Apdu → List ℕ → Type 0
 IsAtFront bytes apdu rest = IsApdu apdu × (bytes ≡ spelling apdu ++ rest)
 
--- what is read at the front of bytes is spelled there
-pub apdu_takes : Values → (bytes : List ℕ) (apdu : Apdu) (rest : List ℕ) → IsBytes bytes → apdu_at bytes ≡ Ok (apdu, rest) → IsApdu apdu × (bytes ≡ spelling apdu ++ rest)
+-- If `apdu_at` reads `apdu` from `bytes`, `bytes` is the encoding of `apdu`, which is in range, and then `rest`.
+pub apdu_takes : Values → (bytes : List ℕ) (apdu : Apdu) (rest : List ℕ) → IsBytes bytes
+    → apdu_at bytes ≡ Ok (apdu, rest) → IsApdu apdu × (bytes ≡ spelling apdu ++ rest)
 unfolding apdu_at spelling
 apdu_takes values bytes apdu rest fits e =
     let outer = bind_ok (outer_at bytes) (λ outer. inside_of outer.apdu_type outer.inside >>= λ apdu. Ok (apdu, drop outer.size bytes)) (apdu, rest) e in
@@ -454,7 +531,7 @@ apdu_takes values bytes apdu rest fits e =
     ∙ ap (λ (k : ApduType). element (identifier_of k) (contents_of inner.0) ++ drop size bytes) (sym inside.2) in
     subst (λ (x : Apdu × List ℕ). IsAtFront bytes x.0 x.1) both (inside.1, parts)
 
--- a spelling is read again, whatever follows it
+-- `apdu_at` reads each APDU in range from its encoding, whatever follows.
 pub apdu_again : Values → (apdu : Apdu) (rest : List ℕ) → IsApdu apdu → apdu_at (spelling apdu ++ rest) ≡ Ok (apdu, rest)
 unfolding apdu_at spelling
 apdu_again values apdu rest is =
@@ -464,7 +541,7 @@ apdu_again values apdu rest is =
     let behind : drop (length text) (text ++ rest) ≡ rest = drop_at text rest (length text) refl in
     rw (outer.1, inner, behind) refl
 
--- short bytes are fewer than the longest APDU has, and the fault has their number
+-- If `apdu_at bytes` is `Short n`, `n` is the number of `bytes`, which is at most 358.
 pub apdu_short : Values → (bytes : List ℕ) (n : ℕ) → apdu_at bytes ≡ Err (Short n) → (n ≡ length bytes) × (length bytes ≤ 358)
 unfolding apdu_at
 apdu_short values bytes n e =
@@ -476,7 +553,9 @@ apdu_short values bytes n e =
       ]
     ]
 
-outer_by_memory : (apdu_type : ApduType) (form : LengthForm) (bytes : List ℕ) → outer_behind apdu_type form bytes ≡ Err OutOfMemory → ⊥
+-- The fault of `outer_behind` is never OutOfMemory.
+outer_by_memory : (apdu_type : ApduType) (form : LengthForm) (bytes : List ℕ)
+    → outer_behind apdu_type form bytes ≡ Err OutOfMemory → ⊥
 outer_by_memory apdu_type Truncated bytes e = short_or_memory (length bytes + 1) e
 outer_by_memory apdu_type Invalid bytes e = length_inside 1 OutOfMemory e
 outer_by_memory apdu_type (Definite m octets) bytes e =
@@ -488,15 +567,17 @@ outer_by_memory apdu_type (Definite m octets) bytes e =
       ]
     ]
 
+-- The fault of `outer_of` is never OutOfMemory.
 outer_of_memory : (o : Option ApduType) (bytes : List ℕ) → outer_of o bytes ≡ Err OutOfMemory → ⊥
 outer_of_memory None bytes e = tag_inside 0 OutOfMemory e
 outer_of_memory (Some apdu_type) bytes e = outer_by_memory apdu_type (length_of bytes) bytes e
 
+-- The fault of `outer_at` is never OutOfMemory.
 outer_memory : (bytes : List ℕ) → outer_at bytes ≡ Err OutOfMemory → ⊥
 outer_memory [] e = short_or_memory 0 (sym outer_none ∙ e)
 outer_memory (first ∷ bytes) e = outer_of_memory (type_with first) bytes (sym (outer_is first bytes) ∙ e)
 
--- no bytes have want of memory as their fault
+-- The fault of `apdu_at` is never OutOfMemory.
 pub apdu_memory : Values → (bytes : List ℕ) → apdu_at bytes ≡ Err OutOfMemory → ⊥
 unfolding apdu_at
 apdu_memory values bytes e =
@@ -510,23 +591,30 @@ apdu_memory values bytes e =
 
 -- ---- bytes followed by anything
 
+-- Holds of a length that is not truncated: further bytes cannot change it.
 abbrev pub IsFinal : LengthForm → Type 0
 IsFinal Truncated = ⊥
 IsFinal Invalid = Unit {0}
 IsFinal (Definite n octets) = Unit {0}
 
-form_of_one : (short one two : Bool) (x y z w : LengthForm) → IsFinal (cond short x (cond one Truncated (cond two Truncated w))) → cond short x (cond one y (cond two z w)) ≡ cond short x (cond one Truncated (cond two Truncated w))
+-- A choice that is final with Truncated for its cases `one` and `two` stays when these become `y` and `z`.
+form_of_one : (short one two : Bool) (x y z w : LengthForm)
+    → IsFinal (cond short x (cond one Truncated (cond two Truncated w)))
+    → cond short x (cond one y (cond two z w)) ≡ cond short x (cond one Truncated (cond two Truncated w))
 form_of_one true one two x y z w final = refl
 form_of_one false true two x y z w final = absurd final
 form_of_one false false true x y z w final = absurd final
 form_of_one false false false x y z w final = refl
 
-form_of_two : (short one two : Bool) (x y z w : LengthForm) → IsFinal (cond short x (cond one y (cond two Truncated w))) → cond short x (cond one y (cond two z w)) ≡ cond short x (cond one y (cond two Truncated w))
+-- A choice that is final with Truncated for its case `two` stays when this becomes `z`.
+form_of_two : (short one two : Bool) (x y z w : LengthForm) → IsFinal (cond short x (cond one y (cond two Truncated w)))
+    → cond short x (cond one y (cond two z w)) ≡ cond short x (cond one y (cond two Truncated w))
 form_of_two true one two x y z w final = refl
 form_of_two false true two x y z w final = refl
 form_of_two false false true x y z w final = absurd final
 form_of_two false false false x y z w final = refl
 
+-- If the length that begins `bytes` is final, it begins `bytes ++ more` too.
 pub length_more : (bytes more : List ℕ) → IsFinal (length_of bytes) → length_of (bytes ++ more) ≡ length_of bytes
 unfolding length_of
 length_more [] more final = absurd final
@@ -536,13 +624,16 @@ length_more (first ∷ second ∷ []) more final =
     form_of_two (ltb first 128) (eqb first 0x81) (eqb first 0x82) (Definite first 1) (one_octet_length (second ∷ [])) (two_octet_length (second ∷ more)) Invalid final
 length_more (first ∷ second ∷ third ∷ rest) more final = refl
 
--- the same contents are taken, whatever follows them
-same_contents : (n octets : ℕ) (bytes more : List ℕ) → octets + n ≤ length bytes → take n (drop octets (bytes ++ more)) ≡ take n (drop octets bytes)
+-- If `bytes` has all `n` contents octets after `octets` length octets, they stay, whatever follows.
+same_contents : (n octets : ℕ) (bytes more : List ℕ) → octets + n ≤ length bytes
+    → take n (drop octets (bytes ++ more)) ≡ take n (drop octets bytes)
 same_contents n octets bytes more enough =
     ap (take n) (drop-append-le octets bytes more (omega arith)) ∙ take-append-le n (drop octets bytes) more (omega (arith, length-drop octets bytes))
 
--- an APDU that is all there stays so
-outer_by_more : (apdu_type : ApduType) (form : LengthForm) (bytes more : List ℕ) (outer : Outer) → outer_behind apdu_type form bytes ≡ Ok outer → IsFinal form × (outer_behind apdu_type form (bytes ++ more) ≡ Ok outer)
+-- If `outer_behind` reads `outer` from `bytes`, the length is final, and `outer` is read from `bytes ++ more`.
+outer_by_more : (apdu_type : ApduType) (form : LengthForm) (bytes more : List ℕ) (outer : Outer)
+    → outer_behind apdu_type form bytes ≡ Ok outer
+    → IsFinal form × (outer_behind apdu_type form (bytes ++ more) ≡ Ok outer)
 outer_by_more apdu_type Truncated bytes more outer e = absurd cc
 outer_by_more apdu_type Invalid bytes more outer e = absurd cc
 outer_by_more apdu_type (Definite n octets) bytes more outer e =
@@ -552,19 +643,25 @@ outer_by_more apdu_type (Definite n octets) bytes more outer e =
     let longer : ltb (length (bytes ++ more)) (octets + n) ≡ false = le-ltb _ _ (omega (arith, length-append bytes more)) in
     (tt, rw (small.0, longer, same_contents n octets bytes more enough) whole.1)
 
-outer_of_more : (first : ℕ) (o : Option ApduType) (bytes more : List ℕ) (outer : Outer) → outer_of o bytes ≡ Ok outer → outer_of o (bytes ++ more) ≡ Ok outer
+-- If `outer_of` reads `outer` from `bytes`, it reads `outer` from `bytes ++ more`.
+outer_of_more : (first : ℕ) (o : Option ApduType) (bytes more : List ℕ) (outer : Outer) → outer_of o bytes ≡ Ok outer
+    → outer_of o (bytes ++ more) ≡ Ok outer
 outer_of_more first None bytes more outer e = absurd cc
 outer_of_more first (Some apdu_type) bytes more outer e =
     let is = outer_by_more apdu_type (length_of bytes) bytes more outer e in
     ap (λ (form : LengthForm). outer_behind apdu_type form (bytes ++ more)) (length_more bytes more is.0) ∙ is.1
 
+-- If `outer_at` reads `outer` from `bytes`, it reads `outer` from `bytes ++ more`.
 outer_more : (bytes more : List ℕ) (outer : Outer) → outer_at bytes ≡ Ok outer → outer_at (bytes ++ more) ≡ Ok outer
 outer_more [] more outer e = absurd (no_value (Short 0) outer (sym e ∙ outer_none))
-outer_more (first ∷ bytes) more outer e = outer_is first (bytes ++ more) ∙ outer_of_more first (type_with first) bytes more outer (sym (outer_is first bytes) ∙ e)
+outer_more (first ∷ bytes) more outer e =
+    outer_is first (bytes ++ more) ∙ outer_of_more first (type_with first) bytes more outer (sym (outer_is first bytes) ∙ e)
 
--- a fault other than Short stays, whatever follows
-outer_by_stays : (apdu_type : ApduType) (form : LengthForm) (bytes more : List ℕ) (d : DerFault) → IfShort d ⊥ → outer_behind apdu_type form bytes ≡ Err d → IsFinal form × (outer_behind apdu_type form (bytes ++ more) ≡ Err d)
-outer_by_stays apdu_type Truncated bytes more d other e = absurd (subst (λ (f : DerFault). IfShort f ⊥) (sym (fault_is (Short (length bytes + 1)) d e)) other)
+-- If `outer_behind` has a fault other than Short, the length is final, and `bytes ++ more` has the fault.
+outer_by_stays : (apdu_type : ApduType) (form : LengthForm) (bytes more : List ℕ) (d : DerFault) → IfShort d ⊥
+    → outer_behind apdu_type form bytes ≡ Err d → IsFinal form × (outer_behind apdu_type form (bytes ++ more) ≡ Err d)
+outer_by_stays apdu_type Truncated bytes more d other e =
+    absurd (subst (λ (f : DerFault). IfShort f ⊥) (sym (fault_is (Short (length bytes + 1)) d e)) other)
 outer_by_stays apdu_type Invalid bytes more d other e = (tt, e)
 outer_by_stays apdu_type (Definite n octets) bytes more d other e =
     elim (chosen (ltb 355 n) (Err (Length 1)) (cond (ltb (length bytes) (octets + n)) (Err (Short (length bytes + 1))) (Ok (outer_with apdu_type n octets bytes))) (Err d) e) [
@@ -575,16 +672,22 @@ outer_by_stays apdu_type (Definite n octets) bytes more d other e =
       ]
     ]
 
-outer_of_stays : (o : Option ApduType) (bytes more : List ℕ) (d : DerFault) → IfShort d ⊥ → outer_of o bytes ≡ Err d → outer_of o (bytes ++ more) ≡ Err d
+-- If `outer_of` has a fault of `bytes` other than Short, it has that fault of `bytes ++ more`.
+outer_of_stays : (o : Option ApduType) (bytes more : List ℕ) (d : DerFault) → IfShort d ⊥ → outer_of o bytes ≡ Err d
+    → outer_of o (bytes ++ more) ≡ Err d
 outer_of_stays None bytes more d other e = e
 outer_of_stays (Some apdu_type) bytes more d other e =
     let is = outer_by_stays apdu_type (length_of bytes) bytes more d other e in
     ap (λ (form : LengthForm). outer_behind apdu_type form (bytes ++ more)) (length_more bytes more is.0) ∙ is.1
 
+-- If `outer_at` has a fault of `bytes` other than Short, it has that fault of `bytes ++ more`.
 outer_stays : (bytes more : List ℕ) (d : DerFault) → IfShort d ⊥ → outer_at bytes ≡ Err d → outer_at (bytes ++ more) ≡ Err d
-outer_stays [] more d other e = absurd (subst (λ (f : DerFault). IfShort f ⊥) (sym (fault_is (Short 0) d (sym outer_none ∙ e))) other)
-outer_stays (first ∷ bytes) more d other e = outer_is first (bytes ++ more) ∙ outer_of_stays (type_with first) bytes more d other (sym (outer_is first bytes) ∙ e)
+outer_stays [] more d other e =
+    absurd (subst (λ (f : DerFault). IfShort f ⊥) (sym (fault_is (Short 0) d (sym outer_none ∙ e))) other)
+outer_stays (first ∷ bytes) more d other e =
+    outer_is first (bytes ++ more) ∙ outer_of_stays (type_with first) bytes more d other (sym (outer_is first bytes) ∙ e)
 
+-- If `bytes` has a fault other than Short, `bytes ++ more` has it.
 pub fault_stays : (bytes more : List ℕ) (d : DerFault) → IfShort d ⊥ → apdu_at bytes ≡ Err d → apdu_at (bytes ++ more) ≡ Err d
 unfolding apdu_at
 fault_stays bytes more d other e =

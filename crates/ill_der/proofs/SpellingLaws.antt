@@ -1,4 +1,4 @@
--- The laws of spellings, from reading.
+-- The laws of encodings, which follow from those of reading.
 use Rattle.std.proofs.Common.{◌≡◌, ℕ, zero, suc, ◌<◌, ◌≤◌, get_or, true, List, [], ◌++◌, length, Some, Result, Ok, Err, refl, sym, ap, ◌∙◌, arith}
 use Rattle.std.proofs.Math.ListN.{replicate}
 use Rattle.std.proofs.lemmas.List.{append-nil}
@@ -23,23 +23,27 @@ use Rattle.ill_der.proofs.Sizes.{element_length}
 use Rattle.ill_der.proofs.ContentsLaws.{Values}
 use Rattle.ill_der.proofs.ShortFormLaws.{apdu_takes, apdu_again, apdu_memory, contents_bound, short_contents}
 
--- an APDU is read from its spelling, as the law says
+-- The law of reading again: `apdu_at` reads each APDU in range from its encoding, whatever follows.
 abbrev pub ReadsAgain : Type 0
 ReadsAgain = (apdu : Apdu) (rest : List ℕ) → IsApdu apdu → apdu_at (spelling apdu ++ rest) ≡ Ok (apdu, rest)
 
+-- `apdu_at` reads each APDU in range from its encoding alone, and leaves no bytes.
 read_alone : ReadsAgain → (apdu : Apdu) → IsApdu apdu → apdu_at (spelling apdu) ≡ Ok (apdu, [])
 read_alone again apdu is = ap apdu_at (sym (append-nil (spelling apdu))) ∙ again apdu [] is
 
+-- If two APDUs in range have equal encodings, they are equal.
 pub one_apdu : ReadsAgain → (a b : Apdu) → IsApdu a → IsApdu b → spelling a ≡ spelling b → a ≡ b
 one_apdu again a b first second e =
     let both : (a, []) ≡ (b, []) = ok_is (a, []) (b, []) (sym (read_alone again a first) ∙ ap apdu_at e ∙ read_alone again b second) in
     ap (λ (x : Apdu × List ℕ). x.0) both
 
+-- If the encoding of `b` is that of `a` and then `rest`, `rest` is empty.
 pub no_prefix : ReadsAgain → (a b : Apdu) (rest : List ℕ) → IsApdu a → IsApdu b → spelling b ≡ spelling a ++ rest → rest ≡ []
 no_prefix again a b rest first second e =
     let both : (a, rest) ≡ (b, []) = ok_is (a, rest) (b, []) (sym (again a rest first) ∙ ap apdu_at (sym e) ∙ read_alone again b second) in
     ap (λ (x : Apdu × List ℕ). x.1) both
 
+-- The encoding of an APDU in range has at most 359 bytes.
 pub spelled_most : Values → (apdu : Apdu) → IsApdu apdu → length (spelling apdu) ≤ 359
 unfolding spelling
 spelled_most values apdu is =
@@ -47,6 +51,7 @@ spelled_most values apdu is =
     let bound = contents_bound values apdu is in
     omega (arith, element_length (identifier_of (type_of apdu.body)) contents, few_octets (length contents) 355 bound, bound)
 
+-- The encoding of an APDU in range that is no ILL-Request has at most 162 bytes.
 pub spelled_shorter : Values → (apdu : Apdu) → IsApdu apdu → (type_of apdu.body ≡ IllRequest → ⊥) → length (spelling apdu) ≤ 162
 unfolding spelling
 spelled_shorter values apdu is other =
@@ -56,7 +61,9 @@ spelled_shorter values apdu is other =
 
 -- ---- bytes of any kind
 
-begins_with_one : Values → (bytes : List ℕ) (read : Result (Apdu × List ℕ) DerFault) → IsBytes bytes → apdu_at bytes ≡ read → BeginsWithOne bytes read
+-- If `apdu_at bytes` is `read`, `bytes` begins with the one APDU of `read`, or with none if `read` is a fault.
+begins_with_one : Values → (bytes : List ℕ) (read : Result (Apdu × List ℕ) DerFault) → IsBytes bytes
+    → apdu_at bytes ≡ read → BeginsWithOne bytes read
 begins_with_one values bytes (Ok found) fits e =
     let takes = apdu_takes values bytes found.0 found.1 fits e in
     (takes, λ apdu rest begins. ok_is (apdu, rest) found (sym (apdu_again values apdu rest begins.0) ∙ ap apdu_at (sym begins.1) ∙ e))
@@ -65,35 +72,44 @@ begins_with_one values bytes (Err fault) fits e = (
   λ apdu rest begins. no_value fault (apdu, rest) (sym (apdu_again values apdu rest begins.0) ∙ ap apdu_at (sym begins.1) ∙ e),
 )
 
+-- `bytes` begins with the one APDU that `apdu_at` reads, or with none if there is a fault.
 pub prefix_or_fault : Values → (bytes : List ℕ) → IsBytes bytes → BeginsWithOne bytes (apdu_at bytes)
 prefix_or_fault values bytes fits = begins_with_one values bytes (apdu_at bytes) fits refl
 
 -- ---- a longest APDU
 
+-- An item of 200 bytes, the most that one has.
 longest_item : List ℕ
 longest_item = replicate 200 0x4D
 
+-- Each element of a list of copies of 4D is below 128.
 same_ascii : (n i : ℕ) → get_or (replicate n 0x4D) i 0 < 128
 same_ascii zero i = omega arith
 same_ascii (suc n) zero = omega arith
 same_ascii (suc n) (suc i) = same_ascii n i
 
+-- `longest_item` is an item.
 longest_item_is : IsItem longest_item
 unfolding longest_item
 longest_item_is = let text : is_utf8 (replicate 200 0x4D) ≡ true = is_utf8-from_IsUtf8 (replicate 200 0x4D) (IsUtf8-from_ascii (replicate 200 0x4D) (same_ascii 200)) in rw text refl
 
+-- A transaction id with two qualifiers of 64 bytes, the most that one has.
 abbrev longest_txn : Qualifiers
 longest_txn = record { group = replicate 64 0x47; transaction = replicate 64 0x54 }
 
+-- 31 December 9999, the last day in range.
 abbrev last_day : Date
 last_day = record { year = 9999; month = 12; day = 31 }
 
+-- `last_day` is in range.
 last_day_is : IsDate last_day
 last_day_is = record { from_1900 = omega arith; to_9999 = omega arith; from_january = omega arith; to_december = omega arith; from_first = omega arith; to_last = omega arith }
 
+-- An ILL-Request whose fields all have their greatest size.
 longest_apdu : Apdu
 longest_apdu = record { txn = longest_txn; number = 255; body = bodies.IllRequest (Some last_day) longest_item }
 
+-- `longest_apdu` is in range.
 longest_is : IsApdu longest_apdu
 unfolding longest_apdu
 longest_is = record {
@@ -102,13 +118,16 @@ longest_is = record {
   body = (last_day_is, longest_item_is);
 }
 
+-- The encoding of some APDU in range has 359 bytes.
 pub longest_reached : (apdu : Apdu) × IsApdu apdu × (length (spelling apdu) ≡ 359)
 unfolding longest_apdu longest_item spelling element length_octets
 longest_reached = (longest_apdu, longest_is, refl)
 
+-- A Renew-Answer whose fields all have their greatest size.
 longest_other : Apdu
 longest_other = record { txn = longest_txn; number = 255; body = bodies.RenewAnswer 255 (Some last_day) }
 
+-- `longest_other` is in range.
 longest_other_is : IsApdu longest_other
 unfolding longest_other
 longest_other_is = record {
@@ -117,6 +136,7 @@ longest_other_is = record {
   body = ((omega arith, omega arith), last_day_is);
 }
 
+-- The encoding of some APDU in range that is no ILL-Request has 162 bytes.
 pub shorter_reached : (apdu : Apdu) × IsApdu apdu × (type_of apdu.body ≡ IllRequest → ⊥) × (length (spelling apdu) ≡ 162)
 unfolding longest_other spelling element length_octets
 shorter_reached = (longest_other, longest_other_is, λ e. cc, refl)

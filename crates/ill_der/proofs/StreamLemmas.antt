@@ -14,19 +14,23 @@ use Rattle.ill_der.specs.Laws.{IsBytes}
 use Rattle.ill_der.proofs.ContentsLaws.{Values}
 use Rattle.ill_der.proofs.ShortFormLaws.{apdu_takes, apdu_again, apdu_memory}
 
--- ---- what decoding a front says
+-- ---- the consequences of decoding
 
-decodes_ok : (bytes : List ℕ) (read : Result (Apdu × List ℕ) DerFault) (found : Apdu × ℕ) → Decodes bytes read (Ok found) → read ≡ Ok (found.0, drop found.1 bytes)
+-- If decoding gives `found`, `read` is its APDU and the bytes after the first `found.1`.
+decodes_ok : (bytes : List ℕ) (read : Result (Apdu × List ℕ) DerFault) (found : Apdu × ℕ)
+    → Decodes bytes read (Ok found) → read ≡ Ok (found.0, drop found.1 bytes)
 decodes_ok bytes (Ok x) found h = ap Ok h.1
 decodes_ok bytes (Err fault) found h = absurd cc
 
+-- If decoding has `fault`, either `read` has it, or memory ran out and `read` has an APDU.
 pub decodes_err : (bytes : List ℕ) (read : Result (Apdu × List ℕ) DerFault) (fault : DerFault) → Decodes bytes read (Err fault)
     → (read ≡ Err fault) ⊎ ((fault ≡ OutOfMemory) × ((x : Apdu × List ℕ) × (read ≡ Ok x)))
 decodes_err bytes (Ok x) fault h = inr (h, (x, refl))
 decodes_err bytes (Err f) fault h = inl (let e : f ≡ fault = cc in ap Err e)
 
--- all of the bytes are the APDU, where each shorter front is unfinished
-exact : Values → (bytes rest : List ℕ) (apdu : Apdu) → IsBytes bytes → AreUnfinished bytes → apdu_at bytes ≡ Ok (apdu, rest) → IsApdu apdu × (bytes ≡ spelling apdu)
+-- If the proper prefixes of `bytes` are unfinished, and `apdu_at` reads `apdu`, all of `bytes` is its encoding.
+exact : Values → (bytes rest : List ℕ) (apdu : Apdu) → IsBytes bytes → AreUnfinished bytes
+    → apdu_at bytes ≡ Ok (apdu, rest) → IsApdu apdu × (bytes ≡ spelling apdu)
 exact values bytes [] apdu fits fronts e =
     let taken = apdu_takes values bytes apdu [] fits e in
     (taken.0, taken.1 ∙ append-nil (spelling apdu))
@@ -38,17 +42,25 @@ exact values bytes (x ∷ rest) apdu fits fronts e =
     let again : apdu_at text ≡ Ok (apdu, []) = ap apdu_at (sym (append-nil text)) ∙ apdu_again values apdu [] taken.0 in
     absurd (no_value (Short (length (take (length text) bytes))) (apdu, []) (sym again ∙ ap apdu_at (sym front) ∙ fronts (length text) longer))
 
-pub spelled_exactly : Values → (bytes : List ℕ) (found : Apdu × ℕ) → IsBytes bytes → AreUnfinished bytes → Decodes bytes (apdu_at bytes) (Ok found) → IsApdu found.0 × (bytes ≡ spelling found.0)
-spelled_exactly values bytes found fits fronts h = exact values bytes (drop found.1 bytes) found.0 fits fronts (decodes_ok bytes (apdu_at bytes) found h)
+-- If the proper prefixes of `bytes` are unfinished, and decoding gives an APDU, all of `bytes` is its encoding.
+pub spelled_exactly : Values → (bytes : List ℕ) (found : Apdu × ℕ) → IsBytes bytes → AreUnfinished bytes
+    → Decodes bytes (apdu_at bytes) (Ok found) → IsApdu found.0 × (bytes ≡ spelling found.0)
+spelled_exactly values bytes found fits fronts h =
+    exact values bytes (drop found.1 bytes) found.0 fits fronts (decodes_ok bytes (apdu_at bytes) found h)
 
-pub spelled_without_memory : Values → (bytes : List ℕ) → IsBytes bytes → AreUnfinished bytes → Decodes bytes (apdu_at bytes) (Err OutOfMemory) → SpellsOne bytes
+-- If the proper prefixes of `bytes` are unfinished, and memory ran out, `bytes` is the encoding of one APDU.
+pub spelled_without_memory : Values → (bytes : List ℕ) → IsBytes bytes → AreUnfinished bytes
+    → Decodes bytes (apdu_at bytes) (Err OutOfMemory) → SpellsOne bytes
 spelled_without_memory values bytes fits fronts h =
     elim (decodes_err bytes (apdu_at bytes) OutOfMemory h) [
       | inl e ↦ absurd (apdu_memory values bytes e)
       | inr e ↦ let is = exact values bytes e.1.0.1 e.1.0.0 fits fronts e.1.1 in (e.1.0.0, is.0, is.1)
     ]
 
--- ---- what was read
+-- ---- reads one after another
 
-pub consumes_nothing : (old middle new : Option (List ℕ)) (front : List ℕ) → Consumes old middle front → Consumes middle new [] → Consumes old new front
-consumes_nothing old middle new front first second = subst (Consumes old new) (append-nil front) (Consumes-trans old middle new front [] first second)
+-- If a reader gives `front` and then no bytes, it gives `front` in all.
+pub consumes_nothing : (old middle new : Option (List ℕ)) (front : List ℕ) → Consumes old middle front
+    → Consumes middle new [] → Consumes old new front
+consumes_nothing old middle new front first second =
+    subst (Consumes old new) (append-nil front) (Consumes-trans old middle new front [] first second)

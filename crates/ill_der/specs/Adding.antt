@@ -1,7 +1,7 @@
--- Text that is added behind bytes.
+-- A text that is appended to bytes in part.
 use Rattle.std.specs.Prelude.{◌≡◌, ℕ, ◌<◌, List, ◌++◌, length}
 
--- A front of a text was added behind bytes, or none of it, but never all: the bytes before stay.
+-- Holds if `new` is `old` and a proper prefix of `text`, which may be empty.
 pub record AddsFront (old new text : List ℕ) : Type 0 where
   pub front : List ℕ
   pub rest : List ℕ

@@ -8,50 +8,55 @@ use Rattle.ill_values.specs.Day.{Date, date_text, read_date}
 use Rattle.ill_values.specs.Results.{all_results}
 use Rattle.ill_values.specs.Text.{qualifier_check, item_check}
 
--- how one kind of contents stands for values: the contents of a value, and the value of contents
+-- Describes one kind of contents: `spell` encodes a value, and `read` reads a value from all octets.
 pub record Contents (V : Type 0) : Type 0 where
   pub spell : V → List ℕ
   pub read : List ℕ → Option V
 
--- an INTEGER of one or two octets, minimal in two's complement (X.690 8.3): 1 to 255
+-- Returns the number `n`, 1 to 255, as a minimal INTEGER in two's complement: one or two octets (X.690 8.3).
 abbrev pub number_octets : ℕ → List ℕ
 number_octets n = if nat_lt n 128 then n ∷ [] else 0 ∷ n ∷ []
 
+-- Returns the number from 1 to 255 that the octets are, if they are its minimal INTEGER.
 abbrev pub number_from : List ℕ → Option ℕ
 number_from [] = None
 number_from (n ∷ []) = if nat_le 1 n && nat_lt n 128 then Some n else None
 number_from (high ∷ n ∷ []) = if (high == 0) && nat_le 128 n then Some n else None
 number_from (high ∷ n ∷ more ∷ rest) = None
 
+-- The contents of a number: an INTEGER.
 abbrev pub number : Contents ℕ
 number = record { spell = number_octets; read = number_from }
 
--- version 1 of this profile: the one octet 01
+-- Returns the version if `bytes` is the one octet 01: this profile has version 1 alone.
 abbrev pub version_from : List ℕ → Option (Unit {0})
 version_from bytes = if bytes_eq bytes (1 ∷ []) then Some tt else None
 
+-- The contents of the version: the one octet 01.
 abbrev pub version : Contents (Unit {0})
 version = record { spell = λ _. 1 ∷ []; read = version_from }
 
--- a qualifier, as its own bytes
+-- Returns `bytes` if it is a qualifier.
 abbrev pub qualifier_from : List ℕ → Option (List ℕ)
 qualifier_from bytes = if is_ok (qualifier_check bytes) then Some bytes else None
 
+-- The contents of a qualifier: its own bytes.
 abbrev pub qualifier : Contents (List ℕ)
 qualifier = record { spell = λ text. text; read = qualifier_from }
 
--- an item, as its own bytes
+-- Returns `bytes` if it is an item.
 abbrev pub item_from : List ℕ → Option (List ℕ)
 item_from bytes = if is_ok (item_check bytes) then Some bytes else None
 
+-- The contents of an item: its own bytes.
 abbrev pub item : Contents (List ℕ)
 item = record { spell = λ text. text; read = item_from }
 
--- a day, as its date text
+-- The contents of a day: its date text.
 abbrev pub date : Contents Date
 date = record { spell = date_text; read = λ bytes. result_ok (read_date bytes) }
 
--- the octet of a result (this profile's own)
+-- Returns the octet of a result (this profile's own).
 abbrev pub code_of : AnswerResult → ℕ
 code_of Conditional = 1
 code_of Retry = 2
@@ -61,20 +66,23 @@ code_of WillSupply = 5
 code_of HoldPlaced = 6
 code_of Estimate = 7
 
+-- Returns the result with this one octet, if there is one.
 abbrev pub result_from : List ℕ → Option AnswerResult
 result_from [] = None
 result_from (code ∷ []) = find (λ result. code == code_of result) all_results
 result_from (code ∷ more ∷ rest) = None
 
+-- The contents of a result: its octet.
 abbrev pub answer_result : Contents AnswerResult
 answer_result = record { spell = λ result. code_of result ∷ []; read = result_from }
 
--- a BOOLEAN: the octet 00 for no, and FF for yes (X.690 8.2, 11.1)
+-- Returns the value of a BOOLEAN: no for the one octet 00, and yes for FF (X.690 8.2, 11.1).
 abbrev pub yes_no_from : List ℕ → Option Bool
 yes_no_from [] = None
 yes_no_from (octet ∷ []) =
     if octet == 0 then Some false else (if octet == 0xFF then Some true else None)
 yes_no_from (octet ∷ more ∷ rest) = None
 
+-- The contents of a yes or no: a BOOLEAN.
 abbrev pub yes_no : Contents Bool
 yes_no = record { spell = λ is_yes. (if is_yes then 0xFF else 0) ∷ []; read = yes_no_from }

@@ -3,7 +3,7 @@ use Rattle.std.specs.Prelude.{ℕ, Option, Some, None}
 use Rattle.ill_der.specs.declared.fault.DerFault.{DerFault}
 use Rattle.ill_der.specs.declared.fault.DerFault.TheVariants.{Short, Tag, Length, Field, OutOfMemory}
 
--- the offset of a fault, if it has one; bytes that are short have it at their end
+-- Returns the offset of a fault, if it has one. The offset of Short is the end of the bytes.
 abbrev pub place_of : DerFault → Option ℕ
 place_of (Short at) = Some at
 place_of (Tag at) = Some at

@@ -10,51 +10,53 @@ use Rattle.ill_der.specs.declared.feed.Pushed.{Pushed}
 use Rattle.ill_der.specs.ShortForm.{spelling, apdu_at}
 use Rattle.ill_der.specs.Stream.{IsUnfinished, IfShort}
 
--- the bytes are the spellings of these APDUs, one behind another, and then the rest
+-- Holds if `bytes` is the encodings of `apdus`, which are in range, one after another, and then `rest`.
 pub record Begins (bytes : List ℕ) (apdus : List Apdu) (rest : List ℕ) : Type 0 where
   pub spelled : AllByRecursion IsApdu apdus
   pub parts : bytes ≡ flat_map spelling apdus ++ rest
 
--- a feed: the bytes that it holds, or the fault that closed it
+-- The state of a feed: the bytes that it holds, or the fault that closed it.
 abbrev pub Held : Type 0
 Held = Result (List ℕ) DerFault
 
--- What is left of a rest, behind which APDUs may stand: it is held while it is less than an APDU, and
--- its fault closes the feed.
+-- Holds if `rest`, which follows the APDUs of a push, leaves this feed.
+-- The feed holds a rest that is unfinished; any other fault of the rest closes the feed.
 abbrev pub Leaves : List ℕ → Held → Type 0
 Leaves rest (Ok held) = (held ≡ rest) × IsUnfinished rest
 Leaves rest (Err fault) = (apdu_at rest ≡ Err fault) × IfShort fault ⊥
 
--- A piece was pushed: what was held and the piece are the spellings of these APDUs and then a rest,
--- of which the feed is left. A closed feed gives nothing and stays closed.
+-- Holds if a push of `piece` gives `apdus` and the feed `new`.
+-- The bytes of an open feed and of `piece` are the APDUs and then a rest, which leaves `new`.
+-- A closed feed gives nothing and stays closed.
 abbrev pub Feeds : Held → List ℕ → List Apdu → Held → Type 0
 Feeds (Ok held) piece apdus new =
     (rest : List ℕ) × Begins (held ++ piece) apdus rest × Leaves rest new
 Feeds (Err fault) piece apdus new = (apdus ≡ []) × (new ≡ Err fault)
 
--- the fault that closed a feed, if one did
+-- Returns the fault that closed a feed, if one did.
 abbrev pub fault_of : Held → Option DerFault
 fault_of (Ok held) = None
 fault_of (Err fault) = Some fault
 
--- an open feed, and a piece with which its bytes begin with an APDU
+-- Holds if the feed is open, and an APDU begins the bytes that it holds and `piece`.
 abbrev pub HasApdu : Held → List ℕ → Type 0
 HasApdu (Ok held) piece = (apdu : Apdu) × (rest : List ℕ) × Begins (held ++ piece) (apdu ∷ []) rest
 HasApdu (Err fault) piece = ⊥
 
--- What a push gives: the APDUs and the fault that closed the feed. Memory is wanted only for an APDU, and
--- want of it changes nothing.
+-- Holds if a push gives its APDUs, the fault that closed the feed, if one did, and the feed `new`.
+-- Memory runs out only if an APDU begins the bytes of the feed and `piece`; the feed stays then.
 abbrev pub Pushes : Held → List ℕ → Result Pushed AllocError → Held → Type 0
 Pushes old piece (Ok pushed) new =
     Feeds old piece pushed.apdus.items new × (pushed.fault ≡ fault_of new)
 Pushes old piece (Err refused) new = (new ≡ old) × HasApdu old piece
 
--- whether the bytes may end here: between two APDUs, and not within one
+-- Returns success for an open feed that holds no bytes, between two APDUs.
+-- Otherwise the fault is Short with the number of held bytes, or the fault that closed the feed.
 abbrev pub end_of : Held → Result (Unit {0}) DerFault
 end_of (Ok held) = if length held == 0 then Ok tt else Err (Short (length held))
 end_of (Err fault) = Err fault
 
--- pieces were pushed, one after another, and gave these APDUs in all
+-- Holds if pushes of the pieces, one after another, give `apdus` in all, and the feed `new` at last.
 abbrev pub FeedsAll : Held → List (List ℕ) → List Apdu → Held → Type 0
 FeedsAll old [] apdus new = (apdus ≡ []) × (new ≡ old)
 FeedsAll old (piece ∷ pieces) apdus new =

@@ -1,5 +1,4 @@
--- Elements of DER, and fields that stand one after another: how they are spelled and how they are
--- read, in one description for both directions.
+-- Elements of DER, and fields one after another: one description for their encoding and their reading.
 use Rattle.std.specs.Prelude.{◌≡◌, ℕ, ◌+◌, ◌*◌, ◌/◌, ◌%◌, ◌≤◌, Bool, false, ◌==◌, nat_lt, if◌then◌else◌, List, [], ◌∷◌, ◌++◌, length, take, drop, Option, Some, None, is_some, Result, Ok, Err}
 use Rattle.ill_der.specs.declared.fault.DerFault.{DerFault}
 use Rattle.ill_der.specs.declared.fault.DerFault.TheVariants.{Tag, Length, Field}
@@ -7,7 +6,7 @@ use Rattle.ill_der.specs.declared.length.LengthForm.{LengthForm}
 use Rattle.ill_der.specs.declared.length.LengthForm.TheVariants.{Truncated, Invalid, Definite}
 use Rattle.ill_der.specs.Contents.{Contents}
 
--- one step after another, up to the first fault
+-- Passes the value of a step to `next`; the first fault stays.
 infixl 10 ◌>>=◌
 abbrev pub ◌>>=◌ : {E A B : Type 0} → Result A E → (A → Result B E) → Result B E
 (Ok value) >>= next = next value
@@ -15,25 +14,25 @@ abbrev pub ◌>>=◌ : {E A B : Type 0} → Result A E → (A → Result B E) �
 
 -- ---- lengths
 
--- the length octets of a number of contents octets, in the shortest form (X.690 8.1.3, 10.1)
+-- Returns the length octets of `n` contents octets, in the shortest form (X.690 8.1.3, 10.1).
 unfoldable pub length_octets : ℕ → List ℕ
 length_octets n =
     if nat_lt n 128 then n ∷ []
     else (if nat_lt n 256 then 0x81 ∷ n ∷ [] else 0x82 ∷ n / 256 ∷ n % 256 ∷ [])
 
--- what stands behind the octet 81: a length from 128 on
+-- Returns the length that the octets after 81 give: one octet, from 128 on.
 abbrev pub one_octet_length : List ℕ → LengthForm
 one_octet_length [] = Truncated
 one_octet_length (n ∷ rest) = if nat_lt n 128 then Invalid else Definite n 2
 
--- what stands behind the octet 82: a length from 256 on
+-- Returns the length that the octets after 82 give: two octets, from 256 on.
 abbrev pub two_octet_length : List ℕ → LengthForm
 two_octet_length [] = Truncated
 two_octet_length (high ∷ []) = Truncated
 two_octet_length (high ∷ low ∷ rest) = if high == 0 then Invalid else Definite (256 * high + low) 3
 
--- The length that octets begin with, and of how many octets it is. It is invalid where it is none of
--- the three shortest forms, and truncated where the octets end within it.
+-- Returns the length with which octets begin, and the number of its octets.
+-- It is Invalid if it has none of the three shortest forms, and Truncated if the octets end within it.
 unfoldable pub length_of : List ℕ → LengthForm
 length_of [] = Truncated
 length_of (first ∷ rest) =
@@ -41,7 +40,7 @@ length_of (first ∷ rest) =
     else (if first == 0x81 then one_octet_length rest
     else (if first == 0x82 then two_octet_length rest else Invalid))
 
--- a truncated length ends within two octets, and no length has more than three
+-- Holds if a truncated length has at most two bytes, and a definite one at most three octets.
 abbrev pub IsFew : LengthForm → ℕ → Type 0
 IsFew Truncated bytes = bytes ≤ 2
 IsFew Invalid bytes = Unit {0}
@@ -49,20 +48,20 @@ IsFew (Definite n octets) bytes = octets ≤ 3
 
 -- ---- elements
 
--- an element: its identifier octet, its length and its contents (X.690 8.1.1)
+-- Returns an element: its identifier octet, its length octets and its contents (X.690 8.1.1).
 unfoldable pub element : ℕ → List ℕ → List ℕ
 element identifier contents = identifier ∷ (length_octets (length contents) ++ contents)
 
--- What is left to read of an element: its bytes, and the place of the first of them, which is
--- counted from the first byte of the APDU.
+-- The bytes of an element that are left to read, and the offset of the first in the APDU.
 pub record Cursor : Type 0 where
   pub at : ℕ
   pub bytes : List ℕ
 
+-- Returns the cursor over `bytes`, the first of which has the offset `at`.
 abbrev pub cursor_at : ℕ → List ℕ → Cursor
 cursor_at at bytes = record { at = at; bytes = bytes }
 
--- the contents of the element whose identifier stands just before the bytes, and what follows it
+-- Splits the bytes after an identifier into the contents of its element and the bytes after it.
 abbrev pub contents_by : LengthForm → Cursor → Result (Cursor × Cursor) DerFault
 contents_by (Definite n octets) left =
     if nat_lt (length left.bytes) (octets + n) then Err (Length left.at)
@@ -73,35 +72,35 @@ contents_by (Definite n octets) left =
 contents_by Truncated left = Err (Length left.at)
 contents_by Invalid left = Err (Length left.at)
 
--- whether the element with this identifier stands here
+-- Returns true if the bytes begin with `identifier`.
 abbrev pub begins_with : ℕ → List ℕ → Bool
 begins_with identifier [] = false
 begins_with identifier (first ∷ rest) = first == identifier
 
--- the contents of the element with this identifier that must stand here, and what follows it
+-- Splits off the element with `identifier`, which must stand here: returns its contents and the bytes after it.
 unfoldable pub element_at : ℕ → Cursor → Result (Cursor × Cursor) DerFault
 element_at identifier left =
     if begins_with identifier left.bytes
     then contents_by (length_of (drop 1 left.bytes)) (cursor_at (left.at + 1) (drop 1 left.bytes))
     else Err (Tag left.at)
 
--- nothing is left
+-- Checks that no bytes are left. Otherwise the fault is Tag at the first.
 abbrev pub ended : Cursor → Result (Unit {0}) DerFault
 ended left = if length left.bytes == 0 then Ok tt else Err (Tag left.at)
 
 -- ---- descriptions of fields
 
--- how a value is spelled, and how it is read from what is left
+-- Describes fields: `spell` encodes a value, and `read` reads a value and returns the bytes after it.
 pub record Format (V : Type 0) : Type 0 where
   pub spell : V → List ℕ
   pub read : Cursor → Result (V × Cursor) DerFault
 
--- the value of contents, or the fault at the place of the first contents octet
+-- Returns the value of contents, or the fault Field at `at`, the offset of their first octet.
 abbrev pub value_of : {V : Type 0} → Option V → ℕ → Result V DerFault
 value_of (Some value) at = Ok value
 value_of None at = Err (Field at)
 
--- a primitive field that must stand
+-- Describes a primitive field that must stand.
 abbrev pub required : {V : Type 0} → ℕ → Contents V → Format V
 required identifier kind = record {
   spell = λ value. element identifier (kind.spell value);
@@ -109,11 +108,12 @@ required identifier kind = record {
       value_of (kind.read part.0.bytes) part.0.at >>= λ value. Ok (value, part.1);
 }
 
+-- Returns the encoding of a value, or no bytes if there is none.
 abbrev pub spell_some : {V : Type 0} → (V → List ℕ) → Option V → List ℕ
 spell_some spell None = []
 spell_some spell (Some value) = spell value
 
--- a primitive field that may stand
+-- Describes a primitive field that may stand.
 abbrev pub optional : {V : Type 0} → ℕ → Contents V → Format (Option V)
 optional identifier kind = record {
   spell = spell_some (required identifier kind).spell;
@@ -122,14 +122,14 @@ optional identifier kind = record {
       else Ok (None, left);
 }
 
--- fields, and then further fields
+-- Describes the fields of `first`, and after them those of `second`.
 abbrev pub followed_by : {V W : Type 0} → Format V → Format W → Format (V × W)
 followed_by first second = record {
   spell = λ value. first.spell value.0 ++ second.spell value.1;
   read = λ left. first.read left >>= λ a. second.read a.1 >>= λ b. Ok ((a.0, b.0), b.1);
 }
 
--- a yes or no, and behind a yes a further field
+-- Describes a yes or no, and after a yes a further field.
 abbrev pub where_yes : {V : Type 0} → Format Bool → Format V → Format (Option V)
 where_yes yes_no field = record {
   spell = λ o. yes_no.spell (is_some o) ++ spell_some field.spell o;
@@ -138,11 +138,11 @@ where_yes yes_no field = record {
       else Ok (None, is_yes.1);
 }
 
--- no field
+-- Describes no field.
 abbrev pub nothing : Format (Unit {0})
 nothing = record { spell = λ _. []; read = λ left. Ok (tt, left) }
 
--- a constructed field that must stand, with these fields and nothing else in it
+-- Describes a constructed field that must stand, with the fields of `inside` and nothing else in it.
 abbrev pub constructed : {V : Type 0} → ℕ → Format V → Format V
 constructed identifier inside = record {
   spell = λ value. element identifier (inside.spell value);
@@ -150,9 +150,9 @@ constructed identifier inside = record {
       ended found.1 >>= λ _. Ok (found.0, part.1);
 }
 
--- ---- what the code gives
+-- ---- the results of the code
 
--- A reader gave what reading gives, its value seen by view, and left the cursor where reading does.
+-- Holds if a reader gave the value of `read`, seen by `view`, and left the cursor there, or gave its fault.
 abbrev pub Reads : {X V : Type 0} → (X → V) → Result X DerFault → Cursor → Result (V × Cursor) DerFault →
     Type 0
 Reads view (Ok value) left read = read ≡ Ok (view value, left)

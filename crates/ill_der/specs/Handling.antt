@@ -1,34 +1,33 @@
--- What is done with APDUs, one after another. What is done with one of them is a relation: of the
--- state before, the APDU, whether it went well, and the state after.
+-- The handling of APDUs, one after another: a relation of two states, the APDU and the result.
 use Rattle.std.specs.Prelude.{◌≡◌, ℕ, List, [], ◌∷◌, ◌++◌, Option, Result, Ok, Err}
 use Rattle.ill_values.specs.declared.apdu.Apdu.{Apdu}
 use Rattle.ill_der.specs.declared.fault.DerFault.{DerFault}
 use Rattle.ill_der.specs.Feed.{Begins, Held, Feeds, fault_of}
 
--- what is done with an APDU
+-- A relation for one APDU: of the state before, the APDU, the result of handling it, and the state after.
 abbrev pub Handles : Type 0 → Type 0 → Type 1
 Handles S F = S → Apdu → Result (Unit {0}) F → S → Type 0
 
--- APDUs were handled, one after another, from a state to a state
+-- Holds if handling the APDUs with success, one after another, leads from `before` to `after`.
 abbrev pub Handled : {S F : Type 0} → Handles S F → S → List Apdu → S → Type 0
 Handled handles before [] after = after ≡ before
 Handled {S = S} handles before (apdu ∷ apdus) after =
     (next : S) × handles before apdu (Ok tt) next × Handled handles next apdus after
 
--- some APDUs at the front of the bytes were handled, and the next one failed
+-- Holds if APDUs that begin `bytes` were handled, and handling the next had `fault`.
 abbrev pub FailsIn : {S F : Type 0} → Handles S F → List ℕ → S → F → S → Type 0
 FailsIn {S = S} handles bytes before fault after =
     (apdus : List Apdu) × (apdu : Apdu) × (rest : List ℕ) × (state : S)
     × Begins bytes (apdus ++ apdu ∷ []) rest × Handled handles before apdus state
     × handles state apdu (Err fault) after
 
--- handling failed at one of the APDUs that a feed and a piece give; a closed feed gives none
+-- Holds if handling failed at an APDU of the bytes of an open feed and of `piece`.
 abbrev pub FailsAt : {S F : Type 0} → Handles S F → Held → List ℕ → S → F → S → Type 0
 FailsAt handles (Ok held) piece before fault after = FailsIn handles (held ++ piece) before fault after
 FailsAt handles (Err closed) piece before fault after = ⊥
 
--- A piece was pushed and its APDUs were handled, from a feed and a state to a feed and a state. Where
--- handling failed the feed is as it was.
+-- Holds if `piece` was pushed and its APDUs were handled, which led to the feed `new` and the state `after`.
+-- If handling failed, the feed stays.
 abbrev pub HandlesEach : {S F : Type 0} → Handles S F → Held → List ℕ → S → Result (Option DerFault) F → Held → S
     → Type 0
 HandlesEach handles old piece before (Ok fault) new after =

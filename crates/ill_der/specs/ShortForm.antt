@@ -1,4 +1,4 @@
--- The short form of APDUs: the spelling of each, and the reading of bytes with the first fault.
+-- The short form of APDUs: the encoding of each, and the reading of bytes with the first fault.
 use Rattle.std.specs.Prelude.{◌≡◌, ℕ, Bool, ◌+◌, ◌-◌, ◌≤◌, nat_lt, if◌then◌else◌, List, [], ◌∷◌, ◌++◌, length, take, drop, Option, Some, None, Result, Ok, Err, MatchResult}
 use Rattle.ill_values.specs.declared.apdu.Apdu.{Apdu}
 use Rattle.ill_values.specs.declared.apdu.Body.{Body}
@@ -20,42 +20,45 @@ use Rattle.ill_der.specs.Format.{◌>>=◌, element, length_of, Cursor, cursor_a
 
 -- ---- fields
 
--- the fields that each type has: the version, the transaction id, which is a group qualifier and a
--- transaction qualifier, and the number
+-- Describes the two qualifiers of a transaction id: of the group, and of the transaction.
 abbrev pub qualifiers : Format (List ℕ × List ℕ)
 qualifiers = followed_by (required 0x81 qualifier) (required 0x82 qualifier)
 
+-- Describes a transaction id: a constructed field with its qualifiers.
 abbrev pub txn_id : Format (List ℕ × List ℕ)
 txn_id = constructed 0xA1 qualifiers
 
+-- Describes the fields that each type has: the version, the transaction id and the number.
 abbrev pub head : Format (Unit {0} × ((List ℕ × List ℕ) × ℕ))
 head = followed_by (required 0x80 version) (followed_by txn_id (required 0x82 number))
 
--- The further fields, by their shapes. An ILL-Request has an expiry date, if any, and its item.
+-- Describes the further fields of an ILL-Request: an expiry date, if any, and the item.
 abbrev pub request : Format (Option Date × List ℕ)
 request = followed_by (optional 0x85 date) (required 0x86 item)
 
--- a Shipped and an Overdue have the due date
+-- Describes the further field of a Shipped and of an Overdue: the due date.
 abbrev pub due_date : Format Date
 due_date = required 0x85 date
 
--- an ILL-Answer has its result
+-- Describes the further field of an ILL-Answer: the result.
 abbrev pub answer : Format AnswerResult
 answer = required 0x84 answer_result
 
--- a Conditional-Reply and a Cancel-Reply have the number of the message answered, and yes or no
+-- Describes the further fields of a Conditional-Reply and a Cancel-Reply:
+-- the number of the message answered, and yes or no.
 abbrev pub reply : Format (ℕ × Bool)
 reply = followed_by (required 0x83 number) (required 0x84 yes_no)
 
--- a Renew has the date wished, if any
+-- Describes the further field of a Renew: the date wished, if any.
 abbrev pub wish : Format (Option Date)
 wish = optional 0x85 date
 
--- a Renew-Answer has the number of the message answered, and yes with the new due date, or no
+-- Describes the further fields of a Renew-Answer: the number of the message answered, and yes or no.
+-- A yes has the new due date after it.
 abbrev pub grant : Format (ℕ × Option Date)
 grant = followed_by (required 0x83 number) (where_yes (required 0x84 yes_no) (required 0x85 date))
 
--- the further fields of a body, spelled; six types have none
+-- Returns the encoding of the further fields of a body. Six types have none.
 abbrev pub spell_body : Body → List ℕ
 spell_body (IllRequest expiry text) = request.spell (expiry, text)
 spell_body (Shipped due) = due_date.spell due
@@ -72,11 +75,11 @@ spell_body Returned = []
 spell_body CheckedIn = []
 spell_body Expired = []
 
--- a body was read, made of its fields
+-- Reads `fields`, and returns the body that `make` makes of their value.
 abbrev pub made_of : {V : Type 0} → Format V → (V → Body) → Cursor → Result (Body × Cursor) DerFault
 made_of fields make left = fields.read left >>= λ found. Ok (make found.0, found.1)
 
--- the further fields of a type, read
+-- Reads the further fields of an APDU of this type.
 abbrev pub read_body : ApduType → Cursor → Result (Body × Cursor) DerFault
 read_body types.IllRequest left = made_of request (λ found. IllRequest found.0 found.1) left
 read_body types.Shipped left = made_of due_date Shipped left
@@ -95,20 +98,20 @@ read_body types.Expired left = Ok (Expired, left)
 
 -- ---- whole APDUs
 
--- the fields of an APDU that each type has, spelled
+-- Returns the encoding of the fields of `apdu` that each type has.
 abbrev pub head_of : Apdu → List ℕ
 head_of apdu = head.spell (tt, ((apdu.txn.group, apdu.txn.transaction), apdu.number))
 
--- the contents of an APDU
+-- Returns the contents of `apdu`: the encodings of its head and of its further fields.
 abbrev pub contents_of : Apdu → List ℕ
 contents_of apdu = head_of apdu ++ spell_body apdu.body
 
--- the one spelling of an APDU
+-- Returns the encoding of `apdu`, the only one that it has.
 unfoldable pub spelling : Apdu → List ℕ
 spelling apdu = element (identifier_of (type_of apdu.body)) (contents_of apdu)
 
--- what the identifier and the length of an APDU say, of at most 355 octets of contents, of which so
--- many bytes are there
+-- Returns the header of an APDU of this type, by its length. More than 355 contents octets are the fault Length.
+-- A truncated length is Short with `size`, the number of bytes of the APDU that are there.
 abbrev pub header_by : ApduType → LengthForm → ℕ → Result Header DerFault
 header_by apdu_type (Definite n octets) size =
     if nat_lt 355 n then Err (Length 1)
@@ -116,22 +119,23 @@ header_by apdu_type (Definite n octets) size =
 header_by apdu_type Truncated size = Err (Short size)
 header_by apdu_type Invalid size = Err (Length 1)
 
+-- Returns the header by the type of the identifier, if it has one, and the bytes after it.
 abbrev pub header_of : Option ApduType → List ℕ → Result Header DerFault
 header_of None bytes = Err (Tag 0)
 header_of (Some apdu_type) bytes = header_by apdu_type (length_of bytes) (length bytes + 1)
 
--- the identifier and the length at the front, or why they are not there
+-- Returns the header, which is the identifier and the length, with which the bytes begin, or their fault.
 unfoldable pub header_at : List ℕ → Result Header DerFault
 header_at [] = Err (Short 0)
 header_at (first ∷ bytes) = header_of (type_with first) bytes
 
--- an APDU that is all there: its type, its contents, and the number of its bytes
+-- A complete APDU: its type, its contents, and the number of its bytes.
 pub record Outer : Type 0 where
   pub apdu_type : ApduType
   pub inside : Cursor
   pub size : ℕ
 
--- The contents that a header calls for. Where some are missing the fault has the number of all bytes.
+-- Splits off the contents that `header` asks for. If some are missing, the fault is Short with the number of all bytes.
 abbrev pub outer_by : Header → List ℕ → Result Outer DerFault
 outer_by header bytes =
     if nat_lt (length bytes) header.size then Err (Short (length bytes))
@@ -141,15 +145,15 @@ outer_by header bytes =
       size = header.size;
     })
 
--- the identifier, the length and the contents at the front, or why they are not there
+-- Reads the identifier, the length and the contents with which `bytes` begins, or returns their fault.
 unfoldable pub outer_at : List ℕ → Result Outer DerFault
 outer_at bytes = header_at bytes >>= λ header. outer_by header bytes
 
--- the body that all of what is left spells
+-- Returns the body whose further fields are all of `left`.
 unfoldable pub body_of : ApduType → Cursor → Result Body DerFault
 body_of apdu_type left = read_body apdu_type left >>= λ body. ended body.1 >>= λ _. Ok body.0
 
--- the APDU that all of the contents spell
+-- Returns the APDU whose contents are all of `left`.
 unfoldable pub inside_of : ApduType → Cursor → Result Apdu DerFault
 inside_of apdu_type left =
     head.read left >>= λ front. body_of apdu_type front.1 >>= λ body.
@@ -159,31 +163,31 @@ inside_of apdu_type left =
       body = body;
     })
 
--- the APDU at the front and the bytes behind it, or the first fault
+-- Returns the APDU with which `bytes` begins, and the bytes after it, or the first fault.
 unfoldable pub apdu_at : List ℕ → Result (Apdu × List ℕ) DerFault
 apdu_at bytes =
     outer_at bytes >>= λ outer. inside_of outer.apdu_type outer.inside >>= λ apdu.
     Ok (apdu, drop outer.size bytes)
 
--- ---- what the code gives
+-- ---- the results of the code
 
--- what stands for an APDU that is all there
+-- Returns the complete APDU of the definitions for that of the code.
 abbrev pub outer_view : decoding.Outer → Outer
 outer_view outer = record { apdu_type = outer.apdu_type; inside = outer.inside; size = outer.size }
 
--- A step of decoding gave what reading gives, its value seen by view.
+-- Holds if a step of decoding gave the value of `read`, seen by `view`, or its fault.
 abbrev pub Finds : {X V : Type 0} → (X → V) → Result X DerFault → Result V DerFault → Type 0
 Finds view (Ok value) read = read ≡ Ok (view value)
 Finds view (Err fault) read = read ≡ Err fault
 
--- Viewing gave what reading gives: the APDU at the front with the number of its bytes, or the fault.
+-- Holds if viewing gave the APDU of `read` and the number of its bytes, or the fault of `read`.
 abbrev pub Views : List ℕ → Result (Apdu × List ℕ) DerFault → Result (Apdu × ℕ) DerFault → Type 0
 Views bytes read (Ok found) =
     (found.1 ≤ length bytes) × (read ≡ Ok (found.0, drop found.1 bytes))
 Views bytes read (Err fault) = read ≡ Err fault
 
--- Decoding gave what reading gives: the fault, or the APDU at the front with the number of its
--- bytes, unless memory ran out.
+-- Holds if decoding gave the fault of `read`, or the APDU of `read` and the number of its bytes.
+-- Instead of an APDU there may be OutOfMemory.
 abbrev pub Decodes : List ℕ → Result (Apdu × List ℕ) DerFault → Result (Apdu × ℕ) DerFault → Type 0
 Decodes bytes (Err fault) result = result ≡ Err fault
 Decodes bytes (Ok read) result =

@@ -12,18 +12,19 @@ use Rattle.ill_values.specs.Apdu.{IsApdu}
 use Rattle.ill_der.specs.declared.header.Header.{Header}
 use Rattle.ill_der.specs.ShortForm.{spelling, header_at, apdu_at}
 
--- the bytes are less than an APDU, and more may complete them
+-- Holds if `bytes` is less than an APDU, and further bytes may complete one.
 abbrev pub IsUnfinished : List ℕ → Type 0
 IsUnfinished bytes = apdu_at bytes ≡ Err (Short (length bytes))
 
--- each proper front of the bytes is unfinished
+-- Holds if each proper prefix of `bytes` is unfinished.
 abbrev pub AreUnfinished : List ℕ → Type 0
 AreUnfinished bytes = (size : ℕ) → size < length bytes → IsUnfinished (take size bytes)
 
--- the bytes spell one APDU
+-- Holds if `bytes` is the encoding of one APDU in range.
 abbrev pub SpellsOne : List ℕ → Type 0
 SpellsOne bytes = (apdu : Apdu) × IsApdu apdu × (bytes ≡ spelling apdu)
 
+-- Holds if `P` does, or if the fault is not Short.
 abbrev pub IfShort : DerFault → Type 0 → Type 0
 IfShort (Short at) P = P
 IfShort (Tag at) P = Unit {0}
@@ -31,9 +32,10 @@ IfShort (Length at) P = Unit {0}
 IfShort (Field at) P = Unit {0}
 IfShort OutOfMemory P = Unit {0}
 
--- What reading an APDU answered, of the bytes that it took and of what the reader has left: an APDU
--- that these bytes spell; none at the end; their fault, which is the end where they are short; or
--- what it could not do.
+-- Holds if the result answers for `bytes`, which were taken, and for those that are `left`.
+-- It is the APDU of `bytes`, none at the end of the input, or the fault of `bytes`. Short comes at that end alone.
+-- If there is a fault, each proper prefix of `bytes` is unfinished.
+-- Otherwise a read failed while `bytes` was unfinished, or memory ran out for the APDU of `bytes`.
 abbrev pub IsAnswer : List ℕ → Option (List ℕ) → Result (Option Apdu) ReadFault → Type 0
 IsAnswer bytes left (Ok (Some apdu)) = IsApdu apdu × (bytes ≡ spelling apdu)
 IsAnswer bytes left (Ok None) = (bytes ≡ []) × IsAtEnd left
@@ -42,17 +44,16 @@ IsAnswer bytes left (Err (faults.Bytes fault)) =
 IsAnswer bytes left (Err faults.Read) = IsUnfinished bytes
 IsAnswer bytes left (Err faults.OutOfMemory) = SpellsOne bytes
 
--- An APDU was read: from a reader that had old and has new left, it took bytes and answered.
+-- Holds if a reader that had `old` has `new` left, and `result` is the answer for the bytes taken.
 abbrev pub ReadsApdu : Option (List ℕ) → Option (List ℕ) → Result (Option Apdu) ReadFault → Type 0
 ReadsApdu old new result = (bytes : List ℕ) × Consumes old new bytes × IsAnswer bytes new result
 
--- what a fault of the bytes is to the reading: want of memory is its own
+-- Returns the fault of reading for a fault of bytes. OutOfMemory stays OutOfMemory.
 abbrev pub read_fault : DerFault → ReadFault
 read_fault OutOfMemory = faults.OutOfMemory
 read_fault other = faults.Bytes other
 
--- What bytes say that are not short, where each proper front of them is unfinished: their APDU or
--- their fault.
+-- Holds if the result is the APDU of `bytes`, a fault of `bytes` other than Short, or OutOfMemory for its APDU.
 abbrev pub IsJudged : List ℕ → Result (Option Apdu) ReadFault → Type 0
 IsJudged bytes (Ok (Some apdu)) = IsApdu apdu × (bytes ≡ spelling apdu)
 IsJudged bytes (Ok None) = ⊥
@@ -60,18 +61,18 @@ IsJudged bytes (Err (faults.Bytes fault)) = (apdu_at bytes ≡ Err fault) × IfS
 IsJudged bytes (Err faults.Read) = ⊥
 IsJudged bytes (Err faults.OutOfMemory) = SpellsOne bytes
 
--- how many more bytes are needed at least, by the header and the bytes there are
+-- Returns how many more bytes an APDU needs at least, by its header or the fault, if it has `size` bytes.
 abbrev pub missing_by : Result Header DerFault → ℕ → ℕ
 missing_by (Ok header) size = header.size - size
 missing_by (Err (Short at)) size = 1
 missing_by (Err other) size = 0
 
--- how many more bytes the APDU needs at least; 0 if it is complete or already invalid
+-- Returns how many more bytes the APDU needs at least: 0 if it is complete or already invalid.
 unfoldable pub missing_of : List ℕ → ℕ
 missing_of bytes = missing_by (header_at bytes) (length bytes)
 
--- Bytes were written, from what a writer held to what it holds: all of them, a front where the writer
--- failed, or none for want of memory.
+-- Holds if a writer that held `before` holds `after`, to which all of `bytes` were appended.
+-- If the writer failed, a prefix of `bytes` was appended; if memory ran out, nothing was.
 abbrev pub Writes : Option (List ℕ) → Option (List ℕ) → List ℕ → Result (Unit {0}) WriteFault → Type 0
 Writes before after bytes (Ok done) = Appends before after bytes
 Writes before after bytes (Err writing.Write) = (size : ℕ) × Appends before after (take size bytes)

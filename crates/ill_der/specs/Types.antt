@@ -1,11 +1,11 @@
--- The identifier octets of the fourteen types of APDU: application tags, which are this profile's own, in the
--- constructed form of X.690 8.1.2.
+-- The identifier octets of the fourteen types of APDU.
+-- They are application tags of this profile's own, in the constructed form of X.690 8.1.2.
 use Rattle.std.specs.Prelude.{ℕ, ◌==◌, Option, find}
 use Rattle.ill_values.specs.declared.apdu_type.ApduType.{ApduType}
 use Rattle.ill_values.specs.declared.apdu_type.ApduType.TheVariants.{IllRequest, Shipped, IllAnswer, ConditionalReply, Cancel, CancelReply, Received, Recall, Returned, CheckedIn, Overdue, Renew, RenewAnswer, Expired}
 use Rattle.ill_values.specs.Types.{all_types}
 
--- the identifier octet of a type
+-- Returns the identifier octet of a type.
 abbrev pub identifier_of : ApduType → ℕ
 identifier_of IllRequest = 0x61
 identifier_of Shipped = 0x63
@@ -22,6 +22,6 @@ identifier_of Renew = 0x6D
 identifier_of RenewAnswer = 0x6E
 identifier_of Expired = 0x74
 
--- the type with an identifier octet
+-- Returns the type with an identifier octet, if there is one.
 abbrev pub type_with : ℕ → Option ApduType
 type_with identifier = find (λ apdu_type. identifier == identifier_of apdu_type) all_types

@@ -1,4 +1,4 @@
--- An APDU in bytes: what it says, whose texts are borrowed.
+-- An APDU in bytes: its parts, with the texts borrowed.
 use Rattle.std.specs.Prelude.{ℕ, List}
 use Rattle.ill_values.specs.declared.apdu.Apdu.{Apdu}
 use Rattle.ill_values.specs.declared.apdu.Body.{Body}
@@ -7,7 +7,7 @@ use Rattle.ill_values.specs.Text.{IsItem}
 use Rattle.ill_der.specs.declared.apdu_view.BodyView.{BodyView}
 use Rattle.ill_der.specs.declared.apdu_view.BodyView.TheVariants as views
 
--- the APDU with these parts
+-- Returns the APDU with these qualifiers, this number and this body.
 abbrev pub apdu_of : List ℕ → List ℕ → ℕ → Body → Apdu
 apdu_of group transaction number body = record {
   txn = record { group = group; transaction = transaction };
@@ -15,7 +15,7 @@ apdu_of group transaction number body = record {
   body = body;
 }
 
--- the body that a view has
+-- Returns the body that a view shows.
 abbrev pub body_in : BodyView → Body
 body_in (views.IllRequest expiry item) = IllRequest expiry item.now
 body_in (views.Shipped due) = Shipped due
@@ -32,7 +32,7 @@ body_in (views.Renew wished) = Renew wished
 body_in (views.RenewAnswer answers granted) = RenewAnswer answers granted
 body_in views.Expired = Expired
 
--- the text of a request is an item
+-- Holds if the text of an ILL-Request is an item, and of each other body.
 abbrev pub HasItem : Body → Type 0
 HasItem (IllRequest expiry item) = IsItem item
 HasItem other = Unit {0}

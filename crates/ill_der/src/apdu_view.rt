@@ -1,4 +1,4 @@
-//! APDUs whose texts lie in the bytes that they were read from.
+//! APDUs whose texts stay in the bytes from which they were read.
 
 ghost use Rattle.std.specs.Prelude.{◌≡◌, IfOk};
 ghost use Rattle.ill_values.specs.declared.apdu.Apdu.{Apdu};
@@ -10,7 +10,7 @@ use ill_values::{AnswerResult, Apdu, ApduType, Body, Day, Item, Number, OutOfMem
 use std::alloc::Global;
 use std::marker::Model;
 
-/// An APDU in bytes: its texts are borrowed from them, so that it takes no memory.
+/// An APDU in bytes. Its texts are borrowed from them, so that it allocates nothing.
 #[derive(Debug, Drop)]
 pub struct ApduView<'a> {
     pub(crate) group: &'a [u8],
@@ -28,7 +28,7 @@ impl<'a> Model for ApduView<'a> {
         × HasItem (body_in v.body) };
 }
 
-/// What an APDU in bytes says: `Body`, with its text borrowed.
+/// The body of an APDU in bytes: `Body`, with its text borrowed.
 #[derive(Clone, Copy, Debug)]
 pub enum BodyView<'a> {
     /// `Body::IllRequest`.
@@ -52,7 +52,7 @@ pub enum BodyView<'a> {
     ConditionalReply {
         /// The number of the ILL-Answer that named the conditions.
         answers: Number,
-        /// Whether the conditions are accepted.
+        /// True if the requester accepts the conditions.
         yes: bool,
     },
     /// `Body::Cancel`.
@@ -61,7 +61,7 @@ pub enum BodyView<'a> {
     CancelReply {
         /// The number of the Cancel.
         answers: Number,
-        /// Whether the request is cancelled.
+        /// True if the request is cancelled.
         yes: bool,
     },
     /// `Body::Received`.
@@ -86,7 +86,7 @@ pub enum BodyView<'a> {
     RenewAnswer {
         /// The number of the Renew.
         answers: Number,
-        /// The new due date, where the answer is yes.
+        /// The new due date, if the answer is yes.
         granted: Option<Day>,
     },
     /// `Body::Expired`.
@@ -94,35 +94,35 @@ pub enum BodyView<'a> {
 }
 
 impl<'a> ApduView<'a> {
-    /// The transaction group qualifier: 1 to 64 bytes.
+    /// Returns the transaction group qualifier: 1 to 64 bytes.
     pub fn group(&self) -> &'a [u8]
         ensures { result.now ≡ self.now.txn.group }
     {
         self.group
     }
 
-    /// The transaction qualifier: 1 to 64 bytes.
+    /// Returns the transaction qualifier: 1 to 64 bytes.
     pub fn transaction(&self) -> &'a [u8]
         ensures { result.now ≡ self.now.txn.transaction }
     {
         self.transaction
     }
 
-    /// The number of the message.
+    /// Returns the number of the message.
     pub fn number(&self) -> Number
         ensures { result ≡ self.now.number }
     {
         self.number
     }
 
-    /// The type of the message, with the fields of that type.
+    /// Returns the type of the message, with the fields of that type.
     pub fn body(&self) -> &BodyView<'a>
         ensures { body_in result.now ≡ self.now.body }
     {
         &self.body
     }
 
-    /// The APDU, its texts on their own memory.
+    /// Returns the APDU, with its texts on their own memory.
     pub fn to_apdu(&self, alloc: Global) -> Result<Apdu, OutOfMemory>
         ensures { IfOk result (λ apdu. apdu ≡ self.now) }
     {
@@ -137,7 +137,7 @@ impl<'a> ApduView<'a> {
 }
 
 impl BodyView<'_> {
-    /// The type of the message.
+    /// Returns the type of the message.
     pub fn apdu_type(&self) -> ApduType
         ensures { result ≡ type_of (body_in self.now) }
     {
@@ -159,14 +159,14 @@ impl BodyView<'_> {
         }
     }
 
-    /// The name of the type of the message, as `ILL-Request`.
+    /// Returns the name of the type of the message, as `ILL-Request`.
     pub fn type_name(&self) -> &'static str
         ensures { result.now ≡ type_name (body_in self.now) }
     {
         self.apdu_type().name()
     }
 
-    /// The body, its text on its own memory.
+    /// Returns the body, with its text on its own memory.
     fn to_body(&self, alloc: Global) -> Result<Body, OutOfMemory>
         ensures { IfOk result (λ body. body ≡ body_in self.now) }
     {

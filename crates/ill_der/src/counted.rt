@@ -1,4 +1,4 @@
-//! Streams as the loops of this crate know them: each call of one is counted, and there is no other.
+//! Streams for the loops of this crate: each call of one is counted, and there is no other call.
 
 ghost use Rattle.std.specs.Prelude.{◌≡◌, ◌+◌, List, Option, ℕ};
 ghost use Rattle.std.specs.Io.{ReadsAtMost, WritesAtMost};
@@ -11,7 +11,7 @@ use std::sync::ledger::Ledger;
 
 /// A reader whose only call is counted.
 pub trait CountedRead {
-    /// The bytes that are left to read, where they are known.
+    /// The bytes that are left to read, if they are known.
     ghost remaining: { Self → Option (List ℕ) };
 
     /// Reads once, and counts it.
@@ -36,7 +36,7 @@ impl<R: Read> CountedRead for R {
 
 /// A writer whose only call is counted.
 pub trait CountedWrite {
-    /// The bytes that the writer holds, where they are known.
+    /// The bytes that the writer holds, if they are known.
     ghost contents: { Self → Option (List ℕ) };
 
     /// Writes once, and counts it.

@@ -1,4 +1,4 @@
-//! What is left to read of an element's contents.
+//! The bytes that are left to read of an element's contents.
 
 ghost use Rattle.std.specs.Prelude.{◌≡◌, ◌+◌, ◌≤◌, length, IfOk, OnOk, Option};
 ghost use Rattle.ill_values.specs.Text.{IsQualifier, IsItem};
@@ -11,8 +11,7 @@ use crate::length::{LengthForm, length_of};
 use ill_values::{AnswerResult, Day, Item, Number, TxnId};
 use std::marker::Model;
 
-/// Holds the bytes of an element's contents that are not read yet, and the offset of the first in the
-/// APDU.
+/// Holds the unread bytes of an element's contents, and the offset of the first in the APDU.
 #[derive(Debug, Drop)]
 pub struct Cursor<'a> {
     at: u16,
@@ -28,7 +27,7 @@ impl<'a> Model for Cursor<'a> {
 }
 
 impl<'a> Cursor<'a> {
-    /// A cursor over these bytes, the first of which is at this offset in the APDU.
+    /// Returns a cursor over `bytes`, the first of which has the offset `at` in the APDU.
     pub fn new(at: u16, bytes: &'a [u8]) -> Cursor<'a>
         requires { at + length bytes.now ≤ 359 }
         ensures { result ≡ cursor_at at bytes.entry.now }
@@ -36,7 +35,7 @@ impl<'a> Cursor<'a> {
         Cursor { at, bytes }
     }
 
-    /// Checks that all bytes were read. Otherwise the fault is `Tag` at the first that was not.
+    /// Checks that all bytes were read. Otherwise the fault is `Tag` at the first unread byte.
     pub fn ended(&self) -> Result<(), DerFault>
         ensures { result ≡ ended self.now }
     {
@@ -47,7 +46,7 @@ impl<'a> Cursor<'a> {
         }
     }
 
-    /// Whether the next element has this identifier.
+    /// Returns true if the next element has `identifier`.
     fn begins_with(&self, identifier: u8) -> bool
         ensures { result ≡ begins_with identifier self.now.bytes }
     {
@@ -57,7 +56,7 @@ impl<'a> Cursor<'a> {
         }
     }
 
-    /// Takes the next element, which must have this identifier, and gives its contents.
+    /// Takes the next element, which must have `identifier`, and returns its contents.
     #[tactic(auto, unfolding(crate::specs::Format::element_at))]
     pub fn element_at(&mut self, identifier: u8) -> Result<Cursor<'a>, DerFault>
         ensures { Reads (λ inside. inside) result self.new (element_at identifier self.old) }
@@ -168,7 +167,7 @@ impl<'a> Cursor<'a> {
     }
 }
 
-/// The message number that the contents of an INTEGER spell, if they spell one (X.690 8.3).
+/// Returns the message number that `contents` of an INTEGER encode, if they encode one (X.690 8.3).
 fn number_from(contents: &[u8]) -> Option<Number>
     ensures { result ≡ number_from contents.now }
 {
@@ -179,7 +178,7 @@ fn number_from(contents: &[u8]) -> Option<Number>
     }
 }
 
-/// The result that the contents spell in one octet.
+/// Returns the result that `contents` encode in one octet, if they encode one.
 fn result_from(contents: &[u8]) -> Option<AnswerResult>
     ensures { result ≡ result_from contents.now }
 {

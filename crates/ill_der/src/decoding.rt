@@ -1,4 +1,4 @@
-//! Viewing and decoding of one APDU at the front of bytes.
+//! Viewing and decoding of the APDU with which bytes begin.
 
 ghost use Rattle.std.specs.Prelude.{◌≢◌, ◌<◌, ◌≤◌, length, IfOk, IfErr};
 ghost use Rattle.ill_der.specs.declared.fault.DerFault.TheVariants.{OutOfMemory};
@@ -24,10 +24,11 @@ struct Outer<'a> {
     size: usize,
 }
 
-/// Decodes the APDU at the front of the bytes, and gives its size in bytes; what follows is not read.
+/// Decodes the APDU with which `bytes` begins, and returns it with its size in bytes. Reads no byte
+/// after it.
 ///
-/// The fault is the first in the bytes. All checks come before memory is taken, so that
-/// `OutOfMemory` means that the bytes begin with an APDU.
+/// The fault is the first in `bytes`. All checks come before memory is taken, so `OutOfMemory` means
+/// that `bytes` begins with an APDU.
 pub fn decode(alloc: Global, bytes: &[u8]) -> Result<(Apdu, usize), DerFault>
     ensures read { Decodes bytes.now (apdu_at bytes.now) result }
     ensures most { IfOk result (λ found. found.1 ≤ 359) }
@@ -36,10 +37,10 @@ pub fn decode(alloc: Global, bytes: &[u8]) -> Result<(Apdu, usize), DerFault>
     Ok((apdu.to_apdu(alloc)?, size))
 }
 
-/// Views the APDU at the front of the bytes, and gives its size in bytes, at most 359; what follows is
-/// not read. The view is judged in full, as `decode` judges, and takes no memory.
+/// Views the APDU with which `bytes` begins, and returns it with its size in bytes, at most 359. Reads
+/// no byte after it. Checks all that `decode` checks, and allocates nothing.
 ///
-/// The fault is the first in the bytes, and never `OutOfMemory`.
+/// The fault is the first in `bytes`, and never `OutOfMemory`.
 #[tactic(auto, unfolding(crate::specs::ShortForm::apdu_at))]
 pub fn view(bytes: &[u8]) -> Result<(ApduView<'_>, usize), DerFault>
     ensures read { Views bytes.now (apdu_at bytes.now) result }
@@ -57,7 +58,7 @@ pub fn view(bytes: &[u8]) -> Result<(ApduView<'_>, usize), DerFault>
     }
 }
 
-/// Splits off the identifier and the length, and checks that all of the contents are there.
+/// Splits off the identifier and the length, and checks that all contents are there.
 #[tactic(auto, unfolding(crate::specs::ShortForm::outer_at))]
 fn outer_at(bytes: &[u8]) -> Result<Outer<'_>, DerFault>
     ensures read { Finds outer_view result (outer_at bytes.now) }
@@ -160,7 +161,7 @@ fn read_body<'a>(apdu_type: ApduType, inside: &mut Cursor<'a>) -> Result<BodyVie
     }
 }
 
-/// Reads the number of the message answered, and yes or no.
+/// Reads the number of the message that is answered, and yes or no.
 fn read_reply(inside: &mut Cursor<'_>) -> Result<(Number, bool), DerFault>
     ensures { Reads (λ found. found) result inside.new (reply.read inside.old) }
 {

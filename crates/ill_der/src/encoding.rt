@@ -1,4 +1,4 @@
-//! Encoding of one APDU: its one spelling.
+//! Encoding of one APDU. An APDU has one encoding.
 
 ghost use Rattle.std.specs.Prelude.{◌≡◌, ◌<◌, ◌≤◌, ◌++◌, ◌∷◌, [], length, IfOk, OnOk, OnErr, IfSome};
 ghost use Rattle.ill_values.specs.Day.{IsDate};
@@ -15,7 +15,7 @@ use crate::tags;
 use ill_values::{AnswerResult, Apdu, ApduType, Body, Day, Number, OutOfMemory, TxnId};
 use std::alloc::Global;
 
-/// Encodes an APDU: its one spelling, at most 359 bytes. It takes memory once.
+/// Returns the one encoding of `apdu`, at most 359 bytes. Allocates once.
 pub fn encode(alloc: Global, apdu: &Apdu) -> Result<Vec<u8>, OutOfMemory>
     ensures spelled { IfOk result (λ bytes. bytes.items ≡ spelling apdu.now) }
     ensures most { IfOk result (λ bytes. length bytes.items ≤ 359) }
@@ -26,8 +26,8 @@ pub fn encode(alloc: Global, apdu: &Apdu) -> Result<Vec<u8>, OutOfMemory>
     Ok(bytes)
 }
 
-/// Adds the spelling of an APDU to the bytes. If memory runs out, the bytes stay, and a front of the
-/// spelling may stand behind them, but never all of it.
+/// Appends the encoding of `apdu` to `bytes`. If memory runs out, `bytes` keeps its content, and may
+/// end with a proper prefix of the encoding.
 #[tactic(auto, unfolding(crate::specs::ShortForm::spelling, crate::specs::Format::element))]
 pub fn encode_onto(bytes: &mut Vec<u8>, apdu: &Apdu) -> Result<(), OutOfMemory>
     ensures spelled { OnOk result (bytes.new.items ≡ bytes.old.items ++ spelling apdu.now) }
@@ -43,7 +43,7 @@ pub fn encode_onto(bytes: &mut Vec<u8>, apdu: &Apdu) -> Result<(), OutOfMemory>
     push_body(bytes, &apdu.body)
 }
 
-/// Adds the fields that each APDU has.
+/// Appends the fields that each APDU has.
 fn push_head(bytes: &mut Vec<u8>, apdu: &Apdu) -> Result<(), OutOfMemory>
     ensures bytes { OnOk result (bytes.new.items ≡ bytes.old.items ++ head_of apdu.now) }
     ensures front { OnErr result (AddsFront bytes.old.items bytes.new.items (head_of apdu.now)) }
@@ -67,7 +67,7 @@ fn push_id(bytes: &mut Vec<u8>, id: &TxnId) -> Result<(), OutOfMemory>
     push_element(bytes, tags::TRANSACTION_QUALIFIER, id.transaction())
 }
 
-/// Adds the further fields.
+/// Appends the further fields of `body`.
 fn push_body(bytes: &mut Vec<u8>, body: &Body) -> Result<(), OutOfMemory>
     ensures bytes { OnOk result (bytes.new.items ≡ bytes.old.items ++ spell_body body.now) }
     ensures front { OnErr result (AddsFront bytes.old.items bytes.new.items (spell_body body.now)) }
@@ -136,7 +136,7 @@ fn push_date(bytes: &mut Vec<u8>, day: Day) -> Result<(), OutOfMemory>
     push_element(bytes, tags::DATE, &day.digits())
 }
 
-/// Adds a number, as an INTEGER (X.690 8.3).
+/// Appends `number`, as an INTEGER (X.690 8.3).
 fn push_number(bytes: &mut Vec<u8>, identifier: u8, number: Number) -> Result<(), OutOfMemory>
     ensures bytes { OnOk result (bytes.new.items ≡ bytes.old.items
         ++ element identifier (number_octets number)) }
@@ -152,7 +152,7 @@ fn push_number(bytes: &mut Vec<u8>, identifier: u8, number: Number) -> Result<()
     }
 }
 
-/// Adds an element (X.690 8.1.1).
+/// Appends the element of `identifier` and `contents` (X.690 8.1.1).
 #[tactic(auto, unfolding(crate::specs::Format::element))]
 fn push_element(bytes: &mut Vec<u8>, identifier: u8, contents: &[u8]) -> Result<(), OutOfMemory>
     requires { length contents.now < 65536 }
@@ -164,7 +164,8 @@ fn push_element(bytes: &mut Vec<u8>, identifier: u8, contents: &[u8]) -> Result<
     bytes.extend_from_slice(contents)
 }
 
-/// Adds the identifier and the length of an element with so many contents octets (X.690 8.1.3, 10.1).
+/// Appends the identifier and the length of an element with `contents` contents octets (X.690 8.1.3,
+/// 10.1).
 #[tactic(auto, unfolding(crate::specs::Format::length_octets))]
 fn push_start(bytes: &mut Vec<u8>, identifier: u8, contents: usize) -> Result<(), OutOfMemory>
     requires { contents < 65536 }
@@ -184,7 +185,7 @@ fn push_start(bytes: &mut Vec<u8>, identifier: u8, contents: usize) -> Result<()
     Ok(())
 }
 
-/// The octet of a result.
+/// Returns the octet of `answer`.
 fn code_of(answer: AnswerResult) -> u8
     ensures { result ≡ code_of answer }
 {

@@ -1,4 +1,4 @@
-//! Why bytes do not begin with an APDU, and why one was not read or written.
+//! The faults of bytes that do not begin with an APDU, and those of reading and writing an APDU.
 
 ghost use Rattle.std.specs.Prelude.{◌≡◌};
 ghost use Rattle.ill_der.specs.Faults.{place_of};
@@ -14,7 +14,7 @@ use thiserror::Error;
 /// of the APDU.
 #[derive(Clone, Copy, Debug, PartialEq, Eq, Hash, Error)]
 pub enum DerFault {
-    /// The bytes end before the APDU does. The number is how many bytes there are.
+    /// The bytes end before the APDU does. The number is that of the bytes.
     #[error("short at {0}")]
     Short(u16),
     /// An unexpected identifier at this offset, or a missing field.
@@ -32,7 +32,7 @@ pub enum DerFault {
 }
 
 impl DerFault {
-    /// The offset of the fault, if it has one. Bytes that are short have it at their end.
+    /// Returns the offset of the fault, if it has one. The offset of `Short` is the end of the bytes.
     pub fn at(self) -> Option<u16>
         ensures { result ≡ place_of self }
     {
@@ -44,7 +44,7 @@ impl DerFault {
     }
 }
 
-/// Why no APDU was read.
+/// A fault of reading an APDU.
 #[derive(Clone, Copy, Debug, PartialEq, Eq, Hash, Error)]
 pub enum ReadFault {
     /// The bytes that were read do not begin with an APDU. This is never `DerFault::OutOfMemory`.
@@ -58,10 +58,10 @@ pub enum ReadFault {
     OutOfMemory,
 }
 
-/// Why an APDU was not written.
+/// A fault of writing an APDU.
 #[derive(Clone, Copy, Debug, PartialEq, Eq, Hash, Error)]
 pub enum WriteFault {
-    /// The writer failed, or took no byte. A front of the APDU may have been written.
+    /// The writer failed, or took no byte. A prefix of the APDU may have been written.
     #[error("write")]
     Write,
     /// Memory ran out before anything was written.

@@ -16,10 +16,10 @@ use ill_values::{Apdu, OutOfMemory};
 use std::alloc::Global;
 use std::marker::Model;
 
-/// Takes the bytes of APDUs, one behind another, in pieces cut anywhere.
+/// Takes the bytes of APDUs, one after another, in pieces that are cut anywhere.
 ///
-/// It holds the bytes of an APDU of which some have not come yet, at most 358. The first fault of the
-/// bytes closes it.
+/// It holds the bytes of an APDU until the last has come: at most 358. The first fault of the bytes
+/// closes it.
 #[derive(Debug, Drop)]
 pub struct Feed {
     alloc: Global,
@@ -36,7 +36,7 @@ impl Model for Feed {
     ghost invariant = { λ f. Holds f.size f.buffer };
 }
 
-/// What a piece gave.
+/// The outcome of a push.
 #[derive(Debug, Drop)]
 pub struct Pushed {
     /// The APDUs that the piece completed, in their order, up to the first fault.
@@ -46,7 +46,7 @@ pub struct Pushed {
 }
 
 impl Feed {
-    /// A feed that holds nothing. It takes no memory.
+    /// Returns a feed that holds nothing. Allocates nothing.
     pub fn new(alloc: Global) -> Feed
         ensures { result ≡ Ok [] }
     {
@@ -58,10 +58,10 @@ impl Feed {
         }
     }
 
-    /// Pushes a piece, and gives each APDU that it completes before the first fault, then that fault.
+    /// Pushes `piece`, and returns each APDU that it completes before the first fault, and that fault.
     ///
-    /// After a fault a push gives no APDU and the same fault. Memory can run out only where an open feed
-    /// and the piece have an APDU; the feed is as it was then.
+    /// After a fault, each push returns no APDU and that fault. Memory can run out only if the bytes of an
+    /// open feed and `piece` begin with an APDU. The feed then stays.
     pub fn push(&mut self, piece: &[u8]) -> Result<Pushed, OutOfMemory>
         ensures { Pushes self.old piece.now result self.new }
     {
@@ -78,12 +78,12 @@ impl Feed {
         }
     }
 
-    /// Pushes a piece, and hands each APDU that it completes before the first fault to the handler,
-    /// one after another; then gives that fault. It takes no memory of its own, and an APDU that
-    /// stands whole in the piece is not copied.
+    /// Pushes `piece`, and hands each APDU that it completes before the first fault to `handler`, one
+    /// after another. Then returns that fault. Allocates nothing of its own, and copies no APDU that is
+    /// whole in `piece`.
     ///
-    /// After a fault it hands nothing on and gives the same fault. If handling fails, the feed is as it
-    /// was: the same piece would hand the same APDUs on again.
+    /// After a fault, hands nothing on and returns that fault. If handling fails, the feed stays: a second
+    /// push of `piece` would hand its APDUs on again.
     pub fn each<C, H: Handler<C>>(
         &mut self,
         piece: &[u8],
@@ -99,8 +99,8 @@ impl Feed {
         }
     }
 
-    /// Whether the bytes may end here: `Ok` between two APDUs, and `Short` with the number of bytes
-    /// held within one. A closed feed answers its fault.
+    /// Returns `Ok` between two APDUs, where the bytes may end. Within one, the fault is `Short` with the
+    /// number of bytes held. A closed feed returns its fault.
     pub fn end(&self) -> Result<(), DerFault>
         ensures end { result ≡ end_of self.now }
         ensures most { IfOk self.now (λ held. length held ≤ 358) }
@@ -112,8 +112,8 @@ impl Feed {
         }
     }
 
-    /// Pushes a piece into an open feed: completes the APDU whose bytes are held, if any, and goes on
-    /// behind it.
+    /// Pushes `piece` into an open feed. Completes the APDU whose bytes are held, if any, and goes on
+    /// after it.
     fn complete<C, H: Handler<C>>(
         &mut self,
         piece: &[u8],
@@ -149,8 +149,8 @@ impl Feed {
         }
     }
 
-    /// Hands on the APDUs of bytes with which one begins, and leaves of the feed what stands behind
-    /// them, whatever it held.
+    /// Hands on the APDUs with which `bytes` begins, and then replaces the held bytes by the rest. If
+    /// handling fails, the feed stays.
     fn go_on<C, H: Handler<C>>(
         &mut self,
         bytes: &[u8],
@@ -167,8 +167,8 @@ impl Feed {
         }
     }
 
-    /// Leaves of the feed a rest that has this fault, whatever it held, and gives the fault that closes
-    /// it, if one does.
+    /// Replaces the held bytes by `rest` if its fault is `Short`. Otherwise closes the feed and returns the
+    /// fault.
     fn leave(&mut self, rest: &[u8], fault: DerFault) -> Option<DerFault>
         requires opened { IsOk self.old }
         requires fault { apdu_at rest.now ≡ Err fault }
@@ -189,7 +189,7 @@ impl Feed {
     }
 }
 
-/// The fault that closes a feed whose rest has this fault: a rest that is short is held.
+/// Returns the fault that closes a feed whose rest has `fault`. `Short` closes none: the rest is held.
 fn closing(fault: DerFault) -> Option<DerFault>
     ensures { result ≡ closing fault }
 {
@@ -199,8 +199,8 @@ fn closing(fault: DerFault) -> Option<DerFault>
     }
 }
 
-/// Copies as many bytes of the piece behind the first of the buffer as there is room for, and gives how
-/// many bytes the buffer has then.
+/// Copies `piece` into `buffer` after its first `size` bytes, as far as there is room. Returns the
+/// number of bytes that `buffer` then holds.
 fn fill(buffer: &mut [u8; APDU_LIMIT], size: usize, piece: &[u8]) -> usize
     requires { size ≤ 359 }
     ensures { Fills buffer.old buffer.new size piece.now result }
@@ -210,7 +210,7 @@ fn fill(buffer: &mut [u8; APDU_LIMIT], size: usize, piece: &[u8]) -> usize
     size + count
 }
 
-/// Keeps each APDU.
+/// Appends each APDU to a list.
 #[derive(Drop)]
 struct Collector {
     apdus: Vec<Apdu>,

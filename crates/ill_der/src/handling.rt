@@ -1,4 +1,4 @@
-//! What is done with each of the APDUs that stand one behind another in bytes.
+//! The handling of APDUs that follow one another in bytes.
 
 ghost use Rattle.std.specs.Prelude.{◌≡◌, Result};
 ghost use Rattle.ill_values.specs.declared.apdu.Apdu.{Apdu};
@@ -10,17 +10,17 @@ use crate::fault::DerFault;
 use crate::laws::prefix_or_fault;
 use std::alloc::Global;
 
-/// What is done with each APDU of some bytes. Beside itself it has a context that the caller lends, such
-/// as a writer, or `()`.
+/// Handles each APDU of some bytes. Beside itself it has a context that the caller lends, such as a
+/// writer, or `()`.
 pub trait Handler<C> {
-    /// Why an APDU was not handled.
+    /// The fault of an APDU that was not handled.
     type Fault;
 
-    /// What is done with an APDU: from the handler and the context before, by the answer, to the
+    /// The relation of one APDU: of the handler and the context before, the APDU, the result, and the
     /// handler and the context after.
     ghost handles: { Self × C → Apdu → Result (Unit {0}) Self.Fault → Self × C → Type 0 };
 
-    /// Handles an APDU. After a fault no further APDU of the same bytes is handed on.
+    /// Handles `apdu`. After a fault, no further APDU of its bytes is handed on.
     fn handle(
         &mut self,
         alloc: Global,
@@ -30,7 +30,7 @@ pub trait Handler<C> {
         ensures { handles (self.old, context.old) apdu.now result (self.new, context.new) };
 }
 
-/// Handles the APDU at the front of the bytes, and gives its size, or the fault of the bytes.
+/// Handles the APDU with which `bytes` begins, and returns its size, or the fault of `bytes`.
 pub fn handle_first<C, H: Handler<C>>(
     alloc: Global,
     bytes: &[u8],
@@ -50,8 +50,8 @@ pub fn handle_first<C, H: Handler<C>>(
     }
 }
 
-/// Handles each APDU at the front of the bytes, one after another, and gives where the rest begins,
-/// and the fault of the rest.
+/// Handles the APDUs with which `bytes` begins, one after another. Returns the offset of the rest, and
+/// its fault.
 pub fn handle_all<C, H: Handler<C>>(
     alloc: Global,
     bytes: &[u8],

@@ -15,19 +15,18 @@ const MAX_CONTENTS: u16 = 355;
 /// The most bytes of an APDU.
 pub const APDU_LIMIT: usize = 359;
 
-/// What the identifier and the length of an APDU say.
+/// The header of an APDU: the type that its identifier gives, and the sizes that its length gives.
 #[derive(Clone, Copy, Debug)]
 pub struct Header {
     /// The type of the APDU.
     pub apdu_type: ApduType,
-    /// Where the contents begin, in bytes from the first byte of the APDU.
+    /// The offset of the contents, in bytes from the first byte of the APDU.
     pub start: u16,
-    /// How many bytes the APDU has: at most `APDU_LIMIT`.
+    /// The number of bytes of the APDU: at most `APDU_LIMIT`.
     pub size: u16,
 }
 
-/// The identifier and the length at the front of the bytes, or the fault of them: `Short` if the bytes
-/// end within them.
+/// Returns the header with which `bytes` begins, or its fault: `Short` if `bytes` ends within it.
 #[tactic(auto, unfolding(crate::specs::ShortForm::header_at))]
 pub fn header_at(bytes: &[u8]) -> Result<Header, DerFault>
     ensures read { result ≡ header_at bytes.now }
@@ -44,7 +43,7 @@ pub fn header_at(bytes: &[u8]) -> Result<Header, DerFault>
     }
 }
 
-/// The same, of the bytes behind the identifier of an APDU of this type.
+/// Returns the header of an APDU of `apdu_type`. `bytes` starts after the identifier.
 fn header_by(apdu_type: ApduType, bytes: &[u8]) -> Result<Header, DerFault>
     ensures read { result ≡ header_by apdu_type (length_of bytes.now) (length bytes.now + 1) }
     ensures some { IfOk result (λ header. 1 ≤ header.start) }

@@ -5,7 +5,7 @@ ghost use Rattle.ill_der.specs.Types.{identifier_of, type_with};
 
 use ill_values::ApduType;
 
-/// The type with this identifier octet: an application tag, constructed (X.690 8.1.2).
+/// Returns the type with this identifier octet: an application tag, constructed (X.690 8.1.2).
 pub fn type_with(identifier: u8) -> Option<ApduType>
     ensures { result ≡ type_with identifier }
 {
@@ -28,7 +28,7 @@ pub fn type_with(identifier: u8) -> Option<ApduType>
     }
 }
 
-/// The identifier octet of a type.
+/// Returns the identifier octet of `apdu_type`.
 pub fn identifier_of(apdu_type: ApduType) -> u8
     ensures { result ≡ identifier_of apdu_type }
 {

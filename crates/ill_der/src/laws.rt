@@ -1,4 +1,4 @@
-//! What holds of the short form, as contracts of functions that do nothing.
+//! Laws of the short form, as contracts of functions that do nothing.
 
 ghost use Rattle.std.specs.Prelude.{◌≡◌, ◌≤◌, ◌++◌, ℕ, List, [], length, Ok, Err};
 ghost use Rattle.ill_values.specs.declared.apdu.Apdu.{Apdu};
@@ -15,8 +15,8 @@ ghost use Rattle.ill_der.specs.Laws.{IsBytes, BeginsWithOne};
 
 use ill_values::laws::{date_texts, text_sizes};
 
-/// An APDU is read from its spelling, whatever follows: with this, `decode` gives back what `encode`
-/// spelled.
+/// An APDU is read from its encoding, whatever follows. So `decode` returns the APDU that `encode`
+/// encoded.
 pub fn read_again()
     ensures { (apdu : Apdu) (rest : List ℕ) → IsApdu apdu →
         apdu_at (spelling apdu ++ rest) ≡ Ok (apdu, rest) }
@@ -25,14 +25,14 @@ pub fn read_again()
     text_sizes();
 }
 
-/// No bytes spell two APDUs.
+/// No bytes are the encoding of two APDUs.
 pub fn one_apdu()
     ensures { (a b : Apdu) → IsApdu a → IsApdu b → spelling a ≡ spelling b → a ≡ b }
 {
     read_again();
 }
 
-/// No spelling is a proper prefix of another.
+/// No encoding is a proper prefix of another.
 pub fn no_prefix()
     ensures { (a b : Apdu) (rest : List ℕ) → IsApdu a → IsApdu b →
         spelling b ≡ spelling a ++ rest → rest ≡ [] }
@@ -40,7 +40,7 @@ pub fn no_prefix()
     read_again();
 }
 
-/// The longest spelling has 359 bytes.
+/// The longest encoding has 359 bytes.
 pub fn longest()
     ensures most { (apdu : Apdu) → IsApdu apdu → length (spelling apdu) ≤ 359 }
     ensures reached { (apdu : Apdu) × IsApdu apdu × (length (spelling apdu) ≡ 359) }
@@ -49,7 +49,7 @@ pub fn longest()
     text_sizes();
 }
 
-/// The longest spelling of an APDU that is no ILL-Request has 162 bytes.
+/// The longest encoding of an APDU that is no ILL-Request has 162 bytes.
 pub fn shorter()
     ensures most { (apdu : Apdu) → IsApdu apdu → (type_of apdu.body ≡ IllRequest → ⊥) →
         length (spelling apdu) ≤ 162 }
@@ -60,7 +60,7 @@ pub fn shorter()
     text_sizes();
 }
 
-/// Bytes have either one spelled prefix or one fault.
+/// Bytes begin with the encoding of exactly one APDU, or they begin with none and have a fault.
 pub fn prefix_or_fault()
     ensures { (bytes : List ℕ) → IsBytes bytes → BeginsWithOne bytes (apdu_at bytes) }
 {
@@ -74,7 +74,7 @@ pub fn fault_stays()
         apdu_at bytes ≡ Err fault → apdu_at (bytes ++ more) ≡ Err fault }
 {}
 
-/// Short has the number of the bytes, which is below 359.
+/// The number of Short is that of the bytes, which is below 359.
 pub fn short_has_the_size()
     ensures { (bytes : List ℕ) (n : ℕ) → apdu_at bytes ≡ Err (Short n) →
         (n ≡ length bytes) × (n ≤ 358) }
@@ -83,14 +83,14 @@ pub fn short_has_the_size()
     text_sizes();
 }
 
-/// Two pieces that are pushed one after the other are as one.
+/// Two pushes, one after the other, give the APDUs and the feed of one push of both pieces.
 pub fn two_pushes()
     ensures { (old middle new : Held) (front piece : List ℕ) (first more : List Apdu) →
         Feeds old front first middle → Feeds middle piece more new →
         Feeds old (front ++ piece) (first ++ more) new }
 {}
 
-/// However bytes are cut into pieces, a feed gives the same APDUs for them, and comes to the same end.
+/// A feed gives equal APDUs for all ways to cut bytes into pieces, and comes to equal ends.
 pub fn any_cut()
     ensures { (pieces others : List (List ℕ)) (a b : List Apdu) (x y : Held) →
         concat pieces ≡ concat others → FeedsAll (Ok []) pieces a x → FeedsAll (Ok []) others b y →

@@ -3,7 +3,7 @@
 ghost use Rattle.std.specs.Prelude.{◌≡◌, ◌≤◌, ◌<◌, ◌^◌, length};
 ghost use Rattle.ill_der.specs.Format.{IsFew, length_of, one_octet_length, two_octet_length};
 
-/// What the octets at the front of some bytes are as a length.
+/// The length that a prefix of some bytes encodes.
 #[derive(Clone, Copy, Debug, PartialEq, Eq, Hash)]
 pub enum LengthForm {
     /// The bytes end within the length.
@@ -14,7 +14,7 @@ pub enum LengthForm {
     Definite(u16, u16),
 }
 
-/// The length at the front of these bytes.
+/// Returns the length with which `bytes` begins.
 #[tactic(auto, unfolding(crate::specs::Format::length_of))]
 pub fn length_of(bytes: &[u8]) -> LengthForm
     ensures value { result ≡ length_of bytes.now }

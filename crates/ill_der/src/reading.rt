@@ -18,13 +18,13 @@ use std::sync::ledger::{Blank, Ledger};
 /// A read for each byte, and one that finds the end.
 const READS: usize = APDU_LIMIT + 1;
 
-/// Reads one APDU, or gives `None` where the input has ended.
+/// Reads one APDU, or returns `None` at the end of the input.
 ///
-/// It takes no byte behind the APDU. If the bytes are no APDU, it has taken the shortest front of them
-/// that shows the fault. A later call begins a new APDU.
+/// It takes no byte after the APDU. If the bytes are no APDU, it takes the shortest prefix that shows
+/// the fault. A later call begins a new APDU.
 ///
-/// It calls `read_apdu_counted`, and so makes at most 360 reads. Its own contract counts none of them: a
-/// further read that gave no byte would leave the reader all that it has left.
+/// It calls `read_apdu_counted`, and so makes at most 360 reads. Its own contract counts none of them:
+/// a further read that gave no byte would take nothing from the reader.
 pub fn read_apdu<R: Read>(alloc: Global, reader: &mut R) -> Result<Option<Apdu>, ReadFault>
     ensures { ReadsApdu (R.remaining reader.old) (R.remaining reader.new) result }
 {
@@ -56,7 +56,7 @@ pub fn read_apdu_counted<R: Read, L: Ledger>(
     read_counted(alloc, reader, steps)
 }
 
-/// The same, of a reader whose every read is counted.
+/// Reads one APDU from a reader whose every read is counted.
 fn read_counted<R: CountedRead, L: Ledger>(
     alloc: Global,
     reader: &mut R,
@@ -82,7 +82,7 @@ fn read_counted<R: CountedRead, L: Ledger>(
     unreachable!()
 }
 
-/// How many more bytes the APDU needs at least; 0 if it is complete or already invalid.
+/// Returns how many more bytes the APDU needs at least: 0 if it is complete or already invalid.
 #[tactic(auto, unfolding(crate::specs::Stream::missing_of))]
 fn missing(bytes: &[u8]) -> usize
     ensures { result ≡ missing_of bytes.now }
@@ -94,7 +94,7 @@ fn missing(bytes: &[u8]) -> usize
     }
 }
 
-/// The APDU or the fault of bytes that are not short.
+/// Returns the APDU or the fault of `bytes`, which are not short.
 fn judge(alloc: Global, bytes: &[u8]) -> Result<Option<Apdu>, ReadFault>
     requires unfinished { AreUnfinished bytes.now }
     requires enough { missing_of bytes.now ≡ 0 }

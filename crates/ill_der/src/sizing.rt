@@ -1,4 +1,4 @@
-//! How many bytes the spelling of an APDU has.
+//! The size of an APDU's encoding, in bytes.
 
 ghost use Rattle.std.specs.Prelude.{◌≡◌, ◌+◌, ◌≤◌, ◌<◌, ◌++◌, ◌∷◌, [], length, IfOk, OnOk};
 ghost use Rattle.ill_values.specs.Day.{Date};
@@ -10,7 +10,7 @@ ghost use Rattle.ill_der.specs.ShortForm.{qualifiers, txn_id, head, head_of, spe
 
 use ill_values::{Apdu, Body, Day, Number, TxnId};
 
-/// The size of an APDU's spelling: at most 359 bytes. It takes no memory.
+/// Returns the size of the encoding of `apdu`: at most 359 bytes. Allocates nothing.
 #[tactic(auto, using(crate::proofs::Sizes::element_length), unfolding(crate::specs::ShortForm::spelling))]
 pub fn size(apdu: &Apdu) -> usize
     ensures value { result ≡ length (spelling apdu.now) }
@@ -19,7 +19,7 @@ pub fn size(apdu: &Apdu) -> usize
     element_size(contents_size(apdu))
 }
 
-/// How many bytes an element has with so many contents octets.
+/// Returns the number of bytes of an element with `contents` contents octets.
 fn element_size(contents: usize) -> usize
     requires { contents < 65536 }
     ensures value { result ≡ 1 + length (length_octets contents) + contents }
@@ -30,7 +30,7 @@ fn element_size(contents: usize) -> usize
     1 + length_size(contents) + contents
 }
 
-/// How many length octets so many contents octets have (X.690 8.1.3, 10.1).
+/// Returns the number of length octets of `contents` contents octets (X.690 8.1.3, 10.1).
 #[tactic(auto, unfolding(crate::specs::Format::length_octets))]
 fn length_size(contents: usize) -> usize
     ensures value { result ≡ length (length_octets contents) }
@@ -47,7 +47,7 @@ fn length_size(contents: usize) -> usize
     }
 }
 
-/// The number of contents octets of an APDU: at most 355.
+/// Returns the number of contents octets of `apdu`: at most 355.
 pub fn contents_size(apdu: &Apdu) -> usize
     ensures value { result ≡ length (contents_of apdu.now) }
     ensures most { result ≤ 355 }
@@ -55,7 +55,7 @@ pub fn contents_size(apdu: &Apdu) -> usize
     head_size(apdu) + body_size(&apdu.body)
 }
 
-/// How many bytes the fields take that each APDU has.
+/// Returns the number of bytes of the fields that each APDU has.
 #[tactic(auto, using(crate::proofs::Sizes::element_length))]
 fn head_size(apdu: &Apdu) -> usize
     ensures value { result ≡ length (head_of apdu.now) }
@@ -64,7 +64,7 @@ fn head_size(apdu: &Apdu) -> usize
     VERSION_SIZE + id_size(&apdu.txn) + number_size(apdu.number)
 }
 
-/// How many bytes a transaction id takes.
+/// Returns the number of bytes of a transaction id.
 #[tactic(auto, using(crate::proofs::Sizes::element_length))]
 fn id_size(id: &TxnId) -> usize
     ensures value { result ≡ length (txn_id.spell (id.now.group, id.now.transaction)) }
@@ -73,7 +73,7 @@ fn id_size(id: &TxnId) -> usize
     element_size(qualifiers_size(id))
 }
 
-/// How many bytes the two qualifiers of a transaction id take.
+/// Returns the number of bytes of the two qualifiers of a transaction id.
 #[tactic(auto, using(crate::proofs::Sizes::element_length))]
 pub fn qualifiers_size(id: &TxnId) -> usize
     ensures value { result ≡ length (qualifiers.spell (id.now.group, id.now.transaction)) }
@@ -82,7 +82,7 @@ pub fn qualifiers_size(id: &TxnId) -> usize
     element_size(id.group().len()) + element_size(id.transaction().len())
 }
 
-/// How many bytes a number takes.
+/// Returns the number of bytes of the element of a number.
 #[tactic(auto, unfolding(crate::specs::Format::element, crate::specs::Format::length_octets))]
 fn number_size(number: Number) -> usize
     ensures value { result ≡ length (element 0 (number_octets number)) }
@@ -93,7 +93,7 @@ fn number_size(number: Number) -> usize
 
 const VERSION_SIZE: usize = 3;
 
-/// How many bytes the further fields take.
+/// Returns the number of bytes of the further fields of `body`.
 #[tactic(auto, using(crate::proofs::Sizes::element_length, crate::proofs::Sizes::date_length, crate::proofs::Sizes::code_length))]
 fn body_size(body: &Body) -> usize
     ensures value { result ≡ length (spell_body body.now) }
@@ -119,10 +119,10 @@ fn body_size(body: &Body) -> usize
     }
 }
 
-/// How many bytes a date takes.
+/// The number of bytes of the element of a date.
 const DATE_SIZE: usize = 10;
 
-/// How many bytes a result, or a yes or no takes.
+/// The number of bytes of the element of a result, or of a yes or no.
 const CODE_SIZE: usize = 3;
 
 #[tactic(auto, unfolding(crate::specs::Format::element, crate::specs::Format::length_octets))]

@@ -15,8 +15,8 @@ use std::io::Write;
 use std::marker::Brand;
 use std::sync::ledger::{Blank, Ledger};
 
-/// Writes one APDU. If the writer fails, a front of it may have been written; if memory runs out,
-/// nothing.
+/// Writes one APDU. If the writer fails, a prefix of its encoding may have been written. If memory
+/// runs out, nothing was written.
 ///
 /// It makes at most 359 writes. A write that takes no byte counts as a failure.
 pub fn write_apdu<W: Write>(alloc: Global, writer: &mut W, apdu: &Apdu) -> Result<(), WriteFault>
@@ -54,8 +54,8 @@ pub fn write_apdu_counted<W: Write, L: Ledger>(
     write_bytes_counted(writer, &bytes, steps)
 }
 
-/// Writes all of the bytes, in at most as many writes as there are bytes. If the writer fails, a
-/// front of them may have been written.
+/// Writes all of `bytes`, in at most as many writes as there are bytes. If the writer fails, a prefix
+/// of `bytes` may have been written.
 pub fn write_bytes<W: Write>(writer: &mut W, bytes: &[u8]) -> Result<(), WriteFault>
     ensures written { Writes (W.contents writer.old) (W.contents writer.new) bytes.now result }
     ensures fault { IfErr result (λ fault. fault ≡ faults.Write) }
@@ -77,7 +77,7 @@ fn write_bytes_uncounted<L: Ledger, W: Write>(
     write_bytes_counted(writer, bytes, &mut Steps::<L>::new(blank))
 }
 
-/// The same, of a writer whose every write is counted.
+/// Writes all of `bytes` to a writer whose every write is counted.
 fn write_bytes_counted<W: CountedWrite, L: Ledger>(
     writer: &mut W,
     bytes: &[u8],

@@ -1,4 +1,4 @@
--- A text is read as a value exactly where it is the name of that value.
+-- Exactly the name of a value is read as that value.
 use Rattle.std.proofs.Common.{◌≡◌, ℕ, Bool, true, false, cond, List, [], ◌∷◌, Option, Some, refl, sym, ap, subst, ◌∙◌, ◌⊎◌, inl, inr, ◌↔◌}
 use Rattle.std.specs.Str.{bytes_eq}
 use Rattle.std.proofs.lemmas.Slice.Eq.{bytes_eq-Decides}
@@ -11,13 +11,15 @@ use Rattle.ill_values.specs.Names.{named_by}
 use Rattle.ill_values.specs.Results.{result_name, result_named}
 use Rattle.ill_values.specs.Types.{apdu_type_name, apdu_type_named}
 
--- what is found is the first value, or one of the others
-found_first : {A : Type 0} (b : Bool) (a : A) (others : Option A) (x : A) → cond b (Some a) others ≡ Some x → ((b ≡ true) × (a ≡ x)) ⊎ (others ≡ Some x)
+-- If `cond b (Some a) others` is `Some x`, then `a` is `x` for a true `b`, or `others` is `Some x`.
+found_first : {A : Type 0} (b : Bool) (a : A) (others : Option A) (x : A) → cond b (Some a) others ≡ Some x
+    → ((b ≡ true) × (a ≡ x)) ⊎ (others ≡ Some x)
 found_first true a others x e = inl (refl, same_Some a x e)
 found_first false a others x e = inr e
 
--- what a text is read as has the text for its name
-name_found : {A : Type 0} (name_of : A → List ℕ) (all : List A) (text : List ℕ) (x : A) → named_by name_of all text ≡ Some x → text ≡ name_of x
+-- If `text` is read as `x`, it is the name of `x`.
+name_found : {A : Type 0} (name_of : A → List ℕ) (all : List A) (text : List ℕ) (x : A)
+    → named_by name_of all text ≡ Some x → text ≡ name_of x
 name_found name_of [] text x e = absurd cc
 name_found name_of (a ∷ all) text x e =
     elim (found_first (bytes_eq (name_of a) text) a (named_by name_of all text) x e) [
@@ -25,7 +27,7 @@ name_found name_of (a ∷ all) text x e =
       | inr h ↦ name_found name_of all text x h
     ]
 
--- where each name is read as its value, a text is read as a value exactly where it is its name
+-- If each name is read as its value, exactly the name of `x` is read as `x`.
 pub named_exactly : {A : Type 0} (name_of : A → List ℕ) (all : List A) → ((x : A) → named_by name_of all (name_of x) ≡ Some x)
     → (text : List ℕ) (x : A) → (named_by name_of all text ≡ Some x) ↔ (text ≡ name_of x)
 named_exactly name_of all again text x = (
@@ -33,6 +35,7 @@ named_exactly name_of all again text x = (
   λ e. subst (λ (word : List ℕ). named_by name_of all word ≡ Some x) (sym e) (again x),
 )
 
+-- The name of a result is read as that result.
 pub result_again : (answer : AnswerResult) → result_named (result_name answer) ≡ Some answer
 result_again Conditional = refl
 result_again Retry = refl
@@ -42,6 +45,7 @@ result_again WillSupply = refl
 result_again HoldPlaced = refl
 result_again Estimate = refl
 
+-- The name of a type is read as that type.
 pub apdu_type_again : (apdu_type : ApduType) → apdu_type_named (apdu_type_name apdu_type) ≡ Some apdu_type
 apdu_type_again types.IllRequest = refl
 apdu_type_again types.Shipped = refl

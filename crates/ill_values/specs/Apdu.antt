@@ -7,11 +7,11 @@ use Rattle.ill_values.specs.Day.{IsDate}
 use Rattle.ill_values.specs.Text.{IsItem}
 use Rattle.ill_values.specs.TxnId.{AreQualifiers}
 
--- a number of a message
+-- Holds if `n` may be the number of a message: 1 to 255.
 abbrev pub IsNumber : ℕ → Type 0
 IsNumber n = (1 ≤ n) × (n ≤ 255)
 
--- the fields of a message are in range
+-- Holds if the fields of a body are in range.
 abbrev pub IsBody : Body → Type 0
 IsBody (IllRequest expiry item) = IfSome expiry IsDate × IsItem item
 IsBody (IllAnswer result) = Unit {0}
@@ -28,8 +28,8 @@ IsBody (Renew wished) = IfSome wished IsDate
 IsBody (RenewAnswer answers granted) = IsNumber answers × IfSome granted IsDate
 IsBody Expired = Unit {0}
 
--- Each part of the message is in range. A clause that ranges over all messages has this as its
--- premise, since there a number is any number and a text any list.
+-- Holds if each part of `apdu` is in range.
+-- It is the premise of a clause on all messages, where a number is any number and a text any list.
 pub record IsApdu (apdu : Apdu) : Type 0 where
   pub txn : AreQualifiers apdu.txn
   pub number : IsNumber apdu.number

@@ -1,6 +1,6 @@
--- The names of values, and the values that names stand for.
+-- The names of values, and the values that have a name.
 use Rattle.std.specs.Prelude.{ℕ, List, Option, find, bytes_eq}
 
--- the value with a name, of all that there are
+-- Returns the value of `all` whose name is `word`, if there is one.
 abbrev pub named_by : {A : Type 0} → (A → List ℕ) → List A → List ℕ → Option A
 named_by name_of all word = find (λ value. bytes_eq (name_of value) word) all

@@ -4,7 +4,7 @@ use Rattle.ill_values.specs.declared.apdu.AnswerResult.{AnswerResult}
 use Rattle.ill_values.specs.declared.apdu.AnswerResult.TheVariants.{Conditional, Retry, Unfilled, LocationsProvided, WillSupply, HoldPlaced, Estimate}
 use Rattle.ill_values.specs.Names.{named_by}
 
--- the name of a result
+-- Returns the name of a result.
 abbrev pub result_name : AnswerResult → List ℕ
 result_name Conditional = codes "conditional"
 result_name Retry = codes "retry"
@@ -14,10 +14,11 @@ result_name WillSupply = codes "will-supply"
 result_name HoldPlaced = codes "hold-placed"
 result_name Estimate = codes "estimate"
 
+-- The seven results of an ILL-Answer.
 abbrev pub all_results : List AnswerResult
 all_results =
     Conditional ∷ Retry ∷ Unfilled ∷ LocationsProvided ∷ WillSupply ∷ HoldPlaced ∷ Estimate ∷ []
 
--- the result with a name
+-- Returns the result with a name, if there is one.
 abbrev pub result_named : List ℕ → Option AnswerResult
 result_named = named_by result_name all_results

@@ -5,50 +5,52 @@ use Rattle.std.specs.Str.{is_utf8}
 use Rattle.ill_values.specs.declared.fault.TextFault.{TextFault}
 use Rattle.ill_values.specs.declared.fault.TextFault.TheVariants.{Empty, TooLong, BadByte, OutOfMemory}
 
--- a byte that prints in ASCII, or a space
+-- Returns true if `byte` is a printing character of ASCII or a space.
 abbrev pub is_printable : ℕ → Bool
 is_printable byte = nat_le 0x20 byte && nat_le byte 0x7E
 
--- a byte that is no control character of ASCII
+-- Returns true if `byte` is no control character of ASCII.
 abbrev pub is_no_control : ℕ → Bool
 is_no_control byte = nat_le 0x20 byte && not (byte == 0x7F)
 
--- UTF-8 without the control characters of ASCII
+-- Returns true if `text` is UTF-8 without the control characters of ASCII.
 abbrev pub is_item_text : List ℕ → Bool
 is_item_text text = list_all is_no_control text && is_utf8 text
 
--- one step after another, up to the first fault
+-- Passes the value of a step to `next`; the first fault stays.
 infixl 10 ◌>>=◌
 abbrev pub ◌>>=◌ : {A B : Type 0} → Result A TextFault → (A → Result B TextFault) → Result B TextFault
 (Ok value) >>= next = next value
 (Err fault) >>= next = Err fault
 
--- whether a text has one to so many bytes and passes a test, or else its first fault
+-- Checks that `text` has 1 to `most` bytes and passes a test, or returns its first fault.
 abbrev pub text_check : ℕ → (List ℕ → Bool) → List ℕ → Result (Unit {0}) TextFault
 text_check most passes text =
     if length text == 0 then Err Empty
     else (if nat_lt most (length text) then Err TooLong
     else (if passes text then Ok tt else Err BadByte))
 
--- a qualifier of a transaction id (this profile's own)
+-- Checks that `text` is a qualifier of a transaction id (this profile's own), or returns its first fault.
 abbrev pub qualifier_check : List ℕ → Result (Unit {0}) TextFault
 qualifier_check text = text_check 64 (list_all is_printable) text
 
+-- Holds if `text` is a qualifier.
 abbrev pub IsQualifier : List ℕ → Type 0
 IsQualifier text = qualifier_check text ≡ Ok tt
 
--- what a request asks for (this profile's own)
+-- Checks that `text` is an item, for which a request asks (this profile's own), or returns its first fault.
 abbrev pub item_check : List ℕ → Result (Unit {0}) TextFault
 item_check text = text_check 200 is_item_text text
 
+-- Holds if `text` is an item.
 abbrev pub IsItem : List ℕ → Type 0
 IsItem text = item_check text ≡ Ok tt
 
--- the item with this text, or the first fault
+-- Returns the item with this text, or the first fault.
 abbrev pub item_of : List ℕ → Result (List ℕ) TextFault
 item_of text = item_check text >>= λ _. Ok text
 
--- A call that takes memory last gives an answer: its fault, or its value unless memory ran out.
+-- Holds if a call returned the fault, or else the value or OutOfMemory.
 abbrev pub Gives : {V : Type 0} → Result V TextFault → Result V TextFault → Type 0
 Gives (Err fault) result = result ≡ Err fault
 Gives (Ok value) result = MatchResult result (λ made. made ≡ value) (λ fault. fault ≡ OutOfMemory)

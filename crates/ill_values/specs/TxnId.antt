@@ -3,17 +3,17 @@ use Rattle.std.specs.Prelude.{ℕ, List, Result, Ok}
 use Rattle.ill_values.specs.declared.fault.TextFault.{TextFault}
 use Rattle.ill_values.specs.Text.{qualifier_check, IsQualifier, ◌>>=◌}
 
--- a transaction group qualifier and a transaction qualifier (this profile's own form of the
--- transaction id)
+-- A transaction id, in this profile's own form: a transaction group qualifier and a transaction qualifier.
 pub record Qualifiers : Type 0 where
   pub group : List ℕ
   pub transaction : List ℕ
 
+-- Holds if both parts of `id` are qualifiers.
 pub record AreQualifiers (id : Qualifiers) : Type 0 where
   pub group : IsQualifier id.group
   pub transaction : IsQualifier id.transaction
 
--- the id with these qualifiers, or the first fault: the group is judged before the transaction
+-- Returns the id with these qualifiers, or the first fault. The group is judged before the transaction.
 abbrev pub txn_id_of : List ℕ → List ℕ → Result Qualifiers TextFault
 txn_id_of group transaction =
     qualifier_check group >>= λ _. qualifier_check transaction >>= λ _.

@@ -6,12 +6,13 @@ use Rattle.ill_values.specs.declared.apdu_type.ApduType.{ApduType}
 use Rattle.ill_values.specs.declared.apdu_type.ApduType.TheVariants.{IllRequest, Shipped, IllAnswer, ConditionalReply, Cancel, CancelReply, Received, Recall, Returned, CheckedIn, Overdue, Renew, RenewAnswer, Expired}
 use Rattle.ill_values.specs.Names.{named_by}
 
+-- The fourteen types of APDU.
 abbrev pub all_types : List ApduType
 all_types =
     IllRequest ∷ Shipped ∷ IllAnswer ∷ ConditionalReply ∷ Cancel ∷ CancelReply ∷ Received ∷ Recall
     ∷ Returned ∷ CheckedIn ∷ Overdue ∷ Renew ∷ RenewAnswer ∷ Expired ∷ []
 
--- the type of a body
+-- Returns the type of a body.
 abbrev pub type_of : Body → ApduType
 type_of (bodies.IllRequest expiry item) = IllRequest
 type_of (bodies.Shipped due) = Shipped
@@ -28,7 +29,7 @@ type_of (bodies.Renew wished) = Renew
 type_of (bodies.RenewAnswer answers granted) = RenewAnswer
 type_of bodies.Expired = Expired
 
--- the name of a type
+-- Returns the name of a type.
 abbrev pub apdu_type_name : ApduType → List ℕ
 apdu_type_name IllRequest = codes "ILL-Request"
 apdu_type_name Shipped = codes "Shipped"
@@ -45,10 +46,10 @@ apdu_type_name Renew = codes "Renew"
 apdu_type_name RenewAnswer = codes "Renew-Answer"
 apdu_type_name Expired = codes "Expired"
 
--- the type with a name
+-- Returns the type with a name, if there is one.
 abbrev pub apdu_type_named : List ℕ → Option ApduType
 apdu_type_named = named_by apdu_type_name all_types
 
--- the name of the type of a body
+-- Returns the name of the type of a body.
 abbrev pub type_name : Body → List ℕ
 type_name body = apdu_type_name (type_of body)

@@ -26,7 +26,7 @@ pub struct Apdu {
 }
 
 impl Apdu {
-    /// A copy of the message, on its own memory.
+    /// Returns a copy of the message, on its own memory.
     pub fn copy(&self, alloc: Global) -> Result<Apdu, OutOfMemory>
         ensures { IfOk result (λ apdu. apdu ≡ self.now) }
     {
@@ -40,7 +40,7 @@ impl Apdu {
     }
 }
 
-/// What a message says: one of the fourteen types, with exactly its fields.
+/// The body of a message: one of the fourteen types, with exactly its fields.
 ///
 /// A requester issues `IllRequest`, `ConditionalReply`, `Cancel`, `Received`, `Renew` and
 /// `Returned`, and a responder the other eight.
@@ -62,7 +62,7 @@ pub enum Body {
     ConditionalReply {
         /// The number of the ILL-Answer that named the conditions.
         answers: Number,
-        /// Whether the conditions are accepted.
+        /// True if the requester accepts the conditions.
         yes: bool,
     },
     /// The requester asks the responder to cancel the request.
@@ -71,7 +71,7 @@ pub enum Body {
     CancelReply {
         /// The number of the Cancel.
         answers: Number,
-        /// Whether the request is cancelled.
+        /// True if the request is cancelled.
         yes: bool,
     },
     /// The responder has sent the item.
@@ -101,7 +101,7 @@ pub enum Body {
     RenewAnswer {
         /// The number of the Renew.
         answers: Number,
-        /// The new due date, where the answer is yes. Without a date the answer is no.
+        /// The new due date, if the answer is yes. Without a date the answer is no.
         granted: Option<Day>,
     },
     /// The responder ends the request because its expiry date has passed.
@@ -109,14 +109,14 @@ pub enum Body {
 }
 
 impl Body {
-    /// The name of the type of the message, as `ILL-Request`.
+    /// Returns the name of the type of the message, as `ILL-Request`.
     pub fn type_name(&self) -> &'static str
         ensures { result.now ≡ type_name self.now }
     {
         ApduType::of(self).name()
     }
 
-    /// A copy of the body, on its own memory. Only an `IllRequest` takes any.
+    /// Returns a copy of the body, on its own memory. Only an `IllRequest` allocates.
     fn copy(&self, alloc: Global) -> Result<Body, OutOfMemory>
         ensures { IfOk result (λ body. body ≡ self.now) }
     {
@@ -182,7 +182,7 @@ const RESULTS: [AnswerResult; 7] = [
 ];
 
 impl AnswerResult {
-    /// The name of the result, as `will-supply`.
+    /// Returns the name of the result, as `will-supply`.
     pub fn name(self) -> &'static str
         ensures { result.now ≡ result_name self }
     {
@@ -197,7 +197,7 @@ impl AnswerResult {
         }
     }
 
-    /// The result with this name, if it is one.
+    /// Returns the result whose name is `text`, if there is one.
     pub fn read(text: &[u8]) -> Option<AnswerResult>
         ensures { result ≡ result_named text.now }
     {

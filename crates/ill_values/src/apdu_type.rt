@@ -60,7 +60,7 @@ const TYPES: [ApduType; 14] = [
 ];
 
 impl ApduType {
-    /// The name of the type, as `ILL-Request`.
+    /// Returns the name of the type, as `ILL-Request`.
     pub fn name(self) -> &'static str
         ensures { result.now ≡ apdu_type_name self }
     {
@@ -82,7 +82,7 @@ impl ApduType {
         }
     }
 
-    /// The type with this name, if it is one.
+    /// Returns the type whose name is `text`, if there is one.
     pub fn read(text: &[u8]) -> Option<ApduType>
         ensures { result ≡ apdu_type_named text.now }
     {
@@ -92,7 +92,7 @@ impl ApduType {
             .find(|apdu_type| apdu_type.name().as_bytes() == text)
     }
 
-    /// The type of a body.
+    /// Returns the type of `body`.
     pub fn of(body: &Body) -> ApduType
         ensures { result ≡ type_of body.now }
     {

@@ -14,8 +14,8 @@ use jiff::{ToSpan, civil};
 use std::marker::Model;
 use std::{fmt, str};
 
-/// The most days that a span of jiff holds. To refuse more loses no day of this profile: even from
-/// its first, 1 January 1900, so many days lead past its last, 31 December 9999.
+/// The most days that a span of jiff holds. A refusal of more loses no day of this profile: even from
+/// its first, 1 January 1900, that many days lead past its last, 31 December 9999.
 const MAX_DAYS: u32 = 7_304_484;
 
 /// A day of the Gregorian calendar, from 1 January 1900 to 31 December 9999.
@@ -39,7 +39,7 @@ impl Model for Day {
 }
 
 impl Day {
-    /// The day with this year, month (1 to 12) and day of the month (1 to 31).
+    /// Returns the day with this year, month (1 to 12) and day of the month (1 to 31).
     ///
     /// A year other than 1900 to 9999 is `OutOfRange`, and a day that the calendar lacks `NotADate`.
     pub fn new(year: u16, month: u8, day: u8) -> Result<Day, DayFault>
@@ -55,7 +55,7 @@ impl Day {
         }
     }
 
-    /// The day that eight ASCII digits spell, as `20250315`. Any other text is `NotDigits`.
+    /// Returns the day whose eight ASCII digits `text` is, as `20250315`. Any other text is `NotDigits`.
     pub fn read(text: &[u8]) -> Result<Day, DayFault>
         ensures { result ≡ read_date text.now }
     {
@@ -66,7 +66,7 @@ impl Day {
         Day::new(year, two_digits(text, 4), two_digits(text, 6))
     }
 
-    /// The year, 1900 to 9999.
+    /// Returns the year, 1900 to 9999.
     pub fn year(&self) -> u16
         ensures value { result ≡ self.now.year }
         ensures date { IsDate self.now }
@@ -74,7 +74,7 @@ impl Day {
         self.year
     }
 
-    /// The month, 1 to 12.
+    /// Returns the month, 1 to 12.
     pub fn month(&self) -> u8
         ensures value { result ≡ self.now.month }
         ensures date { IsDate self.now }
@@ -82,7 +82,7 @@ impl Day {
         self.month
     }
 
-    /// The day of the month, 1 to 31.
+    /// Returns the day of the month, 1 to 31.
     pub fn day(&self) -> u8
         ensures value { result ≡ self.now.day }
         ensures date { IsDate self.now }
@@ -90,7 +90,7 @@ impl Day {
         self.day
     }
 
-    /// The day as eight ASCII digits, as `20250315`.
+    /// Returns the day as eight ASCII digits, as `20250315`.
     pub fn digits(&self) -> [u8; 8]
         ensures value { result ≡ date_text self.now }
         ensures date { IsDate self.now }
@@ -107,7 +107,8 @@ impl Day {
         ]
     }
 
-    /// The day with hyphens between year, month and day, as `2025-03-15` (ISO 8601-1, extended format).
+    /// Returns the day with hyphens between year, month and day, as `2025-03-15` (ISO 8601-1, extended
+    /// format).
     pub fn iso(&self) -> [u8; 10]
         ensures value { result ≡ iso_text self.now }
         ensures date { IsDate self.now }
@@ -116,7 +117,7 @@ impl Day {
         [y1, y2, y3, y4, b'-', m1, m2, b'-', d1, d2]
     }
 
-    /// The day that many days later. A day after 31 December 9999 is `OutOfRange`.
+    /// Returns the day that is `days` days later. A day after 31 December 9999 is `OutOfRange`.
     pub fn after(&self, days: u32) -> Result<Day, DayFault>
         ensures value { result ≡ day_after days self.now }
         ensures date { IsDate self.now }
@@ -131,7 +132,7 @@ impl Day {
         }
     }
 
-    /// This day as a date of jiff.
+    /// Returns this day as a date of jiff.
     fn to_civil(self) -> civil::Date
         ensures valid { IsDate self }
         ensures value { IsYmd (pos self.year) (pos self.month) (pos self.day) result }
@@ -139,7 +140,7 @@ impl Day {
         civil::date(self.year as i16, self.month as i8, self.day as i8)
     }
 
-    /// The day that a date of jiff is, where its year is 1900 to 9999.
+    /// Returns the day of a date of jiff, if its year is 1900 to 9999.
     fn from_civil(date: civil::Date) -> Result<Day, DayFault>
         requires { pos 0 ≤ℤ date.year }
         ensures { result ≡ date_of (unsigned_abs date.year) date.month date.day }
@@ -161,7 +162,7 @@ impl fmt::Display for Day {
     }
 }
 
-/// Whether the calendar has this day, in a year up to 9999.
+/// Returns true if the calendar has this day, in a year up to 9999.
 fn is_in_calendar(year: u16, month: u8, day: u8) -> bool
     requires { year ≤ 9999 }
     ensures { result ≡ is_in_year year month day }
@@ -189,7 +190,7 @@ fn is_digits(text: &[u8]) -> bool
     text.iter().all(|byte| byte.is_ascii_digit())
 }
 
-/// The number that the two digits from a place on spell.
+/// Returns the number that the two digits of `text` from `place` on make.
 fn two_digits(text: &[u8], place: usize) -> u8
     requires place { place < 7 }
     requires length { length text.now ≡ 8 }
@@ -200,7 +201,7 @@ fn two_digits(text: &[u8], place: usize) -> u8
     (text[place] - b'0') * 10 + (text[place + 1] - b'0')
 }
 
-/// The last digit of a number, in ASCII.
+/// Returns the last digit of `number`, in ASCII.
 fn last_digit(number: u16) -> u8
     ensures { result ≡ 48 + number % 10 }
 {

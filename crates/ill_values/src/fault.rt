@@ -1,4 +1,4 @@
-//! Why a value was refused.
+//! The reasons to refuse a value.
 
 ghost use Rattle.std.specs.Prelude.{◌≡◌};
 ghost use Rattle.ill_values.specs.declared.fault.TextFault.TheVariants.{OutOfMemory};
@@ -6,7 +6,7 @@ ghost use Rattle.ill_values.specs.declared.fault.TextFault.TheVariants.{OutOfMem
 use std::alloc::{AllocError, AllocFailed};
 use thiserror::Error;
 
-/// Why bytes are no qualifier or no item. Where more than one holds, it is the first in this order.
+/// A fault of bytes that are no qualifier or no item: of several, the first in this order.
 #[derive(Clone, Copy, Debug, PartialEq, Eq, Hash, Error)]
 pub enum TextFault {
     /// The text has no bytes.
@@ -24,13 +24,13 @@ pub enum TextFault {
     OutOfMemory,
 }
 
-/// Why there is no such day. Where more than one holds, it is the first in this order.
+/// A fault of a day that does not exist: of several, the first in this order.
 #[derive(Clone, Copy, Debug, PartialEq, Eq, Hash, Error)]
 pub enum DayFault {
     /// The text is not exactly eight ASCII digits. Only `Day::read` gives this.
     #[error("a date is eight digits")]
     NotDigits,
-    /// The year is not 1900 to 9999, or a day so many days later is after 31 December 9999.
+    /// The year is not 1900 to 9999, or the day that is some days later is after 31 December 9999.
     #[error("the years are 1900 to 9999")]
     OutOfRange,
     /// The calendar has no such day.

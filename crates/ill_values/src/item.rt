@@ -12,7 +12,7 @@ use std::alloc::{AllocError as OutOfMemory, Global};
 use std::marker::Model;
 use std::str;
 
-/// What a request asks for: 1 to 200 bytes of UTF-8 without the control characters of ASCII.
+/// An item, for which a request asks: 1 to 200 bytes of UTF-8 without the control characters of ASCII.
 #[derive(Debug, Drop)]
 pub struct Item {
     text: Vec<u8>,
@@ -41,7 +41,7 @@ impl Eq for Item {
 }
 
 impl Item {
-    /// The item with this text, on its own memory, or the first fault of the text.
+    /// Returns the item with this text, on its own memory, or the first fault of the text.
     pub fn new(alloc: Global, text: &[u8]) -> Result<Item, TextFault>
         ensures { Gives (item_of text.now) result }
     {
@@ -51,7 +51,7 @@ impl Item {
         })
     }
 
-    /// A copy of the item, on its own memory.
+    /// Returns a copy of the item, on its own memory.
     pub fn copy(&self, alloc: Global) -> Result<Item, OutOfMemory>
         ensures { IfOk result (λ item. item ≡ self.now) }
     {
@@ -60,14 +60,14 @@ impl Item {
         })
     }
 
-    /// Whether the bytes are the text of an item. It takes no memory.
+    /// Returns true if `text` is an item. Allocates nothing.
     pub fn is_item(text: &[u8]) -> bool
         ensures { result ≡ is_ok (item_check text.now) }
     {
         check_item(text).is_ok()
     }
 
-    /// The bytes of the item.
+    /// Returns the bytes of the item.
     pub fn text(&self) -> &[u8]
         ensures bytes { result.now ≡ self.now }
         ensures item { IsItem self.now }
@@ -76,7 +76,7 @@ impl Item {
         &self.text
     }
 
-    /// The item as text.
+    /// Returns the item as text.
     pub fn as_str(&self) -> &str
         ensures bytes { result.now ≡ self.now }
         ensures item { IsItem self.now }

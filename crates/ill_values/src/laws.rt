@@ -1,4 +1,4 @@
-//! What holds of the values, as contracts of functions that do nothing.
+//! Laws of the values, as contracts of functions that do nothing.
 
 ghost use Rattle.std.specs.Prelude.{◌≡◌, ◌≤◌, ◌↔◌, ℕ, List, length, IsTrue, Some, Ok};
 ghost use Rattle.ill_values.specs.Text.{IsQualifier, IsItem};
@@ -20,42 +20,42 @@ use crate::number::Number;
 use crate::txn_id::TxnId;
 use std::cmp::Ordering;
 
-/// Transaction ids are equal exactly where both qualifiers are.
+/// Transaction ids are equal if, and only if, both qualifiers are.
 pub fn equal_txn_ids()
     ensures { (a b : Qualifiers) → IsTrue (⟦<TxnId as PartialEq>⟧.eq a b) ↔ (a ≡ b) }
 {}
 
-/// Items are equal exactly where their bytes are.
+/// Items are equal if, and only if, their bytes are.
 pub fn equal_items()
     ensures { (a b : List ℕ) → IsTrue (⟦<Item as PartialEq>⟧.eq a b) ↔ (a ≡ b) }
 {}
 
-/// Numbers are equal exactly where what `get` gives is.
+/// Numbers are equal if, and only if, the values that `get` returns are.
 pub fn equal_numbers()
     ensures { (a b : ℕ) → IsTrue (⟦<Number as PartialEq>⟧.eq a b) ↔ (a ≡ b) }
 {}
 
-/// Days are equal exactly where year, month and day of the month are.
+/// Days are equal if, and only if, year, month and day of the month are.
 pub fn equal_days()
     ensures { (a b : Date) → IsTrue (⟦<Day as PartialEq>⟧.eq a b) ↔ (a ≡ b) }
 {}
 
-/// A day is less than another exactly where it comes before it in the calendar.
+/// A day is less than another if, and only if, it is before it in the calendar.
 pub fn ordered_days()
     ensures { (a b : Date) → (⟦<Day as Ord>⟧.cmp a b ≡ Ordering.Less) ↔ IsBefore a b }
 {}
 
-/// Results are equal exactly where they are the same variant.
+/// Results are equal if, and only if, they are one variant.
 pub fn equal_results()
     ensures { (a b : AnswerResult) → IsTrue (⟦<AnswerResult as PartialEq>⟧.eq a b) ↔ (a ≡ b) }
 {}
 
-/// Bodies are equal exactly where they are the same variant with equal fields.
+/// Bodies are equal if, and only if, they are one variant with equal fields.
 pub fn equal_bodies()
     ensures { (a b : Body) → IsTrue (⟦<Body as PartialEq>⟧.eq a b) ↔ (a ≡ b) }
 {}
 
-/// APDUs are equal exactly where all their parts are.
+/// APDUs are equal if, and only if, all their parts are.
 pub fn equal_apdus()
     ensures { (a b : Apdu) → IsTrue (⟦<Apdu as PartialEq>⟧.eq a b) ↔ (a ≡ b) }
 {
@@ -70,14 +70,15 @@ pub fn text_sizes()
     ensures item { (text : List ℕ) → IsItem text → (1 ≤ length text) × (length text ≤ 200) }
 {}
 
-/// The text of a day spells that day, and each text spells one day at most.
+/// The date text of a day is read as that day, and a text that is read as a day is its date text.
 pub fn date_texts()
     ensures spelled { (d : Date) → IsDate d → read_date (date_text d) ≡ Ok d }
     ensures read { (text : List ℕ) (d : Date) → read_date text ≡ Ok d →
         IsDate d × (text ≡ date_text d) }
 {}
 
-/// Where each name is read as its value, a text is read as a value exactly where it is the name of that value.
+/// If each name is read as its value, a text is read as a value if, and only if, it is the name of
+/// that value.
 pub fn names_are_read<A>()
     ensures { (name_of : A → List ℕ) (all : List A) →
         ((value : A) → named_by name_of all (name_of value) ≡ Some value) →
@@ -85,7 +86,7 @@ pub fn names_are_read<A>()
         (named_by name_of all text ≡ Some value) ↔ (text ≡ name_of value) }
 {}
 
-/// A text is read as a result exactly where it is the name of that result.
+/// A text is read as a result if, and only if, it is the name of that result.
 pub fn result_names_are_read()
     ensures { (text : List ℕ) (answer : AnswerResult) →
         (result_named text ≡ Some answer) ↔ (text ≡ result_name answer) }
@@ -93,7 +94,7 @@ pub fn result_names_are_read()
     names_are_read::<AnswerResult>();
 }
 
-/// A text is read as a type of APDU exactly where it is the name of that type.
+/// A text is read as a type of APDU if, and only if, it is the name of that type.
 pub fn apdu_type_names_are_read()
     ensures { (text : List ℕ) (apdu_type : ApduType) →
         (apdu_type_named text ≡ Some apdu_type) ↔ (text ≡ apdu_type_name apdu_type) }

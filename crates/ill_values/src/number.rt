@@ -23,7 +23,7 @@ impl Model for Number {
 }
 
 impl Number {
-    /// The number, or `None` for 0.
+    /// Returns the number, or `None` for 0.
     pub fn new(value: u8) -> Option<Number>
         ensures numbers { IsSome result ↔ (1 ≤ value) }
         ensures value { IfSome result (λ n. n ≡ value) }
@@ -35,7 +35,7 @@ impl Number {
         }
     }
 
-    /// The number as it was given to `new`.
+    /// Returns the number as it was given to `new`.
     pub fn get(&self) -> u8
         ensures value { result ≡ self.now }
         ensures from { 1 ≤ result }

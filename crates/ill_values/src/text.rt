@@ -13,7 +13,7 @@ pub const QUALIFIER_LIMIT: usize = 64;
 /// The most bytes of an item.
 pub const ITEM_LIMIT: usize = 200;
 
-/// Whether the text is a qualifier, or else its first fault.
+/// Checks that `text` is a qualifier, or returns its first fault.
 pub fn check_qualifier(text: &[u8]) -> Result<(), TextFault>
     ensures { result ≡ qualifier_check text.now }
 {
@@ -28,7 +28,7 @@ pub fn check_qualifier(text: &[u8]) -> Result<(), TextFault>
     }
 }
 
-/// Whether the text is an item, or else its first fault.
+/// Checks that `text` is an item, or returns its first fault.
 pub fn check_item(text: &[u8]) -> Result<(), TextFault>
     ensures { result ≡ item_check text.now }
 {
@@ -43,7 +43,7 @@ pub fn check_item(text: &[u8]) -> Result<(), TextFault>
     }
 }
 
-/// Whether each byte is a printing character. It looks at all of them, so that many are compared at once.
+/// Returns true if each byte is a printing character. Reads all bytes, so that many are compared at once.
 fn is_printable_text(text: &[u8]) -> bool
     ensures { result ≡ list_all is_printable text.now }
 {
@@ -60,7 +60,7 @@ fn is_item(text: &[u8]) -> bool
     has_no_control(text) && str::from_utf8(text).is_ok()
 }
 
-/// Whether no byte is a control character. It looks at all of them, so that many are compared at once.
+/// Returns true if no byte is a control character. Reads all bytes, so that many are compared at once.
 fn has_no_control(text: &[u8]) -> bool
     ensures { result ≡ list_all is_no_control text.now }
 {

@@ -15,7 +15,7 @@ use std::hash::{Hash, Hasher};
 use std::marker::Model;
 
 /// The id of a transaction: a transaction group qualifier and a transaction qualifier, each of 1 to
-/// 64 bytes, 0x20 to 0x7E (this profile's own). Two ids are equal, and hashed alike, where both of their
+/// 64 bytes, 0x20 to 0x7E (this profile's own). Two ids are equal, and hashed alike, if both of their
 /// qualifiers are.
 #[derive(Debug, Drop)]
 pub struct TxnId {
@@ -58,8 +58,8 @@ impl Hash for TxnId {
 }
 
 impl TxnId {
-    /// The id with these qualifiers, on its own memory, or the first fault: of the group, then of the
-    /// transaction, then want of memory.
+    /// Returns the id with these qualifiers, on its own memory, or the first fault: of the group, then of
+    /// the transaction, then out of memory.
     pub fn new(alloc: Global, group: &[u8], transaction: &[u8]) -> Result<TxnId, TextFault>
         ensures { Gives (txn_id_of group.now transaction.now) result }
     {
@@ -71,7 +71,7 @@ impl TxnId {
         })
     }
 
-    /// A copy of the id, on its own memory.
+    /// Returns a copy of the id, on its own memory.
     pub fn copy(&self, alloc: Global) -> Result<TxnId, OutOfMemory>
         ensures { IfOk result (λ id. id ≡ self.now) }
     {
@@ -81,14 +81,14 @@ impl TxnId {
         })
     }
 
-    /// Whether the bytes are a qualifier. It takes no memory.
+    /// Returns true if `text` is a qualifier. Allocates nothing.
     pub fn is_qualifier(text: &[u8]) -> bool
         ensures { result ≡ is_ok (qualifier_check text.now) }
     {
         check_qualifier(text).is_ok()
     }
 
-    /// The transaction group qualifier: 1 to 64 bytes.
+    /// Returns the transaction group qualifier: 1 to 64 bytes.
     pub fn group(&self) -> &[u8]
         ensures value { result.now ≡ self.now.group }
         ensures id { AreQualifiers self.now }
@@ -97,7 +97,7 @@ impl TxnId {
         &self.group
     }
 
-    /// The transaction qualifier: 1 to 64 bytes.
+    /// Returns the transaction qualifier: 1 to 64 bytes.
     pub fn transaction(&self) -> &[u8]
         ensures value { result.now ≡ self.now.transaction }
         ensures id { AreQualifiers self.now }

@@ -1,3 +1,4 @@
+-- Proves the clause `front` of `encoding::encode_onto`: at an error, a proper prefix of the encoding was appended.
 use Rattle.std.proofs.Common.{rules, ◌≡◌, ℕ, List, ◌∷◌, ◌++◌, length}
 use Rattle.ill_values.specs.declared.apdu.Apdu.{Apdu}
 use Rattle.ill_der.specs.Adding.{AddsFront}
@@ -8,7 +9,7 @@ use Rattle.ill_der.specs.ShortForm.{head_of, spell_body, contents_of, spelling}
 use Rattle.ill_der.proofs.AddingLemmas.{adds_first, adds_second, adds_last, at_err}
 use Rattle.ill_der.proofs.encoding.encode_onto.Goals as goal
 
--- what stands before the contents of an APDU
+-- Returns the identifier and the length of an APDU.
 abbrev start_of : Apdu → List ℕ
 start_of apdu = identifier_of (type_of apdu.body) ∷ length_octets (length (contents_of apdu))
 

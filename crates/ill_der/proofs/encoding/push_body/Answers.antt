@@ -1,3 +1,4 @@
+-- Proves the clause `front` of `encoding::push_body`: at an error, a proper prefix of the further fields was appended.
 use Rattle.std.proofs.Common.{OnErr, ℕ, List, sym, subst}
 use Rattle.ill_values.specs.declared.apdu.Body.{Body}
 use Rattle.ill_der.specs.Adding.{AddsFront}

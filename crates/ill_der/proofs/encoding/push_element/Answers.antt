@@ -1,3 +1,4 @@
+-- Proves the clause `front` of `encoding::push_element`: at an error, a proper prefix of the element was appended.
 use Rattle.std.proofs.Common.{◌∷◌, length}
 use Rattle.ill_der.specs.Format.{element, length_octets}
 use Rattle.ill_der.proofs.AddingLemmas.{adds_first, at_err}

@@ -1,3 +1,4 @@
+-- Proves the clause `front` of `encoding::push_grant`: at an error, a proper prefix of both fields was appended.
 use Rattle.std.proofs.Common.{rules, ◌≡◌, ◌++◌, OnErr, is_some, subst, append_assoc}
 use Rattle.ill_der.specs.Adding.{AddsFront}
 use Rattle.ill_der.specs.Contents.{number_octets, yes_no, date}

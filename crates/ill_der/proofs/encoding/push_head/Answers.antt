@@ -1,3 +1,4 @@
+-- Proves the clause `front` of `encoding::push_head`: at an error, a proper prefix of the head was appended.
 use Rattle.std.proofs.Common.{ℕ, List, [], ◌∷◌, ◌++◌}
 use Rattle.ill_values.specs.declared.apdu.Apdu.{Apdu}
 use Rattle.ill_der.specs.Contents.{number_octets}
@@ -6,13 +7,15 @@ use Rattle.ill_der.specs.ShortForm.{txn_id}
 use Rattle.ill_der.proofs.AddingLemmas.{adds_first, adds_second, adds_last, at_err}
 use Rattle.ill_der.proofs.encoding.push_head.Goals as goal
 
--- the three fields
+-- Returns the encoding of the version.
 abbrev version_field : List ℕ
 version_field = element 128 (1 ∷ [])
 
+-- Returns the encoding of the transaction id.
 abbrev txn_field : Apdu → List ℕ
 txn_field apdu = txn_id.spell (apdu.txn.group, apdu.txn.transaction)
 
+-- Returns the encoding of the number.
 abbrev number_field : Apdu → List ℕ
 number_field apdu = element 130 (number_octets apdu.number)
 

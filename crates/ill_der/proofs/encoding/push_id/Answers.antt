@@ -1,3 +1,4 @@
+-- Proves the clause `front` of `encoding::push_id`: at an error, a proper prefix of the id was appended.
 use Rattle.std.proofs.Common.{rules, ◌≡◌, ℕ, List, ◌∷◌, ◌++◌, length, OnErr}
 use Rattle.ill_values.specs.TxnId.{Qualifiers}
 use Rattle.ill_der.specs.Adding.{AddsFront}
@@ -5,11 +6,11 @@ use Rattle.ill_der.specs.Format.{element, length_octets}
 use Rattle.ill_der.proofs.AddingLemmas.{adds_first, adds_second, adds_last, at_err}
 use Rattle.ill_der.proofs.encoding.push_id.Goals as goal
 
--- the qualifiers, each an element
+-- Returns the encoding of both qualifiers, each an element.
 abbrev qualifiers_of : Qualifiers → List ℕ
 qualifiers_of id = element 129 id.group ++ element 130 id.transaction
 
--- what stands before them
+-- Returns the identifier and the length of the transaction id.
 abbrev start_of : Qualifiers → List ℕ
 start_of id = 161 ∷ length_octets (length (qualifiers_of id))
 

@@ -1,3 +1,4 @@
+-- Proves the contract of `handling::handle_all`: the APDUs up to the rest were handled, or handling failed.
 use Rattle.std.proofs.Common.{Result, ℕ, Ok, length, ◌-◌, take, drop, subst}
 use Rattle.ill_der.specs.declared.fault.DerFault.{DerFault}
 use Rattle.ill_der.specs.FeedView.{HandlesFirst}

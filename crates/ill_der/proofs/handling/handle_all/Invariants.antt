@@ -4,7 +4,7 @@ use Rattle.ill_der.specs.Feed.{Begins}
 use Rattle.ill_der.specs.Handling.{Handled}
 use Rattle.ill_der.proofs.handling.handle_all.Given as goal
 
--- the APDUs before this place were handled
+-- The APDUs before the offset `at` were handled.
 abbrev pub invariant-loop-size : goal.invariant-loop-size
 invariant-loop-size g l = record {
   within : l.at ≤ length l.bytes;
@@ -12,5 +12,6 @@ invariant-loop-size g l = record {
       × Handled g.H.Handler.handles (l.initial.handler, l.initial.context) apdus (l.handler, l.context);
 }
 
+-- The number of bytes from the offset `at` on becomes smaller.
 abbrev pub decreases-loop-size : goal.decreases-loop-size
 decreases-loop-size g l = length l.bytes - l.at

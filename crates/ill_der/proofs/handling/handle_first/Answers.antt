@@ -1,3 +1,4 @@
+-- Proves the contract of `handling::handle_first`: the first APDU was handled, and has this size.
 use Rattle.std.proofs.Common.{arith}
 use Rattle.ill_der.proofs.FeedLemmas.{begins_one}
 use Rattle.ill_der.proofs.handling.handle_first.Goals as goal

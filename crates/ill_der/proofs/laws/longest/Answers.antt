@@ -1,3 +1,4 @@
+-- Proves the law `laws::longest`: an encoding has at most 359 bytes, and one has 359.
 use Rattle.ill_der.proofs.SpellingLaws.{spelled_most, longest_reached}
 use Rattle.ill_der.proofs.laws.longest.Goals as goal
 

@@ -1,3 +1,4 @@
+-- Proves the law `laws::one_apdu`: APDUs with equal encodings are equal.
 use Rattle.ill_der.proofs.SpellingLaws.{one_apdu}
 use Rattle.ill_der.proofs.laws.one_apdu.Goals as goal
 

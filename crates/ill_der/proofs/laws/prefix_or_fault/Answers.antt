@@ -1,3 +1,4 @@
+-- Proves the law `laws::prefix_or_fault`: bytes begin with exactly one APDU, or have a fault.
 use Rattle.ill_der.proofs.SpellingLaws.{prefix_or_fault}
 use Rattle.ill_der.proofs.laws.prefix_or_fault.Goals as goal
 

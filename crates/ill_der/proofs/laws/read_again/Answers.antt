@@ -1,3 +1,4 @@
+-- Proves the law `laws::read_again`: an APDU is read from its encoding, whatever follows.
 use Rattle.ill_der.proofs.ShortFormLaws.{apdu_again}
 use Rattle.ill_der.proofs.laws.read_again.Goals as goal
 

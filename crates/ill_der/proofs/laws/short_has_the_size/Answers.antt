@@ -1,3 +1,4 @@
+-- Proves the law `laws::short_has_the_size`: the number of Short is that of the bytes, at most 358.
 use Rattle.std.proofs.Common.{arith}
 use Rattle.ill_der.proofs.ContentsLaws.{Values}
 use Rattle.ill_der.proofs.ShortFormLaws.{apdu_short}

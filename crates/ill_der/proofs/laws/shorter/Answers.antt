@@ -1,3 +1,4 @@
+-- Proves the law `laws::shorter`: an encoding of no ILL-Request has at most 162 bytes, and one has 162.
 use Rattle.ill_der.proofs.SpellingLaws.{spelled_shorter, shorter_reached}
 use Rattle.ill_der.proofs.laws.shorter.Goals as goal
 

@@ -1,3 +1,4 @@
+-- Proves the contract of `reading::judge`: the result is the APDU or the fault of bytes that are not short.
 use Rattle.std.proofs.Common.{arith}
 use Rattle.ill_der.proofs.ContentsLaws.{Values}
 use Rattle.ill_der.proofs.StreamLemmas.{spelled_exactly}

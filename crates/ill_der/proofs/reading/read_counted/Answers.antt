@@ -1,3 +1,4 @@
+-- Proves the contract of `reading::read_counted`: it reads one APDU, in at most 360 reads.
 use Rattle.std.proofs.Common.{◌≡◌, ℕ, ◌≤◌, ◌+◌, ◌-◌, length, take, Err, sym, ap, subst, ◌∙◌, arith, rules}
 use Rattle.std.specs.Io.KnownBytes.{Consumes}
 use Rattle.std.proofs.lemmas.List.{length-take-le}

@@ -3,8 +3,8 @@ use Rattle.std.specs.Io.KnownBytes.{Consumes}
 use Rattle.ill_der.specs.Stream.{AreUnfinished}
 use Rattle.ill_der.proofs.reading.read_counted.Given as goal
 
--- what was read is the front of the buffer, each proper front of that is unfinished, and each turn
--- has read a byte
+-- The bytes read are the first `size` of the buffer, and each proper prefix of them is unfinished.
+-- Each turn has read a byte or more.
 abbrev pub invariant-loop : goal.invariant-loop
 invariant-loop g l = record {
   room : length l.bytes ≡ 359;

@@ -1,3 +1,4 @@
+-- Proves the clause `value` of `sizing::body_size`: the size is that of the encoding of the further fields.
 use Rattle.ill_der.proofs.Sizes.{request_length, reply_length, grant_length}
 use Rattle.ill_der.proofs.sizing.body_size.Goals as goal
 

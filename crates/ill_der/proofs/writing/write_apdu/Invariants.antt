@@ -1,5 +1,5 @@
 use Rattle.ill_der.proofs.writing.write_apdu.Given as goal
 
--- the ledger of the blank
+-- The ledger has the name and the parts of the blank.
 abbrev pub ghosts-write_uncounted : goal.ghosts-write_uncounted
 ghosts-write_uncounted g a = record { name = a.blank.name; parts = a.blank.parts }

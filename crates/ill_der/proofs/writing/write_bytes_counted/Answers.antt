@@ -1,3 +1,4 @@
+-- Proves the invariant of the loop of `writing::write_bytes_counted`: each turn writes a byte or more.
 use Rattle.std.proofs.Common.{ℕ, List, length, take, ap, subst, arith}
 use Rattle.std.specs.Io.KnownBytes.{Appends}
 use Rattle.std.proofs.lemmas.List.{length-drop}

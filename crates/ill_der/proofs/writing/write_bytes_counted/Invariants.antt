@@ -2,7 +2,7 @@ use Rattle.std.proofs.Common.{◌≡◌, ◌+◌, ◌≤◌, length, take}
 use Rattle.std.specs.Io.KnownBytes.{Appends}
 use Rattle.ill_der.proofs.writing.write_bytes_counted.Given as goal
 
--- a front was written, with a byte for each turn or more
+-- The first `written` bytes were written, at least one in each turn.
 abbrev pub invariant-loop : goal.invariant-loop
 invariant-loop g l = record {
   front : l.written ≤ length l.bytes;

@@ -1,3 +1,4 @@
+-- Proves the law `laws::equal_apdus`: APDUs are equal if, and only if, all their parts are.
 use Rattle.ill_values.proofs.Equality.{apdus_equal}
 use Rattle.ill_values.proofs.laws.equal_apdus.Goals as goal
 

@@ -1,3 +1,4 @@
+-- Proves the law `laws::text_sizes`: a qualifier has 1 to 64 bytes, and an item 1 to 200.
 use Rattle.std.specs.List.{list_all}
 use Rattle.ill_values.specs.Text.{is_printable, is_item_text}
 use Rattle.ill_values.proofs.Texts.{text_size}

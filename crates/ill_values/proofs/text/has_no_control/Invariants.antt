@@ -3,6 +3,6 @@ use Rattle.std.specs.List.{list_all}
 use Rattle.ill_values.specs.Text.{is_no_control}
 use Rattle.ill_values.proofs.text.has_no_control.Given as goal
 
--- the bytes so far are, and those left decide
+-- The result for all bytes is `so_far` for those before, and the test of those that are left.
 abbrev pub invariant-loop-byte : goal.invariant-loop-byte
 invariant-loop-byte l = list_all is_no_control l.text ≡ (l.so_far && list_all is_no_control (drop l.byte-index l.text))

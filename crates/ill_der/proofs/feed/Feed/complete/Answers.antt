@@ -1,3 +1,4 @@
+-- Proves the contract of `Feed::complete`: each APDU of the held bytes and the piece is handled, or the feed stays.
 use Rattle.std.proofs.Common.{◌≡◌, ℕ, ◌-◌, length, take, drop, [], None, Option, Result, Ok, Err, refl, sym, ap, subst, ◌∙◌}
 use Rattle.ill_der.specs.declared.fault.DerFault.{DerFault}
 use Rattle.ill_der.specs.ShortForm.{apdu_at}

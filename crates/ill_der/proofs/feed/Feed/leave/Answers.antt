@@ -1,3 +1,4 @@
+-- Proves the contract of `Feed::leave`: a rest that is short is held.
 use Rattle.std.proofs.Common.{take, Option, sym, subst}
 use Rattle.ill_der.specs.declared.fault.DerFault.{DerFault}
 use Rattle.ill_der.specs.Feed.{Leaves}

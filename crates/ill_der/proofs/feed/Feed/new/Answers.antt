@@ -1,3 +1,4 @@
+-- Proves the invariant of the feed that `Feed::new` returns: the bytes that it holds are unfinished.
 use Rattle.ill_der.proofs.FeedLemmas.{holds_nothing}
 use Rattle.ill_der.proofs.feed.Feed.new.Goals as goal
 

@@ -1,3 +1,4 @@
+-- Proves the contract of `Feed::push`: it returns the APDUs of the held bytes and the piece, or the feed stays.
 use Rattle.std.proofs.Common.{◌≡◌, List, ◌++◌, ap, sym, subst, ◌∙◌}
 use Rattle.ill_values.specs.declared.apdu.Apdu.{Apdu}
 use Rattle.ill_der.specs.declared.feed.Collector.{Collector}

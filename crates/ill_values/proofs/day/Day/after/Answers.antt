@@ -1,3 +1,4 @@
+-- Proves the contract of `Day::after`: the result is the day `days` days later, or OutOfRange.
 use Rattle.std.proofs.Common.{◌≡◌, ℕ, ◌∙◌, ◌≤◌, false, true, ℤ, pos, arith, FitsSigned, w64, to_z, of_z}
 use Rattle.std.proofs.lemmas.Int.{to_z-of_z}
 use Rattle.jiff_core.specs.declared.span.Span.{Span}
@@ -7,7 +8,7 @@ use Rattle.jiff.proofs.SpanFacts.{date_add-days, can_add-days, signed_arith}
 use Rattle.ill_values.proofs.DaysLater.{refused_beyond, refused_too_many, reached_year, reached}
 use Rattle.ill_values.proofs.day.Day.after.Goals as goal
 
--- the span has the days that were asked for
+-- The span of jiff for `n` days has `n` days and nothing else, up to the most that a span holds.
 span_of_days : (n : ℕ) (given : ℤ) (s : Span) → n ≤ 7_304_484 → given ≡ pos n → IsOnly Day (to_z w64 (of_z w64 given)) s → IsOnly Day (pos n) s
 span_of_days n given s few e only =
     let fits : FitsSigned w64 given = rw e (omega (arith, signed_arith)) in

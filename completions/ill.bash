@@ -1,4 +1,5 @@
 # Completion of ill(1) in bash: commands, options, roles, files, their loans, and the first words of actions.
+# Written by tools/make-words: change the text there, and run `make words`.
 
 # A word of the line as a command sees it: without quotes and backslashes, and with the home folder for `~/`.
 _ill_text() {
@@ -19,7 +20,7 @@ _ill_text() {
 # What `ill status` tells of the loans in a file, or of a shelf.
 _ill_status() { ill ${shelf:+shelf} status -- "$(_ill_text "$1")" 2> /dev/null; }
 
-# The first words of the role of a file or a shelf; of both roles where it has no loan.
+# The first words of the role of a file or a shelf; of both roles if it has no loan.
 _ill_words() {
   local requester='request cancel reply receive renew return'
   local responder='answer cancel-reply ship renew-answer overdue recall check-in expire'
@@ -42,7 +43,7 @@ _ill_loans() {
   done < <(_ill_status "$1") | sort -u
 }
 
-# Offers those that begin with the word at the cursor, with backslashes where that word is in no quotes.
+# Offers those that begin with the word at the cursor, with backslashes if that word is in no quotes.
 _ill_offer_loans() {
   local loan word=${COMP_WORDS[COMP_CWORD]}
   while IFS= read -r loan; do
@@ -52,12 +53,47 @@ _ill_offer_loans() {
   done < <(_ill_loans "$@")
 }
 
+# Sets `parts` to the kinds of the arguments of a command, and `options` to its options.
+_ill_parts() {
+  case $1 in
+    '') parts=(command) options='--explain --help --version' ;;
+    help) parts=(command) options='' ;;
+    new) parts=(file role) options='--help' ;;
+    act) parts=(file loan loan words) options='--today --help' ;;
+    list) parts=(files) options='--open --mine --today --due-before --state --json --help' ;;
+    loan) parts=(file loan loan) options='--picture --json --help' ;;
+    status) parts=(file) options='--json --help' ;;
+    report) parts=(files) options='--today --help' ;;
+    take) parts=(file) options='--long --keep --help' ;;
+    send) parts=(file loan loan none) options='--help' ;;
+    inbox) parts=(file folder) options='--help' ;;
+    outbox) parts=(file folder) options='--stream --help' ;;
+    exchange) parts=(file folder folder) options='--today --overdue --expire --copy --beat --help' ;;
+    verify) parts=(file) options='--help' ;;
+    show) parts=() options='--json --help' ;;
+    check) parts=() options='--help' ;;
+    simulate) parts=(none none) options='--help' ;;
+    simulate-desks) parts=() options='--help' ;;
+    shelf-) parts=(shelf-command) options='--help' ;;
+    shelf-help) parts=(shelf-command) options='' ;;
+    shelf-new) parts=(folder role) options='--help' ;;
+    shelf-act) parts=(folder loan loan words) options='--today --new-group --help' ;;
+    shelf-loan) parts=(folder loan loan) options='--picture --json --help' ;;
+    shelf-status) parts=(folder) options='--json --help' ;;
+    shelf-take) parts=(folder) options='--long --keep --help' ;;
+    shelf-send) parts=(folder loan loan none) options='--help' ;;
+    shelf-inbox) parts=(folder folder) options='--help' ;;
+    shelf-outbox) parts=(folder folder) options='--stream --help' ;;
+    shelf-exchange) parts=(folder folder folder) options='--today --overdue --expire --copy --beat --help' ;;
+    shelf-retire) parts=(folder loan) options='--help' ;;
+  esac
+}
+
 # Sets `arguments` to those that stand between the command and the cursor, options left out, and `wanted` to
-# what may come next: `any` (an option too), `argument` (no option any more), `day`, `state` or `file` (the value of an
-# option).
+# the kind of what may come next: `any` (an option too), `argument` (no option any more), `day`, `state` or `file` (the
+# value of an option).
 _ill_read() {
   local at word
-  arguments=() wanted=any
   for ((at = 2; at < COMP_CWORD; at++)); do
     word=${COMP_WORDS[at]}
     case $wanted-$word in
@@ -69,8 +105,8 @@ _ill_read() {
       any---copy | any---beat) wanted=file ;;
       any--*) ;;
       *)
-        arguments+=("$word")
-        if [ "${COMP_WORDS[1]}-${#arguments[@]}" = act-4 ]; then wanted=argument; fi ;;
+        if [ "${parts[${#arguments[@]}]}" = words ]; then wanted=argument; fi
+        arguments+=("$word") ;;
     esac
   done
 }
@@ -84,48 +120,36 @@ _ill_skip() {
 }
 
 _ill() {
-  local commands='new act list loan status report take send inbox outbox exchange verify show check simulate simulate-desks shelf help'
-  local commands_on_shelf='new act loan status take send inbox outbox exchange retire help' shelf=
+  local shelf= command= kind offered= wanted=any parts=() options= arguments=()
   _ill_skip --explain
   if _ill_skip shelf; then shelf=shelf-; fi
-  local word=${COMP_WORDS[COMP_CWORD]} command=${COMP_WORDS[1]} offered= arguments wanted
+  local word=${COMP_WORDS[COMP_CWORD]}
   COMPREPLY=()
+  if [ "$COMP_CWORD" -gt 1 ]; then command=${COMP_WORDS[1]}; fi
+  _ill_parts "$shelf$command"
   _ill_read
-  if [ "$COMP_CWORD" = 1 ]; then command=; fi
-  case $wanted-$shelf$command-${#arguments[@]}-$word in
-    any-shelf--0--*) offered=--help ;;
-    any-shelf--0-* | *-shelf-help-0-*) offered=$commands_on_shelf ;;
-    any-shelf-act-[0-9]--*) offered='--today --new-group --help' ;;
-    any--0--*) offered='--explain --help --version' ;;
-    any--0-* | *-help-0-[!-]* | *-help-0-) offered=$commands ;;
-    day-* | any-help-*) ;;
-    any-act-[0-9]--*) offered='--today --help' ;;
-    state-*) offered='IDLE PENDING IN-PROCESS CONDITIONAL CANCEL-PENDING CANCELLED NOT-SUPPLIED SHIPPED
-      RECEIVED RENEW/PENDING OVERDUE RENEW/OVERDUE NOT-RECEIVED/OVERDUE RECALL RETURNED CHECKED-IN' ;;
-    any-list-[0-9]*--*) offered='--open --mine --today --due-before --state --json --help' ;;
-    any-take-[0-9]--* | any-shelf-take-[0-9]--*) offered='--long --keep --help' ;;
-    any-outbox-[0-9]--* | any-shelf-outbox-[0-9]--*) offered='--stream --help' ;;
-    any-exchange-[0-9]--* | any-shelf-exchange-[0-9]--*) offered='--today --overdue --expire --copy --beat --help' ;;
-    any-loan-[0-9]--* | any-shelf-loan-[0-9]--*) offered='--picture --json --help' ;;
-    any-report-[0-9]*--*) offered='--today --help' ;;
-    any-status-[0-9]--* | any-shelf-status-[0-9]--* | any-show-[0-9]--*) offered='--json --help' ;;
-    any-*-[0-9]--*) offered=--help ;;
-    [!f]*-shelf-new-0-* | [!f]*-shelf-act-0-* | [!f]*-shelf-loan-0-* | [!f]*-shelf-status-0-* | [!f]*-shelf-take-0-* | \
-      [!f]*-shelf-send-0-* | [!f]*-shelf-inbox-0-* | [!f]*-shelf-outbox-0-* | [!f]*-shelf-exchange-0-* | \
-      [!f]*-retire-0-* | [!f]*-inbox-1-* | [!f]*-outbox-1-* | [!f]*-exchange-[12]-*)
-      compopt -o filenames 2> /dev/null
-      mapfile -t COMPREPLY < <(compgen -d -- "$word")
-      return ;;
-    file-* | *-new-0-* | *-act-0-* | *-take-0-* | *-send-0-* | *-inbox-0-* | *-outbox-0-* | *-exchange-0-* | *-list-* | \
-      *-report-* | *-status-0-* | *-loan-0-* | *-verify-0-*)
-      compopt -o filenames 2> /dev/null
-      mapfile -t COMPREPLY < <(compgen -f -- "$word")
-      return ;;
-    *-new-1-*) offered='requester responder' ;;
-    *-act-[12]-* | *-send-[12]-* | *-loan-[12]-* | *-retire-1-*)
+  kind=$wanted
+  case $wanted-${parts[0]}-$word in
+    any-*--*) kind=option ;;
+    any-files-* | argument-files-*) kind=file ;;
+    any-* | argument-*) kind=${parts[${#arguments[@]}]} ;;
+  esac
+  case $kind in
+    option) offered=$options ;;
+    state) offered='IDLE PENDING IN-PROCESS CONDITIONAL CANCEL-PENDING CANCELLED NOT-SUPPLIED SHIPPED RECEIVED
+      RENEW/PENDING OVERDUE RENEW/OVERDUE NOT-RECEIVED/OVERDUE RECALL RETURNED CHECKED-IN' ;;
+    role) offered='requester responder' ;;
+    command) offered='new act list loan status report take send inbox outbox exchange verify show check simulate
+      simulate-desks shelf help' ;;
+    shelf-command) offered='new act loan status take send inbox outbox exchange retire help' ;;
+    words) offered=$(_ill_words "${arguments[0]}") ;;
+    loan)
       _ill_offer_loans "${arguments[@]}"
       return ;;
-    *-act-3-*) offered=$(_ill_words "${arguments[0]}") ;;
+    file | folder)
+      compopt -o filenames 2> /dev/null
+      mapfile -t COMPREPLY < <(if [ "$kind" = file ]; then compgen -f -- "$word"; else compgen -d -- "$word"; fi)
+      return ;;
   esac
   COMPREPLY=($(compgen -W "$offered" -- "$word"))
 }

@@ -33,8 +33,7 @@ static void claim(const char *folder, const char *to, const char *name, char *pa
     look(path);
     int file = open(path, O_RDONLY | O_CLOEXEC);
     expect(file >= 0, path);
-    while (read(file, bytes, sizeof bytes) > 0)
-        ;
+    expect(read(file, bytes, sizeof bytes) >= 0, path);
     close(file);
 }
 

@@ -15,7 +15,7 @@ use Rattle.ill_tool.specs.declared.fault.ToolFault.TheVariants.{Arguments, Der, 
 use Rattle.ill_tool.specs.declared.shelf.TheConstants.{ESCAPED}
 use Rattle.ill_tool.specs.Input.{ReadsInput}
 use Rattle.ill_tool.proofs.InputLemmas.{reads_as}
-use Rattle.ill_tool.specs.Shelf.{AtHome, Follow, Headed, Stop, VisitsAll, desk_name, graver, gravest, takes_home}
+use Rattle.ill_tool.specs.Shelf.{ShelfTaking, Follow, Headed, Stop, VisitsAll, desk_name, graver, gravest, takes_home}
 
 -- A visit follows the visits before it.
 follow_more : (before between : Option (List ℕ)) (stops : List Stop) (stop : Stop)
@@ -84,6 +84,6 @@ own_desk role one other is_one is_other same =
     sym (round_trip ESCAPED one refl (qualifier_bytes one is_one)) ∙ ap percent_decode encoded ∙ round_trip ESCAPED other refl (qualifier_bytes other is_other)
 
 -- An input is taken as it is seen in what a writer holds.
-pub taken_home : {S : Type 0} (view : S → AtHome) (left rest : Option (List ℕ)) (before after : S) (count : Result ℕ ToolFault)
+pub taken_home : {S : Type 0} (view : S → ShelfTaking) (left rest : Option (List ℕ)) (before after : S) (count : Result ℕ ToolFault)
     → ReadsInput (λ (s : S) apdu r (t : S). takes_home (view s) apdu r (view t)) left rest before count after → ReadsInput takes_home left rest (view before) count (view after)
 taken_home view left rest before after count is = reads_as (λ s apdu r t. takes_home (view s) apdu r (view t)) takes_home view (λ s t apdu r h. h) left rest before after count is

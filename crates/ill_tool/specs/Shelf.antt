@@ -167,14 +167,14 @@ RetiresAtFile before after result =
 -- ---- an input
 
 -- how far an input is: if messages are kept and told at length, if all went well, and what the writer holds
-pub record AtHome : Type 0 where
+pub record ShelfTaking : Type 0 where
   pub is_kept : Bool
   pub is_long : Bool
   pub all_fine : Bool
   pub written : Option (List ℕ)
 
 -- An APDU alone was taken as the input of the command for one desk.
-abbrev pub takes_home : Handles AtHome ToolFault
+abbrev pub takes_home : Handles ShelfTaking ToolFault
 takes_home old a (Ok done) new =
     (is_well : Bool) × (rest : Option (List ℕ))
     × TakesAtFile old.is_kept old.is_long (Some (spelling a)) rest old.written new.written (Ok is_well)
@@ -184,16 +184,16 @@ takes_home old a (Err fault) new =
     × TakesAtFile old.is_kept old.is_long (Some (spelling a)) rest old.written new.written (Err fault)
 
 -- before the first APDU
-abbrev pub at_home : (is_kept is_long : Bool) → Option (List ℕ) → AtHome
-at_home is_kept is_long before = record { is_kept = is_kept; is_long = is_long; all_fine = true; written = before }
+abbrev pub shelf_taking : (is_kept is_long : Bool) → Option (List ℕ) → ShelfTaking
+shelf_taking is_kept is_long before = record { is_kept = is_kept; is_long = is_long; all_fine = true; written = before }
 
 -- The APDUs of an input were taken, each at a desk.
 abbrev pub TakesAtShelf : (is_kept is_long : Bool) → Option (List ℕ) → Option (List ℕ) → Option (List ℕ) →
     Option (List ℕ) → Result Bool ToolFault → Type 0
 TakesAtShelf is_kept is_long left rest before after result =
     (IsShut before after result × (rest ≡ left))
-    ⊎ ((count : Result ℕ ToolFault) × (end : AtHome)
-    × ReadsInput takes_home left rest (at_home is_kept is_long before) count end
+    ⊎ ((count : Result ℕ ToolFault) × (end : ShelfTaking)
+    × ReadsInput takes_home left rest (shelf_taking is_kept is_long before) count end
     × (after ≡ end.written) × (result ≡ answer_of count end.all_fine))
 
 -- ---- the commands

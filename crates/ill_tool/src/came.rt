@@ -25,15 +25,27 @@ pub(crate) const STORE_FAILED: ToolFault = ToolFault::Desk(DeskFault::Store(Stor
 #[derive(Drop)]
 pub struct CameFile<F> {
     file: F,
+    has_failed: bool,
+}
+
+impl<F> CameFile<F> {
+    /// Tells if a write or a flush of the file has failed.
+    pub(crate) fn has_failed(&self) -> bool {
+        self.has_failed
+    }
 }
 
 impl<F: Write + OpenFile> Write for CameFile<F> {
     fn write(&mut self, bytes: &[u8]) -> io::Result<usize> {
-        self.file.write(bytes)
+        let written = self.file.write(bytes);
+        self.has_failed |= written.is_err();
+        written
     }
 
     fn flush(&mut self) -> io::Result<()> {
-        self.file.sync_all()
+        let flushed = self.file.sync_all();
+        self.has_failed |= flushed.is_err();
+        flushed
     }
 }
 
@@ -54,7 +66,10 @@ pub fn open_came<T: Files>(
     let bytes = load(rt, alloc, path)?.unwrap_or(Vec::new(alloc));
     let torn = torn(alloc, &bytes)?;
     match append(rt, path, bytes.len().saturating_sub(torn)) {
-        Ok(file) => Ok(CameFile { file }),
+        Ok(file) => Ok(CameFile {
+            file,
+            has_failed: false,
+        }),
         Err(_) => Err(STORE_FAILED),
     }
 }

@@ -11,7 +11,6 @@ use crate::asked::asked_by;
 use crate::came::{STORE_FAILED, open_came};
 use crate::copy::run_desk_copy;
 use crate::dates::{Dates, run_desk_dates};
-use crate::escape::push_escaped;
 use crate::fault::ToolFault;
 use crate::file::{all_well, open_locked, release};
 use crate::folder::fault;
@@ -25,6 +24,7 @@ use crate::person::{tell_person, wants_person};
 use crate::settle::{Place, settle_mails};
 use crate::tally::Tally;
 use crate::verdict::Verdict;
+use crate::warning::warn;
 use ill_saved::{Desk, FileStore, LockFiles, RECORD_LIMIT, Role, Store};
 use ill_values::{Day, OutOfMemory};
 use std::alloc::Global;
@@ -94,7 +94,12 @@ fn take_mails<T: Files, S: Store, W: Write, E: Write>(
     };
     match run {
         Ok(verdicts) => conclude(rt, alloc, &place, desk, found, verdicts, errors),
-        Err(fault) => Err(fault),
+        Err(fault) => {
+            if came.has_failed() {
+                warn(alloc, file.as_bytes(), NO_CAME, errors);
+            }
+            Err(fault)
+        }
     }
 }
 
@@ -401,21 +406,9 @@ pub(crate) fn blame<X: Drop, E: Write>(
     ensures { result ≡ answer }
 {
     if let Err(ToolFault::Desk(_)) = answer {
-        let mut line = Vec::new(alloc);
-        if push_blame(&mut line, path, text).is_ok() {
-            let _ = errors.write_all(&line);
-        }
+        warn(alloc, path.as_bytes(), text, errors);
     }
     answer
-}
-
-/// Adds the line of a path with which something is wrong.
-fn push_blame(line: &mut Vec<u8>, path: &str, text: &str) -> Result<(), OutOfMemory> {
-    line.extend_from_slice(b"ill: ")?;
-    push_escaped(line, path.as_bytes())?;
-    line.extend_from_slice(text.as_bytes())?;
-    line.push(b'\n')?;
-    Ok(())
 }
 
 /// Says what the date says, if something of it is wanted.

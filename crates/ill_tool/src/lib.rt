@@ -60,6 +60,7 @@ mod verdict;
 mod verify;
 mod visit;
 mod waiting;
+mod warning;
 mod words;
 
 pub use act::{run_act, run_desk_act};

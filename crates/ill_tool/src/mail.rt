@@ -182,7 +182,7 @@ fn claim_from<T: Files>(
     run: &str,
     mails: &mut Mails,
 ) -> io::Result<()> {
-    if mail_box.is_at(rt, folder)? {
+    if mail_box.is_at(rt, alloc, folder)? {
         return Err(ErrorKind::InvalidInput.into());
     }
     for name in names_in(rt, alloc, folder)? {
@@ -345,7 +345,7 @@ fn lookup<T: Files>(rt: &T, path: &str) -> io::Result<Option<Metadata>> {
 /// cannot be read.
 fn mail_bytes<T: Files>(rt: &T, alloc: Global, file: &str) -> io::Result<Option<Vec<u8>>> {
     let bytes = match lookup(rt, file) {
-        Ok(Some(_)) => first_bytes(rt, alloc, file),
+        Ok(Some(found)) => first_bytes(rt, alloc, file, found.len()),
         Ok(None) => return Ok(None),
         Err(error) => Err(error),
     };
@@ -356,11 +356,17 @@ fn mail_bytes<T: Files>(rt: &T, alloc: Global, file: &str) -> io::Result<Option<
     }
 }
 
-/// The first bytes of the file at a path.
-fn first_bytes<T: Files>(rt: &T, alloc: Global, path: &str) -> io::Result<Vec<u8>> {
-    let mut bytes = Vec::new(alloc);
-    fs::open(rt, path)?
-        .take(APDU_LIMIT as u64 + 1)
-        .read_to_end(&mut bytes)?;
+/// The most bytes that are read of a mail: one more than a message has.
+const MOST: usize = APDU_LIMIT + 1;
+
+/// Returns the first bytes of the file at a path, which had this size. If it still has, one call reads them.
+fn first_bytes<T: Files>(rt: &T, alloc: Global, path: &str, size: u64) -> io::Result<Vec<u8>> {
+    let mut file = fs::open(rt, path)?;
+    let mut first = [0; MOST];
+    let count = file.read(&mut first)?;
+    let mut bytes = Vec::from_slice(alloc, &first[..count])?;
+    if count as u64 != size {
+        file.take(MOST.saturating_sub(count) as u64).read_to_end(&mut bytes)?;
+    }
     Ok(bytes)
 }

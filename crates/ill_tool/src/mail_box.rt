@@ -38,16 +38,10 @@ impl MailBox {
         self.claimed.as_str()
     }
 
-    /// Tells if a path leads to this folder, to that of the mails that were claimed, or to that of the desk's file: what
-    /// stands there is no mail.
-    pub fn is_at<T: Files>(&self, rt: &T, path: &str) -> io::Result<bool> {
-        let found = fs::metadata(rt, path)?;
-        for own in [self.path.as_str(), self.claimed.as_str(), self.above()] {
-            if is_same(&found, &fs::metadata(rt, own)?) {
-                return Ok(true);
-            }
-        }
-        Ok(false)
+    /// Tells if a path leads to this folder, into it, or to the folder of the desk's file: no mail stands there.
+    pub fn is_at<T: Files>(&self, rt: &T, alloc: Global, path: &str) -> io::Result<bool> {
+        let above = fs::metadata(rt, self.above())?;
+        Ok(is_same(&fs::metadata(rt, path)?, &above) || is_within(rt, alloc, path, self.path.as_str())?)
     }
 
     /// The path of the folder in which it stands.
@@ -140,6 +134,28 @@ pub(crate) fn make_folder<T: Files>(rt: &T, path: &str) -> io::Result<()> {
 /// Tells if two paths led to one folder.
 pub(crate) fn is_same(one: &Metadata, other: &Metadata) -> bool {
     (one.dev(), one.ino()) == (other.dev(), other.ino())
+}
+
+/// How many folders a folder of mails may lie below one within which it is found: as many as stand between a claimed
+/// mail and the folder of its desk's file.
+const DEPTH: usize = 3;
+
+/// Tells if a path leads to a folder, or to one that lies at most three folders below it.
+pub(crate) fn is_within<T: Files>(
+    rt: &T,
+    alloc: Global,
+    path: &str,
+    folder: &str,
+) -> io::Result<bool> {
+    let outer = fs::metadata(rt, folder)?;
+    let mut inner = String::from_str(alloc, path)?;
+    for _ in 0..=DEPTH {
+        if is_same(&fs::metadata(rt, inner.as_str())?, &outer) {
+            return Ok(true);
+        }
+        inner.push_str("/..")?;
+    }
+    Ok(false)
 }
 
 /// Removes a file, if it is there.

@@ -361,7 +361,7 @@ fn retired_line(is_retired: bool) -> &'static [u8]
     if is_retired { b"done\n" } else { b"not-now\n" }
 }
 
-/// What a line that was written answers.
+/// Returns the answer of a command whose line was written, or could not be.
 fn tell_with(is_well: bool, told: Result<(), ToolFault>) -> Result<bool, ToolFault>
     ensures { result ≡ told_with is_well told }
 {

@@ -6,10 +6,10 @@ ghost use Rattle.ill_der.specs.View.{body_in};
 ghost use Rattle.ill_tool.specs.Inbox.{message_in};
 ghost use Rattle.ill_tool.specs.Person.{conflict_in, conflict_of, delay_matter, is_never_in_conflict, matter_of, wants_person};
 
-use crate::escape::push_escaped;
 use crate::inbox::message_in;
 use crate::long_lines::push_heading;
 use crate::verdict::{Delay, Mail, Unfit, Verdict, push_unfit};
+use crate::warning::push_name;
 use ill_core::Taking;
 use ill_der::BodyView;
 use ill_saved::Role;
@@ -142,8 +142,7 @@ fn push_matter(
     verdict: Verdict,
     matter: Matter,
 ) -> Result<(), OutOfMemory> {
-    line.extend_from_slice(b"ill: ")?;
-    push_escaped(line, &mail.name)?;
+    push_name(line, &mail.name)?;
     line.extend_from_slice(b": ")?;
     push_what(line, mail)?;
     line.extend_from_slice(matter.text().as_bytes())?;

@@ -4,11 +4,11 @@ ghost use Rattle.std.specs.Prelude.{IfErr};
 ghost use Rattle.ill_tool.specs.Outbox.{IsFileFault};
 
 use crate::came::STORE_FAILED;
-use crate::escape::push_escaped;
 use crate::fault::ToolFault;
 use crate::mail::{Mails, path_of};
 use crate::mail_box::{MailBox, is_same, remove_if_there};
 use crate::verdict::{Mail, Unfit, Verdict, push_unfit};
+use crate::warning::warn;
 use std::alloc::Global;
 use std::io::{ErrorKind, Write};
 use std::rt::Files;
@@ -35,7 +35,7 @@ pub fn settle_mails<T: Files, E: Write>(
                 return Err(ToolFault::OutOfMemory);
             }
             Err(_) => {
-                tell_stuck(alloc, mail, errors);
+                warn(alloc, &mail.name, STUCK, errors);
                 all_done = false;
             }
         }
@@ -43,6 +43,9 @@ pub fn settle_mails<T: Files, E: Write>(
     remove_runs(rt, found);
     if all_done { Ok(()) } else { Err(STORE_FAILED) }
 }
+
+/// What a person is told of a mail whose file could not be removed, put aside or given back.
+const STUCK: &str = " is not settled, and stays among the mails that were claimed";
 
 /// Removes the folders of runs in which no mail is left.
 pub(crate) fn remove_runs<T: Files>(rt: &T, found: &Mails) {
@@ -132,20 +135,4 @@ fn give_back_alone<T: Files>(rt: &T, file: &str, path: &str) {
         }
         _ => {}
     }
-}
-
-/// Tells of a mail whose file could not be removed, put aside or given back.
-fn tell_stuck<E: Write>(alloc: Global, mail: &Mail, errors: &mut E) {
-    let mut line = Vec::new(alloc);
-    if push_stuck(&mut line, &mail.name).is_ok() {
-        let _ = errors.write_all(&line);
-    }
-}
-
-/// Adds the line of a mail whose file could not be removed, put aside or given back.
-fn push_stuck(line: &mut Vec<u8>, name: &[u8]) -> io::Result<()> {
-    line.extend_from_slice(b"ill: ")?;
-    push_escaped(line, name)?;
-    line.extend_from_slice(b" is not settled, and stays among the mails that were claimed\n")?;
-    Ok(())
 }

@@ -9,21 +9,20 @@ ghost use Rattle.ill_tool.specs.Commands.{IsOpenFault};
 ghost use Rattle.ill_tool.specs.Shelf.{route_of};
 
 use crate::came::{CAME, STORE_FAILED};
-use crate::escape::push_escaped;
 use crate::exchange::{NO_BOX, NO_RUN, NOT_READ, blame, open_box};
 use crate::fault::ToolFault;
 use crate::file::lock;
 use crate::folder::fault;
 use crate::inbox::message_in;
 use crate::mail::{Mails, begin_run, claim_mails, new_run, path_of};
-use crate::mail_box::{MAIL, MailBox, remove_if_there};
+use crate::mail_box::{MAIL, MailBox, is_within, remove_if_there};
 use crate::new::run_desk_new;
 use crate::settle::{give_back, remove_runs};
 use crate::shelf::{Shelf, is_retired, is_there, refuse_retired};
 use crate::verdict::Mail;
+use crate::warning::warn;
 use ill_der::{ApduView, BodyView};
 use ill_saved::{DeskFault, FileStore, LockFiles, RECORD_LIMIT, Role};
-use ill_values::OutOfMemory;
 use std::alloc::Global;
 use std::io::{ErrorKind, Write, sink};
 use std::path::Path;
@@ -109,10 +108,28 @@ fn sort_under_lock<T: LockFiles, E: Write>(
     let mail_box = blame(alloc, mail_box, unsorted.as_str(), NO_BOX, errors)?;
     let run = begin_run(rt, alloc, &mail_box);
     let run = blame(alloc, run, unsorted.as_str(), NO_RUN, errors)?;
-    let found = claim_mails(rt, alloc, &mail_box, folder, run.as_str());
+    let found = claim_from_outside(rt, alloc, shelf, &mail_box, folder, run.as_str());
     let found = blame(alloc, found, folder, NOT_READ, errors)?;
     match sort_found(rt, alloc, shelf, folder, &found, errors) {
         Ok(is_waiting) => Ok(is_waiting),
+        Err(error) => Err(fault(&error)),
+    }
+}
+
+/// Claims the mails of a folder that does not lie within the shelf: what stands there belongs to a desk.
+fn claim_from_outside<T: Files>(
+    rt: &T,
+    alloc: Global,
+    shelf: &Shelf<'_>,
+    mail_box: &MailBox,
+    folder: &str,
+    run: &str,
+) -> Result<Mails, ToolFault>
+    ensures { IfErr result IsOpenFault }
+{
+    match is_within(rt, alloc, folder, shelf.folder) {
+        Ok(false) => claim_mails(rt, alloc, mail_box, folder, run),
+        Ok(true) => Err(STORE_FAILED),
         Err(error) => Err(fault(&error)),
     }
 }
@@ -147,17 +164,17 @@ fn sort_found<T: LockFiles, E: Write>(
 }
 
 /// Why a mail, or a desk, is told to a person.
-const NOT_READ_NOW: &str = " left not-read\n";
+const NOT_READ_NOW: &str = " left not-read";
 
-const NOT_SORTED: &str = " is not sorted, and stays among the mails that were claimed\n";
+const NOT_SORTED: &str = " is not sorted, and stays among the mails that were claimed";
 
-const NO_ROOM: &str = " left: mail has made 16 desks in this run, and makes no more\n";
+const NO_ROOM: &str = " left: mail has made 16 desks in this run, and makes no more";
 
-const LOST: &str = " is lost: mail for it is left, until it is there again\n";
+const LOST: &str = " is lost: mail for it is left, until it is there again";
 
-const RETIRED_GROUP: &str = " removed: its group is retired\n";
+const RETIRED_GROUP: &str = " removed: its group is retired";
 
-const NEW_GROUP: &str = " is made: mail begins its group\n";
+const NEW_GROUP: &str = " is made: mail begins its group";
 
 /// The mails of one run of the shelf for a desk.
 #[derive(Drop)]
@@ -237,7 +254,7 @@ impl<T: LockFiles> Sorting<'_, T> {
             Route::New => {
                 make_desk(self.rt, self.alloc, shelf.role, desk.as_str()).map_err(error_of)?;
                 self.made = self.made.saturating_add(1);
-                self.tell(desk.as_bytes(), NEW_GROUP, errors);
+                warn(self.alloc, desk.as_bytes(), NEW_GROUP, errors);
                 self.hand_over(mail, file, desk)
             }
             Route::Back => {
@@ -245,7 +262,7 @@ impl<T: LockFiles> Sorting<'_, T> {
                 give_back(self.rt, self.alloc, self.folder, file, mail)
             }
             Route::Gone => {
-                self.tell(&mail.name, RETIRED_GROUP, errors);
+                warn(self.alloc, &mail.name, RETIRED_GROUP, errors);
                 remove_if_there(self.rt, file)
             }
             Route::Stray => self.set_aside(mail, file),
@@ -329,24 +346,8 @@ impl<T: LockFiles> Sorting<'_, T> {
     /// Leaves a mail for the next run, and tells a person of it, or of its desk.
     fn leave<E: Write>(&mut self, name: &[u8], text: &str, errors: &mut E) {
         self.is_waiting = true;
-        self.tell(name, text, errors);
+        warn(self.alloc, name, text, errors);
     }
-
-    /// Tells a person of a mail or a desk.
-    fn tell<E: Write>(&self, name: &[u8], text: &str, errors: &mut E) {
-        let mut line = Vec::new(self.alloc);
-        if push_told(&mut line, name, text).is_ok() {
-            let _ = errors.write_all(&line);
-        }
-    }
-}
-
-/// Adds the line of a mail or a desk.
-fn push_told(line: &mut Vec<u8>, name: &[u8], text: &str) -> Result<(), OutOfMemory> {
-    line.extend_from_slice(b"ill: ")?;
-    push_escaped(line, name)?;
-    line.extend_from_slice(text.as_bytes())?;
-    Ok(())
 }
 
 /// Returns what a shelf has of the group of a desk.

@@ -5,7 +5,6 @@ ghost use Rattle.ill_tool.specs.Listing.{heading};
 ghost use Rattle.ill_tool.specs.Output.{WritesText};
 ghost use Rattle.ill_tool.specs.Shelf.{Headed, RunsVisit, VisitsAll, graver, is_headed, is_lines};
 
-use crate::escape::push_escaped;
 use crate::exchange::{Night, exchange, inbox, outbox};
 use crate::fault::ToolFault;
 use crate::file::status;
@@ -13,8 +12,8 @@ use crate::form::Form;
 use crate::listed::{Listed, heading};
 use crate::mail::Incoming;
 use crate::output::write_whole;
+use crate::warning::warn;
 use ill_saved::LockFiles;
-use ill_values::OutOfMemory;
 use std::alloc::Global;
 use std::io::Write;
 
@@ -141,28 +140,11 @@ fn visit_told<T: LockFiles, W: Write, E: Write>(
     let answer = run_visit(rt, alloc, path, visit, writer, errors);
     if let Err(fault) = answer
         && fault != ToolFault::Left
+        && let Ok(text) = format!(in alloc; ": {fault}")
     {
-        tell_fault(alloc, path, fault, errors);
+        warn(alloc, path.as_bytes(), text.as_str(), errors);
     }
     answer
-}
-
-/// Tells a person which desk has failed.
-fn tell_fault<E: Write>(alloc: Global, path: &str, fault: ToolFault, errors: &mut E) {
-    let mut line = Vec::new(alloc);
-    if push_fault(&mut line, path, fault).is_ok() {
-        let _ = errors.write_all(&line);
-    }
-}
-
-/// Adds the line of a desk that has failed.
-fn push_fault(line: &mut Vec<u8>, path: &str, fault: ToolFault) -> Result<(), OutOfMemory> {
-    let alloc = *line.allocator();
-    line.extend_from_slice(b"ill: ")?;
-    push_escaped(line, path.as_bytes())?;
-    let text = format!(in alloc; ": {fault}\n")?;
-    line.extend_from_slice(text.as_bytes())?;
-    Ok(())
 }
 
 /// Does at a desk what is done at each.

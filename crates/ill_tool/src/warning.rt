@@ -1,0 +1,29 @@
+//! Lines to a person, on standard error: each names a path, a mail or a desk, and says what is wrong with it.
+
+use crate::escape::push_escaped;
+use ill_values::OutOfMemory;
+use std::alloc::Global;
+use std::io::Write;
+
+/// Writes the line of a name, with a text behind it. If memory runs out, no line is written.
+pub(crate) fn warn<E: Write>(alloc: Global, name: &[u8], text: &str, errors: &mut E) {
+    let mut line = Vec::new(alloc);
+    if push_warning(&mut line, name, text).is_ok() {
+        let _ = errors.write_all(&line);
+    }
+}
+
+/// Adds the line of a name, with a text behind it.
+fn push_warning(line: &mut Vec<u8>, name: &[u8], text: &str) -> Result<(), OutOfMemory> {
+    push_name(line, name)?;
+    line.extend_from_slice(text.as_bytes())?;
+    line.push(b'\n')?;
+    Ok(())
+}
+
+/// Adds the beginning of each line to a person: the program, and a name.
+pub(crate) fn push_name(line: &mut Vec<u8>, name: &[u8]) -> Result<(), OutOfMemory> {
+    line.extend_from_slice(b"ill: ")?;
+    push_escaped(line, name)?;
+    Ok(())
+}

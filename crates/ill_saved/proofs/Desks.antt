@@ -1,6 +1,6 @@
 -- A desk keeps its rules.
 use Rattle.std.proofs.Common.{rules, arith, ◌≡◌, ◌⊎◌, ℕ, ◌+◌, ◌≤◌, Bool, true, List, [], ◌∷◌, ◌++◌, length, Option, Some, None, Result, Ok, Err, refl, ap, sym, subst, ◌∙◌, inl, inr, length-append, append-nil, append_assoc, drop}
-use Rattle.std.specs.Prelude.{nat_le, map, slice_get, zero, suc, ◌-◌, is_some, if◌then◌else◌, not, false, take}
+use Rattle.std.specs.Prelude.{nat_le, map, option_map, slice_get, zero, suc, ◌-◌, is_some, if◌then◌else◌, not, false, take}
 use Rattle.std.proofs.lemmas.Bool.{le-leb}
 use Rattle.ill_values.specs.Day.{Date}
 use Rattle.ill_values.specs.declared.apdu.Apdu.{Apdu}
@@ -50,11 +50,11 @@ use Rattle.ill_saved.specs.Faults.{of_record}
 use Rattle.ill_saved.proofs.Records.{no_digest}
 use Rattle.ill_saved.specs.Records.{record_at, record_spelling, begins_as_record, Decodes}
 use Rattle.ill_saved.specs.Ranges.{Each, IsSide}
-use Rattle.ill_saved.specs.Store.{LandsAtSave, Allows}
+use Rattle.ill_saved.specs.Store.{LandsAtSave, Allows, StoreState, StoreLoads, StoreSaves}
 use Rattle.ill_saved.specs.declared.desk.Loaded.{Loaded}
 use Rattle.ill_saved.specs.Kept.{KeptBytes, none_kept, IsKept, Keeps, GoesBackTo}
 use Rattle.ill_saved.specs.Loading.{LoadsOrIdle}
-use Rattle.ill_saved.specs.Desk.{landed_side, IsBackedBy, IsBackedByRead, IsBacked, IsOneApdu, LoadsSide, IsLoadFault, Restarts, Sends}
+use Rattle.ill_saved.specs.Desk.{landed_side, IsBackedBy, IsBackedByRead, IsBacked, IsOneApdu, DeskLoads, LoadsSide, IsLoadFault, Restarts, Sends}
 use Rattle.ill_saved.proofs.Rules.{responder_asked}
 
 -- What the laws of ill_core say of rows: they keep the transaction, and issue one APDU or none.
@@ -278,28 +278,28 @@ keeps_on kept old new released few grows keeps (inr (side, is, of)) =
     )
 
 -- the rules of a desk
-abbrev pub Rules : Bool → Option (List ℕ) → KeptBytes → Side → ℕ → Type 0
-Rules honest landed kept live released = (released ≤ length (issued_of live)) × (honest ≡ true → IsBacked landed live released) × Keeps kept live released
+abbrev pub Rules : StoreState → KeptBytes → Side → ℕ → Type 0
+Rules store kept live released = (released ≤ length (issued_of live)) × (store.is_honest ≡ true → IsBacked store.landed live released) × Keeps kept live released
 
-pub row_rules : RowsGrow → RowsKeepRequest → (honest : Bool) (landed : Option (List ℕ)) (kept : KeptBytes) (old new : Side) (released : ℕ) → IsRow old new → Rules honest landed kept old released → Rules honest landed kept new released
-row_rules grows keeps honest landed kept old new released row rules =
+pub row_rules : RowsGrow → RowsKeepRequest → (store : StoreState) (kept : KeptBytes) (old new : Side) (released : ℕ) → IsRow old new → Rules store kept old released → Rules store kept new released
+row_rules grows keeps store kept old new released row rules =
     let more = grows old new row in
-    (omega (arith, rules.0, no_less _ _ more.1), λ is. row_backs grows landed old new released row (rules.1 is), keeps_on kept old new released rules.0 more (keeps old new row) rules.2)
+    (omega (arith, rules.0, no_less _ _ more.1), λ is. row_backs grows store.landed old new released row (rules.1 is), keeps_on kept old new released rules.0 more (keeps old new row) rules.2)
 
-same_rules : (honest : Bool) (landed : Option (List ℕ)) (kept : KeptBytes) (old new : Side) (released : ℕ) → new ≡ old → Rules honest landed kept old released → Rules honest landed kept new released
-same_rules honest landed kept old new released e rules = subst (λ side. Rules honest landed kept side released) (sym e) rules
+same_rules : (store : StoreState) (kept : KeptBytes) (old new : Side) (released : ℕ) → new ≡ old → Rules store kept old released → Rules store kept new released
+same_rules store kept old new released e rules = subst (λ side. Rules store kept side released) (sym e) rules
 
-pub acts_rules : RowsGrow → RowsKeepRequest → (honest : Bool) (landed : Option (List ℕ)) (kept : KeptBytes) (old new : Side) (released : ℕ) (action : Action) (answer : Result (Unit {0}) Refusal)
-    → Acts old action answer new → Rules honest landed kept old released → Rules honest landed kept new released
-acts_rules grows keeps honest landed kept old new released action (Ok done) acts rules = row_rules grows keeps honest landed kept old new released (acted action acts) rules
-acts_rules grows keeps honest landed kept old new released action (Err refusals.OutOfMemory) acts rules = same_rules honest landed kept old new released acts.1 rules
-acts_rules grows keeps honest landed kept old new released action (Err refusal) acts rules = same_rules honest landed kept old new released acts.1 rules
+pub acts_rules : RowsGrow → RowsKeepRequest → (store : StoreState) (kept : KeptBytes) (old new : Side) (released : ℕ) (action : Action) (answer : Result (Unit {0}) Refusal)
+    → Acts old action answer new → Rules store kept old released → Rules store kept new released
+acts_rules grows keeps store kept old new released action (Ok done) acts rules = row_rules grows keeps store kept old new released (acted action acts) rules
+acts_rules grows keeps store kept old new released action (Err refusals.OutOfMemory) acts rules = same_rules store kept old new released acts.1 rules
+acts_rules grows keeps store kept old new released action (Err refusal) acts rules = same_rules store kept old new released acts.1 rules
 
-pub takes_rules : RowsGrow → RowsKeepRequest → (honest : Bool) (landed : Option (List ℕ)) (kept : KeptBytes) (old new : Side) (released : ℕ) (a : Apdu) (answer : Result Taking Refusal)
-    → Takes old a answer new → Rules honest landed kept old released → Rules honest landed kept new released
-takes_rules grows keeps honest landed kept old new released a (Err refusals.OutOfMemory) takes rules = same_rules honest landed kept old new released takes.2 rules
-takes_rules grows keeps honest landed kept old new released a answer takes rules =
-    row_rules grows keeps honest landed kept old new released (took a (ap (λ (r : Result Taking Refusal × Side). r.1) takes)) rules
+pub takes_rules : RowsGrow → RowsKeepRequest → (store : StoreState) (kept : KeptBytes) (old new : Side) (released : ℕ) (a : Apdu) (answer : Result Taking Refusal)
+    → Takes old a answer new → Rules store kept old released → Rules store kept new released
+takes_rules grows keeps store kept old new released a (Err refusals.OutOfMemory) takes rules = same_rules store kept old new released takes.2 rules
+takes_rules grows keeps store kept old new released a answer takes rules =
+    row_rules grows keeps store kept old new released (took a (ap (λ (r : Result Taking Refusal × Side). r.1) takes)) rules
 
 -- ---- one APDU
 
@@ -347,11 +347,11 @@ keeps_whole kept side count is all =
     inr (side, is, record { front = none_more (issued_of side) (issued_of side) refl; all = all; back = back_to_itself side count is.0.0 all; asked = λ asked. asked })
 
 -- what was encoded has landed, and is kept
-pub save_rules : ReadsAgain → (old_honest honest : Bool) (landed : Option (List ℕ)) (kept : KeptBytes) (bytes : List ℕ) (live : Side) (count : ℕ) → honest ≡ old_honest → IsKept kept live → bytes ≡ kept.bytes
-    → (old_honest ≡ true → landed ≡ Some bytes) → count ≡ length (issued_of live) → Rules honest landed kept live count
-save_rules again old_honest honest landed kept bytes live count stays is spelled lands all = (
+pub save_rules : ReadsAgain → {old new : StoreState} {bytes : List ℕ} (kept : KeptBytes) (live : Side) (count : ℕ) → StoreSaves bytes old (Ok tt) new → IsKept kept live → bytes ≡ kept.bytes
+    → count ≡ length (issued_of live) → Rules new kept live count
+save_rules again {old} {new} {bytes} kept live count saves is spelled all = (
   omega (arith, all),
-  λ now. landed_backs again bytes landed live count is.0 (spelled ∙ ap (λ (k : KeptBytes). k.bytes) is.1) (lands (sym stays ∙ now)) (omega (arith, all)),
+  λ now. landed_backs again bytes new.landed live count is.0 (spelled ∙ ap (λ (k : KeptBytes). k.bytes) is.1) (saves.landed (sym saves.honest ∙ now)) (omega (arith, all)),
   keeps_whole kept live count is all,
 )
 
@@ -369,14 +369,13 @@ old_or_new plan bytes stores.TooLarge old new lands = absurd lands
 old_or_new plan bytes stores.OutOfMemory old new lands = inl lands
 
 -- the old record or the new one has landed
-pub fault_rules : ReadsAgain → (old_honest honest : Bool) (plan : Option NextCall) (old new : Option (List ℕ)) (kept : KeptBytes) (bytes : List ℕ) (live : Side) (released : ℕ) (fault : StoreFault)
-    → honest ≡ old_honest → IsSide live → bytes ≡ record_spelling live → (old_honest ≡ true → LandsAtSave plan bytes (Err fault) old new) → Rules old_honest old kept live released
-    → Rules honest new kept live released
-fault_rules again old_honest honest plan old new kept bytes live released fault stays is spelled lands rules = (
+pub fault_rules : ReadsAgain → {old new : StoreState} {bytes : List ℕ} {fault : StoreFault} (kept : KeptBytes) (live : Side) (released : ℕ) → StoreSaves bytes old (Err fault) new → IsSide live
+    → bytes ≡ record_spelling live → Rules old kept live released → Rules new kept live released
+fault_rules again {old} {new} {bytes} {fault} kept live released saves is spelled rules = (
   rules.0,
   λ now.
-      let was = sym stays ∙ now in
-      either_backs again old new bytes live released is spelled rules.0 (rules.1 was) (old_or_new plan bytes fault old new (lands was)),
+      let was = sym saves.honest ∙ now in
+      either_backs again old.landed new.landed bytes live released is spelled rules.0 (rules.1 was) (old_or_new old.plan bytes fault old.landed new.landed (saves.landed was)),
   rules.2,
 )
 
@@ -423,39 +422,50 @@ loaded_keeps (Some bytes) live loaded count loads all = keeps_whole loaded.kept 
 loaded_keeps None live loaded count loads all = inl (loads.1, all ∙ (ap (λ s. length (issued_of s)) loads.0 ∙ nothing_issued live))
 
 -- a side all of whose messages are released is the one that has landed
-whole_rules : (old_honest honest : Bool) (old_landed landed bytes : Option (List ℕ)) (kept : KeptBytes) (live side : Side) (count : ℕ) → honest ≡ old_honest → (old_honest ≡ true → landed ≡ old_landed)
-    → (old_honest ≡ true → bytes ≡ old_landed) → landed_side bytes live ≡ Ok side → IsConsistent side → Keeps kept side count → count ≡ length (issued_of side) → Rules honest landed kept side count
-whole_rules old_honest honest old_landed landed bytes kept live side count stays lands loaded is consistent keeps all = (
+whole_rules : {X : Type 0} {bytes_of : X → List ℕ} {old new : StoreState} {found : Option X} (kept : KeptBytes) (live side : Side) (count : ℕ) → StoreLoads bytes_of old (Ok found) new
+    → landed_side (option_map bytes_of found) live ≡ Ok side → IsConsistent side → Keeps kept side count → count ≡ length (issued_of side) → Rules new kept side count
+whole_rules {X} {bytes_of} {old} {new} {found} kept live side count loads is consistent keeps all = (
   omega (arith, all),
   λ now.
-      let was = sym stays ∙ now in
-      subst (λ o. IsBacked o side count) (loaded was ∙ sym (lands was)) (whole_backs bytes live side count is consistent all),
+      let was = sym loads.honest ∙ now in
+      subst (λ o. IsBacked o side count) (loads.loaded was ∙ sym (loads.landed was)) (whole_backs (option_map bytes_of found) live side count is consistent all),
   keeps,
 )
 
 -- the side that has landed is live, and its record is kept
-pub restart_rules : (old_honest honest : Bool) (old_landed landed bytes : Option (List ℕ)) (live : Side) (loaded : Loaded) (count : ℕ) → honest ≡ old_honest → (old_honest ≡ true → landed ≡ old_landed)
-    → (old_honest ≡ true → bytes ≡ old_landed) → LoadsOrIdle bytes live (Ok loaded) → count ≡ length (issued_of loaded.side) → Rules honest landed loaded.kept loaded.side count
-restart_rules old_honest honest old_landed landed bytes live loaded count stays lands load loads all =
-    whole_rules old_honest honest old_landed landed bytes loaded.kept live loaded.side count stays lands load (loaded_is bytes live loaded loads) (loaded_consistent bytes live loaded loads)
-    (loaded_keeps bytes live loaded count loads all) all
+pub restart_rules : {X : Type 0} {bytes_of : X → List ℕ} {old new : StoreState} {found : Option X} (live : Side) (loaded : Loaded) (count : ℕ) → StoreLoads bytes_of old (Ok found) new
+    → LoadsOrIdle (option_map bytes_of found) live (Ok loaded) → count ≡ length (issued_of loaded.side) → Rules new loaded.kept loaded.side count
+restart_rules {X} {bytes_of} {old} {new} {found} live loaded count store loads all =
+    let bytes = option_map bytes_of found in
+    whole_rules loaded.kept live loaded.side count store (loaded_is bytes live loaded loads) (loaded_consistent bytes live loaded loads) (loaded_keeps bytes live loaded count loads all) all
+
+-- a plan that lets a call answer something lets it be done
+pub allows_done : {X : Type 0} (plan : Option NextCall) (value : X) → Allows plan (Ok value) → Allows {X = Unit {0}} plan (Ok tt)
+allows_done None value allows = tt
+allows_done (Some plans.Works) value allows = tt
+allows_done (Some plans.FailsOld) value allows = allows
+allows_done (Some plans.FailsNew) value allows = allows
 
 -- what a restart leads to
-pub restarts_to : (landed bytes : Option (List ℕ)) (live : Side) (loaded : Loaded) → bytes ≡ landed → LoadsOrIdle bytes live (Ok loaded) → landed_side landed live ≡ Ok loaded.side
-restarts_to landed bytes live loaded lands loads = ap (λ o. landed_side o live) (sym lands) ∙ loaded_is bytes live loaded loads
+pub restarts_to : {X : Type 0} {bytes_of : X → List ℕ} {old new : StoreState} {found : Option X} (live : Side) (loaded : Loaded) → StoreLoads bytes_of old (Ok found) new → LoadsOrIdle (option_map bytes_of found) live (Ok loaded)
+    → old.is_honest ≡ true → Restarts (landed_side old.landed live) old.plan (Ok tt) loaded.side
+restarts_to {X} {bytes_of} {old} {new} {found} live loaded store loads honest =
+    (ap (λ o. landed_side o live) (sym (store.loaded honest)) ∙ loaded_is (option_map bytes_of found) live loaded loads, allows_done old.plan found (store.planned honest))
 
 -- the side to which the live one went back has landed
 back_is : ReadsAgain → (kept : KeptBytes) (released : ℕ) (bytes : Option (List ℕ)) (old new : Side) → GoesBackTo kept released bytes true old new → landed_side bytes old ≡ Ok new
 back_is again kept released bytes old new (spelled, is, of) =
     ap (λ o. landed_side o old) (spelled ∙ ap (λ (k : KeptBytes). Some k.bytes) is.1) ∙ again new is.0
 
-pub back_to_landed : ReadsAgain → (kept : KeptBytes) (released : ℕ) (landed bytes : Option (List ℕ)) (old new : Side) → bytes ≡ landed → GoesBackTo kept released bytes true old new → landed_side landed old ≡ Ok new
-back_to_landed again kept released landed bytes old new lands back = ap (λ o. landed_side o old) (sym lands) ∙ back_is again kept released bytes old new back
+pub back_to_landed : ReadsAgain → {X : Type 0} {bytes_of : X → List ℕ} {before after : StoreState} {found : Option X} (kept : KeptBytes) (released : ℕ) (old new : Side) → StoreLoads bytes_of before (Ok found) after
+    → GoesBackTo kept released (option_map bytes_of found) true old new → before.is_honest ≡ true → Restarts (landed_side before.landed old) before.plan (Ok tt) new
+back_to_landed again {X} {bytes_of} {before} {after} {found} kept released old new store back honest =
+    (ap (λ o. landed_side o old) (sym (store.loaded honest)) ∙ back_is again kept released (option_map bytes_of found) old new back, allows_done before.plan found (store.planned honest))
 
-pub back_rules : ReadsAgain → (old_honest honest : Bool) (old_landed landed bytes : Option (List ℕ)) (kept : KeptBytes) (old new : Side) (released : ℕ) → honest ≡ old_honest
-    → (old_honest ≡ true → landed ≡ old_landed) → (old_honest ≡ true → bytes ≡ old_landed) → GoesBackTo kept released bytes true old new → Rules honest landed kept new released
-back_rules again old_honest honest old_landed landed bytes kept old new released stays lands load (spelled, is, of) =
-    whole_rules old_honest honest old_landed landed bytes kept old new released stays lands load (back_is again kept released bytes old new (spelled, is, of)) is.0.0 (keeps_whole kept new released is of.all) of.all
+pub back_rules : ReadsAgain → {X : Type 0} {bytes_of : X → List ℕ} {before after : StoreState} {found : Option X} (kept : KeptBytes) (old new : Side) (released : ℕ) → StoreLoads bytes_of before (Ok found) after
+    → GoesBackTo kept released (option_map bytes_of found) true old new → Rules after kept new released
+back_rules again {X} {bytes_of} {before} {after} {found} kept old new released store (spelled, is, of) =
+    whole_rules kept old new released store (back_is again kept released (option_map bytes_of found) old new (spelled, is, of)) is.0.0 (keeps_whole kept new released is of.all) of.all
 
 -- what a record's fault is to a desk
 pub record_loads : (bytes : List ℕ) (begins : Bool) (fault : RecordFault) → Decodes (record_at bytes) begins (Err fault) → IsLoadFault (of_record fault)
@@ -490,42 +500,37 @@ load_fails (Some bytes) live new released plan faults.OutOfMemory backed loads i
 load_fails (Some bytes) live new released plan fault backed loads is = absurd loads
 load_fails None live new released plan fault backed loads is = subst (λ f. Restarts (Ok (idle_of live)) plan (Err f) new) (sym loads) tt
 
-pub restart_fails : (landed bytes : Option (List ℕ)) (live new : Side) (released : ℕ) (plan : Option NextCall) (fault : DeskFault) → bytes ≡ landed → IsBacked landed live released → LoadsOrIdle bytes live (Err fault)
-    → IsLoadFault fault → Restarts (landed_side landed live) plan (Err fault) new
-restart_fails landed bytes live new released plan fault lands backed loads is =
-    subst (λ o. IsBacked o live released → Restarts (landed_side o live) plan (Err fault) new) lands (λ backs. load_fails bytes live new released plan fault backs loads is) backed
-
--- a plan that lets a call answer something lets it be done
-pub allows_done : {X : Type 0} (plan : Option NextCall) (value : X) → Allows plan (Ok value) → Allows {X = Unit {0}} plan (Ok tt)
-allows_done None value allows = tt
-allows_done (Some plans.Works) value allows = tt
-allows_done (Some plans.FailsOld) value allows = allows
-allows_done (Some plans.FailsNew) value allows = allows
+pub restart_fails : {X : Type 0} {bytes_of : X → List ℕ} {before after : StoreState} {found : Option X} (live new : Side) (released : ℕ) (fault : DeskFault) → StoreLoads bytes_of before (Ok found) after
+    → (before.is_honest ≡ true → IsBacked before.landed live released) → LoadsOrIdle (option_map bytes_of found) live (Err fault) → IsLoadFault fault → before.is_honest ≡ true
+    → Restarts (landed_side before.landed live) before.plan (Err fault) new
+restart_fails {X} {bytes_of} {before} {after} {found} live new released fault store backed loads is honest =
+    subst (λ o. IsBacked o live released → Restarts (landed_side o live) before.plan (Err fault) new) (store.loaded honest)
+    (λ backs. load_fails (option_map bytes_of found) live new released before.plan fault backs loads is) (backed honest)
 
 started_is : (landed : Option (List ℕ)) (plan : Option NextCall) (side : Side) → LoadsSide landed plan (Ok (Some side)) → landed_side landed side ≡ Ok side
 started_is (Some bytes) plan side loads = loads.0
 started_is None plan side loads = absurd loads
 
 -- the side that a desk starts with has landed
-pub start_rules : (old_honest honest : Bool) (old_landed landed : Option (List ℕ)) (plan : Option NextCall) (kept : KeptBytes) (side : Side) (count : ℕ) → honest ≡ old_honest
-    → (old_honest ≡ true → landed ≡ old_landed) → (old_honest ≡ true → LoadsSide old_landed plan (Ok (Some side))) → IsKept kept side → count ≡ length (issued_of side) → Rules honest landed kept side count
-start_rules old_honest honest old_landed landed plan kept side count stays lands loads is all = (
+pub start_rules : {X : Type 0} {old new : StoreState} {answer : Result X DeskFault} (kept : KeptBytes) (side : Side) (count : ℕ) → DeskLoads old answer new
+    → (old.is_honest ≡ true → LoadsSide old.landed old.plan (Ok (Some side))) → IsKept kept side → count ≡ length (issued_of side) → Rules new kept side count
+start_rules {X} {old} {new} {answer} kept side count store loads is all = (
   omega (arith, all),
   λ now.
-      let was = sym stays ∙ now in
-      subst (λ o. IsBacked o side count) (sym (lands was)) (whole_backs old_landed side side count (started_is old_landed plan side (loads was)) is.0.0 all),
+      let was = sym store.honest ∙ now in
+      subst (λ o. IsBacked o side count) (sym (store.landed was)) (whole_backs old.landed side side count (started_is old.landed old.plan side (loads was)) is.0.0 all),
   keeps_whole kept side count is all,
 )
 
 -- a side that begins
-pub create_rules : (old_honest honest : Bool) (old_landed landed : Option (List ℕ)) (kept : KeptBytes) (first : Side) → honest ≡ old_honest → (old_honest ≡ true → landed ≡ old_landed)
-    → (old_honest ≡ true → None ≡ old_landed) → kept ≡ none_kept → first ≡ idle_of first → Rules honest landed kept first 0
-create_rules old_honest honest old_landed landed kept first stays keeps none empty idle = (
+pub create_rules : {X : Type 0} {bytes_of : X → List ℕ} {old new : StoreState} {answer : Result (Option X) StoreFault} (kept : KeptBytes) (first : Side) → StoreLoads bytes_of old answer new
+    → (old.is_honest ≡ true → None ≡ old.landed) → kept ≡ none_kept → first ≡ idle_of first → Rules new kept first 0
+create_rules {X} {bytes_of} {old} {new} {answer} kept first loads none empty idle = (
   omega arith,
   λ now.
-      let was = sym stays ∙ now in
+      let was = sym loads.honest ∙ now in
       let all : 0 ≡ length (issued_of first) = sym (ap (λ s. length (issued_of s)) idle ∙ nothing_issued first) in
-      subst (λ o. IsBacked o first 0) (none was ∙ sym (keeps was)) (idle_backs first first 0 idle all),
+      subst (λ o. IsBacked o first 0) (none was ∙ sym (loads.landed was)) (idle_backs first first 0 idle all),
   inl (empty, refl),
 )
 

@@ -16,7 +16,7 @@ use Rattle.ill_saved.specs.declared.fault.DeskFault.TheVariants.{Core, Bytes, Tr
 use Rattle.ill_saved.specs.Side.{issued_of, idle_of, IsConsistent, acts, takes, WantsMemoryFor, Follows}
 use Rattle.ill_saved.specs.Records.{record_at, begins_as_record, Decodes}
 use Rattle.ill_saved.specs.Ranges.{IsSide}
-use Rattle.ill_saved.specs.Store.{Allows, LandsAtFailure, HasRisen, spent}
+use Rattle.ill_saved.specs.Store.{Allows, LandsAtFailure, HasRisen, StoreState, spent}
 
 -- the side in memory, its store, and how many of its messages may be sent
 pub record DeskOf (S : Type 0) : Type 0 where
@@ -169,6 +169,23 @@ DeskFailsCounted answer old new = Unit {0}
 -- rise no more.
 abbrev pub CountsDeskFailure : {X : Type 0} → Result X DeskFault → ℕ → ℕ → Type 0
 CountsDeskFailure answer old new = (old ≤ new) × DeskFailsCounted answer old new
+
+-- ---- the store of a desk
+
+-- What a call that only loads leaves in the store of a desk. What has landed stays, in an honest one.
+pub record DeskLoads {X : Type 0} (old : StoreState) (answer : Result X DeskFault) (new : StoreState) : Type 0 where
+  pub landed : old.is_honest ≡ true → new.landed ≡ old.landed
+  pub counted : CountsDeskFailure answer old.failures new.failures
+  pub honest : new.is_honest ≡ old.is_honest
+  pub plan : new.plan ≡ spent old.plan
+
+-- What the save of these bytes leaves in the store of a desk.
+pub record DeskSaves (bytes : List ℕ) (old : StoreState) (answer : Result (Unit {0}) DeskFault) (new : StoreState)
+    : Type 0 where
+  pub landed : old.is_honest ≡ true → SaveLands old.plan bytes answer old.landed new.landed
+  pub counted : CountsDeskFailure answer old.failures new.failures
+  pub honest : new.is_honest ≡ old.is_honest
+  pub plan : PlanAfter answer old.plan new.plan
 
 -- ---- beginning
 

@@ -58,6 +58,36 @@ abbrev pub IsNotTooLarge : Result (Unit {0}) StoreFault → Type 0
 IsNotTooLarge (Err TooLarge) = ⊥
 IsNotTooLarge answer = Unit {0}
 
+-- ---- what each call does
+
+-- the bytes that have landed, if any; how many calls have failed; whether the store does what its calls answer; and
+-- the plan of the next call, if there is one
+pub record StoreState : Type 0 where
+  pub landed : Option (List ℕ)
+  pub failures : ℕ
+  pub is_honest : Bool
+  pub plan : Option NextCall
+
+-- What a load answers and leaves. An honest store gives what has landed, keeps it, and keeps to its plan.
+pub record StoreLoads {X : Type 0} (bytes_of : X → List ℕ) (old : StoreState) (answer : Result (Option X) StoreFault)
+    (new : StoreState) : Type 0 where
+  pub loaded : old.is_honest ≡ true → IfOk answer (λ found. option_map bytes_of found ≡ old.landed)
+  pub planned : old.is_honest ≡ true → Allows old.plan answer
+  pub landed : old.is_honest ≡ true → new.landed ≡ old.landed
+  pub counted : CountsFailure answer old.failures new.failures
+  pub honest : new.is_honest ≡ old.is_honest
+  pub plan : new.plan ≡ spent old.plan
+
+-- What a save answers and leaves. In an honest store the bytes land as it answers, and it keeps to its plan.
+pub record StoreSaves (bytes : List ℕ) (old : StoreState) (answer : Result (Unit {0}) StoreFault) (new : StoreState)
+    : Type 0 where
+  pub planned : old.is_honest ≡ true → Allows old.plan answer
+  pub landed : old.is_honest ≡ true → LandsAtSave old.plan bytes answer old.landed new.landed
+  pub large : IsNotTooLarge answer
+  pub counted : CountsFailure answer old.failures new.failures
+  pub honest : new.is_honest ≡ old.is_honest
+  pub plan : new.plan ≡ spent old.plan
+
 -- ---- a store that fails from a call on
 
 -- the store that its calls are passed on to, how many still are, and how many have failed here
@@ -70,27 +100,12 @@ pub record FuseOf (S : Type 0) : Type 0 where
 abbrev pub failures_together : ℕ → ℕ → ℕ
 failures_together here there = min most_failures (here + there)
 
--- What a load of the inner store answers and leaves, by what a store promises.
-pub record InnerLoads {S X : Type 0} (bytes_of : X → List ℕ) (landed : S → Option (List ℕ)) (failures : S → ℕ)
-    (is_honest : S → Bool) (plan : S → Option NextCall) (old : S) (answer : Result (Option X) StoreFault) (new : S)
-    : Type 0 where
-  pub loaded : is_honest old ≡ true → IfOk answer (λ found. option_map bytes_of found ≡ landed old)
-  pub planned : is_honest old ≡ true → Allows (plan old) answer
-  pub stays : is_honest old ≡ true → landed new ≡ landed old
-  pub counted : CountsFailure answer (failures old) (failures new)
-  pub honest : is_honest new ≡ is_honest old
-  pub spent : plan new ≡ spent (plan old)
-
--- What a save of the inner store answers and leaves.
-pub record InnerSaves {S : Type 0} (bytes : List ℕ) (landed : S → Option (List ℕ)) (failures : S → ℕ)
-    (is_honest : S → Bool) (plan : S → Option NextCall) (old : S) (answer : Result (Unit {0}) StoreFault) (new : S)
-    : Type 0 where
-  pub planned : is_honest old ≡ true → Allows (plan old) answer
-  pub lands : is_honest old ≡ true → LandsAtSave (plan old) bytes answer (landed old) (landed new)
-  pub large : IsNotTooLarge answer
-  pub counted : CountsFailure answer (failures old) (failures new)
-  pub honest : is_honest new ≡ is_honest old
-  pub spent : plan new ≡ spent (plan old)
+-- What is known of a fuse, by what is known of its inner store: that, but for the failures here, and the plan.
+abbrev pub fuse_state : {S : Type 0} → (S → StoreState) → FuseOf S → StoreState
+fuse_state state fuse = record (state fuse.inner) {
+  failures = failures_together fuse.failures (state fuse.inner).failures;
+  plan = None;
+}
 
 -- A call has failed here, and is counted.
 abbrev pub blown : {S : Type 0} → FuseOf S → FuseOf S
@@ -98,11 +113,11 @@ blown fuse = record fuse { failures = one_more fuse.failures }
 
 -- A call that is passed on answers and leaves what the inner store answers and leaves, and one call less
 -- is left; where none is left it fails, and the inner store is as it was.
-abbrev pub FuseCalls : {S A : Type 0} → (S → Result A StoreFault → S → Type 0) → FuseOf S → Result A StoreFault →
-    FuseOf S → Type 0
-FuseCalls calls old answer new =
+abbrev pub FuseCalls : {S A : Type 0} → (S → StoreState) → (StoreState → Result A StoreFault → StoreState → Type 0) →
+    FuseOf S → Result A StoreFault → FuseOf S → Type 0
+FuseCalls state calls old answer new =
     ((old.calls ≡ 0) × (answer ≡ Err Failed) × (new ≡ blown old))
-    ⊎ ((old.calls ≡ new.calls + 1) × (new.failures ≡ old.failures) × calls old.inner answer new.inner)
+    ⊎ ((old.calls ≡ new.calls + 1) × (new.failures ≡ old.failures) × calls (state old.inner) answer (state new.inner))
 
 -- ---- a store in memory
 

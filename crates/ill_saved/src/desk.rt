@@ -5,10 +5,9 @@ ghost use Rattle.ill_core.specs.Issued.{message};
 ghost use Rattle.ill_saved.specs.Side.{issued_of, idle_of, IsConsistent};
 ghost use Rattle.ill_saved.specs.Records.{record_spelling, record_at, begins_as_record, Decodes};
 ghost use Rattle.ill_saved.specs.Ranges.{IsSide};
-ghost use Rattle.ill_saved.specs.Desk.{DeskOf, IsBacked, DeskActs, DeskTakes, DeskTakesApdu, IsOneApdu, Sends, released_after, SaveLands, PlanAfter, IsSaveFault, landed_side, LoadsSide, IsLoadFault, Restarts, RestartLeaves, answer_of, store_of, Creates, IsCreateAnswer, Starts, IsStartAnswer, IsWhole, CountsDeskFailure, WasSpelled};
+ghost use Rattle.ill_saved.specs.Desk.{DeskOf, IsBacked, DeskActs, DeskTakes, DeskTakesApdu, IsOneApdu, Sends, released_after, DeskSaves, IsSaveFault, landed_side, LoadsSide, IsLoadFault, Restarts, RestartLeaves, answer_of, store_of, Creates, IsCreateAnswer, Starts, IsStartAnswer, IsWhole, DeskLoads, WasSpelled};
 ghost use Rattle.ill_saved.specs.Kept.{Keeps, IsKept};
 ghost use Rattle.ill_saved.specs.Loading.{LoadsRecord, LoadsOrIdle, side_loaded};
-ghost use Rattle.ill_saved.specs.Store.{spent};
 ghost use Rattle.ill_der.specs.ShortForm.{apdu_at};
 
 use crate::decoding::decode_record;
@@ -50,7 +49,7 @@ impl<S: Store> Model for Desk1<S> {
     ghost view = { λ d. record { live = d.live; store = d.store; released = d.released } };
 
     ghost invariant = { λ d. (d.released ≤ length (issued_of d.live))
-        × (S.is_honest d.store ≡ true → IsBacked (S.landed d.store) d.live d.released)
+        × ((S.state d.store).is_honest ≡ true → IsBacked (S.state d.store).landed d.live d.released)
         × Keeps d.kept d.live d.released };
 }
 
@@ -59,15 +58,11 @@ impl<S: Store> Desk1<S> {
     /// saved yet. A fault gives the store back.
     pub fn create(alloc: Global, store: S, first: Side) -> Result<Desk1<S>, (DeskFault, S)>
         requires idle { first ≡ idle_of first }
-        ensures creates { S.is_honest store ≡ true →
-            Creates (S.landed store) (S.plan store) (answer_of result) }
+        ensures creates { (S.state store).is_honest ≡ true →
+            Creates (S.state store).landed (S.state store).plan (answer_of result) }
         ensures begins { IfOk result (λ desk. (desk.live ≡ first) × (desk.released ≡ 0)) }
         ensures faults { IsCreateAnswer (answer_of result) }
-        ensures landed { S.is_honest store ≡ true → S.landed (store_of result) ≡ S.landed store }
-        ensures plan { S.plan (store_of result) ≡ spent (S.plan store) }
-        ensures counted { CountsDeskFailure (answer_of result) (S.failures store)
-            (S.failures (store_of result)) }
-        ensures honest { S.is_honest (store_of result) ≡ S.is_honest store }
+        ensures store { DeskLoads (S.state store) (answer_of result) (S.state (store_of result)) }
     {
         let mut store = store;
         match store.load(alloc) {
@@ -85,15 +80,11 @@ impl<S: Store> Desk1<S> {
     /// A desk for the side whose record the store has (else `NoRecord`). All its messages may be
     /// sent. A fault gives the store back.
     pub fn start(alloc: Global, store: S) -> Result<Desk1<S>, (DeskFault, S)>
-        ensures starts { S.is_honest store ≡ true → Starts (S.landed store) (S.plan store) result }
+        ensures starts { (S.state store).is_honest ≡ true → Starts (S.state store).landed (S.state store).plan result }
         ensures whole { IfOk result IsWhole }
         ensures rules { IfOk result (λ desk. IsConsistent desk.live) }
         ensures faults { IsStartAnswer (answer_of result) }
-        ensures landed { S.is_honest store ≡ true → S.landed (store_of result) ≡ S.landed store }
-        ensures plan { S.plan (store_of result) ≡ spent (S.plan store) }
-        ensures counted { CountsDeskFailure (answer_of result) (S.failures store)
-            (S.failures (store_of result)) }
-        ensures honest { S.is_honest (store_of result) ≡ S.is_honest store }
+        ensures store { DeskLoads (S.state store) (answer_of result) (S.state (store_of result)) }
     {
         let mut store = store;
         match load_side(&mut store, alloc) {
@@ -149,15 +140,10 @@ impl<S: Store> Desk1<S> {
         ensures live { self.new.live ≡ self.old.live }
         ensures released { self.new.released ≡
             released_after result self.old.live self.old.released }
-        ensures landed { S.is_honest self.old.store ≡ true →
-            SaveLands (S.plan self.old.store) (record_spelling self.old.live) result
-            (S.landed self.old.store) (S.landed self.new.store) }
-        ensures plan { PlanAfter result (S.plan self.old.store) (S.plan self.new.store) }
+        ensures store { DeskSaves (record_spelling self.old.live) (S.state self.old.store) result
+            (S.state self.new.store) }
         ensures side { WasSpelled result self.old.live }
         ensures faults { IsSaveFault result }
-        ensures counted { CountsDeskFailure result (S.failures self.old.store)
-            (S.failures self.new.store) }
-        ensures honest { S.is_honest self.new.store ≡ S.is_honest self.old.store }
     {
         read_again();
         let record = self.kept.next(alloc, &self.live, self.released)?;
@@ -171,16 +157,11 @@ impl<S: Store> Desk1<S> {
     /// if the store has none. After a fault the side, and which messages may be sent, are as
     /// before.
     pub fn restart(&mut self, alloc: Global) -> Result<(), DeskFault>
-        ensures restarts { S.is_honest self.old.store ≡ true →
-            Restarts (landed_side (S.landed self.old.store) self.old.live) (S.plan self.old.store)
+        ensures restarts { (S.state self.old.store).is_honest ≡ true →
+            Restarts (landed_side (S.state self.old.store).landed self.old.live) (S.state self.old.store).plan
             result self.new.live }
         ensures leaves { RestartLeaves result self.old self.new }
-        ensures landed { S.is_honest self.old.store ≡ true →
-            S.landed self.new.store ≡ S.landed self.old.store }
-        ensures plan { S.plan self.new.store ≡ spent (S.plan self.old.store) }
-        ensures counted { CountsDeskFailure result (S.failures self.old.store)
-            (S.failures self.new.store) }
-        ensures honest { S.is_honest self.new.store ≡ S.is_honest self.old.store }
+        ensures store { DeskLoads (S.state self.old.store) result (S.state self.new.store) }
     {
         read_again();
         let bytes = self.store.load(alloc)?;
@@ -213,8 +194,8 @@ impl<S: Store> Desk1<S> {
     pub fn side(&self) -> &Side
         ensures value { result.now ≡ self.now.live }
         ensures issued { self.now.released ≤ length (issued_of self.now.live) }
-        ensures backed { S.is_honest self.now.store ≡ true →
-            IsBacked (S.landed self.now.store) self.now.live self.now.released }
+        ensures backed { (S.state self.now.store).is_honest ≡ true →
+            IsBacked (S.state self.now.store).landed self.now.live self.now.released }
     {
         &self.live
     }
@@ -256,14 +237,11 @@ pub(crate) fn one_apdu(alloc: Global, bytes: &[u8]) -> Result<Apdu, DeskFault>
 
 /// The side that has landed in a store, if any.
 fn load_side<S: Store>(store: &mut S, alloc: Global) -> Result<Option<Loaded>, DeskFault>
-    ensures loads { S.is_honest store.old ≡ true →
-        LoadsSide (S.landed store.old) (S.plan store.old) (side_loaded result) }
+    ensures loads { (S.state store.old).is_honest ≡ true →
+        LoadsSide (S.state store.old).landed (S.state store.old).plan (side_loaded result) }
     ensures kept { IfOk result (λ found. IfSome found (λ l. IsKept l.kept l.side)) }
     ensures faults { IfErr result IsLoadFault }
-    ensures landed { S.is_honest store.old ≡ true → S.landed store.new ≡ S.landed store.old }
-    ensures plan { S.plan store.new ≡ spent (S.plan store.old) }
-    ensures counted { CountsDeskFailure result (S.failures store.old) (S.failures store.new) }
-    ensures honest { S.is_honest store.new ≡ S.is_honest store.old }
+    ensures store { DeskLoads (S.state store.old) result (S.state store.new) }
 {
     match store.load(alloc)? {
         Some(bytes) => Ok(Some(load_record(alloc, bytes)?)),

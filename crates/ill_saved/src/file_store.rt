@@ -253,13 +253,12 @@ fn folder_of(path: &str) -> &str
 
 /// `load` takes memory for the bytes alone. `save` takes none.
 impl<'a, R: Files> Store for FileStore<'a, R> {
-    ghost landed = { λ _. None };
-
-    ghost failures = { λ f. f.failures };
-
-    ghost is_honest = { λ _. false };
-
-    ghost plan = { λ _. None };
+    ghost state = { λ f. record {
+      landed = None;
+      failures = f.failures;
+      is_honest = false;
+      plan = None;
+    } };
 
     fn load(&mut self, alloc: Global) -> Result<Option<Vec<u8>>, StoreFault>
         ensures { FileLoads (λ b. b.items) self.old result self.new }

@@ -1,8 +1,8 @@
 //! A store that fails from a call on.
 
-ghost use Rattle.std.specs.Prelude.{◌≡◌, None};
+ghost use Rattle.std.specs.Prelude.{◌≡◌};
 ghost use Rattle.ill_saved.specs.declared.store.StoreFault.TheVariants.{Failed};
-ghost use Rattle.ill_saved.specs.Store.{FuseOf, failures_together, InnerLoads, InnerSaves, blown, FuseCalls};
+ghost use Rattle.ill_saved.specs.Store.{FuseOf, StoreLoads, StoreSaves, blown, fuse_state, FuseCalls};
 
 use crate::store::{Store, StoreFault};
 use std::alloc::Global;
@@ -55,17 +55,10 @@ impl<S: Store> FuseStore<S> {
 /// What has landed, and whether the store is honest, are the inner store's. Its failures are those that
 /// it has counted and the inner store's together. It names no plan.
 impl<S: Store> Store for FuseStore<S> {
-    ghost landed = { λ f. S.landed f.inner };
-
-    ghost failures = { λ f. failures_together f.failures (S.failures f.inner) };
-
-    ghost is_honest = { λ f. S.is_honest f.inner };
-
-    ghost plan = { λ _. None };
+    ghost state = { fuse_state S.state };
 
     fn load(&mut self, alloc: Global) -> Result<Option<Vec<u8>>, StoreFault>
-        ensures { FuseCalls (InnerLoads (λ b. b.items) S.landed S.failures S.is_honest S.plan)
-            self.old result self.new }
+        ensures { FuseCalls S.state (StoreLoads (λ b. b.items)) self.old result self.new }
     {
         if self.calls == 0 {
             return Err(self.fail());
@@ -75,8 +68,7 @@ impl<S: Store> Store for FuseStore<S> {
     }
 
     fn save(&mut self, alloc: Global, bytes: &[u8]) -> Result<(), StoreFault>
-        ensures { FuseCalls (InnerSaves bytes.now S.landed S.failures S.is_honest S.plan)
-            self.old result self.new }
+        ensures { FuseCalls S.state (StoreSaves bytes.now) self.old result self.new }
     {
         if self.calls == 0 {
             return Err(self.fail());

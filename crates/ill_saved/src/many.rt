@@ -8,8 +8,7 @@ ghost use Rattle.ill_saved.specs.Side.{issued_of, txn_of, idle_side, role_for, b
 ghost use Rattle.ill_saved.specs.Ranges.{Each};
 ghost use Rattle.ill_saved.specs.Sides.{SidesOf, is_same_role, put_refusal, most_sides, found_by};
 ghost use Rattle.ill_saved.specs.Records2.{sides_spelling, records_at, begins_as_records};
-ghost use Rattle.ill_saved.specs.Store.{spent};
-ghost use Rattle.ill_saved.specs.Desk.{SaveLands, PlanAfter, IsSaveFault, Creates, IsCreateAnswer, answer_of, CountsDeskFailure, Loads, Restarts};
+ghost use Rattle.ill_saved.specs.Desk.{DeskLoads, DeskSaves, IsSaveFault, Creates, IsCreateAnswer, answer_of, Loads, Restarts};
 ghost use Rattle.ill_saved.specs.Many.{ManyOf, held_of, txn_held, held_for, with_held, sides_held, is_own, counts, ManyActs, ManyTakes, ManyTakesApdu, MayBegin, FirstActs, FirstTakes, SendsHeld, AreBacked, AreBackable, holding_after, WereSpelled, landed_sides, ManyRestartLeaves, many_store_of, StartsMany, AreWhole, IsStartOfMany, IsManyLoadFault, LoadsSides, LoadsOrNone};
 
 use crate::decoding2::decode_record2;
@@ -50,7 +49,7 @@ impl<S: Store> Model for Desk<S> {
     } };
 
     ghost invariant = { λ d. (length d.released.items ≡ length d.sides.sides)
-        × (S.is_honest d.store ≡ true → AreBacked (S.landed d.store)
+        × ((S.state d.store).is_honest ≡ true → AreBacked (S.state d.store).landed
         (record { role = d.sides.role; held = held_of d.sides.sides d.released.items }))
         × AreBackable (record { role = d.sides.role; held = held_of d.sides.sides d.released.items }) };
 }
@@ -59,15 +58,11 @@ impl<S: Store> Desk<S> {
     /// A desk of this role that holds no side, over a store without a record (else `Exists`). Nothing is
     /// saved yet. A fault gives the store back.
     pub fn create(alloc: Global, store: S, role: Role) -> Result<Desk<S>, (DeskFault, S)>
-        ensures creates { S.is_honest store ≡ true →
-            Creates (S.landed store) (S.plan store) (answer_of result) }
+        ensures creates { (S.state store).is_honest ≡ true →
+            Creates (S.state store).landed (S.state store).plan (answer_of result) }
         ensures begins { IfOk result (λ desk. desk.live ≡ record { role = role; held = [] }) }
         ensures faults { IsCreateAnswer (answer_of result) }
-        ensures landed { S.is_honest store ≡ true → S.landed (many_store_of result) ≡ S.landed store }
-        ensures plan { S.plan (many_store_of result) ≡ spent (S.plan store) }
-        ensures counted { CountsDeskFailure (answer_of result) (S.failures store)
-            (S.failures (many_store_of result)) }
-        ensures honest { S.is_honest (many_store_of result) ≡ S.is_honest store }
+        ensures store { DeskLoads (S.state store) (answer_of result) (S.state (many_store_of result)) }
     {
         let mut store = store;
         match store.load(alloc) {
@@ -87,15 +82,11 @@ impl<S: Store> Desk<S> {
     /// A desk for the sides whose record the store has (else `NoRecord`), of version 1 or 2. All their
     /// messages may be sent. A fault gives the store back.
     pub fn start(alloc: Global, store: S) -> Result<Desk<S>, (DeskFault, S)>
-        ensures starts { S.is_honest store ≡ true →
-            StartsMany (S.landed store) (S.plan store) result }
+        ensures starts { (S.state store).is_honest ≡ true →
+            StartsMany (S.state store).landed (S.state store).plan result }
         ensures whole { IfOk result AreWhole }
         ensures faults { IsStartOfMany (answer_of result) }
-        ensures landed { S.is_honest store ≡ true → S.landed (many_store_of result) ≡ S.landed store }
-        ensures plan { S.plan (many_store_of result) ≡ spent (S.plan store) }
-        ensures counted { CountsDeskFailure (answer_of result) (S.failures store)
-            (S.failures (many_store_of result)) }
-        ensures honest { S.is_honest (many_store_of result) ≡ S.is_honest store }
+        ensures store { DeskLoads (S.state store) (answer_of result) (S.state (many_store_of result)) }
     {
         let mut store = store;
         match load_whole(&mut store, alloc) {
@@ -218,15 +209,10 @@ impl<S: Store> Desk<S> {
     /// may be sent, are as before. All the desk's memory is taken before the store is called.
     pub fn save(&mut self, alloc: Global) -> Result<(), DeskFault>
         ensures live { self.new.live ≡ holding_after result self.old.live }
-        ensures landed { S.is_honest self.old.store ≡ true →
-            SaveLands (S.plan self.old.store) (sides_spelling (sides_held self.old.live)) result
-            (S.landed self.old.store) (S.landed self.new.store) }
-        ensures plan { PlanAfter result (S.plan self.old.store) (S.plan self.new.store) }
+        ensures store { DeskSaves (sides_spelling (sides_held self.old.live)) (S.state self.old.store) result
+            (S.state self.new.store) }
         ensures sides { WereSpelled result self.old.live }
         ensures faults { IsSaveFault result }
-        ensures counted { CountsDeskFailure result (S.failures self.old.store)
-            (S.failures self.new.store) }
-        ensures honest { S.is_honest self.new.store ≡ S.is_honest self.old.store }
     {
         sides_read_again();
         follows_issues();
@@ -240,16 +226,11 @@ impl<S: Store> Desk<S> {
     /// Goes back to the sides in the store, all of whose messages may be sent, or to none if the store has
     /// none. After a fault the sides, and which messages may be sent, are as before.
     pub fn restart(&mut self, alloc: Global) -> Result<(), DeskFault>
-        ensures restarts { S.is_honest self.old.store ≡ true →
-            Restarts (landed_sides (S.landed self.old.store) self.old.live.role) (S.plan self.old.store)
+        ensures restarts { (S.state self.old.store).is_honest ≡ true →
+            Restarts (landed_sides (S.state self.old.store).landed self.old.live.role) (S.state self.old.store).plan
             result (sides_held self.new.live) }
         ensures leaves { ManyRestartLeaves result self.old self.new }
-        ensures landed { S.is_honest self.old.store ≡ true →
-            S.landed self.new.store ≡ S.landed self.old.store }
-        ensures plan { S.plan self.new.store ≡ spent (S.plan self.old.store) }
-        ensures counted { CountsDeskFailure result (S.failures self.old.store)
-            (S.failures self.new.store) }
-        ensures honest { S.is_honest self.new.store ≡ S.is_honest self.old.store }
+        ensures store { DeskLoads (S.state self.old.store) result (S.state self.new.store) }
     {
         let bytes = self.store.load(alloc)?;
         let Whole { sides, released } = whole_or_none(alloc, bytes, self.sides.role())?;
@@ -276,8 +257,8 @@ impl<S: Store> Desk<S> {
     /// The sides that are held, as they are in memory.
     pub fn sides(&self) -> &Sides
         ensures value { result.now ≡ sides_held self.now.live }
-        ensures backed { S.is_honest self.now.store ≡ true →
-            AreBacked (S.landed self.now.store) self.now.live }
+        ensures backed { (S.state self.now.store).is_honest ≡ true →
+            AreBacked (S.state self.now.store).landed self.now.live }
     {
         &self.sides
     }
@@ -396,14 +377,11 @@ fn counts_of(alloc: Global, sides: &Sides) -> Result<Vec<u8>, OutOfMemory>
 
 /// The sides that have landed in a store, if any.
 fn load_whole<S: Store>(store: &mut S, alloc: Global) -> Result<Option<Whole>, DeskFault>
-    ensures loads { S.is_honest store.old ≡ true →
-        Loads records_at begins_as_records (S.landed store.old) (S.plan store.old) result }
+    ensures loads { (S.state store.old).is_honest ≡ true →
+        Loads records_at begins_as_records (S.state store.old).landed (S.state store.old).plan result }
     ensures rules { IfOk result (λ found. IfSome found (λ all. Each IsConsistent all.sides)) }
     ensures faults { IfErr result IsManyLoadFault }
-    ensures landed { S.is_honest store.old ≡ true → S.landed store.new ≡ S.landed store.old }
-    ensures plan { S.plan store.new ≡ spent (S.plan store.old) }
-    ensures counted { CountsDeskFailure result (S.failures store.old) (S.failures store.new) }
-    ensures honest { S.is_honest store.new ≡ S.is_honest store.old }
+    ensures store { DeskLoads (S.state store.old) result (S.state store.new) }
 {
     match store.load(alloc)? {
         Some(bytes) => Ok(Some(read_whole(alloc, &bytes)?)),

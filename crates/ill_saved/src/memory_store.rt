@@ -73,13 +73,12 @@ impl MemoryStore {
 /// planned to fail and to leave the old bytes takes no memory; one that leaves the new ones lands
 /// them first, or answers want of memory.
 impl Store for MemoryStore {
-    ghost landed = { λ m. m.landed };
-
-    ghost failures = { λ m. m.failures };
-
-    ghost is_honest = { λ _. true };
-
-    ghost plan = { λ m. Some m.next };
+    ghost state = { λ m. record {
+      landed = m.landed;
+      failures = m.failures;
+      is_honest = true;
+      plan = Some m.next;
+    } };
 
     fn load(&mut self, alloc: Global) -> Result<Option<Vec<u8>>, StoreFault>
         ensures { MemoryLoads (λ b. b.items) self.old.next self.old result self.new }

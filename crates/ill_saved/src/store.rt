@@ -1,9 +1,8 @@
 //! Where a side keeps its record.
 
-ghost use Rattle.std.specs.Prelude.{◌≡◌, ℕ, Bool, true, List, Option, IfOk, option_map};
+ghost use Rattle.std.specs.Prelude.{◌≡◌};
 ghost use Rattle.ill_saved.specs.declared.store.StoreFault.TheVariants.{OutOfMemory};
-ghost use Rattle.ill_saved.specs.declared.store.NextCall.{NextCall};
-ghost use Rattle.ill_saved.specs.Store.{Allows, LandsAtSave, spent, CountsFailure, IsNotTooLarge};
+ghost use Rattle.ill_saved.specs.Store.{StoreState, StoreLoads, StoreSaves};
 
 use std::alloc::{AllocError, AllocFailed, Global};
 use thiserror::Error;
@@ -54,35 +53,15 @@ pub enum NextCall {
 /// What has landed is known of an honest store alone. A store that plans its next call keeps to the
 /// plan.
 pub trait Store {
-    /// The bytes that have landed, if any.
-    ghost landed: { Self → Option (List ℕ) };
-
-    /// How many calls have failed.
-    ghost failures: { Self → ℕ };
-
-    /// Whether the store does what its calls answer.
-    ghost is_honest: { Self → Bool };
-
-    /// The plan for the next call, if there is one.
-    ghost plan: { Self → Option NextCall };
+    /// What has landed, how many calls have failed, whether the store does what its calls answer, and
+    /// the plan for the next call, if there is one.
+    ghost state: { Self → StoreState };
 
     /// Loads the bytes that were saved last, or `None` if nothing was saved.
     fn load(&mut self, alloc: Global) -> Result<Option<Vec<u8>>, StoreFault>
-        ensures loaded { is_honest self.old ≡ true →
-            IfOk result (λ bytes. option_map (λ b. b.items) bytes ≡ landed self.old) }
-        ensures planned { is_honest self.old ≡ true → Allows (plan self.old) result }
-        ensures landed { is_honest self.old ≡ true → landed self.new ≡ landed self.old }
-        ensures counted { CountsFailure result (failures self.old) (failures self.new) }
-        ensures honest { is_honest self.new ≡ is_honest self.old }
-        ensures plan { plan self.new ≡ spent (plan self.old) };
+        ensures { StoreLoads (λ b. b.items) (state self.old) result (state self.new) };
 
     /// Saves these bytes in place of those that were saved before.
     fn save(&mut self, alloc: Global, bytes: &[u8]) -> Result<(), StoreFault>
-        ensures planned { is_honest self.old ≡ true → Allows (plan self.old) result }
-        ensures landed { is_honest self.old ≡ true →
-            LandsAtSave (plan self.old) bytes.now result (landed self.old) (landed self.new) }
-        ensures large { IsNotTooLarge result }
-        ensures counted { CountsFailure result (failures self.old) (failures self.new) }
-        ensures honest { is_honest self.new ≡ is_honest self.old }
-        ensures plan { plan self.new ≡ spent (plan self.old) };
+        ensures { StoreSaves bytes.now (state self.old) result (state self.new) };
 }

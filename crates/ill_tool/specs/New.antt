@@ -1,13 +1,14 @@
 -- The command `new`: one side of a transaction begins, or the many of a library.
-use Rattle.std.specs.Prelude.{◌≡◌, ◌⊎◌, ℕ, List, [], take, Option, None, Some, option_map, codes, Result, Ok, Err}
+use Rattle.std.specs.Prelude.{◌≡◌, ◌⊎◌, ℕ, true, List, [], take, Option, None, Some, option_map, codes, Result, Ok, Err}
 use Rattle.std.specs.Io.KnownBytes.{Appends}
 use Rattle.ill_saved.specs.declared.fault.DeskFault.TheVariants.{Exists, Store}
 use Rattle.ill_saved.specs.declared.store.StoreFault.TheVariants.{Failed}
 use Rattle.ill_saved.specs.declared.store.NextCall.{NextCall}
 use Rattle.ill_saved.specs.Many.{Held}
 use Rattle.ill_tool.specs.Keeping.{Keeping}
+use Rattle.ill_tool.specs.Performing.{CountsToolFailure}
 use Rattle.ill_tool.specs.Telling.{done_line}
-use Rattle.ill_saved.specs.Store.{Allows, LandsAtFailure}
+use Rattle.ill_saved.specs.Store.{Allows, LandsAtFailure, StoreState, spent}
 use Rattle.ill_tool.specs.declared.fault.ToolFault.{ToolFault}
 use Rattle.ill_tool.specs.declared.fault.ToolFault.TheVariants.{Desk, Write, OutOfMemory}
 
@@ -60,3 +61,21 @@ BeginsOver bytes plan (Some there) (Err OutOfMemory) new = new ≡ Some there
 BeginsOver bytes plan landed (Err (Desk (Store fault))) new =
     (new ≡ landed) × Allows {X = Unit {0}} plan (Err fault)
 BeginsOver bytes plan landed answer new = ⊥
+
+-- ---- the store of a beginning
+
+-- What the save of this first record leaves in its store. Memory may be wanted before the store is called.
+pub record SavesFirst (bytes : List ℕ) (old : StoreState) (answer : Result (Unit {0}) ToolFault) (new : StoreState)
+    : Type 0 where
+  pub landed : old.is_honest ≡ true → LandsFirst old.plan bytes answer old.landed new.landed
+  pub counted : CountsToolFailure answer old.failures new.failures
+  pub honest : new.is_honest ≡ old.is_honest
+  pub plan : (new.plan ≡ old.plan) ⊎ (new.plan ≡ spent old.plan)
+
+-- What the beginning with this first record leaves in its store.
+pub record BeginsIn (bytes : List ℕ) (old : StoreState) (answer : Result (Unit {0}) ToolFault) (new : StoreState)
+    : Type 0 where
+  pub landed : old.is_honest ≡ true → BeginsOver bytes old.plan old.landed answer new.landed
+  pub counted : CountsToolFailure answer old.failures new.failures
+  pub honest : new.is_honest ≡ old.is_honest
+  pub plan : new.plan ≡ spent old.plan

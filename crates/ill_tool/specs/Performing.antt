@@ -8,7 +8,7 @@ use Rattle.ill_core.specs.declared.taking.Taking.TheVariants.{Taken}
 use Rattle.ill_saved.specs.declared.fault.DeskFault.{DeskFault}
 use Rattle.ill_saved.specs.declared.fault.DeskFault.TheVariants as desks
 use Rattle.ill_saved.specs.declared.store.StoreFault.TheVariants.{Failed}
-use Rattle.ill_saved.specs.Store.{HasRisen}
+use Rattle.ill_saved.specs.Store.{HasRisen, StoreState}
 use Rattle.ill_saved.specs.Desk.{DeskOf}
 use Rattle.ill_saved.specs.Many.{Held, Holding, ManyOf}
 use Rattle.ill_world.specs.declared.event.Outcome.TheVariants as outcomes
@@ -26,25 +26,25 @@ pub record View (L : Type 0) : Type 0 where
   pub landed : Option (Option (List ℕ))
 
 -- what has landed is known of an honest store
-abbrev pub known : Bool → Option (List ℕ) → Option (Option (List ℕ))
-known true landed = Some landed
-known false landed = None
+abbrev pub known_if : Bool → Option (List ℕ) → Option (Option (List ℕ))
+known_if true landed = Some landed
+known_if false landed = None
 
-abbrev pub view_of : {L S : Type 0} → (S → Bool) → (S → Option (List ℕ)) → L → S → View L
-view_of is_honest landed live store = record {
-  live = live;
-  landed = known (is_honest store) (landed store);
-}
+abbrev pub known : StoreState → Option (Option (List ℕ))
+known store = known_if store.is_honest store.landed
+
+abbrev pub view_of : {L S : Type 0} → (S → StoreState) → L → S → View L
+view_of state live store = record { live = live; landed = known (state store) }
 
 -- the side of a desk of one
 abbrev pub the_one : {S : Type 0} → DeskOf S → Held
 the_one desk = record { side = desk.live; released = desk.released }
 
-abbrev pub one_view : {S : Type 0} → (S → Bool) → (S → Option (List ℕ)) → DeskOf S → View Held
-one_view is_honest landed desk = view_of is_honest landed (the_one desk) desk.store
+abbrev pub one_view : {S : Type 0} → (S → StoreState) → DeskOf S → View Held
+one_view state desk = view_of state (the_one desk) desk.store
 
-abbrev pub many_view : {S : Type 0} → (S → Bool) → (S → Option (List ℕ)) → ManyOf S → View Holding
-many_view is_honest landed desk = view_of is_honest landed desk.live desk.store
+abbrev pub many_view : {S : Type 0} → (S → StoreState) → ManyOf S → View Holding
+many_view state desk = view_of state desk.live desk.store
 
 -- this is held, and not saved yet
 abbrev pub becomes : {L : Type 0} → View L → L → View L

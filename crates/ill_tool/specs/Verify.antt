@@ -1,11 +1,12 @@
 -- The command `verify`: what the record of a desk has, or why it is none.
-use Rattle.std.specs.Prelude.{◌≡◌, ℕ, ◌-◌, Bool, true, if◌then◌else◌, List, [], ◌++◌, length, sum_by, codes, Option, None, Some, Result, Ok, Err, IfOk}
+use Rattle.std.specs.Prelude.{◌≡◌, ℕ, ◌-◌, true, if◌then◌else◌, List, [], ◌++◌, length, sum_by, codes, Option, None, Some, Result, Ok, Err, IfOk}
 use Rattle.std.specs.Io.KnownBytes.{Appends}
 use Rattle.ill_saved.specs.declared.side.Side.{Side}
 use Rattle.ill_saved.specs.Side.{issued_of}
 use Rattle.ill_saved.specs.Sides.{SidesOf, most_sides}
 use Rattle.ill_saved.specs.Records2.{is_version_1, records_at}
 use Rattle.ill_saved.specs.Faults.{of_store}
+use Rattle.ill_saved.specs.Store.{StoreState}
 use Rattle.ill_saved.specs.declared.fault.RecordFault.{RecordFault}
 use Rattle.ill_saved.specs.declared.store.StoreFault.{StoreFault}
 use Rattle.ill_saved.specs.declared.fault.DeskFault.TheVariants.{NoRecord, Saved}
@@ -48,8 +49,7 @@ VerifiesLoaded (Err fault) before after result =
     (result ≡ Err (desk_fault (of_store fault))) × Appends before after []
 
 -- The command: it verifies what the store gives, which is what has landed, if the store is honest.
-abbrev pub RunsVerify : Bool → Option (List ℕ) → Option (List ℕ) → Option (List ℕ) →
-    Result (Unit {0}) ToolFault → Type 0
-RunsVerify is_honest landed before after result =
+abbrev pub RunsVerify : StoreState → Option (List ℕ) → Option (List ℕ) → Result (Unit {0}) ToolFault → Type 0
+RunsVerify store before after result =
     (loaded : Result (Option (List ℕ)) StoreFault)
-    × (is_honest ≡ true → IfOk loaded (λ found. found ≡ landed)) × VerifiesLoaded loaded before after result
+    × (store.is_honest ≡ true → IfOk loaded (λ found. found ≡ store.landed)) × VerifiesLoaded loaded before after result

@@ -32,11 +32,10 @@ pub fn run_act<S: Store, W: Write>(
 ) -> Result<bool, ToolFault>
     ensures runs { RunsAct one_side tt
         (action_named (role_of desk.old.live) today (map (λ word. word.now) words.now))
-        (one_view S.is_honest S.landed desk.old)
+        (one_view S.state desk.old)
         (W.contents writer.old) (W.contents writer.new) result
-        (one_view S.is_honest S.landed desk.new) }
-    ensures counted { CountsToolFailure result (S.failures desk.old.store)
-        (S.failures desk.new.store) }
+        (one_view S.state desk.new) }
+    ensures counted { CountsToolFailure result (S.state desk.old.store).failures (S.state desk.new.store).failures }
 {
     act_on(alloc, desk, &(), today, words, writer)
 }
@@ -54,11 +53,10 @@ pub fn run_desk_act<S: Store, W: Write>(
 ) -> Result<bool, ToolFault>
     ensures runs { RunsAct many_sides txn.now
         (action_named desk.old.live.role today (map (λ word. word.now) words.now))
-        (many_view S.is_honest S.landed desk.old)
+        (many_view S.state desk.old)
         (W.contents writer.old) (W.contents writer.new) result
-        (many_view S.is_honest S.landed desk.new) }
-    ensures counted { CountsToolFailure result (S.failures desk.old.store)
-        (S.failures desk.new.store) }
+        (many_view S.state desk.new) }
+    ensures counted { CountsToolFailure result (S.state desk.old.store).failures (S.state desk.new.store).failures }
 {
     act_on(alloc, desk, txn, today, words, writer)
 }
@@ -74,11 +72,11 @@ fn act_on<K: Keeper, W: Write>(
 ) -> Result<bool, ToolFault>
     ensures runs { RunsAct K.keeping key.now
         (action_named (K.keeping.role (K.live keeper.old)) today (map (λ word. word.now) words.now))
-        (view_of K.Kept.is_honest K.Kept.landed (K.live keeper.old) (K.store keeper.old))
+        (view_of K.Kept.state (K.live keeper.old) (K.store keeper.old))
         (W.contents writer.old) (W.contents writer.new) result
-        (view_of K.Kept.is_honest K.Kept.landed (K.live keeper.new) (K.store keeper.new)) }
-    ensures counted { CountsToolFailure result (K.Kept.failures (K.store keeper.old))
-        (K.Kept.failures (K.store keeper.new)) }
+        (view_of K.Kept.state (K.live keeper.new) (K.store keeper.new)) }
+    ensures counted { CountsToolFailure result (K.Kept.state (K.store keeper.old)).failures
+        (K.Kept.state (K.store keeper.new)).failures }
 {
     let Some(action) = action(alloc, keeper.role(), today, words)? else {
         return Err(ToolFault::Arguments);
@@ -97,11 +95,11 @@ fn act_and_save<K: Keeper>(
     action: &Action,
 ) -> Result<DeskOutcome, ToolFault>
     ensures acts { ActsAndSaves K.keeping key.now
-        (view_of K.Kept.is_honest K.Kept.landed (K.live keeper.old) (K.store keeper.old))
+        (view_of K.Kept.state (K.live keeper.old) (K.store keeper.old))
         action.now result
-        (view_of K.Kept.is_honest K.Kept.landed (K.live keeper.new) (K.store keeper.new)) }
-    ensures counted { CountsToolFailure result (K.Kept.failures (K.store keeper.old))
-        (K.Kept.failures (K.store keeper.new)) }
+        (view_of K.Kept.state (K.live keeper.new) (K.store keeper.new)) }
+    ensures counted { CountsToolFailure result (K.Kept.state (K.store keeper.old)).failures
+        (K.Kept.state (K.store keeper.new)).failures }
 {
     match keeper.act(alloc, key, action) {
         Ok(()) => match keeper.save(alloc) {

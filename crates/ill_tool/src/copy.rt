@@ -21,11 +21,10 @@ pub fn run_desk_copy<S: Store, C: Store>(
     copy: &mut C,
 ) -> Result<(), ToolFault>
     ensures copies { Copies (sides_spelling (sides_held desk.now.live))
-        (known (C.is_honest copy.old) (C.landed copy.old)) result
-        (known (C.is_honest copy.new) (C.landed copy.new)) }
+        (known (C.state copy.old)) result (known (C.state copy.new)) }
     ensures again { OnOk result (records_at (sides_spelling (sides_held desk.now.live))
         ≡ Ok (sides_held desk.now.live)) }
-    ensures counted { CountsToolFailure result (C.failures copy.old) (C.failures copy.new) }
+    ensures counted { CountsToolFailure result (C.state copy.old).failures (C.state copy.new).failures }
 {
     sides_read_again();
     let record = match encode_record2(alloc, desk.sides()) {

@@ -49,9 +49,8 @@ pub fn run_desk_dates<S: Store, W: Write>(
     writer: &mut W,
 ) -> Result<(), ToolFault>
     ensures runs { RunsDates which today (W.contents writer.old) (W.contents writer.new)
-        (many_view S.is_honest S.landed desk.old) result
-        (many_view S.is_honest S.landed desk.new) }
-    ensures counted { CountsToolFailure result (S.failures desk.old.store) (S.failures desk.new.store) }
+        (many_view S.state desk.old) result (many_view S.state desk.new) }
+    ensures counted { CountsToolFailure result (S.state desk.old.store).failures (S.state desk.new.store).failures }
 {
     match all_due(alloc, desk.sides(), today, which) {
         Ok(dues) => run_deeds(alloc, desk, today, &dues, writer),
@@ -145,10 +144,10 @@ fn run_deeds<K: Keeper<Key = TxnId>, W: Write>(
     writer: &mut W,
 ) -> Result<(), ToolFault>
     ensures runs { RunsDeeds K.keeping today dues.now (W.contents writer.old) (W.contents writer.new)
-        (view_of K.Kept.is_honest K.Kept.landed (K.live keeper.old) (K.store keeper.old)) result
-        (view_of K.Kept.is_honest K.Kept.landed (K.live keeper.new) (K.store keeper.new)) }
-    ensures counted { CountsToolFailure result (K.Kept.failures (K.store keeper.old))
-        (K.Kept.failures (K.store keeper.new)) }
+        (view_of K.Kept.state (K.live keeper.old) (K.store keeper.old)) result
+        (view_of K.Kept.state (K.live keeper.new) (K.store keeper.new)) }
+    ensures counted { CountsToolFailure result (K.Kept.state (K.store keeper.old)).failures
+        (K.Kept.state (K.store keeper.new)).failures }
 {
     let done = match perform(alloc, keeper, today, dues) {
         Ok(done) => done,
@@ -211,10 +210,10 @@ fn perform_one<'a, K: Keeper<Key = TxnId>>(
 /// Saves all sides at once, if a deed was done.
 fn save_any<K: Keeper>(alloc: Global, keeper: &mut K, done: &[&Due]) -> Result<(), ToolFault>
     ensures saves { SavesOnce K.keeping (map (λ due. due.now) done.now)
-        (view_of K.Kept.is_honest K.Kept.landed (K.live keeper.old) (K.store keeper.old)) result
-        (view_of K.Kept.is_honest K.Kept.landed (K.live keeper.new) (K.store keeper.new)) }
-    ensures counted { CountsToolFailure result (K.Kept.failures (K.store keeper.old))
-        (K.Kept.failures (K.store keeper.new)) }
+        (view_of K.Kept.state (K.live keeper.old) (K.store keeper.old)) result
+        (view_of K.Kept.state (K.live keeper.new) (K.store keeper.new)) }
+    ensures counted { CountsToolFailure result (K.Kept.state (K.store keeper.old)).failures
+        (K.Kept.state (K.store keeper.new)).failures }
 {
     if done.is_empty() {
         return Ok(());

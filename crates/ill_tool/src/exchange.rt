@@ -78,8 +78,8 @@ fn take_mails<T: Files, S: Store, W: Write, E: Write>(
     writer: &mut W,
     errors: &mut E,
 ) -> Result<Taken, ToolFault>
-    ensures { TakesMails (many_view S.is_honest S.landed desk.old) (W.contents writer.old) (W.contents writer.new)
-        (answered_with taken_of result) (many_view S.is_honest S.landed desk.new) }
+    ensures { TakesMails (many_view S.state desk.old) (W.contents writer.old) (W.contents writer.new)
+        (answered_with taken_of result) (many_view S.state desk.new) }
 {
     let mail_box = blame(alloc, open_box(rt, alloc, file), file, NO_BOX, errors)?;
     let mut came = blame(alloc, open_came(rt, alloc, file), file, NO_CAME, errors)?;
@@ -164,7 +164,7 @@ fn conclude<T: Files, S: Store, E: Write>(
     verdicts: Vec<Verdict>,
     errors: &mut E,
 ) -> Result<Taken, ToolFault>
-    requires ended { EndedWell found.mails.items verdicts.items (many_view S.is_honest S.landed desk.now) }
+    requires ended { EndedWell found.mails.items verdicts.items (many_view S.state desk.now) }
     ensures { SettlesRun found.mails.items found.waiting (Ok verdicts.items) (answered_with taken_of result) }
 {
     if place.is_telling {
@@ -362,8 +362,8 @@ fn exchange_at<T: Files, S: Store, W: Write, E: Write>(
     writer: &mut W,
     errors: &mut E,
 ) -> Result<bool, ToolFault>
-    ensures { ExchangesAt night.now.dates (many_view S.is_honest S.landed desk.old)
-        (W.contents writer.old) (W.contents writer.new) result (many_view S.is_honest S.landed desk.new) }
+    ensures { ExchangesAt night.now.dates (many_view S.state desk.old)
+        (W.contents writer.old) (W.contents writer.new) result (many_view S.state desk.new) }
 {
     let incoming = Incoming {
         folder: night.incoming,
@@ -387,7 +387,7 @@ fn go_on<T: Files, S: Store, W: Write, E: Write>(
     errors: &mut E,
 ) -> Result<bool, ToolFault>
     ensures { GoesOn night.now.dates (Ok (taken_of taken.now)) (W.contents writer.old) (W.contents writer.new)
-        (many_view S.is_honest S.landed desk.old) result (many_view S.is_honest S.landed desk.new) }
+        (many_view S.state desk.old) result (many_view S.state desk.new) }
 {
     match say_dates(alloc, desk, night.dates, writer) {
         Ok(()) => send_all(rt, alloc, file, night, desk, taken, writer, errors),
@@ -419,7 +419,7 @@ fn say_dates<S: Store, W: Write>(
     writer: &mut W,
 ) -> Result<(), ToolFault>
     ensures { SaysDates dates (W.contents writer.old) (W.contents writer.new)
-        (many_view S.is_honest S.landed desk.old) result (many_view S.is_honest S.landed desk.new) }
+        (many_view S.state desk.old) result (many_view S.state desk.new) }
 {
     match dates {
         Some((today, which)) => run_desk_dates(alloc, desk, today, which, writer),

@@ -140,8 +140,7 @@ fn take_told<S: Store, R: Read, W: Write>(
 ) -> Result<bool, ToolFault>
     ensures { RunsTake (wording is_long) many_sides (R.remaining reader.old) (R.remaining reader.new)
         (W.contents writer.old) (W.contents writer.new)
-        (many_view S.is_honest S.landed desk.old) result
-        (many_view S.is_honest S.landed desk.new) }
+        (many_view S.state desk.old) result (many_view S.state desk.new) }
 {
     if is_long {
         run_desk_long_take(alloc, desk, reader, writer)

@@ -39,11 +39,11 @@ pub fn run_desk_inbox<S: Store, F: Write, W: Write>(
 ) -> Result<Vec<Verdict>, ToolFault>
     ensures runs { RunsInbox many_sides mails.now waiting (F.contents came.old) (F.contents came.new)
         (W.contents writer.old) (W.contents writer.new)
-        (many_view S.is_honest S.landed desk.old) (answered_with (λ verdicts. verdicts.items) result)
-        (many_view S.is_honest S.landed desk.new) }
+        (many_view S.state desk.old) (answered_with (λ verdicts. verdicts.items) result)
+        (many_view S.state desk.new) }
     ensures ended { IfOk result (λ verdicts. EndedWell mails.now verdicts.items
-        (many_view S.is_honest S.landed desk.new)) }
-    ensures never_fewer { S.failures desk.old.store ≤ S.failures desk.new.store }
+        (many_view S.state desk.new)) }
+    ensures never_fewer { (S.state desk.old.store).failures ≤ (S.state desk.new.store).failures }
 {
     run_inbox(alloc, desk, mails, waiting, came, writer)
 }
@@ -59,10 +59,10 @@ fn run_inbox<K: Keeper, F: Write, W: Write>(
 ) -> Result<Vec<Verdict>, ToolFault>
     ensures runs { RunsInbox K.keeping mails.now waiting (F.contents came.old) (F.contents came.new)
         (W.contents writer.old) (W.contents writer.new)
-        (view_of K.Kept.is_honest K.Kept.landed (K.live keeper.old) (K.store keeper.old))
+        (view_of K.Kept.state (K.live keeper.old) (K.store keeper.old))
         (answered_with (λ verdicts. verdicts.items) result)
-        (view_of K.Kept.is_honest K.Kept.landed (K.live keeper.new) (K.store keeper.new)) }
-    ensures never_fewer { K.Kept.failures (K.store keeper.old) ≤ K.Kept.failures (K.store keeper.new) }
+        (view_of K.Kept.state (K.live keeper.new) (K.store keeper.new)) }
+    ensures never_fewer { (K.Kept.state (K.store keeper.old)).failures ≤ (K.Kept.state (K.store keeper.new)).failures }
 {
     let sorted = match sort(alloc, keeper, mails, waiting) {
         Ok(sorted) => sorted,
@@ -307,12 +307,12 @@ fn keep_and_save<K: Keeper, F: Write>(
     kept: &[u8],
 ) -> Result<(), ToolFault>
     ensures saves { SavesOnce K.keeping kept.now
-        (view_of K.Kept.is_honest K.Kept.landed (K.live keeper.old) (K.store keeper.old)) result
-        (view_of K.Kept.is_honest K.Kept.landed (K.live keeper.new) (K.store keeper.new)) }
+        (view_of K.Kept.state (K.live keeper.old) (K.store keeper.old)) result
+        (view_of K.Kept.state (K.live keeper.new) (K.store keeper.new)) }
     ensures keeps { KeepsBefore kept.now result (F.contents came.old) (F.contents came.new)
-        (view_of K.Kept.is_honest K.Kept.landed (K.live keeper.old) (K.store keeper.old))
-        (view_of K.Kept.is_honest K.Kept.landed (K.live keeper.new) (K.store keeper.new)) }
-    ensures never_fewer { K.Kept.failures (K.store keeper.old) ≤ K.Kept.failures (K.store keeper.new) }
+        (view_of K.Kept.state (K.live keeper.old) (K.store keeper.old))
+        (view_of K.Kept.state (K.live keeper.new) (K.store keeper.new)) }
+    ensures never_fewer { (K.Kept.state (K.store keeper.old)).failures ≤ (K.Kept.state (K.store keeper.new)).failures }
 {
     if kept.is_empty() {
         return Ok(());

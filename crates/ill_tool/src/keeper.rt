@@ -3,8 +3,7 @@
 ghost use Rattle.std.specs.Prelude.{◌≡◌, ◌++◌, true, length, option_copied, IfOk, OnOk, OnErr};
 ghost use Rattle.ill_der.specs.Adding.{AddsFront};
 ghost use Rattle.ill_saved.specs.Side.{idle_side, issued_of};
-ghost use Rattle.ill_saved.specs.Store.{spent};
-ghost use Rattle.ill_saved.specs.Desk.{Creates, IsCreateAnswer, SaveLands, PlanAfter, IsSaveFault, CountsDeskFailure, answer_of, store_after};
+ghost use Rattle.ill_saved.specs.Desk.{Creates, IsCreateAnswer, DeskLoads, DeskSaves, IsSaveFault, answer_of, store_after};
 ghost use Rattle.ill_saved.specs.Many.{Held, Holding, SendsHeld, idle_held, side_for};
 ghost use Rattle.ill_tool.specs.Keeping.{Keeping, alone, many_sides, no_sides, one_side};
 ghost use Rattle.ill_tool.specs.Performing.{the_one};
@@ -50,16 +49,12 @@ pub(crate) trait Keeper {
         kept: Self::Kept,
         first: Self::First,
     ) -> Result<Self, (DeskFault, Self::Kept)>
-        ensures creates { Self.Kept.is_honest kept ≡ true →
-            Creates (Self.Kept.landed kept) (Self.Kept.plan kept) (answer_of result) }
+        ensures creates { (Self.Kept.state kept).is_honest ≡ true →
+            Creates (Self.Kept.state kept).landed (Self.Kept.state kept).plan (answer_of result) }
         ensures begins { IfOk result (λ keeper. live keeper ≡ begun first) }
         ensures faults { IsCreateAnswer (answer_of result) }
-        ensures landed { Self.Kept.is_honest kept ≡ true →
-            Self.Kept.landed (store_after store result) ≡ Self.Kept.landed kept }
-        ensures plan { Self.Kept.plan (store_after store result) ≡ spent (Self.Kept.plan kept) }
-        ensures counted { CountsDeskFailure (answer_of result) (Self.Kept.failures kept)
-            (Self.Kept.failures (store_after store result)) }
-        ensures honest { Self.Kept.is_honest (store_after store result) ≡ Self.Kept.is_honest kept };
+        ensures store { DeskLoads (Self.Kept.state kept) (answer_of result)
+            (Self.Kept.state (store_after store result)) };
 
     /// The role of all sides.
     fn role(&self) -> Role
@@ -78,14 +73,9 @@ pub(crate) trait Keeper {
     /// Saves all sides.
     fn save(&mut self, alloc: Global) -> Result<(), DeskFault>
         ensures live { live self.new ≡ held_after keeping result (live self.old) }
-        ensures landed { Self.Kept.is_honest (store self.old) ≡ true →
-            SaveLands (Self.Kept.plan (store self.old)) (keeping.spelling (live self.old)) result
-            (Self.Kept.landed (store self.old)) (Self.Kept.landed (store self.new)) }
-        ensures plan { PlanAfter result (Self.Kept.plan (store self.old)) (Self.Kept.plan (store self.new)) }
-        ensures faults { IsSaveFault result }
-        ensures counted { CountsDeskFailure result (Self.Kept.failures (store self.old))
-            (Self.Kept.failures (store self.new)) }
-        ensures honest { Self.Kept.is_honest (store self.new) ≡ Self.Kept.is_honest (store self.old) };
+        ensures store { DeskSaves (keeping.spelling (live self.old)) (Self.Kept.state (store self.old)) result
+            (Self.Kept.state (store self.new)) }
+        ensures faults { IsSaveFault result };
 
     /// The bytes of a message of a side, to send it.
     fn message(&self, alloc: Global, key: &Self::Key, number: Number) -> Result<Vec<u8>, DeskFault>

@@ -1,17 +1,15 @@
 //! The command `new`.
 
-ghost use Rattle.std.specs.Prelude.{◌≡◌, ◌⊎◌, true, codes, IfOk};
+ghost use Rattle.std.specs.Prelude.{◌≡◌, codes, IfOk};
 ghost use Rattle.ill_saved.specs.Side.{idle_side};
 ghost use Rattle.ill_saved.specs.Records.{record_spelling};
 ghost use Rattle.ill_saved.specs.Records2.{sides_spelling};
 ghost use Rattle.ill_saved.specs.Many.{sides_held, many_store_of};
-ghost use Rattle.ill_saved.specs.Store.{spent};
 ghost use Rattle.ill_saved.specs.Desk.{answer_of, store_after, store_of};
 ghost use Rattle.ill_tool.specs.Keeping.{alone, no_sides};
-ghost use Rattle.ill_tool.specs.Performing.{CountsToolFailure};
 ghost use Rattle.ill_tool.specs.Telling.{done_line};
 ghost use Rattle.ill_tool.specs.Output.{WritesText};
-ghost use Rattle.ill_tool.specs.New.{first_line, RunsNew, LandsFirst, BeginsOver};
+ghost use Rattle.ill_tool.specs.New.{first_line, RunsNew, SavesFirst, BeginsIn};
 
 use crate::fault::ToolFault;
 use crate::keeper::Keeper;
@@ -39,13 +37,8 @@ pub fn run_new<S: Store, W: Write>(
         (W.contents writer.old) (W.contents writer.new) (answer_of result) }
     ensures begins { IfOk result (λ desk.
         (desk.live ≡ idle_side role txn) × (desk.released ≡ 0)) }
-    ensures lands { S.is_honest store ≡ true →
-        BeginsOver (record_spelling (idle_side role txn)) (S.plan store) (S.landed store) (answer_of result)
-        (S.landed (store_of result)) }
-    ensures plan { S.plan (store_of result) ≡ spent (S.plan store) }
-    ensures counted { CountsToolFailure (answer_of result) (S.failures store)
-        (S.failures (store_of result)) }
-    ensures honest { S.is_honest (store_of result) ≡ S.is_honest store }
+    ensures store { BeginsIn (record_spelling (idle_side role txn)) (S.state store) (answer_of result)
+        (S.state (store_of result)) }
 {
     begin(alloc, store, (role, txn), writer)
 }
@@ -63,13 +56,8 @@ pub fn run_desk_new<S: Store, W: Write>(
     ensures runs { RunsNew (codes "done\n") (W.contents writer.old) (W.contents writer.new)
         (answer_of result) }
     ensures begins { IfOk result (λ desk. desk.live ≡ no_sides role) }
-    ensures lands { S.is_honest store ≡ true →
-        BeginsOver (sides_spelling (sides_held (no_sides role))) (S.plan store) (S.landed store) (answer_of result)
-        (S.landed (many_store_of result)) }
-    ensures plan { S.plan (many_store_of result) ≡ spent (S.plan store) }
-    ensures counted { CountsToolFailure (answer_of result) (S.failures store)
-        (S.failures (many_store_of result)) }
-    ensures honest { S.is_honest (many_store_of result) ≡ S.is_honest store }
+    ensures store { BeginsIn (sides_spelling (sides_held (no_sides role))) (S.state store) (answer_of result)
+        (S.state (many_store_of result)) }
 {
     begin(alloc, store, role, writer)
 }
@@ -85,13 +73,8 @@ fn begin<K: Keeper, W: Write>(
     ensures runs { RunsNew (first_line K.keeping (K.keeping.saves (K.begun first)))
         (W.contents writer.old) (W.contents writer.new) (answer_of result) }
     ensures begins { IfOk result (λ keeper. K.live keeper ≡ K.keeping.saves (K.begun first)) }
-    ensures lands { K.Kept.is_honest store ≡ true →
-        BeginsOver (K.keeping.spelling (K.begun first)) (K.Kept.plan store) (K.Kept.landed store)
-        (answer_of result) (K.Kept.landed (store_after K.store result)) }
-    ensures plan { K.Kept.plan (store_after K.store result) ≡ spent (K.Kept.plan store) }
-    ensures counted { CountsToolFailure (answer_of result) (K.Kept.failures store)
-        (K.Kept.failures (store_after K.store result)) }
-    ensures honest { K.Kept.is_honest (store_after K.store result) ≡ K.Kept.is_honest store }
+    ensures store { BeginsIn (K.keeping.spelling (K.begun first)) (K.Kept.state store) (answer_of result)
+        (K.Kept.state (store_after K.store result)) }
 {
     match K::create(alloc, store, first) {
         Ok(mut keeper) => match save_first(alloc, &mut keeper, writer) {
@@ -111,14 +94,8 @@ fn save_first<K: Keeper, W: Write>(
     ensures runs { RunsNew (first_line K.keeping (K.keeping.saves (K.live keeper.old)))
         (W.contents writer.old) (W.contents writer.new) result }
     ensures live { IfOk result (λ _. K.live keeper.new ≡ K.keeping.saves (K.live keeper.old)) }
-    ensures lands { K.Kept.is_honest (K.store keeper.old) ≡ true →
-        LandsFirst (K.Kept.plan (K.store keeper.old)) (K.keeping.spelling (K.live keeper.old)) result
-        (K.Kept.landed (K.store keeper.old)) (K.Kept.landed (K.store keeper.new)) }
-    ensures plan { (K.Kept.plan (K.store keeper.new) ≡ K.Kept.plan (K.store keeper.old))
-        ⊎ (K.Kept.plan (K.store keeper.new) ≡ spent (K.Kept.plan (K.store keeper.old))) }
-    ensures counted { CountsToolFailure result (K.Kept.failures (K.store keeper.old))
-        (K.Kept.failures (K.store keeper.new)) }
-    ensures honest { K.Kept.is_honest (K.store keeper.new) ≡ K.Kept.is_honest (K.store keeper.old) }
+    ensures store { SavesFirst (K.keeping.spelling (K.live keeper.old)) (K.Kept.state (K.store keeper.old)) result
+        (K.Kept.state (K.store keeper.new)) }
 {
     match keeper.save(alloc) {
         Ok(()) => write_beginning(alloc, keeper, writer),

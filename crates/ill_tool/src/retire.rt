@@ -23,9 +23,9 @@ pub fn run_desk_retire<S: Store, C: Store>(
     desk: &Desk<S>,
     mark: &mut C,
 ) -> Result<bool, ToolFault>
-    ensures retires { Retires (sides_held desk.now.live).sides (known (C.is_honest mark.old) (C.landed mark.old)) result
-        (known (C.is_honest mark.new) (C.landed mark.new)) }
-    ensures counted { CountsToolFailure result (C.failures mark.old) (C.failures mark.new) }
+    ensures retires { Retires (sides_held desk.now.live).sides (known (C.state mark.old)) result
+        (known (C.state mark.new)) }
+    ensures counted { CountsToolFailure result (C.state mark.old).failures (C.state mark.new).failures }
 {
     if !are_over(alloc, desk.sides())? {
         return Ok(false);

@@ -36,10 +36,8 @@ pub fn run_take<S: Store, R: Read, W: Write>(
 ) -> Result<bool, ToolFault>
     ensures runs { RunsTake short one_side (R.remaining reader.old) (R.remaining reader.new)
         (W.contents writer.old) (W.contents writer.new)
-        (one_view S.is_honest S.landed desk.old) result
-        (one_view S.is_honest S.landed desk.new) }
-    ensures counted { CountsToolFailure result (S.failures desk.old.store)
-        (S.failures desk.new.store) }
+        (one_view S.state desk.old) result (one_view S.state desk.new) }
+    ensures counted { CountsToolFailure result (S.state desk.old.store).failures (S.state desk.new.store).failures }
 {
     take_on::<Desk1<S>, Sink, R, W, false, false>(alloc, desk, &mut sink(), reader, writer)
 }
@@ -55,10 +53,8 @@ pub fn run_desk_take<S: Store, R: Read, W: Write>(
 ) -> Result<bool, ToolFault>
     ensures runs { RunsTake short many_sides (R.remaining reader.old) (R.remaining reader.new)
         (W.contents writer.old) (W.contents writer.new)
-        (many_view S.is_honest S.landed desk.old) result
-        (many_view S.is_honest S.landed desk.new) }
-    ensures counted { CountsToolFailure result (S.failures desk.old.store)
-        (S.failures desk.new.store) }
+        (many_view S.state desk.old) result (many_view S.state desk.new) }
+    ensures counted { CountsToolFailure result (S.state desk.old.store).failures (S.state desk.new.store).failures }
 {
     take_on::<Desk<S>, Sink, R, W, false, false>(alloc, desk, &mut sink(), reader, writer)
 }
@@ -73,10 +69,8 @@ pub fn run_long_take<S: Store, R: Read, W: Write>(
 ) -> Result<bool, ToolFault>
     ensures runs { RunsTake long one_side (R.remaining reader.old) (R.remaining reader.new)
         (W.contents writer.old) (W.contents writer.new)
-        (one_view S.is_honest S.landed desk.old) result
-        (one_view S.is_honest S.landed desk.new) }
-    ensures counted { CountsToolFailure result (S.failures desk.old.store)
-        (S.failures desk.new.store) }
+        (one_view S.state desk.old) result (one_view S.state desk.new) }
+    ensures counted { CountsToolFailure result (S.state desk.old.store).failures (S.state desk.new.store).failures }
 {
     take_on::<Desk1<S>, Sink, R, W, true, false>(alloc, desk, &mut sink(), reader, writer)
 }
@@ -90,10 +84,8 @@ pub fn run_desk_long_take<S: Store, R: Read, W: Write>(
 ) -> Result<bool, ToolFault>
     ensures runs { RunsTake long many_sides (R.remaining reader.old) (R.remaining reader.new)
         (W.contents writer.old) (W.contents writer.new)
-        (many_view S.is_honest S.landed desk.old) result
-        (many_view S.is_honest S.landed desk.new) }
-    ensures counted { CountsToolFailure result (S.failures desk.old.store)
-        (S.failures desk.new.store) }
+        (many_view S.state desk.old) result (many_view S.state desk.new) }
+    ensures counted { CountsToolFailure result (S.state desk.old.store).failures (S.state desk.new.store).failures }
 {
     take_on::<Desk<S>, Sink, R, W, true, false>(alloc, desk, &mut sink(), reader, writer)
 }
@@ -113,9 +105,8 @@ pub fn run_desk_kept_take<S: Store, F: Write, R: Read, W: Write>(
 ) -> Result<bool, ToolFault>
     ensures runs { RunsKeptTake (wording is_long) many_sides (R.remaining reader.old) (R.remaining reader.new)
         (F.contents came.old) (F.contents came.new) (W.contents writer.old) (W.contents writer.new)
-        (many_view S.is_honest S.landed desk.old) result
-        (many_view S.is_honest S.landed desk.new) }
-    ensures never_fewer { S.failures desk.old.store ≤ S.failures desk.new.store }
+        (many_view S.state desk.old) result (many_view S.state desk.new) }
+    ensures never_fewer { (S.state desk.old.store).failures ≤ (S.state desk.new.store).failures }
 {
     if is_long {
         take_on::<Desk<S>, F, R, W, true, true>(alloc, desk, came, reader, writer)
@@ -134,10 +125,10 @@ fn take_on<K: Keeper, F: Write, R: Read, W: Write, const LONG: bool, const KEEP:
 ) -> Result<bool, ToolFault>
     ensures runs { RunsTaking KEEP (wording LONG) K.keeping (R.remaining reader.old) (R.remaining reader.new)
         (F.contents came.old) (F.contents came.new) (W.contents writer.old) (W.contents writer.new)
-        (view_of K.Kept.is_honest K.Kept.landed (K.live keeper.old) (K.store keeper.old)) result
-        (view_of K.Kept.is_honest K.Kept.landed (K.live keeper.new) (K.store keeper.new)) }
-    ensures counted { CountsTaking KEEP result (K.Kept.failures (K.store keeper.old))
-        (K.Kept.failures (K.store keeper.new)) }
+        (view_of K.Kept.state (K.live keeper.old) (K.store keeper.old)) result
+        (view_of K.Kept.state (K.live keeper.new) (K.store keeper.new)) }
+    ensures counted { CountsTaking KEEP result (K.Kept.state (K.store keeper.old)).failures
+        (K.Kept.state (K.store keeper.new)).failures }
 {
     let mut taken = Counted::new(TakesEach::<'_, '_, K, F, LONG, KEEP> {
         keeper,
@@ -159,12 +150,12 @@ fn take_input<K: Keeper, F: Write, R: Read, W: Write, const LONG: bool, const KE
     ensures runs { RunsTaking KEEP (wording LONG) K.keeping (R.remaining reader.old) (R.remaining reader.new)
         (F.contents taken.old.handler.came.now) (F.contents taken.new.handler.came.now)
         (W.contents writer.old) (W.contents writer.new)
-        (view_of K.Kept.is_honest K.Kept.landed (K.live taken.old.handler.keeper.now) (K.store taken.old.handler.keeper.now)) result
-        (view_of K.Kept.is_honest K.Kept.landed (K.live taken.new.handler.keeper.now) (K.store taken.new.handler.keeper.now)) }
+        (view_of K.Kept.state (K.live taken.old.handler.keeper.now) (K.store taken.old.handler.keeper.now)) result
+        (view_of K.Kept.state (K.live taken.new.handler.keeper.now) (K.store taken.new.handler.keeper.now)) }
     ensures same_keeper { taken.new.handler.keeper.ghost_name ≡ taken.old.handler.keeper.ghost_name }
     ensures same_came { taken.new.handler.came.ghost_name ≡ taken.old.handler.came.ghost_name }
-    ensures counted { CountsTaking KEEP result (K.Kept.failures (K.store taken.old.handler.keeper.now))
-        (K.Kept.failures (K.store taken.new.handler.keeper.now)) }
+    ensures counted { CountsTaking KEEP result (K.Kept.state (K.store taken.old.handler.keeper.now)).failures
+        (K.Kept.state (K.store taken.new.handler.keeper.now)).failures }
 {
     match handle_input(alloc, reader, writer, taken) {
         Ok(_) => Ok(taken.handler.all_fine),
@@ -192,14 +183,14 @@ impl<K: Keeper, F: Write, const LONG: bool, const KEEP: bool> TakesEach<'_, '_, 
     ) -> Result<(), ToolFault>
         requires same { read.now ≡ apdu.now }
         ensures takes { takes_each KEEP (wording LONG) K.keeping
-            (progress (view_of K.Kept.is_honest K.Kept.landed (K.live self.old.keeper.now) (K.store self.old.keeper.now))
+            (progress (view_of K.Kept.state (K.live self.old.keeper.now) (K.store self.old.keeper.now))
             (F.contents self.old.came.now) (W.contents writer.old) self.old.all_fine)
             apdu.now result
-            (progress (view_of K.Kept.is_honest K.Kept.landed (K.live self.new.keeper.now) (K.store self.new.keeper.now))
+            (progress (view_of K.Kept.state (K.live self.new.keeper.now) (K.store self.new.keeper.now))
             (F.contents self.new.came.now) (W.contents writer.new) self.new.all_fine) }
         ensures keeps { KeepsDesk KEEP result self.old.keeper.ghost_name self.new.keeper.ghost_name
             self.old.came.ghost_name self.new.came.ghost_name
-            (K.Kept.failures (K.store self.old.keeper.now)) (K.Kept.failures (K.store self.new.keeper.now)) }
+            (K.Kept.state (K.store self.old.keeper.now)).failures (K.Kept.state (K.store self.new.keeper.now)).failures }
     {
         match take_and_save::<K, F, KEEP>(alloc, self.keeper, self.came, apdu) {
             Ok(outcome) => match report_message::<K, W, LONG>(
@@ -226,14 +217,14 @@ impl<K: Keeper, F: Write, W: Write, const LONG: bool, const KEEP: bool> Handler<
     type Fault = ToolFault;
 
     ghost handles = { λ old apdu result new. takes_each KEEP (wording LONG) K.keeping
-        (progress (view_of K.Kept.is_honest K.Kept.landed (K.live old.0.keeper.now) (K.store old.0.keeper.now))
+        (progress (view_of K.Kept.state (K.live old.0.keeper.now) (K.store old.0.keeper.now))
         (F.contents old.0.came.now) (W.contents old.1) old.0.all_fine)
         apdu result
-        (progress (view_of K.Kept.is_honest K.Kept.landed (K.live new.0.keeper.now) (K.store new.0.keeper.now))
+        (progress (view_of K.Kept.state (K.live new.0.keeper.now) (K.store new.0.keeper.now))
         (F.contents new.0.came.now) (W.contents new.1) new.0.all_fine)
         × KeepsDesk KEEP result old.0.keeper.ghost_name new.0.keeper.ghost_name
         old.0.came.ghost_name new.0.came.ghost_name
-        (K.Kept.failures (K.store old.0.keeper.now)) (K.Kept.failures (K.store new.0.keeper.now)) };
+        (K.Kept.state (K.store old.0.keeper.now)).failures (K.Kept.state (K.store new.0.keeper.now)).failures };
 
     fn handle(
         &mut self,
@@ -256,14 +247,14 @@ fn take_and_save<K: Keeper, F: Write, const KEEP: bool>(
     apdu: &Apdu,
 ) -> Result<DeskOutcome, ToolFault>
     ensures takes { TakesAndSaves K.keeping
-        (view_of K.Kept.is_honest K.Kept.landed (K.live keeper.old) (K.store keeper.old))
+        (view_of K.Kept.state (K.live keeper.old) (K.store keeper.old))
         apdu.now result
-        (view_of K.Kept.is_honest K.Kept.landed (K.live keeper.new) (K.store keeper.new)) }
+        (view_of K.Kept.state (K.live keeper.new) (K.store keeper.new)) }
     ensures keeps { KeepsTaken KEEP apdu.now result (F.contents came.old) (F.contents came.new)
-        (view_of K.Kept.is_honest K.Kept.landed (K.live keeper.old) (K.store keeper.old))
-        (view_of K.Kept.is_honest K.Kept.landed (K.live keeper.new) (K.store keeper.new)) }
-    ensures counted { CountsTaking KEEP result (K.Kept.failures (K.store keeper.old))
-        (K.Kept.failures (K.store keeper.new)) }
+        (view_of K.Kept.state (K.live keeper.old) (K.store keeper.old))
+        (view_of K.Kept.state (K.live keeper.new) (K.store keeper.new)) }
+    ensures counted { CountsTaking KEEP result (K.Kept.state (K.store keeper.old)).failures
+        (K.Kept.state (K.store keeper.new)).failures }
 {
     match keeper.take(alloc, apdu) {
         Ok(Taking::Taken) => match keep_and_save::<K, F, KEEP>(alloc, keeper, came, apdu) {
@@ -283,13 +274,13 @@ fn keep_and_save<K: Keeper, F: Write, const KEEP: bool>(
     apdu: &Apdu,
 ) -> Result<(), ToolFault>
     ensures saves { SavesTaken K.keeping
-        (view_of K.Kept.is_honest K.Kept.landed (K.live keeper.old) (K.store keeper.old)) result
-        (view_of K.Kept.is_honest K.Kept.landed (K.live keeper.new) (K.store keeper.new)) }
+        (view_of K.Kept.state (K.live keeper.old) (K.store keeper.old)) result
+        (view_of K.Kept.state (K.live keeper.new) (K.store keeper.new)) }
     ensures keeps { KeepsBefore (kept_text KEEP apdu.now) result (F.contents came.old) (F.contents came.new)
-        (view_of K.Kept.is_honest K.Kept.landed (K.live keeper.old) (K.store keeper.old))
-        (view_of K.Kept.is_honest K.Kept.landed (K.live keeper.new) (K.store keeper.new)) }
-    ensures counted { CountsTaking KEEP result (K.Kept.failures (K.store keeper.old))
-        (K.Kept.failures (K.store keeper.new)) }
+        (view_of K.Kept.state (K.live keeper.old) (K.store keeper.old))
+        (view_of K.Kept.state (K.live keeper.new) (K.store keeper.new)) }
+    ensures counted { CountsTaking KEEP result (K.Kept.state (K.store keeper.old)).failures
+        (K.Kept.state (K.store keeper.new)).failures }
 {
     if KEEP {
         keep(alloc, came, apdu)?;

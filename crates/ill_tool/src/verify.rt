@@ -26,10 +26,9 @@ pub fn run_desk_verify<S: Store, W: Write>(
     store: &mut S,
     writer: &mut W,
 ) -> Result<(), ToolFault>
-    ensures verifies { RunsVerify (S.is_honest store.old) (S.landed store.old)
-        (W.contents writer.old) (W.contents writer.new) result }
-    ensures unchanged { S.is_honest store.old ≡ true → S.landed store.new ≡ S.landed store.old }
-    ensures counted { CountsToolFailure result (S.failures store.old) (S.failures store.new) }
+    ensures verifies { RunsVerify (S.state store.old) (W.contents writer.old) (W.contents writer.new) result }
+    ensures unchanged { (S.state store.old).is_honest ≡ true → (S.state store.new).landed ≡ (S.state store.old).landed }
+    ensures counted { CountsToolFailure result (S.state store.old).failures (S.state store.new).failures }
 {
     match store.load(alloc) {
         Ok(Some(bytes)) => verify_bytes(alloc, &bytes, writer),

@@ -24,13 +24,12 @@ impl LimitedStore {
 
 /// A failure is that of the store in memory.
 impl Store for LimitedStore {
-    ghost landed = { λ _. None };
-
-    ghost failures = { λ s. s.store.failures };
-
-    ghost is_honest = { λ _. false };
-
-    ghost plan = { λ _. None };
+    ghost state = { λ s. record {
+      landed = None;
+      failures = s.store.failures;
+      is_honest = false;
+      plan = None;
+    } };
 
     fn load(&mut self, alloc: Global) -> Result<Option<Vec<u8>>, StoreFault> {
         self.store.load(alloc)

@@ -7,7 +7,7 @@ use Rattle.ill_tool.proofs.exchange.take_mails.Goals as goal
 
 pub returns-in-Ok : goal.returns-in-Ok
 returns-in-Ok g c =
-    let view = many_view g.S.Store.is_honest g.S.Store.landed in
+    let view = many_view g.S.Store.state in
     let before = g.W.Write.contents c.args.writer.now in
     let after = g.W.Write.contents c.run_desk_inbox-run.new.writer in
     let waiting = c.in_ok-found.found.waiting in

@@ -4,9 +4,9 @@ use Rattle.ill_saved.proofs.desk.Desk1.act.Goals as goal
 pub invariant_of-self : goal.invariant_of-self
 invariant_of-self g c =
     let desk = c.self.inside in
-    acts_rules c.rows_grow.ensures c.rows_keep_request.ensures (g.S.Store.is_honest desk.store) (g.S.Store.landed desk.store) desk.kept desk.live c.act.new.self desk.released c.args.action.now c.act.result c.act.ensures c.self.invariant
+    acts_rules c.rows_grow.ensures c.rows_keep_request.ensures (g.S.Store.state desk.store) desk.kept desk.live c.act.new.self desk.released c.args.action.now c.act.result c.act.ensures c.self.invariant
 
 pub invariant_of-self-2 : goal.invariant_of-self-2
 invariant_of-self-2 g c =
     let desk = c.self.inside in
-    acts_rules c.rows_grow.ensures c.rows_keep_request.ensures (g.S.Store.is_honest desk.store) (g.S.Store.landed desk.store) desk.kept desk.live c.act.new.self desk.released c.args.action.now c.act.result c.act.ensures c.self.invariant
+    acts_rules c.rows_grow.ensures c.rows_keep_request.ensures (g.S.Store.state desk.store) desk.kept desk.live c.act.new.self desk.released c.args.action.now c.act.result c.act.ensures c.self.invariant

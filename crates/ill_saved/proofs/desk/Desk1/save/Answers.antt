@@ -8,12 +8,8 @@ invariant_of-self g c =
     let desk = c.self.inside in
     let bytes = c.bytes.result.now in
     let spelled : bytes ≡ record_spelling desk.live = search rules in
-    fault_rules c.read_again.ensures (g.S.Store.is_honest desk.store) (g.S.Store.is_honest c.save.new.self) (g.S.Store.plan desk.store) (g.S.Store.landed desk.store) (g.S.Store.landed c.save.new.self)
-    desk.kept bytes desk.live desk.released c.in_err-save.field-0.0 c.save.ensures.honest c.in_ok-record.ensures.0 spelled c.in_err-save.ensures.landed c.self.invariant
+    fault_rules c.read_again.ensures desk.kept desk.live desk.released c.in_err-save.ensures c.in_ok-record.ensures.0 spelled c.self.invariant
 
 pub invariant_of-self-2 : goal.invariant_of-self-2
 invariant_of-self-2 g c =
-    let desk = c.self.inside in
-    let kept = c.in_ok-record.record in
-    save_rules c.read_again.ensures (g.S.Store.is_honest desk.store) (g.S.Store.is_honest c.save.new.self) (g.S.Store.landed c.save.new.self) kept c.bytes.result.now desk.live c.issued_count-self-inside.result
-    c.save.ensures.honest c.in_ok-record.ensures c.bytes.ensures c.in_ok-save.ensures.landed c.issued_count-self-inside.ensures
+    save_rules c.read_again.ensures c.in_ok-record.record c.self.inside.live c.issued_count-self-inside.result c.in_ok-save.ensures c.in_ok-record.ensures c.bytes.ensures c.issued_count-self-inside.ensures

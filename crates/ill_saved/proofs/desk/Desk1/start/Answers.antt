@@ -8,11 +8,9 @@ use Rattle.ill_saved.proofs.desk.Desk1.start.Goals as goal
 
 pub invariant_of-result : goal.invariant_of-result
 invariant_of-result g c =
-    let store = c.args.store in
+    let store = g.S.Store.state c.args.store in
     let loaded = c.in-Ok-Some.field-0-0 in
-    let landed = g.S.Store.landed store in
-    let plan = g.S.Store.plan store in
     let found = c.in-Ok-Some.field-0-is in
-    start_rules (g.S.Store.is_honest store) (g.S.Store.is_honest c.load_side.new.store) landed (g.S.Store.landed c.load_side.new.store) plan loaded.kept loaded.side c.issued_count-released.result
-    c.load_side.ensures.honest c.load_side.ensures.landed (λ honest. subst (λ f. LoadsSide landed plan (side_loaded (Ok f))) found (c.in-Ok-Some.ensures.loads honest))
+    start_rules loaded.kept loaded.side c.issued_count-released.result c.load_side.ensures.store
+    (λ honest. subst (λ f. LoadsSide store.landed store.plan (side_loaded (Ok f))) found (c.in-Ok-Some.ensures.loads honest))
     (subst (λ f. IfSome f (λ l. IsKept l.kept l.side)) found c.in-Ok-Some.ensures.kept) c.issued_count-released.ensures

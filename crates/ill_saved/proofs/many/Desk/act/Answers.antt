@@ -10,13 +10,13 @@ use Rattle.ill_saved.proofs.many.Desk.act.Goals as goal
 
 -- the desk keeps its rules
 rules_stay : (g : Over) (c : In-Some g) → (length c.self.inside.released.items ≡ length c.act.new.self.sides)
-    × (g.S.Store.is_honest c.self.inside.store ≡ true → AreBacked (g.S.Store.landed c.self.inside.store) (record { role = c.act.new.self.role; held = held_of c.act.new.self.sides c.self.inside.released.items }))
+    × ((g.S.Store.state c.self.inside.store).is_honest ≡ true → AreBacked (g.S.Store.state c.self.inside.store).landed (record { role = c.act.new.self.role; held = held_of c.act.new.self.sides c.self.inside.released.items }))
     × AreBackable (record { role = c.act.new.self.role; held = held_of c.act.new.self.sides c.self.inside.released.items })
 rules_stay g c = (
   (changed_held c.self.inside.sides.role c.self.inside.sides.sides c.self.inside.released.items c.self.invariant.0 c.rows_grow.ensures c.args.txn.now (λ old answer new. Acts old c.args.action.now answer new) (λ old new answer does. acts_row old new c.args.action.now answer does) c.in-Some.answer c.act.new.self c.in-Some.ensures).6,
   λ honest.
       still_backed c.self.inside.sides.role c.self.inside.sides.sides c.self.inside.released.items c.self.invariant.0 c.rows_grow.ensures c.args.txn.now (λ old answer new. Acts old c.args.action.now answer new) (λ old new answer does. acts_row old new c.args.action.now answer does)
-      (g.S.Store.landed c.self.inside.store) c.in-Some.answer c.act.new.self c.in-Some.ensures (c.self.invariant.1 honest),
+      (g.S.Store.state c.self.inside.store).landed c.in-Some.answer c.act.new.self c.in-Some.ensures (c.self.invariant.1 honest),
   still_backable c.self.inside.sides.role c.self.inside.sides.sides c.self.inside.released.items c.self.invariant.0 c.rows_grow.ensures c.args.txn.now (λ old answer new. Acts old c.args.action.now answer new) (λ old new answer does. acts_row old new c.args.action.now answer does) c.in-Some.answer
       c.act.new.self c.in-Some.ensures c.self.invariant.2,
 )

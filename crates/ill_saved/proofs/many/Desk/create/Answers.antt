@@ -12,10 +12,10 @@ invariant_of-result g c =
     let counted = c.in-Ok.field-0.released.items in
     let is : all ≡ record { role = c.args.role; sides = [] } = search rules in
     let whole : counted ≡ counts all.sides = search rules in
-    let none : g.S.Store.is_honest c.args.store ≡ true → g.S.Store.landed c.load.new.self ≡ None = search rules in
-    let honest : g.S.Store.is_honest c.load.new.self ≡ g.S.Store.is_honest c.args.store = search rules in (
+    let none : (g.S.Store.state c.args.store).is_honest ≡ true → (g.S.Store.state c.load.new.self).landed ≡ None = search rules in
+    let honest : (g.S.Store.state c.load.new.self).is_honest ≡ (g.S.Store.state c.args.store).is_honest = search rules in (
       as_many_counted all.sides counted whole,
-      λ now. none_backed (g.S.Store.landed c.load.new.self) all counted (none (sym honest ∙ now)) (ap (λ (held : SidesOf). held.sides) is) whole,
+      λ now. none_backed (g.S.Store.state c.load.new.self).landed all counted (none (sym honest ∙ now)) (ap (λ (held : SidesOf). held.sides) is) whole,
       whole_backable all counted (subst (λ (held : SidesOf). Each IsConsistent held.sides) (sym is) (none_are IsConsistent)) whole,
     )
 

@@ -17,8 +17,8 @@ invariant_of-self-in-Ok g c =
     let pushed : c.push.new.self.items ≡ counted ++ 0 ∷ [] = search rules in (
       ap length pushed ∙ length-append counted (0 ∷ []) ∙ ap (λ n. n + 1) c.self.invariant.0 ∙ sym (length-append all.sides (c.args.side ∷ [])) ∙ ap (λ held. length held.sides) (sym put),
       λ honest.
-          subst (λ ns. AreBacked (g.S.Store.landed c.self.inside.store) (record { role = c.put.new.self.role; held = held_of c.put.new.self.sides ns })) (sym pushed)
-          (more_backed all.role all.sides counted c.self.invariant.0 c.args.side may c.rows_grow.ensures (g.S.Store.landed c.self.inside.store) c.put.new.self put row (c.self.invariant.1 honest)),
+          subst (λ ns. AreBacked (g.S.Store.state c.self.inside.store).landed (record { role = c.put.new.self.role; held = held_of c.put.new.self.sides ns })) (sym pushed)
+          (more_backed all.role all.sides counted c.self.invariant.0 c.args.side may c.rows_grow.ensures (g.S.Store.state c.self.inside.store).landed c.put.new.self put row (c.self.invariant.1 honest)),
       subst (λ ns. AreBackable (record { role = c.put.new.self.role; held = held_of c.put.new.self.sides ns })) (sym pushed)
           (more_backable all.role all.sides counted c.self.invariant.0 c.args.side may c.rows_grow.ensures c.put.new.self put row c.self.invariant.2),
     )
@@ -42,7 +42,7 @@ invariant_of-self-in-Err g c =
     let rules_of =
     λ (held : SidesOf) (ns : List ℕ).
     (length ns ≡ length held.sides)
-    × (g.S.Store.is_honest c.self.inside.store ≡ true → AreBacked (g.S.Store.landed c.self.inside.store) (record { role = held.role; held = held_of held.sides ns }))
+    × ((g.S.Store.state c.self.inside.store).is_honest ≡ true → AreBacked (g.S.Store.state c.self.inside.store).landed (record { role = held.role; held = held_of held.sides ns }))
     × AreBackable (record { role = held.role; held = held_of held.sides ns }) in
     let same : c.put.new.self ≡ all = search rules in
     let kept : c.reserve.new.self.items ≡ counted = search rules in

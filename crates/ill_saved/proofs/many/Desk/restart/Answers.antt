@@ -16,11 +16,11 @@ invariant_of-self-2 g c =
     let role = c.self.inside.sides.role in
     let loads : LoadsOrNone bytes role (Ok all) = search rules in
     let each : Each IsConsistent all.sides = search rules in
-    let honest : g.S.Store.is_honest c.load.new.self ≡ g.S.Store.is_honest c.self.inside.store = search rules in (
+    let honest : (g.S.Store.state c.load.new.self).is_honest ≡ (g.S.Store.state c.self.inside.store).is_honest = search rules in (
       as_many_counted all.sides counted c.sides.invariant,
       λ now.
           let was = sym honest ∙ now in
-          read_backed (g.S.Store.landed c.load.new.self) all counted
+          read_backed (g.S.Store.state c.load.new.self).landed all counted
           (ap (λ o. landed_sides o all.role) (c.load.ensures.landed was ∙ sym (c.in_ok-bytes.ensures.loaded was)) ∙ landed_as_read bytes role all (restarts_with bytes role all loads)) each c.sides.invariant,
       whole_backable all counted each c.sides.invariant,
     )
@@ -34,11 +34,11 @@ returns-clause-restarts g c =
     let desk = c.self.inside in
     let loads : LoadsOrNone bytes role (Ok all) = search rules in
     let holds = holds_sides all counted (as_many_counted all.sides counted c.sides.invariant) in
-    let to : g.S.Store.is_honest desk.store ≡ true → (landed_sides (g.S.Store.landed desk.store) role ≡ Ok (sides_held (record { role = all.role; held = held_of all.sides counted })))
-    × Allows {X = Unit {0}} (g.S.Store.plan desk.store) (Ok tt) =
+    let to : (g.S.Store.state desk.store).is_honest ≡ true → (landed_sides (g.S.Store.state desk.store).landed role ≡ Ok (sides_held (record { role = all.role; held = held_of all.sides counted })))
+    × Allows {X = Unit {0}} (g.S.Store.state desk.store).plan (Ok tt) =
     λ honest. (
       ap (λ o. landed_sides o role) (sym (c.in_ok-bytes.ensures.loaded honest)) ∙ restarts_with bytes role all loads ∙ ap Ok (sym holds),
-      allows_done (g.S.Store.plan desk.store) c.in_ok-bytes.bytes (c.in_ok-bytes.ensures.planned honest),
+      allows_done (g.S.Store.state desk.store).plan c.in_ok-bytes.bytes (c.in_ok-bytes.ensures.planned honest),
     ) in
     let seen = c.self.view_is in
     search (rules, to, seen)

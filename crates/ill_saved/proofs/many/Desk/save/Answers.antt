@@ -10,20 +10,20 @@ invariant_of-self g c =
     let all = c.self.inside.sides in
     let bytes = c.deref.result.now in
     let spelled : bytes ≡ sides_spelling all = search rules in
-    let old = g.S.Store.landed c.self.inside.store in
-    let new = g.S.Store.landed c.save.new.self in
-    let honest : g.S.Store.is_honest c.save.new.self ≡ g.S.Store.is_honest c.self.inside.store = search rules in (
+    let old = (g.S.Store.state c.self.inside.store).landed in
+    let new = (g.S.Store.state c.save.new.self).landed in
+    let honest : (g.S.Store.state c.save.new.self).is_honest ≡ (g.S.Store.state c.self.inside.store).is_honest = search rules in (
       c.self.invariant.0,
       λ now.
           let was = sym honest ∙ now in
-          let either = old_or_new (g.S.Store.plan c.self.inside.store) bytes c.in_err-save.field-0.0 old new (c.in_err-save.ensures.landed was) in
+          let either = old_or_new (g.S.Store.state c.self.inside.store).plan bytes c.in_err-save.field-0.0 old new (c.in_err-save.ensures.landed was) in
           fault_backed c.follows_issues.ensures all c.self.inside.released.items c.self.invariant.0 (each_consistent all.sides c.in_ok-record.ensures.sides.each) c.sides_read_again.ensures c.in_ok-record.ensures.sides old new
           (subst (λ b. (new ≡ old) ⊎ (new ≡ Some b)) spelled either) (c.self.invariant.1 was),
       c.self.invariant.2,
     )
 
-pub returns-in_err-save-clause-landed : goal.returns-in_err-save-clause-landed
-returns-in_err-save-clause-landed g c =
+pub returns-in_err-save-clause-store : goal.returns-in_err-save-clause-store
+returns-in_err-save-clause-store g c =
     let all = c.self.inside.sides in
     let seen : all ≡ sides_held c.args.self.now.live = as_seen all c.self.inside.released.items c.self.inside.store c.args.self.now c.self.invariant.0 c.self.view_is in
     let spelled : c.deref.result.now ≡ sides_spelling all = search rules in
@@ -42,11 +42,11 @@ invariant_of-self-2 g c =
     let all = c.self.inside.sides in
     let counted = c.in_ok-released.released.items in
     let spelled : c.deref.result.now ≡ sides_spelling all = search rules in
-    let honest : g.S.Store.is_honest c.save.new.self ≡ g.S.Store.is_honest c.self.inside.store = search rules in (
+    let honest : (g.S.Store.state c.save.new.self).is_honest ≡ (g.S.Store.state c.self.inside.store).is_honest = search rules in (
       as_many_counted all.sides counted c.in_ok-released.ensures,
       λ now.
-          let lands : g.S.Store.landed c.save.new.self ≡ Some c.deref.result.now = (c.in_ok-save.ensures.landed (sym honest ∙ now)) in
-          saved_backed c.sides_read_again.ensures (g.S.Store.landed c.save.new.self) all counted c.in_ok-record.ensures.sides (lands ∙ ap Some spelled) c.in_ok-released.ensures,
+          let lands : (g.S.Store.state c.save.new.self).landed ≡ Some c.deref.result.now = (c.in_ok-save.ensures.landed (sym honest ∙ now)) in
+          saved_backed c.sides_read_again.ensures (g.S.Store.state c.save.new.self).landed all counted c.in_ok-record.ensures.sides (lands ∙ ap Some spelled) c.in_ok-released.ensures,
       whole_backable all counted (each_consistent all.sides c.in_ok-record.ensures.sides.each) c.in_ok-released.ensures,
     )
 
@@ -56,8 +56,8 @@ returns-clause-live g c =
     let seen : all ≡ sides_held c.args.self.now.live = as_seen all c.self.inside.released.items c.self.inside.store c.args.self.now c.self.invariant.0 c.self.view_is in
     whole_held all c.in_ok-released.released.items c.in_ok-released.ensures ∙ ap whole_of seen
 
-pub returns-clause-landed : goal.returns-clause-landed
-returns-clause-landed g c =
+pub returns-clause-store : goal.returns-clause-store
+returns-clause-store g c =
     let all = c.self.inside.sides in
     let seen : all ≡ sides_held c.args.self.now.live = as_seen all c.self.inside.released.items c.self.inside.store c.args.self.now c.self.invariant.0 c.self.view_is in
     let spelled : c.deref.result.now ≡ sides_spelling all = search rules in

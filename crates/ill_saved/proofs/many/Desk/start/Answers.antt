@@ -12,16 +12,16 @@ invariant_of-result g c =
     let all = c.in-Ok-Some.field-0-0.sides in
     let counted = c.in-Ok-Some.field-0-0.released.items in
     let store = c.args.store in
-    let landed = g.S.Store.landed store in
+    let landed = (g.S.Store.state store).landed in
     let whole : counted ≡ counts all.sides = search rules in
-    let loads : g.S.Store.is_honest store ≡ true → Loads records_at begins_as_records landed (g.S.Store.plan store) (Ok (Some all)) = search rules in
+    let loads : (g.S.Store.state store).is_honest ≡ true → Loads records_at begins_as_records landed (g.S.Store.state store).plan (Ok (Some all)) = search rules in
     let each : Each IsConsistent all.sides = search rules in
-    let lands = c.load_whole.ensures.landed in
-    let honest : g.S.Store.is_honest c.load_whole.new.store ≡ g.S.Store.is_honest store = search rules in (
+    let lands = c.load_whole.ensures.store.landed in
+    let honest : (g.S.Store.state c.load_whole.new.store).is_honest ≡ (g.S.Store.state store).is_honest = search rules in (
       as_many_counted all.sides counted whole,
       λ now.
           let was = sym honest ∙ now in
-          read_backed (g.S.Store.landed c.load_whole.new.store) all counted (ap (λ o. landed_sides o all.role) (lands was) ∙ loads_landed landed (g.S.Store.plan store) all (loads was)) each whole,
+          read_backed (g.S.Store.state c.load_whole.new.store).landed all counted (ap (λ o. landed_sides o all.role) (lands was) ∙ loads_landed landed (g.S.Store.state store).plan all (loads was)) each whole,
       whole_backable all counted each whole,
     )
 
@@ -30,10 +30,10 @@ returns-in-Ok-Some-clause-starts g c =
     let all = c.in-Ok-Some.field-0-0.sides in
     let counted = c.in-Ok-Some.field-0-0.released.items in
     let store = c.args.store in
-    let landed = g.S.Store.landed store in
+    let landed = (g.S.Store.state store).landed in
     let whole : counted ≡ counts all.sides = search rules in
-    let loads : g.S.Store.is_honest store ≡ true → Loads records_at begins_as_records landed (g.S.Store.plan store) (Ok (Some all)) = search rules in
-    λ honest. starts_with landed (g.S.Store.plan store) all (record { live = record { role = all.role; held = held_of all.sides counted }; store = c.load_whole.new.store }) (loads honest) (holds_sides all counted (as_many_counted all.sides counted whole))
+    let loads : (g.S.Store.state store).is_honest ≡ true → Loads records_at begins_as_records landed (g.S.Store.state store).plan (Ok (Some all)) = search rules in
+    λ honest. starts_with landed (g.S.Store.state store).plan all (record { live = record { role = all.role; held = held_of all.sides counted }; store = c.load_whole.new.store }) (loads honest) (holds_sides all counted (as_many_counted all.sides counted whole))
 
 pub returns-in-Ok-Some-clause-whole : goal.returns-in-Ok-Some-clause-whole
 returns-in-Ok-Some-clause-whole g c =

@@ -1,5 +1,5 @@
--- The laws of a description of fields: what is read is spelled so, and what is spelled is read again. They are kept by
--- each way to make a description of others.
+-- The laws of a field: the bytes that it reads are the encoding of the value, and an encoded value is read again.
+-- Each way to make a field from others keeps them.
 use Rattle.std.proofs.Common.{◌≡◌, ℕ, zero, suc, ◌+◌, ◌<◌, ◌≤◌, Bool, true, false, cond, ◌&&◌, eqb, leb, ltb, List, [], ◌∷◌, ◌++◌, length, take, drop, Option, Some, None, Result, Ok, Err, refl, sym, ap, subst, ◌∙◌, inl, inr, append_assoc, length-append, arith, rules}
 use Rattle.std.specs.Prelude.{IfSome, is_ok}
 use Rattle.std.proofs.lemmas.Bool.{eqb-true, eq-eqb, leb-true, le-leb, and_parts, ltb-false, le-ltb}
@@ -27,8 +27,8 @@ use Rattle.ill_saved.specs.Records.{state_code, state_with, state_in, role_octet
 use Rattle.ill_saved.specs.Ranges.{Each}
 use Rattle.ill_saved.proofs.Steps.{bind_ok, passed, went_on, chosen, ok_is, found_with, IsBytes-take, IsBytes-rest}
 
--- What the laws of the crates below say: a day is read from its text alone, a qualifier has 1 to 64
--- bytes, and an APDU is read from its spelling alone.
+-- The laws of the crates below on dates, qualifiers and APDUs.
+-- A valid date is read from its text, and an APDU from its encoding. A qualifier has 1 to 64 bytes.
 pub record Below : Type 0 where
   pub day_spelled : (d : Date) → IsDate d → read_date (date_text d) ≡ Ok d
   pub day_read : (text : List ℕ) (d : Date) → read_date text ≡ Ok d → IsDate d × (text ≡ date_text d)
@@ -36,33 +36,42 @@ pub record Below : Type 0 where
   pub apdu_again : (a : Apdu) (rest : List ℕ) → IsApdu a → apdu_at (spelling a ++ rest) ≡ Ok (a, rest)
   pub apdu_or_fault : (bytes : List ℕ) → IsBytes bytes → BeginsWithOne bytes (apdu_at bytes)
 
--- a spelled value is read again, from whatever place
+-- Value `v` is read again from its encoding at offset `at`, and the cursor is left before `more`.
 abbrev pub ReadsAgain : {V : Type 0} → Field V → V → ℕ → List ℕ → Type 0
 ReadsAgain f v at more = (after : ℕ) × (f.read (cursor_at at (f.spell v ++ more)) ≡ Ok (v, cursor_at after more))
 
+-- The bytes are the encoding of `v`, and then `rest`; and `P` holds of `v`.
 abbrev pub Takes : {V : Type 0} → Field V → (V → Type 0) → List ℕ → V → List ℕ → Type 0
 Takes f P bytes v rest = (bytes ≡ f.spell v ++ rest) × P v
 
+-- The two laws of a field. If it reads a value, the bytes read are its encoding, and `P` holds of it.
+-- Each value of which `P` holds is read again from its encoding.
 pub record IsField {V : Type 0} (P : V → Type 0) (f : Field V) : Type 0 where
   pub takes : (left : Cursor) (v : V) (rest : Cursor) → IsBytes left.bytes → f.read left ≡ Ok (v, rest) → Takes f P left.bytes v rest.bytes
   pub again : (v : V) (at : ℕ) (more : List ℕ) → P v → ReadsAgain f v at more
 
-pub rest_fits : {V : Type 0} (P : V → Type 0) (f : Field V) → IsField P f → (left : Cursor) (v : V) (rest : Cursor) → IsBytes left.bytes → f.read left ≡ Ok (v, rest) → IsBytes rest.bytes
+-- If a field is read from bytes, the rest after it is bytes.
+pub rest_fits : {V : Type 0} (P : V → Type 0) (f : Field V) → IsField P f → (left : Cursor) (v : V) (rest : Cursor)
+    → IsBytes left.bytes → f.read left ≡ Ok (v, rest) → IsBytes rest.bytes
 rest_fits P f is left v rest fits e = IsBytes-rest left.bytes (f.spell v) rest.bytes (is.takes left v rest fits e).0 fits
 
--- ---- so many bytes
+-- ---- a field of `n` bytes
 
+-- If a value was given, it is the value that was read.
 value_found : {V : Type 0} (at : ℕ) (o : Option V) (v : V) → value_at at o ≡ Ok v → o ≡ Some v
 value_found at (Some x) v e = ap Some (ok_is x v e)
 value_found at None v e = absurd cc
 
--- contents of so many bytes
+-- The laws of contents of `n` bytes. If they are read as a value, they are its encoding, and `P` holds of it.
+-- Each value of which `P` holds has an encoding of `n` bytes, from which it is read again.
 pub record IsSized {V : Type 0} (P : V → Type 0) (n : ℕ) (contents : Contents V) : Type 0 where
   pub takes : (bytes : List ℕ) (v : V) → IsBytes bytes → length bytes ≡ n → contents.read bytes ≡ Some v → (bytes ≡ contents.spell v) × P v
   pub again : (v : V) → P v → (contents.read (contents.spell v) ≡ Some v) × (length (contents.spell v) ≡ n)
 
+-- If a field of `n` bytes reads a value, the bytes read are its encoding.
 sized_takes : {V : Type 0} (P : V → Type 0) (n : ℕ) (contents : Contents V) → IsSized P n contents
-    → (left : Cursor) (v : V) (rest : Cursor) → IsBytes left.bytes → (sized n contents).read left ≡ Ok (v, rest) → Takes (sized n contents) P left.bytes v rest.bytes
+    → (left : Cursor) (v : V) (rest : Cursor) → IsBytes left.bytes → (sized n contents).read left ≡ Ok (v, rest)
+    → Takes (sized n contents) P left.bytes v rest.bytes
 sized_takes {V} P n contents is left v rest fits e =
     let whole : List ℕ × Cursor = (take n left.bytes, cursor_at (left.at + n) (drop n left.bytes)) in
     let part = bind_ok (bytes_at n left) (λ part. value_at left.at (contents.read part.0) >>= λ value. Ok (value, part.1)) (v, rest) e in
@@ -77,19 +86,24 @@ sized_takes {V} P n contents is left v rest fits e =
     ∙ ap (λ (p : List ℕ × Cursor). contents.spell found.0 ++ p.1.bytes) taken in
     subst (λ (x : V × Cursor). Takes (sized n contents) P left.bytes x.0 x.1.bytes) both (parts, value.1)
 
-sized_again : {V : Type 0} (P : V → Type 0) (n : ℕ) (contents : Contents V) → IsSized P n contents → (v : V) (at : ℕ) (more : List ℕ) → P v → ReadsAgain (sized n contents) v at more
+-- A value of which `P` holds is read again by its field of `n` bytes.
+sized_again : {V : Type 0} (P : V → Type 0) (n : ℕ) (contents : Contents V) → IsSized P n contents
+    → (v : V) (at : ℕ) (more : List ℕ) → P v → ReadsAgain (sized n contents) v at more
 sized_again P n contents is v at more p =
     let text = contents.spell v in
     let read = is.again v p in
     let enough : ltb (length (text ++ more)) n ≡ false = le-ltb (length (text ++ more)) n (omega (arith, length-append text more, read.1)) in
     (at + n, rw (enough, take_at text more n read.1, drop_at text more n read.1, read.0) refl)
 
+-- If the contents keep the laws, so does the field of `n` bytes.
 pub sized_is : {V : Type 0} (P : V → Type 0) (n : ℕ) (contents : Contents V) → IsSized P n contents → IsField P (sized n contents)
 sized_is P n contents is = record { takes = sized_takes P n contents is; again = sized_again P n contents is }
 
 -- ---- one octet
 
-one_takes : {V : Type 0} (P : V → Type 0) (code : V → ℕ) (value_of : ℕ → Option V) → ((n : ℕ) (v : V) → n < 256 → value_of n ≡ Some v → (n ≡ code v) × P v)
+-- If `value_of` gives only values with their own code, a value of one octet has that octet as its encoding.
+one_takes : {V : Type 0} (P : V → Type 0) (code : V → ℕ) (value_of : ℕ → Option V)
+    → ((n : ℕ) (v : V) → n < 256 → value_of n ≡ Some v → (n ≡ code v) × P v)
     → (bytes : List ℕ) (v : V) → IsBytes bytes → one_octet value_of bytes ≡ Some v → (bytes ≡ code v ∷ []) × P v
 one_takes P code value_of takes [] v fits e = absurd cc
 one_takes P code value_of takes (n ∷ []) v fits e =
@@ -97,34 +111,46 @@ one_takes P code value_of takes (n ∷ []) v fits e =
     (ap (λ (x : ℕ). x ∷ []) is.0, is.1)
 one_takes P code value_of takes (n ∷ more ∷ rest) v fits e = absurd cc
 
-pub octet_is : {V : Type 0} (P : V → Type 0) (code : V → ℕ) (value_of : ℕ → Option V) → ((n : ℕ) (v : V) → n < 256 → value_of n ≡ Some v → (n ≡ code v) × P v)
+-- If `value_of` reads just the values of `P`, each from its `code`, the field of one octet keeps the laws.
+pub octet_is : {V : Type 0} (P : V → Type 0) (code : V → ℕ) (value_of : ℕ → Option V)
+    → ((n : ℕ) (v : V) → n < 256 → value_of n ≡ Some v → (n ≡ code v) × P v)
     → ((v : V) → P v → value_of (code v) ≡ Some v) → IsField P (octet code value_of)
 octet_is P code value_of takes again =
     sized_is P 1 _ (record { takes = λ bytes v fits one e. one_takes P code value_of takes bytes v fits e; again = λ v p. (again v p, refl) })
 
+-- No condition on the value.
 abbrev pub Any : {V : Type 0} → V → Type 0
 Any v = Unit {0}
 
+-- If a constant octet is read, it is the one wanted.
 constant_takes : (wanted n : ℕ) (v : Unit {0}) → n < 256 → cond (eqb n wanted) (Some tt) None ≡ Some v → (n ≡ wanted) × Any v
 constant_takes wanted n v small e = (eqb-true n wanted (cond_some (eqb n wanted) tt v e).0, tt)
 
+-- The field of a constant octet keeps the laws.
 pub constant_is : (n : ℕ) → IsField Any (constant n)
 constant_is n = octet_is Any (λ _. n) (λ m. cond (eqb m n) (Some tt) None) (constant_takes n) (λ v p. rw (eq-eqb n n refl) refl)
 
+-- The field of a count keeps the laws for counts below 256.
 pub count_is : IsField (λ n. n < 256) count
 count_is = octet_is (λ n. n < 256) (λ n. n) Some (λ n v small e. (same_Some n v e, subst (λ m. m < 256) (same_Some n v e) small)) (λ v p. refl)
 
-number_takes : (n : ℕ) (o : Option ℕ) → n < 256 → Some (cond (eqb n 0) None (Some n)) ≡ Some o → (n ≡ number_octet o) × IfSome o IsNumber
+-- If an octet is read as a number or as none, it is the octet of that.
+number_takes : (n : ℕ) (o : Option ℕ) → n < 256 → Some (cond (eqb n 0) None (Some n)) ≡ Some o
+    → (n ≡ number_octet o) × IfSome o IsNumber
 number_takes n o small e = search rules
 
+-- A number in range, or none, is read again from its octet.
 number_again : (o : Option ℕ) → IfSome o IsNumber → Some (cond (eqb (number_octet o) 0) None (Some (number_octet o))) ≡ Some o
 number_again None p = refl
 number_again (Some n) p = search rules
 
+-- The field of an optional number keeps the laws for numbers in range.
 pub optional_number_is : IsField (λ o. IfSome o IsNumber) optional_number
 optional_number_is = octet_is (λ o. IfSome o IsNumber) number_octet (λ n. Some (cond (eqb n 0) None (Some n))) number_takes number_again
 
-mark_takes : (n : ℕ) (b : Bool) → n < 256 → cond (eqb n 0) (Some false) (cond (eqb n 1) (Some true) None) ≡ Some b → (n ≡ cond b 1 0) × Any b
+-- If an octet is read as a mark, it is the octet of that mark.
+mark_takes : (n : ℕ) (b : Bool) → n < 256 → cond (eqb n 0) (Some false) (cond (eqb n 1) (Some true) None) ≡ Some b
+    → (n ≡ cond b 1 0) × Any b
 mark_takes n b small e =
     elim (chosen (eqb n 0) (Some false) (cond (eqb n 1) (Some true) None) (Some b) e) [
       | inl h ↦ subst (λ (x : Bool). (n ≡ cond x 1 0) × Any x) (same_Some false b h.1) (eqb-true n 0 h.0, tt)
@@ -133,13 +159,16 @@ mark_takes n b small e =
           subst (λ (x : Bool). (n ≡ cond x 1 0) × Any x) is.1 (eqb-true n 1 is.0, tt)
     ]
 
+-- A mark is read again from its octet.
 mark_again : (b : Bool) → Any b → cond (eqb (cond b 1 0) 0) (Some false) (cond (eqb (cond b 1 0) 1) (Some true) None) ≡ Some b
 mark_again true p = refl
 mark_again false p = refl
 
+-- The field of a mark keeps the laws.
 pub mark_is : IsField Any mark
 mark_is = octet_is Any (λ b. cond b 1 0) (λ n. cond (eqb n 0) (Some false) (cond (eqb n 1) (Some true) None)) mark_takes mark_again
 
+-- If an octet is read as a role, it is the octet of that role.
 role_takes : (n : ℕ) (r : Role) → n < 256 → role_with n ≡ Some r → (n ≡ role_octet r) × Any r
 role_takes n r small e =
     elim (chosen (eqb n 0) (Some roles.Requester) (cond (eqb n 1) (Some roles.Responder) None) (Some r) e) [
@@ -149,44 +178,55 @@ role_takes n r small e =
           subst (λ (x : Role). (n ≡ role_octet x) × Any x) is.1 (eqb-true n 1 is.0, tt)
     ]
 
+-- A role is read again from its octet.
 role_again : (r : Role) → Any r → role_with (role_octet r) ≡ Some r
 role_again roles.Requester p = refl
 role_again roles.Responder p = refl
 
+-- The field of a role keeps the laws.
 pub role_is : IsField Any role
 role_is = octet_is Any role_octet role_with role_takes role_again
 
+-- The length is from 1 to 64.
 abbrev pub IsTextSize : ℕ → Type 0
 IsTextSize n = (1 ≤ n) × (n ≤ 64)
 
+-- If an octet is read as a length, it is that length, from 1 to 64.
 text_size_takes : (n v : ℕ) → n < 256 → cond (leb 1 n && leb n 64) (Some n) None ≡ Some v → (n ≡ v) × IsTextSize v
 text_size_takes n v small e =
     let is = cond_some (leb 1 n && leb n 64) n v e in
     let range = and_parts (leb 1 n) (leb n 64) is.0 in
     subst (λ (x : ℕ). (n ≡ x) × IsTextSize x) is.1 (refl, (leb-true 1 n range.0, leb-true n 64 range.1))
 
+-- The field of a length keeps the laws for lengths from 1 to 64.
 text_size_is : IsField IsTextSize text_size
 text_size_is = octet_is IsTextSize (λ n. n) (λ n. cond (leb 1 n && leb n 64) (Some n) None) text_size_takes (λ v p. rw (le-leb 1 v p.0, le-leb v 64 p.1) refl)
 
--- a state of a role
+-- The state is read from its octet among `states`.
 abbrev pub IsAmong : List State → State → Type 0
 IsAmong states state = state_with states (state_code state) ≡ Some state
 
-state_takes : (states : List State) (n : ℕ) (state : State) → n < 256 → state_with states n ≡ Some state → (n ≡ state_code state) × IsAmong states state
+-- If an octet is read as a state among `states`, it is the octet of that state.
+state_takes : (states : List State) (n : ℕ) (state : State) → n < 256 → state_with states n ≡ Some state
+    → (n ≡ state_code state) × IsAmong states state
 state_takes states n state small e =
     let same = found_with state_code n states state e in
     (same, sym (ap (state_with states) same) ∙ e)
 
+-- The field of a state keeps the laws for the states in the list.
 pub state_is : (states : List State) → IsField (IsAmong states) (state_in states)
 state_is states = octet_is (IsAmong states) state_code (state_with states) (state_takes states) (λ v p. p)
 
 -- ---- a field and then another
 
+-- `P` holds of the first value, and `Q` of the second.
 abbrev pub Both : {V W : Type 0} → (V → Type 0) → (W → Type 0) → V × W → Type 0
 Both P Q v = P v.0 × Q v.1
 
+-- If two fields are read, the bytes read are the encodings of both values.
 followed_takes : {V W : Type 0} (P : V → Type 0) (Q : W → Type 0) (f : Field V) (g : Field W) → IsField P f → IsField Q g
-    → (left : Cursor) (v : V × W) (rest : Cursor) → IsBytes left.bytes → (followed_by f g).read left ≡ Ok (v, rest) → Takes (followed_by f g) (Both P Q) left.bytes v rest.bytes
+    → (left : Cursor) (v : V × W) (rest : Cursor) → IsBytes left.bytes → (followed_by f g).read left ≡ Ok (v, rest)
+    → Takes (followed_by f g) (Both P Q) left.bytes v rest.bytes
 followed_takes {V} {W} P Q f g fs gs left v rest fits e =
     let a = bind_ok (f.read left) (λ a. g.read a.1 >>= λ b. Ok ((a.0, b.0), b.1)) (v, rest) e in
     let b = bind_ok (g.read a.0.1) (λ b. Ok ((a.0.0, b.0), b.1)) (v, rest) a.2 in
@@ -197,6 +237,7 @@ followed_takes {V} {W} P Q f g fs gs left v rest fits e =
     first.0 ∙ ap (λ (x : List ℕ). f.spell a.0.0 ++ x) second.0 ∙ sym (append_assoc (f.spell a.0.0) (g.spell b.0.0) b.0.1.bytes) in
     subst (λ (x : (V × W) × Cursor). Takes (followed_by f g) (Both P Q) left.bytes x.0 x.1.bytes) both (parts, (first.1, second.1))
 
+-- If both fields keep the laws, two values are read again from their encodings.
 followed_again : {V W : Type 0} (P : V → Type 0) (Q : W → Type 0) (f : Field V) (g : Field W) → IsField P f → IsField Q g
     → (v : V × W) (at : ℕ) (more : List ℕ) → Both P Q v → ReadsAgain (followed_by f g) v at more
 followed_again P Q f g fs gs v at more p =
@@ -204,15 +245,19 @@ followed_again P Q f g fs gs v at more p =
     let second = gs.again v.1 first.0 more p.1 in
     (second.0, rw (append_assoc (f.spell v.0) (g.spell v.1) more, first.1, second.1) refl)
 
-pub followed_is : {V W : Type 0} (P : V → Type 0) (Q : W → Type 0) (f : Field V) (g : Field W) → IsField P f → IsField Q g → IsField (Both P Q) (followed_by f g)
+-- If two fields keep the laws, so does the first followed by the second.
+pub followed_is : {V W : Type 0} (P : V → Type 0) (Q : W → Type 0) (f : Field V) (g : Field W) → IsField P f
+    → IsField Q g → IsField (Both P Q) (followed_by f g)
 followed_is P Q f g fs gs = record { takes = followed_takes P Q f g fs gs; again = followed_again P Q f g fs gs }
 
--- ---- a qualifier behind its length
+-- ---- a qualifier after its length
 
+-- If a check of a text succeeds, its result is done.
 checked : (r : Result (Unit {0}) TextFault) → is_ok r ≡ true → r ≡ Ok tt
 checked (Ok x) e = refl
 checked (Err f) e = absurd cc
 
+-- The contents of a qualifier of length `n` keep the laws.
 qualifier_sized : (n : ℕ) → IsSized (λ text. IsQualifier text × (length text ≡ n)) n qualifier
 qualifier_sized n = record {
   takes = λ bytes v fits size e.
@@ -221,25 +266,31 @@ qualifier_sized n = record {
   again = λ v p. (rw p.0 refl, p.1);
 }
 
-text_takes : (left : Cursor) (v : List ℕ) (rest : Cursor) → IsBytes left.bytes → counted_text.read left ≡ Ok (v, rest) → Takes counted_text IsQualifier left.bytes v rest.bytes
+-- If a qualifier is read after its length, the bytes read are its encoding.
+text_takes : (left : Cursor) (v : List ℕ) (rest : Cursor) → IsBytes left.bytes → counted_text.read left ≡ Ok (v, rest)
+    → Takes counted_text IsQualifier left.bytes v rest.bytes
 text_takes left v rest fits e =
     let size = bind_ok (text_size.read left) (λ size. (sized size.0 qualifier).read size.1) (v, rest) e in
     let first = text_size_is.takes left size.0.0 size.0.1 fits size.1 in
     let second = (sized_is _ size.0.0 qualifier (qualifier_sized size.0.0)).takes size.0.1 v rest (rest_fits IsTextSize text_size text_size_is left size.0.0 size.0.1 fits size.1) size.2 in
     (first.0 ∙ ap (λ (x : List ℕ). size.0.0 ∷ x) second.0 ∙ ap (λ (n : ℕ). n ∷ (v ++ rest.bytes)) (sym second.1.1), second.1.0)
 
+-- A qualifier is read again from its length and its bytes.
 text_again : Below → (v : List ℕ) (at : ℕ) (more : List ℕ) → IsQualifier v → ReadsAgain counted_text v at more
 text_again below v at more p =
     let size = text_size_is.again (length v) at (v ++ more) (below.text_size v p) in
     let text = (sized_is _ (length v) qualifier (qualifier_sized (length v))).again v size.0 more (p, refl) in
     (text.0, rw (size.1, text.1) refl)
 
+-- The field of a qualifier after its length keeps the laws.
 pub counted_text_is : Below → IsField IsQualifier counted_text
 counted_text_is below = record { takes = text_takes; again = text_again below }
 
 -- ---- APDUs
 
-apdu_found : (left : Cursor) (r : Result (Apdu × List ℕ) DerFault) (v : Apdu) (rest : Cursor) → apdu_by left r ≡ Ok (v, rest) → r ≡ Ok (v, rest.bytes)
+-- If the field of an APDU gives one, that APDU was read, and the cursor is before the rest.
+apdu_found : (left : Cursor) (r : Result (Apdu × List ℕ) DerFault) (v : Apdu) (rest : Cursor)
+    → apdu_by left r ≡ Ok (v, rest) → r ≡ Ok (v, rest.bytes)
 apdu_found left (Ok found) v rest e =
     let both = ok_is (found.0, cursor_at _ found.1) (v, rest) e in
     ap (λ (x : Apdu × Cursor). Ok (x.0, x.1.bytes)) both
@@ -249,18 +300,24 @@ apdu_found left (Err (der.Length at)) v rest e = absurd cc
 apdu_found left (Err (der.Field at)) v rest e = absurd cc
 apdu_found left (Err der.OutOfMemory) v rest e = absurd cc
 
-one_taken : Below → (left : Cursor) (v : Apdu) (rest : Cursor) → IsBytes left.bytes → apdu.read left ≡ Ok (v, rest) → Takes apdu IsApdu left.bytes v rest.bytes
+-- If an APDU is read, the bytes read are its encoding, and it is in range.
+one_taken : Below → (left : Cursor) (v : Apdu) (rest : Cursor) → IsBytes left.bytes → apdu.read left ≡ Ok (v, rest)
+    → Takes apdu IsApdu left.bytes v rest.bytes
 one_taken below left v rest fits e =
     let is = subst (BeginsWithOne left.bytes) (apdu_found left (apdu_at left.bytes) v rest e) (below.apdu_or_fault left.bytes fits) in
     (is.0.1, is.0.0)
 
+-- The field of an APDU keeps the laws.
 pub apdu_is : Below → IsField IsApdu apdu
 apdu_is below = record { takes = one_taken below; again = λ v at more p. (_, ap (apdu_by (cursor_at at (spelling v ++ more))) (below.apdu_again v more p)) }
 
+-- The APDU is an ILL-Request in range.
 abbrev pub IsRequest : Apdu → Type 0
 IsRequest a = IsApdu a × (is_ill_request a.body ≡ true)
 
-request_takes : Below → (left : Cursor) (v : Apdu) (rest : Cursor) → IsBytes left.bytes → ill_request.read left ≡ Ok (v, rest) → Takes ill_request IsRequest left.bytes v rest.bytes
+-- If an ILL-Request is read, the bytes read are its encoding, and it is in range.
+request_takes : Below → (left : Cursor) (v : Apdu) (rest : Cursor) → IsBytes left.bytes
+    → ill_request.read left ≡ Ok (v, rest) → Takes ill_request IsRequest left.bytes v rest.bytes
 request_takes below left v rest fits e =
     let found = bind_ok (apdu.read left) (λ found. cond (is_ill_request found.0.body) (Ok found) (Err (Bad left.at))) (v, rest) e in
     let is = passed (is_ill_request found.0.0.body) (Ok found.0) (Bad left.at) (v, rest) found.2 in
@@ -268,17 +325,21 @@ request_takes below left v rest fits e =
     let taken = (apdu_is below).takes left v rest fits (found.1 ∙ ap Ok both) in
     (taken.0, (taken.1, ap (λ (x : Apdu × Cursor). is_ill_request x.0.body) (sym both) ∙ is.0))
 
+-- An ILL-Request in range is read again from its encoding.
 request_again : Below → (v : Apdu) (at : ℕ) (more : List ℕ) → IsRequest v → ReadsAgain ill_request v at more
 request_again below v at more p =
     let read = (apdu_is below).again v at more p.0 in
     (read.0, rw (read.1, p.1) refl)
 
+-- The field of an ILL-Request keeps the laws.
 pub ill_request_is : Below → IsField IsRequest ill_request
 ill_request_is below = record { takes = request_takes below; again = request_again below }
 
--- ---- a field behind a mark
+-- ---- a field after a mark
 
-marked_takes : {V : Type 0} (P : V → Type 0) (f : Field V) → IsField P f → (left : Cursor) (o : Option V) (rest : Cursor) → IsBytes left.bytes → (marked f).read left ≡ Ok (o, rest)
+-- If an optional value is read after its mark, the bytes read are its encoding.
+marked_takes : {V : Type 0} (P : V → Type 0) (f : Field V) → IsField P f
+    → (left : Cursor) (o : Option V) (rest : Cursor) → IsBytes left.bytes → (marked f).read left ≡ Ok (o, rest)
     → Takes (marked f) (λ o. IfSome o P) left.bytes o rest.bytes
 marked_takes {V} P f fs left o rest fits e =
     let is = bind_ok (mark.read left) (λ is. cond is.0 (f.read is.1 >>= λ found. Ok (Some found.0, found.1)) (Ok (None, is.1))) (o, rest) e in
@@ -298,7 +359,9 @@ marked_takes {V} P f fs left o rest fits e =
           subst (λ (x : Option V × Cursor). Takes (marked f) (λ o. IfSome o P) left.bytes x.0 x.1.bytes) both (parts, tt)
     ]
 
-marked_again : {V : Type 0} (P : V → Type 0) (f : Field V) → IsField P f → (o : Option V) (at : ℕ) (more : List ℕ) → IfSome o P → ReadsAgain (marked f) o at more
+-- An optional value is read again from its mark and its encoding.
+marked_again : {V : Type 0} (P : V → Type 0) (f : Field V) → IsField P f → (o : Option V) (at : ℕ) (more : List ℕ)
+    → IfSome o P → ReadsAgain (marked f) o at more
 marked_again P f fs None at more p =
     let is = mark_is.again false at more tt in
     (is.0, rw is.1 refl)
@@ -307,12 +370,15 @@ marked_again P f fs (Some v) at more p =
     let found = fs.again v is.0 more p in
     (found.0, rw (is.1, found.1) refl)
 
+-- If a field keeps the laws, so does the field of an optional value.
 pub marked_is : {V : Type 0} (P : V → Type 0) (f : Field V) → IsField P f → IsField (λ o. IfSome o P) (marked f)
 marked_is P f fs = record { takes = marked_takes P f fs; again = marked_again P f fs }
 
--- ---- so many of a field
+-- ---- `n` values of a field
 
-all_takes : {V : Type 0} (P : V → Type 0) (f : Field V) → IsField P f → (n : ℕ) (left : Cursor) (vs : List V) (rest : Cursor) → IsBytes left.bytes → read_all f n left ≡ Ok (vs, rest)
+-- If `n` values are read, the bytes read are their encodings, and `P` holds of each.
+all_takes : {V : Type 0} (P : V → Type 0) (f : Field V) → IsField P f
+    → (n : ℕ) (left : Cursor) (vs : List V) (rest : Cursor) → IsBytes left.bytes → read_all f n left ≡ Ok (vs, rest)
     → (left.bytes ≡ spell_all f.spell vs ++ rest.bytes) × Each P vs × (length vs ≡ n)
 unfolding read_all spell_all Each
 all_takes {V} P f fs zero left vs rest fits e =
@@ -328,6 +394,7 @@ all_takes {V} P f fs (suc n) left vs rest fits e =
     one.0 ∙ ap (λ (x : List ℕ). f.spell first.0.0 ++ x) more.0 ∙ sym (append_assoc (f.spell first.0.0) (spell_all f.spell others.0.0) others.0.1.bytes) in
     subst (λ (x : List V × Cursor). (left.bytes ≡ spell_all f.spell x.0 ++ x.1.bytes) × Each P x.0 × (length x.0 ≡ suc n)) both (parts, (one.1, more.1), ap suc more.2)
 
+-- If `P` holds of each value, the list is read again from its encodings.
 all_again : {V : Type 0} (P : V → Type 0) (f : Field V) → IsField P f → (vs : List V) (at : ℕ) (more : List ℕ) → Each P vs
     → (after : ℕ) × (read_all f (length vs) (cursor_at at (spell_all f.spell vs ++ more)) ≡ Ok (vs, cursor_at after more))
 unfolding read_all spell_all Each
@@ -337,10 +404,13 @@ all_again P f fs (v ∷ vs) at more p =
     let others = all_again P f fs vs first.0 more p.1 in
     (others.0, rw (append_assoc (f.spell v) (spell_all f.spell vs) more, first.1, others.1) refl)
 
+-- `P` holds of each value, and `Q` of their number.
 abbrev pub CountedBy : {V : Type 0} → (ℕ → Type 0) → (V → Type 0) → List V → Type 0
 CountedBy Q P vs = Each P vs × Q (length vs)
 
-counted_takes : {V : Type 0} (Q : ℕ → Type 0) (P : V → Type 0) (size : Field ℕ) (f : Field V) → IsField Q size → IsField P f → (left : Cursor) (vs : List V) (rest : Cursor) → IsBytes left.bytes
+-- If a list is read after its length, the bytes read are its encoding.
+counted_takes : {V : Type 0} (Q : ℕ → Type 0) (P : V → Type 0) (size : Field ℕ) (f : Field V) → IsField Q size
+    → IsField P f → (left : Cursor) (vs : List V) (rest : Cursor) → IsBytes left.bytes
     → (counted_by size f).read left ≡ Ok (vs, rest) → Takes (counted_by size f) (CountedBy Q P) left.bytes vs rest.bytes
 counted_takes Q P size f sizes fs left vs rest fits e =
     let n = bind_ok (size.read left) (λ n. read_all f n.0 n.1) (vs, rest) e in
@@ -351,18 +421,24 @@ counted_takes Q P size f sizes fs left vs rest fits e =
     ∙ sym (append_assoc (size.spell (length vs)) (spell_all f.spell vs) rest.bytes) in
     (parts, (others.1, subst Q (sym others.2) first.1))
 
-counted_again : {V : Type 0} (Q : ℕ → Type 0) (P : V → Type 0) (size : Field ℕ) (f : Field V) → IsField Q size → IsField P f → (vs : List V) (at : ℕ) (more : List ℕ) → CountedBy Q P vs
+-- A list is read again from its length and its encodings.
+counted_again : {V : Type 0} (Q : ℕ → Type 0) (P : V → Type 0) (size : Field ℕ) (f : Field V) → IsField Q size
+    → IsField P f → (vs : List V) (at : ℕ) (more : List ℕ) → CountedBy Q P vs
     → ReadsAgain (counted_by size f) vs at more
 counted_again Q P size f sizes fs vs at more p =
     let n = sizes.again (length vs) at (spell_all f.spell vs ++ more) p.1 in
     let others = all_again P f fs vs n.0 more p.0 in
     (others.0, rw (append_assoc (size.spell (length vs)) (spell_all f.spell vs) more, n.1, others.1) refl)
 
-pub counted_by_is : {V : Type 0} (Q : ℕ → Type 0) (P : V → Type 0) (size : Field ℕ) (f : Field V) → IsField Q size → IsField P f → IsField (CountedBy Q P) (counted_by size f)
+-- If the fields of the length and of a value keep the laws, so does the field of the list.
+pub counted_by_is : {V : Type 0} (Q : ℕ → Type 0) (P : V → Type 0) (size : Field ℕ) (f : Field V) → IsField Q size
+    → IsField P f → IsField (CountedBy Q P) (counted_by size f)
 counted_by_is Q P size f sizes fs = record { takes = counted_takes Q P size f sizes fs; again = counted_again Q P size f sizes fs }
 
+-- `P` holds of each value, and there are fewer than 256.
 abbrev pub Counted : {V : Type 0} → (V → Type 0) → List V → Type 0
 Counted P = CountedBy (λ n. n < 256) P
 
+-- If a field keeps the laws, so does the field of a list of fewer than 256 values.
 pub counted_is : {V : Type 0} (P : V → Type 0) (f : Field V) → IsField P f → IsField (Counted P) (counted f)
 counted_is P f fs = counted_by_is (λ n. n < 256) P count f count_is fs

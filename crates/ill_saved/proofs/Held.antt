@@ -27,7 +27,7 @@ use Rattle.ill_saved.proofs.Desks.{RowsGrow}
 use Rattle.ill_saved.proofs.Finding.{apart_back, found_is, found_mapped, found_passes, keys_put, put_passes, not_true}
 use Rattle.ill_saved.specs.Sides.{SidesOf, AreFiled, side_with, is_same_role, may_stand, are_apart, most_sides, put_refusal, Puts}
 
--- what is filed under a transaction is the side of it
+-- If each side is filed under its own transaction, a search of the entries finds the side of the transaction.
 pub filed_with : (txn : Qualifiers) (entries : List (Qualifiers × Side)) → keys_of entries ≡ map txn_of (values_of entries)
     → lookup (is_same_txn txn) entries ≡ side_with txn (values_of entries)
 unfolding side_with
@@ -38,24 +38,29 @@ filed_with txn (e ∷ entries) keyed =
     ap (λ id. cond (is_same_txn txn id) (Some e.1) (lookup (is_same_txn txn) entries)) first
     ∙ ap (λ found. cond (is_same_txn txn (txn_of e.1)) (Some e.1) found) (filed_with txn entries others)
 
+-- If a search finds nothing, the first side fails the test, and nothing is found among the others.
 not_first : (is : Bool) (side : Side) (found : Option Side) → cond is (Some side) found ≡ None → (is ≡ false) × (found ≡ None)
 not_first true side found none = absurd (true≢false (ap is_some none))
 not_first false side found none = (refl, none)
 
-none_behind : (is : Bool) (side : Side) (old new : Option Side) → is_none (cond is (Some side) old) ≡ true → (is_none old ≡ true → is_none new ≡ true)
+-- If `new` is empty whenever `old` is, a search that finds nothing with `old` finds nothing with `new`.
+none_behind : (is : Bool) (side : Side) (old new : Option Side) → is_none (cond is (Some side) old) ≡ true
+    → (is_none old ≡ true → is_none new ≡ true)
     → is_none (cond is (Some side) new) ≡ true
 none_behind true side old new none further = none
 none_behind false side old new none further = further none
 
--- one more of another transaction is not found
-none_more : (txn : Qualifiers) (side : Side) (sides : List Side) → is_none (side_with txn sides) ≡ true → is_same_txn txn (txn_of side) ≡ false
+-- If no side is of `txn`, and neither is `side`, none of them together is.
+none_more : (txn : Qualifiers) (side : Side) (sides : List Side) → is_none (side_with txn sides) ≡ true
+    → is_same_txn txn (txn_of side) ≡ false
     → is_none (side_with txn (sides ++ side ∷ [])) ≡ true
 unfolding side_with
 none_more txn side [] none apart = ap (λ same. is_none (cond same (Some side) None)) apart
 none_more txn side (x ∷ sides) none apart = none_behind (is_same_txn txn (txn_of x)) x (side_with txn sides) _ none (λ there. none_more txn side sides there apart)
 
--- one more whose transaction was not held
-pub apart_more : (side : Side) (sides : List Side) → side_with (txn_of side) sides ≡ None → are_apart sides ≡ true → are_apart (sides ++ side ∷ []) ≡ true
+-- If sides are apart, and none is of the transaction of `side`, they are apart with `side` after them.
+pub apart_more : (side : Side) (sides : List Side) → side_with (txn_of side) sides ≡ None → are_apart sides ≡ true
+    → are_apart (sides ++ side ∷ []) ≡ true
 unfolding side_with are_apart
 apart_more side [] none apart = refl
 apart_more side (x ∷ sides) none apart =
@@ -63,32 +68,37 @@ apart_more side (x ∷ sides) none apart =
     let new = not_first (is_same_txn (txn_of side) (txn_of x)) x (side_with (txn_of side) sides) none in
     and_from _ _ (none_more (txn_of x) side sides parts.0 (apart_back (txn_of side) (txn_of x) new.0)) (apart_more side sides new.1 parts.1)
 
--- what no refusal of a side says
+-- If a side is not refused, it is of the role, not idle and new, and there is room.
 pub not_refused : (of_role idle twice room : Bool)
     → (if not of_role then Some faults.OtherRole else (if idle then Some faults.Idle else (if twice then Some faults.Twice else (if room then None else Some faults.Full)))) ≡ None
     → (of_role ≡ true) × (idle ≡ false) × (twice ≡ false) × (room ≡ true)
 not_refused true false false true none = (refl, refl, refl, refl)
 not_refused of_role idle twice room none = search rules
 
+-- If nothing is found, the search gives `None`.
 pub not_some : (found : Option Side) → is_some found ≡ false → found ≡ None
 not_some None none = refl
 not_some (Some side) none = absurd (true≢false none)
 
--- of a side that may be put, none of its transaction is there
+-- If a side may be put, no side of its transaction is held.
 pub new_to : (held : SidesOf) (side : Side) → put_refusal held side ≡ None → side_with (txn_of side) held.sides ≡ None
 new_to held side none =
     not_some (side_with (txn_of side) held.sides)
     (not_refused (is_same_role held.role (role_of side)) (is_idle side) (is_some (side_with (txn_of side) held.sides)) (nat_lt (length held.sides) most_sides) none).2
 
+-- If the test of order is true, `a` is less than `b`.
 below : (a b : ℕ) → nat_lt a b ≡ true → a < b
 below a b less = search rules
 
+-- No refusal of a side is a lack of memory.
 no_memory_wanted : (of_role idle twice room : Bool)
-    → (if not of_role then Some faults.OtherRole else (if idle then Some faults.Idle else (if twice then Some faults.Twice else (if room then None else Some faults.Full)))) ≡ Some faults.OutOfMemory → ⊥
+    → (if not of_role then Some faults.OtherRole else (if idle then Some faults.Idle else (if twice then Some faults.Twice else (if room then None else Some faults.Full)))) ≡ Some faults.OutOfMemory
+    → ⊥
 no_memory_wanted of_role idle twice room wanted = search rules
 
--- a side that is refused is handed back
-pub handed_back : (held : SidesOf) (side : Side) (fault : SidesFault) → put_refusal held side ≡ Some fault → Puts held side (Err (fault, side)) held
+-- If a side is refused, the answer that returns it and changes nothing is as `Puts` says.
+pub handed_back : (held : SidesOf) (side : Side) (fault : SidesFault) → put_refusal held side ≡ Some fault
+    → Puts held side (Err (fault, side)) held
 handed_back held side faults.OutOfMemory refused =
     absurd (no_memory_wanted (is_same_role held.role (role_of side)) (is_idle side) (is_some (side_with (txn_of side) held.sides)) (nat_lt (length held.sides) most_sides) refused)
 handed_back held side faults.OtherRole refused = (refused, refl, refl)
@@ -96,32 +106,37 @@ handed_back held side faults.Idle refused = (refused, refl, refl)
 handed_back held side faults.Twice refused = (refused, refl, refl)
 handed_back held side faults.Full refused = (refused, refl, refl)
 
--- what is no fault
+-- An answer that is no fault is `None`.
 pub no_fault : (answer : Option SidesFault) → ((fault : SidesFault) → answer ≡ Some fault → ⊥) → answer ≡ None
 no_fault None none = refl
 no_fault (Some fault) none = absurd (none fault refl)
 
--- none is filed at first
-pub none_filed : (role : Role) (entries : List (Qualifiers × Side)) → entries ≡ [] → AreFiled (keys_of entries) (record { role = role; sides = values_of entries })
+-- An empty list of entries is filed.
+pub none_filed : (role : Role) (entries : List (Qualifiers × Side)) → entries ≡ []
+    → AreFiled (keys_of entries) (record { role = role; sides = values_of entries })
 unfolding are_apart
 none_filed role entries empty =
     subst (λ es. AreFiled (keys_of es) (record { role = role; sides = values_of es })) (sym empty) (record { keys = refl; held = refl; few = omega arith })
 
--- sides that are filed, and one that is put among them
+-- Sides that are filed, and one more that may be put among them.
 module _ (role : Role) (entries : List (Qualifiers × Side)) (side : Side)
     (filed : AreFiled (keys_of entries) (record { role = role; sides = values_of entries }))
     (none : put_refusal (record { role = role; sides = values_of entries }) side ≡ None) where
+  -- `side` is of the role, not idle and new, and there is room.
   may : (is_same_role role (role_of side) ≡ true) × (is_idle side ≡ false) × (is_some (side_with (txn_of side) (values_of entries)) ≡ false) × (nat_lt (length (values_of entries)) most_sides ≡ true)
   may = not_refused (is_same_role role (role_of side)) (is_idle side) (is_some (side_with (txn_of side) (values_of entries))) (nat_lt (length (values_of entries)) most_sides) none
 
+  -- No side of the transaction of `side` is among the entries.
   new_there : side_with (txn_of side) (values_of entries) ≡ None
   new_there = not_some (side_with (txn_of side) (values_of entries)) may.2
 
-  -- nothing is filed under its transaction
+  -- Nothing is filed under the transaction of `side`.
   pub is_new : (key : Qualifiers) → key ≡ txn_of side → lookup (is_same_txn key) entries ≡ None
   is_new key same = ap (λ t. lookup (is_same_txn t) entries) same ∙ filed_with (txn_of side) entries filed.keys ∙ new_there
 
-  put_there : (new : List (Qualifiers × Side)) → new ≡ entries ++ (txn_of side, side) ∷ [] → AreFiled (keys_of new) (record { role = role; sides = values_of new })
+  -- If `side` is filed under its transaction after the entries, all are filed.
+  put_there : (new : List (Qualifiers × Side)) → new ≡ entries ++ (txn_of side, side) ∷ []
+      → AreFiled (keys_of new) (record { role = role; sides = values_of new })
   put_there new put =
       let held = and_parts _ _ filed.held in
       let values : values_of new ≡ values_of entries ++ side ∷ [] = ap values_of put ∙ map-append (λ e. e.1) entries ((txn_of side, side) ∷ []) in
@@ -136,35 +151,39 @@ module _ (role : Role) (entries : List (Qualifiers × Side)) (side : Side)
         few = omega (arith, small, length-append (values_of entries) (side ∷ []));
       })
 
-  -- filed under its transaction, all are filed
+  -- If `side` is filed after the entries, under a key that is its transaction, all are filed.
   pub filed_more : (key : Qualifiers) → key ≡ txn_of side → (new : List (Qualifiers × Side)) → new ≡ entries ++ (key, side) ∷ []
       → AreFiled (keys_of new) (record { role = role; sides = values_of new })
   filed_more key same new put = put_there new (put ∙ ap (λ t. entries ++ (t, side) ∷ []) same)
 
-  -- where it is not filed, all is as before
-  pub filed_still : (new : List (Qualifiers × Side)) → new ≡ entries → AreFiled (keys_of new) (record { role = role; sides = values_of new })
+  -- If the entries are unchanged, they are filed.
+  pub filed_still : (new : List (Qualifiers × Side)) → new ≡ entries
+      → AreFiled (keys_of new) (record { role = role; sides = values_of new })
   filed_still new same = subst (λ es. AreFiled (keys_of es) (record { role = role; sides = values_of es })) (sym same) filed
 
 -- ---- one of the sides that are filed is changed
 
+-- The idle side of a side has its transaction.
 pub idle_txn : (side : Side) → txn_of (idle_of side) ≡ txn_of side
 idle_txn (sides.Requester x) = refl
 idle_txn (sides.Responder y) = refl
 
+-- The idle side of a side has its role.
 pub idle_role : (side : Side) → role_of (idle_of side) ≡ role_of side
 idle_role (sides.Requester x) = refl
 idle_role (sides.Responder y) = refl
 
--- no two ids are the same
+-- Returns true if no two transactions in the list are equal.
 unfoldable are_other : List Qualifiers → Bool
 are_other [] = true
 are_other (txn ∷ txns) = is_none (found_by (λ t. t) txn txns) && are_other txns
 
+-- The transaction of a found side is absent exactly if no side is found.
 mapped_none : (txn : Qualifiers) (found : Option Side) → is_none (option_map txn_of found) ≡ is_none found
 mapped_none txn None = refl
 mapped_none txn (Some side) = refl
 
--- sides are apart by their transactions alone
+-- Sides are apart exactly if their transactions differ.
 apart_by_txns : (sides : List Side) → are_apart sides ≡ are_other (map txn_of sides)
 unfolding side_with are_apart are_other
 apart_by_txns [] = refl
@@ -172,13 +191,17 @@ apart_by_txns (side ∷ sides) =
     ap (λ b. b && are_apart sides) (sym (ap is_none (found_mapped txn_of (λ t. t) txn_of (λ s. refl) (txn_of side) sides) ∙ mapped_none (txn_of side) (found_by txn_of (txn_of side) sides)))
     ∙ ap (λ b. is_none (found_by (λ t. t) (txn_of side) (map txn_of sides)) && b) (apart_by_txns sides)
 
-set_first : (test : Bool) (e : Qualifiers × Side) (after side : Side) (found : Option Side) (set_on : List (Qualifiers × Side)) (entries : List (Qualifiers × Side)) (put_on : List Side) → cond test (Some e.1) found ≡ Some side
-    → (found ≡ Some side → values_of set_on ≡ put_on) → values_of (cond test ((e.0, after) ∷ entries) (e ∷ set_on)) ≡ cond test (after ∷ values_of entries) (e.1 ∷ put_on)
+-- If `values_set` holds of the other entries, it holds with `e` before them.
+set_first : (test : Bool) (e : Qualifiers × Side) (after side : Side) (found : Option Side) (set_on : List (Qualifiers × Side)) (entries : List (Qualifiers × Side)) (put_on : List Side)
+    → cond test (Some e.1) found ≡ Some side
+    → (found ≡ Some side → values_of set_on ≡ put_on)
+    → values_of (cond test ((e.0, after) ∷ entries) (e ∷ set_on)) ≡ cond test (after ∷ values_of entries) (e.1 ∷ put_on)
 set_first true e after side found set_on entries put_on there further = refl
 set_first false e after side found set_on entries put_on there further = ap (λ vs. e.1 ∷ vs) (further there)
 
--- the side of the transaction is put in the place of the one before it
-values_set : (txn : Qualifiers) (after side : Side) (entries : List (Qualifiers × Side)) → txn ≡ txn_of after → keys_of entries ≡ map txn_of (values_of entries) → lookup (is_same_txn txn) entries ≡ Some side
+-- Setting the side of the entry of `txn` is putting that side among the sides.
+values_set : (txn : Qualifiers) (after side : Side) (entries : List (Qualifiers × Side)) → txn ≡ txn_of after
+    → keys_of entries ≡ map txn_of (values_of entries) → lookup (is_same_txn txn) entries ≡ Some side
     → values_of (set_value (is_same_txn txn) entries after) ≡ put_by txn_of after (values_of entries)
 unfolding put_by
 values_set txn after side [] of_txn keyed there = absurd (true≢false (sym (ap is_some there)))
@@ -189,31 +212,37 @@ values_set txn after side (e ∷ entries) of_txn keyed there =
     set_first (is_same_txn txn e.0) e after side (lookup (is_same_txn txn) entries) (set_value (is_same_txn txn) entries after) entries put_on there (values_set txn after side entries of_txn others)
     ∙ ap (λ t. cond (is_same_txn t e.0) (after ∷ values_of entries) (e.1 ∷ put_on)) of_txn ∙ ap (λ t. cond (is_same_txn (txn_of after) t) (after ∷ values_of entries) (e.1 ∷ put_on)) first
 
-pub found_plainly : (txn : Qualifiers) (sides : List Side) (side : Side) → side_with txn sides ≡ Some side → found_by txn_of txn sides ≡ Some side
+-- A side that `side_with` finds is the one that `found_by` finds.
+pub found_plainly : (txn : Qualifiers) (sides : List Side) (side : Side) → side_with txn sides ≡ Some side
+    → found_by txn_of txn sides ≡ Some side
 unfolding side_with
 found_plainly txn sides side found = found
 
--- what one side does to itself: it keeps its role and transaction, and is idle no more than before
+-- A side keeps its role and its transaction, and does not become idle.
 record Stays (old new : Side) : Type 0 where
   idle : idle_of new ≡ idle_of old
   begun : is_idle old ≡ false → is_idle new ≡ false
 
 module _ (role : Role) (entries : List (Qualifiers × Side)) (filed : AreFiled (keys_of entries) (record { role = role; sides = values_of entries }))
     (txn : Qualifiers) (side after : Side) (there : lookup (is_same_txn txn) entries ≡ Some side) (stays : Stays side after) where
+  -- `side` is found among the sides of the entries.
   found : found_by txn_of txn (values_of entries) ≡ Some side
   unfolding side_with
   found = sym (filed_with txn entries filed.keys) ∙ there
 
+  -- `after` is of transaction `txn`.
   of_txn : txn ≡ txn_of after
   of_txn = found_is txn_of txn (values_of entries) side found ∙ sym (idle_txn side) ∙ ap txn_of (sym stays.idle) ∙ idle_txn after
 
+  -- The sides of the changed entries are the sides with `after` put among them.
   values_put : values_of (set_value (is_same_txn txn) entries after) ≡ put_by txn_of after (values_of entries)
   values_put = values_set txn after side entries of_txn filed.keys there
 
+  -- Putting `after` keeps the list of transactions.
   same_txns : map txn_of (put_by txn_of after (values_of entries)) ≡ map txn_of (values_of entries)
   same_txns = keys_put txn_of after side (values_of entries) (ap (λ t. found_by txn_of t (values_of entries)) (sym of_txn) ∙ found)
 
-  -- the side may stand where it stood
+  -- `after` may stand among sides of the role.
   stands : may_stand role after ≡ true
   stands =
       let held = and_parts _ _ filed.held in
@@ -221,7 +250,9 @@ module _ (role : Role) (entries : List (Qualifiers × Side)) (filed : AreFiled (
       let same : role_of after ≡ role_of side = sym (idle_role after) ∙ ap role_of stays.idle ∙ idle_role side in
       and_from _ _ (ap (is_same_role role) same ∙ stood.0) (ap not (stays.begun (not_true _ stood.1)))
 
-  filed_changed : (new : List (Qualifiers × Side)) → new ≡ set_value (is_same_txn txn) entries after → AreFiled (keys_of new) (record { role = role; sides = values_of new })
+  -- If the side of `txn` is changed to `after`, all are filed.
+  filed_changed : (new : List (Qualifiers × Side)) → new ≡ set_value (is_same_txn txn) entries after
+      → AreFiled (keys_of new) (record { role = role; sides = values_of new })
   filed_changed new changed =
       let held = and_parts _ _ filed.held in
       let values : values_of new ≡ put_by txn_of after (values_of entries) = ap values_of changed ∙ values_put in
@@ -236,31 +267,38 @@ module _ (role : Role) (entries : List (Qualifiers × Side)) (filed : AreFiled (
 
 -- ---- a side is changed, or none is found
 
--- what a side does to itself is a row, or nothing
-pub acts_row : (old new : Side) (action : Action) (answer : Result (Unit {0}) Refusal) → Acts old action answer new → IsRow old new ⊎ (new ≡ old)
+-- An action leads to the new side by a row, or the side stays.
+pub acts_row : (old new : Side) (action : Action) (answer : Result (Unit {0}) Refusal) → Acts old action answer new
+    → IsRow old new ⊎ (new ≡ old)
 acts_row old new action (Ok done) acts = inl (acted action acts)
 acts_row old new action (Err refusals.OutOfMemory) acts = inr acts.1
 acts_row old new action (Err refusal) acts = inr acts.1
 
-pub takes_row : (old new : Side) (a : Apdu) (answer : Result Taking Refusal) → Takes old a answer new → IsRow old new ⊎ (new ≡ old)
+-- An APDU leads to the new side by a row, or the side stays.
+pub takes_row : (old new : Side) (a : Apdu) (answer : Result Taking Refusal) → Takes old a answer new
+    → IsRow old new ⊎ (new ≡ old)
 takes_row old new a (Err refusals.OutOfMemory) takes = inr takes.2
 takes_row old new a answer takes = inl (took a (ap (λ (r : Result Taking Refusal × Side). r.1) takes))
 
--- every row grows, and leaves no side idle that was not
+-- The law of rows: a side that is not idle is not idle after a row.
 abbrev pub RowsStay : Type 0
 RowsStay = (old new : Side) → IsRow old new → is_idle old ≡ false → is_idle new ≡ false
 
+-- A side after a row, or unchanged, keeps its role and transaction and does not become idle.
 stays_by : RowsGrow → RowsStay → (old new : Side) → IsRow old new ⊎ (new ≡ old) → Stays old new
 stays_by grows begins old new (inl row) = record { idle = (grows old new row).0; begun = begins old new row }
 stays_by grows begins old new (inr same) = record { idle = ap idle_of same; begun = λ begun. ap is_idle same ∙ begun }
 
 module _ (grows : RowsGrow) (begins : RowsStay) {A : Type 0} (Does : Side → A → Side → Type 0) (rows : (old new : Side) (answer : A) → Does old answer new → IsRow old new ⊎ (new ≡ old))
     (role : Role) (txn : Qualifiers) (entries : List (Qualifiers × Side)) (filed : AreFiled (keys_of entries) (record { role = role; sides = values_of entries })) where
-  pub filed_on : (answer : Option A) (new : List (Qualifiers × Side)) → OnlyThatEntry Does txn entries answer new → AreFiled (keys_of new) (record { role = role; sides = values_of new })
+  -- If the side of `txn` alone does something, all are filed after it.
+  pub filed_on : (answer : Option A) (new : List (Qualifiers × Side)) → OnlyThatEntry Does txn entries answer new
+      → AreFiled (keys_of new) (record { role = role; sides = values_of new })
   filed_on None new only = subst (λ es. AreFiled (keys_of es) (record { role = role; sides = values_of es })) (sym only.1) filed
   filed_on (Some answer) new (side, after, there, does, changed) =
       filed_changed role entries filed txn side after there (stays_by grows begins side after (rows side after answer does)) new changed
 
+  -- If one entry alone changes, the side of its transaction alone changes among the sides.
   pub only_that : (answer : Option A) (new : List (Qualifiers × Side)) → OnlyThatEntry Does txn entries answer new
       → OnlyThat Does txn (record { role = role; sides = values_of entries }) answer (record { role = role; sides = values_of new })
   only_that None new only = (sym (filed_with txn entries filed.keys) ∙ only.0, ap (λ es. record { role = role; sides = values_of es }) only.1)

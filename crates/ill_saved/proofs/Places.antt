@@ -19,30 +19,35 @@ use Rattle.ill_saved.specs.Ranges.{Each, IsSide}
 use Rattle.ill_values.specs.Apdu.{IsApdu}
 use Rattle.ill_saved.proofs.Lists.{spell_none, spell_more, spell_both, each_both}
 
--- a place within the front is the same place in the whole
-piece_of_front : (front more : List ℕ) (place : Place) → IsWithin (length front) place → piece_at (front ++ more) place ≡ piece_at front place
+-- A place within a prefix has the bytes there that it has in the whole.
+piece_of_front : (front more : List ℕ) (place : Place) → IsWithin (length front) place
+    → piece_at (front ++ more) place ≡ piece_at front place
 piece_of_front front more place within =
     let start : place.start ≤ length front = omega (arith, within) in
     let size : place.size ≤ length (drop place.start front) = omega (arith, within, length-drop place.start front) in
     ap (take place.size) (drop-append-le place.start front more start) ∙ take-append-le place.size (drop place.start front) more size
 
-pieces_of_front : (front more : List ℕ) (places : List Place) → All (IsWithin (length front)) places → map (piece_at (front ++ more)) places ≡ map (piece_at front) places
+-- Places within a prefix have the bytes there that they have in the whole.
+pieces_of_front : (front more : List ℕ) (places : List Place) → All (IsWithin (length front)) places
+    → map (piece_at (front ++ more)) places ≡ map (piece_at front) places
 pieces_of_front front more [] within = refl
 pieces_of_front front more (place ∷ places) within =
     let first = piece_of_front front more place (All-head (IsWithin (length front)) place places within) in
     let others = pieces_of_front front more places (All-tail (IsWithin (length front)) place places within) in
     cc
 
--- Up to an end the messages have their places: those left are spelled behind it.
+-- Each message up to offset `end` has its place in `whole`, and the encodings of those in `left` follow.
 pub record ArePlaced (whole : List ℕ) (end : ℕ) (places : List Place) (left : List Apdu) (all : List (List ℕ)) : Type 0 where
   pub rest : drop end whole ≡ spell_all spelling left
   pub reached : end ≤ length whole
   pub within : All (IsWithin (length whole)) places
   pub pieces : map (piece_at whole) places ++ map spelling left ≡ all
 
--- those in front of the first have theirs
-pub first_placed : (messages : List ℕ) (pieces : List (List ℕ)) (places : List Place) (apdus : List Apdu) (end : ℕ) → end ≡ length messages → All (IsWithin (length messages)) places
-    → map (piece_at messages) places ≡ pieces → ArePlaced (messages ++ spell_all spelling apdus) end places apdus (pieces ++ map spelling apdus)
+-- If the first messages have their places in their part, they have them with the encodings of others after it.
+pub first_placed : (messages : List ℕ) (pieces : List (List ℕ)) (places : List Place) (apdus : List Apdu) (end : ℕ)
+    → end ≡ length messages → All (IsWithin (length messages)) places
+    → map (piece_at messages) places ≡ pieces
+    → ArePlaced (messages ++ spell_all spelling apdus) end places apdus (pieces ++ map spelling apdus)
 first_placed messages pieces places apdus end e within are =
     let longer : length (messages ++ spell_all spelling apdus) ≡ length messages + length (spell_all spelling apdus) = length-append messages (spell_all spelling apdus) in
     record {
@@ -52,8 +57,9 @@ first_placed messages pieces places apdus end e within are =
       pieces = ap (λ pieces. pieces ++ map spelling apdus) (pieces_of_front messages (spell_all spelling apdus) places within ∙ are);
     }
 
--- one more has its place
-pub next_placed : (whole : List ℕ) (end : ℕ) (places : List Place) (a : Apdu) (left : List Apdu) (all : List (List ℕ)) → ArePlaced whole end places (a ∷ left) all
+-- If the next message gets the place at `end`, all messages up to the end of that place have theirs.
+pub next_placed : (whole : List ℕ) (end : ℕ) (places : List Place) (a : Apdu) (left : List Apdu) (all : List (List ℕ))
+    → ArePlaced whole end places (a ∷ left) all
     → ArePlaced whole (end + length (spelling a)) (places ++ record { start = end; size = length (spelling a) } ∷ []) left all
 next_placed whole end places a left all placed =
     let rest : drop end whole ≡ spelling a ++ spell_all spelling left = placed.rest ∙ spell_more spelling a left in
@@ -70,15 +76,16 @@ next_placed whole end places a left all placed =
           ∙ (ap (λ piece. map (piece_at whole) places ++ piece ∷ map spelling left) piece ∙ placed.pieces));
     }
 
--- Behind their front, bytes have the messages, each at its place.
+-- The bytes from offset `first` on are the messages, each at its place.
 pub record ArePlacedIn (bytes : List ℕ) (first : ℕ) (whole : List ℕ) (places : List Place) (all : List (List ℕ)) : Type 0 where
   pub behind : first ≤ length bytes
   pub messages : drop first bytes ≡ whole
   pub within : All (IsWithin (length (drop first bytes))) places
   pub pieces : map (piece_at (drop first bytes)) places ≡ all
 
--- where all have their places, so have they in bytes that end with them
-pub all_placed : (bytes whole : List ℕ) (first end : ℕ) (places : List Place) (left : List Apdu) (all : List (List ℕ)) → left ≡ [] → ArePlaced whole end places left all → EndsWith whole bytes
+-- If all messages have their places in `whole`, they have them in bytes that end with `whole`.
+pub all_placed : (bytes whole : List ℕ) (first end : ℕ) (places : List Place) (left : List Apdu) (all : List (List ℕ))
+    → left ≡ [] → ArePlaced whole end places left all → EndsWith whole bytes
     → first ≡ length bytes - end → ArePlacedIn bytes first whole places all
 all_placed bytes whole first end places left all none placed ends e =
     let rest : drop end whole ≡ [] = placed.rest ∙ (ap (spell_all spelling) none ∙ spell_none spelling) in
@@ -95,12 +102,15 @@ all_placed bytes whole first end places left all none placed ends e =
 
 -- ---- the messages are the last part of a record
 
+-- If bytes end with `end`, they do with anything before them.
 ends_behind : (front end bytes : List ℕ) → EndsWith end bytes → EndsWith end (front ++ bytes)
 ends_behind front end bytes ends = (front ++ ends.0, ap (λ t. front ++ t) ends.1 ∙ sym (append_assoc front ends.0 end))
 
+-- A counted list of APDUs ends with their encodings.
 ends_counted : (apdus : List Apdu) → EndsWith (spell_all spelling apdus) ((counted apdu).spell apdus)
 ends_counted apdus = (length apdus ∷ [], refl)
 
+-- The record of a side ends with the encodings of its issued messages.
 pub ends_with_messages : (side : Side) → EndsWith (spell_all spelling (issued_of side)) (record_spelling side)
 unfolding record_spelling
 ends_with_messages (sides.Requester x) =
@@ -123,19 +133,22 @@ ends_with_messages (sides.Responder y) =
 
 -- ---- a side that begins with the messages kept
 
--- the messages kept and the others are all that the side has issued
+-- The kept messages, followed by `others`, are all that the side has issued.
 pub record Continues (kept : KeptBytes) (issued others : List Apdu) : Type 0 where
   pub messages : kept.messages ++ spell_all spelling others ≡ spell_all spelling issued
   pub pieces : kept.pieces ++ map spelling others ≡ map spelling issued
   pub range : Each IsApdu others → Each IsApdu issued
 
-continues_front : (kept : KeptBytes) (side : Side) (more : List Apdu) → IsKept kept side → Continues kept (issued_of side ++ more) more
+-- If the record of a side is kept, it continues with any messages issued after that side's.
+continues_front : (kept : KeptBytes) (side : Side) (more : List Apdu) → IsKept kept side
+    → Continues kept (issued_of side ++ more) more
 continues_front kept side more is = record {
   messages = ap (λ (k : KeptBytes). k.messages ++ spell_all spelling more) is.1 ∙ sym (spell_both spelling (issued_of side) more);
   pieces = ap (λ (k : KeptBytes). k.pieces ++ map spelling more) is.1 ∙ sym (map-append spelling (issued_of side) more);
   range = λ others. each_both IsApdu (issued_of side) more is.0.1.issued others;
 }
 
+-- If no record is kept, `others` are all messages.
 continues_none : (kept : KeptBytes) (issued : List Apdu) → kept ≡ none_kept → Continues kept issued issued
 continues_none kept issued none = record {
   messages = ap (λ (k : KeptBytes). k.messages ++ spell_all spelling issued) none;
@@ -143,16 +156,20 @@ continues_none kept issued none = record {
   range = λ all. all;
 }
 
-pub kept_continues : (kept : KeptBytes) (live : Side) (released : ℕ) (others : List Apdu) → Keeps kept live released → others ≡ drop released (issued_of live) → Continues kept (issued_of live) others
+-- The kept messages, followed by those that are not released, are all that the live side has issued.
+pub kept_continues : (kept : KeptBytes) (live : Side) (released : ℕ) (others : List Apdu) → Keeps kept live released
+    → others ≡ drop released (issued_of live) → Continues kept (issued_of live) others
 kept_continues kept live released others (inl none) e =
     subst (λ more. Continues kept (issued_of live) more) (sym (e ∙ ap (λ n. drop n (issued_of live)) none.1)) (continues_none kept (issued_of live) none.0)
 kept_continues kept live released others (inr (side, is, of)) e =
     let same : others ≡ of.front.0 = e ∙ (ap (drop released) of.front.1 ∙ drop_at (issued_of side) of.front.0 released (sym of.all)) in
     subst (λ more. Continues kept (issued_of live) more) (sym same) (subst (λ issued. Continues kept issued of.front.0) (sym of.front.1) (continues_front kept side of.front.0 is))
 
--- the record that follows is that of the side
-pub next_kept : {E : Type 0} (result : Result KeptBytes E) (kept : KeptBytes) (side : Side) (standing : Standing) (others : List Apdu) (bytes : List ℕ) → Continues kept (issued_of side) others → IsSide side
-    → standing ≡ standing_of side → bytes ≡ record_spelling side → IfOk result (λ next. next ≡ record { standing = Some standing; bytes = bytes; messages = kept.messages ++ spell_all spelling others; pieces = kept.pieces ++ map spelling others })
+-- Kept bytes that gain the encodings of `others`, and the standing and record of `side`, are those of `side`.
+pub next_kept : {E : Type 0} (result : Result KeptBytes E) (kept : KeptBytes) (side : Side) (standing : Standing) (others : List Apdu) (bytes : List ℕ)
+    → Continues kept (issued_of side) others → IsSide side
+    → standing ≡ standing_of side → bytes ≡ record_spelling side
+    → IfOk result (λ next. next ≡ record { standing = Some standing; bytes = bytes; messages = kept.messages ++ spell_all spelling others; pieces = kept.pieces ++ map spelling others })
     → IfOk result (λ next. IsKept next side)
 next_kept (Ok next) kept side standing others bytes more is stands spelled e =
     let messages = more.messages in

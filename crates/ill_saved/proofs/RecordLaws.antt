@@ -1,4 +1,4 @@
--- The laws of saved records: what is read is spelled so, and what is spelled is read again.
+-- The laws of saved records: bytes that are read encode the side, and a side in range is read again.
 use Rattle.std.proofs.Common.{◌≡◌, ℕ, Bool, true, false, List, [], ◌∷◌, ◌++◌, length, Option, Some, None, Result, Ok, Err, refl, sym, ap, subst, ◌∙◌, inl, inr, append-nil, eqb, arith, rules}
 use Rattle.std.specs.Prelude.{IfSome}
 use Rattle.std.specs.Str.{bytes_eq}
@@ -37,15 +37,19 @@ use Rattle.ill_saved.proofs.Records.{judged_ok, judged_is}
 
 -- ---- due dates
 
+-- If a due date was found, it is a date that was read.
 found_is : (o : Option Date) (v : Option Date) → found_date o ≡ Some v → (d : Date) × (o ≡ Some d) × (Some d ≡ v)
 found_is None v e = absurd cc
 found_is (Some d) v e = (d, refl, same_Some (Some d) v e)
 
+-- If the date of a reading is `d`, reading gave `d`.
 day_found : (r : Result Date DayFault) (d : Date) → result_ok r ≡ Some d → r ≡ Ok d
 day_found (Ok x) d e = ap Ok (same_Some x d e)
 day_found (Err f) d e = absurd cc
 
-due_takes : Below → (bytes : List ℕ) (o : Option Date) → IsBytes bytes → length bytes ≡ 8 → due_from bytes ≡ Some o → (bytes ≡ due_octets o) × IfSome o IsDate
+-- If eight bytes are read as a due date or none, they are its text, and the date is valid.
+due_takes : Below → (bytes : List ℕ) (o : Option Date) → IsBytes bytes → length bytes ≡ 8 → due_from bytes ≡ Some o
+    → (bytes ≡ due_octets o) × IfSome o IsDate
 due_takes below bytes o fits size e =
     elim (chosen (bytes_eq bytes no_date) (Some None) (found_date (result_ok (read_date bytes))) (Some o) e) [
       | inl h ↦ subst (λ (x : Option Date). (bytes ≡ due_octets x) × IfSome x IsDate) (same_Some None o h.1) ((bytes_eq-Decides bytes no_date).0 h.0, tt)
@@ -55,38 +59,47 @@ due_takes below bytes o fits size e =
           subst (λ (x : Option Date). (bytes ≡ due_octets x) × IfSome x IsDate) found.2 (is.1, is.0)
     ]
 
+-- The text of a date that is read again is not eight zeros.
 no_zero_date : (d : Date) → read_date (date_text d) ≡ Ok d → date_text d ≡ no_date → ⊥
 no_zero_date d again zero = search (rules, sym (ap read_date zero) ∙ again)
 
+-- The text of a date that is read again fails the test for eight zeros.
 another_text : (d : Date) (b : Bool) → read_date (date_text d) ≡ Ok d → bytes_eq (date_text d) no_date ≡ b → b ≡ false
 another_text d true again is = absurd (no_zero_date d again ((bytes_eq-Decides (date_text d) no_date).0 is))
 another_text d false again is = refl
 
+-- A valid due date, or none, is read again from its eight bytes.
 due_again : Below → (o : Option Date) → IfSome o IsDate → (due_from (due_octets o) ≡ Some o) × (length (due_octets o) ≡ 8)
 due_again below None p = (refl, refl)
 due_again below (Some d) p =
     let again = below.day_spelled d p in
     (rw (another_text d (bytes_eq (date_text d) no_date) again refl, again) refl, refl)
 
+-- The field of a due date keeps the laws.
 due_is : Below → IsField (λ o. IfSome o IsDate) due
 due_is below = sized_is (λ o. IfSome o IsDate) 8 _ (record { takes = due_takes below; again = due_again below })
 
 -- ---- whole records
 
+-- The state is among `states`, and both texts are qualifiers.
 abbrev FrontParts : List State → State × (List ℕ × List ℕ) → Type 0
 FrontParts states = Both (IsAmong states) (Both IsQualifier IsQualifier)
 
+-- The field of a state and two qualifiers keeps the laws.
 front_is : Below → (states : List State) → IsField (FrontParts states) (front states)
 front_is below states =
     followed_is (IsAmong states) (Both IsQualifier IsQualifier) (state_in states) (followed_by counted_text counted_text) (state_is states)
     (followed_is IsQualifier IsQualifier counted_text counted_text (counted_text_is below) (counted_text_is below))
 
+-- The number, if there is one, is in range.
 abbrev IsOptionalNumber : Option ℕ → Type 0
 IsOptionalNumber o = IfSome o IsNumber
 
+-- The number held and the due date are in range, and the issued APDUs are, fewer than 256.
 abbrev RequesterRest : Option ℕ × (Bool × (Option Date × List Apdu)) → Type 0
 RequesterRest = Both IsOptionalNumber (Both Any (Both (λ o. IfSome o IsDate) (Counted IsApdu)))
 
+-- The fields of a requester keep the laws.
 requester_fields_is : Below → IsField (Both (FrontParts requester_states) RequesterRest) requester_fields
 requester_fields_is below =
     followed_is (FrontParts requester_states) RequesterRest (front requester_states) requester_rest (front_is below requester_states)
@@ -94,12 +107,15 @@ requester_fields_is below =
     (followed_is Any (Both (λ o. IfSome o IsDate) (Counted IsApdu)) mark (followed_by due (counted apdu)) mark_is
     (followed_is (λ o. IfSome o IsDate) (Counted IsApdu) due (counted apdu) (due_is below) (counted_is IsApdu apdu (apdu_is below)))))
 
+-- The request, if there is one, is an ILL-Request in range. The issued APDUs are in range, fewer than 256.
 abbrev RequestAndIssued : Option Apdu × List Apdu → Type 0
 RequestAndIssued = Both (λ o. IfSome o IsRequest) (Counted IsApdu)
 
+-- The three numbers are in range, and so are the request and the issued APDUs.
 abbrev ResponderRest : Option ℕ × (Option ℕ × (Option ℕ × (Bool × (Option Apdu × List Apdu)))) → Type 0
 ResponderRest = Both IsOptionalNumber (Both IsOptionalNumber (Both IsOptionalNumber (Both Any RequestAndIssued)))
 
+-- The fields of a responder keep the laws.
 responder_fields_is : Below → IsField (Both (FrontParts responder_states) ResponderRest) responder_fields
 responder_fields_is below =
     followed_is (FrontParts responder_states) ResponderRest (front responder_states) responder_rest (front_is below responder_states)
@@ -109,27 +125,33 @@ responder_fields_is below =
     (followed_is Any _ mark _ mark_is
     (followed_is (λ o. IfSome o IsRequest) (Counted IsApdu) (marked ill_request) (counted apdu) (marked_is IsRequest ill_request (ill_request_is below)) (counted_is IsApdu apdu (apdu_is below)))))))
 
+-- The field of the version keeps the laws.
 version_is : IsField (Both Any (Both Any (Both Any Any))) version
 version_is =
     followed_is Any _ (constant 73) _ (constant_is 73)
     (followed_is Any _ (constant 76) _ (constant_is 76) (followed_is Any Any (constant 76) (constant 49) (constant_is 76) (constant_is 49)))
 
+-- The field of the version and the role keeps the laws.
 start_is : IsField (Both (Both Any (Both Any (Both Any Any))) Any) start
 start_is = followed_is _ Any version role version_is role_is
 
+-- A request in range, or none, is an APDU in range, or none.
 request_in_range : (o : Option Apdu) → IfSome o IsRequest → IfSome o IsApdu
 request_in_range None p = tt
 request_in_range (Some a) p = p.0
 
+-- If a request in range, or none, is one of `txn`, it is an ILL-Request in range, or none.
 request_is : (txn : Qualifiers) (o : Option Apdu) → is_request_of txn o ≡ true → IfSome o IsApdu → IfSome o IsRequest
 request_is txn None of p = tt
 request_is txn (Some a) of p = (p, (and_parts (is_same_txn a.txn txn) (is_ill_request a.body) of).1)
 
--- what was read of a side
+-- The side is of role `r` and in range, and its fields encode the bytes before `rest`.
 abbrev ReadsSide : Role → Cursor → Side → Cursor → Type 0
 ReadsSide r left side rest = (role_of side ≡ r) × (left.bytes ≡ spell_fields side ++ rest.bytes) × IsInRange side
 
-requester_takes : Below → (left : Cursor) (side : Side) (rest : Cursor) → IsBytes left.bytes → read_requester left ≡ Ok (side, rest) → ReadsSide roles.Requester left side rest
+-- If the fields of a requester are read, they are the encoding of its side, which is in range.
+requester_takes : Below → (left : Cursor) (side : Side) (rest : Cursor) → IsBytes left.bytes
+    → read_requester left ≡ Ok (side, rest) → ReadsSide roles.Requester left side rest
 requester_takes below left side rest fits e =
     let fields = bind_ok (requester_fields.read left) _ (side, rest) e in
     let both = ok_is _ (side, rest) fields.2 in
@@ -148,7 +170,9 @@ requester_takes below left side rest fits e =
       },
     )
 
-responder_takes : Below → (left : Cursor) (side : Side) (rest : Cursor) → IsBytes left.bytes → read_responder left ≡ Ok (side, rest) → ReadsSide roles.Responder left side rest
+-- If the fields of a responder are read, they are the encoding of its side, which is in range.
+responder_takes : Below → (left : Cursor) (side : Side) (rest : Cursor) → IsBytes left.bytes
+    → read_responder left ≡ Ok (side, rest) → ReadsSide roles.Responder left side rest
 responder_takes below left side rest fits e =
     let fields = bind_ok (responder_fields.read left) _ (side, rest) e in
     let both = ok_is _ (side, rest) fields.2 in
@@ -169,14 +193,19 @@ responder_takes below left side rest fits e =
       },
     )
 
-fields_take : Below → (r : Role) (left : Cursor) (side : Side) (rest : Cursor) → IsBytes left.bytes → read_fields r left ≡ Ok (side, rest) → ReadsSide r left side rest
+-- If the fields of a role are read, they are the encoding of the side, which is in range.
+fields_take : Below → (r : Role) (left : Cursor) (side : Side) (rest : Cursor) → IsBytes left.bytes
+    → read_fields r left ≡ Ok (side, rest) → ReadsSide r left side rest
 fields_take below roles.Requester left side rest fits e = requester_takes below left side rest fits e
 fields_take below roles.Responder left side rest fits e = responder_takes below left side rest fits e
 
+-- If the check for the end succeeds, no byte is left.
 ends : (left : Cursor) (x : Unit {0}) → ended left ≡ Ok x → left.bytes ≡ []
 ends left x e = nil_from_length left.bytes (eqb-true (length left.bytes) 0 (passed (eqb (length left.bytes) 0) (Ok tt) (Bad left.at) x e).0)
 
-pub side_takes : Below → (bytes : List ℕ) (side : Side) → IsBytes bytes → side_spelled bytes ≡ Ok side → (bytes ≡ record_spelling side) × IsInRange side
+-- If all of the bytes are read as a side, they are its encoding, and it is in range.
+pub side_takes : Below → (bytes : List ℕ) (side : Side) → IsBytes bytes → side_spelled bytes ≡ Ok side
+    → (bytes ≡ record_spelling side) × IsInRange side
 unfolding side_spelled record_spelling
 side_takes below bytes side fits e =
     let begun = bind_ok (start.read (cursor_at 0 bytes)) (λ start. side_at start.0.1 start.1) side e in
@@ -191,16 +220,20 @@ side_takes below bytes side fits e =
     ∙ ap (λ (x : List ℕ). spell_start (role_of found.0.0) ++ x) (fields.1 ∙ ap (λ (x : List ℕ). spell_fields found.0.0 ++ x) (ends found.0.1 last.0 last.1) ∙ append-nil (spell_fields found.0.0)) in
     subst (λ (x : Side). (bytes ≡ spell_start (role_of x) ++ spell_fields x) × IsInRange x) same (parts, fields.2)
 
+-- A state that is not IN-PROCESS or CHECKED-IN is among the states of a requester.
 requester_state_is : (state : State) → is_among (InProcess ∷ CheckedIn ∷ []) state ≡ false → IsAmong requester_states state
 requester_state_is Idle role = refl
 requester_state_is state role = search rules
 
-responder_state_is : (state : State) → is_among (Pending ∷ Received ∷ NotReceivedOverdue ∷ []) state ≡ false → IsAmong responder_states state
+-- A state that is not PENDING, RECEIVED or NOT-RECEIVED/OVERDUE is among the states of a responder.
+responder_state_is : (state : State) → is_among (Pending ∷ Received ∷ NotReceivedOverdue ∷ []) state ≡ false
+    → IsAmong responder_states state
 responder_state_is Idle role = refl
 responder_state_is state role = search rules
 
--- the fields of a side are read again
-fields_again : Below → (side : Side) (at : ℕ) (more : List ℕ) → IsSide side → (after : ℕ) × (read_fields (role_of side) (cursor_at at (spell_fields side ++ more)) ≡ Ok (side, cursor_at after more))
+-- A side in range is read again from its fields.
+fields_again : Below → (side : Side) (at : ℕ) (more : List ℕ) → IsSide side
+    → (after : ℕ) × (read_fields (role_of side) (cursor_at at (spell_fields side ++ more)) ≡ Ok (side, cursor_at after more))
 fields_again below (sides.Requester x) at more is =
     let range = is.1 in
     let read = (requester_fields_is below).again ((x.state, (x.txn.group, x.txn.transaction)), (x.held, (x.checked_in, (x.due, x.issued)))) at more
@@ -215,6 +248,7 @@ fields_again below (sides.Responder y) at more is =
     ) in
     (read.0, rw read.1 refl)
 
+-- A side in range is read again from its encoding, before it is judged.
 side_again : Below → (side : Side) → IsSide side → side_spelled (record_spelling side) ≡ Ok side
 unfolding side_spelled record_spelling
 side_again below side is =
@@ -224,7 +258,7 @@ side_again below side is =
     ap (λ (x : List ℕ). read_fields (role_of side) (cursor_at begun.0 x)) (sym (append-nil (spell_fields side))) ∙ fields.1 in
     rw (begun.1, whole) refl
 
--- what is read of bytes is consistent, and all of them spell it
+-- If bytes are read as a consistent side, they are its encoding, and it is in range.
 pub record_takes : Below → (bytes : List ℕ) (side : Side) → IsBytes bytes → record_at bytes ≡ Ok side → (bytes ≡ record_spelling side) × IsSide side
 unfolding record_at
 record_takes below bytes side fits e =
@@ -232,10 +266,12 @@ record_takes below bytes side fits e =
     let is = side_takes below bytes side fits read.0 in
     (is.0, (read.1, is.1))
 
+-- A side in range is read again from its encoding.
 pub record_again : Below → (side : Side) → IsSide side → record_at (record_spelling side) ≡ Ok side
 unfolding record_at
 record_again below side is = judged_is (side_spelled (record_spelling side)) side (side_again below side is) is.0
 
+-- If each side in range is read again, two of them with one encoding are equal.
 pub one_side : ((side : Side) → IsSide side → record_at (record_spelling side) ≡ Ok side)
     → (s t : Side) → IsSide s → IsSide t → record_spelling s ≡ record_spelling t → s ≡ t
 one_side again s t first second e = ok_is s t (sym (again s first) ∙ ap record_at e ∙ again t second)

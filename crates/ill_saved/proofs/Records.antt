@@ -1,4 +1,4 @@
--- A record is read behind its version and its role, and a side that was read is judged.
+-- The reading of a record after its version and its role, and the judging of the side that was read.
 use Rattle.std.proofs.Common.{◌≡◌, ℕ, Bool, true, false, cond, List, Result, Ok, Err, refl, ap, sym, subst, ◌∙◌}
 use Rattle.std.specs.Prelude.{IfOk}
 use Rattle.ill_der.specs.Format.{◌>>=◌, Cursor, cursor_at}
@@ -13,8 +13,12 @@ use Rattle.ill_saved.specs.Records.{start, side_at, side_spelled, judged, record
 use Rattle.ill_saved.specs.Ranges.{IsSide}
 use Rattle.ill_saved.proofs.Steps.{ok_is}
 
-pub decodes_behind : (bytes : List ℕ) (first left : Cursor) (found role : Role) (result : Result Side RecordFault) → first ≡ cursor_at 0 bytes → found ≡ role
-    → start.read first ≡ Ok (((tt, (tt, (tt, tt))), found), left) → Decodes (judged (side_at role left)) (has_front role left) result → Decodes (record_at bytes) (begins_as_record bytes) result
+-- If a version and a role are read first, an answer that decodes the rest decodes the whole record.
+pub decodes_behind : (bytes : List ℕ) (first left : Cursor) (found role : Role) (result : Result Side RecordFault)
+    → first ≡ cursor_at 0 bytes → found ≡ role
+    → start.read first ≡ Ok (((tt, (tt, (tt, tt))), found), left)
+    → Decodes (judged (side_at role left)) (has_front role left) result
+    → Decodes (record_at bytes) (begins_as_record bytes) result
 unfolding record_at side_spelled begins_as_record
 decodes_behind bytes first left found role result begun is read_first decodes =
     let read : start.read (cursor_at 0 bytes) ≡ Ok (((tt, (tt, (tt, tt))), role), left) =
@@ -23,8 +27,9 @@ decodes_behind bytes first left found role result begun is read_first decodes =
     let begins : begins_as_record bytes ≡ has_front role left = ap has_front_behind read in
     subst (λ r. Decodes r (begins_as_record bytes) result) (sym same) (subst (λ b. Decodes (judged (side_at role left)) b result) (sym begins) decodes)
 
--- what decodes is the spelling of its side, as the law says
-pub decodes_spelled : (bytes : List ℕ) (begins : Bool) (result : Result Side RecordFault) → ((side : Side) → record_at bytes ≡ Ok side → (bytes ≡ record_spelling side) × IsSide side)
+-- If reading gives only sides in range with these bytes as their encoding, so does decoding.
+pub decodes_spelled : (bytes : List ℕ) (begins : Bool) (result : Result Side RecordFault)
+    → ((side : Side) → record_at bytes ≡ Ok side → (bytes ≡ record_spelling side) × IsSide side)
     → Decodes (record_at bytes) begins result → IfOk result (λ side. IsSide side × (bytes ≡ record_spelling side))
 decodes_spelled bytes begins (Ok side) spelled decodes =
     let is = spelled side (sym decodes) in
@@ -33,39 +38,46 @@ decodes_spelled bytes begins (Err fault) spelled decodes = tt
 
 -- ---- judging
 
-judged_by : (keeps : Bool) (read side : Side) → cond keeps (Ok read) (Err faults.Inconsistent) ≡ Ok side → (keeps ≡ true) × (read ≡ side)
+-- If judging gives a side, its test is true, and the side is the one that was read.
+judged_by : (keeps : Bool) (read side : Side) → cond keeps (Ok read) (Err faults.Inconsistent) ≡ Ok side
+    → (keeps ≡ true) × (read ≡ side)
 judged_by true read side is = (refl, ok_is read side is)
 judged_by false read side is = absurd cc
 
--- what stood is consistent, and was read
+-- If judging gives a side, that side was read and is consistent.
 pub judged_ok : (read : Result Side LayoutFault) (side : Side) → judged read ≡ Ok side → (read ≡ Ok side) × IsConsistent side
 judged_ok (Ok found) side is =
     let both = judged_by (keeps_rules found) found side is in
     (ap Ok both.1, subst IsConsistent both.1 both.0)
 judged_ok (Err fault) side is = absurd cc
 
--- what is consistent stands
+-- If the side that was read is consistent, judging gives it.
 pub judged_is : (read : Result Side LayoutFault) (side : Side) → read ≡ Ok side → IsConsistent side → judged read ≡ Ok side
 judged_is read side is consistent = ap judged is ∙ ap (λ keeps. cond keeps (Ok side) (Err faults.Inconsistent)) consistent
 
-not_kept : (keeps : Bool) (side : Side) → (keeps ≡ true → ⊥) → cond keeps (Ok side) (Err faults.Inconsistent) ≡ Err faults.Inconsistent
+-- If the test is false, judging gives `Inconsistent`.
+not_kept : (keeps : Bool) (side : Side) → (keeps ≡ true → ⊥)
+    → cond keeps (Ok side) (Err faults.Inconsistent) ≡ Err faults.Inconsistent
 not_kept true side breaks = absurd (breaks refl)
 not_kept false side breaks = refl
 
--- what breaks a rule does not
-pub judged_not : (read : Result Side LayoutFault) (side : Side) → read ≡ Ok side → (IsConsistent side → ⊥) → judged read ≡ Err faults.Inconsistent
+-- If the side that was read is not consistent, judging gives `Inconsistent`.
+pub judged_not : (read : Result Side LayoutFault) (side : Side) → read ≡ Ok side → (IsConsistent side → ⊥)
+    → judged read ≡ Err faults.Inconsistent
 judged_not read side is breaks = ap judged is ∙ not_kept (keeps_rules side) side breaks
 
+-- No test of a side gives `Digest`.
 kept_no_digest : (keeps : Bool) (side : Side) → Err faults.Digest ≡ cond keeps (Ok side) (Err faults.Inconsistent) → ⊥
 kept_no_digest true side is = cc
 kept_no_digest false side is = cc
 
+-- Judging never gives `Digest`.
 judged_no_digest : (read : Result Side LayoutFault) → Err faults.Digest ≡ judged read → ⊥
 judged_no_digest (Ok side) is = kept_no_digest (keeps_rules side) side is
 judged_no_digest (Err Short) is = cc
 judged_no_digest (Err (Bad at)) is = cc
 
--- a record of one side has no digest
+-- A record of one side never has the fault `Digest`.
 pub no_digest : (bytes : List ℕ) → Err faults.Digest ≡ record_at bytes → ⊥
 unfolding record_at
 no_digest bytes is = judged_no_digest (side_spelled bytes) is

@@ -1,4 +1,4 @@
--- The laws of records of many sides: what is read is spelled so, and what is spelled is read again.
+-- The laws of records of many sides: bytes that are read encode the sides, and sides are read again.
 use Rattle.std.proofs.Common.{◌≡◌, ℕ, ◌-◌, ◌<◌, ◌≤◌, ltb, leb, Bool, true, false, cond, not, List, [], ◌∷◌, ◌++◌, length, take, drop, Some, None, Result, Ok, Err, refl, sym, ap, subst, ◌∙◌, append_assoc, append-nil, length-append, arith}
 use Rattle.std.specs.Prelude.{nat_eq}
 use Rattle.std.specs.Int.{w16, byte_at, to_be_bytes, from_be_bytes}
@@ -28,7 +28,7 @@ use Rattle.ill_saved.specs.Ranges.{IsSide}
 use Rattle.ill_saved.proofs.Steps.{bind_ok, ok_is, passed, went_on, IsBytes-take, IsBytes-rest}
 use Rattle.ill_saved.proofs.Fields.{ReadsAgain, Takes, IsField, IsSized, Any, Both, CountedBy, rest_fits, sized_is, followed_is, counted_by_is, role_is}
 
--- what the laws of one record say
+-- The laws of one record: it encodes the side that is read, is read again, and has at most 41,811 bytes.
 pub record OneRecord : Type 0 where
   pub spelled : (bytes : List ℕ) (side : Side) → IsBytes bytes → record_at bytes ≡ Ok side → (bytes ≡ record_spelling side) × IsSide side
   pub again : (side : Side) → IsSide side → record_at (record_spelling side) ≡ Ok side
@@ -36,6 +36,7 @@ pub record OneRecord : Type 0 where
 
 -- ---- two octets
 
+-- Two bytes are a number below 65,536.
 two_below : (bytes : List ℕ) → length bytes ≡ 2 → IsBytes bytes → from_be_bytes w16 bytes < 65536
 two_below [] two fits = omega (arith, two)
 two_below (a ∷ []) two fits = omega (arith, two)
@@ -45,9 +46,11 @@ two_below (a ∷ b ∷ []) two fits =
     omega (arith, high, low)
 two_below (a ∷ b ∷ c ∷ rest) two fits = omega (arith, two)
 
+-- Two bytes are the encoding of the number that they are read as.
 spells_two : (bytes : List ℕ) (n : ℕ) → IsBytes bytes → length bytes ≡ 2 → from_be_bytes w16 bytes ≡ n → bytes ≡ to_be_bytes w16 n
 spells_two bytes n fits two read = sym (be_bytes_2 bytes n two fits (sym read))
 
+-- The field of a number in two octets keeps the laws for numbers below 65,536.
 two_octets_is : IsField (λ n. n < 65536) two_octets
 two_octets_is = sized_is (λ n. n < 65536) 2 _ (record {
   takes = λ bytes n fits two e.
@@ -56,6 +59,7 @@ two_octets_is = sized_is (λ n. n < 65536) 2 _ (record {
   again = λ n small. (ap Some (from_be_bytes-to_be_bytes_2 n small), refl);
 })
 
+-- The field of the number of sides keeps the laws for numbers within the limit.
 side_count_is : IsField (λ n. n ≤ most_sides) side_count
 side_count_is = sized_is (λ n. n ≤ most_sides) 2 _ (record {
   takes = λ bytes n fits two e.
@@ -64,12 +68,14 @@ side_count_is = sized_is (λ n. n ≤ most_sides) 2 _ (record {
   again = λ n few. (ap few_sides (from_be_bytes-to_be_bytes_2 n (omega (arith, few))) ∙ ap (λ b. cond b (Some n) None) (le-leb n most_sides few), refl);
 })
 
--- ---- a record behind its length
+-- ---- a record after its length
 
+-- If the value of a result is `side`, the result is `side`.
 ok_found : (r : Result Side RecordFault) (side : Side) → result_ok r ≡ Some side → r ≡ Ok side
 ok_found (Ok found) side e = ap Ok (same_Some found side e)
 ok_found (Err fault) side e = absurd cc
 
+-- The contents of a part of length `n` keep the laws.
 record_sized : OneRecord → (n : ℕ) → IsSized (λ side. IsSide side × (length (record_spelling side) ≡ n)) n one_record
 record_sized one n = record {
   takes = λ bytes side fits size e.
@@ -78,11 +84,14 @@ record_sized one n = record {
   again = λ side p. (ap result_ok (one.again side p.0), p.1);
 }
 
+-- If a reading whose fault is moved gives a value, the reading gave it.
 good_at : {X : Type 0} (at : ℕ) (r : Result X LayoutFault) (x : X) → bad_at at r ≡ Ok x → r ≡ Ok x
 good_at at (Ok found) x e = ap Ok (ok_is found x e)
 good_at at (Err fault) x e = absurd cc
 
-part_takes : OneRecord → (left : Cursor) (side : Side) (rest : Cursor) → IsBytes left.bytes → part.read left ≡ Ok (side, rest) → Takes part IsSide left.bytes side rest.bytes
+-- If a part is read, the bytes read are its encoding, and its side is in range.
+part_takes : OneRecord → (left : Cursor) (side : Side) (rest : Cursor) → IsBytes left.bytes
+    → part.read left ≡ Ok (side, rest) → Takes part IsSide left.bytes side rest.bytes
 part_takes one left side rest fits e =
     let size = bind_ok (bad_at left.at (two_octets.read left)) (λ size. bad_at size.1.at ((sized size.0 one_record).read size.1)) (side, rest) e in
     let read = good_at left.at (two_octets.read left) size.0 size.1 in
@@ -94,6 +103,7 @@ part_takes one left side rest fits e =
     ∙ sym (append_assoc (two_octets.spell (length (record_spelling side))) (record_spelling side) rest.bytes) in
     (parts, second.1.0)
 
+-- A side in range is read again from its part.
 part_again : OneRecord → (side : Side) (at : ℕ) (more : List ℕ) → IsSide side → ReadsAgain part side at more
 part_again one side at more is =
     let n = length (record_spelling side) in
@@ -101,20 +111,25 @@ part_again one side at more is =
     let text = (sized_is _ n one_record (record_sized one n)).again side size.0 more (is, refl) in
     (text.0, rw (append_assoc (two_octets.spell n) (record_spelling side) more, size.1, text.1) refl)
 
+-- The field of a part keeps the laws.
 part_is : OneRecord → IsField IsSide part
 part_is one = record { takes = part_takes one; again = part_again one }
 
 -- ---- all sides
 
+-- Each side is in range, and they are within the limit.
 abbrev ManySides : List Side → Type 0
 ManySides = CountedBy (λ n. n ≤ most_sides) IsSide
 
+-- The field of the role and the sides keeps the laws.
 role_and_sides_is : OneRecord → IsField (Both Any ManySides) role_and_sides
 role_and_sides_is one = followed_is Any ManySides role (counted_by side_count part) role_is (counted_by_is (λ n. n ≤ most_sides) IsSide side_count part side_count_is (part_is one))
 
+-- Returns the encoding of the role and the sides: the octets between the version and the digest.
 abbrev octets_of : SidesOf → List ℕ
 octets_of held = role_and_sides.spell (held.role, held.sides)
 
+-- Sides that may be saved are read again from the octets between version and digest.
 sides_again : OneRecord → (held : SidesOf) → AreSides held → sides_at (octets_of held) ≡ Ok held
 sides_again one held are =
     let read = (role_and_sides_is one).again (held.role, held.sides) 4 [] (tt, (are.each, are.few)) in
@@ -122,12 +137,15 @@ sides_again one held are =
     ap (λ (octets : List ℕ). role_and_sides.read (cursor_at 4 octets)) (sym (append-nil (octets_of held))) ∙ read.1 in
     ap (λ r. judged_together (all_of r)) whole ∙ ap (λ keeps. cond keeps (Ok held) (Err faults.Inconsistent)) are.held
 
+-- If two lists of bytes are equal, their test is true.
 same_bytes : (a b : List ℕ) → a ≡ b → bytes_eq a b ≡ true
 same_bytes a b same = (bytes_eq-Decides a b).1 same
 
+-- A list with seven elements before the rest has at least seven.
 seven_first : (a b c d e f g : ℕ) (rest : List ℕ) → 7 ≤ length (a ∷ b ∷ c ∷ d ∷ e ∷ f ∷ g ∷ rest)
 seven_first a b c d e f g rest = omega arith
 
+-- The octets between version and digest are found again in the encoding of the sides.
 unsealed_again : (held : SidesOf) → unsealed (sides_spelling held) ≡ Ok (octets_of held)
 unfolding unsealed sides_spelling
 unsealed_again held =
@@ -144,31 +162,40 @@ unsealed_again held =
     let sealed : bytes_eq (drop (length bytes - 32) bytes) (sha256 (body bytes)) ≡ true = same_bytes _ _ (dropped ∙ ap sha256 (sym taken)) in
     rw (long, sealed) (ap (λ (x : List ℕ). Ok (drop 4 x)) taken)
 
+-- The encoding of sides is not of version 1.
 second : (held : SidesOf) → is_version_1 (sides_spelling held) ≡ false
 unfolding sides_spelling
 second held = refl
 
+-- Sides that may be saved are read again from their encoding.
 pub read_again : OneRecord → (held : SidesOf) → AreSides held → records_at (sides_spelling held) ≡ Ok held
 unfolding records_at
 read_again one held are =
     rw (second held, unsealed_again held) (sides_again one held are)
 
--- ---- what is read
+-- ---- reading
 
-together_is : (keeps : Bool) (found held : SidesOf) → cond keeps (Ok found) (Err faults.Inconsistent) ≡ Ok held → (keeps ≡ true) × (found ≡ held)
+-- If the test gives sides, it is true, and they are the ones found.
+together_is : (keeps : Bool) (found held : SidesOf) → cond keeps (Ok found) (Err faults.Inconsistent) ≡ Ok held
+    → (keeps ≡ true) × (found ≡ held)
 together_is true found held e = (refl, ok_is found held e)
 together_is false found held e = absurd cc
 
-judged_is : (r : Result (Role × List Side) LayoutFault) (held : SidesOf) → judged_together r ≡ Ok held → (r ≡ Ok (held.role, held.sides)) × (may_be_held held ≡ true)
+-- If judging gives sides, they were read and may be held together.
+judged_is : (r : Result (Role × List Side) LayoutFault) (held : SidesOf) → judged_together r ≡ Ok held
+    → (r ≡ Ok (held.role, held.sides)) × (may_be_held held ≡ true)
 judged_is (Ok found) held e =
     let both = together_is (may_be_held (record { role = found.0; sides = found.1 })) (record { role = found.0; sides = found.1 }) held e in
     (ap (λ (x : SidesOf). Ok (x.role, x.sides)) both.1, ap may_be_held (sym both.1) ∙ both.0)
 judged_is (Err fault) held e = absurd cc
 
+-- If the check for the end succeeds, no byte is left.
 ends : (left : Cursor) (x : Unit {0}) → ended left ≡ Ok x → left.bytes ≡ []
 ends left x e = nil_from_length left.bytes (eqb-true (length left.bytes) 0 (passed _ (Ok tt) (Bad left.at) x e).0)
 
-sides_take : OneRecord → (octets : List ℕ) (held : SidesOf) → IsBytes octets → sides_at octets ≡ Ok held → (octets ≡ octets_of held) × AreSides held
+-- If octets are read as sides, they are their encoding, and the sides may be saved.
+sides_take : OneRecord → (octets : List ℕ) (held : SidesOf) → IsBytes octets → sides_at octets ≡ Ok held
+    → (octets ≡ octets_of held) × AreSides held
 sides_take one octets held fits e =
     let judged = judged_is (all_of (role_and_sides.read (cursor_at 4 octets))) held e in
     let found = bind_ok (role_and_sides.read (cursor_at 4 octets)) (λ found. ended found.1 >>= λ _. Ok found.0) (held.role, held.sides) judged.0 in
@@ -180,10 +207,11 @@ sides_take one octets held fits e =
     let parts : Both Any ManySides (held.role, held.sides) = subst (Both Any ManySides) same is.1 in
     (spelled, record { held = judged.1; each = parts.1.0; few = parts.1.1 })
 
--- what is sealed right
+-- The bytes are the version, `octets`, and the digest of both.
 abbrev IsSealed : List ℕ → List ℕ → Type 0
 IsSealed bytes octets = (bytes ≡ (version_2 ++ octets) ++ sha256 (version_2 ++ octets)) × IsBytes octets
 
+-- If `octets` are found in bytes, the bytes are the version, `octets`, and the digest of both.
 unsealed_is : (bytes octets : List ℕ) → IsBytes bytes → unsealed bytes ≡ Ok octets → IsSealed bytes octets
 unfolding unsealed
 unsealed_is bytes octets fits e =
@@ -206,7 +234,9 @@ unsealed_is bytes octets fits e =
     not_not true e = refl
     not_not false e = absurd cc
 
-pub spelled : OneRecord → (bytes : List ℕ) (held : SidesOf) → IsBytes bytes → is_version_1 bytes ≡ false → records_at bytes ≡ Ok held → (bytes ≡ sides_spelling held) × AreSides held
+-- If bytes not of version 1 are read as sides, they are their encoding, and the sides may be saved.
+pub spelled : OneRecord → (bytes : List ℕ) (held : SidesOf) → IsBytes bytes → is_version_1 bytes ≡ false
+    → records_at bytes ≡ Ok held → (bytes ≡ sides_spelling held) × AreSides held
 unfolding records_at sides_spelling
 spelled one bytes held fits another e =
     let many : (unsealed bytes >>= sides_at) ≡ Ok held = sym (ap (λ b. cond b (read_alone (record_at bytes)) (unsealed bytes >>= sides_at)) another) ∙ e in
@@ -215,6 +245,7 @@ spelled one bytes held fits another e =
     let is = sides_take one octets.0 held sealed.1 octets.2 in
     (sealed.0 ∙ ap (λ (x : List ℕ). (version_2 ++ x) ++ sha256 (version_2 ++ x)) is.0, is.1)
 
+-- If sides that may be saved are read again, two such with one encoding are equal.
 pub one_sides : ((held : SidesOf) → AreSides held → records_at (sides_spelling held) ≡ Ok held)
     → (a b : SidesOf) → AreSides a → AreSides b → sides_spelling a ≡ sides_spelling b → a ≡ b
 one_sides again a b first second e = ok_is a b (sym (again a first) ∙ ap records_at e ∙ again b second)

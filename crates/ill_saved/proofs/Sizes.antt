@@ -1,4 +1,4 @@
--- How many bytes a record has at most.
+-- The maximum length of a record.
 use Rattle.std.proofs.Common.{◌≡◌, ℕ, ◌+◌, ◌*◌, ◌≤◌, Bool, true, false, ◌||◌, not, List, [], ◌∷◌, length, length-append, Option, Some, None, refl, arith}
 use Rattle.std.specs.Prelude.{IfSome}
 use Rattle.std.specs.List.{list_all}
@@ -27,7 +27,7 @@ use Rattle.ill_saved.specs.Sides.{SidesOf}
 use Rattle.ill_saved.specs.Records2.{two_octets, part, body_of, sides_spelling, AreSides}
 use Rattle.ill_saved.proofs.Rules.{requester_request, responder_types}
 
--- What the laws of the crates below say: how long a qualifier is, an APDU, and one that is no request.
+-- The laws below bound the lengths of a qualifier, of an APDU, and of one that is no ILL-Request.
 pub record Bounds : Type 0 where
   pub qualifier : (text : List ℕ) → IsQualifier text → (1 ≤ length text) × (length text ≤ 64)
   pub longest : (a : Apdu) → IsApdu a → length (spelling a) ≤ 359
@@ -35,37 +35,45 @@ pub record Bounds : Type 0 where
 
 -- ---- the APDUs that were issued
 
+-- A body that is no ILL-Request has another type.
 other_type : (body : Body) → is_ill_request body ≡ false → type_of body ≡ IllRequest → ⊥
 other_type (bodies.IllRequest expiry text) e is = cc
 other_type _ e is = cc
 
+-- If `a || b` is false, both are.
 either : (a b : Bool) → (a || b) ≡ false → (a ≡ false) × (b ≡ false)
 either true b e = absurd cc
 either false b e = (refl, e)
 
+-- If `not a` is true, `a` is false.
 opposite : (a : Bool) → not a ≡ true → a ≡ false
 opposite true e = absurd cc
 opposite false e = refl
 
-others_bound : Bounds → (apdus : List Apdu) → Each IsApdu apdus → has is_ill_request apdus ≡ false → length (spell_all spelling apdus) ≤ 162 * length apdus
+-- If no APDU in the list is an ILL-Request, their encodings have at most 162 bytes each.
+others_bound : Bounds → (apdus : List Apdu) → Each IsApdu apdus → has is_ill_request apdus ≡ false
+    → length (spell_all spelling apdus) ≤ 162 * length apdus
 unfolding spell_all Each
 others_bound bounds [] are none = omega arith
 others_bound bounds (a ∷ apdus) are none =
     let parts = either (is_ill_request a.body) (has is_ill_request apdus) none in
     omega (arith, bounds.shorter a are.0 (other_type a.body parts.0), others_bound bounds apdus are.1 parts.1, length-append (spelling a) (spell_all spelling apdus))
 
--- the first is a request
-requester_issued_bound : Bounds → (apdus : List Apdu) → Each IsApdu apdus → begins_with_request apdus ≡ true → length (spell_all spelling apdus) ≤ 162 * length apdus + 197
+-- If the first APDU alone is an ILL-Request, the encodings have at most 162 bytes each, and 197 more.
+requester_issued_bound : Bounds → (apdus : List Apdu) → Each IsApdu apdus → begins_with_request apdus ≡ true
+    → length (spell_all spelling apdus) ≤ 162 * length apdus + 197
 unfolding spell_all Each
 requester_issued_bound bounds [] are begins = omega arith
 requester_issued_bound bounds (a ∷ apdus) are begins =
     let parts = and_parts (is_ill_request a.body) (not (has is_ill_request apdus)) begins in
     omega (arith, bounds.longest a are.0, others_bound bounds apdus are.1 (opposite (has is_ill_request apdus) parts.1), length-append (spelling a) (spell_all spelling apdus))
 
+-- A body of a responder's type is no ILL-Request.
 not_own : (body : Body) → not (is_requesters body) ≡ true → is_ill_request body ≡ false
 not_own (bodies.IllRequest expiry text) e = absurd cc
 not_own _ e = refl
 
+-- If all APDUs are of a responder's type, none is an ILL-Request.
 none_requested : (apdus : List Apdu) → list_all (λ a. not (is_requesters a.body)) apdus ≡ true → has is_ill_request apdus ≡ false
 none_requested [] role = refl
 none_requested (a ∷ apdus) role =
@@ -74,17 +82,22 @@ none_requested (a ∷ apdus) role =
 
 -- ---- records
 
-front_bound : (states : List State) (state : State) (group transaction : List ℕ) → length group ≤ 64 → length transaction ≤ 64 → length ((front states).spell (state, (group, transaction))) ≤ 131
+-- If both qualifiers have at most 64 bytes, a state and the two have at most 131.
+front_bound : (states : List State) (state : State) (group transaction : List ℕ) → length group ≤ 64
+    → length transaction ≤ 64 → length ((front states).spell (state, (group, transaction))) ≤ 131
 front_bound states state group transaction eg et = omega (arith, eg, et, length-append group (length transaction ∷ transaction))
 
+-- The text of a due date, or of none, has eight bytes.
 due_length : (o : Option Date) → length (due_octets o) ≡ 8
 due_length None = refl
 due_length (Some d) = refl
 
+-- The field of a request that may be absent has at most 360 bytes.
 request_bound : Bounds → (o : Option Apdu) → IfSome o IsApdu → length ((marked ill_request).spell o) ≤ 360
 request_bound bounds None is = omega arith
 request_bound bounds (Some a) is = omega (arith, bounds.longest a is)
 
+-- The record of a side in range has at most 41,811 bytes.
 pub record_bound : Bounds → (side : Side) → IsSide side → length (record_spelling side) ≤ 41811
 unfolding record_spelling
 record_bound bounds (sides.Requester x) is =
@@ -116,10 +129,11 @@ record_bound bounds (sides.Responder y) is =
 
 -- ---- records of many sides
 
--- what the law of one record says
+-- The law of one record: the record of a side in range has at most 41,811 bytes.
 abbrev pub IsShort : Type 0
 IsShort = (side : Side) → IsSide side → length (record_spelling side) ≤ 41811
 
+-- If `IsShort` holds, the parts of sides in range have at most 41,813 bytes each, with the length.
 parts_bound : IsShort → (sides : List Side) → Each IsSide sides → length (spell_all part.spell sides) ≤ 41813 * length sides
 unfolding spell_all Each
 parts_bound short [] each = omega arith
@@ -132,6 +146,7 @@ parts_bound short (side ∷ sides) each =
       length-append (two_octets.spell (length (record_spelling side))) (record_spelling side),
     )
 
+-- If `IsShort` holds, the record of a desk has at most 41,813,039 bytes.
 pub sides_bound : IsShort → (held : SidesOf) → AreSides held → length (sides_spelling held) ≤ 41813039
 unfolding sides_spelling
 sides_bound short held are =

@@ -1,4 +1,4 @@
--- What a step of reading that did not fail says, and lists of bytes.
+-- Consequences of a step of reading that did not fail, and facts of lists of bytes.
 use Rattle.std.proofs.Common.{◌≡◌, ℕ, ◌+◌, Bool, true, false, cond, eqb, List, [], ◌∷◌, ◌++◌, length, take, drop, Option, Some, Result, Ok, Err, refl, ap, subst, ◌∙◌, inl, inr, ◌⊎◌, arith}
 use Rattle.std.specs.Prelude.{find}
 use Rattle.std.proofs.lemmas.Bool.{cases_lt, eqb-true}
@@ -7,39 +7,44 @@ use Rattle.std.proofs.lemmas.Option.{same_Some}
 use Rattle.ill_der.specs.Format.{◌>>=◌}
 use Rattle.ill_der.specs.Laws.{IsBytes}
 
--- the value of a step
-pub bind_ok : {E A B : Type 0} (r : Result A E) (f : A → Result B E) (y : B) → (r >>= f) ≡ Ok y → (x : A) × (r ≡ Ok x) × (f x ≡ Ok y)
+-- If two steps give a value, the first step gave one, and the second gave that value from it.
+pub bind_ok : {E A B : Type 0} (r : Result A E) (f : A → Result B E) (y : B) → (r >>= f) ≡ Ok y
+    → (x : A) × (r ≡ Ok x) × (f x ≡ Ok y)
 bind_ok (Ok x) f y e = (x, refl, e)
 bind_ok (Err d) f y e = absurd cc
 
--- a test that passed
+-- If a test that must be true gives a value, it is true, and its branch gave the value.
 pub passed : {E A : Type 0} (b : Bool) (r : Result A E) (d : E) (x : A) → cond b r (Err d) ≡ Ok x → (b ≡ true) × (r ≡ Ok x)
 passed true r d x e = (refl, e)
 passed false r d x e = absurd cc
 
--- a test that did not stop the reading
+-- If a test that must be false gives a value, it is false, and its branch gave the value.
 pub went_on : {E A : Type 0} (b : Bool) (r : Result A E) (d : E) (x : A) → cond b (Err d) r ≡ Ok x → (b ≡ false) × (r ≡ Ok x)
 went_on true r d x e = absurd cc
 went_on false r d x e = (refl, e)
 
--- which way a test went
+-- If a choice gives `z`, `x` is `z` and the test true, or `y` is `z` and the test false.
 pub chosen : {A : Type 0} (b : Bool) (x y z : A) → cond b x y ≡ z → ((b ≡ true) × (x ≡ z)) ⊎ ((b ≡ false) × (y ≡ z))
 chosen true x y z e = inl (refl, e)
 chosen false x y z e = inr (refl, e)
 
+-- Returns the value as a result.
 abbrev pub done : {E A : Type 0} → A → Result A E
 done x = Ok x
 
+-- If two results of values are equal, the values are.
 pub ok_is : {E A : Type 0} (x y : A) → done {E = E} x ≡ done y → x ≡ y
 ok_is x y e = cc
 
--- the first of a list is found, or one behind it
-found_first : {A : Type 0} (b : Bool) (a : A) (o : Option A) (x : A) → cond b (Some a) o ≡ Some x → ((b ≡ true) × (a ≡ x)) ⊎ (o ≡ Some x)
+-- If `x` is found in a list, it is the first element, or it is found among the others.
+found_first : {A : Type 0} (b : Bool) (a : A) (o : Option A) (x : A) → cond b (Some a) o ≡ Some x
+    → ((b ≡ true) × (a ≡ x)) ⊎ (o ≡ Some x)
 found_first true a o x e = inl (refl, same_Some a x e)
 found_first false a o x e = inr e
 
--- a value that was found has the code
-pub found_with : {A : Type 0} (code : A → ℕ) (wanted : ℕ) (all : List A) (x : A) → find (λ a. eqb wanted (code a)) all ≡ Some x → wanted ≡ code x
+-- An element found by its code has that code.
+pub found_with : {A : Type 0} (code : A → ℕ) (wanted : ℕ) (all : List A) (x : A)
+    → find (λ a. eqb wanted (code a)) all ≡ Some x → wanted ≡ code x
 found_with code wanted [] x e = absurd cc
 found_with {A} code wanted (a ∷ all) x e =
     elim (found_first (eqb wanted (code a)) a (find (λ b. eqb wanted (code b)) all) x e) [
@@ -49,7 +54,7 @@ found_with {A} code wanted (a ∷ all) x e =
 
 -- ---- bytes
 
--- a front of bytes
+-- A prefix of bytes is bytes.
 pub IsBytes-take : (n : ℕ) (bytes : List ℕ) → IsBytes bytes → IsBytes (take n bytes)
 IsBytes-take n bytes h i =
     elim (cases_lt i n) [
@@ -57,7 +62,7 @@ IsBytes-take n bytes h i =
       | inr le ↦ rw (get_or_past (take n bytes) i 0 (omega (arith, length-take n bytes))) (omega arith)
     ]
 
--- what follows a front of bytes
+-- If bytes begin with `front`, the rest after it is bytes.
 pub IsBytes-rest : (bytes front rest : List ℕ) → bytes ≡ front ++ rest → IsBytes bytes → IsBytes rest
 IsBytes-rest bytes front rest e h =
     let behind : IsBytes (drop (length front) bytes) = λ i. rw get_or-drop (h (length front + i)) in

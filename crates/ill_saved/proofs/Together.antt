@@ -24,18 +24,22 @@ use Rattle.ill_saved.proofs.Finding.{apart_back}
 
 -- ---- holding together
 
-first_apart : (is : Bool) (found : Option Side) (x : Side) → is_none (cond is (Some x) found) ≡ true → (is ≡ false) × (is_none found ≡ true)
+-- If a search finds nothing, the first side fails the test, and nothing is found among the others.
+first_apart : (is : Bool) (found : Option Side) (x : Side) → is_none (cond is (Some x) found) ≡ true
+    → (is ≡ false) × (is_none found ≡ true)
 first_apart true found x none = absurd (true≢false (sym none))
 first_apart false found x none = (refl, none)
 
--- what is not found in a list is none of its elements
-apart_of : (txn : Qualifiers) (front : List Side) (side : Side) (rest : List Side) → is_none (side_with txn (front ++ side ∷ rest)) ≡ true → is_same_txn txn (txn_of side) ≡ false
+-- If no side in a list is of `txn`, none of its elements is.
+apart_of : (txn : Qualifiers) (front : List Side) (side : Side) (rest : List Side)
+    → is_none (side_with txn (front ++ side ∷ rest)) ≡ true → is_same_txn txn (txn_of side) ≡ false
 unfolding side_with
 apart_of txn [] side rest none = (first_apart (is_same_txn txn (txn_of side)) (side_with txn rest) side none).0
 apart_of txn (x ∷ front) side rest none = apart_of txn front side rest (first_apart (is_same_txn txn (txn_of x)) (side_with txn (front ++ side ∷ rest)) x none).1
 
--- a side is not found among those before it
-not_before : (front : List Side) (side : Side) (rest : List Side) → are_apart (front ++ side ∷ rest) ≡ true → is_some (side_with (txn_of side) front) ≡ false
+-- If sides are apart, none before `side` is of its transaction.
+not_before : (front : List Side) (side : Side) (rest : List Side) → are_apart (front ++ side ∷ rest) ≡ true
+    → is_some (side_with (txn_of side) front) ≡ false
 unfolding side_with are_apart
 not_before [] side rest apart = refl
 not_before (x ∷ front) side rest apart =
@@ -43,16 +47,19 @@ not_before (x ∷ front) side rest apart =
     let differs : is_same_txn (txn_of side) (txn_of x) ≡ false = apart_back (txn_of x) (txn_of side) (apart_of (txn_of x) front side rest parts.0) in
     ap (λ same. is_some (cond same (Some x) (side_with (txn_of side) front))) differs ∙ not_before front side rest parts.1
 
+-- If `a` is less than `b`, the test of order is true.
 less : (a b : ℕ) → a < b → nat_lt a b ≡ true
 less a b is = search rules
 
+-- A side of the role that is not idle and new is not refused if there is room.
 none_refused : (same idle twice room : Bool) → same ≡ true → idle ≡ false → twice ≡ false → room ≡ true
     → (if not same then Some refusals.OtherRole else (if idle then Some refusals.Idle else (if twice then Some refusals.Twice else (if room then None else Some refusals.Full)))) ≡ None
 none_refused same idle twice room is_same no_idle once free = rw (is_same, no_idle, once, free) refl
 
--- sides that may be held together are put one after another
+-- If sides within the limit may be held together, each may be put after those before it.
 stands_last : (role : Role) (front : List Side) (side : Side) (rest : List Side) → length (front ++ side ∷ rest) ≤ most_sides
-    → may_be_held (record { role = role; sides = front ++ side ∷ rest }) ≡ true → put_refusal (record { role = role; sides = front }) side ≡ None
+    → may_be_held (record { role = role; sides = front ++ side ∷ rest }) ≡ true
+    → put_refusal (record { role = role; sides = front }) side ≡ None
 stands_last role front side rest few held =
     let parts = and_parts (list_all (may_stand role) (front ++ side ∷ rest)) (are_apart (front ++ side ∷ rest)) held in
     let all : list_all (may_stand role) front && list_all (may_stand role) (side ∷ rest) ≡ true = sym (list_all-append (may_stand role) front (side ∷ rest)) ∙ parts.0 in
@@ -63,13 +70,17 @@ stands_last role front side rest few held =
     none_refused (is_same_role role (role_of side)) (is_idle side) (is_some (side_with (txn_of side) front)) (nat_lt (length front) most_sides)
     one.0 (not-true (is_idle side) one.1) (not_before front side rest parts.1) (less (length front) most_sides room)
 
-inconsistent : (held : Bool) (all : SidesOf) → (held ≡ true → ⊥) → Err faults.Inconsistent ≡ cond held (Ok all) (Err faults.Inconsistent)
+-- If sides may not be held together, the answer is `Inconsistent`.
+inconsistent : (held : Bool) (all : SidesOf) → (held ≡ true → ⊥)
+    → Err faults.Inconsistent ≡ cond held (Ok all) (Err faults.Inconsistent)
 inconsistent true all breaks = absurd (breaks refl)
 inconsistent false all breaks = refl
 
--- a side that may not stand with those before it
-pub put_fails : (of_role : Role) (all : List Side) (held : SidesOf) (side : Side) (rest : List Side) (fault : RecordFault) (new : SidesOf) → held.role ≡ of_role → held.sides ++ side ∷ rest ≡ all → length all ≤ most_sides
-    → PutsRead held side (Err fault) new → Decodes (together (record { role = of_role; sides = all })) (nat_lt 0 (length all)) (Err fault)
+-- If putting a side that was read fails, its fault is right for all sides together.
+pub put_fails : (of_role : Role) (all : List Side) (held : SidesOf) (side : Side) (rest : List Side) (fault : RecordFault) (new : SidesOf)
+    → held.role ≡ of_role → held.sides ++ side ∷ rest ≡ all → length all ≤ most_sides
+    → PutsRead held side (Err fault) new
+    → Decodes (together (record { role = of_role; sides = all })) (nat_lt 0 (length all)) (Err fault)
 put_fails of_role all held side rest faults.Inconsistent new same whole few puts =
     let breaks : may_be_held (record { role = of_role; sides = all }) ≡ true → ⊥ =
     λ stand. puts (stands_last held.role held.sides side rest (omega (arith, few, ap length whole))
@@ -80,10 +91,12 @@ put_fails of_role all held side rest fault new same whole few puts = absurd puts
 
 -- ---- a record of one side
 
+-- If two steps give a value, the first step gave one.
 ok_begins : {V W : Type 0} (r : Result V LayoutFault) (f : V → Result W LayoutFault) (w : W) → (r >>= f) ≡ Ok w → is_ok r ≡ true
 ok_begins (Ok v) f w e = refl
 ok_begins (Err fault) f w e = absurd cc
 
+-- If a side of role `r` is read, the bytes begin with a state of `r` and two qualifiers.
 fields_begin : (r : Role) (left : Cursor) (side : Side) → side_at r left ≡ Ok side → has_front r left ≡ true
 fields_begin roles.Requester left side e =
     let found = bind_ok (read_fields roles.Requester left) _ side e in
@@ -94,7 +107,7 @@ fields_begin roles.Responder left side e =
     let fields = bind_ok (responder_fields.read left) _ found.0 found.1 in
     ok_begins ((front responder_states).read left) _ fields.0 fields.1
 
--- what is read as a side begins as one
+-- If bytes are read as a side, they begin as a record.
 read_begins : (bytes : List ℕ) (side : Side) → record_at bytes ≡ Ok side → begins_as_record bytes ≡ true
 unfolding record_at side_spelled begins_as_record
 read_begins bytes side e =
@@ -102,16 +115,19 @@ read_begins bytes side e =
     let begun = bind_ok (start.read (cursor_at 0 bytes)) (λ start. side_at start.0.1 start.1) side read.0 in
     ap has_front_behind begun.1 ∙ fields_begin begun.0.0.1 begun.0.1 side begun.2
 
+-- Each role is equal to itself.
 own_role : (r : Role) → is_same_role r r ≡ true
 own_role roles.Requester = refl
 own_role roles.Responder = refl
 
+-- A side that is not idle may be put alone.
 none_first : (side : Side) → is_idle side ≡ false → put_refusal (record { role = role_of side; sides = [] }) side ≡ None
 unfolding side_with
 none_first side begun = none_refused (is_same_role (role_of side) (role_of side)) (is_idle side) false true (own_role (role_of side)) begun refl refl
 
--- a side that has begun stands alone, memory aside
-pub alone_fails : (bytes : List ℕ) (side : Side) (fault : RecordFault) (new : SidesOf) → Ok side ≡ record_at bytes → is_idle side ≡ false → PutsRead (record { role = role_of side; sides = [] }) side (Err fault) new
+-- If the only side that was read cannot be put, memory ran out, and that fault is right.
+pub alone_fails : (bytes : List ℕ) (side : Side) (fault : RecordFault) (new : SidesOf) → Ok side ≡ record_at bytes
+    → is_idle side ≡ false → PutsRead (record { role = role_of side; sides = [] }) side (Err fault) new
     → Decodes (read_alone (record_at bytes)) (begins_as_record bytes) (Err fault)
 alone_fails bytes side faults.Inconsistent new read begun puts = absurd (puts (none_first side begun))
 alone_fails bytes side faults.OutOfMemory new read begun puts = read_begins bytes side (sym read)
@@ -119,17 +135,21 @@ alone_fails bytes side fault new read begun puts = absurd puts
 
 -- ---- a record of many sides
 
--- the number behind the role says whether memory is taken
-count_tells : (octets : List ℕ) (first behind_role behind_count : Cursor) (of_role : Role) (n : ℕ) → first ≡ cursor_at 4 octets → role.read first ≡ Ok (of_role, behind_role)
+-- If the number of sides is `n`, decoding takes memory exactly if `n` is above 0.
+count_tells : (octets : List ℕ) (first behind_role behind_count : Cursor) (of_role : Role) (n : ℕ)
+    → first ≡ cursor_at 4 octets → role.read first ≡ Ok (of_role, behind_role)
     → side_count.read behind_role ≡ Ok (n, behind_count) → has_sides octets ≡ nat_lt 0 n
 count_tells octets first behind_role behind_count of_role n begun read_role read_count =
     let role_read : role.read (cursor_at 4 octets) ≡ Ok (of_role, behind_role) = ap role.read (sym begun) ∙ read_role in
     ap (λ r. counts_any (r >>= λ a. side_count.read a.1 >>= λ b. Ok ((a.0, b.0), b.1))) role_read ∙ ap (λ r. counts_any (r >>= λ b. Ok ((of_role, b.0), b.1))) read_count
 
--- the sides behind their count, which nothing follows
-pub all_held : (octets : List ℕ) (first behind_role behind_count last : Cursor) (of_role : Role) (n : ℕ) (sides : List Side) (x : Unit {0}) (result : Result SidesOf RecordFault) → first ≡ cursor_at 4 octets
-    → role.read first ≡ Ok (of_role, behind_role) → side_count.read behind_role ≡ Ok (n, behind_count) → read_all part n behind_count ≡ Ok (sides, last) → length sides ≡ n → ended last ≡ Ok x
-    → Decodes (together (record { role = of_role; sides = sides })) (nat_lt 0 (length sides)) result → Decodes (sides_at octets) (has_sides octets) result
+-- If the sides after their number are read to the end, an answer that decodes them together decodes the octets.
+pub all_held : (octets : List ℕ) (first behind_role behind_count last : Cursor) (of_role : Role) (n : ℕ) (sides : List Side) (x : Unit {0}) (result : Result SidesOf RecordFault)
+    → first ≡ cursor_at 4 octets
+    → role.read first ≡ Ok (of_role, behind_role) → side_count.read behind_role ≡ Ok (n, behind_count)
+    → read_all part n behind_count ≡ Ok (sides, last) → length sides ≡ n → ended last ≡ Ok x
+    → Decodes (together (record { role = of_role; sides = sides })) (nat_lt 0 (length sides)) result
+    → Decodes (sides_at octets) (has_sides octets) result
 all_held octets first behind_role behind_count last of_role n sides x result begun read_role read_count read_sides so_many at_end decodes =
     let role_read : role.read (cursor_at 4 octets) ≡ Ok (of_role, behind_role) = ap role.read (sym begun) ∙ read_role in
     let counted : (counted_by side_count part).read behind_role ≡ Ok (sides, last) = ap (λ r. r >>= λ n. read_all part n.0 n.1) read_count ∙ read_sides in
@@ -140,8 +160,9 @@ all_held octets first behind_role behind_count last of_role n sides x result beg
     let begins : has_sides octets ≡ nat_lt 0 (length sides) = count_tells octets first behind_role behind_count of_role n begun read_role read_count ∙ ap (nat_lt 0) (sym so_many) in
     subst (λ r. Decodes r (has_sides octets) result) (sym same) (subst (λ b. Decodes (together (record { role = of_role; sides = sides })) b result) (sym begins) decodes)
 
--- what is sealed wrongly, or not at all
-pub unsealed_not : (bytes : List ℕ) (fault : RecordFault) → is_version_1 bytes ≡ false → Decodes (unsealed bytes) false (Err fault) → Decodes (records_at bytes) (begins_as_records bytes) (Err fault)
+-- Unless the bytes are of version 1, a fault of their version or digest is one of the record.
+pub unsealed_not : (bytes : List ℕ) (fault : RecordFault) → is_version_1 bytes ≡ false
+    → Decodes (unsealed bytes) false (Err fault) → Decodes (records_at bytes) (begins_as_records bytes) (Err fault)
 unfolding records_at
 unsealed_not bytes faults.OutOfMemory another decodes = absurd (true≢false (sym decodes))
 unsealed_not bytes faults.Short another decodes = rw (another, sym decodes) refl

@@ -1,5 +1,4 @@
--- What a fault of a lower layer is to a desk: want of memory is the desk's own (this profile's own); and the place
--- of a fault of a record.
+-- The fault of a desk for each fault of a lower layer (this profile's own). Also the place of a fault of a record.
 use Rattle.std.specs.Prelude.{ℕ, Option, Some, None}
 use Rattle.ill_der.specs.declared.fault.DerFault.{DerFault}
 use Rattle.ill_der.specs.declared.fault.DerFault.TheVariants as ders
@@ -12,23 +11,27 @@ use Rattle.ill_saved.specs.declared.fault.RecordFault.TheVariants as records
 use Rattle.ill_saved.specs.declared.fault.DeskFault.{DeskFault}
 use Rattle.ill_saved.specs.declared.fault.DeskFault.TheVariants.{Core, Bytes, Store, Saved, OutOfMemory}
 
+-- Returns the fault of a desk for a fault of DER. A lack of memory becomes the desk's own `OutOfMemory`.
 abbrev pub of_bytes : DerFault → DeskFault
 of_bytes ders.OutOfMemory = OutOfMemory
 of_bytes other = Bytes other
 
+-- Returns the fault of a desk for a refusal. A lack of memory becomes the desk's own `OutOfMemory`.
 abbrev pub of_core : Refusal → DeskFault
 of_core refusals.OutOfMemory = OutOfMemory
 of_core other = Core other
 
+-- Returns the fault of a desk for a fault of its store. A lack of memory becomes the desk's own `OutOfMemory`.
 abbrev pub of_store : StoreFault → DeskFault
 of_store stores.OutOfMemory = OutOfMemory
 of_store other = Store other
 
+-- Returns the fault of a desk for a fault of its record. A lack of memory becomes the desk's own `OutOfMemory`.
 abbrev pub of_record : RecordFault → DeskFault
 of_record records.OutOfMemory = OutOfMemory
 of_record other = Saved other
 
--- the offset of a fault, if it has one
+-- Returns the offset of the fault, if it has one.
 abbrev pub place_of : RecordFault → Option ℕ
 place_of (records.Bad at) = Some at
 place_of other = None

@@ -1,5 +1,5 @@
--- Fields of a saved record that stand one after another: how they are spelled and how they are
--- read, in one description for both directions (this profile's own).
+-- Fields of a saved record, one after another. One description states both the encoding and the reading of a field
+-- (this profile's own).
 use Rattle.std.specs.Prelude.{◌≡◌, ℕ, zero, suc, ◌+◌, ◌-◌, Bool, true, false, ◌==◌, nat_lt, nat_le, ◌&&◌, if◌then◌else◌, List, [], ◌∷◌, ◌++◌, length, take, drop, Option, Some, None, Result, Ok, Err}
 use Rattle.ill_values.specs.declared.apdu.Apdu.{Apdu}
 use Rattle.ill_der.specs.declared.fault.DerFault.{DerFault}
@@ -13,23 +13,23 @@ use Rattle.ill_saved.specs.declared.fault.LayoutFault.TheVariants.{Short, Bad}
 use Rattle.ill_saved.specs.declared.fault.RecordFault.{RecordFault}
 use Rattle.ill_saved.specs.declared.fault.RecordFault.TheVariants as faults
 
--- how a value is spelled, and how it is read from what is left of a record
+-- A field: `spell` encodes a value, and `read` reads one from the rest of a record.
 pub record Field (V : Type 0) : Type 0 where
   pub spell : V → List ℕ
   pub read : Cursor → Result (V × Cursor) LayoutFault
 
--- so many bytes, which must stand
+-- Returns the next `n` bytes and the cursor after them, or `Short` if fewer are left.
 abbrev pub bytes_at : ℕ → Cursor → Result (List ℕ × Cursor) LayoutFault
 bytes_at n left =
     if nat_lt (length left.bytes) n then Err Short
     else Ok (take n left.bytes, cursor_at (left.at + n) (drop n left.bytes))
 
--- the value, or that it is wrong at its first byte
+-- Returns the value, or a fault at offset `at` if there is none.
 abbrev pub value_at : {V : Type 0} → ℕ → Option V → Result V LayoutFault
 value_at at (Some value) = Ok value
 value_at at None = Err (Bad at)
 
--- so many bytes with these contents
+-- Returns the field of `n` bytes with these contents. Bad contents are a fault at the first of them.
 abbrev pub sized : {V : Type 0} → ℕ → Contents V → Field V
 sized n contents = record {
   spell = contents.spell;
@@ -37,65 +37,70 @@ sized n contents = record {
       value_at left.at (contents.read part.0) >>= λ value. Ok (value, part.1);
 }
 
--- one octet that stands for a value
+-- Returns the value of the only octet in the list. A list of another length has none.
 abbrev pub one_octet : {V : Type 0} → (ℕ → Option V) → List ℕ → Option V
 one_octet value_of [] = None
 one_octet value_of (n ∷ []) = value_of n
 one_octet value_of (n ∷ more ∷ rest) = None
 
+-- Returns the field of one octet, which `code` encodes and `value_of` reads.
 abbrev pub octet : {V : Type 0} → (V → ℕ) → (ℕ → Option V) → Field V
 octet code value_of = sized 1 (record { spell = λ value. code value ∷ []; read = one_octet value_of })
 
--- a field and then another
+-- Returns the field of the first value, followed by the second.
 abbrev pub followed_by : {V W : Type 0} → Field V → Field W → Field (V × W)
 followed_by first second = record {
   spell = λ value. first.spell value.0 ++ second.spell value.1;
   read = λ left. first.read left >>= λ a. second.read a.1 >>= λ b. Ok ((a.0, b.0), b.1);
 }
 
--- one octet of one value alone
+-- Returns the field of the octet `n`. Any other octet is a fault.
 abbrev pub constant : ℕ → Field (Unit {0})
 constant n = octet (λ _. n) (λ m. if m == n then Some tt else None)
 
--- a count, from 0 to 255
+-- The field of a count, from 0 to 255, in one octet.
 abbrev pub count : Field ℕ
 count = octet (λ n. n) Some
 
--- a number of a message, or 0 where there is none
+-- Returns the octet of the number of a message: 0 if there is none.
 abbrev pub number_octet : Option ℕ → ℕ
 number_octet None = 0
 number_octet (Some n) = n
 
+-- The field of the number of a message, or of none, in one octet.
 abbrev pub optional_number : Field (Option ℕ)
 optional_number = octet number_octet (λ n. Some (if n == 0 then None else Some n))
 
--- 1 for yes and 0 for no
+-- The field of a truth value in one octet: 1 for true, and 0 for false.
 abbrev pub mark : Field Bool
 mark =
     octet (λ is. if is then 1 else 0) (λ n. if n == 0 then Some false else
     (if n == 1 then Some true else None))
 
--- the length of a qualifier and the qualifier
+-- The field of the length of a qualifier, from 1 to 64, in one octet.
 abbrev pub text_size : Field ℕ
 text_size = octet (λ n. n) (λ n. if nat_le 1 n && nat_le n 64 then Some n else None)
 
+-- The field of a qualifier after its length.
 abbrev pub counted_text : Field (List ℕ)
 counted_text = record {
   spell = λ text. text_size.spell (length text) ++ text;
   read = λ left. text_size.read left >>= λ size. (sized size.0 qualifier).read size.1;
 }
 
--- an APDU in its short form, where the bytes begin with one
+-- Returns the APDU that was read and the cursor after it, or a fault at the cursor.
+-- An APDU that ends too early is `Short`; any other fault is `Bad`.
 abbrev pub apdu_by : Cursor → Result (Apdu × List ℕ) DerFault → Result (Apdu × Cursor) LayoutFault
 apdu_by left (Ok found) =
     Ok (found.0, cursor_at (left.at + (length left.bytes - length found.1)) found.1)
 apdu_by left (Err (der.Short n)) = Err Short
 apdu_by left (Err other) = Err (Bad left.at)
 
+-- The field of an APDU in its short form.
 abbrev pub apdu : Field Apdu
 apdu = record { spell = spelling; read = λ left. apdu_by left (apdu_at left.bytes) }
 
--- an ILL-Request
+-- The field of an ILL-Request. Any other APDU is a fault at its first byte.
 abbrev pub ill_request : Field Apdu
 ill_request = record {
   spell = spelling;
@@ -103,11 +108,12 @@ ill_request = record {
       if is_ill_request found.0.body then Ok found else Err (Bad left.at);
 }
 
--- a mark, and the field where it says yes
+-- Returns the mark of an optional value, and after a mark of true the encoding of the value.
 abbrev pub spell_marked : {V : Type 0} → (V → List ℕ) → Option V → List ℕ
 spell_marked spell None = mark.spell false
 spell_marked spell (Some value) = mark.spell true ++ spell value
 
+-- Returns the field of an optional value: a mark, and after a mark of true the field of the value.
 abbrev pub marked : {V : Type 0} → Field V → Field (Option V)
 marked field = record {
   spell = spell_marked field.spell;
@@ -116,42 +122,45 @@ marked field = record {
       else Ok (None, is.1);
 }
 
--- so many of a field
+-- Returns the encodings of the values, one after another.
 unfoldable pub spell_all : {V : Type 0} → (V → List ℕ) → List V → List ℕ
 spell_all spell [] = []
 spell_all spell (v ∷ values) = spell v ++ spell_all spell values
 
+-- Returns the `n` values that stand next, and the cursor after them, or the first fault.
 unfoldable pub read_all : {V : Type 0} → Field V → ℕ → Cursor → Result (List V × Cursor) LayoutFault
 read_all field zero left = Ok ([], left)
 read_all field (suc n) left =
     field.read left >>= λ first. read_all field n first.1 >>= λ others.
     Ok (first.0 ∷ others.0, others.1)
 
--- their count, as this field spells it, and so many of a field
+-- Returns the field of a list: its length, in the field `size`, and then each value.
 abbrev pub counted_by : {V : Type 0} → Field ℕ → Field V → Field (List V)
 counted_by size field = record {
   spell = λ values. size.spell (length values) ++ spell_all field.spell values;
   read = λ left. size.read left >>= λ n. read_all field n.0 n.1;
 }
 
+-- Returns the field of a list of at most 255 values: its length in one octet, and then each value.
 abbrev pub counted : {V : Type 0} → Field V → Field (List V)
 counted = counted_by count
 
--- nothing is left
+-- Returns done at the end of the bytes, or else a fault at the cursor.
 abbrev pub ended : Cursor → Result (Unit {0}) LayoutFault
 ended left = if length left.bytes == 0 then Ok tt else Err (Bad left.at)
 
--- A reader gave what reading gives, its value seen by view, and left the cursor where reading does.
+-- A reader answers as `read` says. `view` gives the value, and `left` is the cursor after it.
 abbrev pub Reads : {X V : Type 0} → (X → V) → Result X LayoutFault → Cursor →
     Result (V × Cursor) LayoutFault → Type 0
 Reads view (Ok value) left read = read ≡ Ok (view value, left)
 Reads view (Err fault) left read = read ≡ Err fault
 
+-- Returns the fault of a record for a fault of a field.
 abbrev pub record_fault : LayoutFault → RecordFault
 record_fault Short = faults.Short
 record_fault (Bad at) = faults.Bad at
 
--- The same of a reader that takes memory, which it may want.
+-- A reader answers as `read` says, or that memory ran out. `view` gives the value, and `left` is the cursor after it.
 abbrev pub ReadsInMemory : {X V : Type 0} → (X → V) → Result X RecordFault → Cursor →
     Result (V × Cursor) LayoutFault → Type 0
 ReadsInMemory view (Ok value) left read = read ≡ Ok (view value, left)

@@ -27,201 +27,213 @@ use Rattle.ill_saved.specs.Records.{Decodes}
 use Rattle.ill_saved.specs.Records2.{AreSides, records_at, begins_as_records}
 use Rattle.ill_saved.specs.Desk.{Begins, IsBackedBy, IsLoadFault, Sends, store_after}
 
--- a side that is held, and how many of its messages may be sent
+-- A held side, and the number of its messages that are released.
 pub record Held : Type 0 where
   pub side : Side
   pub released : ℕ
 
--- what a desk holds: sides of one role, in the order in which they were begun
+-- The content of a desk: sides of one role, in the order in which they were begun.
 pub record Holding : Type 0 where
   pub role : Role
   pub held : List Held
 
--- a desk of many transactions, with its store
+-- A desk of many transactions, with its store.
 pub record ManyOf (S : Type 0) : Type 0 where
   pub live : Holding
   pub store : S
 
 -- ---- the side of a transaction
 
--- how many messages each has issued
+-- Returns the number of messages that each side has issued.
 abbrev pub counts : List Side → List ℕ
 counts sides = map (λ side. length (issued_of side)) sides
 
--- each side with its count
+-- Returns each side with its count, as the number of its released messages.
 unfoldable pub held_of : List Side → List ℕ → List Held
 held_of (side ∷ sides) (count ∷ counts) = record { side = side; released = count } ∷ held_of sides counts
 held_of sides counts = []
 
+-- Returns the transaction of a held side.
 abbrev pub txn_held : Held → Qualifiers
 txn_held held = txn_of held.side
 
--- an idle side, of which nothing may be sent
+-- Returns the idle side of this role and transaction, with no message released.
 abbrev pub idle_held : Role → Qualifiers → Held
 idle_held role txn = record { side = idle_side role txn; released = 0 }
 
--- a side all of whose messages may be sent
+-- Returns the side with all of its messages released.
 abbrev pub whole : Side → Held
 whole side = record { side = side; released = length (issued_of side) }
 
--- what is found, or else what there is instead
+-- Returns the item that was found, or else `instead`.
 abbrev pub found_or : {X : Type 0} → X → Option X → X
 found_or instead (Some item) = item
 found_or instead None = instead
 
--- the side that a desk has of this transaction: the one held, or an idle one
+-- Returns the held side of transaction `txn`, or else the idle one with no message released.
 abbrev pub held_for : Qualifiers → Holding → Held
 held_for txn live = found_or (idle_held live.role txn) (found_by txn_held txn live.held)
 
--- the same, with this side
+-- Returns the desk's content with `held` instead of the side of its transaction, or after all if there is none.
 abbrev pub with_held : Holding → Held → Holding
 with_held live held = record { role = live.role; held = put_by txn_held held live.held }
 
--- the sides alone
+-- Returns the sides that are held, without their counts.
 abbrev pub sides_held : Holding → SidesOf
 sides_held live = record { role = live.role; sides = map (λ held. held.side) live.held }
 
--- the sides, all of whose messages may be sent
+-- Returns the sides with all of their messages released.
 abbrev pub whole_of : SidesOf → Holding
 whole_of all = record { role = all.role; held = map whole all.sides }
 
 -- ---- actions and messages
 
--- whether a side of this role issues APDUs of this type
+-- Returns true if a side of this role issues APDUs with such a body.
 abbrev pub is_own : Role → Body → Bool
 is_own Requester body = is_requesters body
 is_own Responder body = not (is_requesters body)
 
--- the side that is held, or else an idle one where it may begin and there is room
+-- Returns the held side, or `idle` if the transaction may begin and there is room.
+-- Otherwise the fault is `DeskFull`, or `NoSuchTransaction` if it may not begin.
 abbrev pub held_or_begun : Bool → Bool → Held → Option Held → Result Held DeskFault
 held_or_begun may_begin has_room idle (Some held) = Ok held
 held_or_begun may_begin has_room idle None =
     if may_begin then (if has_room then Ok idle else Err DeskFull) else Err NoSuchTransaction
 
--- the side that an action or a message is for
+-- Returns the side of `txn` that an action or a message reaches: held, or idle if it may begin.
 abbrev pub reached : Holding → Qualifiers → Bool → Result Held DeskFault
 reached live txn may_begin =
     held_or_begun may_begin (nat_lt (length live.held) most_sides) (idle_held live.role txn)
     (found_by txn_held txn live.held)
 
+-- Returns the desk's content with the new side of an action, or the refusal. The released count stays.
 abbrev pub acted : Holding → Held → Result Side Refusal → Result Holding DeskFault
 acted live held (Ok new) = Ok (with_held live (record { side = new; released = held.released }))
 acted live held (Err refusal) = Err (Core refusal)
 
+-- Returns the desk's content after the action of the side that was reached, or the fault.
 abbrev pub acts_reached : Holding → Action → Result Held DeskFault → Result Holding DeskFault
 acts_reached live action (Ok held) = acted live held (acts held.side action)
 acts_reached live action (Err fault) = Err fault
 
--- What a desk holds after an action in a transaction, or why it is refused.
+-- Returns the desk's content after an action in transaction `txn`, or the refusal.
+-- An action of the other role is refused as `WrongRole`.
 abbrev pub desk_acts : Holding → Qualifiers → Action → Result Holding DeskFault
 desk_acts live txn action =
     if is_same_role live.role (role_for action)
     then acts_reached live action (reached live txn (begins action))
     else Err (Core WrongRole)
 
+-- Returns the answer to an APDU, and the desk's content with the side after it. A refusal leaves the content.
 abbrev pub took : Holding → Held → Result Taking Refusal × Side → Result Taking DeskFault × Holding
 took live held (Ok taking, new) =
     (Ok taking, with_held live (record { side = new; released = held.released }))
 took live held (Err refusal, new) = (Err (Core refusal), live)
 
+-- Returns the answer to an APDU of the side that was reached, and the desk's content after it. A fault leaves it.
 abbrev pub takes_reached : Holding → Apdu → Result Held DeskFault → Result Taking DeskFault × Holding
 takes_reached live a (Ok held) = took live held (takes held.side a)
 takes_reached live a (Err fault) = (Err fault, live)
 
--- What an APDU does to a desk: it is for the side of its own transaction.
+-- Returns the answer of a desk to an APDU, and its content after it. The side of the APDU's own transaction takes it.
 abbrev pub desk_takes : Holding → Apdu → Result Taking DeskFault × Holding
 desk_takes live a =
     if is_own live.role a.body then (Err (Core WrongRole), live)
     else takes_reached live a (reached live a.txn (is_ill_request a.body))
 
--- What an action answers, and what is held after it. Memory is wanted only where the action would be done.
+-- States the answer of a desk to an action, and its content after it. A fault changes nothing.
+-- Memory can run out only for an action that would be done.
 abbrev pub ManyActs : Holding → Qualifiers → Action → Result (Unit {0}) DeskFault → Holding → Type 0
 ManyActs old txn action (Ok done) new = desk_acts old txn action ≡ Ok new
 ManyActs old txn action (Err OutOfMemory) new = (is_ok (desk_acts old txn action) ≡ true) × (new ≡ old)
 ManyActs old txn action (Err fault) new = (desk_acts old txn action ≡ Err fault) × (new ≡ old)
 
--- What a message does. Memory is wanted only where its side takes memory for it.
+-- States the answer of a desk to an APDU, and its content after it.
+-- Memory can run out only if the side takes memory for the APDU.
 abbrev pub ManyTakesApdu : Holding → Apdu → Result Taking DeskFault → Holding → Type 0
 ManyTakesApdu old a (Err OutOfMemory) new =
     ((desk_takes old a).0 ≡ Ok Taken) × (takes_memory (held_for a.txn old).side a ≡ true) × (new ≡ old)
 ManyTakesApdu old a answer new = desk_takes old a ≡ (answer, new)
 
--- What bytes do, by what stands at their front: exactly one APDU is handed to the side of its transaction. To
--- read an APDU takes memory, whichever it is. Want of it changes nothing.
+-- States the answer of a desk to bytes, from the APDU that a prefix encodes, or its fault.
+-- If the APDU is all of the bytes, the side of its transaction takes it. If bytes follow it, the answer is `Trailing`.
+-- If memory runs out for an APDU that was read, nothing changes.
 abbrev pub ManyTakes : Holding → Result (Apdu × List ℕ) DerFault → Result Taking DeskFault → Holding → Type 0
 ManyTakes old (Err fault) answer new = (answer ≡ Err (Bytes fault)) × (new ≡ old)
 ManyTakes old (Ok found) (Err OutOfMemory) new = new ≡ old
 ManyTakes old (Ok (a, [])) answer new = desk_takes old a ≡ (answer, new)
 ManyTakes old (Ok (a, byte ∷ rest)) answer new = (answer ≡ Err Trailing) × (new ≡ old)
 
--- What asking for a message of a transaction gives.
+-- States the answer to a call that asks for message `number` of a held side. No side is `NoSuchTransaction`.
 abbrev pub SendsHeld : {X : Type 0} → (X → List ℕ) → Option Held → ℕ → Result X DeskFault → Type 0
 SendsHeld view None number answer = answer ≡ Err NoSuchTransaction
 SendsHeld view (Some held) number answer =
     Sends view (message (issued_of held.side) number) (nat_le number held.released) answer
 
--- ---- what has landed
+-- ---- the sides that have landed
 
--- the only faults of loading: a record of many sides has a digest besides
+-- The fault can come from loading a desk: as of one side, or a wrong digest.
 abbrev pub IsManyLoadFault : DeskFault → Type 0
 IsManyLoadFault (Saved records.Digest) = Unit {0}
 IsManyLoadFault fault = IsLoadFault fault
 
--- what starting a desk may answer
+-- Starting a desk is done, or answers `NoRecord` or a fault of loading.
 abbrev pub IsStartOfMany : Result (Unit {0}) DeskFault → Type 0
 IsStartOfMany (Ok done) = Unit {0}
 IsStartOfMany (Err NoRecord) = Unit {0}
 IsStartOfMany (Err fault) = IsManyLoadFault fault
 
--- the side of this transaction among these, or an idle one
+-- Returns the side of `txn` among the sides, or else an idle one.
 abbrev pub side_for : Qualifiers → SidesOf → Side
 side_for txn all = found_or (idle_side all.role txn) (side_with txn all.sides)
 
--- In each transaction the side that has landed has each released message, and the live side follows from it.
+-- In each transaction, the landed side has each released message, and the live side follows from it by rows.
 pub record AreBackedBy (landed : SidesOf) (live : Holding) : Type 0 where
   pub role : landed.role ≡ live.role
   pub each : (txn : Qualifiers) → IsBackedBy (side_for txn landed) (held_for txn live).side (held_for txn live).released
 
--- some sides back what is held, whatever has landed
+-- There are sides that back the desk's content. They need not have landed.
 abbrev pub AreBackable : Holding → Type 0
 AreBackable live = (landed : SidesOf) × AreBackedBy landed live
 
+-- Reading gave sides, and they back the desk's content. No fault backs it.
 abbrev pub AreBackedByRead : Result SidesOf RecordFault → Holding → Type 0
 AreBackedByRead (Ok landed) live = AreBackedBy landed live
 AreBackedByRead (Err fault) live = ⊥
 
--- the sides that landed bytes stand for: none where nothing has landed
+-- Returns the sides that the landed bytes encode, or a fault. If nothing has landed, there are none.
 abbrev pub landed_sides : Option (List ℕ) → Role → Result SidesOf RecordFault
 landed_sides None role = Ok (record { role = role; sides = [] })
 landed_sides (Some bytes) role = records_at bytes
 
+-- The sides that have landed back the desk's content.
 abbrev pub AreBacked : Option (List ℕ) → Holding → Type 0
 AreBacked landed live = AreBackedByRead (landed_sides landed live.role) live
 
--- after a save all messages are released; after a fault those that were
+-- Returns the desk's content after a save: all messages are released. After a fault, it is unchanged.
 abbrev pub holding_after : Result (Unit {0}) DeskFault → Holding → Holding
 holding_after (Ok done) live = whole_of (sides_held live)
 holding_after (Err fault) live = live
 
--- once they could be spelled for their store, the parts of all are in range
+-- Unless memory ran out, the held sides are consistent and in range.
 abbrev pub WereSpelled : Result (Unit {0}) DeskFault → Holding → Type 0
 WereSpelled (Err OutOfMemory) live = Unit {0}
 WereSpelled answer live = AreSides (sides_held live)
 
--- all messages may be sent
+-- All messages that the held sides have issued are released.
 abbrev pub AreWhole : {S : Type 0} → ManyOf S → Type 0
 AreWhole desk = desk.live ≡ whole_of (sides_held desk.live)
 
--- what a restart leaves
+-- After a restart that is done, all messages are released. After a fault, the desk's content stays.
 abbrev pub ManyRestartLeaves : {S : Type 0} → Result (Unit {0}) DeskFault → ManyOf S → ManyOf S → Type 0
 ManyRestartLeaves (Ok done) old new = AreWhole new
 ManyRestartLeaves (Err fault) old new = (new.live ≡ old.live) × IsManyLoadFault fault
 
--- the store after a call that hands it back with a fault
+-- Returns the store of the desk, or the store that came with the fault.
 abbrev pub many_store_of : {S F : Type 0} → Result (ManyOf S) (F × S) → S
 many_store_of answer = store_after (λ desk. desk.store) answer
 
--- What starting a desk answers, over an honest store: the sides that have landed.
+-- States the answer of starting a desk over an honest store: it holds the sides that have landed.
 abbrev pub StartsMany : {S : Type 0} → Option (List ℕ) → Option NextCall → Result (ManyOf S) (DeskFault × S) →
     Type 0
 StartsMany landed plan answer =
@@ -229,32 +241,34 @@ StartsMany landed plan answer =
 
 -- ---- the parts of these calls
 
--- whether a transaction may begin
+-- States the answer to a new transaction: done if it may begin and there is room, or else the fault.
 abbrev pub MayBegin : Bool → Bool → Result (Unit {0}) DeskFault → Type 0
 MayBegin begins has_room (Ok done) = (begins ≡ true) × (has_room ≡ true)
 MayBegin begins has_room (Err NoSuchTransaction) = begins ≡ false
 MayBegin begins has_room (Err DeskFull) = (begins ≡ true) × (has_room ≡ false)
 MayBegin begins has_room (Err fault) = ⊥
 
--- What an idle side does first, and how it stands then. Memory is wanted only where it would do it.
+-- States the answer to the first action of an idle side: the side after it, or that memory ran out.
+-- Memory can run out only for an action that would be done.
 abbrev pub FirstActs : Side → Action → Result Side DeskFault → Type 0
 FirstActs idle action (Ok new) = acts idle action ≡ Ok new
 FirstActs idle action (Err OutOfMemory) = is_ok (acts idle action) ≡ true
 FirstActs idle action (Err fault) = ⊥
 
+-- States the answer to the first APDU of an idle side: the side after it, or that memory ran out.
 abbrev pub FirstTakes : Side → Apdu → Result Side DeskFault → Type 0
 FirstTakes idle a (Ok new) = takes idle a ≡ (Ok Taken, new)
 FirstTakes idle a (Err OutOfMemory) = Unit {0}
 FirstTakes idle a (Err fault) = ⊥
 
--- what bytes are read as
+-- States the sides that `bytes` encode, or their fault. Memory can run out.
 abbrev pub LoadsSides : List ℕ → Result SidesOf DeskFault → Type 0
 LoadsSides bytes (Ok all) = records_at bytes ≡ Ok all
 LoadsSides bytes (Err (Saved fault)) = Decodes (records_at bytes) (begins_as_records bytes) (Err fault)
 LoadsSides bytes (Err OutOfMemory) = Unit {0}
 LoadsSides bytes (Err other) = ⊥
 
--- where there are no bytes, none of the role, which wants no memory
+-- States the sides that `bytes` encode, or their fault. If there are no bytes, there are no sides.
 abbrev pub LoadsOrNone : Option (List ℕ) → Role → Result SidesOf DeskFault → Type 0
 LoadsOrNone (Some bytes) role answer = LoadsSides bytes answer
 LoadsOrNone None role answer = answer ≡ Ok (record { role = role; sides = [] })

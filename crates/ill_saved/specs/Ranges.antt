@@ -9,18 +9,18 @@ use Rattle.ill_saved.specs.declared.side.Side.{Side}
 use Rattle.ill_saved.specs.declared.side.Side.TheVariants as sides
 use Rattle.ill_saved.specs.Side.{issued_of, IsConsistent}
 
--- each of the values
+-- `P` holds of each value in the list.
 unfoldable pub Each : {V : Type 0} → (V → Type 0) → List V → Type 0
 Each P [] = Unit {0}
 Each P (v ∷ values) = P v × Each P values
 
--- The parts of a requester are in range: in a clause that ranges over all records, a number is any
--- number.
+-- The parts of a requester are in range. A record may otherwise have any number at all.
 pub record RequesterInRange (x : RequesterRecord) : Type 0 where
   pub txn : AreQualifiers x.txn
   pub held : IfSome x.held IsNumber
   pub due : IfSome x.due IsDate
 
+-- The parts of a responder are in range.
 pub record ResponderInRange (y : ResponderRecord) : Type 0 where
   pub txn : AreQualifiers y.txn
   pub accepted : IfSome y.accepted IsNumber
@@ -28,16 +28,17 @@ pub record ResponderInRange (y : ResponderRecord) : Type 0 where
   pub last_renew : IfSome y.last_renew IsNumber
   pub request : IfSome y.request IsApdu
 
+-- The parts of the side are in range.
 abbrev pub PartsInRange : Side → Type 0
 PartsInRange (sides.Requester x) = RequesterInRange x
 PartsInRange (sides.Responder y) = ResponderInRange y
 
--- and so is each APDU that was issued
+-- The parts of the side and each APDU that it has issued are in range. It has issued at most 255.
 pub record IsInRange (side : Side) : Type 0 where
   pub parts : PartsInRange side
   pub issued : Each IsApdu (issued_of side)
   pub few : length (issued_of side) ≤ 255
 
--- a side that there can be
+-- The side is consistent and in range.
 abbrev pub IsSide : Side → Type 0
 IsSide side = IsConsistent side × IsInRange side

@@ -1,4 +1,4 @@
--- The saved record of one side in a transaction, version 1: its bytes (this profile's own).
+-- The bytes of the saved record of one side in a transaction, version 1 (this profile's own).
 use Rattle.std.specs.Prelude.{◌≡◌, ℕ, Bool, true, false, ◌==◌, if◌then◌else◌, List, [], ◌∷◌, ◌++◌, Option, Some, None, Result, Ok, Err, is_ok, find}
 use Rattle.std.specs.Str.{bytes_eq}
 use Rattle.std.specs.Result.{result_ok}
@@ -19,7 +19,7 @@ use Rattle.ill_saved.specs.declared.side.Side.TheVariants as sides
 use Rattle.ill_saved.specs.Side.{role_of, keeps_rules}
 use Rattle.ill_saved.specs.Layout.{Field, sized, octet, followed_by, constant, optional_number, mark, counted_text, apdu, ill_request, marked, counted, ended, record_fault}
 
--- the octet of a state
+-- Returns the octet of a state. PENDING and IN-PROCESS have one octet, since no role has both.
 abbrev pub state_code : State → ℕ
 state_code Idle = 0
 state_code Pending = 1
@@ -38,51 +38,59 @@ state_code Recall = 12
 state_code Returned = 13
 state_code CheckedIn = 14
 
+-- The states of a requester.
 abbrev pub requester_states : List State
 requester_states =
     Idle ∷ Pending ∷ Conditional ∷ CancelPending ∷ Cancelled ∷ NotSupplied ∷ Shipped ∷ Received
     ∷ RenewPending ∷ Overdue ∷ RenewOverdue ∷ NotReceivedOverdue ∷ Recall ∷ Returned ∷ []
 
+-- The states of a responder.
 abbrev pub responder_states : List State
 responder_states =
     Idle ∷ InProcess ∷ Conditional ∷ CancelPending ∷ Cancelled ∷ NotSupplied ∷ Shipped
     ∷ RenewPending ∷ Overdue ∷ RenewOverdue ∷ Recall ∷ Returned ∷ CheckedIn ∷ []
 
--- the state of a role with an octet
+-- Returns the state among `states` with octet `n`, if there is one.
 abbrev pub state_with : List State → ℕ → Option State
 state_with states n = find (λ state. n == state_code state) states
 
+-- Returns the field of a state among `states`, in one octet.
 abbrev pub state_in : List State → Field State
 state_in states = octet state_code (state_with states)
 
--- a date text, or eight zeros where there is no date
+-- Eight zeros, the text of an absent date.
 abbrev pub no_date : List ℕ
 no_date = 48 ∷ 48 ∷ 48 ∷ 48 ∷ 48 ∷ 48 ∷ 48 ∷ 48 ∷ []
 
+-- Returns the text of the due date, or eight zeros if there is none.
 abbrev pub due_octets : Option Date → List ℕ
 due_octets None = no_date
 due_octets (Some due) = date_text due
 
+-- Returns the date as a due date, or nothing if no date was read.
 abbrev pub found_date : Option Date → Option (Option Date)
 found_date None = None
 found_date (Some due) = Some (Some due)
 
+-- Reads the text of a due date. Eight zeros are no date, and any other text that is no date is a fault.
 abbrev pub due_from : List ℕ → Option (Option Date)
 due_from text = if bytes_eq text no_date then Some None else found_date (result_ok (read_date text))
 
+-- The field of a due date, in eight bytes.
 abbrev pub due : Field (Option Date)
 due = sized 8 (record { spell = due_octets; read = due_from })
 
--- what a record of both roles begins with: the state and the two qualifiers
+-- Returns the field with which the record of either role begins: the state and the two qualifiers.
 abbrev pub front : List State → Field (State × (List ℕ × List ℕ))
 front states = followed_by (state_in states) (followed_by counted_text counted_text)
 
--- a requester's record: its front, the conditions held, the mark, the due date, and what was issued
+-- The rest of a requester's record. It has the number of the ILL-Answer whose conditions stand, the mark, the due
+-- date, and the issued APDUs.
 abbrev pub requester_rest : Field (Option ℕ × (Bool × (Option Date × List Apdu)))
 requester_rest = followed_by optional_number (followed_by mark (followed_by due (counted apdu)))
 
--- a responder's record: its front, the number accepted, the last Cancel and Renew, the mark, the
--- request, and what was issued
+-- The rest of a responder's record. It has the number accepted, those of the last Cancel and the last Renew, the
+-- mark, the request, and the issued APDUs.
 abbrev pub responder_rest : Field (Option ℕ
     × (Option ℕ × (Option ℕ × (Bool × (Option Apdu × List Apdu)))))
 responder_rest =
@@ -90,39 +98,44 @@ responder_rest =
     (followed_by optional_number (followed_by optional_number
     (followed_by mark (followed_by (marked ill_request) (counted apdu)))))
 
--- the octet of a role
+-- Returns the octet of a role.
 abbrev pub role_octet : Role → ℕ
 role_octet roles.Requester = 0
 role_octet roles.Responder = 1
 
+-- Returns the role of octet `n`: 0 is a requester, and 1 a responder.
 abbrev pub role_with : ℕ → Option Role
 role_with n =
     if n == 0 then Some roles.Requester else (if n == 1 then Some roles.Responder else None)
 
+-- The field of a role, in one octet.
 abbrev pub role : Field Role
 role = octet role_octet role_with
 
--- the four octets `ILL1`
+-- The four octets `ILL1`.
 abbrev pub version : Field (Unit {0} × (Unit {0} × (Unit {0} × Unit {0})))
 version =
     followed_by (constant 73) (followed_by (constant 76) (followed_by (constant 76) (constant 49)))
 
--- the version and the role
+-- The field with which a record begins: the version and the role.
 abbrev pub start : Field ((Unit {0} × (Unit {0} × (Unit {0} × Unit {0}))) × Role)
 start = followed_by version role
 
+-- Returns the version and the role, with which a record of this role begins.
 abbrev pub spell_start : Role → List ℕ
 spell_start role = start.spell ((tt, (tt, (tt, tt))), role)
 
+-- The fields of a requester's record, after the version and the role.
 abbrev pub requester_fields : Field ((State × (List ℕ × List ℕ))
     × (Option ℕ × (Bool × (Option Date × List Apdu))))
 requester_fields = followed_by (front requester_states) requester_rest
 
+-- The fields of a responder's record, after the version and the role.
 abbrev pub responder_fields : Field ((State × (List ℕ × List ℕ))
     × (Option ℕ × (Option ℕ × (Option ℕ × (Bool × (Option Apdu × List Apdu))))))
 responder_fields = followed_by (front responder_states) responder_rest
 
--- the one spelling of a record
+-- Returns the encoding of requester `x`, after the version and the role.
 abbrev pub spell_requester : RequesterRecord → List ℕ
 spell_requester x =
     requester_fields.spell (
@@ -130,6 +143,7 @@ spell_requester x =
       (x.held, (x.checked_in, (x.due, x.issued))),
     )
 
+-- Returns the encoding of responder `y`, after the version and the role.
 abbrev pub spell_responder : ResponderRecord → List ℕ
 spell_responder y =
     responder_fields.spell (
@@ -137,14 +151,16 @@ spell_responder y =
       (y.accepted, (y.last_cancel, (y.last_renew, (y.received, (y.request, y.issued))))),
     )
 
+-- Returns the encoding of a side, after the version and the role.
 abbrev pub spell_fields : Side → List ℕ
 spell_fields (sides.Requester x) = spell_requester x
 spell_fields (sides.Responder y) = spell_responder y
 
+-- Returns the encoding of a side: the version, the role and its fields. A side has only this one.
 unfoldable pub record_spelling : Side → List ℕ
 record_spelling side = spell_start (role_of side) ++ spell_fields side
 
--- the record of the fields that were read
+-- Reads the fields of a requester, and returns its side and the cursor after them.
 abbrev pub read_requester : Cursor → Result (Side × Cursor) LayoutFault
 read_requester left =
     requester_fields.read left >>= λ found.
@@ -156,6 +172,7 @@ read_requester left =
       found.1,
     )
 
+-- Reads the fields of a responder, and returns its side and the cursor after them.
 abbrev pub read_responder : Cursor → Result (Side × Cursor) LayoutFault
 read_responder left =
     responder_fields.read left >>= λ found.
@@ -167,51 +184,52 @@ read_responder left =
       found.1,
     )
 
+-- Reads the fields of a side of this role, and returns the side and the cursor after them.
 abbrev pub read_fields : Role → Cursor → Result (Side × Cursor) LayoutFault
 read_fields roles.Requester left = read_requester left
 read_fields roles.Responder left = read_responder left
 
--- all of what is left
+-- Returns the value that was read, if no byte is left after it.
 abbrev pub all_of : {V : Type 0} → Result (V × Cursor) LayoutFault → Result V LayoutFault
 all_of read = read >>= λ found. ended found.1 >>= λ _. Ok found.0
 
--- the side of a role that all of what is left spells, or the first fault
+-- Returns the side of this role that all bytes from the cursor on encode, or the first fault.
 abbrev pub side_at : Role → Cursor → Result Side LayoutFault
 side_at role left = all_of (read_fields role left)
 
--- The side that all of the bytes spell, or the first fault. Whether it keeps the rules of its role is
--- another question.
+-- Returns the side that all of the bytes encode, or the first fault. It need not keep the rules of its role.
 unfoldable pub side_spelled : List ℕ → Result Side LayoutFault
 side_spelled bytes = start.read (cursor_at 0 bytes) >>= λ start. side_at start.0.1 start.1
 
--- a side that was read, where it keeps the rules
+-- Returns a side that was read, if it is consistent, and otherwise `Inconsistent`.
 abbrev pub judged : Result Side LayoutFault → Result Side RecordFault
 judged (Ok side) = if keeps_rules side then Ok side else Err faults.Inconsistent
 judged (Err fault) = Err (record_fault fault)
 
--- the consistent side that all of the bytes spell, or the first fault
+-- Returns the consistent side that all of the bytes encode, or the first fault.
 unfoldable pub record_at : List ℕ → Result Side RecordFault
 record_at bytes = judged (side_spelled bytes)
 
--- the states of a role
+-- Returns the states of a role.
 abbrev pub states_of : Role → List State
 states_of roles.Requester = requester_states
 states_of roles.Responder = responder_states
 
--- whether the bytes begin as a record, up to its qualifiers, for which the first memory is taken
+-- Returns true if a state of this role and two qualifiers stand next. Decoding then takes its first memory.
 abbrev pub has_front : Role → Cursor → Bool
 has_front role left = is_ok ((front (states_of role)).read left)
 
+-- Returns true if a version and a role were read, and a state and two qualifiers stand after them.
 abbrev pub has_front_behind : Result (((Unit {0} × (Unit {0} × (Unit {0} × Unit {0}))) × Role) × Cursor)
     LayoutFault → Bool
 has_front_behind (Ok start) = has_front start.0.1 start.1
 has_front_behind (Err fault) = false
 
+-- Returns true if the bytes begin as a record, up to its qualifiers. Decoding then takes its first memory.
 unfoldable pub begins_as_record : List ℕ → Bool
 begins_as_record bytes = has_front_behind (start.read (cursor_at 0 bytes))
 
--- What decoding answers: what reading gives, or want of memory, and that only of bytes that begin so that
--- memory is taken.
+-- The answer of decoding is `read`. Memory can run out only if `begins` is true.
 abbrev pub Decodes : {X : Type 0} → Result X RecordFault → Bool → Result X RecordFault → Type 0
 Decodes read begins (Err faults.OutOfMemory) = begins ≡ true
 Decodes read begins answer = answer ≡ read

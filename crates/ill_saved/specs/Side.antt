@@ -1,5 +1,5 @@
--- One side of a transaction, whichever its role: what a library decides and what a message do to it
--- (this profile's own). Here the roles are told apart, so that no desk does it.
+-- A side of a transaction in either role: its actions, and the APDUs that it takes (this profile's own).
+-- Definitions here tell the roles apart, and a desk does not.
 use Rattle.std.specs.Prelude.{◌≡◌, ◌↔◌, ℕ, Bool, not, if◌then◌else◌, List, [], ◌∷◌, ◌++◌, Option, Some, None, true, false, is_ok, Result, Ok, Err}
 use Rattle.ill_values.specs.declared.apdu.Apdu.{Apdu}
 use Rattle.ill_values.specs.Day.{Date}
@@ -32,50 +32,55 @@ use Rattle.ill_saved.specs.declared.side.Standing.TheVariants as standings
 use Rattle.ill_saved.specs.declared.side.Action.{Action}
 use Rattle.ill_saved.specs.declared.side.Action.TheVariants as actions
 
+-- Returns the other role.
 abbrev pub other : Role → Role
 other roles.Requester = roles.Responder
 other roles.Responder = roles.Requester
 
+-- Returns the role of the side.
 abbrev pub role_of : Side → Role
 role_of (sides.Requester x) = roles.Requester
 role_of (sides.Responder y) = roles.Responder
 
--- the APDUs that a side has issued
+-- Returns the APDUs that the side has issued.
 abbrev pub issued_of : Side → List Apdu
 issued_of (sides.Requester x) = x.issued
 issued_of (sides.Responder y) = y.issued
 
+-- Returns the transaction of the side.
 abbrev pub txn_of : Side → Qualifiers
 txn_of (sides.Requester x) = x.txn
 txn_of (sides.Responder y) = y.txn
 
+-- Returns the state of the side.
 abbrev pub state_of : Side → State
 state_of (sides.Requester x) = x.state
 state_of (sides.Responder y) = y.state
 
--- it has issued and taken nothing
+-- Returns true if the side is in IDLE.
 abbrev pub is_idle : Side → Bool
 is_idle side = is_among (Idle ∷ []) (state_of side)
 
+-- Returns the due date that the side has on record, if there is one.
 abbrev pub due_date_of : Side → Option Date
 due_date_of (sides.Requester x) = x.due
 due_date_of (sides.Responder y) = due_of y
 
--- whether the side keeps the rules of its role
+-- Returns true if the record of the side keeps the rules of its role.
 abbrev pub keeps_rules : Side → Bool
 keeps_rules (sides.Requester x) = requesters.keeps_rules x
 keeps_rules (sides.Responder y) = responders.keeps_rules y
 
+-- The record of the side keeps the rules of its role.
 abbrev pub IsConsistent : Side → Type 0
 IsConsistent side = keeps_rules side ≡ true
 
--- where a side stands
+-- Returns the standing of the side.
 abbrev pub standing_of : Side → Standing
 standing_of (sides.Requester x) = standings.Requester (requesters.standing_of x)
 standing_of (sides.Responder y) = standings.Responder (responders.standing_of y)
 
--- The side where it stood so, and had issued the first so many of its messages. No side stands as one of
--- the other role.
+-- Returns the side with this standing and the first `count` of its messages. A standing of the other role gives none.
 abbrev pub back_to : Standing → ℕ → Side → Option Side
 back_to (standings.Requester s) count (sides.Requester x) =
     Some (sides.Requester (requesters.back_to s count x))
@@ -83,116 +88,117 @@ back_to (standings.Responder s) count (sides.Responder y) =
     Some (sides.Responder (responders.back_to s count y))
 back_to standing count side = None
 
--- A side goes back exactly where it becomes a consistent one so; else nothing changes.
+-- The side goes back exactly if the result is a consistent side. Otherwise nothing changes.
 abbrev pub GoesBack : Option Side → Bool → Side → Side → Type 0
 GoesBack None went old new = (went ≡ false) × (new ≡ old)
 GoesBack (Some back) went old new =
     ((went ≡ true) ↔ IsConsistent back) × (new ≡ (if went then back else old))
 
--- a responder that was asked
+-- Returns true if the side is a responder that was asked: its state is not IDLE.
 abbrev pub is_asked : Side → Bool
 is_asked (sides.Requester x) = false
 is_asked (sides.Responder y) = not (is_among (Idle ∷ []) y.state)
 
--- the ILL-Request that a responder was asked by
+-- Returns the ILL-Request of a responder, if it has one. A requester has none.
 abbrev pub request_of : Side → Option Apdu
 request_of (sides.Requester x) = None
 request_of (sides.Responder y) = y.request
 
--- a side that was asked stays so, and keeps its request
+-- If the old side was asked, the new one is asked too, and has its request.
 abbrev pub KeepsRequest : Side → Side → Type 0
 KeepsRequest old new =
     is_asked old ≡ true → (is_asked new ≡ true) × (request_of new ≡ request_of old)
 
--- the role that an action is for
+-- Returns the role that the action is for: a wish is a requester's, and a deed a responder's.
 abbrev pub role_for : Action → Role
 role_for (actions.Wish wish) = roles.Requester
 role_for (actions.Deed deed today) = roles.Responder
 
--- A request begins a requester's transaction; an ILL-Request, a responder's.
+-- Returns true if the action may begin a transaction: only the wish Request does.
 abbrev pub begins : Action → Bool
 begins (actions.Wish (wishes.Request expiry item)) = true
 begins action = false
 
--- the verb of an action
+-- Returns the verb of the action.
 abbrev pub verb_of : Action → Verb
 verb_of (actions.Wish wish) = wish_verb wish
 verb_of (actions.Deed deed today) = deed_verb deed
 
--- the verbs of the actions that have a place now
+-- Returns the verbs of the actions that the side may take now.
 abbrev pub verbs_of : Side → List Verb
 verbs_of (sides.Requester x) = requester_verbs x
 verbs_of (sides.Responder y) = responder_verbs y
 
--- whose turn it is, as far as a side knows
+-- Returns the turn, as far as the side knows it.
 abbrev pub turn_of : Side → Turn
 turn_of (sides.Requester x) = requester_turn x
 turn_of (sides.Responder y) = responder_turn y
 
--- the side of this role and transaction before its first message
+-- Returns the idle side of this role and transaction, which has issued nothing.
 abbrev pub idle_side : Role → Qualifiers → Side
 idle_side roles.Requester txn = sides.Requester (requester_of txn Idle None false None [])
 idle_side roles.Responder txn = sides.Responder (responder_of txn Idle None None None false None [])
 
--- what it was before its first message
+-- Returns the idle side that has the role and the transaction of this side.
 abbrev pub idle_of : Side → Side
 idle_of side = idle_side (role_of side) (txn_of side)
 
+-- Returns the result as a side, or its refusal.
 abbrev pub done_by : {R : Type 0} → (R → Side) → Result R Refusal → Result Side Refusal
 done_by make (Ok new) = Ok (make new)
 done_by make (Err refusal) = Err refusal
 
--- The side after an action, or why it is refused. A requester has wishes, and a responder deeds.
+-- Returns the side after the action, or the refusal. A deed of a requester or a wish of a responder is `WrongRole`.
 abbrev pub acts : Side → Action → Result Side Refusal
 acts (sides.Requester x) (actions.Wish wish) = done_by sides.Requester (requester_actions.acts x wish)
 acts (sides.Responder y) (actions.Deed deed today) =
     done_by sides.Responder (responder_actions.acts y deed today)
 acts side action = Err refusals.WrongRole
 
--- what an APDU does to a side
+-- Returns the answer of the side to an APDU, and the side after it.
 abbrev pub takes : Side → Apdu → Result Taking Refusal × Side
 takes (sides.Requester x) a =
     ((requester_deliveries.takes x a).0, sides.Requester (requester_deliveries.takes x a).1)
 takes (sides.Responder y) a =
     ((responder_deliveries.takes y a).0, sides.Responder (responder_deliveries.takes y a).1)
 
--- What a side answers to an action, and the side after it. Memory is wanted only where the action
--- would be done.
+-- States the answer of a side to an action, and the side after it. A refusal changes nothing.
+-- Only an action that would be done can run out of memory, and then nothing changes.
 abbrev pub Acts : Side → Action → Result (Unit {0}) Refusal → Side → Type 0
 Acts old action (Ok done) new = acts old action ≡ Ok new
 Acts old action (Err refusals.OutOfMemory) new = (is_ok (acts old action) ≡ true) × (new ≡ old)
 Acts old action (Err refusal) new = (acts old action ≡ Err refusal) × (new ≡ old)
 
--- Whether memory is taken for an APDU that would be taken: a responder's, which keeps it or issues the
--- answer to it. A requester takes none.
+-- Returns true if a responder needs memory for an APDU: to keep it, or to issue an answer.
+-- A requester needs none.
 abbrev pub takes_memory : Side → Apdu → Bool
 takes_memory (sides.Requester x) a = false
 takes_memory (sides.Responder y) a = responder_deliveries.takes_memory y a.body
 
--- Memory ran out for an APDU that would be taken and takes memory, and nothing has changed.
+-- The side would take APDU `a` and needs memory for it, memory ran out, and nothing has changed.
 abbrev pub WantsMemoryFor : Side → Apdu → Side → Type 0
 WantsMemoryFor old a new =
     ((takes old a).0 ≡ Ok Taken) × (takes_memory old a ≡ true) × (new ≡ old)
 
--- What a side answers to an APDU, and the side after it.
+-- States the answer of a side to an APDU, and the side after it.
 abbrev pub Takes : Side → Apdu → Result Taking Refusal → Side → Type 0
 Takes old a (Err refusals.OutOfMemory) new = WantsMemoryFor old a new
 Takes old a answer new = takes old a ≡ (answer, new)
 
--- one row of its tables leads a side to another
+-- One row leads from the old side to the new one: an action that is done, or an APDU.
 pub data IsRow (old new : Side) : Type 0 where
   acted : (action : Action) → acts old action ≡ Ok new → IsRow old new
   took : (a : Apdu) → (takes old a).1 ≡ new → IsRow old new
 
--- rows lead a side to another, one after another
+-- Any number of rows, one after another, lead from the old side to the new one.
 pub data Follows (old : Side) : Side → Type 0 where
   same : Follows old old
   further : (between new : Side) → Follows old between → IsRow between new → Follows old new
 
--- one list is the front of another
+-- List `front` is a prefix of list `apdus`.
 abbrev pub IsFrontOf : List Apdu → List Apdu → Type 0
 IsFrontOf front apdus = (more : List Apdu) × (apdus ≡ front ++ more)
 
--- a row keeps the role and the transaction, and takes no message away
+-- The new side keeps the role and the transaction. The messages of the old one are a prefix of its own.
 abbrev pub Grows : Side → Side → Type 0
 Grows old new = (idle_of new ≡ idle_of old) × IsFrontOf (issued_of old) (issued_of new)

@@ -1,4 +1,4 @@
--- What a store of one record promises (this profile's own).
+-- The promises of a store of one record (this profile's own).
 use Rattle.std.specs.Prelude.{◌≡◌, ◌⊎◌, ℕ, ◌+◌, ◌<◌, ◌≤◌, min, nat_lt, if◌then◌else◌, Bool, true, List, [], length, codes, Option, Some, None, is_some, option_map, Result, Ok, Err, IfOk}
 use Rattle.std.specs.Path.{path_parent}
 use Rattle.ill_saved.specs.declared.store.StoreFault.{StoreFault}
@@ -6,7 +6,8 @@ use Rattle.ill_saved.specs.declared.store.StoreFault.TheVariants.{Failed, TooLar
 use Rattle.ill_saved.specs.declared.store.NextCall.{NextCall}
 use Rattle.ill_saved.specs.declared.store.NextCall.TheVariants.{Works, FailsOld, FailsNew}
 
--- what the plan of a store lets its next call answer
+-- The plan of a store allows this answer to its next call.
+-- A store that is to work fails only if memory runs out. One that is to fail answers `Failed` or `OutOfMemory`.
 abbrev pub Allows : {X : Type 0} → Option NextCall → Result X StoreFault → Type 0
 Allows (Some Works) (Err Failed) = ⊥
 Allows (Some Works) (Err TooLarge) = ⊥
@@ -16,13 +17,13 @@ Allows (Some FailsNew) (Ok value) = ⊥
 Allows (Some FailsNew) (Err TooLarge) = ⊥
 Allows plan answer = Unit {0}
 
--- what has landed after a save that failed
+-- States the landed bytes after a save that failed: the old bytes or the new ones. A plan to fail says which.
 abbrev pub LandsAtFailure : Option NextCall → List ℕ → Option (List ℕ) → Option (List ℕ) → Type 0
 LandsAtFailure (Some FailsOld) bytes old new = new ≡ old
 LandsAtFailure (Some FailsNew) bytes old new = new ≡ Some bytes
 LandsAtFailure plan bytes old new = (new ≡ old) ⊎ (new ≡ Some bytes)
 
--- what has landed after a save
+-- States the landed bytes after a save. A done save lands `bytes`; if memory runs out, nothing lands.
 abbrev pub LandsAtSave : Option NextCall → List ℕ → Result (Unit {0}) StoreFault → Option (List ℕ) →
     Option (List ℕ) → Type 0
 LandsAtSave plan bytes (Ok done) old new = new ≡ Some bytes
@@ -30,45 +31,49 @@ LandsAtSave plan bytes (Err Failed) old new = LandsAtFailure plan bytes old new
 LandsAtSave plan bytes (Err TooLarge) old new = ⊥
 LandsAtSave plan bytes (Err OutOfMemory) old new = new ≡ old
 
--- A plan is spent by a call.
+-- Returns the plan after a call. A planned store works next; one without a plan has none.
 abbrev pub spent : Option NextCall → Option NextCall
 spent None = None
 spent (Some plan) = Some Works
 
+-- The maximum of a count of failures: 2^64 - 1.
 abbrev pub most_failures : ℕ
 most_failures = 18446744073709551615
 
--- A count of failures rises by one, up to the most.
+-- Returns the count of failures after one more, up to the maximum.
 abbrev pub one_more : ℕ → ℕ
 one_more count = if nat_lt count most_failures then count + 1 else count
 
--- the count of failures has risen, or can rise no more
+-- The count of failures has risen, or is at its maximum.
 abbrev pub HasRisen : ℕ → ℕ → Type 0
 HasRisen old new = (old < new) ⊎ (most_failures ≤ new)
 
+-- If the call answers `Failed`, the count of failures has risen, or is at its maximum.
 abbrev pub FailsCounted : {X : Type 0} → Result X StoreFault → ℕ → ℕ → Type 0
 FailsCounted (Err Failed) old new = HasRisen old new
 FailsCounted answer old new = Unit {0}
 
--- The count of failures never falls, and a call fails only where it has risen, or can rise no more.
+-- The count of failures never falls. If the call answers `Failed`, it has risen, or is at its maximum.
 abbrev pub CountsFailure : {X : Type 0} → Result X StoreFault → ℕ → ℕ → Type 0
 CountsFailure answer old new = (old ≤ new) × FailsCounted answer old new
 
+-- The answer is not `TooLarge`.
 abbrev pub IsNotTooLarge : Result (Unit {0}) StoreFault → Type 0
 IsNotTooLarge (Err TooLarge) = ⊥
 IsNotTooLarge answer = Unit {0}
 
--- ---- what each call does
+-- ---- the calls
 
--- the bytes that have landed, if any; how many calls have failed; whether the store does what its calls answer; and
--- the plan of the next call, if there is one
+-- The state of a store: its landed bytes, the number of failed calls, and the plan of its next call.
+-- `is_honest` is true if the store does what it answers.
 pub record StoreState : Type 0 where
   pub landed : Option (List ℕ)
   pub failures : ℕ
   pub is_honest : Bool
   pub plan : Option NextCall
 
--- What a load answers and leaves. An honest store gives what has landed, keeps it, and keeps to its plan.
+-- States the answer of a load and the store after it.
+-- An honest store gives the landed bytes, keeps them, and follows its plan.
 pub record StoreLoads {X : Type 0} (bytes_of : X → List ℕ) (old : StoreState) (answer : Result (Option X) StoreFault)
     (new : StoreState) : Type 0 where
   pub loaded : old.is_honest ≡ true → IfOk answer (λ found. option_map bytes_of found ≡ old.landed)
@@ -78,7 +83,8 @@ pub record StoreLoads {X : Type 0} (bytes_of : X → List ℕ) (old : StoreState
   pub honest : new.is_honest ≡ old.is_honest
   pub plan : new.plan ≡ spent old.plan
 
--- What a save answers and leaves. In an honest store the bytes land as it answers, and it keeps to its plan.
+-- States the answer of a save and the store after it.
+-- In an honest store the bytes land as it answers, and it follows its plan.
 pub record StoreSaves (bytes : List ℕ) (old : StoreState) (answer : Result (Unit {0}) StoreFault) (new : StoreState)
     : Type 0 where
   pub planned : old.is_honest ≡ true → Allows old.plan answer
@@ -90,29 +96,29 @@ pub record StoreSaves (bytes : List ℕ) (old : StoreState) (answer : Result (Un
 
 -- ---- a store that fails from a call on
 
--- the store that its calls are passed on to, how many still are, and how many have failed here
+-- A fuse: the inner store, the number of calls that it still passes on, and its count of failures.
 pub record FuseOf (S : Type 0) : Type 0 where
   pub inner : S
   pub calls : ℕ
   pub failures : ℕ
 
--- the failures counted here and there, up to the most
+-- Returns the sum of the failures of the fuse and of its inner store, up to the maximum.
 abbrev pub failures_together : ℕ → ℕ → ℕ
 failures_together here there = min most_failures (here + there)
 
--- What is known of a fuse, by what is known of its inner store: that, but for the failures here, and the plan.
+-- Returns the state of a fuse: that of its inner store, with the failures of both, and without a plan.
 abbrev pub fuse_state : {S : Type 0} → (S → StoreState) → FuseOf S → StoreState
 fuse_state state fuse = record (state fuse.inner) {
   failures = failures_together fuse.failures (state fuse.inner).failures;
   plan = None;
 }
 
--- A call has failed here, and is counted.
+-- Returns the fuse after a call that failed here and is counted.
 abbrev pub blown : {S : Type 0} → FuseOf S → FuseOf S
 blown fuse = record fuse { failures = one_more fuse.failures }
 
--- A call that is passed on answers and leaves what the inner store answers and leaves, and one call less
--- is left; where none is left it fails, and the inner store is as it was.
+-- If calls are left, the inner store answers, and one call less is left.
+-- If none is left, the call answers `Failed`, and the inner store is unchanged.
 abbrev pub FuseCalls : {S A : Type 0} → (S → StoreState) → (StoreState → Result A StoreFault → StoreState → Type 0) →
     FuseOf S → Result A StoreFault → FuseOf S → Type 0
 FuseCalls state calls old answer new =
@@ -121,22 +127,22 @@ FuseCalls state calls old answer new =
 
 -- ---- a store in memory
 
--- what has landed, the count of failures, and the plan of the next call
+-- The state of a store in memory: the landed bytes, the count of failures, and the plan.
 pub record MemoryStoreState : Type 0 where
   pub landed : Option (List ℕ)
   pub failures : ℕ
   pub next : NextCall
 
--- A call has spent the plan.
+-- Returns the store after a call that spent its plan.
 abbrev pub called : MemoryStoreState → MemoryStoreState
 called store = record store { next = Works }
 
--- A call has failed as planned, and is counted.
+-- Returns the store after a call that failed as planned and is counted.
 abbrev pub failed : MemoryStoreState → MemoryStoreState
 failed store = record store { failures = one_more store.failures; next = Works }
 
--- What a load answers by its plan, and the store after it. Only a load that works takes memory,
--- where something has landed.
+-- States the answer of a load by its plan, and the store after it.
+-- Memory can run out only if the load works and bytes have landed.
 abbrev pub MemoryLoads : {X : Type 0} → (X → List ℕ) → NextCall → MemoryStoreState →
     Result (Option X) StoreFault →
     MemoryStoreState → Type 0
@@ -147,8 +153,8 @@ MemoryLoads bytes_of Works old (Err other) new = ⊥
 MemoryLoads bytes_of FailsOld old answer new = (answer ≡ Err Failed) × (new ≡ failed old)
 MemoryLoads bytes_of FailsNew old answer new = (answer ≡ Err Failed) × (new ≡ failed old)
 
--- What a save answers by its plan, and the store after it. One that is to fail and leave the old
--- bytes takes no memory.
+-- States the answer of a save by its plan, and the store after it.
+-- A save that fails and keeps the old bytes takes no memory.
 abbrev pub MemorySaves : NextCall → List ℕ → MemoryStoreState → Result (Unit {0}) StoreFault → MemoryStoreState → Type 0
 MemorySaves Works bytes old (Ok done) new = new ≡ called (record old { landed = Some bytes })
 MemorySaves Works bytes old (Err OutOfMemory) new = new ≡ called old
@@ -160,35 +166,35 @@ MemorySaves FailsNew bytes old answer new = ⊥
 
 -- ---- a store in a file
 
--- the path of the file, how many bytes a record may have, and the count of failures
+-- The state of a store in a file: its path, the limit of a record, and the count of failures.
 pub record FileStoreState : Type 0 where
   pub path : List ℕ
   pub limit : ℕ
   pub failures : ℕ
 
--- A call has failed, and is counted.
+-- Returns the store after a call that failed and is counted.
 abbrev pub failed_file : FileStoreState → FileStoreState
 failed_file store = record store { failures = one_more store.failures }
 
--- What a load answers, and the store after it: no record that is too long, and a failure only where
--- it was counted.
+-- States the answer of a load, and the store after it. No record is longer than the limit, and each failure is counted.
 abbrev pub FileLoads : {X : Type 0} → (X → List ℕ) → FileStoreState → Result (Option X) StoreFault → FileStoreState →
     Type 0
 FileLoads bytes_of old (Ok (Some found)) new = (length (bytes_of found) ≤ old.limit) × (new ≡ old)
 FileLoads bytes_of old (Err Failed) new = new ≡ failed_file old
 FileLoads bytes_of old answer new = new ≡ old
 
--- What a save answers, and the store after it: it works or fails, and counts a failure.
+-- States the answer of a save, and the store after it: it is done, or fails and is counted.
 abbrev pub FileSaves : FileStoreState → Result (Unit {0}) StoreFault → FileStoreState → Type 0
 FileSaves old (Ok done) new = new ≡ old
 FileSaves old (Err Failed) new = new ≡ failed_file old
 FileSaves old (Err other) new = ⊥
 
--- the folder that holds the file at a path: its parent, or `.` where it has none
+-- Returns the folder, or `.` if there is none or if it is empty.
 abbrev pub folder_named : Option (List ℕ) → List ℕ
 folder_named None = codes "."
 folder_named (Some []) = codes "."
 folder_named (Some folder) = folder
 
+-- Returns the folder that holds the file at `path`: its parent, or `.` if it has none.
 abbrev pub folder_of : List ℕ → List ℕ
 folder_of path = folder_named (path_parent path)

@@ -1,4 +1,4 @@
-//! What is left to read of a saved record.
+//! The unread rest of a saved record.
 
 ghost use Rattle.std.specs.Prelude.{◌≡◌, ◌+◌, ◌*◌, ◌≤◌, length, IfOk, OnOk};
 ghost use Rattle.ill_values.specs.Text.{IsQualifier};
@@ -33,28 +33,28 @@ impl<'a> Model for Cursor<'a> {
 }
 
 impl<'a> Cursor<'a> {
-    /// A cursor at the first byte of a record.
+    /// Returns the cursor at the first byte of a record.
     pub fn new(bytes: &'a [u8]) -> Cursor<'a>
         ensures { result ≡ cursor_at 0 bytes.entry.now }
     {
         Cursor { at: 0, bytes }
     }
 
-    /// A cursor behind so many bytes of a record, at these.
+    /// Returns the cursor at offset `at` of a record, whose rest is `bytes`.
     pub fn behind(at: u32, bytes: &'a [u8]) -> Cursor<'a>
         ensures { result ≡ cursor_at at bytes.entry.now }
     {
         Cursor { at, bytes }
     }
 
-    /// The offset of the first byte that is not read.
+    /// Returns the offset of the first unread byte.
     pub fn at(&self) -> u32
         ensures { result ≡ self.now.at }
     {
         self.at
     }
 
-    /// Checks that all bytes were read. Otherwise the fault is `Bad` at the first that was not.
+    /// Checks that all bytes were read. Otherwise the fault is `Bad` at the first unread byte.
     pub fn ended(&self) -> Result<(), LayoutFault>
         ensures { result ≡ ended self.now }
     {
@@ -65,7 +65,7 @@ impl<'a> Cursor<'a> {
         }
     }
 
-    /// Reads so many bytes.
+    /// Reads `size` bytes.
     pub fn bytes(&mut self, size: usize) -> Result<&'a [u8], LayoutFault>
         requires room { self.old.at ≤ 100000000 }
         requires few { size ≤ 65535 }
@@ -108,7 +108,7 @@ impl<'a> Cursor<'a> {
         Ok(usize::from(u16::from_be_bytes([octets[0], octets[1]])))
     }
 
-    /// Reads how many sides there are.
+    /// Reads the number of sides.
     pub fn side_count(&mut self) -> Result<u16, LayoutFault>
         requires room { self.old.at ≤ 1000 }
         ensures read { Reads (λ n. n) result self.new (side_count.read self.old) }
@@ -125,7 +125,7 @@ impl<'a> Cursor<'a> {
         }
     }
 
-    /// Reads an octet of this one value.
+    /// Reads the octet `value`, and no other.
     pub fn constant(&mut self, value: u8) -> Result<(), LayoutFault>
         requires room { self.old.at ≤ 100000000 }
         ensures read { Reads (λ v. v) result self.new ((constant value).read self.old) }
@@ -227,7 +227,7 @@ impl<'a> Cursor<'a> {
         }
     }
 
-    /// Reads a qualifier behind its length.
+    /// Reads a qualifier after its length.
     pub fn counted_text(&mut self) -> Result<&'a [u8], LayoutFault>
         requires room { self.old.at ≤ 1000000 }
         ensures read { Reads (λ text. text.now) result self.new (counted_text.read self.old) }

@@ -13,9 +13,9 @@ use ill_core::{Requester, Responder};
 use ill_values::{Apdu, TxnId};
 use std::alloc::Global;
 
-/// Decodes a saved record, which must take up all of the bytes, or gives their first fault.
+/// Decodes a saved record, or returns the first fault. The record must take up all of the bytes.
 ///
-/// Memory is taken as decoding goes on, from the qualifiers on.
+/// Decoding allocates step by step, from the qualifiers on.
 #[tactic(auto, unfolding(crate::specs::Records::record_at, crate::specs::Records::side_spelled, crate::specs::Records::begins_as_record))]
 pub fn decode_record(alloc: Global, bytes: &[u8]) -> Result<Side, RecordFault>
     ensures { Decodes (record_at bytes.now) (begins_as_record bytes.now) result }
@@ -105,7 +105,7 @@ fn read_txn(alloc: Global, cursor: &mut Cursor<'_>) -> Result<TxnId, RecordFault
     TxnId::new(alloc, group, transaction).map_err(|_| RecordFault::OutOfMemory)
 }
 
-/// Reads the count of the APDUs issued, and these.
+/// Reads the number of issued APDUs, and then each of them.
 fn read_issued(alloc: Global, cursor: &mut Cursor<'_>) -> Result<Vec<Apdu>, RecordFault>
     requires room { cursor.old.at ≤ 10000 }
     ensures { ReadsInMemory (λ apdus. apdus.items) result cursor.new
@@ -115,7 +115,7 @@ fn read_issued(alloc: Global, cursor: &mut Cursor<'_>) -> Result<Vec<Apdu>, Reco
     read_apdus(alloc, cursor, count)
 }
 
-/// Reads this number of APDUs.
+/// Reads `count` APDUs.
 #[tactic(auto, using(crate::proofs::Lists::behind_none))]
 fn read_apdus(alloc: Global, cursor: &mut Cursor<'_>, count: u8) -> Result<Vec<Apdu>, RecordFault>
     requires room { cursor.old.at ≤ 10001 }

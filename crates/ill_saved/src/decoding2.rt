@@ -16,16 +16,16 @@ use crate::sides::Sides;
 use sha2::{Digest, Sha256};
 use std::alloc::Global;
 
-/// How many octets the digest has.
+/// The length of the digest, in octets.
 const DIGEST_SIZE: usize = 32;
 
-/// The fewest octets of a record of version 2: the version, the role, the count and the digest.
+/// The minimum length of a record of version 2: the version, the role, the count and the digest.
 const SMALLEST: usize = 39;
 
-/// Decodes a saved record of many sides, which must take up all of the bytes, or gives their first fault.
+/// Decodes a saved record of many sides, or returns the first fault. The record must take up all of the bytes.
 ///
-/// Bytes that begin with `ILL1` are a record of one side: it is alone, and where it is idle there is none.
-/// Memory is taken as decoding goes on: from a count above 0 on, and in version 1 from the qualifiers on.
+/// Bytes that begin with `ILL1` are a record of one side. It is the only side, or there is none if it is idle.
+/// Decoding allocates step by step: from a count above 0 on, and in version 1 from the qualifiers on.
 #[tactic(auto, unfolding(crate::specs::Records2::records_at, crate::specs::Records2::begins_as_records))]
 pub fn decode_record2(alloc: Global, bytes: &[u8]) -> Result<Sides, RecordFault>
     ensures { Decodes (records_at bytes.now) (begins_as_records bytes.now) result }
@@ -37,7 +37,7 @@ pub fn decode_record2(alloc: Global, bytes: &[u8]) -> Result<Sides, RecordFault>
     }
 }
 
-/// The side of a record of version 1, alone.
+/// Decodes a record of version 1, as the only side.
 fn one_side(alloc: Global, bytes: &[u8]) -> Result<Sides, RecordFault>
     ensures { Decodes (read_alone (record_at bytes.now)) (begins_as_record bytes.now) result }
 {
@@ -49,7 +49,7 @@ fn one_side(alloc: Global, bytes: &[u8]) -> Result<Sides, RecordFault>
     Ok(sides)
 }
 
-/// What stands between the version and the digest, where both are right.
+/// Returns the octets between the version and the digest, if both are right.
 #[tactic(auto, unfolding(crate::specs::Records2::unsealed))]
 fn unsealed(bytes: &[u8]) -> Result<&[u8], RecordFault>
     ensures octets { IfOk result (λ octets. unsealed bytes.now ≡ Ok octets.now) }
@@ -69,7 +69,7 @@ fn unsealed(bytes: &[u8]) -> Result<&[u8], RecordFault>
     }
 }
 
-/// The sides of a record of version 2, from what stands between its version and its digest.
+/// Decodes the sides of a record of version 2, from the octets between its version and its digest.
 fn many_sides(alloc: Global, octets: &[u8]) -> Result<Sides, RecordFault>
     ensures { Decodes (sides_at octets.now) (has_sides octets.now) result }
 {
@@ -81,7 +81,7 @@ fn many_sides(alloc: Global, octets: &[u8]) -> Result<Sides, RecordFault>
     held_together(alloc, role, sides)
 }
 
-/// Reads this number of records, each behind its length.
+/// Reads `count` records, each after its length.
 #[tactic(auto, using(crate::proofs::Lists::behind_none))]
 fn parts(alloc: Global, cursor: &mut Cursor<'_>, count: u16) -> Result<Vec<Side>, RecordFault>
     requires room { cursor.old.at ≤ 7 }
@@ -98,7 +98,7 @@ fn parts(alloc: Global, cursor: &mut Cursor<'_>, count: u16) -> Result<Vec<Side>
     Ok(sides)
 }
 
-/// Reads a record behind its length. Whatever is wrong with it is wrong at its first byte.
+/// Reads a record after its length. Each fault in the record is at its first byte.
 fn part(alloc: Global, cursor: &mut Cursor<'_>) -> Result<Side, RecordFault>
     requires room { cursor.old.at ≤ 70000000 }
     ensures read { ReadsInMemory (λ side. side) result cursor.new (part.read cursor.old) }
@@ -119,7 +119,7 @@ fn part(alloc: Global, cursor: &mut Cursor<'_>) -> Result<Side, RecordFault>
     }
 }
 
-/// The sides, if they may be held together.
+/// Returns the sides of `read`, if they may be held together, and otherwise `Inconsistent`.
 fn held_together(alloc: Global, role: Role, read: Vec<Side>) -> Result<Sides, RecordFault>
     requires few { length read.items ≤ most_sides }
     ensures { Decodes (together (record { role = role; sides = read.items })) (nat_lt 0 (length read.items)) result }
@@ -131,7 +131,7 @@ fn held_together(alloc: Global, role: Role, read: Vec<Side>) -> Result<Sides, Re
     Ok(sides)
 }
 
-/// Puts a side behind the others, or says that it may not stand with them.
+/// Puts `side` after the others, or answers `Inconsistent` if it may not stand with them.
 fn put(alloc: Global, sides: &mut Sides, side: Side) -> Result<(), RecordFault>
     ensures { PutsRead sides.old side result sides.new }
 {

@@ -26,8 +26,8 @@ use std::marker::Model;
 
 /// One side of a transaction, in memory and in a store. A message may be sent only once it is saved.
 ///
-/// The desk keeps the last record that its own `save`, `start` or `restart` knows to have landed: a
-/// message is sent from its bytes, and the next save copies the messages that it has.
+/// The desk keeps the last record that its own `save`, `start` or `restart` knows to have landed. It sends
+/// messages from those bytes, and the next save copies them.
 #[derive(Debug, Drop)]
 pub struct Desk1<S: Store> {
     live: Side,
@@ -54,8 +54,8 @@ impl<S: Store> Model for Desk1<S> {
 }
 
 impl<S: Store> Desk1<S> {
-    /// A desk for a side that begins, over a store without a record (else `Exists`). Nothing is
-    /// saved yet. A fault gives the store back.
+    /// Creates a desk for the idle side `first`, over a store without a record (else `Exists`). Saves nothing yet.
+    /// A fault returns the store.
     pub fn create(alloc: Global, store: S, first: Side) -> Result<Desk1<S>, (DeskFault, S)>
         requires idle { first ≡ idle_of first }
         ensures creates { (S.state store).is_honest ≡ true →
@@ -77,8 +77,8 @@ impl<S: Store> Desk1<S> {
         }
     }
 
-    /// A desk for the side whose record the store has (else `NoRecord`). All its messages may be
-    /// sent. A fault gives the store back.
+    /// Starts a desk with the side whose record `store` has (else `NoRecord`). All its messages may be sent.
+    /// A fault returns the store.
     pub fn start(alloc: Global, store: S) -> Result<Desk1<S>, (DeskFault, S)>
         ensures starts { (S.state store).is_honest ≡ true → Starts (S.state store).landed (S.state store).plan result }
         ensures whole { IfOk result IsWhole }
@@ -102,7 +102,7 @@ impl<S: Store> Desk1<S> {
         }
     }
 
-    /// Does what the library decides. The message that is issued may be sent after the next `save`.
+    /// Performs `action`. The message that it issues may be sent after the next `save`.
     pub fn act(&mut self, alloc: Global, action: &Action) -> Result<(), DeskFault>
         ensures acts { DeskActs self.old.live action.now result self.new.live }
         ensures store { self.new.store ≡ self.old.store }
@@ -134,8 +134,8 @@ impl<S: Store> Desk1<S> {
         Ok(self.live.take(alloc, apdu)?)
     }
 
-    /// Saves the side, so that all its messages may be sent. After a fault the side, and which
-    /// messages may be sent, are as before. All the desk's memory is taken before the store is called.
+    /// Saves the side, so that all its messages may be sent. A fault leaves the side and the released messages
+    /// as they were. The desk allocates all its memory before it calls the store.
     pub fn save(&mut self, alloc: Global) -> Result<(), DeskFault>
         ensures live { self.new.live ≡ self.old.live }
         ensures released { self.new.released ≡
@@ -153,9 +153,8 @@ impl<S: Store> Desk1<S> {
         Ok(())
     }
 
-    /// Goes back to the side in the store, all of whose messages may be sent, or to one that begins
-    /// if the store has none. After a fault the side, and which messages may be sent, are as
-    /// before.
+    /// Goes back to the side in the store, or to the idle side if the store has none. All its messages may be sent.
+    /// A fault leaves the side and the released messages as they were.
     pub fn restart(&mut self, alloc: Global) -> Result<(), DeskFault>
         ensures restarts { (S.state self.old.store).is_honest ≡ true →
             Restarts (landed_side (S.state self.old.store).landed self.old.live) (S.state self.old.store).plan
@@ -175,8 +174,8 @@ impl<S: Store> Desk1<S> {
         Ok(())
     }
 
-    /// The bytes of the message with this number, to send it: a copy of those in the record that has
-    /// landed. It must have been issued (else `NoSuchMessage`) and saved (else `NotSaved`).
+    /// Returns the bytes of message `number`, to send it: a copy of those in the landed record. The message must
+    /// be issued (else `NoSuchMessage`) and saved (else `NotSaved`).
     pub fn message(&self, alloc: Global, number: Number) -> Result<Vec<u8>, DeskFault>
         ensures { Sends (λ bytes. bytes.items) (message (issued_of self.now.live) number)
             (nat_le number self.now.released) result }
@@ -190,7 +189,7 @@ impl<S: Store> Desk1<S> {
         Ok(Vec::from_slice(alloc, self.kept.message(number))?)
     }
 
-    /// The side, as it is in memory.
+    /// Returns the side in memory.
     pub fn side(&self) -> &Side
         ensures value { result.now ≡ self.now.live }
         ensures issued { self.now.released ≤ length (issued_of self.now.live) }
@@ -200,14 +199,14 @@ impl<S: Store> Desk1<S> {
         &self.live
     }
 
-    /// The store, with what has landed there. The side in memory is let go.
+    /// Returns the store with its landed bytes. Drops the side in memory.
     pub fn close(self) -> S
         ensures { result ≡ self.store }
     {
         self.store
     }
 
-    /// How many messages may be sent: those with numbers up to this one.
+    /// Returns the number of released messages. Those with numbers up to it may be sent.
     pub fn released(&self) -> u8
         ensures { result ≡ self.now.released }
     {
@@ -224,7 +223,7 @@ impl Desk1<MemoryStore> {
     }
 }
 
-/// The APDU that the bytes are.
+/// Reads the one APDU that takes up all of the bytes.
 pub(crate) fn one_apdu(alloc: Global, bytes: &[u8]) -> Result<Apdu, DeskFault>
     ensures { IsOneApdu (apdu_at bytes.now) result }
 {
@@ -235,7 +234,7 @@ pub(crate) fn one_apdu(alloc: Global, bytes: &[u8]) -> Result<Apdu, DeskFault>
     }
 }
 
-/// The side that has landed in a store, if any.
+/// Loads the side that is durable in `store`, if there is one.
 fn load_side<S: Store>(store: &mut S, alloc: Global) -> Result<Option<Loaded>, DeskFault>
     ensures loads { (S.state store.old).is_honest ≡ true →
         LoadsSide (S.state store.old).landed (S.state store.old).plan (side_loaded result) }
@@ -249,7 +248,7 @@ fn load_side<S: Store>(store: &mut S, alloc: Global) -> Result<Option<Loaded>, D
     }
 }
 
-/// The side whose record these bytes are, with its record.
+/// Decodes the side that `bytes` encode, and keeps its record.
 fn load_record(alloc: Global, bytes: Vec<u8>) -> Result<Loaded, DeskFault>
     ensures loads { LoadsRecord bytes.items result }
     ensures faults { IfErr result IsLoadFault }
@@ -259,7 +258,7 @@ fn load_record(alloc: Global, bytes: Vec<u8>) -> Result<Loaded, DeskFault>
     Ok(Loaded { side, kept })
 }
 
-/// The side whose record these bytes are.
+/// Decodes the side that `bytes` encode.
 fn read_side(alloc: Global, bytes: &[u8]) -> Result<Side, RecordFault>
     ensures decodes { Decodes (record_at bytes.now) (begins_as_record bytes.now) result }
     ensures spelled { IfOk result (λ side. IsSide side × (bytes.now ≡ record_spelling side)) }
@@ -268,8 +267,8 @@ fn read_side(alloc: Global, bytes: &[u8]) -> Result<Side, RecordFault>
     decode_record(alloc, bytes)
 }
 
-/// The side whose record these bytes are, if any, or else the side of the same role and transaction
-/// before its first message, of which no record is kept.
+/// Decodes the side that `bytes` encode, and keeps its record. Without bytes, returns the idle side of `live`,
+/// of which no record is kept.
 fn load_or_idle(alloc: Global, bytes: Option<Vec<u8>>, live: &Side) -> Result<Loaded, DeskFault>
     ensures loads { LoadsOrIdle (option_map (λ b. b.items) bytes) live.now result }
     ensures faults { IfErr result IsLoadFault }

@@ -19,7 +19,7 @@ use ill_der::encode_onto;
 use ill_values::{Apdu, Day, Number, OutOfMemory, TxnId};
 use std::alloc::Global;
 
-/// Encodes a side as a saved record: its one spelling.
+/// Encodes `side` as a saved record. A side has only one encoding.
 pub fn encode_record(alloc: Global, side: &Side) -> Result<Vec<u8>, OutOfMemory>
     ensures bytes { IfOk result (λ bytes. bytes.items ≡ record_spelling side.now) }
     ensures side { OnOk result (IsSide side.now) }
@@ -27,8 +27,8 @@ pub fn encode_record(alloc: Global, side: &Side) -> Result<Vec<u8>, OutOfMemory>
     encode_behind(alloc, side, &[], side.all_issued())
 }
 
-/// Encodes a side of which the first messages are spelled already. These are copied, and the others,
-/// which are given, are spelled behind them.
+/// Encodes `side` as a saved record. Copies `known`, the encodings of its first messages, and encodes `others`
+/// after them.
 pub fn encode_behind(
     alloc: Global,
     side: &Side,
@@ -46,7 +46,7 @@ pub fn encode_behind(
     Ok(bytes)
 }
 
-/// Adds the record of a side of which the first messages are spelled already, as above.
+/// Appends the record of `side` to `bytes`, with `known` and `others` as in `encode_behind`.
 #[tactic(auto, unfolding(crate::specs::Records::record_spelling))]
 pub fn push_record(
     bytes: &mut Vec<u8>,
@@ -69,7 +69,7 @@ pub fn push_record(
     push_apdus(bytes, others)
 }
 
-/// Adds all that stands before the messages issued.
+/// Appends all fields of a requester that come before its issued messages.
 fn push_requester(bytes: &mut Vec<u8>, requester: &Requester) -> Result<(), OutOfMemory>
     ensures bytes { OnOk result (bytes.new.items ++ (counted apdu).spell requester.now.issued ≡
         bytes.old.items ++ (spell_start roles.Requester ++ spell_requester requester.now)) }
@@ -84,7 +84,7 @@ fn push_requester(bytes: &mut Vec<u8>, requester: &Requester) -> Result<(), OutO
     push_due_octets(bytes, requester.due())
 }
 
-/// Adds all that stands before the messages issued.
+/// Appends all fields of a responder that come before its issued messages.
 fn push_responder(bytes: &mut Vec<u8>, responder: &Responder) -> Result<(), OutOfMemory>
     ensures bytes { OnOk result (bytes.new.items ++ (counted apdu).spell responder.now.issued ≡
         bytes.old.items ++ (spell_start roles.Responder ++ spell_responder responder.now)) }
@@ -104,7 +104,7 @@ fn push_responder(bytes: &mut Vec<u8>, responder: &Responder) -> Result<(), OutO
     push_request(bytes, responder.request())
 }
 
-/// Adds the state and the qualifiers of the transaction.
+/// Appends the state and the qualifiers of the transaction.
 fn push_front(bytes: &mut Vec<u8>, state: State, txn: &TxnId) -> Result<(), OutOfMemory>
     ensures bytes { OnOk result (bytes.new.items ≡ bytes.old.items
         ++ (front requester_states).spell (state, (txn.now.group, txn.now.transaction))) }
@@ -115,7 +115,7 @@ fn push_front(bytes: &mut Vec<u8>, state: State, txn: &TxnId) -> Result<(), OutO
     push_text(bytes, txn.transaction())
 }
 
-/// Adds a qualifier behind its length.
+/// Appends a qualifier after its length.
 fn push_text(bytes: &mut Vec<u8>, text: &[u8]) -> Result<(), OutOfMemory>
     requires few { length text.now ≤ 64 }
     ensures { OnOk result (bytes.new.items ≡ bytes.old.items ++ counted_text.spell text.now) }
@@ -136,7 +136,7 @@ fn push_due_octets(bytes: &mut Vec<u8>, due: Option<Day>) -> Result<(), OutOfMem
     Ok(())
 }
 
-/// Adds the ILL-Request, if there is one.
+/// Appends the ILL-Request, if there is one.
 fn push_request(bytes: &mut Vec<u8>, request: Option<&Apdu>) -> Result<(), OutOfMemory>
     ensures bytes { OnOk result (bytes.new.items ≡ bytes.old.items
         ++ (marked ill_request).spell (option_map (λ a. a.now) request.entry)) }
@@ -154,7 +154,7 @@ fn push_request(bytes: &mut Vec<u8>, request: Option<&Apdu>) -> Result<(), OutOf
     }
 }
 
-/// Adds the spellings of these APDUs.
+/// Appends the encodings of `apdus`.
 fn push_apdus(bytes: &mut Vec<u8>, apdus: &[Apdu]) -> Result<(), OutOfMemory>
     ensures bytes { OnOk result (bytes.new.items ≡ bytes.old.items
         ++ spell_all spelling apdus.now) }
@@ -166,7 +166,7 @@ fn push_apdus(bytes: &mut Vec<u8>, apdus: &[Apdu]) -> Result<(), OutOfMemory>
     Ok(())
 }
 
-/// The octet of a number, or 0 where there is none.
+/// Returns the octet of a number, or 0 if there is none.
 fn number_octet(number: Option<Number>) -> u8
     ensures bytes { result ≡ number_octet number }
     ensures range { IfSome number IsNumber }
@@ -177,7 +177,7 @@ fn number_octet(number: Option<Number>) -> u8
     }
 }
 
-/// The octet of a state.
+/// Returns the octet of a state.
 fn state_code(state: State) -> u8
     ensures { result ≡ state_code state }
 {

@@ -15,10 +15,9 @@ use ill_values::OutOfMemory;
 use sha2::{Digest, Sha256};
 use std::alloc::Global;
 
-/// Encodes the sides as one saved record, of version 2: their one spelling, which the SHA-256 of all before
-/// closes.
+/// Encodes the sides as one saved record, of version 2. The SHA-256 of all before it closes the record.
 ///
-/// Each side is spelled into a buffer that serves them all, and copied behind its length.
+/// Encodes each side into one buffer, and copies it from there after its length.
 #[tactic(auto, unfolding(crate::specs::Records2::sides_spelling))]
 pub fn encode_record2(alloc: Global, sides: &Sides) -> Result<Vec<u8>, OutOfMemory>
     ensures bytes { IfOk result (λ bytes. bytes.items ≡ sides_spelling sides.now) }
@@ -34,7 +33,7 @@ pub fn encode_record2(alloc: Global, sides: &Sides) -> Result<Vec<u8>, OutOfMemo
     Ok(bytes)
 }
 
-/// Adds the records of the sides, each behind its length.
+/// Appends the records of the sides, each after its length.
 fn push_parts(alloc: Global, bytes: &mut Vec<u8>, sides: &Sides) -> Result<(), OutOfMemory>
     ensures bytes { OnOk result (bytes.new.items ≡ bytes.old.items
         ++ spell_all part.spell sides.now.sides) }
@@ -49,7 +48,7 @@ fn push_parts(alloc: Global, bytes: &mut Vec<u8>, sides: &Sides) -> Result<(), O
     Ok(())
 }
 
-/// Adds the record of a side behind its length. It is spelled in a buffer that is emptied first.
+/// Appends the record of `side` after its length. Clears the buffer `record` first, and encodes `side` there.
 fn push_part(bytes: &mut Vec<u8>, record: &mut Vec<u8>, side: &Side) -> Result<(), OutOfMemory>
     ensures bytes { OnOk result (bytes.new.items ≡ bytes.old.items ++ part.spell side.now) }
     ensures side { OnOk result (IsSide side.now) }
@@ -62,7 +61,7 @@ fn push_part(bytes: &mut Vec<u8>, record: &mut Vec<u8>, side: &Side) -> Result<(
     Ok(())
 }
 
-/// The octet of a role.
+/// Returns the octet of a role.
 fn role_octet(role: Role) -> u8
     ensures { result ≡ role_octet role }
 {
@@ -72,7 +71,7 @@ fn role_octet(role: Role) -> u8
     }
 }
 
-/// The two octets of a number, the high one first.
+/// Returns the two octets of a number, the high one first.
 fn two_octets(n: usize) -> [u8; 2]
     requires few { n < 65536 }
     ensures { result ≡ two_octets.spell n }

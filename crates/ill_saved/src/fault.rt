@@ -1,4 +1,4 @@
-//! Why bytes are no saved record, and why a desk did nothing.
+//! The faults of a saved record, of putting a side, and of a desk.
 
 ghost use Rattle.std.specs.Prelude.{◌≡◌};
 ghost use Rattle.ill_saved.specs.Layout.{record_fault};
@@ -20,7 +20,7 @@ pub enum RecordFault {
     /// The bytes end within a field, or before one that must follow.
     #[error("short")]
     Short,
-    /// The bytes at this offset are no value of their field, or stand behind the record.
+    /// The bytes at this offset are no value of their field, or stand after the record.
     #[error("bad at {0}")]
     Bad(u32),
     /// Each field is good by itself, but no side has them together.
@@ -36,7 +36,7 @@ pub enum RecordFault {
 }
 
 impl RecordFault {
-    /// The offset of the fault, if it has one.
+    /// Returns the offset of the fault, if it has one.
     pub fn at(self) -> Option<u32>
         ensures { result ≡ place_of self }
     {
@@ -83,7 +83,7 @@ impl<T: Drop> From<AllocFailed<T>> for RecordFault {
     }
 }
 
-/// Why a side was not put among others. They are judged in this order.
+/// The reason not to put a side among others. The reasons are checked in this order.
 #[derive(Clone, Copy, Debug, PartialEq, Eq, Hash, Error)]
 pub enum SidesFault {
     /// It is of the other role.
@@ -119,7 +119,7 @@ impl<T: Drop> From<AllocFailed<T>> for SidesFault {
     }
 }
 
-/// The fault of a `put`, without the side that it hands back.
+/// Gives the fault of a `put`, without the side that comes with it.
 impl From<(SidesFault, Side)> for SidesFault {
     ghost from_gives = { λ refused fault. fault ≡ refused.0 };
 
@@ -128,7 +128,7 @@ impl From<(SidesFault, Side)> for SidesFault {
     }
 }
 
-/// Why a desk did not do what it was asked.
+/// The fault of a call of a desk.
 #[derive(Clone, Copy, Debug, PartialEq, Eq, Hash, Error)]
 pub enum DeskFault {
     /// The side refused the action or the message. This is never `Refusal::OutOfMemory`.
@@ -161,7 +161,7 @@ pub enum DeskFault {
     /// Memory ran out.
     #[error("memory")]
     OutOfMemory,
-    /// The desk holds no side of this transaction, and what was asked for opens none.
+    /// The desk holds no side of this transaction, and the call may not begin one.
     #[error("no-such-transaction")]
     NoSuchTransaction,
     /// The desk holds 1,000 sides, and there is no room for one more.
@@ -229,7 +229,7 @@ impl<T: Drop> From<AllocFailed<T>> for DeskFault {
     }
 }
 
-/// The fault of a desk that did not begin, without the store that it hands back.
+/// Gives the fault of a desk that did not begin, without the store that comes with it.
 impl<S: Drop> From<(DeskFault, S)> for DeskFault {
     ghost from_gives = { λ refused fault. fault ≡ refused.0 };
 

@@ -15,7 +15,7 @@ use std::{fs, io, thread};
 
 /// Files of which one may be locked, and a way to wait.
 pub trait LockFiles: Files {
-    /// Locks an open file, and tells whether it is locked now. It is not where another opening of it holds the
+    /// Locks an open file, and returns true if it is locked now. It is not if another opening of it holds the
     /// lock. The lock ends with the opening, however the program ends.
     fn try_lock(&self, file: &Self::File) -> io::Result<bool>;
 
@@ -37,13 +37,13 @@ impl LockFiles for HostRuntime {
     }
 }
 
-/// How often a lock is tried, with a pause between: ten seconds long.
+/// The number of attempts at a lock, with a pause between: ten seconds in all.
 const TRIES: u32 = 100;
 
 /// The lock of the file at a path. As long as it is held, no other one is taken.
 ///
-/// It is the lock on a file beside that one, with `.lck` behind its name. Whoever takes the lock creates that file, and
-/// removes it at the end. Whoever is killed leaves the file and no lock.
+/// It is the lock on a file beside that one, with `.lck` after its name. The program that takes the lock creates that
+/// file, and removes it at the end. A program that is killed leaves the file and no lock.
 pub struct FileLock<'a, R: LockFiles> {
     rt: &'a R,
     path: String,
@@ -52,11 +52,11 @@ pub struct FileLock<'a, R: LockFiles> {
 }
 
 impl<'a, R: LockFiles> FileLock<'a, R> {
-    /// Takes the lock of the file at a path, whether that file is there or not. While another holds it, this waits,
-    /// ten seconds at most, and then answers `Failed`.
+    /// Takes the lock of the file at `path`, which need not exist. While another holds it, waits, ten seconds at most,
+    /// and then answers `Failed`.
     ///
-    /// In a folder that is not there, or in which no file may be created, the lock is had at once: nobody can save
-    /// there who takes it so.
+    /// In a folder that does not exist, or in which no file may be created, takes the lock at once. Its holder cannot
+    /// save there.
     pub fn take(rt: &'a R, alloc: Global, path: &str) -> Result<FileLock<'a, R>, StoreFault>
         ensures { IfErr result (λ fault. (fault ≡ Failed) ⊎ (fault ≡ OutOfMemory)) }
     {
@@ -79,7 +79,7 @@ impl<'a, R: LockFiles> FileLock<'a, R> {
 }
 
 impl<R: LockFiles> Drop for FileLock<'_, R> {
-    /// Removes the file of the lock, if it stands there still, and then gives the lock back.
+    /// Removes the file of the lock, if it is still there, and then releases the lock.
     fn drop(self) {
         let FileLock { rt, path, file } = self;
         if let Some(file) = &file
@@ -91,7 +91,7 @@ impl<R: LockFiles> Drop for FileLock<'_, R> {
     }
 }
 
-/// What came of an attempt to take a lock.
+/// The result of an attempt to take a lock.
 #[derive(Drop)]
 enum Attempt<F> {
     /// This file is open, and then locked.
@@ -117,8 +117,8 @@ fn wait<R: LockFiles>(rt: &R, path: &str, lock_path: &str) -> io::Result<Attempt
     Ok(Attempt::Busy)
 }
 
-/// Takes a lock, if no other holds it. Whoever holds one removes its file at the end: so a lock on a file that is no
-/// longer at its path is none.
+/// Takes a lock, if no other holds it. A holder removes its file at the end. So a lock on a file that is no longer at
+/// its path counts as none.
 fn try_take<R: LockFiles>(rt: &R, path: &str, lock_path: &str) -> io::Result<Attempt<R::File>> {
     let record = regular_file::find(rt, path)?;
     match regular_file::create(rt, lock_path, record.as_ref()) {
@@ -173,7 +173,7 @@ fn open<R: LockFiles>(rt: &R, lock_path: &str) -> io::Result<Option<R::File>> {
     }
 }
 
-/// Locks the file that was opened or created at a path, if no other holds its lock, and it stands there still.
+/// Locks the file that was opened or created at a path, if no other holds its lock and it is still there.
 fn lock<R: LockFiles>(rt: &R, lock_path: &str, file: R::File) -> io::Result<Attempt<R::File>> {
     let is_held = rt.try_lock(&file)? && is_at(rt, lock_path, &file)?;
     if is_held {
@@ -182,7 +182,7 @@ fn lock<R: LockFiles>(rt: &R, lock_path: &str, file: R::File) -> io::Result<Atte
     Ok(Attempt::Busy)
 }
 
-/// Tells whether the file that stands at a path is the one that was opened.
+/// Returns true if the file at a path is the one that was opened.
 fn is_at<R: LockFiles>(rt: &R, lock_path: &str, file: &R::File) -> io::Result<bool> {
     let opened = file.metadata()?;
     match regular_file::find(rt, lock_path)? {

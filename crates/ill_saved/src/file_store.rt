@@ -16,18 +16,19 @@ use std::path::Path;
 use std::rt::Files;
 use std::{fs, io};
 
-/// A limit for `FileStore::at` within which every record of a desk is loaded again: none has more than
+/// A limit for `FileStore::at` within which every record of a desk is loaded again. None has more than
 /// 41,813,039 bytes (`laws::sides_record_is_short`).
 pub const RECORD_LIMIT: u32 = 67_108_864;
 
 /// A store in a file, for a record that outlives the program.
 ///
-/// What a file holds is not proved. That what was saved last is loaded, after a crash too, rests on
-/// this: the disk gives back what was written there, and nobody else writes the file. The file of the
-/// same name with `.new` behind it belongs to the store, so a path that ends so is refused by both calls.
+/// No contract states the content of a file. A load gives the bytes of the last save that was done, or of one
+/// that failed after it. That holds after a crash too, if the disk gives back the written bytes and nobody
+/// else writes the file. The file with `.new` after the name belongs to the store, so both calls refuse a
+/// path that ends so.
 ///
-/// A save fails if another has replaced or changed the file since this store loaded or saved it. That
-/// finds most such changes, and not those of the same moment: whoever shares a file holds a `FileLock`.
+/// A save fails if another has replaced or changed the file since this store loaded or saved it. It finds most
+/// such changes, but may miss one of that moment. So hold a `FileLock` if you share a file.
 #[derive(Drop)]
 pub struct FileStore<'a, R: Files> {
     rt: &'a R,
@@ -38,7 +39,7 @@ pub struct FileStore<'a, R: Files> {
     known: Known,
 }
 
-/// What a store knows of its file.
+/// The file that a store knows.
 #[derive(Clone, Copy, PartialEq, Eq)]
 enum Known {
     /// Nothing, since it has neither loaded nor saved.
@@ -50,7 +51,7 @@ enum Known {
 }
 
 impl Known {
-    /// Tells whether a file that is found now, if one is, may be the one that is known.
+    /// Returns true if the file that is found now, if there is one, may be the one that is known.
     fn fits(self, found: Option<&Metadata>) -> bool {
         match (self, found) {
             (Known::Nothing, _) | (Known::Absent, None) => true,
@@ -73,12 +74,12 @@ impl<'a, R: Files> Model for FileStore<'a, R> {
 }
 
 impl<'a, R: Files> FileStore<'a, R> {
-    /// The store in the file at this path, whether it is there or not, for records of `limit` bytes
-    /// at most. No file is touched.
+    /// Returns the store in the file at `path`, which need not exist, for records of `limit` bytes at most. Touches
+    /// no file.
     ///
-    /// The limit is that of a load alone: a save is not held to it, and a longer record that it saves
-    /// is `TooLarge` for the next load. With `RECORD_LIMIT` every record of a desk is loaded again, and
-    /// 65,535 is enough for those of one side (`laws::record_is_short`).
+    /// The limit is that of a load alone. A save may write a longer record, which is `TooLarge` for the next load.
+    /// With `RECORD_LIMIT` every record of a desk is loaded again, and 65,535 is enough for those of one side
+    /// (`laws::record_is_short`).
     pub fn at(
         rt: &'a R,
         alloc: Global,
@@ -100,7 +101,7 @@ impl<'a, R: Files> FileStore<'a, R> {
         })
     }
 
-    /// Fails this call, and counts that.
+    /// Fails this call, and counts the failure.
     fn fail(&mut self) -> StoreFault
         ensures fault { result ≡ Failed }
         ensures counted { self.new ≡ failed_file self.old }
@@ -109,7 +110,7 @@ impl<'a, R: Files> FileStore<'a, R> {
         StoreFault::Failed
     }
 
-    /// What a fault of a read is to the store: want of memory, or a failure, which is counted.
+    /// Returns the store's fault for a fault of a read: `OutOfMemory`, or a failure, which is counted.
     fn read_fault(&mut self, error: &io::Error) -> StoreFault
         ensures { FileLoads {X = List ℕ} (λ b. b) self.old (Err result) self.new }
     {
@@ -119,8 +120,7 @@ impl<'a, R: Files> FileStore<'a, R> {
         }
     }
 
-    /// The bytes of the record, which are read no further than one byte past the limit. The disk has them
-    /// before they are given.
+    /// Reads the bytes of the record, at most one byte past the limit. The disk has them before this returns.
     fn read(&mut self, alloc: Global, file: R::File) -> Result<Option<Vec<u8>>, StoreFault>
         ensures { FileLoads (λ b. b.items) self.old result self.new }
     {
@@ -142,7 +142,7 @@ impl<'a, R: Files> FileStore<'a, R> {
         flush(self.open_folder()?)
     }
 
-    /// Opens the record, if there is one, and keeps in mind which file it is.
+    /// Opens the record, if there is one, and remembers the identity of its file.
     fn open_record(&mut self) -> io::Result<Option<R::File>>
         ensures { self.new ≡ self.old }
     {
@@ -159,8 +159,8 @@ impl<'a, R: Files> FileStore<'a, R> {
         }
     }
 
-    /// Writes the bytes beside the record, and then puts them in its place. Each step waits until the
-    /// disk has what was written. An empty path is that of no file, and nothing is touched for it.
+    /// Writes the bytes beside the record, and then puts them in its place. Each step waits until the disk has its
+    /// bytes. An empty path names no file, and touches nothing.
     fn replace(&mut self, bytes: &[u8]) -> io::Result<()>
         ensures { self.new ≡ self.old }
     {
@@ -190,15 +190,14 @@ impl<'a, R: Files> FileStore<'a, R> {
         Ok(found)
     }
 
-    /// Puts the bytes in the place of the record, and answers which file has them.
+    /// Puts the bytes in the place of the record, and returns the identity of their file.
     fn place(&self, bytes: &[u8], old: Option<Metadata>) -> io::Result<Identity> {
         let written = self.write_new(bytes, old)?;
         fs::rename(self.rt, self.new_path.as_str(), self.path.as_str())?;
         Ok(written)
     }
 
-    /// Removes what this save or an earlier one has left. So no link that stands there is written
-    /// through.
+    /// Removes the file that this save or an earlier one has left, so that no link there is written through.
     fn remove_new(&self) -> io::Result<()> {
         match fs::remove_file(self.rt, self.new_path.as_str()) {
             Err(error) if error.kind() != ErrorKind::NotFound => Err(error),
@@ -206,8 +205,8 @@ impl<'a, R: Files> FileStore<'a, R> {
         }
     }
 
-    /// Writes the bytes to a file that was not there, which belongs to those to whom the record does, as far as the
-    /// system lets it. The first record is what the system makes of a new file.
+    /// Writes the bytes to a new file. It gets the group, the permissions and the owner of the record, as far as the
+    /// system lets it. The first record is as the system makes a new file.
     fn write_new(&self, bytes: &[u8], old: Option<Metadata>) -> io::Result<Identity> {
         let new_path = self.new_path.as_str();
         let mut file = regular_file::create(self.rt, new_path, old.as_ref())?;
@@ -229,7 +228,7 @@ impl<'a, R: Files> FileStore<'a, R> {
     }
 }
 
-/// Waits until the disk has what was opened: the bytes of a file, or the names in a folder. A file system that has no
+/// Waits until the disk has the bytes of an opened file, or the names in an opened folder. A file system that has no
 /// such flush is passed over.
 fn flush<F: OpenFile + Drop>(opened: Option<F>) -> io::Result<()> {
     let Some(opened) = opened else {
@@ -241,7 +240,7 @@ fn flush<F: OpenFile + Drop>(opened: Option<F>) -> io::Result<()> {
     }
 }
 
-/// The folder that holds the file at a path.
+/// Returns the folder that holds the file at a path.
 fn folder_of(path: &str) -> &str
     ensures { result.now ≡ folder_of path.now }
 {

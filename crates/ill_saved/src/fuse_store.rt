@@ -8,8 +8,8 @@ use crate::store::{Store, StoreFault};
 use std::alloc::Global;
 use std::marker::Model;
 
-/// A store that passes so many calls of `load` and `save` on to another one. Each call behind them
-/// fails, and never reaches it.
+/// A store that passes its first calls of `load` and `save` on to another one. Each later call fails, and
+/// never reaches it.
 #[derive(Debug, Drop)]
 pub struct FuseStore<S: Store> {
     inner: S,
@@ -24,7 +24,7 @@ impl<S: Store> Model for FuseStore<S> {
 }
 
 impl<S: Store> FuseStore<S> {
-    /// A store that passes so many calls on to the inner one. It takes no memory.
+    /// Returns a store that passes `calls` calls on to `inner`. Allocates nothing.
     pub fn new(inner: S, calls: u32) -> FuseStore<S>
         ensures { result ≡ record { inner = inner; calls = calls; failures = 0 } }
     {
@@ -35,14 +35,14 @@ impl<S: Store> FuseStore<S> {
         }
     }
 
-    /// The inner store, as it stands.
+    /// Returns the inner store.
     pub fn open(self) -> S
         ensures { result ≡ self.inner }
     {
         self.inner
     }
 
-    /// Fails this call, and counts that.
+    /// Fails this call, and counts the failure.
     fn fail(&mut self) -> StoreFault
         ensures fault { result ≡ Failed }
         ensures counted { self.new ≡ blown self.old }
@@ -52,8 +52,8 @@ impl<S: Store> FuseStore<S> {
     }
 }
 
-/// What has landed, and whether the store is honest, are the inner store's. Its failures are those that
-/// it has counted and the inner store's together. It names no plan.
+/// The landed bytes and the honesty are those of the inner store. The failures are its own and the inner
+/// store's together. It names no plan.
 impl<S: Store> Store for FuseStore<S> {
     ghost state = { fuse_state S.state };
 

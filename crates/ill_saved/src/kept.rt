@@ -15,15 +15,14 @@ use ill_values::{Apdu, Number, OutOfMemory};
 use std::alloc::Global;
 use std::marker::Model;
 
-/// Where a message stands among the messages of a record: the offset of its first byte from that of
-/// the first message, and how many bytes it has.
+/// The place of a message in a record: its offset from the first message, and its length in bytes.
 #[derive(Clone, Copy, Debug)]
 pub struct Place {
     start: usize,
     size: usize,
 }
 
-/// The bytes of a record, the place of each message in them, and where its side stood. The messages are
+/// The bytes of a record, the place of each message in them, and the standing of its side. The messages are
 /// the record's last part.
 #[derive(Debug, Drop)]
 pub struct KeptRecord {
@@ -48,7 +47,7 @@ impl Model for KeptRecord {
 }
 
 impl KeptRecord {
-    /// No record. It takes no memory.
+    /// Returns no record. Allocates nothing.
     pub fn none(alloc: Global) -> KeptRecord
         ensures { result ≡ none_kept }
     {
@@ -60,7 +59,7 @@ impl KeptRecord {
         }
     }
 
-    /// The record of a side. It takes memory for the places.
+    /// Returns the record of `side`, which is `bytes`. Allocates the places.
     pub fn of(alloc: Global, bytes: Vec<u8>, side: &Side) -> Result<KeptRecord, OutOfMemory>
         requires spelled { bytes.items ≡ record_spelling side.now }
         ensures { IfOk result (λ kept. kept ≡ kept_of side.now) }
@@ -68,8 +67,8 @@ impl KeptRecord {
         KeptRecord::none(alloc).followed_by(alloc, side.standing(), bytes, side.all_issued())
     }
 
-    /// The record of a side that begins with the messages that are kept here, so many. They are copied,
-    /// and only the others are encoded.
+    /// Returns the record of `side`, whose first `released` messages are kept here. Copies these, and encodes only
+    /// the others.
     pub fn next(&self, alloc: Global, side: &Side, released: u8) -> Result<KeptRecord, OutOfMemory>
         requires keeps { Keeps self.now side.now released }
         ensures { IfOk result (λ kept. IsKept kept side.now) }
@@ -79,7 +78,7 @@ impl KeptRecord {
         self.followed_by(alloc, side.standing(), bytes, others)
     }
 
-    /// A record whose messages are those of this one and these behind them. Its bytes must end so.
+    /// Returns a record with the messages of this one, and `apdus` after them. `bytes` must end with all of these.
     fn followed_by(
         &self,
         alloc: Global,
@@ -111,8 +110,8 @@ impl KeptRecord {
         })
     }
 
-    /// Takes the live side back to the one whose record is kept, where these are its bytes, and answers
-    /// whether it did. So many messages are released. It takes no memory.
+    /// Takes `live` back to the side of the kept record, and returns true, if `bytes` are that record. The number of
+    /// released messages is `released`. Allocates nothing.
     pub fn take_back(&self, bytes: &Option<Vec<u8>>, released: u8, live: &mut Side) -> bool
         requires keeps { Keeps self.now live.old released }
         ensures { GoesBackTo self.now released (option_map (λ b. b.items) bytes.now) result
@@ -126,21 +125,21 @@ impl KeptRecord {
         }
     }
 
-    /// The bytes of the record.
+    /// Returns the bytes of the record.
     pub fn bytes(&self) -> &[u8]
         ensures { result.now ≡ self.now.bytes }
     {
         &self.bytes
     }
 
-    /// The part of the bytes that has the messages.
+    /// Returns the part of the bytes that has the messages.
     fn messages(&self) -> &[u8]
         ensures { result.now ≡ self.now.messages }
     {
         &self.bytes[self.first..]
     }
 
-    /// The bytes of the message with this number, which must be one of them.
+    /// Returns the bytes of message `number`, which must be one of them.
     pub fn message(&self, number: Number) -> &[u8]
         requires { number ≤ length self.now.pieces }
         ensures { slice_get self.now.pieces (number - 1) ≡ Some result.now }
@@ -150,7 +149,7 @@ impl KeptRecord {
     }
 }
 
-/// The bytes at a place among these.
+/// Returns the bytes at `place`.
 fn piece(messages: &[u8], place: Place) -> &[u8]
     requires { IsWithin (length messages.now) place }
     ensures { result.now ≡ piece_at messages.now place }
@@ -158,7 +157,7 @@ fn piece(messages: &[u8], place: Place) -> &[u8]
     &messages[place.start..place.start + place.size]
 }
 
-/// The messages that a side has issued behind the first so many.
+/// Returns the messages of `side` after the first `count`.
 fn issued_behind(side: &Side, count: u8) -> &[Apdu]
     requires { count ≤ length (issued_of side.now) }
     ensures { result.now ≡ drop count (issued_of side.now) }

@@ -1,4 +1,4 @@
-//! What holds of saved records, as contracts of functions that do nothing.
+//! Laws of saved records: contracts of functions that do nothing.
 
 ghost use Rattle.std.specs.Prelude.{◌≡◌, ℕ, ◌≤◌, List, false, length, Ok, Err};
 ghost use Rattle.ill_der.specs.Laws.{IsBytes};
@@ -12,8 +12,8 @@ ghost use Rattle.ill_saved.specs.Records2.{sides_spelling, is_version_1, records
 ghost use Rattle.ill_saved.specs.Ranges.{IsInRange, IsSide};
 ghost use Rattle.ill_saved.specs.Sides.{SidesOf};
 
-/// A side is read from its spelling: with this, `decode_record` gives back what `encode_record`
-/// spelled.
+/// A side in range is read again from its encoding: `decode_record` gives the side that `encode_record`
+/// encoded.
 pub fn read_again()
     ensures { (side : Side) → IsSide side → record_at (record_spelling side) ≡ Ok side }
 {
@@ -23,7 +23,7 @@ pub fn read_again()
     ill_der::laws::prefix_or_fault();
 }
 
-/// What is read as a side is the spelling of that side, and where it has the layout alone too.
+/// Bytes that are read as a side are its encoding, even if the side is not consistent.
 pub fn spelled()
     ensures side { (bytes : List ℕ) (side : Side) → IsBytes bytes → record_at bytes ≡ Ok side →
         (bytes ≡ record_spelling side) × IsSide side }
@@ -36,15 +36,15 @@ pub fn spelled()
     ill_der::laws::prefix_or_fault();
 }
 
-/// No bytes spell two sides.
+/// No bytes encode two sides.
 pub fn one_side()
     ensures { (s t : Side) → IsSide s → IsSide t → record_spelling s ≡ record_spelling t → s ≡ t }
 {
     read_again();
 }
 
-/// A record has at most 41,811 bytes, so a store that takes 65,535 takes every record: a responder's
-/// has 501 beside the messages that it has issued, of which there are 255, of 162 each.
+/// A record has at most 41,811 bytes, so a store that takes 65,535 takes every record. A responder has 501
+/// bytes besides its issued messages, of which there are at most 255, of 162 each.
 pub fn record_is_short()
     ensures { (side : Side) → IsSide side → length (record_spelling side) ≤ 41811 }
 {
@@ -53,15 +53,15 @@ pub fn record_is_short()
     ill_der::laws::shorter();
 }
 
-/// A record of many sides has at most 41,813,039 bytes, so a store that takes `RECORD_LIMIT` takes every record of
-/// a desk: 39 beside the sides, of which there are 1,000, each with two for its length.
+/// A record of many sides has at most 41,813,039 bytes. So a store that takes `RECORD_LIMIT` takes every record of
+/// a desk. It has 39 besides the sides, of which there are at most 1,000, each with two for its length.
 pub fn sides_record_is_short()
     ensures { (held : SidesOf) → AreSides held → length (sides_spelling held) ≤ 41813039 }
 {
     record_is_short();
 }
 
-/// Sides are read from their spelling: with this, `decode_record2` gives back what `encode_record2` spelled.
+/// Sides are read again from their encoding: `decode_record2` gives the sides that `encode_record2` encoded.
 pub fn sides_read_again()
     ensures { (held : SidesOf) → AreSides held → records_at (sides_spelling held) ≡ Ok held }
 {
@@ -70,7 +70,7 @@ pub fn sides_read_again()
     record_is_short();
 }
 
-/// What is read as sides, and is no record of version 1, is the spelling of these sides.
+/// Bytes that are read as sides, and are no record of version 1, are the encoding of these sides.
 pub fn sides_spelled()
     ensures { (bytes : List ℕ) (held : SidesOf) → IsBytes bytes → is_version_1 bytes ≡ false →
         records_at bytes ≡ Ok held → (bytes ≡ sides_spelling held) × AreSides held }
@@ -80,7 +80,7 @@ pub fn sides_spelled()
     record_is_short();
 }
 
-/// No bytes spell two lists of sides, or one of two roles.
+/// No bytes encode two lists of sides, or sides of two roles.
 pub fn one_sides()
     ensures { (a b : SidesOf) → AreSides a → AreSides b → sides_spelling a ≡ sides_spelling b → a ≡ b }
 {
@@ -104,7 +104,7 @@ pub fn rows_keep_request()
     ill_core::laws::responder_keeps_request();
 }
 
-/// An action leaves no side idle, and neither does a message one that was not.
+/// No side is idle after an action. A side that is not idle is not idle after a message.
 pub fn rows_begin()
     ensures acts { (old new : Side) (action : Action) → acts old action ≡ Ok new → is_idle new ≡ false }
     ensures stays { (old new : Side) → IsRow old new → is_idle old ≡ false → is_idle new ≡ false }
@@ -123,7 +123,7 @@ pub fn refusals_stay()
     ill_core::laws::responder_is_quiet();
 }
 
-/// What a side has issued is the front of what a side that follows from it has issued.
+/// A side that follows from another by rows has issued all that the other has, as a prefix.
 pub fn follows_issues()
     ensures { (old new : Side) → Follows old new → IsFrontOf (issued_of old) (issued_of new) }
 {

@@ -1,5 +1,5 @@
-//! Saved records of the sides of an interlibrary loan, stores for them, one side with its store, and the
-//! many sides of one library.
+//! Saved records of the sides of an interlibrary loan, and stores for them. One side with its store, and
+//! the many sides of one library.
 #![tactic(auto)]
 
 mod cursor;

@@ -36,7 +36,7 @@ use std::marker::Model;
 pub struct Desk<S: Store> {
     sides: Sides,
     store: S,
-    /// How many messages of the side at each place may be sent.
+    /// The number of released messages of the side at each place.
     released: Vec<u8>,
 }
 
@@ -55,8 +55,8 @@ impl<S: Store> Model for Desk<S> {
 }
 
 impl<S: Store> Desk<S> {
-    /// A desk of this role that holds no side, over a store without a record (else `Exists`). Nothing is
-    /// saved yet. A fault gives the store back.
+    /// Creates a desk of this role that holds no side, over a store without a record (else `Exists`). Saves nothing
+    /// yet. A fault returns the store.
     pub fn create(alloc: Global, store: S, role: Role) -> Result<Desk<S>, (DeskFault, S)>
         ensures creates { (S.state store).is_honest ≡ true →
             Creates (S.state store).landed (S.state store).plan (answer_of result) }
@@ -79,8 +79,8 @@ impl<S: Store> Desk<S> {
         }
     }
 
-    /// A desk for the sides whose record the store has (else `NoRecord`), of version 1 or 2. All their
-    /// messages may be sent. A fault gives the store back.
+    /// Starts a desk with the sides whose record `store` has (else `NoRecord`), of version 1 or 2. All their
+    /// messages may be sent. A fault returns the store.
     pub fn start(alloc: Global, store: S) -> Result<Desk<S>, (DeskFault, S)>
         ensures starts { (S.state store).is_honest ≡ true →
             StartsMany (S.state store).landed (S.state store).plan result }
@@ -100,9 +100,9 @@ impl<S: Store> Desk<S> {
         }
     }
 
-    /// Does what the library decides in a transaction. A request begins one that is not held, which is
-    /// `NoSuchTransaction` of every other action, and `DeskFull` where 1,000 are held. The message that is
-    /// issued may be sent after the next `save`.
+    /// Performs `action` in transaction `txn`. If `txn` is not held, a request begins it, or answers `DeskFull` if
+    /// 1,000 are held. Any other action answers `NoSuchTransaction` then. The message that is issued may be sent
+    /// after the next `save`.
     pub fn act(&mut self, alloc: Global, txn: &TxnId, action: &Action) -> Result<(), DeskFault>
         ensures acts { ManyActs self.old.live txn.now action.now result self.new.live }
         ensures store { self.new.store ≡ self.old.store }
@@ -126,8 +126,8 @@ impl<S: Store> Desk<S> {
         self.take(alloc, &apdu)
     }
 
-    /// Takes a message that was read already: it is for the side of its transaction. An ILL-Request begins
-    /// one that is not held, as `act` says.
+    /// Takes a message that was read already, for the side of its transaction. An ILL-Request begins a transaction
+    /// that is not held, as `act` says.
     pub fn take(&mut self, alloc: Global, apdu: &Apdu) -> Result<Taking, DeskFault>
         ensures takes { ManyTakesApdu self.old.live apdu.now result self.new.live }
         ensures store { self.new.store ≡ self.old.store }
@@ -172,7 +172,7 @@ impl<S: Store> Desk<S> {
         Ok(Taking::Taken)
     }
 
-    /// Why no transaction begins that is not held, if it may not.
+    /// Returns a fault if a transaction that is not held may not begin.
     fn may_begin(&self, begins: bool) -> Result<(), DeskFault>
         ensures { MayBegin begins (nat_lt (length self.now.live.held) most_sides) result }
     {
@@ -186,7 +186,7 @@ impl<S: Store> Desk<S> {
         }
     }
 
-    /// Holds a side that has begun, of which nothing may be sent yet. It is the last change.
+    /// Holds a side that has begun, with none of its messages released. It is the last change.
     fn hold(&mut self, alloc: Global, side: Side) -> Result<(), DeskFault>
         requires may { put_refusal (sides_held self.old.live) side ≡ None }
         requires row { IsRow (idle_side self.old.live.role (txn_of side)) side }
@@ -205,8 +205,8 @@ impl<S: Store> Desk<S> {
         }
     }
 
-    /// Saves all sides, so that all their messages may be sent. After a fault the sides, and which messages
-    /// may be sent, are as before. All the desk's memory is taken before the store is called.
+    /// Saves all sides, so that all their messages may be sent. A fault leaves the sides and the released messages
+    /// as they were. The desk allocates all its memory before it calls the store.
     pub fn save(&mut self, alloc: Global) -> Result<(), DeskFault>
         ensures live { self.new.live ≡ holding_after result self.old.live }
         ensures store { DeskSaves (sides_spelling (sides_held self.old.live)) (S.state self.old.store) result
@@ -223,8 +223,8 @@ impl<S: Store> Desk<S> {
         Ok(())
     }
 
-    /// Goes back to the sides in the store, all of whose messages may be sent, or to none if the store has
-    /// none. After a fault the sides, and which messages may be sent, are as before.
+    /// Goes back to the sides in the store, or to none if the store has none. All their messages may be sent.
+    /// A fault leaves the sides and the released messages as they were.
     pub fn restart(&mut self, alloc: Global) -> Result<(), DeskFault>
         ensures restarts { (S.state self.old.store).is_honest ≡ true →
             Restarts (landed_sides (S.state self.old.store).landed self.old.live.role) (S.state self.old.store).plan
@@ -239,7 +239,7 @@ impl<S: Store> Desk<S> {
         Ok(())
     }
 
-    /// The bytes of a message of this transaction, to send it. The transaction must be held (else
+    /// Returns the bytes of message `number` of `txn`, to send it. The transaction must be held (else
     /// `NoSuchTransaction`), and the message issued (else `NoSuchMessage`) and saved (else `NotSaved`).
     pub fn message(&self, alloc: Global, txn: &TxnId, number: Number) -> Result<Vec<u8>, DeskFault>
         ensures { SendsHeld (λ bytes. bytes.items) (found_by txn_held txn.now self.now.live.held) number result }
@@ -254,7 +254,7 @@ impl<S: Store> Desk<S> {
         }
     }
 
-    /// The sides that are held, as they are in memory.
+    /// Returns the sides in memory.
     pub fn sides(&self) -> &Sides
         ensures value { result.now ≡ sides_held self.now.live }
         ensures backed { (S.state self.now.store).is_honest ≡ true →
@@ -263,8 +263,8 @@ impl<S: Store> Desk<S> {
         &self.sides
     }
 
-    /// How many messages of this transaction may be sent: those with numbers up to this one, and none where
-    /// it is not held.
+    /// Returns the number of released messages of `txn`, or 0 if it is not held. Those with numbers up to it may be
+    /// sent.
     pub fn released(&self, txn: &TxnId) -> u8
         ensures value { result ≡ (held_for txn.now self.now.live).released }
         ensures issued { result ≤ length (issued_of (held_for txn.now self.now.live).side) }
@@ -276,7 +276,7 @@ impl<S: Store> Desk<S> {
         }
     }
 
-    /// The store, with what has landed there. The sides in memory are let go.
+    /// Returns the store with its landed bytes. Drops the sides in memory.
     pub fn close(self) -> S
         ensures { result ≡ self.store }
     {
@@ -293,7 +293,7 @@ impl Desk<MemoryStore> {
     }
 }
 
-/// Whether a side of this role issues APDUs of this type.
+/// Returns true if a side of `role` issues APDUs with such a `body`.
 fn is_own(role: Role, body: &Body) -> bool
     ensures { result ≡ is_own role body.now }
 {
@@ -303,7 +303,7 @@ fn is_own(role: Role, body: &Body) -> bool
     }
 }
 
-/// The side of this role and transaction after its first action.
+/// Returns the side of this role and transaction after its first action.
 fn first_act(alloc: Global, role: Role, txn: &TxnId, action: &Action) -> Result<Side, DeskFault>
     requires begins { begins action.now ≡ true }
     requires role { is_same_role role (role_for action.now) ≡ true }
@@ -319,7 +319,7 @@ fn first_act(alloc: Global, role: Role, txn: &TxnId, action: &Action) -> Result<
     }
 }
 
-/// The side of this role after the first message of its transaction.
+/// Returns the side of this role after the first message of its transaction.
 fn first_take(alloc: Global, role: Role, apdu: &Apdu) -> Result<Side, DeskFault>
     requires request { is_ill_request apdu.now.body ≡ true }
     requires other { is_own role apdu.now.body ≡ false }
@@ -335,7 +335,7 @@ fn first_take(alloc: Global, role: Role, apdu: &Apdu) -> Result<Side, DeskFault>
     }
 }
 
-/// Sides all of whose messages may be sent.
+/// Sides with all of their messages released.
 #[derive(Drop)]
 struct Whole {
     sides: Sides,
@@ -351,7 +351,7 @@ impl Model for Whole {
 }
 
 impl Whole {
-    /// No side of this role.
+    /// Returns no sides, of this role.
     fn none(alloc: Global, role: Role) -> Result<Whole, OutOfMemory>
         ensures { result ≡ Ok (record { role = role; sides = [] }) }
     {
@@ -362,7 +362,7 @@ impl Whole {
     }
 }
 
-/// How many messages each side has issued.
+/// Returns the number of messages that each side has issued.
 fn counts_of(alloc: Global, sides: &Sides) -> Result<Vec<u8>, OutOfMemory>
     ensures { IfOk result (λ released. released.items ≡ counts sides.now.sides) }
 {
@@ -375,7 +375,7 @@ fn counts_of(alloc: Global, sides: &Sides) -> Result<Vec<u8>, OutOfMemory>
     Ok(counts)
 }
 
-/// The sides that have landed in a store, if any.
+/// Loads the sides that are durable in `store`, if there are any.
 fn load_whole<S: Store>(store: &mut S, alloc: Global) -> Result<Option<Whole>, DeskFault>
     ensures loads { (S.state store.old).is_honest ≡ true →
         Loads records_at begins_as_records (S.state store.old).landed (S.state store.old).plan result }
@@ -389,7 +389,7 @@ fn load_whole<S: Store>(store: &mut S, alloc: Global) -> Result<Option<Whole>, D
     }
 }
 
-/// The sides whose record these bytes are.
+/// Decodes the sides that `bytes` encode.
 fn read_whole(alloc: Global, bytes: &[u8]) -> Result<Whole, DeskFault>
     ensures loads { LoadsSides bytes.now result }
     ensures rules { IfOk result (λ all. Each IsConsistent all.sides) }
@@ -402,7 +402,7 @@ fn read_whole(alloc: Global, bytes: &[u8]) -> Result<Whole, DeskFault>
     Ok(Whole { sides, released })
 }
 
-/// The sides whose record these bytes are, if any, or else none of this role.
+/// Decodes the sides that `bytes` encode. Without bytes, returns none, of this role.
 fn whole_or_none(alloc: Global, bytes: Option<Vec<u8>>, role: Role) -> Result<Whole, DeskFault>
     ensures loads { LoadsOrNone (option_map (λ b. b.items) bytes) role result }
     ensures rules { IfOk result (λ all. Each IsConsistent all.sides) }

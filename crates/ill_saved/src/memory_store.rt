@@ -9,7 +9,7 @@ use crate::store::{NextCall, Store, StoreFault};
 use std::alloc::Global;
 use std::marker::Model;
 
-/// A store in memory, for tests. It fails only where its next call is planned to.
+/// A store in memory, for tests. It fails only if its next call is planned to fail.
 #[derive(Debug, Drop)]
 pub struct MemoryStore {
     alloc: Global,
@@ -29,7 +29,7 @@ impl Model for MemoryStore {
 }
 
 impl MemoryStore {
-    /// A store in which nothing was saved, and whose next call works. It takes no memory.
+    /// Returns a store in which nothing was saved, and whose next call works. Allocates nothing.
     pub fn new(alloc: Global) -> MemoryStore
         ensures { result ≡ record { landed = None; failures = 0; next = plans.Works } }
     {
@@ -48,7 +48,7 @@ impl MemoryStore {
         self.next = next;
     }
 
-    /// The plan of this call, which is spent.
+    /// Returns the plan of this call, and spends it.
     fn take_plan(&mut self) -> NextCall
         ensures plan { result ≡ self.old.next }
         ensures spent { self.new ≡ record self.old { next = plans.Works } }
@@ -58,7 +58,7 @@ impl MemoryStore {
         plan
     }
 
-    /// Fails this call, and counts that.
+    /// Fails this call, and counts the failure.
     fn fail(&mut self) -> StoreFault
         ensures fault { result ≡ Failed }
         ensures counted { self.new ≡ failed self.old }
@@ -69,9 +69,9 @@ impl MemoryStore {
     }
 }
 
-/// A `load` fails only under a plan to fail, and takes memory under none of these. A `save` that is
-/// planned to fail and to leave the old bytes takes no memory; one that leaves the new ones lands
-/// them first, or answers want of memory.
+/// A `load` fails only under a plan to fail, and then allocates nothing. A `save` that is planned to fail and
+/// to leave the old bytes allocates nothing. One that leaves the new bytes lands them first, or answers
+/// `OutOfMemory`.
 impl Store for MemoryStore {
     ghost state = { λ m. record {
       landed = m.landed;

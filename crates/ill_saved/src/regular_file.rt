@@ -9,10 +9,10 @@ use std::{fs, io};
 /// The ending of the name of the new file that a save writes beside the record.
 pub const NEW: &str = ".new";
 
-/// The ending of the name of the file beside the record that is locked in its place.
+/// The ending of the name of the file beside the record that is locked instead of it.
 pub const LOCK: &str = ".lck";
 
-/// Refuses a path whose ending is reserved for what stands beside a record.
+/// Refuses a path whose ending is reserved for a file beside a record.
 pub fn refuse_reserved(path: &str) -> io::Result<()> {
     if path.ends_with(NEW) || path.ends_with(LOCK) {
         return Err(ErrorKind::InvalidInput.into());
@@ -29,7 +29,7 @@ pub struct Identity {
 }
 
 impl Identity {
-    /// The identity of the file of which the system says this.
+    /// Returns the identity of the file with this metadata.
     pub fn of(found: &Metadata) -> Identity {
         Identity {
             device: found.dev(),
@@ -39,8 +39,8 @@ impl Identity {
     }
 }
 
-/// Looks up the regular file at a path, if a file is there. Anything else in its place is a fault: to open a pipe
-/// would be to wait on it, and to follow a link, to have two names for one file.
+/// Looks up the regular file at a path, if a file is there. Anything else in its place is a fault. To open a pipe
+/// would be to wait on it. To follow a link would be to have two names for one file.
 pub fn find<R: Files>(rt: &R, path: &str) -> io::Result<Option<Metadata>> {
     match fs::symlink_metadata(rt, path) {
         Ok(found) if found.is_file() => Ok(Some(found)),
@@ -50,7 +50,7 @@ pub fn find<R: Files>(rt: &R, path: &str) -> io::Result<Option<Metadata>> {
     }
 }
 
-/// How often a file is looked up and opened, if its name comes to stand for another file in between.
+/// The number of attempts to look up and open a file, if its name comes to name another in between.
 const LOOKUPS: u32 = 10;
 
 /// Opens the regular file at a path for reading, if a file is there. A file that has come there since the lookup is
@@ -69,8 +69,8 @@ pub fn open<R: Files>(rt: &R, path: &str) -> io::Result<Option<(R::File, Identit
     Err(ErrorKind::InvalidInput.into())
 }
 
-/// Creates the file at a path, if nothing is there, for `share_like` this other file. It is its creator's alone until
-/// then; without another it is as the system makes a new file.
+/// Creates the file at a path, if nothing is there. If `share_like` is to follow, with `other`, the file is its
+/// creator's alone until then. Without `other`, it is as the system makes a new file.
 pub fn create<R: Files>(rt: &R, path: &str, other: Option<&Metadata>) -> io::Result<R::File> {
     let mut options = OpenOptions::new();
     options.write(true);
@@ -81,8 +81,7 @@ pub fn create<R: Files>(rt: &R, path: &str, other: Option<&Metadata>) -> io::Res
     options.open(rt, path)
 }
 
-/// Gives a file that was created at a path the group, the permissions and the owner of another file, as far as the
-/// system lets it.
+/// Gives the file at a path the group, the permissions and the owner of another file, as far as the system lets it.
 pub fn share_like<R: Files>(
     rt: &R,
     path: &str,
@@ -98,7 +97,7 @@ pub fn share_like<R: Files>(
     Ok(())
 }
 
-/// Gives the file at a path an owner or a group, and tells whether the system lets it have that.
+/// Gives the file at a path an owner or a group, and returns true if the system lets it.
 fn give<R: Files>(rt: &R, path: &str, owner: Option<u32>, group: Option<u32>) -> io::Result<bool> {
     match lchown(rt, path, owner, group) {
         Ok(()) => Ok(true),
@@ -107,19 +106,19 @@ fn give<R: Files>(rt: &R, path: &str, owner: Option<u32>, group: Option<u32>) ->
     }
 }
 
-/// The permissions for a file that has another group than it should. Its group gets none. Whoever was of the
-/// right group is one of the others now, so these keep what that group had too.
+/// Returns the permissions for a file that has another group than it should. Its group gets none. The members of the
+/// right group are among the others now. So the others keep only permissions that the group had too.
 fn without_group(mode: u32) -> u32 {
     let of_the_group = (mode >> 3) & 0o7;
     (mode & !0o77) | (mode & of_the_group)
 }
 
-/// Tells whether the fault of a call means that the file system does not have the call.
+/// Returns true if the fault of a call means that the file system does not have the call.
 pub fn is_unsupported(fault: ErrorKind) -> bool {
     matches!(fault, ErrorKind::Unsupported | ErrorKind::InvalidInput)
 }
 
-/// Tells whether the fault of a call means that this user may not make it, or that the file system does not have it.
+/// Returns true if the fault means that this user may not make the call, or that the file system lacks it.
 fn is_refused(fault: ErrorKind) -> bool {
     fault == ErrorKind::PermissionDenied || is_unsupported(fault)
 }

@@ -3,7 +3,7 @@
 ghost use Rattle.std.specs.Prelude.{◌≡◌};
 ghost use Rattle.ill_saved.specs.Side.{other};
 
-/// Which of its two sides a library is in a transaction (ISO 10160, where each is a role).
+/// The role of a library in a transaction: one of its two sides (ISO 10160, where each is a role).
 #[derive(Clone, Copy, Debug, PartialEq, Eq, Hash)]
 pub enum Role {
     /// The side that asks for an item.
@@ -13,7 +13,7 @@ pub enum Role {
 }
 
 impl Role {
-    /// The role of the other side.
+    /// Returns the role of the other side.
     pub fn other(self) -> Role
         ensures { result ≡ other self }
     {

@@ -1,4 +1,4 @@
-//! One side of a transaction, whichever its role.
+//! One side of a transaction, in either role.
 
 ghost use Rattle.std.specs.Prelude.{◌≡◌, ◌≤◌, [], length, option_map, IfOk};
 ghost use Rattle.ill_core.specs.declared.turn.Turn.TheVariants.{Mine};
@@ -23,26 +23,26 @@ pub enum Side {
     Responder(Responder),
 }
 
-/// Where a side stands, as its role says it: its record but for the transaction and the messages.
+/// The standing of a side: its record without the transaction and the messages.
 #[derive(Clone, Copy, Debug)]
 pub enum Standing {
-    /// Where a requester stands.
+    /// The standing of a requester.
     Requester(RequesterStanding),
-    /// Where a responder stands.
+    /// The standing of a responder.
     Responder(ResponderStanding),
 }
 
-/// What a library may decide to do: a requester's wish, or a responder's deed on a day.
+/// An action of a library: a requester's wish, or a responder's deed on a day.
 #[derive(Debug, PartialEq, Eq, Drop)]
 pub enum Action {
-    /// What a requester wishes.
+    /// A requester's wish.
     Wish(Wish),
-    /// What a responder does, and the day on which it is done.
+    /// A responder's deed, and the day on which it is done.
     Deed(Deed, Day),
 }
 
 impl Action {
-    /// The role that it is for.
+    /// Returns the role that the action is for.
     pub fn role(&self) -> Role
         ensures { result ≡ role_for self.now }
     {
@@ -52,7 +52,7 @@ impl Action {
         }
     }
 
-    /// The verb of the action, without what it is about.
+    /// Returns the verb of the action, without its details.
     pub fn verb(&self) -> Verb
         ensures { result ≡ verb_of self.now }
     {
@@ -62,7 +62,7 @@ impl Action {
         }
     }
 
-    /// Whether it begins a transaction: a request does.
+    /// Returns true if the action begins a transaction: a request does.
     pub(crate) fn begins(&self) -> bool
         ensures { result ≡ begins self.now }
     {
@@ -71,7 +71,7 @@ impl Action {
 }
 
 impl Side {
-    /// The side of this role and transaction that has issued and taken nothing. It takes no memory.
+    /// Returns the side of this role and transaction that has issued and taken nothing. Allocates nothing.
     pub fn idle(alloc: Global, role: Role, txn: TxnId) -> Side
         ensures { result ≡ idle_side role txn }
     {
@@ -81,8 +81,8 @@ impl Side {
         }
     }
 
-    /// Does what the library decides, and issues the message that tells the other side. A wish of a
-    /// responder, or a deed of a requester, is `WrongRole`. A refusal changes nothing.
+    /// Performs `action`, and issues the message that tells the other side. A wish of a responder, or a deed of a
+    /// requester, is `WrongRole`. A refusal changes nothing.
     pub fn act(&mut self, alloc: Global, action: &Action) -> Result<(), Refusal>
         ensures { Acts self.old action.now result self.new }
     {
@@ -95,9 +95,9 @@ impl Side {
         }
     }
 
-    /// Takes a message of the other side, and answers what it did. A refusal changes nothing. A
-    /// requester takes no memory, and a responder takes some only for an ILL-Request that it keeps and
-    /// for a Conditional-Reply no that it answers.
+    /// Takes a message of the other side, and answers with its effect. A refusal changes nothing. A requester
+    /// allocates nothing. A responder allocates only for an ILL-Request that it keeps, and for a
+    /// Conditional-Reply no that it answers.
     pub fn take(&mut self, alloc: Global, apdu: &Apdu) -> Result<Taking, Refusal>
         ensures { Takes self.old apdu.now result self.new }
     {
@@ -107,7 +107,7 @@ impl Side {
         }
     }
 
-    /// The role of this side.
+    /// Returns the role of this side.
     pub fn role(&self) -> Role
         ensures { result ≡ role_of self.now }
     {
@@ -117,14 +117,14 @@ impl Side {
         }
     }
 
-    /// Whether it is in IDLE: it has issued and taken nothing.
+    /// Returns true if it is in IDLE: it has issued and taken nothing.
     pub fn is_idle(&self) -> bool
         ensures { result ≡ is_idle self.now }
     {
         self.state() == State::Idle
     }
 
-    /// The id of the transaction.
+    /// Returns the id of the transaction.
     pub fn txn(&self) -> &TxnId
         ensures { result.now ≡ txn_of self.now }
     {
@@ -134,7 +134,7 @@ impl Side {
         }
     }
 
-    /// The present state.
+    /// Returns the present state.
     pub fn state(&self) -> State
         ensures { result ≡ state_of self.now }
     {
@@ -144,7 +144,7 @@ impl Side {
         }
     }
 
-    /// The day on which the item is due, once it was shipped.
+    /// Returns the day on which the item is due, once it was shipped.
     pub fn due(&self) -> Option<Day>
         ensures { result ≡ due_date_of self.now }
     {
@@ -154,8 +154,8 @@ impl Side {
         }
     }
 
-    /// The verbs of all actions that `act` does not refuse as `NotNow` or `WrongRole`. It may still
-    /// refuse them: for a date, for 255 messages that were issued, or for want of memory.
+    /// Returns the verbs of all actions that `act` does not refuse as `NotNow` or `WrongRole`. It may still refuse
+    /// them: for a date, for 255 messages that were issued, or if memory runs out.
     pub fn verbs(&self) -> &'static [Verb]
         ensures value { result.now ≡ verbs_of self.now }
         ensures exact { (action : Action) →
@@ -167,7 +167,7 @@ impl Side {
         }
     }
 
-    /// Who acts next, as far as this side knows. When it is this side's turn, it has a verb.
+    /// Returns the turn, as far as this side knows it. If it is this side's turn, it has a verb.
     pub fn turn(&self) -> Turn
         ensures value { result ≡ turn_of self.now }
         ensures mine { result ≡ Mine → verbs_of self.now ≡ [] → ⊥ }
@@ -178,7 +178,7 @@ impl Side {
         }
     }
 
-    /// The messages that this side has issued, in order: the n-th has number n.
+    /// Returns the messages that this side has issued, in order: the n-th has number n.
     pub fn all_issued(&self) -> &[Apdu]
         ensures value { result.now ≡ issued_of self.now }
         ensures few { length (issued_of self.now) ≤ 255 }
@@ -189,7 +189,7 @@ impl Side {
         }
     }
 
-    /// How many messages this side has issued: 0 to 255.
+    /// Returns the number of messages that this side has issued: 0 to 255.
     pub fn issued_count(&self) -> u8
         ensures { result ≡ length (issued_of self.now) }
     {
@@ -199,7 +199,7 @@ impl Side {
         }
     }
 
-    /// The message that this side issued with this number, if it did.
+    /// Returns the message that this side issued with this number, if it did.
     pub fn issued(&self, number: Number) -> Option<&Apdu>
         ensures { option_map (λ a. a.now) result ≡ message (issued_of self.now) number }
     {
@@ -209,7 +209,7 @@ impl Side {
         }
     }
 
-    /// Where this side stands.
+    /// Returns the standing of this side.
     pub(crate) fn standing(&self) -> Standing
         ensures value { result ≡ standing_of self.now }
         ensures consistent { IsConsistent self.now }
@@ -220,8 +220,8 @@ impl Side {
         }
     }
 
-    /// Goes back to where it stood so and had issued the first so many of its messages, if these parts
-    /// fit together. Otherwise it answers `false`, and nothing changes.
+    /// Goes back to `standing`, with the first `count` of its messages, if these parts fit together, and returns true.
+    /// Otherwise returns false, and nothing changes.
     pub(crate) fn go_back(&mut self, standing: &Standing, count: u8) -> bool
         ensures { GoesBack (back_to standing.now count self.old) result self.old self.new }
     {
@@ -236,7 +236,7 @@ impl Side {
         }
     }
 
-    /// A side of the same role and transaction that has issued and taken nothing.
+    /// Returns the idle side of its role and transaction, which has issued and taken nothing.
     pub fn idle_again(&self, alloc: Global) -> Result<Side, OutOfMemory>
         ensures { IfOk result (λ idle. idle ≡ idle_of self.now) }
     {

@@ -16,10 +16,10 @@ use indexmap::IndexMap;
 use std::alloc::Global;
 use std::marker::Model;
 
-/// The most sides of one library that are held.
+/// The maximum number of sides of one library that are held.
 pub const SIDES_LIMIT: usize = 1000;
 
-/// The sides of one library, all of one role, in the order in which they were put: none is idle, no two
+/// The sides of one library, all of one role, in the order in which they were put. None is idle, no two
 /// are of one transaction, and they are 1,000 at most.
 #[derive(Drop)]
 pub struct Sides {
@@ -37,7 +37,7 @@ impl Model for Sides {
 }
 
 impl Sides {
-    /// No side yet, of this role. It takes no memory, and so never answers want of it.
+    /// Returns no sides, of this role. Allocates nothing, so memory never runs out.
     pub fn new(alloc: Global, role: Role) -> Result<Sides, OutOfMemory>
         ensures { result ≡ Ok (record { role = role; sides = [] }) }
     {
@@ -47,9 +47,8 @@ impl Sides {
         })
     }
 
-    /// Puts a side behind the others, or hands it back with the first fault, which leaves these sides
-    /// unchanged: one of the other role, an idle one, one whose transaction is held, one more than 1,000,
-    /// then want of memory.
+    /// Puts `side` after the others, or returns it with the first fault, which leaves these sides unchanged. The
+    /// faults are the other role, an idle side, a held transaction, 1,000 sides, and a lack of memory.
     pub fn put(&mut self, alloc: Global, side: Side) -> Result<(), (SidesFault, Side)>
         ensures { Puts self.old side result self.new }
     {
@@ -65,7 +64,7 @@ impl Sides {
         }
     }
 
-    /// Why the side would not be put, memory aside.
+    /// Returns the reason not to put `side`, memory aside.
     fn refusal(&self, side: &Side) -> Option<SidesFault>
         ensures { result ≡ put_refusal self.now side.now }
     {
@@ -85,21 +84,21 @@ impl Sides {
         }
     }
 
-    /// The side of this transaction, which is found by both qualifiers.
+    /// Returns the side of `txn`, which is found by both qualifiers.
     pub fn get(&self, txn: &TxnId) -> Option<&Side>
         ensures { option_copied result ≡ side_with txn.now self.now.sides }
     {
         self.map.get(txn)
     }
 
-    /// The side at this place, from 0 on: the order is that in which they were put.
+    /// Returns the side at `place`, from 0 on: the order is that in which they were put.
     pub fn at(&self, place: usize) -> Option<&Side>
         ensures { option_copied result ≡ slice_get self.now.sides place }
     {
         self.map.get_index(place).map(|(_, side)| side)
     }
 
-    /// The place of the side of this transaction.
+    /// Returns the place of the side of `txn`.
     pub(crate) fn place(&self, txn: &TxnId) -> Option<usize>
         ensures place { result ≡ position (λ side. is_same_txn txn.now (txn_of side)) self.now.sides }
         ensures within { IfSome result (λ place. place < length self.now.sides) }
@@ -107,7 +106,7 @@ impl Sides {
         self.map.get_index_of(txn)
     }
 
-    /// Does what the library decides in this transaction, where its side is held.
+    /// Performs `action` in transaction `txn`, if its side is held.
     pub(crate) fn act(
         &mut self,
         alloc: Global,
@@ -121,7 +120,7 @@ impl Sides {
         act_among(&mut self.map, alloc, txn, action)
     }
 
-    /// Hands a message to the side of its transaction, where that is held.
+    /// Hands a message to the side of its transaction, if that is held.
     pub(crate) fn take(&mut self, alloc: Global, apdu: &Apdu) -> Option<Result<Taking, Refusal>>
         ensures { OnlyThat (λ old answer new. Takes old apdu.now answer new) apdu.now.txn self.old result self.new }
     {
@@ -130,7 +129,7 @@ impl Sides {
         take_among(&mut self.map, alloc, apdu)
     }
 
-    /// How many sides there are: 1,000 at most.
+    /// Returns the number of sides: 1,000 at most.
     pub fn len(&self) -> usize
         ensures value { result ≡ length self.now.sides }
         ensures most { length self.now.sides ≤ most_sides }
@@ -139,7 +138,7 @@ impl Sides {
         self.map.len()
     }
 
-    /// The role of all.
+    /// Returns the role of all.
     pub fn role(&self) -> Role
         ensures { result ≡ self.now.role }
     {
@@ -147,8 +146,8 @@ impl Sides {
     }
 }
 
-/// Puts a value behind those of the map, under a key that it has not. Where memory ran out the value is
-/// handed back, and the map is unchanged.
+/// Puts `value` after those of the map, under a key that it has not. If memory runs out, returns `value`, and the
+/// map is unchanged.
 fn insert_new<V: Drop>(map: &mut IndexMap<TxnId, V>, key: TxnId, value: V) -> Result<(), V>
     requires new { get is_same_txn map.old key ≡ None }
     ensures done { OnOk result (map.new.entries ≡ map.old.entries ++ (key, value) ∷ []) }
@@ -161,7 +160,7 @@ fn insert_new<V: Drop>(map: &mut IndexMap<TxnId, V>, key: TxnId, value: V) -> Re
     }
 }
 
-/// Does what the library decides, where the side of this transaction is filed.
+/// Performs `action`, if the side of this transaction is filed.
 fn act_among(
     map: &mut IndexMap<TxnId, Side>,
     alloc: Global,
@@ -176,7 +175,7 @@ fn act_among(
     }
 }
 
-/// Hands over a message, where the side of its transaction is filed.
+/// Hands over a message, if the side of its transaction is filed.
 fn take_among(
     map: &mut IndexMap<TxnId, Side>,
     alloc: Global,

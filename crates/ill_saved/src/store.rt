@@ -1,4 +1,4 @@
-//! Where a side keeps its record.
+//! The store in which a side keeps its record.
 
 ghost use Rattle.std.specs.Prelude.{◌≡◌};
 ghost use Rattle.ill_saved.specs.declared.store.StoreFault.TheVariants.{OutOfMemory};
@@ -7,7 +7,7 @@ ghost use Rattle.ill_saved.specs.Store.{StoreState, StoreLoads, StoreSaves};
 use std::alloc::{AllocError, AllocFailed, Global};
 use thiserror::Error;
 
-/// Why a store did not load or save.
+/// The fault of a load or a save.
 #[derive(Clone, Copy, Debug, PartialEq, Eq, Hash, Error)]
 pub enum StoreFault {
     /// The call failed. After a `save`, either the old or the new bytes have landed.
@@ -16,7 +16,7 @@ pub enum StoreFault {
     /// The record is longer than the store's limit. Only `load` gives this.
     #[error("too-large")]
     TooLarge,
-    /// Memory ran out. What has landed is as before.
+    /// Memory ran out. The landed bytes are unchanged.
     #[error("memory")]
     OutOfMemory,
 }
@@ -37,31 +37,30 @@ impl<T: Drop> From<AllocFailed<T>> for StoreFault {
     }
 }
 
-/// What the next call of a store does, where that is planned.
+/// The plan for the next call of a store.
 #[derive(Clone, Copy, Debug, PartialEq, Eq, Hash)]
 pub enum NextCall {
     /// It does not fail, unless memory runs out.
     Works,
-    /// It fails; what had landed before stays.
+    /// It fails, and the landed bytes stay.
     FailsOld,
-    /// It fails; the bytes of a `save` have landed nevertheless.
+    /// It fails, but the bytes of a `save` have landed.
     FailsNew,
 }
 
-/// A place for the bytes of one record: those that were saved last have landed there.
+/// A place for the bytes of one record. The landed bytes are those that the store would give back now.
 ///
-/// What has landed is known of an honest store alone. A store that plans its next call keeps to the
-/// plan.
+/// The contracts state the landed bytes of an honest store alone, and it follows its plan, if it has one.
 pub trait Store {
-    /// What has landed, how many calls have failed, whether the store does what its calls answer, and
-    /// the plan for the next call, if there is one.
+    /// The state of the store: its landed bytes, the number of failed calls, and the plan for the next call. It also
+    /// says if the store is honest, that is, does what it answers.
     ghost state: { Self → StoreState };
 
-    /// Loads the bytes that were saved last, or `None` if nothing was saved.
+    /// Loads the landed bytes, or `None` if nothing has landed.
     fn load(&mut self, alloc: Global) -> Result<Option<Vec<u8>>, StoreFault>
         ensures { StoreLoads (λ b. b.items) (state self.old) result (state self.new) };
 
-    /// Saves these bytes in place of those that were saved before.
+    /// Saves `bytes` in place of the landed ones. After `Failed`, either may have landed.
     fn save(&mut self, alloc: Global, bytes: &[u8]) -> Result<(), StoreFault>
         ensures { StoreSaves bytes.now (state self.old) result (state self.new) };
 }

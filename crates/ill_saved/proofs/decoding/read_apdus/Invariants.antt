@@ -3,7 +3,7 @@ use Rattle.ill_saved.specs.Layout.{apdu, read_all}
 use Rattle.ill_saved.proofs.Lists.{behind}
 use Rattle.ill_saved.proofs.decoding.read_apdus.Given as goal
 
--- what is read after the APDUs that are there is what is read in all
+-- The APDUs so far, and the reading of those that are left, make up the whole reading.
 abbrev pub invariant-loop : goal.invariant-loop
 invariant-loop l = record {
   turns : l.counter ≤ l.count;

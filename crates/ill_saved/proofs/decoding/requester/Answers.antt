@@ -1,3 +1,4 @@
+-- Answers the contract of `requester` (`src/decoding.rt`).
 use Rattle.std.proofs.Common.{rules, ◌≡◌, Ok, sym}
 use Rattle.ill_core.specs.Requester.{RequesterRecord, requester_of, IsRequester}
 use Rattle.ill_saved.specs.declared.side.Side.TheVariants as sides
@@ -5,6 +6,7 @@ use Rattle.ill_saved.specs.Records.{read_requester, all_of}
 use Rattle.ill_saved.proofs.Records.{judged_not}
 use Rattle.ill_saved.proofs.decoding.requester.Goals as goal
 
+-- If the parts of a requester do not fit together, the answer is `Inconsistent`.
 pub returns-in-None : goal.returns-in-None
 returns-in-None c =
     let x : RequesterRecord =

@@ -1,7 +1,9 @@
+-- Answers the contract of `held_together` (`src/decoding2.rt`).
 use Rattle.std.proofs.Common.{rules, ◌≡◌, ◌++◌, ◌∷◌, ap, sym, ◌∙◌}
 use Rattle.ill_saved.proofs.Together.{put_fails}
 use Rattle.ill_saved.proofs.decoding2.held_together.Goals as goal
 
+-- If a side cannot be put, its fault is right for all sides.
 pub returns-in_err-put : goal.returns-in_err-put
 returns-in_err-put c =
     let held = c.loop-side.sides in

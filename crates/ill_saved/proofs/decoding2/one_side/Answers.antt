@@ -1,3 +1,4 @@
+-- Answers the contract of `one_side` (`src/decoding2.rt`).
 use Rattle.std.proofs.Common.{rules, ◌≡◌, false, [], Err, subst}
 use Rattle.ill_saved.specs.Side.{role_of, is_idle}
 use Rattle.ill_saved.specs.Sides.{SidesOf}
@@ -5,6 +6,7 @@ use Rattle.ill_saved.specs.Records2.{PutsRead}
 use Rattle.ill_saved.proofs.Together.{alone_fails}
 use Rattle.ill_saved.proofs.decoding2.one_side.Goals as goal
 
+-- If the only side cannot be put, its fault is right for the record.
 pub returns-in_err-put : goal.returns-in_err-put
 returns-in_err-put c =
     let side = c.in_ok-side.side in

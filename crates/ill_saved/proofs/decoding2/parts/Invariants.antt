@@ -4,7 +4,7 @@ use Rattle.ill_saved.specs.Records2.{part}
 use Rattle.ill_saved.proofs.Lists.{behind}
 use Rattle.ill_saved.proofs.decoding2.parts.Given as goal
 
--- what is read after the records that are there is what is read in all
+-- The sides so far, and the reading of those that are left, make up the whole reading.
 abbrev pub invariant-loop : goal.invariant-loop
 invariant-loop l = record {
   turns : l.counter ≤ l.count;

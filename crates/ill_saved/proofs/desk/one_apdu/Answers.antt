@@ -1,8 +1,10 @@
+-- Answers the contract of `one_apdu` (`src/desk.rt`).
 use Rattle.std.proofs.Common.{rules, ◌+◌, ◌≤◌, length}
 use Rattle.ill_der.specs.ShortForm.{apdu_at}
 use Rattle.ill_saved.proofs.Desks.{trailing_alone}
 use Rattle.ill_saved.proofs.desk.one_apdu.Goals as goal
 
+-- If the APDU ends before the bytes do, the answer `Trailing` is right.
 pub returns-else-size-bytes : goal.returns-else-size-bytes
 returns-else-size-bytes c =
     let bytes = c.args.bytes.now in

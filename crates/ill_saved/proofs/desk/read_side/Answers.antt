@@ -1,8 +1,10 @@
+-- Answers the contract of `read_side` (`src/desk.rt`).
 use Rattle.std.proofs.Common.{arith}
 use Rattle.ill_saved.specs.Records.{begins_as_record}
 use Rattle.ill_saved.proofs.Records.{decodes_spelled}
 use Rattle.ill_saved.proofs.desk.read_side.Goals as goal
 
+-- The answer is that of decoding, and the bytes are the encoding of a side that they give.
 pub returns : goal.returns
 returns c =
     let bytes = c.args.bytes.now in

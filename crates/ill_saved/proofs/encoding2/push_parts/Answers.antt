@@ -1,3 +1,4 @@
+-- Answers the contract of `push_parts` (`src/encoding2.rt`).
 use Rattle.std.proofs.Common.{◌≡◌, ◌+◌, ◌≤◌, ◌<◌, ◌++◌, length, drop, Some, ap, sym, ◌∙◌, arith, rules}
 use Rattle.std.specs.List.{slice_get}
 use Rattle.std.proofs.lemmas.Option.{get_or_from_slice_get}
@@ -8,6 +9,7 @@ use Rattle.ill_saved.proofs.Lists.{one_spelled, all_spelled, one_each, none_each
 use Rattle.ill_saved.proofs.encoding2.push_parts.Goals as goal
 use Rattle.ill_saved.proofs.encoding2.push_parts.Goals.{in-Some+in_ok-push_part, in_default}
 
+-- One more part keeps the invariant.
 pub loop-place-preserved : goal.loop-place-preserved
 loop-place-preserved c =
     let held = c.args.sides.now.sides in
@@ -27,12 +29,14 @@ loop-place-preserved c =
       | in_default w ↦ absurd (none_past held place inside (search rules))
     ]
 
+-- After the last side, the parts of all are appended.
 pub returns-clause-bytes : goal.returns-clause-bytes
 returns-clause-bytes c =
     let held = c.args.sides.now.sides in
     let all : length held ≤ c.loop-place.place = omega (arith, c.loop-place-test.false, c.len-place-end.ensures.value) in
     sym (all_spelled part.spell c.loop-place.bytes.items held c.loop-place.place all) ∙ c.loop-place.invariant.bytes
 
+-- After the last side, all are in range.
 pub returns-clause-sides : goal.returns-clause-sides
 returns-clause-sides c =
     let held = c.args.sides.now.sides in

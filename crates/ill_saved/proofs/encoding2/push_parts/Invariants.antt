@@ -4,7 +4,8 @@ use Rattle.ill_saved.specs.Records2.{part}
 use Rattle.ill_saved.specs.Ranges.{Each, IsSide}
 use Rattle.ill_saved.proofs.encoding2.push_parts.Given as goal
 
--- with what is left, all is there, and all can be
+-- The bytes so far, and the parts of the sides from `place` on, are the whole encoding.
+-- If the sides from `place` on are in range, all are.
 abbrev pub invariant-loop-place : goal.invariant-loop-place
 invariant-loop-place l = record {
   bytes : l.bytes.items ++ spell_all part.spell (drop l.place l.sides.sides) ≡ l.fn.bytes.items ++ spell_all part.spell l.sides.sides;

@@ -1,6 +1,8 @@
+-- Answers the contract of `rows_begin` (`src/laws.rt`).
 use Rattle.ill_saved.proofs.Desks.{rows_stay}
 use Rattle.ill_saved.proofs.laws.rows_begin.Goals as goal
 
+-- A side that is not idle is not idle after a row.
 pub returns-clause-stays : goal.returns-clause-stays
 returns-clause-stays c =
     rows_stay (record { wish = c.requester_has_begun.ensures.acts; deed = c.responder_has_begun.ensures.acts; message = c.requester_has_begun.ensures.takes })

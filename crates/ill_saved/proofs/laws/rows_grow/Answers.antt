@@ -1,6 +1,8 @@
+-- Answers the contract of `rows_grow` (`src/laws.rt`).
 use Rattle.ill_saved.proofs.Desks.{row_grows}
 use Rattle.ill_saved.proofs.laws.rows_grow.Goals as goal
 
+-- A side grows by each row.
 pub returns : goal.returns
 returns c = row_grows (record {
   wish_txn = c.requester_keeps_txn.ensures.acts;

@@ -1,5 +1,7 @@
+-- Answers the contract of `sides_read_again` (`src/laws.rt`).
 use Rattle.ill_saved.proofs.SidesLaws.{read_again}
 use Rattle.ill_saved.proofs.laws.sides_read_again.Goals as goal
 
+-- Sides that may be saved are read again from their encoding.
 pub returns : goal.returns
 returns c = read_again (record { spelled = c.spelled.ensures.side; again = c.read_again.ensures; short = c.record_is_short.ensures })

@@ -1,7 +1,9 @@
+-- Answers the contract of `spelled` (`src/laws.rt`).
 use Rattle.ill_saved.proofs.Fields.{Below}
 use Rattle.ill_saved.proofs.RecordLaws.{side_takes, record_takes}
 use Rattle.ill_saved.proofs.laws.spelled.Goals as goal
 
+-- Bytes that are read as a side are its encoding.
 pub returns : goal.returns
 returns c =
     let below : Below = record {

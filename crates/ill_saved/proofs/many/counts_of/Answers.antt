@@ -1,3 +1,4 @@
+-- Answers the contract of `counts_of` (`src/many.rt`).
 use Rattle.std.proofs.Common.{rules, arith, ◌≡◌, ◌<◌, ◌+◌, ◌++◌, ◌∷◌, [], length, drop, Some, ap, sym, ◌∙◌}
 use Rattle.std.specs.List.{slice_get}
 use Rattle.std.proofs.lemmas.Option.{get_or_from_slice_get}
@@ -7,6 +8,7 @@ use Rattle.ill_saved.proofs.Holdings.{one_counted}
 use Rattle.ill_saved.proofs.many.counts_of.Goals as goal
 use Rattle.ill_saved.proofs.many.counts_of.Goals.{in-Some+in_ok-push, in_default}
 
+-- One more count keeps the invariant.
 pub loop-place-preserved : goal.loop-place-preserved
 loop-place-preserved c =
     let held = c.args.sides.now.sides in

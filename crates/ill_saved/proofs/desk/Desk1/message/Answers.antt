@@ -1,7 +1,9 @@
+-- Answers the contract of `Desk1::message` (`src/desk.rt`).
 use Rattle.std.proofs.Common.{rules, ◌≡◌, ◌≤◌, Vec, Global, ℕ}
 use Rattle.ill_saved.proofs.Desks.{sends_released}
 use Rattle.ill_saved.proofs.desk.Desk1.message.Goals as goal
 
+-- The bytes from the kept record are those that `Sends` asks for.
 pub returns : goal.returns
 returns g c =
     let desk = c.self.inside in

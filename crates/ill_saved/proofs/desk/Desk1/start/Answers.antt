@@ -1,3 +1,4 @@
+-- Answers the contract of `Desk1::start` (`src/desk.rt`).
 use Rattle.std.proofs.Common.{Ok, subst}
 use Rattle.std.specs.Prelude.{IfSome}
 use Rattle.ill_saved.specs.Desk.{LoadsSide}
@@ -6,6 +7,7 @@ use Rattle.ill_saved.specs.Loading.{side_loaded}
 use Rattle.ill_saved.proofs.Desks.{start_rules}
 use Rattle.ill_saved.proofs.desk.Desk1.start.Goals as goal
 
+-- The rules of the desk hold of the loaded side.
 pub invariant_of-result : goal.invariant_of-result
 invariant_of-result g c =
     let store = g.S.Store.state c.args.store in

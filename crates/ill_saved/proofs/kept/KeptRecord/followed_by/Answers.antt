@@ -1,3 +1,4 @@
+-- Answers the contract of `KeptRecord::followed_by` (`src/kept.rt`).
 use Rattle.std.proofs.Common.{rules, arith, ◌≡◌, ◌+◌, ◌-◌, ◌++◌, ◌∷◌, [], length, map, drop, subst, sym, ap, ◌∙◌}
 use Rattle.std.specs.List.{All}
 use Rattle.std.proofs.lemmas.List.{drop_more, drop_all}
@@ -7,6 +8,7 @@ use Rattle.ill_saved.specs.Kept.{piece_at, IsWithin}
 use Rattle.ill_saved.proofs.Places.{ArePlaced, ArePlacedIn, first_placed, next_placed, all_placed}
 use Rattle.ill_saved.proofs.kept.KeptRecord.followed_by.Goals as goal
 
+-- The kept messages have their places before the loop.
 pub loop-apdu-init : goal.loop-apdu-init
 loop-apdu-init c =
     let kept = c.args.self.now in
@@ -18,6 +20,7 @@ loop-apdu-init c =
     let pieces : map (piece_at kept.messages) places ≡ kept.pieces = search rules in
     record { placed = first_placed kept.messages kept.pieces places c.args.apdus.now (length c.messages-end.result.now) end within pieces }
 
+-- One more message keeps the invariant.
 pub loop-apdu-preserved : goal.loop-apdu-preserved
 loop-apdu-preserved c =
     let apdus = c.args.apdus.now in
@@ -32,7 +35,9 @@ loop-apdu-preserved c =
     let next = next_placed whole c.loop-apdu.end c.loop-apdu.places.items a left all placed in
     record { placed = search (rules, next) }
 
-all_are_placed : (c : goal.After-len) → ArePlacedIn c.args.bytes.items (c.len.result - c.loop-apdu.end) (c.args.self.now.messages ++ spell_all spelling c.args.apdus.now) c.loop-apdu.places.items
+-- After the loop, each message has its place in `bytes`.
+all_are_placed : (c : goal.After-len)
+    → ArePlacedIn c.args.bytes.items (c.len.result - c.loop-apdu.end) (c.args.self.now.messages ++ spell_all spelling c.args.apdus.now) c.loop-apdu.places.items
     (c.args.self.now.pieces ++ map spelling c.args.apdus.now)
 all_are_placed c =
     let apdus = c.args.apdus.now in
@@ -42,11 +47,13 @@ all_are_placed c =
     all_placed c.args.bytes.items (c.args.self.now.messages ++ spell_all spelling apdus) (c.len.result - c.loop-apdu.end) c.loop-apdu.end c.loop-apdu.places.items left (c.args.self.now.pieces ++ map spelling apdus)
     none c.loop-apdu.invariant.placed c.requires.ends (ap (λ n. n - c.loop-apdu.end) size)
 
+-- The places of the new record are within its messages.
 pub invariant_of-result : goal.invariant_of-result
 invariant_of-result c =
     let placed = all_are_placed c in
     (placed.behind, placed.within)
 
+-- The new record has all messages, each at its place.
 pub returns : goal.returns
 returns c =
     let placed = all_are_placed c in

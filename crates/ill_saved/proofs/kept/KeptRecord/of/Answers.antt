@@ -1,3 +1,4 @@
+-- Answers the contract of `KeptRecord::of` (`src/kept.rt`).
 use Rattle.std.proofs.Common.{rules, ◌++◌, ◌≡◌, ◌∙◌, ap, sym}
 use Rattle.ill_der.specs.ShortForm.{spelling}
 use Rattle.ill_saved.specs.Layout.{spell_all}
@@ -5,6 +6,7 @@ use Rattle.ill_saved.specs.Side.{issued_of}
 use Rattle.ill_saved.proofs.Places.{ends_with_messages}
 use Rattle.ill_saved.proofs.kept.KeptRecord.of.Goals as goal
 
+-- The record of the side ends with the encodings of its messages.
 pub followed_by-requires : goal.followed_by-requires
 followed_by-requires c =
     let ends = ends_with_messages c.args.side.now in

@@ -1,3 +1,4 @@
+-- Answers the contract of `Desk::act` (`src/many.rt`).
 use Rattle.std.proofs.Common.{rules, ◌≡◌, true, length, ap, subst, ◌∙◌}
 use Rattle.ill_saved.specs.Side.{Acts, role_for}
 use Rattle.ill_saved.specs.Sides.{is_same_role, found_by}
@@ -8,7 +9,8 @@ use Rattle.ill_saved.proofs.many.Desk.act.Given.{Over}
 use Rattle.ill_saved.proofs.many.Desk.act.Goals.{In-Some}
 use Rattle.ill_saved.proofs.many.Desk.act.Goals as goal
 
--- the desk keeps its rules
+-- After the act of a held side, each side has a count.
+-- The landed bytes of an honest store, and some sides, back the desk's content.
 rules_stay : (g : Over) (c : In-Some g) → (length c.self.inside.released.items ≡ length c.act.new.self.sides)
     × ((g.S.Store.state c.self.inside.store).is_honest ≡ true → AreBacked (g.S.Store.state c.self.inside.store).landed (record { role = c.act.new.self.role; held = held_of c.act.new.self.sides c.self.inside.released.items }))
     × AreBackable (record { role = c.act.new.self.role; held = held_of c.act.new.self.sides c.self.inside.released.items })
@@ -21,8 +23,9 @@ rules_stay g c = (
       c.act.new.self c.in-Some.ensures c.self.invariant.2,
 )
 
--- what the desk answers
-acts_so : (g : Over) (c : In-Some g) → ManyActs c.args.self.now.live c.args.txn.now c.args.action.now (desk_answer c.in-Some.answer)
+-- If the held side answers an action, the desk answers as `ManyActs` says.
+acts_so : (g : Over) (c : In-Some g)
+    → ManyActs c.args.self.now.live c.args.txn.now c.args.action.now (desk_answer c.in-Some.answer)
     (record { role = c.act.new.self.role; held = held_of c.act.new.self.sides c.self.inside.released.items })
 acts_so g c =
     let fits : is_same_role c.self.inside.sides.role (role_for c.args.action.now) ≡ true = search rules in
@@ -30,22 +33,27 @@ acts_so g c =
     subst (λ desk. ManyActs desk.live c.args.txn.now c.args.action.now (desk_answer c.in-Some.answer) (record { role = c.act.new.self.role; held = held_of c.act.new.self.sides c.self.inside.released.items })) c.self.view_is
     (desk_acts_so all.role all.sides c.self.inside.released.items c.self.invariant.0 c.rows_grow.ensures c.args.txn.now c.args.action.now c.in-Some.answer c.act.new.self fits c.in-Some.ensures)
 
+-- The desk keeps its invariant if its side does not do the action.
 pub invariant_of-self : goal.invariant_of-self
 invariant_of-self g c = rules_stay g (goal.at.invariant_of-self g c).In-Some
 
+-- The desk keeps its invariant after its side has done the action.
 pub invariant_of-self-in-Some : goal.invariant_of-self-in-Some
 invariant_of-self-in-Some g c = rules_stay g (goal.at.invariant_of-self-in-Some g c).In-Some
 
+-- If the side refuses the action, the answer is as `ManyActs` says.
 pub returns-in_err-answer-in-Some-clause-acts : goal.returns-in_err-answer-in-Some-clause-acts
 returns-in_err-answer-in-Some-clause-acts g c =
     let so = acts_so g (goal.at.returns-in_err-answer-in-Some-clause-acts g c).In-Some in
     search (rules, so)
 
+-- If the side does the action, the answer is as `ManyActs` says.
 pub returns-in_ok-answer-in-Some-clause-acts : goal.returns-in_ok-answer-in-Some-clause-acts
 returns-in_ok-answer-in-Some-clause-acts g c =
     let so = acts_so g (goal.at.returns-in_ok-answer-in-Some-clause-acts g c).In-Some in
     search (rules, so)
 
+-- If no side is of the transaction, nothing is held of it.
 pub act_first-requires-clause-none : goal.act_first-requires-clause-none
 act_first-requires-clause-none g c =
     ap (λ all. found_by txn_held c.args.txn.now (held_of all.sides c.self.inside.released.items)) c.in-None.ensures.1

@@ -1,3 +1,4 @@
+-- Answers the contract of `Desk::create` (`src/many.rt`).
 use Rattle.std.proofs.Common.{rules, ◌≡◌, true, None, [], ap, sym, subst, ◌∙◌}
 use Rattle.ill_saved.specs.Side.{IsConsistent}
 use Rattle.ill_saved.specs.Ranges.{Each}
@@ -6,6 +7,7 @@ use Rattle.ill_saved.specs.Many.{counts, held_of}
 use Rattle.ill_saved.proofs.Holdings.{as_many_counted, none_backed, none_are, whole_backable}
 use Rattle.ill_saved.proofs.many.Desk.create.Goals as goal
 
+-- A new desk keeps its invariant: nothing has landed, and nothing is held.
 pub invariant_of-result : goal.invariant_of-result
 invariant_of-result g c =
     let all = c.in-Ok.field-0.sides in
@@ -19,6 +21,7 @@ invariant_of-result g c =
       whole_backable all counted (subst (λ (held : SidesOf). Each IsConsistent held.sides) (sym is) (none_are IsConsistent)) whole,
     )
 
+-- A new desk holds no sides.
 pub returns-in-Ok-clause-begins : goal.returns-in-Ok-clause-begins
 unfolding held_of
 returns-in-Ok-clause-begins g c =

@@ -1,3 +1,4 @@
+-- Answers the contract of `Desk::hold` (`src/many.rt`).
 use Rattle.std.proofs.Common.{rules, ◌≡◌, true, ℕ, List, ◌++◌, ◌+◌, ◌∷◌, [], length, None, length-append, ap, sym, subst, ◌∙◌}
 use Rattle.ill_saved.specs.Side.{txn_of, idle_side, IsRow}
 use Rattle.ill_saved.specs.Sides.{SidesOf, put_refusal, put_last}
@@ -5,6 +6,7 @@ use Rattle.ill_saved.specs.Many.{sides_held, with_held, AreBacked, AreBackable, 
 use Rattle.ill_saved.proofs.Holdings.{as_seen, held_more, more_backed, more_backable}
 use Rattle.ill_saved.proofs.many.Desk.hold.Goals as goal
 
+-- The desk keeps its invariant with one more side.
 pub invariant_of-self-in-Ok : goal.invariant_of-self-in-Ok
 invariant_of-self-in-Ok g c =
     let all = c.self.inside.sides in
@@ -23,6 +25,7 @@ invariant_of-self-in-Ok g c =
           (more_backable all.role all.sides counted c.self.invariant.0 c.args.side may c.rows_grow.ensures c.put.new.self put row c.self.invariant.2),
     )
 
+-- The desk holds one more side, with nothing released.
 pub returns-in_ok-push-in-Ok-clause-held : goal.returns-in_ok-push-in-Ok-clause-held
 returns-in_ok-push-in-Ok-clause-held g c =
     let all = c.self.inside.sides in
@@ -35,6 +38,7 @@ returns-in_ok-push-in-Ok-clause-held g c =
     ∙ held_more all.role all.sides counted c.self.invariant.0 c.args.side may c.put.new.self put
     ∙ ap (λ desk. with_held desk.live (record { side = c.args.side; released = 0 })) c.self.view_is
 
+-- The desk keeps its invariant if memory runs out.
 pub invariant_of-self-in-Err : goal.invariant_of-self-in-Err
 invariant_of-self-in-Err g c =
     let all = c.self.inside.sides in

@@ -1,3 +1,4 @@
+-- Answers the contract of `Desk::may_begin` (`src/many.rt`).
 use Rattle.std.proofs.Common.{rules, ◌≡◌, nat_lt, length, true, false, ap, sym, ◌∙◌}
 use Rattle.ill_saved.specs.Sides.{most_sides}
 use Rattle.ill_saved.proofs.Holdings.{as_many_held}
@@ -5,16 +6,18 @@ use Rattle.ill_saved.proofs.many.Desk.may_begin.Given.{Over}
 use Rattle.ill_saved.proofs.many.Desk.may_begin.Goals.{After-len}
 use Rattle.ill_saved.proofs.many.Desk.may_begin.Goals as goal
 
--- as many are held as there are sides
+-- A desk holds as many as it has sides.
 as_many : (g : Over) (c : After-len g) → length c.args.self.now.live.held ≡ length c.self.inside.sides.sides
 as_many g c = sym (ap (λ desk. length desk.live.held) c.self.view_is) ∙ as_many_held c.self.inside.sides.sides c.self.inside.released.items c.self.invariant.0
 
+-- If the sides are fewer than the limit, there is room.
 pub returns-then-len-lt-SIDES_LIMIT : goal.returns-then-len-lt-SIDES_LIMIT
 returns-then-len-lt-SIDES_LIMIT g c =
     let may : c.args.begins ≡ true = search rules in
     let room : nat_lt (length c.self.inside.sides.sides) most_sides ≡ true = search rules in
     (may, ap (λ n. nat_lt n most_sides) (as_many g (goal.at.returns-then-len-lt-SIDES_LIMIT g c).After-len) ∙ room)
 
+-- If the sides are at the limit, there is no room.
 pub returns-else-len-lt-SIDES_LIMIT : goal.returns-else-len-lt-SIDES_LIMIT
 returns-else-len-lt-SIDES_LIMIT g c =
     let may : c.args.begins ≡ true = search rules in

@@ -1,3 +1,4 @@
+-- Answers the contract of `Desk::message` (`src/many.rt`).
 use Rattle.std.proofs.Common.{rules, ◌≡◌, Some, None, ap, sym, ◌∙◌}
 use Rattle.ill_saved.specs.Sides.{found_by, side_with}
 use Rattle.ill_saved.specs.Many.{txn_held, held_for}
@@ -6,34 +7,39 @@ use Rattle.ill_saved.proofs.many.Desk.message.Given.{Over}
 use Rattle.ill_saved.proofs.many.Desk.message.Goals.{In-Some}
 use Rattle.ill_saved.proofs.many.Desk.message.Goals as goal
 
--- what is held of the transaction
+-- If the desk has a side of the transaction, it is held with its released count.
 found : (g : Over) (c : In-Some g) → found_by txn_held c.args.txn.now c.args.self.now.live.held
     ≡ Some (record { side = c.in-Some.side.now; released = (held_for c.args.txn.now c.args.self.now.live).released })
 found g c =
     let there : side_with c.args.txn.now c.self.inside.sides.sides ≡ Some c.in-Some.side.now = search rules in
     held_there c.args.self.now.live c.args.txn.now c.in-Some.side.now (ap (λ all. side_with c.args.txn.now all.sides) (sym (as_seen c.self.inside.sides c.self.inside.released.items c.self.inside.store c.args.self.now c.self.invariant.0 c.self.view_is)) ∙ there)
 
+-- If no side is of the transaction, the answer is `NoSuchTransaction`.
 pub returns-in_default : goal.returns-in_default
 returns-in_default g c =
     let none : side_with c.args.txn.now c.self.inside.sides.sides ≡ None = search rules in
     let held = none_held_there c.args.self.now.live c.args.txn.now (ap (λ all. side_with c.args.txn.now all.sides) (sym (as_seen c.self.inside.sides c.self.inside.released.items c.self.inside.store c.args.self.now c.self.invariant.0 c.self.view_is)) ∙ none) in
     search (rules, held)
 
+-- If the message is not issued, the answer is `NoSuchMessage`.
 pub returns-in-None : goal.returns-in-None
 returns-in-None g c =
     let held = found g (goal.at.returns-in-None g c).In-Some in
     search (rules, held)
 
+-- If the message is issued and not released, the answer is `NotSaved`.
 pub returns-in-Some-issued : goal.returns-in-Some-issued
 returns-in-Some-issued g c =
     let held = found g (goal.at.returns-in-Some-issued g c).In-Some in
     search (rules, held)
 
+-- If memory runs out for a released message, the answer says so.
 pub returns-in_err-encode-in-Some-2 : goal.returns-in_err-encode-in-Some-2
 returns-in_err-encode-in-Some-2 g c =
     let held = found g (goal.at.returns-in_err-encode-in-Some-2 g c).In-Some in
     search (rules, held)
 
+-- If the message is released, the answer is its encoding.
 pub returns-in_ok-encode-in-Some-2 : goal.returns-in_ok-encode-in-Some-2
 returns-in_ok-encode-in-Some-2 g c =
     let held = found g (goal.at.returns-in_ok-encode-in-Some-2 g c).In-Some in

@@ -1,3 +1,4 @@
+-- Answers the contract of `Desk::released` (`src/many.rt`).
 use Rattle.std.proofs.Common.{rules, ◌≡◌, ℕ, ◌<◌, ◌≤◌, length, Some, None, ap, sym, subst, ◌∙◌}
 use Rattle.std.specs.Prelude.{position}
 use Rattle.ill_core.specs.Issued.{is_same_txn}
@@ -6,6 +7,7 @@ use Rattle.ill_saved.specs.Many.{held_for, AreBackable}
 use Rattle.ill_saved.proofs.Holdings.{count_there, no_count, few_released}
 use Rattle.ill_saved.proofs.many.Desk.released.Goals as goal
 
+-- The count at the place of the side is its released count.
 pub returns-in-Some-clause-value : goal.returns-in-Some-clause-value
 returns-in-Some-clause-value g c =
     let all = c.self.inside.sides in
@@ -14,6 +16,7 @@ returns-in-Some-clause-value g c =
     let within : c.in-Some.place < length all.sides = search rules in
     count_there all.role all.sides c.self.inside.released.items txn c.in-Some.place c.index.result.now c.self.invariant.0 at within c.index.ensures ∙ ap (λ desk. (held_for txn desk.live).released) c.self.view_is
 
+-- If no side is of the transaction, nothing of it is released.
 pub returns-in-None-clause-value : goal.returns-in-None-clause-value
 returns-in-None-clause-value g c =
     let all = c.self.inside.sides in
@@ -21,6 +24,7 @@ returns-in-None-clause-value g c =
     let none : None ≡ position (λ side. is_same_txn txn (txn_of side)) all.sides = search rules in
     no_count all.role all.sides c.self.inside.released.items txn c.self.invariant.0 none ∙ ap (λ desk. (held_for txn desk.live).released) c.self.view_is
 
+-- No more messages are released than issued.
 pub returns-in-Some-clause-issued : goal.returns-in-Some-clause-issued
 returns-in-Some-clause-issued g c =
     let txn = c.args.txn.now in

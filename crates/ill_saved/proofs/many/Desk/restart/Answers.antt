@@ -1,3 +1,4 @@
+-- Answers the contract of `Desk::restart` (`src/many.rt`).
 use Rattle.std.proofs.Common.{rules, ◌≡◌, true, Ok, ap, sym, ◌∙◌}
 use Rattle.std.specs.Prelude.{option_map}
 use Rattle.ill_saved.specs.Side.{IsConsistent}
@@ -8,6 +9,7 @@ use Rattle.ill_saved.proofs.Desks.{allows_done}
 use Rattle.ill_saved.proofs.Holdings.{holds_sides, as_many_counted, read_backed, restarts_with, landed_as_read, whole_held, whole_backable}
 use Rattle.ill_saved.proofs.many.Desk.restart.Goals as goal
 
+-- The desk keeps its invariant with the loaded sides.
 pub invariant_of-self-2 : goal.invariant_of-self-2
 invariant_of-self-2 g c =
     let all = c.sides.inside.sides in
@@ -25,6 +27,7 @@ invariant_of-self-2 g c =
       whole_backable all counted each c.sides.invariant,
     )
 
+-- If the record loads, the answer is as `Restarts` says.
 pub returns-clause-restarts : goal.returns-clause-restarts
 returns-clause-restarts g c =
     let all = c.sides.inside.sides in
@@ -43,6 +46,7 @@ returns-clause-restarts g c =
     let seen = c.self.view_is in
     search (rules, to, seen)
 
+-- If the record loads, all messages are released.
 pub returns-clause-leaves : goal.returns-clause-leaves
 returns-clause-leaves g c =
     let all = c.sides.inside.sides in

@@ -1,3 +1,4 @@
+-- Answers the contract of `Desk::start` (`src/many.rt`).
 use Rattle.std.proofs.Common.{rules, ◌≡◌, true, Ok, Some, ap, sym, ◌∙◌}
 use Rattle.ill_saved.specs.Side.{IsConsistent}
 use Rattle.ill_saved.specs.Ranges.{Each}
@@ -7,6 +8,7 @@ use Rattle.ill_saved.specs.Many.{counts, landed_sides, whole_of, held_of}
 use Rattle.ill_saved.proofs.Holdings.{holds_sides, as_many_counted, read_backed, loads_landed, starts_with, whole_held, whole_backable}
 use Rattle.ill_saved.proofs.many.Desk.start.Goals as goal
 
+-- The desk keeps its invariant with the loaded sides.
 pub invariant_of-result : goal.invariant_of-result
 invariant_of-result g c =
     let all = c.in-Ok-Some.field-0-0.sides in
@@ -25,6 +27,7 @@ invariant_of-result g c =
       whole_backable all counted each whole,
     )
 
+-- If the record loads, the answer is as `StartsMany` says.
 pub returns-in-Ok-Some-clause-starts : goal.returns-in-Ok-Some-clause-starts
 returns-in-Ok-Some-clause-starts g c =
     let all = c.in-Ok-Some.field-0-0.sides in
@@ -35,6 +38,7 @@ returns-in-Ok-Some-clause-starts g c =
     let loads : (g.S.Store.state store).is_honest ≡ true → Loads records_at begins_as_records landed (g.S.Store.state store).plan (Ok (Some all)) = search rules in
     λ honest. starts_with landed (g.S.Store.state store).plan all (record { live = record { role = all.role; held = held_of all.sides counted }; store = c.load_whole.new.store }) (loads honest) (holds_sides all counted (as_many_counted all.sides counted whole))
 
+-- If the record loads, all messages are released.
 pub returns-in-Ok-Some-clause-whole : goal.returns-in-Ok-Some-clause-whole
 returns-in-Ok-Some-clause-whole g c =
     let all = c.in-Ok-Some.field-0-0.sides in

@@ -1,3 +1,4 @@
+-- Answers the contract of `Desk::take_first` (`src/many.rt`).
 use Rattle.std.proofs.Common.{rules, ◌≡◌, true, None, Ok, length, nat_lt, ap}
 use Rattle.ill_core.specs.declared.taking.Taking.TheVariants.{Taken}
 use Rattle.ill_core.specs.Bodies.{is_ill_request}
@@ -9,8 +10,9 @@ use Rattle.ill_saved.proofs.many.Desk.take_first.Given.{Over}
 use Rattle.ill_saved.proofs.many.Desk.take_first.Goals.{In_ok-side}
 use Rattle.ill_saved.proofs.many.Desk.take_first.Goals as goal
 
--- the side that has begun may be put, and came of a row
-may : (g : Over) (c : In_ok-side g) → (put_refusal (sides_held c.args.self.now.live) c.in_ok-side.side ≡ None) × IsRow (idle_side c.args.self.now.live.role (txn_of c.in_ok-side.side)) c.in_ok-side.side
+-- The side that has begun may be put. A row led to it from the idle side of its transaction.
+may : (g : Over) (c : In_ok-side g)
+    → (put_refusal (sides_held c.args.self.now.live) c.in_ok-side.side ≡ None) × IsRow (idle_side c.args.self.now.live.role (txn_of c.in_ok-side.side)) c.in_ok-side.side
 may g c =
     let live = c.args.self.now.live in
     let a = c.args.apdu.now in
@@ -20,8 +22,10 @@ may g c =
     let begun = first_begins c.responder_has_begun.ensures.takes live.role a c.in_ok-side.side request c.requires.other taken in
     first_may c.rows_grow.ensures live a.txn c.requires.none room c.in_ok-side.side (took a (ap (λ p. p.1) taken)) begun
 
+-- The side that has begun may be put.
 pub hold-requires-clause-may : goal.hold-requires-clause-may
 hold-requires-clause-may g c = (may g (goal.at.hold-requires-clause-may g c).In_ok-side).0
 
+-- A row led to the side that has begun, from the idle side of its transaction.
 pub hold-requires-clause-row : goal.hold-requires-clause-row
 hold-requires-clause-row g c = (may g (goal.at.hold-requires-clause-row g c).In_ok-side).1

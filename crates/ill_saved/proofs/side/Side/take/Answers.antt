@@ -1,9 +1,11 @@
+-- Answers the contract of `Side::take` (`src/side.rt`).
 use Rattle.std.proofs.Common.{sym, subst}
 use Rattle.ill_saved.specs.declared.side.Side.TheVariants as sides
 use Rattle.ill_saved.specs.Side.{Takes}
 use Rattle.ill_saved.proofs.Roles.{requester_takes}
 use Rattle.ill_saved.proofs.side.Side.take.Goals as goal
 
+-- A requester's answer is the answer of its side.
 pub returns-in-Requester : goal.returns-in-Requester
 returns-in-Requester c =
     let x = c.in-Requester.requester in

@@ -1,9 +1,10 @@
+-- Answers the contract of `Sides::get` (`src/sides.rt`).
 use Rattle.std.proofs.Common.{ap, ◌∙◌}
 use Rattle.ill_saved.specs.Sides.{side_with}
 use Rattle.ill_saved.proofs.Held.{filed_with}
 use Rattle.ill_saved.proofs.sides.Sides.get.Goals as goal
 
--- src/sides.rt:85:5
+-- The map gives the side of the transaction.
 pub returns : goal.returns
 returns c =
     c.get.ensures.value ∙ filed_with c.args.txn.now c.self.inside.map.entries c.self.invariant.keys

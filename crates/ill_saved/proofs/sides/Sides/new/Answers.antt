@@ -1,6 +1,7 @@
+-- Answers the contract of `Sides::new` (`src/sides.rt`).
 use Rattle.ill_saved.proofs.Held.{none_filed}
 use Rattle.ill_saved.proofs.sides.Sides.new.Goals as goal
 
--- src/sides.rt:40:9
+-- An empty map is filed.
 pub invariant_of-result : goal.invariant_of-result
 invariant_of-result c = none_filed c.args.role _ c.new.ensures.empty

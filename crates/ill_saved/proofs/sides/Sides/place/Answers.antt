@@ -1,3 +1,4 @@
+-- Answers the contract of `Sides::place` (`src/sides.rt`).
 use Rattle.std.proofs.Common.{ap, ◌∙◌}
 use Rattle.std.specs.Prelude.{position}
 use Rattle.ill_core.specs.Issued.{is_same_txn}
@@ -5,6 +6,7 @@ use Rattle.ill_saved.proofs.Finding.{position_mapped}
 use Rattle.ill_saved.specs.Side.{txn_of}
 use Rattle.ill_saved.proofs.sides.Sides.place.Goals as goal
 
+-- The index in the map is the place among the sides.
 pub returns-clause-place : goal.returns-clause-place
 returns-clause-place c =
     let test = is_same_txn c.args.txn.now in

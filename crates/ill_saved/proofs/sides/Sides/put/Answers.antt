@@ -1,14 +1,15 @@
+-- Answers the contract of `Sides::put` (`src/sides.rt`).
 use Rattle.std.proofs.Common.{◌≡◌, None, sym, ap, ◌∙◌}
 use Rattle.ill_saved.specs.Sides.{put_refusal}
 use Rattle.ill_saved.proofs.Held.{handed_back, no_fault, is_new, filed_more, filed_still}
 use Rattle.ill_saved.proofs.sides.Sides.put.Goals.{in-Ok-insert_new, in-Err}
 use Rattle.ill_saved.proofs.sides.Sides.put.Goals as goal
 
--- src/sides.rt:54:13
+-- A side that is refused is returned, and nothing changes.
 pub returns-in-Some : goal.returns-in-Some
 returns-in-Some c = handed_back c.args.self.now c.args.side c.in-Some.fault (sym c.refusal.ensures ∙ c.in-Some.is)
 
--- src/sides.rt:59:15
+-- Nothing is filed under the transaction of a side that is not refused.
 pub insert_new-requires : goal.insert_new-requires
 insert_new-requires c =
     let none : put_refusal c.args.self.now c.args.side ≡ None = sym c.refusal.ensures ∙ no_fault c.refusal.result c.in_default.not-Some in
@@ -17,7 +18,7 @@ insert_new-requires c =
           (ap (λ held. put_refusal held c.args.side) c.self.view_is ∙ none) c.in-Ok.txn (c.in-Ok.ensures ∙ c.txn.ensures);
     }
 
--- src/sides.rt:50:5
+-- All are filed after the side is put, and if memory runs out.
 pub invariant_of-self : goal.invariant_of-self
 invariant_of-self c =
     let none : put_refusal c.args.self.now c.args.side ≡ None = sym c.refusal.ensures ∙ no_fault c.refusal.result c.in_default.not-Some in

@@ -1,3 +1,4 @@
+-- Answers the contract of `Sides::take` (`src/sides.rt`).
 use Rattle.std.proofs.Common.{subst}
 use Rattle.std.specs.Map.{values_of}
 use Rattle.ill_saved.specs.Sides.{OnlyThat}
@@ -5,12 +6,14 @@ use Rattle.ill_saved.specs.Side.{Takes}
 use Rattle.ill_saved.proofs.Held.{filed_on, only_that, takes_row}
 use Rattle.ill_saved.proofs.sides.Sides.take.Goals as goal
 
+-- All sides are filed after one of them takes an APDU.
 pub invariant_of-self : goal.invariant_of-self
 invariant_of-self c =
     filed_on c.rows_grow.ensures c.rows_begin.ensures.stays (λ old answer new. Takes old c.args.apdu.now answer new)
     (λ old new answer does. takes_row old new c.args.apdu.now answer does) c.self.inside.role c.args.apdu.now.txn c.self.inside.map.entries c.self.invariant
     c.take_among.result c.take_among.new.map.entries c.take_among.ensures
 
+-- The side of the APDU's transaction alone takes it.
 pub returns : goal.returns
 returns c =
     subst (λ held. OnlyThat (λ old answer new. Takes old c.args.apdu.now answer new) c.args.apdu.now.txn held c.take_among.result (record { role = c.self.inside.role; sides = values_of c.take_among.new.map.entries })) c.self.view_is

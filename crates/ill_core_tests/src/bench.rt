@@ -5,7 +5,8 @@ use crate::record::Record;
 use crate::side::Side;
 use crate::states::{Role, letters_of, role_of, state_of};
 use ill_core::State;
-use std::alloc::{AllocError, Global};
+use ill_test_kit::{Lines, Page};
+use std::alloc::Global;
 use std::mem;
 
 /// What the lines so far have set up.
@@ -17,8 +18,6 @@ pub struct Bench {
     /// The side to which things happen, and the record that it should have.
     side: Option<Side>,
     record: Record,
-    /// The lines with their answers.
-    text: String,
 }
 
 /// What comes of a row in one state: the new state where it was done or taken, and else the letter of
@@ -34,7 +33,6 @@ impl Drop for Bench {
             columns: _columns,
             side: _side,
             record: _record,
-            text: _text,
         } = self;
     }
 }
@@ -47,72 +45,63 @@ impl Bench {
             columns: Vec::new(alloc),
             side: None,
             record: Record::empty(alloc, State::Idle),
-            text: String::new(alloc),
         }
     }
 
-    pub fn text(&self) -> &str {
-        self.text.as_str()
-    }
-
-    /// Adds a line, and behind it what it is answered, in place of the answer that stands there.
-    pub fn answer(&mut self, line: &str) -> Result<(), AllocError> {
-        if line.starts_with('#') {
-            self.text.push_str(line)?;
-        } else {
-            let case = without_answer(line);
-            self.text.push_str(case)?;
-            self.push_answer(case)?;
-        }
-        self.text.push('\n')
-    }
-
-    fn push_answer(&mut self, line: &str) -> Result<(), AllocError> {
+    fn push_answer(&mut self, page: &mut Page, line: &str) {
         let Some((name, rest)) = line.split_once('|') else {
-            return Ok(());
+            return;
         };
         match rest.split_once('|') {
-            Some((past, rest)) => self.push_fields(name, past.trim(), rest),
-            None => write!(self.text, " {}", state_of(name.trim())),
+            Some((past, rest)) => self.push_fields(page, name, past.trim(), rest),
+            None => {
+                page.text(" ");
+                page.show(&state_of(name.trim()));
+            }
         }
     }
 
     /// Reads the other fields of a row, or of a ruler, which has more behind the last.
-    fn push_fields(&mut self, name: &str, past: &str, rest: &str) -> Result<(), AllocError> {
+    fn push_fields(&mut self, page: &mut Page, name: &str, past: &str, rest: &str) {
         let (event, rest) = rest.split_once('|').unwrap_or((rest, ""));
         let (effect, columns) = rest.split_once('|').unwrap_or((rest, ""));
         if !columns.is_empty() {
-            return self.rule(name, columns);
+            if self.rule(name, columns).is_none() {
+                page.lose();
+            }
+            return;
         }
         let event = Event::read(self.alloc, event.trim());
         let columns = mem::replace(&mut self.columns, Vec::new(self.alloc));
-        let pushed = self.push_cells(&columns, past, &event, effect);
+        self.push_cells(page, &columns, past, &event, effect);
         self.columns = columns;
-        pushed
     }
 
     /// Sets the columns of the rows that follow.
-    fn rule(&mut self, role: &str, columns: &str) -> Result<(), AllocError> {
+    fn rule(&mut self, role: &str, columns: &str) -> Option<()> {
         self.role = role_of(role.trim());
         self.columns.clear();
         for letters in columns.split_whitespace() {
-            self.columns.push(state_of(letters))?;
+            self.columns.push(state_of(letters)).ok()?;
         }
-        Ok(())
+        Some(())
     }
 
     fn push_cells(
         &mut self,
+        page: &mut Page,
         columns: &[State],
         past: &str,
         event: &Event,
         effect: &str,
-    ) -> Result<(), AllocError> {
+    ) {
         for state in columns {
             let (letters, second) = self.cell(*state, past, event, effect);
-            write!(self.text, " {letters:<2}{second:<1}")?;
+            page.text(" ");
+            page.text_to(2, letters);
+            page.text_to(1, second);
         }
-        self.text.push('|')
+        page.text("|");
     }
 
     /// What comes of it in this state. A past of three dots is all that has happened to the side.
@@ -127,6 +116,23 @@ impl Bench {
             None if self.record.is_readable => (event.absent(), ""),
             None => (event.absent(), "!"),
         }
+    }
+}
+
+impl Lines for Bench {
+    /// Adds a line, and behind it what it is answered, in place of the answer that stands there.
+    fn perform(&mut self, page: &mut Page, line: &str) {
+        if line.starts_with('#') {
+            return page.line(line);
+        }
+        let case = without_answer(line);
+        page.text(case);
+        self.push_answer(page, case);
+        page.text("\n");
+    }
+
+    fn end(&mut self, _page: &mut Page) -> Option<()> {
+        Some(())
     }
 }
 

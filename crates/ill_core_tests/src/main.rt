@@ -15,19 +15,9 @@ mod side;
 mod states;
 
 use bench::Bench;
-use std::alloc::AllocError;
+use ill_test_kit::answer_lines;
 use std::io;
 
 fn main(rt: HostRuntime) -> io::Result<()> {
-    let input = io::read_to_string(rt.alloc(), rt.stdin())?;
-    let mut bench = Bench::new(rt.alloc());
-    answer_lines(&mut bench, input.as_str())?;
-    rt.print(bench.text())
-}
-
-fn answer_lines(bench: &mut Bench, input: &str) -> Result<(), AllocError> {
-    for line in input.lines() {
-        bench.answer(line)?;
-    }
-    Ok(())
+    answer_lines(&rt, &mut Bench::new(rt.alloc()))
 }

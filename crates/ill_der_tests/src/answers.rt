@@ -1,45 +1,60 @@
 //! What is printed for a case.
 
-ghost use Rattle.std.specs.Prelude.{◌<◌};
-
 use crate::agreement::{differing_at_apdu, differing_at_fault};
-use crate::buffer::{Buffer, INDENT};
 use crate::cases::push_bytes;
 use crate::feeding::{push_halves, push_pieces, push_random, push_singly};
 use crate::words::push_apdu;
 use ill_der::{DerFault, decode, read_apdu};
+use ill_test_kit::{INDENT, Lines, Page};
 use std::alloc::Global;
 
-/// Adds a line and, where it is a case, its answers below it.
-pub fn push_case(alloc: Global, output: &mut Buffer, line: &str) {
-    output.push(line.as_bytes());
-    output.push_octet(b'\n');
+/// What performs the lines of the input.
+#[derive(Drop)]
+pub struct Cases {
+    pub alloc: Global,
+}
+
+impl Lines for Cases {
+    /// Adds a line, unless it is an answer, and the answers of a case below it.
+    fn perform(&mut self, page: &mut Page, line: &str) {
+        if !line.starts_with(INDENT) {
+            push_case(self.alloc, page, line);
+        }
+    }
+
+    fn end(&mut self, _page: &mut Page) -> Option<()> {
+        Some(())
+    }
+}
+
+/// Adds a line and, if it is a case, its answers below it.
+fn push_case(alloc: Global, output: &mut Page, line: &str) {
+    output.line(line);
     if !line.is_empty() && !line.starts_with("#") {
-        let mut answers = Buffer::new(alloc);
+        let mut answers = Page::new(alloc);
         push_answers(alloc, &mut answers, line);
-        output.push_behind(INDENT.as_bytes(), &answers);
+        output.page_behind(INDENT.as_bytes(), &answers);
     }
 }
 
 /// Adds the answers to a case.
-fn push_answers(alloc: Global, output: &mut Buffer, line: &str) {
+fn push_answers(alloc: Global, output: &mut Page, line: &str) {
     let (form, words) = line.split_once(": ").unwrap_or(("", line));
     if form == "in pieces" {
         return push_pieces(alloc, output, words);
     }
-    let mut bytes = Buffer::new(alloc);
-    push_bytes(&mut bytes, words);
-    if bytes.is_whole() {
-        push_form(alloc, output, form, bytes.bytes());
-    } else {
-        output.push(b"no case\n");
+    let mut bytes = Page::new(alloc);
+    push_bytes(alloc, &mut bytes, words);
+    match bytes.bytes() {
+        Some(bytes) => push_form(alloc, output, form, bytes),
+        None => output.line("no case"),
     }
 }
 
 /// Adds the answers to bytes in a form.
-fn push_form(alloc: Global, output: &mut Buffer, form: &str, bytes: &[u8]) {
+fn push_form(alloc: Global, output: &mut Page, form: &str, bytes: &[u8]) {
     match form {
-        "" => output.push_line(&answer_to(alloc, bytes)),
+        "" => push_line(output, &answer_to(alloc, bytes)),
         "each proper front" => push_fronts(alloc, output, bytes),
         "one after another" => push_stream(alloc, output, bytes),
         "byte by byte" => push_singly(alloc, output, bytes),
@@ -49,13 +64,13 @@ fn push_form(alloc: Global, output: &mut Buffer, form: &str, bytes: &[u8]) {
 }
 
 /// Adds the answers to bytes in a form that has a number in it.
-fn push_numbered_form(alloc: Global, output: &mut Buffer, form: &str, bytes: &[u8]) {
+fn push_numbered_form(alloc: Global, output: &mut Page, form: &str, bytes: &[u8]) {
     if let Some(place) = place_in(form) {
         push_octets(alloc, output, place, bytes);
     } else if let Some((count, seed)) = draws_in(form) {
         push_random(alloc, output, count, seed, bytes);
     } else {
-        output.push(b"no case\n");
+        output.line("no case");
     }
 }
 
@@ -75,17 +90,17 @@ fn draws_in(form: &str) -> Option<(u32, u32)> {
 }
 
 /// The answer of `decode`, and the first call that does not agree with it.
-fn answer_to(alloc: Global, bytes: &[u8]) -> Buffer {
-    let mut answer = Buffer::new(alloc);
+fn answer_to(alloc: Global, bytes: &[u8]) -> Page {
+    let mut answer = Page::new(alloc);
     let differing = match decode(alloc, bytes) {
         Ok((apdu, size)) => {
             push_apdu(&mut answer, &apdu);
             answer.push(b", size ");
-            answer.push_shown(&size);
+            answer.show(&size);
             differing_at_apdu(alloc, bytes, &apdu, size)
         }
         Err(fault) => {
-            answer.push_shown(&fault);
+            answer.show(&fault);
             differing_at_fault(alloc, bytes, fault)
         }
     };
@@ -97,16 +112,16 @@ fn answer_to(alloc: Global, bytes: &[u8]) -> Buffer {
 }
 
 /// Adds the answers to the proper fronts that are not short at their ends, and how many fronts there are.
-fn push_fronts(alloc: Global, output: &mut Buffer, bytes: &[u8]) {
+fn push_fronts(alloc: Global, output: &mut Page, bytes: &[u8]) {
     for size in 0..bytes.len() {
         let front = &bytes[..size];
         if !is_short(alloc, front) {
-            output.push_line(&answer_to(alloc, front));
+            push_line(output, &answer_to(alloc, front));
         }
     }
     output.push(b"fronts, short at their ends but for those above: ");
-    output.push_shown(&bytes.len());
-    output.push_octet(b'\n');
+    output.show(&bytes.len());
+    output.octet(b'\n');
 }
 
 /// Whether all calls answer that the bytes are short at their end.
@@ -122,51 +137,45 @@ fn is_short(alloc: Global, bytes: &[u8]) -> bool {
 
 /// Adds the answers with each octet in turn at this place, each with the first octet of those in a row
 /// that have it.
-fn push_octets(alloc: Global, output: &mut Buffer, place: usize, bytes: &[u8]) {
+fn push_octets(alloc: Global, output: &mut Page, place: usize, bytes: &[u8]) {
     let Some((before, [_, behind @ ..])) = bytes.split_at_checked(place) else {
-        return output.push(b"no case\n");
+        return output.line("no case");
     };
-    let mut last = Buffer::new(alloc);
+    let mut last = Page::new(alloc);
     for octet in 0..=u8::MAX {
         let answer = answer_between(alloc, before, octet, behind);
-        if answer.bytes() != last.bytes() {
+        if answer.so_far() != last.so_far() {
             push_from(output, octet);
-            output.push_line(&answer);
+            push_line(output, &answer);
             last = answer;
         }
     }
 }
 
 /// The answer to these bytes in a row.
-fn answer_between(alloc: Global, before: &[u8], octet: u8, behind: &[u8]) -> Buffer {
-    let mut bytes = Buffer::new(alloc);
+fn answer_between(alloc: Global, before: &[u8], octet: u8, behind: &[u8]) -> Page {
+    let mut bytes = Page::new(alloc);
     bytes.push(before);
-    bytes.push_octet(octet);
+    bytes.octet(octet);
     bytes.push(behind);
-    answer_to(alloc, bytes.bytes())
+    answer_to(alloc, bytes.so_far())
 }
 
 /// Adds that an answer holds from this octet on.
-fn push_from(output: &mut Buffer, octet: u8) {
+fn push_from(output: &mut Page, octet: u8) {
     output.push(b"from ");
-    output.push_octet(digit(octet / 16));
-    output.push_octet(digit(octet % 16));
+    output.hex(&[octet]);
     output.push(b": ");
 }
 
-/// The hexadecimal digit of a number, in ASCII.
-fn digit(number: u8) -> u8
-    requires { number < 16 }
-{
-    if number < 10 {
-        b'0' + number
-    } else {
-        b'A' + (number - 10)
-    }
+/// Adds an answer, and the end of its line.
+fn push_line(output: &mut Page, answer: &Page) {
+    output.page(answer);
+    output.octet(b'\n');
 }
 
 /// Adds the answers of `read_apdu` to the end, and how many bytes each took. The end is read twice.
-fn push_stream(alloc: Global, output: &mut Buffer, bytes: &[u8]) {
+fn push_stream(alloc: Global, output: &mut Page, bytes: &[u8]) {
     let mut reader = bytes;
     for _ in 0..bytes.len() {
         if reader.is_empty() {
@@ -179,15 +188,15 @@ fn push_stream(alloc: Global, output: &mut Buffer, bytes: &[u8]) {
 }
 
 /// Adds the answer of one `read_apdu`, and how many bytes it took. Gives the bytes that it left.
-fn push_read<'a>(alloc: Global, output: &mut Buffer, bytes: &'a [u8]) -> &'a [u8] {
+fn push_read<'a>(alloc: Global, output: &mut Page, bytes: &'a [u8]) -> &'a [u8] {
     let mut reader = bytes;
     match read_apdu(alloc, &mut reader) {
         Ok(None) => output.push(b"the end"),
         Ok(Some(apdu)) => push_apdu(output, &apdu),
-        Err(fault) => output.push_shown(&fault),
+        Err(fault) => output.show(&fault),
     }
     output.push(b", took ");
-    output.push_shown(&bytes.len().saturating_sub(reader.len()));
-    output.push_octet(b'\n');
+    output.show(&bytes.len().saturating_sub(reader.len()));
+    output.octet(b'\n');
     reader
 }

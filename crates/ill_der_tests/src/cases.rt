@@ -1,21 +1,22 @@
 //! The bytes of a case.
 
-use crate::buffer::Buffer;
+use ill_test_kit::Page;
+use std::alloc::Global;
 
 /// Adds the bytes that these words stand for. A word that is none loses them.
-pub fn push_bytes(bytes: &mut Buffer, words: &str) {
+pub fn push_bytes(alloc: Global, bytes: &mut Page, words: &str) {
     for word in words.split_ascii_whitespace() {
-        push_word(bytes, word);
+        push_word(alloc, bytes, word);
     }
 }
 
 /// Adds what a word stands for, as often as it says.
-fn push_word(bytes: &mut Buffer, word: &str) {
+fn push_word(alloc: Global, bytes: &mut Page, word: &str) {
     let (text, count) = word.split_once("*").unwrap_or((word, "1"));
     match u8::from_str_radix(count, 10) {
         Ok(count) => {
             for _ in 0..count {
-                push_text(bytes, text);
+                push_text(alloc, bytes, text);
             }
         }
         Err(_) => bytes.lose(),
@@ -23,9 +24,9 @@ fn push_word(bytes: &mut Buffer, word: &str) {
 }
 
 /// Adds an octet in hexadecimal, or ASCII in quotes, or once more all that stands before it.
-fn push_text(bytes: &mut Buffer, text: &str) {
+fn push_text(alloc: Global, bytes: &mut Page, text: &str) {
     if text == "again" {
-        bytes.double();
+        double(alloc, bytes);
     } else if let Some(quoted) = text.strip_prefix("\"") {
         match quoted.strip_suffix("\"") {
             Some(ascii) => bytes.push(ascii.as_bytes()),
@@ -33,8 +34,15 @@ fn push_text(bytes: &mut Buffer, text: &str) {
         }
     } else {
         match u8::from_str_radix(text, 16) {
-            Ok(octet) => bytes.push_octet(octet),
+            Ok(octet) => bytes.octet(octet),
             Err(_) => bytes.lose(),
         }
     }
+}
+
+/// Adds all that is here once more.
+fn double(alloc: Global, bytes: &mut Page) {
+    let mut before = Page::new(alloc);
+    before.page(bytes);
+    bytes.page(&before);
 }

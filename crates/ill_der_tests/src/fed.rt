@@ -1,15 +1,15 @@
 //! A feed that is tested.
 
-use crate::buffer::Buffer;
 use crate::words::push_apdu;
 use ill_der::{ApduView, DerFault, Feed, Handler};
+use ill_test_kit::Page;
 use ill_values::OutOfMemory;
 use std::alloc::Global;
 
 /// What a push gave: a line for each APDU, and the fault.
 #[derive(Drop)]
 pub struct Given {
-    pub apdus: Buffer,
+    pub apdus: Page,
     pub fault: Option<DerFault>,
 }
 
@@ -19,7 +19,7 @@ pub struct Fed {
     alloc: Global,
     pushed: Feed,
     handed: Feed,
-    apdus: Buffer,
+    apdus: Page,
     fault: Option<DerFault>,
     differing: Option<&'static [u8]>,
 }
@@ -31,7 +31,7 @@ impl Fed {
             alloc,
             pushed: Feed::new(alloc),
             handed: Feed::new(alloc),
-            apdus: Buffer::new(alloc),
+            apdus: Page::new(alloc),
             fault: None,
             differing: None,
         }
@@ -55,44 +55,44 @@ impl Fed {
         } else if self.fault.is_some() && given.fault != self.fault {
             self.differing = Some(b"push");
         }
-        self.apdus.push_all(&given.apdus);
+        self.apdus.page(&given.apdus);
         self.fault = given.fault;
         given
     }
 
     /// Whether both gave the same in all, and end alike.
     pub fn agrees_with(&self, other: &Fed) -> bool {
-        self.apdus.bytes() == other.apdus.bytes()
+        self.apdus.so_far() == other.apdus.so_far()
             && self.fault == other.fault
             && self.pushed.end() == other.pushed.end()
             && self.differing == other.differing
     }
 
     /// Adds how many APDUs were given.
-    pub fn push_count(&self, output: &mut Buffer) {
+    pub fn push_count(&self, output: &mut Page) {
         let count = self
             .apdus
-            .bytes()
+            .so_far()
             .iter()
             .filter(|byte| **byte == b'\n')
             .count();
         output.push(b"APDUs: ");
-        output.push_shown(&count);
+        output.show(&count);
     }
 
     /// Adds the answer of `end`, and the call that does not agree with it or with `push`, if one does not.
-    pub fn push_end(&self, output: &mut Buffer) {
+    pub fn push_end(&self, output: &mut Page) {
         output.push(b"end: ");
         match self.pushed.end() {
             Ok(()) => output.push(b"between APDUs"),
-            Err(fault) => output.push_shown(&fault),
+            Err(fault) => output.show(&fault),
         }
         if let Some(call) = self.differing {
             output.push(b", DIFFERS: ");
             output.push(call);
         }
-        output.push_octet(b'\n');
-        if !self.apdus.is_whole() {
+        output.octet(b'\n');
+        if self.apdus.bytes().is_none() {
             output.lose();
         }
     }
@@ -101,19 +101,19 @@ impl Fed {
 impl Given {
     /// Whether both are the same.
     fn agrees_with(&self, other: &Given) -> bool {
-        self.apdus.bytes() == other.apdus.bytes() && self.fault == other.fault
+        self.apdus.so_far() == other.apdus.so_far() && self.fault == other.fault
     }
 }
 
 /// What `push` gives.
 fn push(alloc: Global, feed: &mut Feed, piece: &[u8]) -> Given {
-    let mut apdus = Buffer::new(alloc);
+    let mut apdus = Page::new(alloc);
     let mut fault = None;
     match feed.push(piece) {
         Ok(pushed) => {
             for apdu in &pushed.apdus {
                 push_apdu(&mut apdus, apdu);
-                apdus.push_octet(b'\n');
+                apdus.octet(b'\n');
             }
             fault = pushed.fault;
         }
@@ -124,7 +124,7 @@ fn push(alloc: Global, feed: &mut Feed, piece: &[u8]) -> Given {
 
 /// What `each` gives.
 fn hand(alloc: Global, feed: &mut Feed, piece: &[u8]) -> Given {
-    let mut apdus = Buffer::new(alloc);
+    let mut apdus = Page::new(alloc);
     let fault = match feed.each(piece, &mut apdus, &mut Writer) {
         Ok(fault) => fault,
         Err(_) => {
@@ -139,7 +139,7 @@ fn hand(alloc: Global, feed: &mut Feed, piece: &[u8]) -> Given {
 #[derive(Drop)]
 struct Writer;
 
-impl Handler<Buffer> for Writer {
+impl Handler<Page> for Writer {
     type Fault = OutOfMemory;
 
     ghost handles = { λ old apdu result new. Unit {0} };
@@ -147,12 +147,12 @@ impl Handler<Buffer> for Writer {
     fn handle(
         &mut self,
         alloc: Global,
-        output: &mut Buffer,
+        output: &mut Page,
         apdu: &ApduView<'_>,
     ) -> Result<(), OutOfMemory> {
         let apdu = apdu.to_apdu(alloc)?;
         push_apdu(output, &apdu);
-        output.push_octet(b'\n');
+        output.octet(b'\n');
         Ok(())
     }
 }

@@ -1,27 +1,27 @@
 //! What is printed for a case of a feed.
 
-use crate::buffer::Buffer;
 use crate::cases::push_bytes;
 use crate::cuts::{Draws, cut};
 use crate::fed::{Fed, Given};
+use ill_test_kit::Page;
 use std::alloc::Global;
 
 /// Adds what each piece gives, and whether the bytes may end behind the last.
-pub fn push_pieces(alloc: Global, output: &mut Buffer, words: &str) {
+pub fn push_pieces(alloc: Global, output: &mut Page, words: &str) {
     let mut fed = Fed::new(alloc);
     for (index, words) in words.split("|").enumerate() {
-        let mut piece = Buffer::new(alloc);
-        push_bytes(&mut piece, words);
-        if !piece.is_whole() {
-            return output.push(b"no case\n");
-        }
-        push_given(alloc, output, index, &fed.push(piece.bytes()));
+        let mut piece = Page::new(alloc);
+        push_bytes(alloc, &mut piece, words);
+        let Some(piece) = piece.bytes() else {
+            return output.line("no case");
+        };
+        push_given(alloc, output, index, &fed.push(piece));
     }
     fed.push_end(output);
 }
 
 /// Adds what each byte gives as a piece, and whether the bytes may end behind the last.
-pub fn push_singly(alloc: Global, output: &mut Buffer, bytes: &[u8]) {
+pub fn push_singly(alloc: Global, output: &mut Page, bytes: &[u8]) {
     let mut fed = Fed::new(alloc);
     for (index, byte) in bytes.iter().enumerate() {
         push_given(alloc, output, index, &fed.push(&[*byte]));
@@ -30,22 +30,22 @@ pub fn push_singly(alloc: Global, output: &mut Buffer, bytes: &[u8]) {
 }
 
 /// Adds what a push gave, a line for each APDU and for the fault. The first push has the index 0.
-fn push_given(alloc: Global, output: &mut Buffer, index: usize, given: &Given) {
-    let mut front = Buffer::new(alloc);
+fn push_given(alloc: Global, output: &mut Page, index: usize, given: &Given) {
+    let mut front = Page::new(alloc);
     front.push(b"push ");
-    front.push_shown(&index.saturating_add(1));
+    front.show(&index.saturating_add(1));
     front.push(b": ");
-    output.push_behind(front.bytes(), &given.apdus);
+    output.page_behind(front.so_far(), &given.apdus);
     if let Some(fault) = given.fault {
-        output.push(front.bytes());
-        output.push_shown(&fault);
-        output.push_octet(b'\n');
+        output.push(front.so_far());
+        output.show(&fault);
+        output.octet(b'\n');
     }
 }
 
 /// Adds what one push gives, the places where a cut in two gives something else, and how many cuts give the
 /// same.
-pub fn push_halves(alloc: Global, output: &mut Buffer, bytes: &[u8]) {
+pub fn push_halves(alloc: Global, output: &mut Page, bytes: &[u8]) {
     let whole = Fed::of(alloc, &[bytes]);
     push_whole(output, &whole);
     let mut same = 0_usize;
@@ -61,7 +61,7 @@ pub fn push_halves(alloc: Global, output: &mut Buffer, bytes: &[u8]) {
 }
 
 /// Adds what one push gives, and how many of some cuts at random give the same.
-pub fn push_random(alloc: Global, output: &mut Buffer, count: u32, seed: u32, bytes: &[u8]) {
+pub fn push_random(alloc: Global, output: &mut Page, count: u32, seed: u32, bytes: &[u8]) {
     let whole = Fed::of(alloc, &[bytes]);
     push_whole(output, &whole);
     let mut same = 0_usize;
@@ -77,15 +77,15 @@ pub fn push_random(alloc: Global, output: &mut Buffer, count: u32, seed: u32, by
 }
 
 /// Adds what one push gives.
-fn push_whole(output: &mut Buffer, whole: &Fed) {
+fn push_whole(output: &mut Page, whole: &Fed) {
     whole.push_count(output);
     output.push(b", ");
     whole.push_end(output);
 }
 
 /// Adds a line that ends with a number.
-fn push_number(output: &mut Buffer, words: &[u8], number: usize) {
+fn push_number(output: &mut Page, words: &[u8], number: usize) {
     output.push(words);
-    output.push_shown(&number);
-    output.push_octet(b'\n');
+    output.show(&number);
+    output.octet(b'\n');
 }

@@ -32,28 +32,16 @@
 
 mod agreement;
 mod answers;
-mod buffer;
 mod cases;
 mod cuts;
 mod fed;
 mod feeding;
 mod words;
 
-use buffer::Buffer;
+use answers::Cases;
+use ill_test_kit::answer_lines;
 use std::io;
-use std::io::{ErrorKind, Write};
 
 fn main(rt: HostRuntime) -> io::Result<()> {
-    let input = io::read_to_string(rt.alloc(), rt.stdin())?;
-    let mut output = Buffer::new(rt.alloc());
-    for line in input.lines() {
-        if !line.starts_with(buffer::INDENT) {
-            answers::push_case(rt.alloc(), &mut output, line);
-        }
-    }
-    if output.is_whole() {
-        rt.stdout().write_all(output.bytes())
-    } else {
-        Err(io::Error::from(ErrorKind::OutOfMemory))
-    }
+    answer_lines(&rt, &mut Cases { alloc: rt.alloc() })
 }

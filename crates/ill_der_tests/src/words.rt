@@ -1,10 +1,10 @@
 //! APDUs in words.
 
-use crate::buffer::Buffer;
+use ill_test_kit::Page;
 use ill_values::{Apdu, Body, Day, Number};
 
 /// Adds an APDU in words: its type, and the names of its fields with their values.
-pub fn push_apdu(words: &mut Buffer, apdu: &Apdu) {
+pub fn push_apdu(words: &mut Page, apdu: &Apdu) {
     words.push(apdu.body.type_name().as_bytes());
     push_text(words, b", group ", apdu.txn.group());
     push_text(words, b", transaction ", apdu.txn.transaction());
@@ -13,7 +13,7 @@ pub fn push_apdu(words: &mut Buffer, apdu: &Apdu) {
 }
 
 /// Adds the fields that not every APDU has.
-fn push_fields(words: &mut Buffer, body: &Body) {
+fn push_fields(words: &mut Page, body: &Body) {
     match body {
         Body::IllRequest { expiry, item } => {
             push_day(words, b", expiry ", *expiry);
@@ -41,28 +41,28 @@ fn push_fields(words: &mut Buffer, body: &Body) {
     }
 }
 
-fn push_reply(words: &mut Buffer, answers: Number, yes: bool) {
+fn push_reply(words: &mut Page, answers: Number, yes: bool) {
     push_number(words, b", answers ", answers);
     words.push(if yes { b", yes" } else { b", no" });
 }
 
 /// Adds a date where there is one.
-fn push_day(words: &mut Buffer, name: &[u8], day: Option<Day>) {
+fn push_day(words: &mut Page, name: &[u8], day: Option<Day>) {
     if let Some(day) = day {
         words.push(name);
         words.push(&day.digits());
     }
 }
 
-fn push_number(words: &mut Buffer, name: &[u8], number: Number) {
+fn push_number(words: &mut Page, name: &[u8], number: Number) {
     words.push(name);
-    words.push_shown(&number.get());
+    words.show(&number.get());
 }
 
 /// Adds a text in quotes.
-fn push_text(words: &mut Buffer, name: &[u8], text: &[u8]) {
+fn push_text(words: &mut Page, name: &[u8], text: &[u8]) {
     words.push(name);
-    words.push_octet(b'"');
+    words.octet(b'"');
     words.push(text);
-    words.push_octet(b'"');
+    words.octet(b'"');
 }

@@ -1,16 +1,17 @@
 //! A desk of one transaction or of many: each call, and what it leaves.
 
-use crate::any_desk::AnyDesk;
+use crate::any_desk::StoredDesk;
 use crate::codec::REQUEST;
 use crate::judging::{Outcome, done_if, judged, leaving, quiet};
 use crate::marks::{begin, end};
 use crate::messages::{txn, wish};
 use crate::records::Role;
 use crate::stores::store;
-use crate::words::{Words, named};
+use crate::words::Words;
 use ill_core::{Deed, Refusal, State, Taking, Wish};
 use ill_der::decode;
 use ill_saved::{Action, DeskFault, MemoryStore, NextCall, StoreFault};
+use ill_test_kit::named;
 use ill_values::{AnswerResult, Apdu, Day, Number, TxnId};
 use std::alloc::Global;
 
@@ -82,7 +83,7 @@ struct Keeping<'a> {
 type Ample<'a> = (Option<DeskFault>, &'a [u8]);
 
 /// The case of a desk whose side has issued one message more than its store has.
-pub fn outcome<D: AnyDesk>(alloc: Global, name: &str, words: &mut Words<'_>) -> Option<Outcome> {
+pub fn outcome<D: StoredDesk>(alloc: Global, name: &str, words: &mut Words<'_>) -> Option<Outcome> {
     let role = Role::read(words)?;
     let plan = words.plan().unwrap_or(NextCall::Works);
     let mut desk: D = started_desk(alloc, role)?;
@@ -92,7 +93,7 @@ pub fn outcome<D: AnyDesk>(alloc: Global, name: &str, words: &mut Words<'_>) -> 
 }
 
 /// The outcome of the call of this name behind an action, which is not saved.
-fn acts_and_calls<D: AnyDesk>(
+fn acts_and_calls<D: StoredDesk>(
     alloc: Global,
     desk: &mut D,
     name: &str,
@@ -106,7 +107,7 @@ fn acts_and_calls<D: AnyDesk>(
 }
 
 /// `restart` of a desk that has begun and saved nothing.
-pub fn restarts_idle<D: AnyDesk>(alloc: Global, words: &mut Words<'_>) -> Option<Outcome> {
+pub fn restarts_idle<D: StoredDesk>(alloc: Global, words: &mut Words<'_>) -> Option<Outcome> {
     let role = Role::read(words)?;
     let (begun, _) = D::create_as(alloc, MemoryStore::new(alloc), role)?;
     let mut desk: D = begun.ok()?;
@@ -116,7 +117,7 @@ pub fn restarts_idle<D: AnyDesk>(alloc: Global, words: &mut Words<'_>) -> Option
 }
 
 /// The outcome of `restart` behind the first message, which is not saved.
-fn begins_and_restarts<D: AnyDesk>(alloc: Global, desk: &mut D, role: Role) -> Option<Outcome> {
+fn begins_and_restarts<D: StoredDesk>(alloc: Global, desk: &mut D, role: Role) -> Option<Outcome> {
     let has_begun = match role {
         Role::Requester => acts(alloc, desk, wish(alloc, "Request")),
         Role::Responder => desk.take_spelled(alloc, REQUEST).is_ok(),
@@ -130,7 +131,7 @@ fn begins_and_restarts<D: AnyDesk>(alloc: Global, desk: &mut D, role: Role) -> O
 
 /// The outcome of the call of this name, under a plan of the store, in which this has landed. A name of no
 /// call is for the readers.
-fn called<D: AnyDesk>(
+fn called<D: StoredDesk>(
     alloc: Global,
     desk: &mut D,
     name: &str,
@@ -190,7 +191,7 @@ fn ample_of<'a>(name: &str, plan: NextCall, had: Keeping<'a>) -> Ample<'a> {
 }
 
 /// What a call answers, and whether an allocation was refused meanwhile.
-fn performed<D: AnyDesk>(
+fn performed<D: StoredDesk>(
     alloc: Global,
     desk: &mut D,
     call: Call,
@@ -204,7 +205,7 @@ fn performed<D: AnyDesk>(
 }
 
 /// Whether the call answers what it has to, or its fault.
-fn answer_of<D: AnyDesk>(
+fn answer_of<D: StoredDesk>(
     alloc: Global,
     desk: &mut D,
     call: Call,
@@ -225,14 +226,14 @@ fn is_taken(answer: Result<Taking, DeskFault>) -> Result<bool, DeskFault> {
     Ok(answer? == Taking::Taken)
 }
 
-fn is_first<D: AnyDesk>(alloc: Global, desk: &D, given: &Given) -> Result<bool, DeskFault> {
+fn is_first<D: StoredDesk>(alloc: Global, desk: &D, given: &Given) -> Result<bool, DeskFault> {
     let first = Number::new(1).ok_or(DeskFault::NoSuchMessage)?;
     let bytes = desk.message_in(alloc, &given.txn, first)?;
     Ok(bytes.as_slice() == given.first)
 }
 
 /// The outcome of a call with this answer. After want of memory the desk keeps what it had.
-fn outcome_of<D: AnyDesk>(
+fn outcome_of<D: StoredDesk>(
     alloc: Global,
     desk: &mut D,
     txn: &TxnId,
@@ -252,7 +253,7 @@ fn outcome_of<D: AnyDesk>(
 }
 
 /// Whether this record has landed. The desk goes back to it.
-fn has_landed<D: AnyDesk>(alloc: Global, desk: &mut D, record: &[u8]) -> bool {
+fn has_landed<D: StoredDesk>(alloc: Global, desk: &mut D, record: &[u8]) -> bool {
     desk.plan(NextCall::Works);
     desk.go_back(alloc).is_ok() && desk.is_of(alloc, record)
 }
@@ -270,7 +271,7 @@ fn is_expected(
 }
 
 /// The readers of a desk, and `set_next`.
-fn shows<D: AnyDesk>(alloc: Global, desk: &mut D, txn: &TxnId) -> Outcome {
+fn shows<D: StoredDesk>(alloc: Global, desk: &mut D, txn: &TxnId) -> Outcome {
     begin(alloc);
     let released = desk.released_in(txn);
     let state = desk.state_in(txn);
@@ -282,12 +283,12 @@ fn shows<D: AnyDesk>(alloc: Global, desk: &mut D, txn: &TxnId) -> Outcome {
 }
 
 /// A desk that starts from the record of this role.
-pub fn started_desk<D: AnyDesk>(alloc: Global, role: Role) -> Option<D> {
+pub fn started_desk<D: StoredDesk>(alloc: Global, role: Role) -> Option<D> {
     D::start_from(alloc, store(alloc, role.record())?).ok()
 }
 
 /// Whether the desk does this.
-fn acts<D: AnyDesk>(alloc: Global, desk: &mut D, action: Option<Action>) -> bool {
+fn acts<D: StoredDesk>(alloc: Global, desk: &mut D, action: Option<Action>) -> bool {
     let Some((action, txn)) = action.zip(txn(alloc, "T1")) else {
         return false;
     };

@@ -1,8 +1,8 @@
 //! Actions, from their words.
 
-use crate::calls::named;
 use ill_core::{Deed, Wish};
 use ill_saved::Action;
+use ill_test_kit::named;
 use ill_values::{AnswerResult, Day, Item};
 use std::alloc::Global;
 

@@ -6,13 +6,13 @@ use crate::idle::{idle, split_txn};
 use crate::line::Line;
 use crate::many::write_sides;
 use crate::records::write_side;
-use ill_core::Taking;
-use ill_saved::{Action, Desk, Desk1, DeskFault, Store};
-use ill_values::{Apdu, Number, TxnId};
+use ill_desk_kit::AnyDesk;
+use ill_saved::{Desk, Desk1, DeskFault, Store};
+use ill_values::TxnId;
 use std::alloc::Global;
 
-/// A desk. One of one transaction is asked for no other.
-pub trait AnyDesk: Drop {
+/// A desk of which all is seen.
+pub trait ShownDesk: AnyDesk {
     /// The transaction that these words begin with, or that of the desk, and the words behind it.
     fn txn<'a>(&self, alloc: Global, words: &'a str) -> Option<(TxnId, &'a str)>;
 
@@ -21,25 +21,10 @@ pub trait AnyDesk: Drop {
 
     /// Writes what is live, and whether its record has these bytes.
     fn write_live(&self, alloc: Global, line: &mut Line, bytes: &[u8]);
-
-    fn act_in(&mut self, alloc: Global, txn: &TxnId, action: &Action) -> Result<(), DeskFault>;
-
-    fn take_read(&mut self, alloc: Global, apdu: &Apdu) -> Result<Taking, DeskFault>;
-
-    fn take_spelled(&mut self, alloc: Global, bytes: &[u8]) -> Result<Taking, DeskFault>;
-
-    fn save_all(&mut self, alloc: Global) -> Result<(), DeskFault>;
-
-    fn go_back(&mut self, alloc: Global) -> Result<(), DeskFault>;
-
-    fn message_in(&self, alloc: Global, txn: &TxnId, number: Number) -> Result<Vec<u8>, DeskFault>;
-
-    /// How many messages of this transaction may be sent.
-    fn released_in(&self, txn: &TxnId) -> u8;
 }
 
 /// A desk over stores of this type.
-pub trait DeskOver<S: Store + Drop>: AnyDesk {
+pub trait DeskOver<S: Store + Drop>: ShownDesk {
     /// A desk of the role that the words begin with. That of one transaction begins with the idle side
     /// that all the words say.
     fn create_as(alloc: Global, words: &str, store: S) -> Option<Result<Self, (DeskFault, S)>>;
@@ -49,7 +34,7 @@ pub trait DeskOver<S: Store + Drop>: AnyDesk {
     fn close_it(self) -> S;
 }
 
-impl<S: Store + Drop> AnyDesk for Desk1<S> {
+impl<S: Store + Drop> ShownDesk for Desk1<S> {
     fn txn<'a>(&self, alloc: Global, words: &'a str) -> Option<(TxnId, &'a str)> {
         Some((self.side().txn().copy(alloc).ok()?, words))
     }
@@ -60,39 +45,6 @@ impl<S: Store + Drop> AnyDesk for Desk1<S> {
 
     fn write_live(&self, alloc: Global, line: &mut Line, bytes: &[u8]) {
         write_side(alloc, line, self.side(), bytes);
-    }
-
-    fn act_in(&mut self, alloc: Global, _txn: &TxnId, action: &Action) -> Result<(), DeskFault> {
-        self.act(alloc, action)
-    }
-
-    fn take_read(&mut self, alloc: Global, apdu: &Apdu) -> Result<Taking, DeskFault> {
-        self.take(alloc, apdu)
-    }
-
-    fn take_spelled(&mut self, alloc: Global, bytes: &[u8]) -> Result<Taking, DeskFault> {
-        self.take_bytes(alloc, bytes)
-    }
-
-    fn save_all(&mut self, alloc: Global) -> Result<(), DeskFault> {
-        self.save(alloc)
-    }
-
-    fn go_back(&mut self, alloc: Global) -> Result<(), DeskFault> {
-        self.restart(alloc)
-    }
-
-    fn message_in(
-        &self,
-        alloc: Global,
-        _txn: &TxnId,
-        number: Number,
-    ) -> Result<Vec<u8>, DeskFault> {
-        self.message(alloc, number)
-    }
-
-    fn released_in(&self, _txn: &TxnId) -> u8 {
-        self.released()
     }
 }
 
@@ -110,7 +62,7 @@ impl<S: Store + Drop> DeskOver<S> for Desk1<S> {
     }
 }
 
-impl<S: Store + Drop> AnyDesk for Desk<S> {
+impl<S: Store + Drop> ShownDesk for Desk<S> {
     fn txn<'a>(&self, alloc: Global, words: &'a str) -> Option<(TxnId, &'a str)> {
         split_txn(alloc, words)
     }
@@ -121,34 +73,6 @@ impl<S: Store + Drop> AnyDesk for Desk<S> {
 
     fn write_live(&self, alloc: Global, line: &mut Line, bytes: &[u8]) {
         write_sides(alloc, line, self.sides(), bytes);
-    }
-
-    fn act_in(&mut self, alloc: Global, txn: &TxnId, action: &Action) -> Result<(), DeskFault> {
-        self.act(alloc, txn, action)
-    }
-
-    fn take_read(&mut self, alloc: Global, apdu: &Apdu) -> Result<Taking, DeskFault> {
-        self.take(alloc, apdu)
-    }
-
-    fn take_spelled(&mut self, alloc: Global, bytes: &[u8]) -> Result<Taking, DeskFault> {
-        self.take_bytes(alloc, bytes)
-    }
-
-    fn save_all(&mut self, alloc: Global) -> Result<(), DeskFault> {
-        self.save(alloc)
-    }
-
-    fn go_back(&mut self, alloc: Global) -> Result<(), DeskFault> {
-        self.restart(alloc)
-    }
-
-    fn message_in(&self, alloc: Global, txn: &TxnId, number: Number) -> Result<Vec<u8>, DeskFault> {
-        self.message(alloc, txn, number)
-    }
-
-    fn released_in(&self, txn: &TxnId) -> u8 {
-        self.released(txn)
     }
 }
 

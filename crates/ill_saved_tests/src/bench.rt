@@ -1,8 +1,8 @@
 //! What lies on the bench: nothing at first, then a store, or a desk with its store; and the sides of one
 //! library.
 
-use crate::any_desk::{AnyDesk, DeskOver};
-use crate::calls::{BytesCall, ManyCall, WordsCall, named};
+use crate::any_desk::{DeskOver, ShownDesk};
+use crate::calls::{BytesCall, ManyCall, WordsCall};
 use crate::files::Folder;
 use crate::fuses::{fuse, fuse_many};
 use crate::line::Line;
@@ -10,7 +10,8 @@ use crate::names::Names;
 use crate::words::{write_fault, write_loaded, write_saved};
 use crate::{desks, held, transactions};
 use ill_core::State;
-use ill_saved::{Desk, Desk1, DeskFault, MemoryStore, NextCall, Sides, Store};
+use ill_desk_kit::plan_of;
+use ill_saved::{Desk, Desk1, DeskFault, MemoryStore, Sides, Store};
 use std::alloc::Global;
 
 /// What answers calls. Nothing is answered where the words are none, or what is called lies not there.
@@ -124,7 +125,7 @@ impl<'a> Bench<'a> {
 
     /// `next PLAN`
     fn plan(&mut self, line: &mut Line, words: &str) -> Option<()> {
-        let next = named(&PLANS, words)?;
+        let next = plan_of(words)?;
         match (&mut self.store, &mut self.many) {
             (Some(store), _) => store.set_next(next),
             (None, Some(desk)) => desk.set_next(next),
@@ -174,7 +175,7 @@ impl<'a> Bench<'a> {
     }
 
     /// Gives the new desk, or lays the store there that was handed back.
-    fn begin<D: AnyDesk>(
+    fn begin<D: ShownDesk>(
         &mut self,
         line: &mut Line,
         answer: Result<D, (DeskFault, MemoryStore)>,
@@ -193,9 +194,3 @@ impl<'a> Bench<'a> {
         }
     }
 }
-
-static PLANS: [(&str, NextCall); 3] = [
-    ("works", NextCall::Works),
-    ("fails-old", NextCall::FailsOld),
-    ("fails-new", NextCall::FailsNew),
-];

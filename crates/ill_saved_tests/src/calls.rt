@@ -1,5 +1,7 @@
 //! What the first word of a line says.
 
+use ill_test_kit::named;
+
 /// What a line is, or calls.
 #[derive(Clone, Copy)]
 pub enum Call {
@@ -162,14 +164,4 @@ static CALLS: [(&str, Call); 37] = [
 /// What this word says.
 pub fn call_of(word: &str) -> Option<Call> {
     named(&CALLS, word)
-}
-
-/// What this word names, of these names with what they stand for.
-pub fn named<T: Copy>(names: &[(&str, T)], word: &str) -> Option<T> {
-    for (name, value) in names {
-        if *name == word {
-            return Some(*value);
-        }
-    }
-    None
 }

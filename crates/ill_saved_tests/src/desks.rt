@@ -1,7 +1,7 @@
 //! Calls of a desk. An answer is a word, and where the desk stands after it.
 
 use crate::actions::action;
-use crate::any_desk::AnyDesk;
+use crate::any_desk::ShownDesk;
 use crate::calls::{BytesCall, WordsCall};
 use crate::desk_view::DeskView;
 use crate::line::Line;
@@ -47,7 +47,7 @@ pub fn write_begun<D: Drop, S: Drop>(line: &mut Line, begun: Result<D, (DeskFaul
 }
 
 /// Performs a call that takes words, and writes its answer.
-pub fn call<D: AnyDesk>(
+pub fn call<D: ShownDesk>(
     alloc: Global,
     line: &mut Line,
     desk: &mut D,
@@ -66,7 +66,7 @@ pub fn call<D: AnyDesk>(
 }
 
 /// Performs a call that takes bytes, and writes its answer.
-pub fn call_with<D: AnyDesk>(
+pub fn call_with<D: ShownDesk>(
     alloc: Global,
     line: &mut Line,
     desk: &mut D,
@@ -86,7 +86,7 @@ pub fn call_with<D: AnyDesk>(
 }
 
 /// `act WORDS`, behind the transaction where the desk has many.
-pub fn act<D: AnyDesk>(alloc: Global, line: &mut Line, desk: &mut D, words: &str) -> Option<()> {
+pub fn act<D: ShownDesk>(alloc: Global, line: &mut Line, desk: &mut D, words: &str) -> Option<()> {
     let (txn, words) = desk.txn(alloc, words)?;
     let action = action(alloc, words)?;
     let before = desk.view(alloc, Some(&txn));
@@ -97,14 +97,14 @@ pub fn act<D: AnyDesk>(alloc: Global, line: &mut Line, desk: &mut D, words: &str
 }
 
 /// `save`
-pub fn save<D: AnyDesk>(alloc: Global, line: &mut Line, desk: &mut D) {
+pub fn save<D: ShownDesk>(alloc: Global, line: &mut Line, desk: &mut D) {
     let before = desk.view(alloc, None);
     let answer = desk.save_all(alloc);
     write_answer(line, "saved", answer, &before, &desk.view(alloc, None));
 }
 
 /// `restart`: this word, or why not; and whether it was done.
-pub fn restart<D: AnyDesk>(alloc: Global, line: &mut Line, desk: &mut D, word: &str) -> bool {
+pub fn restart<D: ShownDesk>(alloc: Global, line: &mut Line, desk: &mut D, word: &str) -> bool {
     let before = desk.view(alloc, None);
     let answer = desk.go_back(alloc);
     let is_done = answer.is_ok();
@@ -113,7 +113,7 @@ pub fn restart<D: AnyDesk>(alloc: Global, line: &mut Line, desk: &mut D, word: &
 }
 
 /// `take BYTES`
-fn take<D: AnyDesk>(alloc: Global, line: &mut Line, desk: &mut D, bytes: &[u8]) {
+fn take<D: ShownDesk>(alloc: Global, line: &mut Line, desk: &mut D, bytes: &[u8]) {
     let first = decode(alloc, bytes).ok();
     let txn = first.as_ref().map(|(apdu, _)| &apdu.txn);
     let before = desk.view(alloc, txn);
@@ -122,13 +122,13 @@ fn take<D: AnyDesk>(alloc: Global, line: &mut Line, desk: &mut D, bytes: &[u8]) 
 }
 
 /// `hand BYTES`: a message is read from them, and the desk takes it.
-fn hand<D: AnyDesk>(alloc: Global, line: &mut Line, desk: &mut D, bytes: &[u8]) -> Option<()> {
+fn hand<D: ShownDesk>(alloc: Global, line: &mut Line, desk: &mut D, bytes: &[u8]) -> Option<()> {
     let (apdu, _) = decode(alloc, bytes).ok()?;
     hand_over(alloc, line, desk, &apdu);
     Some(())
 }
 
-fn hand_over<D: AnyDesk>(alloc: Global, line: &mut Line, desk: &mut D, apdu: &Apdu) {
+fn hand_over<D: ShownDesk>(alloc: Global, line: &mut Line, desk: &mut D, apdu: &Apdu) {
     let before = desk.view(alloc, Some(&apdu.txn));
     let answer = desk.take_read(alloc, apdu);
     write_taking(line, answer, &before, &desk.view(alloc, Some(&apdu.txn)));
@@ -152,7 +152,7 @@ fn write_taking(
 }
 
 /// `message NUMBER`, behind the transaction where the desk has many: its octets, or why there are none.
-fn message<D: AnyDesk>(alloc: Global, line: &mut Line, desk: &D, words: &str) -> Option<()> {
+fn message<D: ShownDesk>(alloc: Global, line: &mut Line, desk: &D, words: &str) -> Option<()> {
     let (txn, words) = desk.txn(alloc, words)?;
     let number = Number::new(words.parse::<u8>().ok()?)?;
     match desk.message_in(alloc, &txn, number) {
@@ -164,7 +164,7 @@ fn message<D: AnyDesk>(alloc: Global, line: &mut Line, desk: &D, words: &str) ->
 
 /// `messages BYTES`: whether these bytes are all released messages of the desk's transaction, one behind
 /// another.
-fn messages<D: AnyDesk>(alloc: Global, line: &mut Line, desk: &D, bytes: &[u8]) -> Option<()> {
+fn messages<D: ShownDesk>(alloc: Global, line: &mut Line, desk: &D, bytes: &[u8]) -> Option<()> {
     let (txn, _) = desk.txn(alloc, "")?;
     let is_same = released(alloc, desk, &txn)?.as_slice() == bytes;
     line.text(if is_same { "the same" } else { "OTHER BYTES" });
@@ -173,7 +173,7 @@ fn messages<D: AnyDesk>(alloc: Global, line: &mut Line, desk: &D, bytes: &[u8]) 
 }
 
 /// All released messages, one behind another.
-fn released<D: AnyDesk>(alloc: Global, desk: &D, txn: &TxnId) -> Option<Vec<u8>> {
+fn released<D: ShownDesk>(alloc: Global, desk: &D, txn: &TxnId) -> Option<Vec<u8>> {
     let mut joined = Vec::new(alloc);
     for index in 0..desk.released_in(txn) {
         let bytes = desk.message_in(alloc, txn, Number::new(index + 1)?).ok()?;

@@ -5,7 +5,6 @@ ghost use Rattle.ill_saved.specs.declared.store.StoreFault.TheVariants.{Failed};
 ghost use Rattle.ill_saved.specs.Store.{failed_file};
 
 use crate::any_desk::DeskOver;
-use crate::calls::named;
 use crate::failing::{Deceit, Failing};
 use crate::line::Line;
 use crate::longest;
@@ -13,6 +12,7 @@ use crate::names::Names;
 use crate::restarts::{Damage, HostStore, Restarts};
 use crate::words::{write_loaded, write_saved};
 use ill_saved::{Desk, Desk1, FileStore, Store, StoreFault};
+use ill_test_kit::named;
 use std::alloc::Global;
 use std::fs::{Metadata, Permissions};
 use std::io::ErrorKind;
@@ -191,8 +191,7 @@ impl<'a> Folder<'a> {
     /// `mode NAME`: who may read and write the file, in octal.
     fn mode(&self, line: &mut Line, path: &str) -> Option<()> {
         let found = fs::metadata(self.rt, path).ok()?;
-        line.octal(found.mode() & 0o777);
-        Some(())
+        write_octal(self.alloc, line, found.mode() & 0o777)
     }
 
     /// `change NAME MODE`: says in octal who may read and write the file.
@@ -207,8 +206,7 @@ impl<'a> Folder<'a> {
         let files = Failing::after(self.rt, self.alloc, u32::MAX, ErrorKind::Other).ok()?;
         self.call_failing(line, &files, path, "save", &names.bytes(words, 0)?)?;
         line.text(", made ");
-        line.octal(files.made());
-        Some(())
+        write_octal(self.alloc, line, files.made())
     }
 
     /// `swapped NAME TARGET`: a load of a record that becomes a link to the target once it was looked up.
@@ -306,6 +304,13 @@ fn save<R: Files>(
 fn write_done(line: &mut Line, word: &str, done: io::Result<()>) -> Option<()> {
     done.ok()?;
     line.text(word);
+    Some(())
+}
+
+/// Writes a number in octal.
+fn write_octal(alloc: Global, line: &mut Line, number: u32) -> Option<()> {
+    let digits = format!(in alloc; "{number:o}").ok()?;
+    line.text(digits.as_str());
     Some(())
 }
 

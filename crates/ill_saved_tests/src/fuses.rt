@@ -1,6 +1,6 @@
 //! A desk over a store that fails from a call on.
 
-use crate::any_desk::{AnyDesk, DeskOver};
+use crate::any_desk::{DeskOver, ShownDesk};
 use crate::desks::{act, save};
 use crate::line::Line;
 use crate::words::write_fault;
@@ -55,7 +55,7 @@ fn perform<D: DeskOver<Fused>>(
     }
 }
 
-fn act_and_save<D: AnyDesk>(alloc: Global, line: &mut Line, desk: &mut D, actions: [&str; 2]) {
+fn act_and_save<D: ShownDesk>(alloc: Global, line: &mut Line, desk: &mut D, actions: [&str; 2]) {
     for words in actions {
         line.text(", ");
         let _ = act(alloc, line, desk, words);
@@ -65,7 +65,7 @@ fn act_and_save<D: AnyDesk>(alloc: Global, line: &mut Line, desk: &mut D, action
 }
 
 /// Writes whether a desk was begun and where it stands, or why not.
-fn write_begun<D: AnyDesk, S>(alloc: Global, line: &mut Line, begun: &Result<D, (DeskFault, S)>) {
+fn write_begun<D: ShownDesk, S>(alloc: Global, line: &mut Line, begun: &Result<D, (DeskFault, S)>) {
     match begun {
         Ok(desk) => {
             line.text("done");

@@ -1,13 +1,14 @@
 //! The sides of one library, which are put one after another.
 
 use crate::actions::action;
-use crate::calls::{SidesCall, named};
+use crate::calls::SidesCall;
 use crate::idle::split_txn;
 use crate::line::Line;
 use crate::longest::longest;
 use crate::many::write_again;
 use crate::records::write_head;
 use ill_saved::{Role, Side, Sides, SidesFault, decode_record};
+use ill_test_kit::named;
 use ill_values::TxnId;
 use std::alloc::Global;
 

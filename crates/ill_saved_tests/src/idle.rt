@@ -3,7 +3,8 @@
 ghost use Rattle.std.specs.Prelude.{◌≡◌, IfSome};
 ghost use Rattle.ill_saved.specs.Side.{idle_of};
 
-use ill_core::{Requester, Responder};
+use crate::held::role_of;
+use ill_desk_kit::idle_side;
 use ill_saved::Side;
 use ill_values::TxnId;
 use std::alloc::Global;
@@ -13,18 +14,9 @@ pub fn idle(alloc: Global, words: &str) -> Option<Side>
     ensures { IfSome result (λ side. side ≡ idle_of side) }
 {
     let (role, names) = words.split_once(' ')?;
+    let role = role_of(role)?;
     let (txn, _) = split_txn(alloc, names)?;
     Some(idle_side(alloc, role, txn))
-}
-
-fn idle_side(alloc: Global, role: &str, txn: TxnId) -> Side
-    ensures { result ≡ idle_of result }
-{
-    if role == "requester" {
-        Side::Requester(Requester::idle(alloc, txn))
-    } else {
-        Side::Responder(Responder::idle(alloc, txn))
-    }
 }
 
 /// The transaction that these words begin with, `GROUP TRANSACTION`, and the words behind it.

@@ -1,66 +1,44 @@
 //! What is written of a line.
 
-use std::alloc::{AllocError, Global};
+use ill_test_kit::Page;
+use std::alloc::Global;
 use std::fmt::Display;
 
-/// What is written of a line, or a part of it. Want of memory is told at the end.
+/// What is written of a line, or a part of it.
 #[derive(Drop)]
 pub struct Line {
-    text: String,
+    page: Page,
     /// The octet for which `#` is written.
     octet: Option<u8>,
-    is_whole: bool,
 }
 
 impl Line {
     /// Nothing yet.
     pub fn new(alloc: Global, octet: Option<u8>) -> Line {
         Line {
-            text: String::new(alloc),
+            page: Page::new(alloc),
             octet,
-            is_whole: true,
         }
     }
 
-    /// All that was written.
-    pub fn finish(self) -> Result<String, AllocError> {
-        if self.is_whole {
-            Ok(self.text)
-        } else {
-            Err(AllocError)
-        }
-    }
-
-    /// What was written so far.
-    pub fn so_far(&self) -> &str {
-        self.text.as_str()
+    /// Returns all that was written.
+    pub fn page(&self) -> &Page {
+        &self.page
     }
 
     /// Writes another line's text.
     pub fn line(&mut self, other: &Line) {
-        self.text(other.so_far());
-        self.is_whole = self.is_whole && other.is_whole;
+        self.page.page(&other.page);
     }
 
     /// Writes this text.
     pub fn text(&mut self, text: &str) {
-        if self.text.push_str(text).is_err() {
-            self.is_whole = false;
-        }
+        self.page.text(text);
     }
 
     /// Writes what this value displays.
     pub fn show<T: Display>(&mut self, value: &T) {
-        if write!(self.text, "{value}").is_err() {
-            self.is_whole = false;
-        }
-    }
-
-    /// Writes a number in octal.
-    pub fn octal(&mut self, number: u32) {
-        if write!(self.text, "{number:o}").is_err() {
-            self.is_whole = false;
-        }
+        self.page.show(value);
     }
 
     /// Writes a count, or `#` where it is the octet.
@@ -106,12 +84,6 @@ impl Line {
         if bytes.is_empty() {
             self.text("no bytes");
         }
-        let mut mark = "";
-        for byte in bytes {
-            if write!(self.text, "{mark}{byte:02X}").is_err() {
-                self.is_whole = false;
-            }
-            mark = " ";
-        }
+        self.page.hex(bytes);
     }
 }

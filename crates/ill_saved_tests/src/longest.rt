@@ -1,7 +1,7 @@
 //! The longest record that a side has.
 
 use crate::again::written_and_read;
-use crate::any_desk::AnyDesk;
+use crate::any_desk::ShownDesk;
 use crate::desks::write_begun;
 use crate::line::Line;
 use ill_core::{Responder, State};

@@ -33,57 +33,25 @@ mod session;
 mod transactions;
 mod words;
 
-use bench::{Answers, Bench};
+use bench::Bench;
 use files::Folder;
+use ill_test_kit::{answer_lines, make_folder};
 use session::Session;
 use std::alloc::Global;
-use std::io::{Error, ErrorKind};
-use std::{env, fs, io};
+use std::{fs, io};
 
 fn main(rt: HostRuntime) -> io::Result<()> {
     let alloc = rt.alloc();
-    let path = make_folder(&rt, alloc)?;
+    let path = make_folder(&rt, alloc, "ill_saved_tests")?;
     let printed = print_answers(&rt, alloc, path.as_str());
     fs::remove_dir_all(&rt, path.as_str())?;
     printed
 }
 
 fn print_answers(rt: &HostRuntime, alloc: Global, path: &str) -> io::Result<()> {
-    let text = io::read_to_string(alloc, rt.stdin())?;
     let folder = Folder::new(rt, alloc, path);
     let mut session = Session::new(alloc, Bench::new(alloc, folder));
-    let printed = print_lines(rt, &mut session, text.as_str());
+    let printed = answer_lines(rt, &mut session);
     drop(session);
     printed
-}
-
-/// Makes a folder that was not there.
-fn make_folder(rt: &HostRuntime, alloc: Global) -> io::Result<String> {
-    let below = env::temp_dir(rt)?;
-    for number in 0..u16::MAX {
-        let path = format!(in alloc; "{}/ill_saved_tests.{number}", below.as_str())?;
-        if is_made(fs::create_dir(rt, path.as_str()))? {
-            return Ok(path);
-        }
-    }
-    Err(Error::from(ErrorKind::AlreadyExists))
-}
-
-/// Whether a folder was made, and was not there before.
-fn is_made(answer: io::Result<()>) -> io::Result<bool> {
-    match answer {
-        Err(error) if error.kind() == ErrorKind::AlreadyExists => Ok(false),
-        answer => answer.and(Ok(true)),
-    }
-}
-
-fn print_lines<B: Answers>(
-    rt: &impl Print,
-    session: &mut Session<B>,
-    text: &str,
-) -> io::Result<()> {
-    for line in text.lines() {
-        rt.print(session.perform(line).finish()?)?;
-    }
-    Ok(())
 }

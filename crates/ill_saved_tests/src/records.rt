@@ -3,7 +3,7 @@
 use crate::again::written_and_read;
 use crate::line::Line;
 use crate::runs::Run;
-use crate::words::{body_name, write_record_fault};
+use crate::words::{write_name, write_record_fault};
 use ill_core::{Requester, Responder, State};
 use ill_saved::{Side, decode_record, encode_record};
 use ill_values::{Apdu, Body, Day, Number, TxnId};
@@ -97,7 +97,7 @@ fn write_mark(line: &mut Line, label: &str, is_set: bool) {
 
 /// Writes the type of a message and its further fields.
 fn write_body(line: &mut Line, body: &Body) {
-    line.text(body_name(body));
+    write_name(line, body);
     match body {
         Body::IllRequest { expiry, item } => {
             write_day(line, " ", *expiry);

@@ -1,7 +1,7 @@
 //! Desks whose record was damaged in its file.
 
 use crate::actions::action;
-use crate::any_desk::{AnyDesk, DeskOver};
+use crate::any_desk::{DeskOver, ShownDesk};
 use crate::desks::{restart, write_begun};
 use crate::line::Line;
 use ill_saved::{DeskFault, FileStore};
@@ -94,17 +94,17 @@ impl<'a, 'p> Restarts<'a, 'p> {
     }
 
     /// Has the desk ask, and saves that.
-    fn ask<D: AnyDesk>(&self, desk: &mut D) -> Option<()> {
+    fn ask<D: ShownDesk>(&self, desk: &mut D) -> Option<()> {
         self.act(desk, "request none Maps")?;
         desk.save_all(self.alloc).ok()
     }
 
-    fn act<D: AnyDesk>(&self, desk: &mut D, words: &str) -> Option<()> {
+    fn act<D: ShownDesk>(&self, desk: &mut D, words: &str) -> Option<()> {
         let (txn, action) = self.txn().zip(action(self.alloc, words))?;
         desk.act_in(self.alloc, &txn, &action).ok()
     }
 
-    fn show<D: AnyDesk>(&self, line: &mut Line, desk: &D) -> Option<()> {
+    fn show<D: ShownDesk>(&self, line: &mut Line, desk: &D) -> Option<()> {
         desk.view(self.alloc, Some(&self.txn()?)).write(line);
         line.text(", ");
         line.octets(&self.first_message(desk)?);
@@ -119,7 +119,7 @@ impl<'a, 'p> Restarts<'a, 'p> {
         answered
     }
 
-    fn damage<D: AnyDesk>(&self, line: &mut Line, desk: &mut D, damage: &Damage) -> Option<()> {
+    fn damage<D: ShownDesk>(&self, line: &mut Line, desk: &mut D, damage: &Damage) -> Option<()> {
         self.ask(desk)?;
         self.act(desk, "cancel")?;
         self.inflict(damage).ok()?;
@@ -141,7 +141,7 @@ impl<'a, 'p> Restarts<'a, 'p> {
 
     /// Writes what `restart` answers, and where the desk stands then. After a fault that is as before,
     /// and its first message has the bytes that it had.
-    fn restart<D: AnyDesk>(&self, line: &mut Line, desk: &mut D) -> Option<()> {
+    fn restart<D: ShownDesk>(&self, line: &mut Line, desk: &mut D) -> Option<()> {
         let message = self.first_message(desk)?;
         let is_done = restart(self.alloc, line, desk, "done");
         if !is_done && !self.has_first_message(desk, &message) {
@@ -150,14 +150,14 @@ impl<'a, 'p> Restarts<'a, 'p> {
         Some(())
     }
 
-    fn has_first_message<D: AnyDesk>(&self, desk: &D, bytes: &[u8]) -> bool {
+    fn has_first_message<D: ShownDesk>(&self, desk: &D, bytes: &[u8]) -> bool {
         match self.first_message(desk) {
             Some(message) => message.as_slice() == bytes,
             None => false,
         }
     }
 
-    fn first_message<D: AnyDesk>(&self, desk: &D) -> Option<Vec<u8>> {
+    fn first_message<D: ShownDesk>(&self, desk: &D) -> Option<Vec<u8>> {
         desk.message_in(self.alloc, &self.txn()?, Number::new(1)?)
             .ok()
     }

@@ -25,7 +25,7 @@ impl Run {
 
     /// Takes the next text, and writes those before it where it is another.
     pub fn push(&mut self, line: &mut Line, text: Line) {
-        if text.so_far() != self.text.so_far() {
+        if text.page().so_far() != self.text.page().so_far() {
             self.write(line);
             self.first = self.next;
             self.text = text;

@@ -7,13 +7,12 @@ use crate::many::{write_records, write_sealed};
 use crate::names::Names;
 use crate::records::write_record;
 use crate::runs::Run;
+use ill_test_kit::{INDENT, Lines, Page};
 use std::alloc::Global;
 
 const NOT_UNDERSTOOD: &str = "NOT UNDERSTOOD";
 
 /// What stands before the answer to a case of a family.
-const BELOW: &str = "  ";
-
 const BELOW_LINE: &str = "\n  ";
 
 /// What earlier lines left: names, and a store or a desk.
@@ -32,16 +31,6 @@ impl<B: Answers> Session<B> {
             names: Names::new(alloc),
             bench,
         }
-    }
-
-    /// Performs a line, and gives what is written of it. An answer that stands there, behind a case or
-    /// below a family, is left out.
-    pub fn perform(&mut self, text: &str) -> Line {
-        let mut line = Line::new(self.alloc, None);
-        if !text.starts_with(BELOW) {
-            self.write(&mut line, without_answer(text));
-        }
-        line
     }
 
     fn write(&mut self, line: &mut Line, text: &str) {
@@ -114,6 +103,21 @@ impl<B: Answers> Session<B> {
                 write_bytes(self.alloc, line, call, front_of(call, &bytes, case))
             }
         }
+    }
+}
+
+impl<B: Answers> Lines for Session<B> {
+    /// Performs a line. An answer that stands there, behind a case or below a family, is left out.
+    fn perform(&mut self, page: &mut Page, text: &str) {
+        if !text.starts_with(INDENT) {
+            let mut line = Line::new(self.alloc, None);
+            self.write(&mut line, without_answer(text));
+            page.page(line.page());
+        }
+    }
+
+    fn end(&mut self, _page: &mut Page) -> Option<()> {
+        Some(())
     }
 }
 

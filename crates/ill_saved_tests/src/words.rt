@@ -4,7 +4,7 @@ use crate::line::Line;
 use ill_core::{Refusal, State, Taking};
 use ill_der::DerFault;
 use ill_saved::{DeskFault, RecordFault, StoreFault};
-use ill_values::{AnswerResult, Body};
+use ill_values::Body;
 
 /// Writes the words of why a desk in this state did nothing.
 pub fn write_fault(line: &mut Line, fault: DeskFault, state: State) {
@@ -108,34 +108,11 @@ fn word_in(told: State, state: State, word: &'static str) -> &'static str {
     if told == state { word } else { "ANOTHER STATE" }
 }
 
-/// The name of a message's type, and the result of an answer.
-pub fn body_name(body: &Body) -> &'static str {
-    match body {
-        Body::IllRequest { .. } => "ILL-Request",
-        Body::IllAnswer { result } => answer_name(*result),
-        Body::ConditionalReply { .. } => "Conditional-Reply",
-        Body::Cancel => "Cancel",
-        Body::CancelReply { .. } => "Cancel-Reply",
-        Body::Shipped { .. } => "Shipped",
-        Body::Received => "Received",
-        Body::Recall => "Recall",
-        Body::Returned => "Returned",
-        Body::CheckedIn => "Checked-In",
-        Body::Overdue { .. } => "Overdue",
-        Body::Renew { .. } => "Renew",
-        Body::RenewAnswer { .. } => "Renew-Answer",
-        Body::Expired => "Expired",
-    }
-}
-
-fn answer_name(answer: AnswerResult) -> &'static str {
-    match answer {
-        AnswerResult::Conditional => "ILL-Answer conditional",
-        AnswerResult::Retry => "ILL-Answer retry",
-        AnswerResult::Unfilled => "ILL-Answer unfilled",
-        AnswerResult::LocationsProvided => "ILL-Answer locations-provided",
-        AnswerResult::WillSupply => "ILL-Answer will-supply",
-        AnswerResult::HoldPlaced => "ILL-Answer hold-placed",
-        AnswerResult::Estimate => "ILL-Answer estimate",
+/// Writes the name of a message's type, and the result of an answer.
+pub fn write_name(line: &mut Line, body: &Body) {
+    line.text(body.type_name());
+    if let Body::IllAnswer { result } = body {
+        line.text(" ");
+        line.text(result.name());
     }
 }

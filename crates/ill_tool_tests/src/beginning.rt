@@ -1,13 +1,13 @@
 //! Sides and desks that begin in a store in memory, by the engines of `new`.
 
 use crate::call::Call;
-use crate::memory::{Beginning, Memory, next_call};
+use crate::memory::{Beginning, Memory};
 use crate::names::Names;
-use crate::page::Page;
-use crate::sink::Sink;
 use crate::telling::tell_bytes;
 use crate::words::Word;
+use ill_desk_kit::plan_of;
 use ill_saved::{MemoryStore, Role, Store};
+use ill_test_kit::{Page, TestWriter};
 use ill_tool::{ToolFault, run_desk_new, run_new};
 use ill_values::TxnId;
 use ill_world::words::who;
@@ -57,7 +57,7 @@ fn store_of(alloc: Global, memory: &mut Option<Memory>, word: &Word) -> Option<M
 
 /// A store in which nothing has landed, whose next call is planned.
 fn new_store(alloc: Global, plan: &Word) -> Option<MemoryStore> {
-    let next = next_call(plan)?;
+    let next = plan_of(plan.text.as_str())?;
     let mut store = MemoryStore::new(alloc);
     store.set_next(next);
     Some(store)
@@ -70,7 +70,7 @@ fn begin_over(
     beginning: Beginning,
     role: Role,
     txn: TxnId,
-    output: &mut Sink,
+    output: &mut TestWriter,
 ) -> Result<Memory, (ToolFault, MemoryStore)> {
     match beginning {
         Beginning::Side => match run_new(alloc, store, role, txn, output) {

@@ -7,10 +7,10 @@ use crate::engines::Engine;
 use crate::folder::{FileCall, Folder};
 use crate::memory::{Beginning, Memory, MemoryCall};
 use crate::names::Names;
-use crate::page::Page;
 use crate::texts::tell_texts;
 use crate::words::Word;
 use ill_saved::LockFiles;
+use ill_test_kit::{Page, named};
 use std::alloc::Global;
 
 /// What performs the calls of lines. Nothing is answered where the words are none.
@@ -85,15 +85,6 @@ const KINDS: [(&str, Kind); 30] = [
     ("texts", Kind::Texts),
 ];
 
-fn kind_of(word: &str) -> Option<Kind> {
-    for (name, kind) in &KINDS {
-        if *name == word {
-            return Some(*kind);
-        }
-    }
-    None
-}
-
 impl<'a, R: LockFiles> Bench<'a, R> {
     /// A bench with nothing on it but this folder.
     pub fn new(alloc: Global, folder: Folder<'a, R>) -> Bench<'a, R> {
@@ -132,7 +123,7 @@ impl<'a, R: LockFiles> Performs for Bench<'a, R> {
 
     fn perform(&mut self, page: &mut Page, names: &Names, words: &[Word]) -> Option<()> {
         let (first, others) = words.split_first()?;
-        match kind_of(first.text.as_str())? {
+        match named(&KINDS, first.text.as_str())? {
             Kind::File(kind) => self.folder.perform(page, names, kind, others),
             Kind::Begin(beginning) => {
                 let begun = Memory::begin(self.alloc, beginning, others)?;

@@ -1,11 +1,10 @@
 //! A call: its words, and its streams.
 
 use crate::names::Names;
-use crate::page::Page;
-use crate::sink::Sink;
-use crate::source::Source;
-use crate::telling::{begin, tell_sink, tell_source};
+use crate::streams::{reader_of, writer_of};
+use crate::telling::{Telling, begin, tell_reader, tell_writer};
 use crate::words::{Word, cut};
+use ill_test_kit::{Page, TestReader, TestWriter};
 use std::alloc::Global;
 use std::fmt::Debug;
 
@@ -13,9 +12,11 @@ use std::fmt::Debug;
 #[derive(Drop)]
 pub struct Call<'a> {
     pub words: &'a [Word],
-    pub source: Source,
-    pub output: Sink,
-    pub errors: Sink,
+    pub source: TestReader,
+    pub output: TestWriter,
+    pub errors: TestWriter,
+    /// How much is told of what the two writers took.
+    tellings: (Telling, Telling),
 }
 
 /// The words of a call, and those of its streams.
@@ -45,15 +46,16 @@ impl<'a> Call<'a> {
     /// The call of `WORDS [< READER] [> WRITER] [2> WRITER]`.
     pub fn of(alloc: Global, names: &Names, words: &'a [Word]) -> Option<Call<'a>> {
         let parts = Parts::of(words);
-        let source = Source::of(names, parts.input.unwrap_or(&[]));
-        let output = Sink::of(alloc, names, parts.output);
-        let errors = Sink::of(alloc, names, parts.errors);
+        let source = reader_of(alloc, names, parts.input.unwrap_or(&[]));
+        let output = writer_of(alloc, names, parts.output);
+        let errors = writer_of(alloc, names, parts.errors);
         match (source, output, errors) {
-            (Some(source), Some(output), Some(errors)) => Some(Call {
+            (Some(source), Some((output, told)), Some((errors, told_errors))) => Some(Call {
                 words: parts.words,
                 source,
                 output,
                 errors,
+                tellings: (told, told_errors),
             }),
             _ => None,
         }
@@ -61,9 +63,9 @@ impl<'a> Call<'a> {
 
     /// Tells what it has written, and what it has left.
     pub fn tell(&self, page: &mut Page, names: &Names) {
-        tell_sink(page, names, ">", &self.output);
-        tell_sink(page, names, "!", &self.errors);
-        tell_source(page, names, &self.source);
+        tell_writer(page, names, ">", &self.output, &self.tellings.0);
+        tell_writer(page, names, "!", &self.errors, &self.tellings.1);
+        tell_reader(page, names, &self.source);
     }
 
     /// Whether it has written nothing.

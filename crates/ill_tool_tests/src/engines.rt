@@ -2,9 +2,9 @@
 
 use crate::call::{Call, tell_value};
 use crate::names::Names;
-use crate::page::Page;
-use crate::telling::{tell_bytes, tell_line, tell_source};
+use crate::telling::{tell_bytes, tell_line, tell_reader};
 use ill_der::{ReadFault, decode, encode, read_apdu, write_apdu};
+use ill_test_kit::Page;
 use ill_tool::{run_check, run_show, run_simulate, run_simulate_desks};
 use ill_values::Apdu;
 use std::alloc::Global;
@@ -74,7 +74,7 @@ fn read(alloc: Global, page: &mut Page, names: &Names, call: &mut Call<'_>) -> O
         let answer = read_apdu(alloc, &mut call.source);
         tell_read(alloc, page, names, answer)?;
     }
-    tell_source(page, names, &call.source);
+    tell_reader(page, names, &call.source);
     Some(())
 }
 

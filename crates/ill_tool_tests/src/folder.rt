@@ -2,17 +2,16 @@
 
 use crate::call::{Call, tell_value};
 use crate::names::Names;
-use crate::page::Page;
-use crate::sink::Sink;
 use crate::telling::{begin, tell_bytes, tell_line, tell_whether};
 use crate::watched::{Seen, Watched};
 use crate::words::Word;
 use ill_saved::LockFiles;
+use ill_test_kit::{Page, TestWriter, make_folder};
 use ill_tool::run_words;
 use std::alloc::Global;
 use std::env::Env;
 use std::io::ErrorKind;
-use std::{env, fs, io};
+use std::{fs, io};
 
 /// A folder below the system's for temporary files.
 #[derive(Drop)]
@@ -40,14 +39,8 @@ impl<'a, R: LockFiles> Folder<'a, R> {
     where
         R: Env + AllocGlobal,
     {
-        let below = env::temp_dir(rt)?;
-        for number in 0..u16::MAX {
-            let path = format!(in alloc; "{}/ill_tool_tests.{number}", below.as_str())?;
-            if is_made(fs::create_dir(rt, path.as_str()))? {
-                return Ok(Folder { rt, alloc, path });
-            }
-        }
-        Err(io::Error::from(ErrorKind::AlreadyExists))
+        let path = make_folder(rt, alloc, "ill_tool_tests")?;
+        Ok(Folder { rt, alloc, path })
     }
 
     /// Removes all that is in it.
@@ -137,7 +130,7 @@ impl<'a, R: LockFiles> Folder<'a, R> {
     }
 
     /// Puts a name in place of its path in what one writer took.
-    fn hide_path_in(&self, sink: &mut Sink) {
+    fn hide_path_in(&self, sink: &mut TestWriter) {
         if let Some(hidden) = self.hidden(&sink.taken) {
             drop(std::mem::replace(&mut sink.taken, hidden));
         }
@@ -202,14 +195,6 @@ fn tell_seen(page: &mut Page, seen: &Seen) {
     page.text(", pauses ");
     page.show_parts(&seen.pauses);
     page.text("\n");
-}
-
-/// Whether a folder was made, and was not there before.
-fn is_made(answer: io::Result<()>) -> io::Result<bool> {
-    match answer {
-        Err(error) if error.kind() == ErrorKind::AlreadyExists => Ok(false),
-        answer => answer.map(|()| true),
-    }
 }
 
 /// Tells the bytes of a file; behind `is BYTES` whether it has just these.

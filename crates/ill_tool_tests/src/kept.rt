@@ -1,12 +1,10 @@
 //! What a side and a desk of many transactions have in common: what is called on them, and what is seen of them.
 
 use crate::letters::Letters;
-use crate::page::Page;
-use crate::sink::Sink;
-use crate::source::Source;
 use crate::view::{View, tell_side};
 use crate::words::{Word, texts};
 use ill_saved::{Desk, Desk1, DeskFault, MemoryStore, Store};
+use ill_test_kit::{Page, TestReader, TestWriter};
 use ill_tool::{
     Dates, Mail, ToolFault, Verdict, run_act, run_desk_act, run_desk_copy, run_desk_dates,
     run_desk_inbox, run_desk_kept_take, run_desk_loan, run_desk_long_take, run_desk_outbox,
@@ -26,7 +24,7 @@ pub trait Kept {
         &mut self,
         alloc: Global,
         words: &[Word],
-        output: &mut Sink,
+        output: &mut TestWriter,
     ) -> Option<Result<bool, ToolFault>>;
 
     /// Takes the APDUs of the input, by the engine: of long lines, or of a desk by that which keeps what came, where
@@ -35,9 +33,9 @@ pub trait Kept {
         &mut self,
         alloc: Global,
         words: &[Word],
-        source: &mut Source,
-        output: &mut Sink,
-        came: &mut Sink,
+        source: &mut TestReader,
+        output: &mut TestWriter,
+        came: &mut TestWriter,
     ) -> Result<bool, ToolFault>;
 
     /// Takes mails, by the engine, which only a desk has. Two more wait.
@@ -45,8 +43,8 @@ pub trait Kept {
         &mut self,
         alloc: Global,
         mails: &[Mail],
-        output: &mut Sink,
-        came: &mut Sink,
+        output: &mut TestWriter,
+        came: &mut TestWriter,
     ) -> Option<Result<Vec<Verdict>, ToolFault>>;
 
     /// Sends all messages that want it, if these bytes ask, by the engine, which only a desk has.
@@ -62,7 +60,7 @@ pub trait Kept {
         &self,
         alloc: Global,
         asking: &[u8],
-        output: &mut Sink,
+        output: &mut TestWriter,
     ) -> Option<Result<(), ToolFault>>;
 
     /// Performs the deeds that a day asks for, by the engine, which only a desk has.
@@ -70,7 +68,7 @@ pub trait Kept {
         &mut self,
         alloc: Global,
         words: &[Word],
-        output: &mut Sink,
+        output: &mut TestWriter,
     ) -> Option<Result<(), ToolFault>>;
 
     /// Copies all sides to another store, by the engine, which only a desk has.
@@ -81,18 +79,18 @@ pub trait Kept {
         &self,
         alloc: Global,
         words: &[Word],
-        output: &mut Sink,
+        output: &mut TestWriter,
     ) -> Option<Result<(), ToolFault>>;
 
     /// Shows all sides, by the engine.
-    fn status(&self, alloc: Global, output: &mut Sink) -> Result<(), ToolFault>;
+    fn status(&self, alloc: Global, output: &mut TestWriter) -> Result<(), ToolFault>;
 
     /// Shows all of the loan that the words say, by the engine.
     fn loan(
         &self,
         alloc: Global,
         words: &[Word],
-        output: &mut Sink,
+        output: &mut TestWriter,
     ) -> Option<Result<(), ToolFault>>;
 
     /// Saves all sides.
@@ -114,7 +112,7 @@ impl<S: Store> Kept for Desk1<S> {
         &mut self,
         alloc: Global,
         words: &[Word],
-        output: &mut Sink,
+        output: &mut TestWriter,
     ) -> Option<Result<bool, ToolFault>> {
         let today = day(words)?;
         let words: Vec<&str> = texts(alloc, words_behind(words))?;
@@ -125,9 +123,9 @@ impl<S: Store> Kept for Desk1<S> {
         &mut self,
         alloc: Global,
         words: &[Word],
-        source: &mut Source,
-        output: &mut Sink,
-        _came: &mut Sink,
+        source: &mut TestReader,
+        output: &mut TestWriter,
+        _came: &mut TestWriter,
     ) -> Result<bool, ToolFault> {
         if has(words, "--long") {
             return run_long_take(alloc, self, source, output);
@@ -139,8 +137,8 @@ impl<S: Store> Kept for Desk1<S> {
         &mut self,
         _alloc: Global,
         _mails: &[Mail],
-        _output: &mut Sink,
-        _came: &mut Sink,
+        _output: &mut TestWriter,
+        _came: &mut TestWriter,
     ) -> Option<Result<Vec<Verdict>, ToolFault>> {
         None
     }
@@ -158,7 +156,7 @@ impl<S: Store> Kept for Desk1<S> {
         &self,
         _alloc: Global,
         _asking: &[u8],
-        _output: &mut Sink,
+        _output: &mut TestWriter,
     ) -> Option<Result<(), ToolFault>> {
         None
     }
@@ -167,7 +165,7 @@ impl<S: Store> Kept for Desk1<S> {
         &mut self,
         _alloc: Global,
         _words: &[Word],
-        _output: &mut Sink,
+        _output: &mut TestWriter,
     ) -> Option<Result<(), ToolFault>> {
         None
     }
@@ -180,12 +178,12 @@ impl<S: Store> Kept for Desk1<S> {
         &self,
         alloc: Global,
         words: &[Word],
-        output: &mut Sink,
+        output: &mut TestWriter,
     ) -> Option<Result<(), ToolFault>> {
         Some(run_send(alloc, self, number(words)?, output))
     }
 
-    fn status(&self, alloc: Global, output: &mut Sink) -> Result<(), ToolFault> {
+    fn status(&self, alloc: Global, output: &mut TestWriter) -> Result<(), ToolFault> {
         run_status(alloc, self, output)
     }
 
@@ -193,7 +191,7 @@ impl<S: Store> Kept for Desk1<S> {
         &self,
         alloc: Global,
         _words: &[Word],
-        output: &mut Sink,
+        output: &mut TestWriter,
     ) -> Option<Result<(), ToolFault>> {
         Some(run_loan(alloc, self, output))
     }
@@ -222,7 +220,7 @@ impl<S: Store> Kept for Desk<S> {
         &mut self,
         alloc: Global,
         words: &[Word],
-        output: &mut Sink,
+        output: &mut TestWriter,
     ) -> Option<Result<bool, ToolFault>> {
         let (txn, words) = txn_before(alloc, words)?;
         let today = day(words)?;
@@ -234,9 +232,9 @@ impl<S: Store> Kept for Desk<S> {
         &mut self,
         alloc: Global,
         words: &[Word],
-        source: &mut Source,
-        output: &mut Sink,
-        came: &mut Sink,
+        source: &mut TestReader,
+        output: &mut TestWriter,
+        came: &mut TestWriter,
     ) -> Result<bool, ToolFault> {
         let is_long = has(words, "--long");
         if has(words, "--keep") {
@@ -252,8 +250,8 @@ impl<S: Store> Kept for Desk<S> {
         &mut self,
         alloc: Global,
         mails: &[Mail],
-        output: &mut Sink,
-        came: &mut Sink,
+        output: &mut TestWriter,
+        came: &mut TestWriter,
     ) -> Option<Result<Vec<Verdict>, ToolFault>> {
         Some(run_desk_inbox(alloc, self, mails, WAITING, came, output))
     }
@@ -271,7 +269,7 @@ impl<S: Store> Kept for Desk<S> {
         &self,
         alloc: Global,
         asking: &[u8],
-        output: &mut Sink,
+        output: &mut TestWriter,
     ) -> Option<Result<(), ToolFault>> {
         Some(run_desk_outbox_stream(alloc, self, asking, output))
     }
@@ -281,7 +279,7 @@ impl<S: Store> Kept for Desk<S> {
         &mut self,
         alloc: Global,
         words: &[Word],
-        output: &mut Sink,
+        output: &mut TestWriter,
     ) -> Option<Result<(), ToolFault>> {
         let (day, wanted) = words.split_first()?;
         let today = Day::read(day.text.as_bytes()).ok()?;
@@ -300,13 +298,13 @@ impl<S: Store> Kept for Desk<S> {
         &self,
         alloc: Global,
         words: &[Word],
-        output: &mut Sink,
+        output: &mut TestWriter,
     ) -> Option<Result<(), ToolFault>> {
         let (txn, words) = txn_before(alloc, words)?;
         Some(run_desk_send(alloc, self, &txn, number(words)?, output))
     }
 
-    fn status(&self, alloc: Global, output: &mut Sink) -> Result<(), ToolFault> {
+    fn status(&self, alloc: Global, output: &mut TestWriter) -> Result<(), ToolFault> {
         run_desk_status(alloc, self, output)
     }
 
@@ -314,7 +312,7 @@ impl<S: Store> Kept for Desk<S> {
         &self,
         alloc: Global,
         words: &[Word],
-        output: &mut Sink,
+        output: &mut TestWriter,
     ) -> Option<Result<(), ToolFault>> {
         let (txn, _) = txn_before(alloc, words)?;
         Some(run_desk_loan(alloc, self, &txn, output))

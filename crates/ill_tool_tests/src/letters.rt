@@ -3,9 +3,9 @@
 ghost use Rattle.std.specs.Prelude.{ℕ, None};
 
 use crate::names::Names;
-use crate::page::Page;
 use crate::telling::{tell_bytes, tell_line};
 use ill_saved::{DeskFault, StoreFault};
+use ill_test_kit::Page;
 use ill_tool::{Outgoing, ToolFault};
 use std::alloc::Global;
 

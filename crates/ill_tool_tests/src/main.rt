@@ -19,7 +19,6 @@ mod bench;
 mod block;
 mod call;
 mod engines;
-mod failure;
 mod folder;
 mod kept;
 mod letters;
@@ -27,50 +26,32 @@ mod limited;
 mod mails;
 mod memory;
 mod names;
-mod page;
 mod session;
-mod sink;
-mod source;
+mod streams;
 mod telling;
 mod texts;
 mod view;
 mod watched;
 mod words;
 
-use bench::{Bench, Performs};
+use bench::Bench;
 use folder::Folder;
+use ill_test_kit::answer_lines;
 use session::Session;
-use std::io::{ErrorKind, Write};
 use std::{env, io};
 
 fn main(rt: HostRuntime) -> io::Result<()> {
     let alloc = rt.alloc();
     let arguments: Vec<String> = env::args(&rt)?.collect(alloc)?;
-    let text = io::read_to_string(alloc, rt.stdin())?;
-    let wanted = arguments.get(1).map(|name| name.as_str());
-    perform(&rt, text.as_str(), wanted)
+    perform(&rt, arguments.get(1).map(|name| name.as_str()))
 }
 
-/// Performs the lines of a text, and prints what they answer. Where a case is wanted, it is performed alone.
-fn perform(rt: &HostRuntime, text: &str, wanted: Option<&str>) -> io::Result<()> {
+/// Performs the lines of the input, and prints what they answer. If a case is wanted, it is performed alone.
+fn perform(rt: &HostRuntime, wanted: Option<&str>) -> io::Result<()> {
     let alloc = rt.alloc();
     let folder = Folder::new(rt, alloc)?;
     let mut session = Session::new(alloc, Bench::new(alloc, folder), wanted);
-    let printed = print_answers(&mut rt.stdout(), &mut session, text);
+    let printed = answer_lines(rt, &mut session);
     drop(session);
     printed
-}
-
-fn print_answers<W: Write, B: Performs>(
-    output: &mut W,
-    session: &mut Session<'_, B>,
-    text: &str,
-) -> io::Result<()> {
-    for line in text.lines() {
-        session.read(line);
-    }
-    match session.finish() {
-        Some(bytes) => output.write_all(bytes),
-        None => Err(io::Error::from(ErrorKind::OutOfMemory)),
-    }
 }

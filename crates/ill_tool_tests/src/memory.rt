@@ -10,11 +10,11 @@ use crate::letters::Letters;
 use crate::limited::LimitedStore;
 use crate::mails::mails_of;
 use crate::names::Names;
-use crate::page::Page;
 use crate::telling::begin;
 use crate::words::Word;
-use ill_core::{Requester, Responder};
-use ill_saved::{Desk, Desk1, MemoryStore, NextCall, Role, Side, Store};
+use ill_desk_kit::{idle_side, plan_of};
+use ill_saved::{Desk, Desk1, MemoryStore, Role, Side, Store};
+use ill_test_kit::Page;
 use ill_values::TxnId;
 use ill_world::words::who;
 use std::alloc::Global;
@@ -77,7 +77,7 @@ impl Memory {
 
     /// Plans the next call of the store.
     pub fn plan(&mut self, words: &[Word]) -> Option<()> {
-        let next = next_call(words.first()?)?;
+        let next = plan_of(words.first()?.text.as_str())?;
         match self {
             Memory::Side(desk) => desk.set_next(next),
             Memory::Desk(desk) => desk.set_next(next),
@@ -115,25 +115,12 @@ impl Memory {
     }
 }
 
-/// What is planned for the next call of a store: it `works`, `fails-old` or `fails-new`.
-pub fn next_call(word: &Word) -> Option<NextCall> {
-    match word.text.as_str() {
-        "works" => Some(NextCall::Works),
-        "fails-old" => Some(NextCall::FailsOld),
-        "fails-new" => Some(NextCall::FailsNew),
-        _ => None,
-    }
-}
-
 /// The side of a role before its first message.
 fn first_side(alloc: Global, role: Role) -> Option<Side>
     ensures { IfSome result (λ side. side ≡ idle_of side) }
 {
     let txn = TxnId::new(alloc, b"G1", b"T1").ok()?;
-    match role {
-        Role::Requester => Some(Side::Requester(Requester::idle(alloc, txn))),
-        Role::Responder => Some(Side::Responder(Responder::idle(alloc, txn))),
-    }
+    Some(idle_side(alloc, role, txn))
 }
 
 fn planned(alloc: Global, beginning: Beginning, role: Role) -> Option<Memory> {
@@ -281,6 +268,6 @@ fn store_with(alloc: Global, names: &Names, plan: &Word, before: &[Word]) -> Opt
     if !before.is_empty() {
         store.save(alloc, &names.bytes(before)?).ok()?;
     }
-    store.set_next(next_call(plan)?);
+    store.set_next(plan_of(plan.text.as_str())?);
     Some(store)
 }

@@ -3,23 +3,19 @@
 use crate::bench::Performs;
 use crate::block::Block;
 use crate::names::Names;
-use crate::page::Page;
 use crate::words::{Word, words_of};
+use ill_test_kit::{INDENT, Lines, Page};
 use std::alloc::Global;
-
-/// What a line of an answer begins with.
-const ANSWER: &str = "  ";
 
 const NOT_UNDERSTOOD: &str = "  NOT UNDERSTOOD";
 
 const NO_SUCH_CASE: &str = "NO SUCH CASE";
 
-/// What the lines so far have printed and left.
+/// What the lines so far have left.
 #[derive(Drop)]
 pub struct Session<'a, B: Performs> {
     alloc: Global,
-    page: Page,
-    lines: Lines<B>,
+    bench: NamedBench<B>,
     /// The case that is performed alone.
     wanted: Option<&'a str>,
     is_performing: bool,
@@ -29,7 +25,7 @@ pub struct Session<'a, B: Performs> {
 
 /// What performs lines, and the names that were given.
 #[derive(Drop)]
-struct Lines<B: Performs> {
+struct NamedBench<B: Performs> {
     alloc: Global,
     names: Names,
     bench: B,
@@ -40,8 +36,7 @@ impl<'a, B: Performs> Session<'a, B> {
     pub fn new(alloc: Global, bench: B, wanted: Option<&'a str>) -> Session<'a, B> {
         Session {
             alloc,
-            page: Page::new(alloc),
-            lines: Lines {
+            bench: NamedBench {
                 alloc,
                 names: Names::new(alloc),
                 bench,
@@ -53,30 +48,6 @@ impl<'a, B: Performs> Session<'a, B> {
         }
     }
 
-    /// All that was printed, and that no case was performed where that is so. There is nothing if some of it is
-    /// missing, or the folder could not be removed.
-    pub fn finish(&mut self) -> Option<&[u8]> {
-        self.lines.bench.end()?;
-        if !self.has_found_case {
-            self.page.line(NO_SUCH_CASE);
-        }
-        self.page.bytes()
-    }
-
-    /// Takes the next line.
-    pub fn read(&mut self, line: &str) {
-        if let Some(name) = line.strip_prefix("case ") {
-            self.is_performing = self.is_wanted(name);
-            self.has_found_case |= self.is_performing;
-        }
-        if !self.is_performing {
-            return self.page.line(line);
-        }
-        if !line.starts_with(ANSWER) && self.take(line).is_none() {
-            self.page.line(NOT_UNDERSTOOD);
-        }
-    }
-
     fn is_wanted(&self, name: &str) -> bool {
         match self.wanted {
             Some(wanted) => wanted == name,
@@ -84,18 +55,18 @@ impl<'a, B: Performs> Session<'a, B> {
         }
     }
 
-    fn take(&mut self, line: &str) -> Option<()> {
+    fn take(&mut self, page: &mut Page, line: &str) -> Option<()> {
         if let Some(words) = line.strip_prefix("each ") {
-            self.page.line(line);
+            page.line(line);
             return self.each(words);
         }
         if line == "end" {
-            return self.end();
+            return self.end_block(page);
         }
         match &mut self.block {
             Some(block) => block.push(line),
             None => {
-                self.lines.perform(&mut self.page, line, line);
+                self.bench.perform(page, line, line);
                 Some(())
             }
         }
@@ -110,36 +81,66 @@ impl<'a, B: Performs> Session<'a, B> {
     }
 
     /// Ends a block, and performs it.
-    fn end(&mut self) -> Option<()> {
+    fn end_block(&mut self, page: &mut Page) -> Option<()> {
         let block = self.block.take()?;
-        self.perform_block(&block)
+        self.perform_block(page, &block)
     }
 
     /// Writes a block with the answers in its first case, and behind it each case in which they are
     /// others.
-    fn perform_block(&mut self, block: &Block) -> Option<()> {
-        let first = self.lines.perform_block(block, 0)?;
-        self.page.page(&first);
-        self.page.line("end");
+    fn perform_block(&mut self, page: &mut Page, block: &Block) -> Option<()> {
+        let first = self.bench.perform_block(block, 0)?;
+        page.page(&first);
+        page.line("end");
         for case in 1..block.cases() {
-            self.perform_again(block, case, &first)?;
+            self.perform_again(page, block, case, &first)?;
         }
         Some(())
     }
 
     /// Performs a block in a further case, and writes that where its answers are others than in the first.
-    fn perform_again(&mut self, block: &Block, case: usize, first: &Page) -> Option<()> {
-        let page = self.lines.perform_block(block, case)?;
-        if page.bytes() != first.bytes() {
-            self.page.text("  BUT WITH");
-            self.page.line(block.values(case)?.as_str());
-            self.page.page(&page);
+    fn perform_again(
+        &mut self,
+        page: &mut Page,
+        block: &Block,
+        case: usize,
+        first: &Page,
+    ) -> Option<()> {
+        let again = self.bench.perform_block(block, case)?;
+        if again.bytes() != first.bytes() {
+            page.text("  BUT WITH");
+            page.line(block.values(case)?.as_str());
+            page.page(&again);
         }
         Some(())
     }
 }
 
-impl<B: Performs> Lines<B> {
+impl<B: Performs> Lines for Session<'_, B> {
+    fn perform(&mut self, page: &mut Page, line: &str) {
+        if let Some(name) = line.strip_prefix("case ") {
+            self.is_performing = self.is_wanted(name);
+            self.has_found_case |= self.is_performing;
+        }
+        if !self.is_performing {
+            return page.line(line);
+        }
+        if !line.starts_with(INDENT) && self.take(page, line).is_none() {
+            page.line(NOT_UNDERSTOOD);
+        }
+    }
+
+    /// Removes the folder, and prints it if no case was performed.
+    fn end(&mut self, page: &mut Page) -> Option<()> {
+        self.bench.bench.end()?;
+        if !self.has_found_case {
+            page.line(NO_SUCH_CASE);
+        }
+        Some(())
+    }
+}
+
+impl<B: Performs> NamedBench<B> {
     /// Performs the lines of a block in this case, and prints them as they are written.
     fn perform_block(&mut self, block: &Block, case: usize) -> Option<Page> {
         let mut page = Page::new(self.alloc);

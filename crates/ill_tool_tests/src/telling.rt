@@ -1,9 +1,7 @@
 //! How answers are told: each line behind two spaces and a mark.
 
 use crate::names::Names;
-use crate::page::Page;
-use crate::sink::Sink;
-use crate::source::Source;
+use ill_test_kit::{Page, TestReader, TestWriter};
 
 /// How much of what a writer took is told.
 #[derive(Drop)]
@@ -18,9 +16,15 @@ pub enum Telling {
 }
 
 /// Tells what a writer took, behind this mark.
-pub fn tell_sink(page: &mut Page, names: &Names, mark: &str, sink: &Sink) {
-    let taken = sink.taken.as_slice();
-    match &sink.telling {
+pub fn tell_writer(
+    page: &mut Page,
+    names: &Names,
+    mark: &str,
+    writer: &TestWriter,
+    telling: &Telling,
+) {
+    let taken = writer.taken.as_slice();
+    match telling {
         Telling::Whole => tell_bytes(page, names, mark, taken),
         Telling::Any => tell_any(page, mark, taken),
         Telling::First(count) => {
@@ -29,13 +33,13 @@ pub fn tell_sink(page: &mut Page, names: &Names, mark: &str, sink: &Sink) {
         }
         Telling::Just(wanted) => tell_whether(page, names, mark, taken, wanted),
     }
-    tell_again(page, mark, sink.was_called_again);
+    tell_again(page, mark, writer.was_called_again());
 }
 
 /// Tells what a slow reader was not asked for.
-pub fn tell_source(page: &mut Page, names: &Names, source: &Source) {
-    tell_bytes(page, names, "<", source.unread());
-    tell_again(page, "<", source.was_called_again);
+pub fn tell_reader(page: &mut Page, names: &Names, reader: &TestReader) {
+    tell_bytes(page, names, "<", reader.unread());
+    tell_again(page, "<", reader.was_called_again());
 }
 
 /// Tells that a stream was called after it had failed.
@@ -103,12 +107,8 @@ fn tell_text(page: &mut Page, mark: &str, text: &str) {
 
 fn tell_octets(page: &mut Page, mark: &str, bytes: &[u8]) {
     begin(page, mark);
-    let mut before = "[";
-    for byte in bytes {
-        page.text(before);
-        page.octet(*byte);
-        before = " ";
-    }
+    page.text("[");
+    page.hex(bytes);
     page.line("]");
 }
 

@@ -1,8 +1,8 @@
 //! The texts of faults, among them those that no command line brings about.
 
-use crate::page::Page;
 use crate::telling::begin;
 use ill_saved::{RecordFault, StoreFault};
+use ill_test_kit::Page;
 use ill_tool::{DerFault, DeskFault, ToolFault};
 use std::fmt::{Debug, Display};
 

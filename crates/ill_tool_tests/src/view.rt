@@ -1,7 +1,7 @@
 //! What is seen of what lies in memory.
 
-use crate::page::Page;
 use ill_saved::{Desk, Desk1, Side, Store, encode_record, encode_record2};
+use ill_test_kit::Page;
 use std::alloc::Global;
 
 /// The record, and how many messages of each side are released.

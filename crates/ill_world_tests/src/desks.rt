@@ -1,8 +1,8 @@
 //! Events of two desks as values, performed one by one or as a list.
 
 use crate::list::EventList;
-use crate::page::Page;
 use ill_core::{Deed, Wish};
+use ill_test_kit::Page;
 use ill_values::{Day, Item, Number, TxnId};
 use ill_world::{Bytes, DeskEvent, DeskWorld, Who, push_side, run_desks};
 use std::alloc::Global;

@@ -10,7 +10,6 @@
 mod desks;
 mod events;
 mod list;
-mod page;
 mod performing;
 mod places;
 mod scripts;
@@ -18,18 +17,10 @@ mod session;
 mod streams;
 mod worlds;
 
+use ill_test_kit::answer_lines;
 use session::Session;
 use std::io;
-use std::io::{ErrorKind, Write};
 
 fn main(rt: HostRuntime) -> io::Result<()> {
-    let input = io::read_to_string(rt.alloc(), rt.stdin())?;
-    let mut session = Session::new(rt.alloc());
-    for line in input.lines() {
-        session.read(line);
-    }
-    match session.bytes() {
-        Some(bytes) => rt.stdout().write_all(bytes),
-        None => Err(io::Error::from(ErrorKind::OutOfMemory)),
-    }
+    answer_lines(&rt, &mut Session::new(rt.alloc()))
 }

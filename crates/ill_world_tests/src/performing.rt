@@ -1,7 +1,7 @@
 //! Scripts that are performed once, and what is printed of them.
 
-use crate::page::Page;
-use crate::streams::{End, TestReader, TestWriter};
+use crate::streams::{End, reader_of, writer_of};
+use ill_test_kit::{Page, TestWriter};
 use ill_values::TxnId;
 use ill_world::{SimFault, simulate, simulate_desks};
 use std::alloc::Global;
@@ -56,14 +56,13 @@ pub fn txn(alloc: Global) -> Option<TxnId> {
     TxnId::new(alloc, b"G1", b"T1").ok()
 }
 
-/// Performs a script with a reader and a writer that give and take at most so many bytes at a time.
-pub fn perform(alloc: Global, script: Script<'_>, at_once: usize, end: End) -> Option<Told> {
-    let mut reader = TestReader {
-        bytes: script.bytes,
-        at_once,
-        end,
-    };
-    let mut writer = TestWriter::new(alloc, at_once, usize::MAX, End::Fails);
+/// Performs a script with a reader and a writer that take all, and give and take one byte at a time if they are slow.
+pub fn perform(alloc: Global, script: Script<'_>, is_slow: bool, end: End) -> Option<Told> {
+    let mut reader = reader_of(alloc, script.bytes, is_slow, end)?;
+    let mut writer = TestWriter::new(alloc);
+    if is_slow {
+        writer.set_slow();
+    }
     let answer = script.simulation.run(alloc, &mut reader, &mut writer)?;
     Some(Told {
         trace: writer.taken,
@@ -74,7 +73,7 @@ pub fn perform(alloc: Global, script: Script<'_>, at_once: usize, end: End) -> O
 /// Performs a script with a writer that takes so many bytes.
 pub fn perform_into(alloc: Global, script: Script<'_>, room: usize, end: End) -> Option<Told> {
     let mut reader = script.bytes;
-    let mut writer = TestWriter::new(alloc, usize::MAX, room, end);
+    let mut writer = writer_of(alloc, room, end);
     let answer = script.simulation.run(alloc, &mut reader, &mut writer)?;
     Some(Told {
         trace: writer.taken,
@@ -86,7 +85,7 @@ pub fn perform_into(alloc: Global, script: Script<'_>, room: usize, end: End) ->
 pub fn print_script(alloc: Global, page: &mut Page, script: Script<'_>, end: End) -> Option<()> {
     let told = print_trace(alloc, page, script, end)?;
     page.text("\n");
-    let slow = perform(alloc, script, 1, end)?;
+    let slow = perform(alloc, script, true, end)?;
     if slow.trace.as_slice() != told.trace.as_slice() || slow.answer != told.answer {
         page.line("ONE BYTE AT A TIME:");
         page.push(&slow.trace);
@@ -98,7 +97,7 @@ pub fn print_script(alloc: Global, page: &mut Page, script: Script<'_>, end: End
 
 /// Performs a script, and prints its trace and, without an end, the line of its answer.
 pub fn print_trace(alloc: Global, page: &mut Page, script: Script<'_>, end: End) -> Option<Told> {
-    let told = perform(alloc, script, usize::MAX, end)?;
+    let told = perform(alloc, script, false, end)?;
     print_lines(page, &told.trace);
     print_answer(page, &told.answer);
     Some(told)

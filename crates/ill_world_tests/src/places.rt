@@ -1,8 +1,8 @@
 //! Scripts whose reader or writer fails at each place in turn.
 
-use crate::page::Page;
 use crate::performing::{Script, Told, line_count, perform, perform_into, print_answer};
 use crate::streams::End;
+use ill_test_kit::Page;
 use std::alloc::Global;
 
 /// The answers at one place after another. Each is printed where it differs from the one before it.
@@ -57,14 +57,14 @@ fn print_fronts(
     end: End,
     label: &'static str,
 ) -> Option<()> {
-    let whole = perform(alloc, script, usize::MAX, End::Stops)?;
+    let whole = perform(alloc, script, false, End::Stops)?;
     let mut answers = Answers::new(alloc, label);
     for place in 0..=script.bytes.len() {
         let front = Script {
             bytes: &script.bytes[..place],
             ..script
         };
-        let told = perform(alloc, front, usize::MAX, end)?;
+        let told = perform(alloc, front, false, end)?;
         answers.push(page, place, &told, Some(line_count(&told.trace)));
         if !is_whole_lines(&told.trace) || !whole.trace.starts_with(&told.trace) {
             page.line("ANOTHER TRACE");
@@ -92,7 +92,7 @@ fn print_rooms(
     end: End,
     label: &'static str,
 ) -> Option<()> {
-    let whole = perform(alloc, script, usize::MAX, End::Stops)?;
+    let whole = perform(alloc, script, false, End::Stops)?;
     let mut answers = Answers::new(alloc, label);
     for room in 0..=whole.trace.len() {
         let told = perform_into(alloc, script, room, end)?;

@@ -1,12 +1,12 @@
 //! The lines of the input, one after another.
 
 use crate::desks::{print_desk_exchange, print_desk_run, print_desk_steps};
-use crate::page::{INDENT, Page};
 use crate::performing::{Script, Simulation, print_script, print_trace};
 use crate::places::{print_readers, print_writers};
 use crate::scripts::push_line;
 use crate::streams::End;
 use crate::worlds::{print_ending, print_run, print_steps};
+use ill_test_kit::{INDENT, Lines, Page};
 use std::alloc::Global;
 
 const NOT_UNDERSTOOD: &str = "NOT UNDERSTOOD";
@@ -31,12 +31,23 @@ enum Block {
     Script(Call, Simulation, Vec<u8>),
 }
 
-/// What the lines so far have printed, and the block that they have begun.
+/// The block that the lines so far have begun.
 #[derive(Drop)]
 pub struct Session {
     alloc: Global,
-    page: Page,
     block: Block,
+}
+
+impl Lines for Session {
+    fn perform(&mut self, page: &mut Page, line: &str) {
+        if !line.starts_with(INDENT) && self.take(page, line).is_none() {
+            page.line(NOT_UNDERSTOOD);
+        }
+    }
+
+    fn end(&mut self, _page: &mut Page) -> Option<()> {
+        Some(())
+    }
 }
 
 impl Session {
@@ -44,36 +55,20 @@ impl Session {
     pub fn new(alloc: Global) -> Session {
         Session {
             alloc,
-            page: Page::new(alloc),
             block: Block::Outside,
         }
     }
 
-    /// All that was printed, if nothing is missing.
-    pub fn bytes(&self) -> Option<&[u8]> {
-        self.page.bytes()
-    }
-
-    /// Takes the next line.
-    pub fn read(&mut self, line: &str) {
-        if self.understood(line).is_none() {
-            self.page.line(NOT_UNDERSTOOD);
-        }
-    }
-
-    /// Prints the line and its answers, unless it is an answer itself.
-    fn understood(&mut self, line: &str) -> Option<()> {
-        if line.starts_with(INDENT) {
-            return Some(());
-        }
-        self.page.line(line);
+    /// Prints the line and its answers.
+    fn take(&mut self, page: &mut Page, line: &str) -> Option<()> {
+        page.line(line);
         let mut answers = Page::new(self.alloc);
-        let understood = self.perform(&mut answers, line);
-        self.page.push_indented(&answers);
+        let understood = self.answer(&mut answers, line);
+        page.page_behind(INDENT.as_bytes(), &answers);
         understood
     }
 
-    fn perform(&mut self, answers: &mut Page, line: &str) -> Option<()> {
+    fn answer(&mut self, answers: &mut Page, line: &str) -> Option<()> {
         if line == "end" {
             return self.end(answers);
         }

@@ -1,14 +1,14 @@
-//! Readers and writers that fail, or give or take one byte at a time.
+//! Streams that fail once, or end.
 
+use ill_test_kit::{Failure, TestReader, TestWriter};
 use std::alloc::Global;
-use std::io;
-use std::io::{ErrorKind, Read, Write};
+use std::io::ErrorKind;
 
 /// What a reader that has failed gives where it is asked again.
 const BEHIND: &[u8] = b"\nsave requester\n";
 
 /// What a stream does where its bytes or its room end.
-#[derive(Clone, Copy, PartialEq, Eq)]
+#[derive(Clone, Copy)]
 pub enum End {
     /// It gives or takes no bytes.
     Stops,
@@ -19,74 +19,33 @@ pub enum End {
 }
 
 impl End {
-    fn error(self) -> Option<io::Error> {
-        match self {
+    fn failure(self) -> Failure {
+        let kind = match self {
             End::Stops => None,
-            End::Fails => Some(io::Error::from(ErrorKind::BrokenPipe)),
-            End::Interrupts => Some(io::Error::from(ErrorKind::Interrupted)),
-        }
+            End::Fails => Some(ErrorKind::BrokenPipe),
+            End::Interrupts => Some(ErrorKind::Interrupted),
+        };
+        Failure::new(kind, 1)
     }
 }
 
-/// A reader that gives at most so many bytes at a time. Once it has failed it gives others.
-#[derive(Drop)]
-pub struct TestReader<'a> {
-    pub bytes: &'a [u8],
-    pub at_once: usize,
-    pub end: End,
+/// A reader that gives these bytes, one at a time if it is slow, and then ends so. Once it has failed it gives others.
+pub fn reader_of(alloc: Global, bytes: &[u8], is_slow: bool, end: End) -> Option<TestReader> {
+    let behind = match end {
+        End::Stops => Vec::new(alloc),
+        End::Fails | End::Interrupts => Vec::from_slice(alloc, BEHIND).ok()?,
+    };
+    let bytes = Vec::from_slice(alloc, bytes).ok()?;
+    let mut reader = TestReader::new(bytes, end.failure(), behind);
+    if is_slow {
+        reader.set_slow();
+    }
+    Some(reader)
 }
 
-impl Read for TestReader<'_> {
-    fn read(&mut self, buffer: &mut [u8]) -> io::Result<usize> {
-        if self.bytes.is_empty() {
-            if let Some(error) = self.end.error() {
-                self.end = End::Stops;
-                self.bytes = BEHIND;
-                return Err(error);
-            }
-        }
-        let count = buffer.len().min(self.at_once);
-        self.bytes.read(&mut buffer[..count])
-    }
-}
-
-/// A writer that takes at most so many bytes at a time, and so many until it refuses once. Then it takes
-/// more.
-#[derive(Drop)]
-pub struct TestWriter {
-    pub taken: Vec<u8>,
-    at_once: usize,
-    room: usize,
-    end: End,
-}
-
-impl TestWriter {
-    pub fn new(alloc: Global, at_once: usize, room: usize, end: End) -> TestWriter {
-        TestWriter {
-            taken: Vec::new(alloc),
-            at_once,
-            room,
-            end,
-        }
-    }
-}
-
-impl Write for TestWriter {
-    fn write(&mut self, bytes: &[u8]) -> io::Result<usize> {
-        if self.room == 0 {
-            self.room = usize::MAX;
-            return match self.end.error() {
-                Some(error) => Err(error),
-                None => Ok(0),
-            };
-        }
-        let count = bytes.len().min(self.at_once).min(self.room);
-        self.taken.extend_from_slice(&bytes[..count])?;
-        self.room -= count;
-        Ok(count)
-    }
-
-    fn flush(&mut self) -> io::Result<()> {
-        Ok(())
-    }
+/// A writer that takes so many bytes until it refuses once. Then it takes more.
+pub fn writer_of(alloc: Global, room: usize, end: End) -> TestWriter {
+    let mut writer = TestWriter::new(alloc);
+    writer.set_room(room, end.failure());
+    writer
 }

@@ -2,10 +2,10 @@
 
 use crate::events::events;
 use crate::list::EventList;
-use crate::page::Page;
 use crate::performing::txn;
 use ill_core::State;
 use ill_der::encode;
+use ill_test_kit::Page;
 use ill_values::{Apdu, Day};
 use ill_world::{Event, Who, World, run};
 use std::alloc::Global;
@@ -127,10 +127,8 @@ fn print_issued(alloc: Global, page: &mut Page, released: u8, issued: &[Apdu]) -
 }
 
 fn print_message(alloc: Global, page: &mut Page, apdu: &Apdu) -> Option<()> {
-    for octet in &encode(alloc, apdu).ok()? {
-        let text = format!(in alloc; " {octet:02X}").ok()?;
-        page.text(text.as_str());
-    }
+    page.text(" ");
+    page.hex(&encode(alloc, apdu).ok()?);
     page.text("\n");
     Some(())
 }

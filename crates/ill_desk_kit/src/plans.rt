@@ -1,0 +1,15 @@
+//! What is planned for the next call of a store.
+
+use ill_saved::NextCall;
+use ill_test_kit::named;
+
+static PLANS: [(&str, NextCall); 3] = [
+    ("works", NextCall::Works),
+    ("fails-old", NextCall::FailsOld),
+    ("fails-new", NextCall::FailsNew),
+];
+
+/// Returns the plan of this name.
+pub fn plan_of(word: &str) -> Option<NextCall> {
+    named(&PLANS, word)
+}

@@ -1,0 +1,120 @@
+//! What is printed.
+
+use std::alloc::Global;
+use std::fmt::{Debug, Display};
+
+/// Bytes to which more are added. If an addition fails, the page is not whole, and stays so.
+#[derive(Drop)]
+pub struct Page {
+    bytes: Vec<u8>,
+    is_whole: bool,
+}
+
+impl Page {
+    /// Creates an empty page.
+    pub fn new(alloc: Global) -> Page {
+        Page {
+            bytes: Vec::new(alloc),
+            is_whole: true,
+        }
+    }
+
+    /// Returns all that was added, if nothing is missing.
+    pub fn bytes(&self) -> Option<&[u8]> {
+        if self.is_whole {
+            Some(&self.bytes)
+        } else {
+            None
+        }
+    }
+
+    /// Returns what was added, even if some is missing.
+    pub fn so_far(&self) -> &[u8] {
+        &self.bytes
+    }
+
+    /// Marks that something is missing.
+    pub fn lose(&mut self) {
+        self.is_whole = false;
+    }
+
+    /// Adds bytes.
+    pub fn push(&mut self, bytes: &[u8]) {
+        if self.bytes.extend_from_slice(bytes).is_err() {
+            self.lose();
+        }
+    }
+
+    /// Adds one byte.
+    pub fn octet(&mut self, octet: u8) {
+        if self.bytes.push(octet).is_err() {
+            self.lose();
+        }
+    }
+
+    /// Adds text.
+    pub fn text(&mut self, text: &str) {
+        self.push(text.as_bytes());
+    }
+
+    /// Adds a line, and its end.
+    pub fn line(&mut self, text: &str) {
+        self.text(text);
+        self.octet(b'\n');
+    }
+
+    /// Adds text, and spaces behind it until both have `width` bytes.
+    pub fn text_to(&mut self, width: usize, text: &str) {
+        self.text(text);
+        for _ in text.len()..width {
+            self.octet(b' ');
+        }
+    }
+
+    /// Adds another page.
+    pub fn page(&mut self, other: &Page) {
+        self.push(&other.bytes);
+        self.is_whole = self.is_whole && other.is_whole;
+    }
+
+    /// Adds the lines of another page, each behind `front`.
+    pub fn page_behind(&mut self, front: &[u8], other: &Page) {
+        for line in other.bytes.split_inclusive(|byte| *byte == b'\n') {
+            self.push(front);
+            self.push(line);
+        }
+        self.is_whole = self.is_whole && other.is_whole;
+    }
+
+    /// Adds two hexadecimal digits for each of the bytes, and a space between two.
+    pub fn hex(&mut self, bytes: &[u8]) {
+        let mut between = "";
+        for byte in bytes {
+            self.hex_octet(between, *byte);
+            between = " ";
+        }
+    }
+
+    fn hex_octet(&mut self, before: &str, octet: u8) {
+        match format!(in *self.bytes.allocator(); "{before}{octet:02X}") {
+            Ok(text) => self.text(text.as_str()),
+            Err(_) => self.lose(),
+        }
+    }
+
+    /// Adds what `{}` prints.
+    pub fn show<T: Display>(&mut self, value: &T) {
+        match value.to_string(*self.bytes.allocator()) {
+            Ok(text) => self.text(text.as_str()),
+            Err(_) => self.lose(),
+        }
+    }
+
+    /// Adds what `{:?}` prints.
+    pub fn show_parts<T: Debug>(&mut self, value: &T) {
+        match format!(in *self.bytes.allocator(); "{value:?}") {
+            Ok(text) => self.text(text.as_str()),
+            Err(_) => self.lose(),
+        }
+    }
+}

@@ -1,0 +1,242 @@
+//! Readers and writers that fail, or give and take their bytes in pieces.
+
+ghost use Rattle.std.specs.Prelude.{◌≡◌, ◌≤◌, length, IfOk};
+
+use std::alloc::Global;
+use std::io;
+use std::io::{ErrorKind, Read, Write};
+
+/// How a stream fails: with an error, or by giving or taking no byte; and how often, before it works again.
+#[derive(Clone, Copy)]
+pub struct Failure {
+    kind: Option<ErrorKind>,
+    times: u32,
+}
+
+impl Failure {
+    /// It never fails.
+    pub const NEVER: Failure = Failure {
+        kind: None,
+        times: 0,
+    };
+
+    /// Fails `times` times: with an error of this kind, or by giving or taking no byte.
+    pub fn new(kind: Option<ErrorKind>, times: u32) -> Failure {
+        Failure { kind, times }
+    }
+
+    /// Returns true if it will fail.
+    fn is_due(&self) -> bool {
+        self.times > 0
+    }
+
+    /// Fails: with an error, or by giving or taking no byte.
+    fn fail(&mut self) -> Option<io::Error> {
+        self.times = self.times.saturating_sub(1);
+        Some(io::Error::from(self.kind?))
+    }
+}
+
+/// Bytes of which some were read. No read goes across the bar.
+#[derive(Drop)]
+struct Bytes {
+    bytes: Vec<u8>,
+    read: usize,
+    bar: usize,
+}
+
+impl Bytes {
+    fn new(bytes: Vec<u8>) -> Bytes {
+        Bytes {
+            bytes,
+            read: 0,
+            bar: 0,
+        }
+    }
+
+    fn rest(&self) -> &[u8] {
+        self.bytes.get(self.read..).unwrap_or(&[])
+    }
+
+    /// Returns how many bytes one read gives at most.
+    fn most(&self) -> usize {
+        if self.read < self.bar {
+            self.bar - self.read
+        } else {
+            usize::MAX
+        }
+    }
+
+    fn read(&mut self, buffer: &mut [u8]) -> io::Result<usize>
+        ensures bound { IfOk result (λ count. count ≤ length buffer.new) }
+        ensures size { length buffer.new ≡ length buffer.old }
+    {
+        let count = self.rest().read(buffer)?;
+        self.read = self.read.saturating_add(count);
+        Ok(count)
+    }
+}
+
+/// A reader that gives bytes, may fail behind them, and then gives others.
+#[derive(Drop)]
+pub struct TestReader {
+    before: Bytes,
+    failure: Failure,
+    behind: Bytes,
+    is_slow: bool,
+    has_bar: bool,
+    has_failed: bool,
+    was_called_again: bool,
+}
+
+impl TestReader {
+    /// A reader that gives the bytes of `before`, fails, and then gives those of `behind`.
+    pub fn new(before: Vec<u8>, failure: Failure, behind: Vec<u8>) -> TestReader {
+        TestReader {
+            before: Bytes::new(before),
+            failure,
+            behind: Bytes::new(behind),
+            is_slow: false,
+            has_bar: false,
+            has_failed: false,
+            was_called_again: false,
+        }
+    }
+
+    /// Makes it give one byte at a time.
+    pub fn set_slow(&mut self) {
+        self.is_slow = true;
+    }
+
+    /// Lets no read go across the first `bar` bytes.
+    pub fn set_bar(&mut self, bar: usize) {
+        self.before.bar = bar;
+        self.has_bar = true;
+    }
+
+    /// Returns the bytes for which it was not asked, if it is slow or has a bar.
+    pub fn unread(&self) -> &[u8] {
+        if self.is_slow || self.has_bar {
+            self.before.rest()
+        } else {
+            &[]
+        }
+    }
+
+    /// Returns true if it was called after it had failed.
+    pub fn was_called_again(&self) -> bool {
+        self.was_called_again
+    }
+
+    /// Lets its failure be of no account from now on.
+    pub fn forgive(&mut self) {
+        self.has_failed = false;
+    }
+}
+
+impl Read for TestReader {
+    fn read(&mut self, buffer: &mut [u8]) -> io::Result<usize> {
+        self.was_called_again |= self.has_failed;
+        let most = if self.is_slow { 1 } else { self.before.most() };
+        let count = buffer.len().min(most);
+        if !self.before.rest().is_empty() {
+            return self.before.read(&mut buffer[..count]);
+        }
+        if self.failure.is_due() {
+            self.has_failed = true;
+            return match self.failure.fail() {
+                Some(error) => Err(error),
+                None => Ok(0),
+            };
+        }
+        self.behind.read(&mut buffer[..count])
+    }
+}
+
+/// A writer that takes bytes, may refuse behind some, and then takes all.
+#[derive(Drop)]
+pub struct TestWriter {
+    /// The bytes that it took.
+    pub taken: Vec<u8>,
+    room: usize,
+    refusal: Failure,
+    flush: Failure,
+    is_slow: bool,
+    has_failed: bool,
+    was_called_again: bool,
+}
+
+impl TestWriter {
+    /// A writer that takes all.
+    pub fn new(alloc: Global) -> TestWriter {
+        TestWriter {
+            taken: Vec::new(alloc),
+            room: usize::MAX,
+            refusal: Failure::NEVER,
+            flush: Failure::NEVER,
+            is_slow: false,
+            has_failed: false,
+            was_called_again: false,
+        }
+    }
+
+    /// Makes it take one byte at a time.
+    pub fn set_slow(&mut self) {
+        self.is_slow = true;
+    }
+
+    /// Makes it fail once it has taken `room` bytes.
+    pub fn set_room(&mut self, room: usize, refusal: Failure) {
+        self.room = room;
+        self.refusal = refusal;
+    }
+
+    /// Makes its flush fail.
+    pub fn set_flush(&mut self, flush: Failure) {
+        self.flush = flush;
+    }
+
+    /// Returns true if it was called after it had failed.
+    pub fn was_called_again(&self) -> bool {
+        self.was_called_again
+    }
+
+    /// Returns how many bytes it takes at most at once.
+    fn most(&self) -> usize {
+        if self.is_slow {
+            1
+        } else if self.refusal.is_due() {
+            self.room
+        } else {
+            usize::MAX
+        }
+    }
+}
+
+impl Write for TestWriter {
+    fn write(&mut self, bytes: &[u8]) -> io::Result<usize> {
+        self.was_called_again |= self.has_failed;
+        if self.room == 0 && self.refusal.is_due() {
+            self.has_failed = true;
+            return match self.refusal.fail() {
+                Some(error) => Err(error),
+                None => Ok(0),
+            };
+        }
+        let count = bytes.len().min(self.most());
+        self.taken.extend_from_slice(&bytes[..count])?;
+        self.room = self.room.saturating_sub(count);
+        Ok(count)
+    }
+
+    fn flush(&mut self) -> io::Result<()> {
+        self.was_called_again |= self.has_failed;
+        if self.flush.is_due() {
+            self.has_failed = true;
+            if let Some(error) = self.flush.fail() {
+                return Err(error);
+            }
+        }
+        Ok(())
+    }
+}

@@ -1,0 +1,135 @@
+//! Readers and writers by their words.
+
+use crate::names::Names;
+use crate::telling::Telling;
+use crate::words::{Word, cut};
+use ill_test_kit::{Failure, TestReader, TestWriter, named};
+use std::alloc::Global;
+use std::io::ErrorKind;
+
+/// More often than any call tries.
+const ALWAYS: u32 = u32::MAX;
+
+const KINDS: [(&str, Option<ErrorKind>); 4] = [
+    ("broken", Some(ErrorKind::BrokenPipe)),
+    ("interrupted", Some(ErrorKind::Interrupted)),
+    ("full", Some(ErrorKind::StorageFull)),
+    ("nothing", None),
+];
+
+/// The failure of these words: `broken`, `interrupted`, `full` or `nothing`, and `once` where it is.
+fn failure_of(words: &[Word]) -> Option<Failure> {
+    let (first, others) = words.split_first()?;
+    let kind = named(&KINDS, first.text.as_str())?;
+    match others {
+        [] => Some(Failure::new(kind, ALWAYS)),
+        [word] if word.is("once") => Some(Failure::new(kind, 1)),
+        _ => None,
+    }
+}
+
+/// The reader of these words: `[slow] BYTES [| BYTES] [then FAILURE [then BYTES]]`.
+pub fn reader_of(alloc: Global, names: &Names, words: &[Word]) -> Option<TestReader> {
+    let is_slow = words.first().is_some_and(|word| word.is("slow"));
+    let words = words.get(usize::from(is_slow)..)?;
+    let (before, failing) = cut(words, "then");
+    let (failure, behind) = cut(failing.unwrap_or(&[]), "then");
+    let failure = match failing {
+        Some(_) => failure_of(failure)?,
+        None => Failure::NEVER,
+    };
+    let behind = names.bytes(behind.unwrap_or(&[]))?;
+    let mut reader = reader_with(alloc, names, before, failure, behind)?;
+    if is_slow {
+        reader.set_slow();
+    }
+    Some(reader)
+}
+
+/// The reader of `BYTES [| BYTES]`, which then fails, and gives the bytes behind that.
+fn reader_with(
+    alloc: Global,
+    names: &Names,
+    before: &[Word],
+    failure: Failure,
+    behind: Vec<u8>,
+) -> Option<TestReader> {
+    let (first, second) = cut(before, "|");
+    let mut bytes = Vec::new(alloc);
+    names.push(&mut bytes, first)?;
+    let bar = bytes.len();
+    names.push(&mut bytes, second.unwrap_or(&[]))?;
+    let mut reader = TestReader::new(bytes, failure, behind);
+    if second.is_some() {
+        reader.set_bar(bar);
+    }
+    Some(reader)
+}
+
+/// The writer of these words: `[slow | any | first COUNT] [flush FAILURE | ROOM then FAILURE]`, where the room is
+/// `COUNT`, or `COUNT of BYTES`; and how much is told of what it took.
+pub fn writer_of(
+    alloc: Global,
+    names: &Names,
+    words: Option<&[Word]>,
+) -> Option<(TestWriter, Telling)> {
+    let mut writer = TestWriter::new(alloc);
+    let mut telling = Telling::Whole;
+    let words = set_front(&mut writer, &mut telling, words.unwrap_or(&[]))?;
+    match words {
+        [] => {}
+        [word, failure @ ..] if word.is("flush") => writer.set_flush(failure_of(failure)?),
+        [room, others @ ..] => {
+            set_room(&mut writer, &mut telling, names, count(room)?, others)?;
+        }
+    }
+    Some((writer, telling))
+}
+
+/// Takes the words at the front, and gives those behind them.
+fn set_front<'a>(
+    writer: &mut TestWriter,
+    telling: &mut Telling,
+    words: &'a [Word],
+) -> Option<&'a [Word]> {
+    match words {
+        [word, others @ ..] if word.is("slow") => {
+            writer.set_slow();
+            Some(others)
+        }
+        [word, others @ ..] if word.is("any") => {
+            *telling = Telling::Any;
+            Some(others)
+        }
+        [word, size, others @ ..] if word.is("first") => {
+            *telling = Telling::First(count(size)?);
+            Some(others)
+        }
+        _ => Some(words),
+    }
+}
+
+fn set_room(
+    writer: &mut TestWriter,
+    telling: &mut Telling,
+    names: &Names,
+    room: usize,
+    words: &[Word],
+) -> Option<()> {
+    let (text, failure) = cut(words, "then");
+    writer.set_room(room, failure_of(failure?)?);
+    match text {
+        [] => Some(()),
+        [word, text @ ..] if word.is("of") => {
+            let mut front = names.bytes(text)?;
+            front.truncate(room);
+            drop(std::mem::replace(telling, Telling::Just(front)));
+            Some(())
+        }
+        _ => None,
+    }
+}
+
+fn count(word: &Word) -> Option<usize> {
+    word.text.parse::<usize>().ok()
+}

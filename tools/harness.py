@@ -1,0 +1,329 @@
+"""What the tests of the built program share: folders, runs of a program, verdicts, helpers in C, and stops at calls.
+
+A test compares what has come with what is expected, and tells it with a `Report`: a line `ok: NAME`, or a line
+`FAILED: NAME:` that shows what came. A run is judged by its status and by the bytes of both its streams.
+
+`Disk` and `walk` are for tools/stop-nth.c: a program is stopped at each of its calls of the system, and may lose what
+was not flushed.
+"""
+import contextlib
+import dataclasses
+import os
+import shutil
+import signal
+import subprocess
+import sys
+import tempfile
+import threading
+
+TOP = os.path.dirname(os.path.dirname(os.path.realpath(__file__)))
+TOOLS = os.path.join(TOP, "tools")
+TIMED_OUT = 124  # the status of a run that takes too long
+NO_FOLDER = "no folder of its own: "
+CLOSED = "closed"  # in place of a stream
+FULL = "/dev/full"
+
+
+# ---- Folders and files
+
+@contextlib.contextmanager
+def own_folder(in_memory=False):
+    """Gives the path of a new folder, which goes at the end. It lies in TMPDIR, if that is set; else `in_memory` has it
+    lie in memory, if there is such a folder. Ends the script with status 2 if no folder can be made there."""
+    memory = "/dev/shm" if in_memory and os.access("/dev/shm", os.W_OK) else None
+    try:
+        folder = os.path.realpath(tempfile.mkdtemp(dir=os.environ.get("TMPDIR") or memory))
+    except OSError as error:
+        print(f"{NO_FOLDER}{error}", file=sys.stderr)
+        sys.exit(2)
+    try:
+        yield folder
+    finally:
+        shutil.rmtree(folder, ignore_errors=True)
+
+
+def read(path):
+    """Returns the bytes of a file."""
+    with open(path, "rb") as file:
+        return file.read()
+
+
+def write(path, contents):
+    """Makes a file of these bytes, or of this text."""
+    with open(path, "wb") as file:
+        file.write(as_bytes(contents))
+
+
+def remove(*paths):
+    """Removes files, links and folders, if they are there."""
+    for path in paths:
+        if os.path.isdir(path) and not os.path.islink(path):
+            shutil.rmtree(path)
+        elif os.path.lexists(path):
+            os.remove(path)
+
+
+def as_bytes(text):
+    """Returns the bytes of a text. Bytes stay."""
+    return text.encode() if isinstance(text, str) else text
+
+
+def build(source, folder, *options):
+    """Compiles a helper of tools/, or another source, into a library that can be preloaded. Returns its path."""
+    name = os.path.splitext(os.path.basename(source))[0]
+    path = os.path.join(folder, f"{name}.so")
+    compiler = os.environ.get("CC", "cc").split()
+    source = os.path.join(TOOLS, source)
+    if subprocess.run([*compiler, "-O1", *options, "-shared", "-fPIC", "-o", path, source], check=False).returncode:
+        sys.exit(1)
+    return path
+
+
+def build_stop_nth(folder):
+    """Compiles tools/stop-nth.c."""
+    return build("stop-nth.c", folder, "-U_FORTIFY_SOURCE")
+
+
+# ---- Runs
+
+@dataclasses.dataclass
+class Done:
+    """What a run has left: its status, and the bytes of its streams. A signal is a status below 0."""
+    status: int
+    output: bytes
+    errors: bytes
+
+
+def words_of(words):
+    """Returns a list of words. In a text a space stands between two."""
+    return words.split() if isinstance(words, str) else list(words)
+
+
+def _source(given, stack):
+    """Opens standard input: nothing, bytes as a file, a path, or a descriptor."""
+    if given is None:
+        return subprocess.DEVNULL
+    if isinstance(given, bytes):
+        file = stack.enter_context(tempfile.TemporaryFile())
+        file.write(given)
+        file.seek(0)
+        return file
+    if isinstance(given, str):
+        descriptor = os.open(given, os.O_RDONLY)
+        stack.callback(os.close, descriptor)
+        return descriptor
+    return given
+
+
+def _sink(sink, stack):
+    """Opens standard output or standard error: a pipe that is read to its end, a path, or a descriptor."""
+    if sink is None:
+        return subprocess.PIPE
+    if isinstance(sink, str):
+        return stack.enter_context(open(sink, "wb"))
+    return sink
+
+
+def run(command, given=None, *, piped=None, output=None, errors=None, limit=60, before=None, **more):
+    """Runs a command to its end, and returns what it has left.
+
+    `given` is standard input: none, bytes, which stand in a file, the path of a file, a descriptor, or CLOSED. `piped`
+    has bytes that come in a pipe instead. `output` and `errors` may be CLOSED, a path or a descriptor; what goes there
+    is not returned. A run that takes more than `limit` seconds is ended, with the status TIMED_OUT. `before` is called
+    in the new process before the command.
+    """
+    streams = [given, output, errors]
+
+    def settle():
+        for descriptor, stream in enumerate(streams):
+            if stream == CLOSED:
+                os.close(descriptor)
+        if before:
+            before()
+
+    with contextlib.ExitStack() as stack:
+        if piped is None:
+            more["stdin"] = None if given == CLOSED else _source(given, stack)
+        else:
+            more["input"] = piped
+        try:
+            done = subprocess.run(
+                command, stdout=None if output == CLOSED else _sink(output, stack),
+                stderr=None if errors == CLOSED else _sink(errors, stack),
+                preexec_fn=settle if before or CLOSED in streams else None, timeout=limit, check=False, **more)
+        except subprocess.TimeoutExpired as late:
+            return Done(TIMED_OUT, late.stdout or b"", late.stderr or b"")
+        return Done(done.returncode, done.stdout or b"", done.stderr or b"")
+
+
+def run_held(command, given, **more):
+    """Runs a command whose standard input is a pipe that has these bytes, and stays open until the command ends."""
+    reading, writing = os.pipe()
+
+    def fill():
+        with contextlib.suppress(BrokenPipeError):
+            rest = memoryview(given)
+            while rest:
+                rest = rest[os.write(writing, rest):]
+
+    writer = threading.Thread(target=fill)
+    writer.start()
+    try:
+        return run(command, reading, **more)
+    finally:
+        os.close(reading)
+        writer.join()
+        os.close(writing)
+
+
+def run_unread(command, given, **more):
+    """Runs a command whose standard output is a pipe that nobody reads."""
+    reading, writing = os.pipe()
+    os.close(reading)
+    try:
+        return run(command, given, output=writing, **more)
+    finally:
+        os.close(writing)
+
+
+class Program:
+    """A program that is tested."""
+
+    def __init__(self, path, limit=60):
+        self.path, self.limit = os.path.realpath(path), limit
+
+    def command(self, words):
+        """Returns the command of these words."""
+        return [self.path, *words_of(words)]
+
+    def run(self, words, given=None, **more):
+        """Runs the program with these words, as `run` says."""
+        return run(self.command(words), given, **{"limit": self.limit, **more})
+
+    def well(self, words, given=None, **more):
+        """Runs the program, which has to do it, and returns what it writes."""
+        done = self.run(words, given, **more)
+        if done.status:
+            print(f"FAILED: ill {' '.join(words_of(words))} in the making: {short(done.output + done.errors)}")
+            sys.exit(1)
+        return done.output
+
+
+# ---- Verdicts
+
+def short(value, most=160):
+    """Returns the beginning of what came, in a form that fits a line."""
+    text = value.decode(errors="backslashreplace") if isinstance(value, bytes) else value
+    text = repr(text)
+    return text if len(text) <= most else text[:most] + ".."
+
+
+def differs(what, found, wanted):
+    """Returns nothing if both are equal, or else a text that shows them."""
+    return None if found == wanted else f"{what} {short(found)} in place of {short(wanted)}"
+
+
+def lacks_front(what, found, front):
+    """Returns nothing if `found` begins with `front`, or else a text that shows them."""
+    return None if found.startswith(front) else f"{what} {short(found)}, which does not begin with {short(front)}"
+
+
+def faults_of(done, status, output, errors):
+    """Returns the faults of a run. `output` and `errors` are all that has to stand there, in bytes; or the front of it,
+    in a text; or None for anything."""
+    yield differs("status", done.status, status)
+    for what, found, wanted in (("output", done.output, output), ("errors", done.errors, errors)):
+        if isinstance(wanted, str):
+            yield lacks_front(what, found, wanted.encode())
+        elif wanted is not None:
+            yield differs(what, found, wanted)
+
+
+class Report:
+    """Tells what came of each case, and remembers if one has failed."""
+
+    def __init__(self):
+        self.failed = False
+
+    def tell(self, name, *faults):
+        """Prints a line for a case, which is well if there are no faults but None. Returns True if it is."""
+        faults = [fault for fault in faults if fault]
+        if faults:
+            self.fail(f"{name}: {'; '.join(faults)}")
+        else:
+            print(f"ok: {name}", flush=True)
+        return not faults
+
+    def fail(self, text):
+        """Prints what has failed."""
+        print(f"FAILED: {text}", flush=True)
+        self.failed = True
+
+    def run(self, name, done, status, output, errors):
+        """Compares a run with what is expected, as `faults_of` says."""
+        return self.tell(name, *faults_of(done, status, output, errors))
+
+    def same(self, name, found, wanted):
+        """Compares two values."""
+        return self.tell(name, differs("it is", found, wanted))
+
+    def holds(self, name, is_so, why):
+        """Tells of a case that is well if it is so; `why` says what came else."""
+        return self.tell(name, None if is_so else why)
+
+    @staticmethod
+    def skip(name, why):
+        """Prints that a case cannot be tried here, and why."""
+        print(f"skipped: {name}: {why}", flush=True)
+
+    def status(self):
+        """Returns the exit status of the script."""
+        return 1 if self.failed else 0
+
+
+# ---- Stops at calls of the system
+
+# What a loss of power takes of what was not flushed: bytes, a name that stood for a file, and a name that stood for
+# nothing. A run is killed after a call, and then loses these.
+LOSSES = {"lost": ("bytes",), "undone": ("name", "none"), "gone": ("bytes", "name", "none")}
+KILLED = -signal.SIGKILL
+
+
+class Disk:
+    """The folder of what is not flushed, as tools/stop-nth.c says. Names are those of files in the folder `at`."""
+
+    def __init__(self, folder, at):
+        self.folder, self.at = folder, at
+        os.makedirs(folder, exist_ok=True)
+
+    def settle(self):
+        """Lets all that was written be on the disk."""
+        for name in os.listdir(self.folder):
+            remove(os.path.join(self.folder, name))
+
+    def lose(self, kinds):
+        """The power goes: of what was not flushed these kinds are lost, in their order."""
+        kept = sorted(os.listdir(self.folder))
+        for kind in kinds:
+            for name in [name for name in kept if name.startswith(kind + "-")]:
+                self._lose(kind, os.path.join(self.folder, name), os.path.join(self.at, name[5:].replace("\1", "/")))
+
+    def _lose(self, kind, path, there):
+        if kind == "bytes":
+            size = int(read(path.replace("/bytes-", "/size-")))
+            if os.stat(path).st_size > size:
+                os.truncate(path, size)
+        elif kind == "name":
+            os.makedirs(os.path.dirname(there), 0o700, exist_ok=True)
+            if not (os.path.lexists(there) and os.path.samestat(os.lstat(path), os.lstat(there))):
+                os.rename(path, there)
+        else:
+            remove(there)
+
+
+def stops(calls, hows, is_tried):
+    """Gives each way, with the number of a call and the call, of which `is_tried` says that it may be stopped so."""
+    for how in hows:
+        for number, call in enumerate(calls, 1):
+            if is_tried(how, call):
+                yield how, number, call

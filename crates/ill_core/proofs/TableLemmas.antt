@@ -7,7 +7,7 @@ use Rattle.std.proofs.lemmas.List.Folds.{list_all-append}
 use Rattle.ill_core.specs.declared.state.State.{State}
 use Rattle.ill_core.specs.declared.table.Row.{Row}
 use Rattle.ill_core.specs.Rules.{implies}
-use Rattle.ill_core.specs.Tables.{Fact, has_state, are_met, fits}
+use Rattle.ill_core.specs.Tables.{Guard, has_state, are_met, fits}
 
 -- Returns the answer of a row, or `miss` if there is none.
 abbrev pub answer_of : {K A : Type 0} → (Row K → A) → A → Option (Row K) → A
@@ -15,14 +15,14 @@ answer_of hit miss None = miss
 answer_of hit miss (Some row) = hit row
 
 -- Returns `hit` if each fact holds that `asked` has a bit of, and else `miss`. Each fact is a test of its own.
-abbrev pub where_asked : {A : Type 0} → ℕ → List Fact → A → A → A
+abbrev pub where_asked : {A : Type 0} → ℕ → List Guard → A → A → A
 where_asked asked [] hit miss = hit
 where_asked asked (f ∷ facts) hit miss =
     if bit_and asked f.bit == 0 then where_asked asked facts hit miss
     else (if f.holds then where_asked asked facts hit miss else miss)
 
 -- Returns `hit` of the first row that has `state` and whose facts hold, or `miss`, test by test.
-abbrev pub lines : {K A : Type 0} → State → List Fact → (Row K → A) → A → List (Row K) → A
+abbrev pub lines : {K A : Type 0} → State → List Guard → (Row K → A) → A → List (Row K) → A
 lines state facts hit miss [] = miss
 lines state facts hit miss (row ∷ rows) =
     if has_state row.1 state then where_asked row.2 facts (hit row) (lines state facts hit miss rows)
@@ -37,7 +37,7 @@ fact_met false true others hit miss = refl
 fact_met false false others hit miss = refl
 
 -- The test of all facts at once gives what the tests of each fact give.
-met_asked : {A : Type 0} (asked : ℕ) (facts : List Fact) (hit miss : A)
+met_asked : {A : Type 0} (asked : ℕ) (facts : List Guard) (hit miss : A)
     → (if are_met asked facts then hit else miss) ≡ where_asked asked facts hit miss
 met_asked asked [] hit miss = refl
 met_asked asked (f ∷ facts) hit miss =
@@ -52,7 +52,7 @@ row_fits true false hit miss row others = refl
 row_fits false is_met hit miss row others = refl
 
 -- The answer of the first row that fits is what the tests of the rows give, one after another.
-pub found_lines : {K A : Type 0} (state : State) (facts : List Fact) (hit : Row K → A) (miss : A) (rows : List (Row K))
+pub found_lines : {K A : Type 0} (state : State) (facts : List Guard) (hit : Row K → A) (miss : A) (rows : List (Row K))
     → answer_of hit miss (find (fits state facts) rows) ≡ lines state facts hit miss rows
 found_lines state facts hit miss [] = refl
 found_lines state facts hit miss (row ∷ rows) =
@@ -62,12 +62,12 @@ found_lines state facts hit miss (row ∷ rows) =
     ∙ ap (λ others. if has_state row.1 state then where_asked row.2 facts (hit row) others else others) (found_lines state facts hit miss rows))
 
 -- If no fact is asked for, all facts that are asked for hold.
-pub none_asked : (facts : List Fact) → are_met 0 facts ≡ true
+pub none_asked : (facts : List Guard) → are_met 0 facts ≡ true
 none_asked [] = refl
 none_asked (f ∷ facts) = none_asked facts
 
 -- The facts of two lists hold together exactly if those of each list do.
-pub both_met : (asked : ℕ) (facts others : List Fact) (a b : Bool) → a ≡ are_met asked facts
+pub both_met : (asked : ℕ) (facts others : List Guard) (a b : Bool) → a ≡ are_met asked facts
     → b ≡ are_met asked others → (a && b) ≡ are_met asked (facts ++ others)
 both_met asked facts others a b met met_too =
     ap (λ c. c && b) met ∙ (ap (λ c. are_met asked facts && c) met_too ∙ sym (list_all-append (λ f. (bit_and asked f.bit == 0) || f.holds) facts others))
@@ -78,7 +78,7 @@ either true here others h o = h
 either false here others h o = o
 
 -- If `here` and `others` are true, the tests of the facts give true.
-asked_true : (asked : ℕ) (facts : List Fact) (here others : Bool) → here ≡ true → others ≡ true
+asked_true : (asked : ℕ) (facts : List Guard) (here others : Bool) → here ≡ true → others ≡ true
     → where_asked asked facts here others ≡ true
 asked_true asked [] here others h o = h
 asked_true asked (f ∷ facts) here others h o =
@@ -86,13 +86,13 @@ asked_true asked (f ∷ facts) here others h o =
     (either f.holds (where_asked asked facts here others) others (asked_true asked facts here others h o) o)
 
 -- If a row that has the state gives true, and the other rows do, then the tests give true.
-row_true : (is_in : Bool) (asked : ℕ) (facts : List Fact) (here others : Bool) → implies is_in here ≡ true → others ≡ true
+row_true : (is_in : Bool) (asked : ℕ) (facts : List Guard) (here others : Bool) → implies is_in here ≡ true → others ≡ true
     → (if is_in then where_asked asked facts here others else others) ≡ true
 row_true true asked facts here others h o = asked_true asked facts here others h o
 row_true false asked facts here others h o = o
 
 -- If `holds` is true of each row that has the state, it is true of the one that is found.
-pub lines_true : {K : Type 0} (state : State) (facts : List Fact) (holds : Row K → Bool) (rows : List (Row K))
+pub lines_true : {K : Type 0} (state : State) (facts : List Guard) (holds : Row K → Bool) (rows : List (Row K))
     → list_all (λ row. implies (has_state row.1 state) (holds row)) rows ≡ true → lines state facts holds true rows ≡ true
 lines_true state facts holds [] h = refl
 lines_true state facts holds (row ∷ rows) h =

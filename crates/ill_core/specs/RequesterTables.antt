@@ -19,7 +19,7 @@ use Rattle.ill_core.specs.Dates.{is_due_on, is_after_due}
 use Rattle.ill_core.specs.Numbers.{is_the, is_at_most}
 use Rattle.ill_core.specs.Issued.{was}
 use Rattle.ill_core.specs.Kinds.{responder_kind, responder_place, requester_place, wish_kind, number_in, date_in}
-use Rattle.ill_core.specs.Tables.{Fact, has, next_state, fits}
+use Rattle.ill_core.specs.Tables.{Guard, has, next_state, fits}
 use Rattle.ill_core.specs.Requester.{RequesterRecord, accepted_number, is_declined, is_received_by, last_cancel, last_renew}
 
 -- Returns the conditions held after a row is followed for message k: k, none, or those held before.
@@ -46,32 +46,32 @@ is_dated f None = false
 is_dated f (Some d) = f d
 
 -- The facts of conditions that message k names: k is at most the accepted number, or k is held.
-abbrev pub number_facts : RequesterRecord → ℕ → List Fact
+abbrev pub number_facts : RequesterRecord → ℕ → List Guard
 number_facts x k =
     record { bit = delivery.PASSED; holds = is_at_most k (accepted_number x) }
     ∷ record { bit = delivery.HELD; holds = is_the k x.held } ∷ []
 
 -- The facts of an answer to message c: c is the last Cancel, or some Cancel.
-abbrev pub cancel_facts : RequesterRecord → ℕ → List Fact
+abbrev pub cancel_facts : RequesterRecord → ℕ → List Guard
 cancel_facts x c =
     record { bit = delivery.LAST_CANCEL; holds = is_the c (last_cancel x) }
     ∷ record { bit = delivery.WAS_CANCEL; holds = was is_cancel x.issued c } ∷ []
 
 -- The facts of an answer to message c: c is the last Renew, or some Renew.
-abbrev pub renew_facts : RequesterRecord → ℕ → List Fact
+abbrev pub renew_facts : RequesterRecord → ℕ → List Guard
 renew_facts x c =
     record { bit = delivery.LAST_RENEW; holds = is_the c (last_renew x) }
     ∷ record { bit = delivery.WAS_RENEW; holds = was is_renew x.issued c } ∷ []
 
 -- The facts of a date: it is not the due date; it is later; the checked-in mark is not set.
-abbrev pub due_facts : RequesterRecord → Option Date → List Fact
+abbrev pub due_facts : RequesterRecord → Option Date → List Guard
 due_facts x date =
     record { bit = delivery.NOT_DUE; holds = not (is_dated (λ d. is_due_on d x.due) date) }
     ∷ record { bit = delivery.LATER; holds = is_dated (λ d. is_after_due d x.due) date }
     ∷ record { bit = delivery.UNMARKED; holds = not x.checked_in } ∷ []
 
 -- The facts that rows of deliveries may ask for, of a message that tells k and `date`.
-abbrev pub delivery_facts : RequesterRecord → ℕ → Option Date → List Fact
+abbrev pub delivery_facts : RequesterRecord → ℕ → Option Date → List Guard
 delivery_facts x k date =
     number_facts x k ++ (cancel_facts x k ++ (renew_facts x k ++ due_facts x date))
 
@@ -100,7 +100,7 @@ wish_body x (wishes.Renew wished) = types.Renew wished
 wish_body x wishes.Return = types.Returned
 
 -- The facts that rows of wishes may ask for: no conditions declined, no item received, item received.
-abbrev pub wish_facts : RequesterRecord → List Fact
+abbrev pub wish_facts : RequesterRecord → List Guard
 wish_facts x =
     record { bit = wish.UNDECLINED; holds = not (is_declined x) }
     ∷ record { bit = wish.NOT_HERE; holds = not (is_received_by x) }

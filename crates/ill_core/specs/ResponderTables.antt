@@ -24,7 +24,7 @@ use Rattle.ill_core.specs.Dates.{is_before, is_after_due}
 use Rattle.ill_core.specs.Numbers.{is_the, is_at_most}
 use Rattle.ill_core.specs.Issued.{was, next_number, with_next}
 use Rattle.ill_core.specs.Kinds.{requester_kind, requester_place, responder_place, deed_kind, number_in}
-use Rattle.ill_core.specs.Tables.{Fact, has, next_state, fits}
+use Rattle.ill_core.specs.Tables.{Guard, has, next_state, fits}
 use Rattle.ill_core.specs.Responder.{ResponderRecord, outstanding_number, due_of}
 use Rattle.ill_core.specs.ResponderActions.{no_date, expiry_of}
 
@@ -82,7 +82,7 @@ IsRefused changes issued refusals.OutOfMemory =
 IsRefused changes issued refusal = number_refusal changes issued ≡ Some refusal
 
 -- The facts of an answer to message c: c is outstanding, c is accepted, c named conditions.
-abbrev pub reply_facts : ResponderRecord → ℕ → List Fact
+abbrev pub reply_facts : ResponderRecord → ℕ → List Guard
 reply_facts y c =
     record { bit = delivery.OUTSTANDING; holds = is_the c (outstanding_number y) }
     ∷ record { bit = delivery.ACCEPTED; holds = is_the c y.accepted }
@@ -90,14 +90,14 @@ reply_facts y c =
 
 -- The facts of a message with number n: n is at most the last Cancel, or the last Renew. The last fact is that the
 -- received mark is not set.
-abbrev pub past_facts : ResponderRecord → ℕ → List Fact
+abbrev pub past_facts : ResponderRecord → ℕ → List Guard
 past_facts y n =
     record { bit = delivery.PAST_CANCEL; holds = is_at_most n y.last_cancel }
     ∷ record { bit = delivery.PAST_RENEW; holds = is_at_most n y.last_renew }
     ∷ record { bit = delivery.UNMARKED; holds = not y.received } ∷ []
 
 -- The facts that rows of deliveries may ask for, of a message that tells k.
-abbrev pub delivery_facts : ResponderRecord → ℕ → List Fact
+abbrev pub delivery_facts : ResponderRecord → ℕ → List Guard
 delivery_facts y k = reply_facts y k ++ past_facts y k
 
 -- Returns the rows of deliveries of a kind, in the order of the table.

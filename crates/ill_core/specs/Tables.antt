@@ -37,14 +37,14 @@ next_state (To next) state = next
 next_state other state = state
 
 -- A fact: the bit by which a row asks for it, and the test of it.
-pub record Fact : Type 0 where
+pub record Guard : Type 0 where
   pub bit : ℕ
   pub holds : Bool
 
 -- Returns true if each of the `facts` that `asked` has a bit of holds.
-abbrev pub are_met : ℕ → List Fact → Bool
+abbrev pub are_met : ℕ → List Guard → Bool
 are_met asked facts = list_all (λ f. (bit_and asked f.bit == 0) || f.holds) facts
 
 -- Returns true if `row` has `state`, and all `facts` hold that it asks for.
-abbrev pub fits : {K : Type 0} → State → List Fact → Row K → Bool
+abbrev pub fits : {K : Type 0} → State → List Guard → Row K → Bool
 fits state facts row = has_state row.1 state && are_met row.2 facts

@@ -3,7 +3,7 @@
 ghost use Rattle.std.specs.Prelude.{◌≡◌, ℕ, Bool, List, option_copied};
 ghost use Rattle.std.specs.List.{find};
 ghost use Rattle.ill_core.specs.State.{place_of};
-ghost use Rattle.ill_core.specs.Tables.{Fact, are_met, has_state, fits, taking_of, next_state};
+ghost use Rattle.ill_core.specs.Tables.{Guard, are_met, has_state, fits, taking_of, next_state};
 
 use crate::state::State;
 use crate::taking::Taking;
@@ -57,7 +57,7 @@ impl Then {
 /// The facts that rows may ask for.
 pub trait Facts {
     /// Each fact with its bit.
-    ghost facts: { Self → List Fact };
+    ghost facts: { Self → List Guard };
 
     /// Returns true if all facts with a bit in `asked` hold.
     fn hold(&self, asked: u16) -> bool

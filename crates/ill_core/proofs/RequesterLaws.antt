@@ -9,7 +9,7 @@ use Rattle.ill_core.specs.Issued.{IssuesNext, with_next}
 use Rattle.ill_core.specs.Requester.{RequesterRecord, IsRequester, later}
 use Rattle.ill_core.specs.RequesterActions.{acts}
 use Rattle.ill_core.specs.RequesterDeliveries.{takes}
-use Rattle.ill_core.specs.RequesterFacts.{Fact, Shows, Tells, KeepsDue, Holds, Replies, AnswersOnce}
+use Rattle.ill_core.specs.RequesterFacts.{Fact, Claims, IsEvidence, KeepsDue, Holds, Replies, AnswersOnce}
 use Rattle.ill_core.specs.RequesterFacts as facts
 use Rattle.ill_core.proofs.IssuedLemmas.{issued_body}
 use Rattle.ill_core.proofs.Rules.{requester_rules, is_requester}
@@ -52,8 +52,8 @@ pub acts_due : (x new : RequesterRecord) (wish : Wish) → acts x wish ≡ Ok ne
 acts_due x new wish = of_acts (λ r. r.due ≡ x.due) x new wish (λ row there how. refl)
 
 -- A record shows no fact after a wish that it did not show before.
-pub acts_shows : (x new : RequesterRecord) (wish : Wish) (fact : Fact) → acts x wish ≡ Ok new → Shows new fact → Shows x fact
-acts_shows x new wish fact = of_acts (λ r. Shows r fact → Shows x fact) x new wish (λ row there how. how.shows fact)
+pub acts_shows : (x new : RequesterRecord) (wish : Wish) (fact : Fact) → acts x wish ≡ Ok new → Claims new fact → Claims x fact
+acts_shows x new wish fact = of_acts (λ r. Claims r fact → Claims x fact) x new wish (λ row there how. how.shows fact)
 
 -- A Conditional-Reply that a wish issues answers the conditions held, none of which was declined.
 pub acts_reply : (x new : RequesterRecord) (wish : Wish) → acts x wish ≡ Ok new → Replies x new
@@ -106,7 +106,7 @@ pub takes_holds : (x : RequesterRecord) (a : Apdu) → Holds x a.number (takes x
 takes_holds x a = (delivery_row x a).holds
 
 -- Each fact that a record shows after a message was shown before, or the message tells it.
-pub takes_shows : (x : RequesterRecord) (a : Apdu) (fact : Fact) → Shows (takes x a).1 fact → Shows x fact ⊎ Tells a.body fact
+pub takes_shows : (x : RequesterRecord) (a : Apdu) (fact : Fact) → Claims (takes x a).1 fact → Claims x fact ⊎ IsEvidence a.body fact
 takes_shows x a facts.Cancelled = (delivery_row x a).cancelled
 takes_shows x a facts.Ended = (delivery_row x a).ended
 takes_shows x a (facts.Granted due) = (delivery_row x a).granted due

@@ -24,7 +24,7 @@ use Rattle.ill_core.specs.Answers.{taken, unless_refused}
 use Rattle.ill_core.specs.RequesterDeliveries.{take_message, takes, take_end, take_cancel_reply, take_renew_answer, take_renewal}
 use Rattle.ill_core.specs.Dates.{is_after_due, is_due_on}
 use Rattle.ill_core.specs.declared.refusal.Refusal.{Refusal}
-use Rattle.ill_core.specs.RequesterFacts.{Fact, Shows, Tells, KeepsDue, Holds, ShowsRefused, AnswersOnce, replied_number}
+use Rattle.ill_core.specs.RequesterFacts.{Fact, Claims, IsEvidence, KeepsDue, Holds, ClaimsRefusal, AnswersOnce, replied_number}
 use Rattle.ill_core.specs.RequesterFacts as facts
 use Rattle.ill_core.proofs.IssuedLemmas.{was_more, still_cancel, last_cancel_more, older_cancel}
 use Rattle.ill_core.proofs.LineLemmas.{at_line, few_with_next, is_this, no_more}
@@ -48,11 +48,11 @@ pub record Moves (x : RequesterRecord) (k : ℕ) (body : Body) (answer : Result 
   pub stays : is_among later x.state ≡ true → is_among later answer.1.state ≡ true
   pub due : is_some x.due ≡ is_among later x.state → KeepsDue x.due answer.1.due
   pub holds : Holds x k answer.1
-  pub cancelled : answer.1.state ≡ Cancelled → (x.state ≡ Cancelled) ⊎ Tells body facts.Cancelled
-  pub ended : answer.1.state ≡ NotSupplied → (x.state ≡ NotSupplied) ⊎ Tells body facts.Ended
-  pub granted : (d : Date) → answer.1.due ≡ Some d → (x.due ≡ Some d) ⊎ Tells body (facts.Granted d)
-  pub refused : (c : ℕ) → ShowsRefused answer.1 c → ShowsRefused x c ⊎ Tells body (facts.Refused c)
-  pub given_back : answer.1.checked_in ≡ true → (x.checked_in ≡ true) ⊎ Tells body facts.GivenBack
+  pub cancelled : answer.1.state ≡ Cancelled → (x.state ≡ Cancelled) ⊎ IsEvidence body facts.Cancelled
+  pub ended : answer.1.state ≡ NotSupplied → (x.state ≡ NotSupplied) ⊎ IsEvidence body facts.Ended
+  pub granted : (d : Date) → answer.1.due ≡ Some d → (x.due ≡ Some d) ⊎ IsEvidence body (facts.Granted d)
+  pub refused : (c : ℕ) → ClaimsRefusal answer.1 c → ClaimsRefusal x c ⊎ IsEvidence body (facts.Refused c)
+  pub given_back : answer.1.checked_in ≡ true → (x.checked_in ≡ true) ⊎ IsEvidence body facts.GivenBack
 
 -- An answer that leaves the record is a move.
 left : (x : RequesterRecord) (k : ℕ) (body : Body) (answer : Result Taking Refusal) → Moves x k body (answer, x)
@@ -65,7 +65,7 @@ conditions_held : (x : RequesterRecord) (k : ℕ) (body : Body) → is_among (Pe
 conditions_held x k body is above = search rules
 
 -- To go from PENDING, CONDITIONAL or CANCEL-PENDING to NOT-SUPPLIED by an end is a move.
-ended : (x : RequesterRecord) (k : ℕ) (body : Body) → Tells body facts.Ended
+ended : (x : RequesterRecord) (k : ℕ) (body : Body) → IsEvidence body facts.Ended
     → is_among (Pending ∷ Conditional ∷ CancelPending ∷ []) x.state ≡ true
     → Moves x k body (taken (record x { state = NotSupplied; held = None }))
 ended x k body told is = search rules
@@ -132,7 +132,7 @@ line : (x : RequesterRecord) (k : ℕ) (body : Body) (fits : Bool) (here others 
 line x k body fits here others = cond_both fits here others (Moves x k body)
 
 -- The answer to an end without the item is a move.
-end_row : (x : RequesterRecord) (k : ℕ) (body : Body) → Tells body facts.Ended → Moves x k body (take_end x)
+end_row : (x : RequesterRecord) (k : ℕ) (body : Body) → IsEvidence body facts.Ended → Moves x k body (take_end x)
 end_row x k body told =
     line x k _ (is_among (NotSupplied ∷ []) x.state) _ _ (λ _. left x k _ _) (λ _.
     line x k _ (is_among (Pending ∷ Conditional ∷ CancelPending ∷ []) x.state) _ _ (ended x k body told) (λ _. left x k _ _))
@@ -204,7 +204,7 @@ pub record Issues (x : RequesterRecord) (row : Line) : Type 0 where
   pub begun : is_among (Idle ∷ []) row.next ≡ false
   pub final : is_among (Cancelled ∷ NotSupplied ∷ Returned ∷ []) x.state ≡ true → row.next ≡ x.state
   pub stays : is_among later x.state ≡ true → is_among later row.next ≡ true
-  pub shows : (fact : Fact) → Shows (record_after x row) fact → Shows x fact
+  pub shows : (fact : Fact) → Claims (record_after x row) fact → Claims x fact
   pub replies : (n : ℕ) (is_yes : Bool) → row.body ≡ types.ConditionalReply n is_yes
       → (is_among (Conditional ∷ []) x.state ≡ true) × (has declines x.issued ≡ false) × (n ≡ unwrap_or x.held 0)
   pub once : is_some x.held ≡ is_among (Conditional ∷ []) x.state → AnswersOnce x → AnswersOnce (record_after x row)
@@ -216,8 +216,8 @@ no_more_idle next on = refl
 
 -- A row to no IDLE, CANCELLED or NOT-SUPPLIED shows no new fact, unless it shows a new refusal.
 goes_on : (x : RequesterRecord) (row : Line) → is_among (Idle ∷ Cancelled ∷ NotSupplied ∷ []) row.next ≡ false
-    → ((c : ℕ) → ShowsRefused (record_after x row) c → ShowsRefused x c) → (fact : Fact)
-    → Shows (record_after x row) fact → Shows x fact
+    → ((c : ℕ) → ClaimsRefusal (record_after x row) c → ClaimsRefusal x c) → (fact : Fact)
+    → Claims (record_after x row) fact → Claims x fact
 goes_on x row away refused facts.Cancelled shown = search rules
 goes_on x row away refused facts.Ended shown = search rules
 goes_on x row away refused (facts.Granted due) shown = shown
@@ -235,7 +235,7 @@ silent_row : (x : RequesterRecord) (next : State) (body : Body) → replied_numb
     → is_among (Conditional ∷ []) next ≡ false → is_among (Idle ∷ Cancelled ∷ NotSupplied ∷ []) next ≡ false
     → is_among (Cancelled ∷ NotSupplied ∷ Returned ∷ []) x.state ≡ false
     → (is_among later x.state ≡ true → is_among later next ≡ true)
-    → ((c : ℕ) → ShowsRefused (record_after x (record { next = next; body = body; held = x.held })) c → ShowsRefused x c)
+    → ((c : ℕ) → ClaimsRefusal (record_after x (record { next = next; body = body; held = x.held })) c → ClaimsRefusal x c)
     → Issues x (record { next = next; body = body; held = x.held })
 silent_row x next body silent accepts_none declines_not held_no_more on settled_not stays refused =
     record {
@@ -258,7 +258,7 @@ loan_row x next body silent accepts_none declines_not here there =
 
 -- If Cancel c shows refused after a wish Cancel in PENDING, it showed so before.
 cancel_refused_before : (x : RequesterRecord) (c : ℕ) → is_among (Pending ∷ []) x.state ≡ true
-    → ShowsRefused (record_after x (record { next = CancelPending; body = types.Cancel; held = x.held })) c → ShowsRefused x c
+    → ClaimsRefusal (record_after x (record { next = CancelPending; body = types.Cancel; held = x.held })) c → ClaimsRefusal x c
 cancel_refused_before x c is shown =
     let a : Apdu = next_apdu x.txn x.issued types.Cancel in (
       older_cancel c (length x.issued + 1) (last_of number_of_cancel (x.issued ++ a ∷ [])) (was is_cancel x.issued c) (last_cancel_more x.issued a refl) shown.2

@@ -24,7 +24,7 @@ use Rattle.ill_core.specs.Answers.{taken, repeat, unless_refused}
 use Rattle.ill_core.specs.declared.refusal.Refusal.{Refusal}
 use Rattle.ill_core.specs.declared.taking.Taking.{Taking}
 use Rattle.ill_core.specs.declared.taking.Taking.TheVariants.{Taken}
-use Rattle.ill_core.specs.ResponderFacts.{Fact, Shows, Tells, Requested, Accepted, CancelAsked, Arrived, SentBack, cancels, KeepsRequest, IssuesUnfilled, StaysLater, Ends, EntersByEnd, EndsOnce, is_unsupplied, is_cancelled, is_end, ended, ends_in, Question, MayCancel, MayRenew, answered_number, last_asked, waits, answers_to, AnswersLast, KeepsLast, TakesNew, AnsweredOnce, AnswersOnce}
+use Rattle.ill_core.specs.ResponderFacts.{Fact, Claims, IsEvidence, Requested, Accepted, CancelAsked, Arrived, SentBack, cancels, KeepsRequest, IssuesUnfilled, StaysLater, Ends, EntersByEnd, EndsOnce, is_unsupplied, is_cancelled, is_end, ended, ends_in, Question, MayCancel, MayRenew, answered_number, last_asked, waits, answers_to, AnswersLast, KeepsLast, TakesNew, AnsweredOnce, AnswersOnce}
 use Rattle.ill_core.proofs.IssuedLemmas.{issued_body, not_longer, has_more, found_none, found_more}
 use Rattle.ill_core.proofs.ResponderLists.{count_more}
 use Rattle.ill_core.proofs.Rules.{responder_rules, is_responder}
@@ -348,13 +348,13 @@ cancels_answered c other is = search rules
 -- A yes to Cancel c, issued before or now, shows c, if one issued now answers the last Cancel.
 yes_shown : (y : ResponderRecord) (body : Body) (c : ℕ) → (cancels c body ≡ true → y.last_cancel ≡ Some c)
     → (has (cancels c) y.issued ≡ true) ⊎ (cancels c body ≡ true)
-    → Shows y (CancelAsked c)
+    → Claims y (CancelAsked c)
 yes_shown y body c asked (inl older) = inr older
 yes_shown y body c asked (inr is) = inl (asked is)
 
 -- A line shows no new fact, if a yes that it issues answers the last Cancel.
 issues_shows : (y : ResponderRecord) (body : Body) (next : State) (fact : Fact) → Issues y body next
-    → ((c : ℕ) → cancels c body ≡ true → y.last_cancel ≡ Some c) → Shows (issues_to y body next) fact → Shows y fact
+    → ((c : ℕ) → cancels c body ≡ true → y.last_cancel ≡ Some c) → Claims (issues_to y body next) fact → Claims y fact
 issues_shows y body next Requested how asked shown = how.begun
 issues_shows y body next (Accepted c) how asked shown = shown
 issues_shows y body next (CancelAsked c) how asked (inl last) = inl last
@@ -373,14 +373,14 @@ yes_answers_last y body next how there c is =
 
 -- A deed shows no new fact, if the last Cancel is there while it waits.
 pub acts_shows : (y new : ResponderRecord) (deed : Deed) (today : Date) (fact : Fact) → acts y deed today ≡ Ok new
-    → implies (waits MayCancel y.state) (is_some y.last_cancel) ≡ true → Shows new fact → Shows y fact
+    → implies (waits MayCancel y.state) (is_some y.last_cancel) ≡ true → Claims new fact → Claims y fact
 acts_shows y new deed today fact done there =
-    of_acts (λ r. Shows r fact → Shows y fact) y new deed today
+    of_acts (λ r. Claims r fact → Claims y fact) y new deed today
     (λ line leads how. issues_shows y line.body line.next fact how (yes_answers_last y line.body line.next how there)) done
 
 -- Each fact that a record shows after a move was shown before, or the message tells it.
-moves_shows : (y new : ResponderRecord) (number : ℕ) (body : Body) (fact : Fact) → Moves y number body new → Shows new fact
-    → Shows y fact ⊎ Tells number body fact
+moves_shows : (y new : ResponderRecord) (number : ℕ) (body : Body) (fact : Fact) → Moves y number body new → Claims new fact
+    → Claims y fact ⊎ IsEvidence number body fact
 moves_shows y new number body Requested how shown = how.requested shown
 moves_shows y new number body (Accepted c) how shown = how.accepted c shown
 moves_shows y new number body (CancelAsked c) how (inl last) = search (rules, how.cancel_asked c last)
@@ -389,9 +389,9 @@ moves_shows y new number body Arrived how shown = how.arrived shown
 moves_shows y new number body SentBack how shown = how.sent_back shown
 
 -- Each fact that a record shows after a message was shown before, or the message tells it.
-pub takes_shows : (y : ResponderRecord) (a : Apdu) (fact : Fact) → Shows (takes y a).1 fact
-    → Shows y fact ⊎ Tells a.number a.body fact
+pub takes_shows : (y : ResponderRecord) (a : Apdu) (fact : Fact) → Claims (takes y a).1 fact
+    → Claims y fact ⊎ IsEvidence a.number a.body fact
 takes_shows y a fact =
-    of_takes (λ r. Shows r fact → Shows y fact ⊎ Tells a.number a.body fact) y a
+    of_takes (λ r. Claims r fact → Claims y fact ⊎ IsEvidence a.number a.body fact) y a
     (λ how. moves_shows y (takes y a).1 a.number a.body fact how)
     (λ said how shown. inl (issues_shows y _ _ fact how (λ c is. search rules) shown))

@@ -22,7 +22,7 @@ use Rattle.ill_core.specs.Responder.{ResponderRecord, responder_of, later, outst
 use Rattle.ill_core.specs.Answers.{unless_refused}
 use Rattle.ill_core.specs.ResponderActions.{Line, line_of, acts, acts_by, issues_to, record_after}
 use Rattle.ill_core.specs.ResponderDeliveries.{takes, take_message, answers_no}
-use Rattle.ill_core.specs.ResponderFacts.{Tells, Requested, Accepted, CancelAsked, Arrived, SentBack, Question, KeepsRequest, KeepsLast, TakesNew, answered_number, last_asked, waits, is_unsupplied, is_cancelled, is_end, ended, ends_in}
+use Rattle.ill_core.specs.ResponderFacts.{IsEvidence, Requested, Accepted, CancelAsked, Arrived, SentBack, Question, KeepsRequest, KeepsLast, TakesNew, answered_number, last_asked, waits, is_unsupplied, is_cancelled, is_end, ended, ends_in}
 use Rattle.ill_core.proofs.LineLemmas.{few_with_next}
 use Rattle.ill_core.proofs.ResponderLines.{IsLine, is_line, answers, allows_cancel, refuses_cancel, ships, renews, refuses_renewal, refuses_late, reminds, reminds_renewing, recalls, checks_in, expires}
 
@@ -56,11 +56,11 @@ pub record Moves (y : ResponderRecord) (number : ℕ) (body : Body) (new : Respo
   pub ended : is_among ended y.state ≡ is_among ended new.state
   pub returned : is_among (Returned ∷ []) y.state ≡ true → new.state ≡ y.state
   pub asked : (question : Question) → KeepsLast question y new ⊎ TakesNew question number body y new
-  pub requested : is_among (Idle ∷ []) new.state ≡ false → (is_among (Idle ∷ []) y.state ≡ false) ⊎ Tells number body Requested
-  pub accepted : (c : ℕ) → new.accepted ≡ Some c → (y.accepted ≡ Some c) ⊎ Tells number body (Accepted c)
-  pub cancel_asked : (c : ℕ) → new.last_cancel ≡ Some c → (y.last_cancel ≡ Some c) ⊎ Tells number body (CancelAsked c)
-  pub arrived : new.received ≡ true → (y.received ≡ true) ⊎ Tells number body Arrived
-  pub sent_back : is_among (Returned ∷ CheckedIn ∷ []) new.state ≡ true → (is_among (Returned ∷ CheckedIn ∷ []) y.state ≡ true) ⊎ Tells number body SentBack
+  pub requested : is_among (Idle ∷ []) new.state ≡ false → (is_among (Idle ∷ []) y.state ≡ false) ⊎ IsEvidence number body Requested
+  pub accepted : (c : ℕ) → new.accepted ≡ Some c → (y.accepted ≡ Some c) ⊎ IsEvidence number body (Accepted c)
+  pub cancel_asked : (c : ℕ) → new.last_cancel ≡ Some c → (y.last_cancel ≡ Some c) ⊎ IsEvidence number body (CancelAsked c)
+  pub arrived : new.received ≡ true → (y.received ≡ true) ⊎ IsEvidence number body Arrived
+  pub sent_back : is_among (Returned ∷ CheckedIn ∷ []) new.state ≡ true → (is_among (Returned ∷ CheckedIn ∷ []) y.state ≡ true) ⊎ IsEvidence number body SentBack
 
 -- Each line of a deed keeps to `Issues`.
 issues : (txn : Qualifiers) (state : State) (accepted last_cancel last_renew : Option ℕ) (received : Bool) (request : Option Apdu) (issued : List Apdu) (line : Line)

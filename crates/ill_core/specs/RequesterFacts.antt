@@ -32,29 +32,29 @@ is_open x c =
     is_among (states.CancelPending ∷ states.Cancelled ∷ []) x.state && is_the c (last_cancel x)
 
 -- A record shows Cancel c refused if it issued c, c is not open, and no other end has come.
-abbrev pub ShowsRefused : RequesterRecord → ℕ → Type 0
-ShowsRefused x c =
+abbrev pub ClaimsRefusal : RequesterRecord → ℕ → Type 0
+ClaimsRefusal x c =
     (was is_cancel x.issued c ≡ true) × (is_among (states.NotSupplied ∷ later) x.state ≡ false)
     × (is_open x c ≡ false)
 
 -- The record of a requester shows a fact.
-abbrev pub Shows : RequesterRecord → Fact → Type 0
-Shows x Cancelled = x.state ≡ states.Cancelled
-Shows x Ended = x.state ≡ states.NotSupplied
-Shows x (Granted due) = x.due ≡ Some due
-Shows x (Refused cancel) = ShowsRefused x cancel
-Shows x GivenBack = x.checked_in ≡ true
+abbrev pub Claims : RequesterRecord → Fact → Type 0
+Claims x Cancelled = x.state ≡ states.Cancelled
+Claims x Ended = x.state ≡ states.NotSupplied
+Claims x (Granted due) = x.due ≡ Some due
+Claims x (Refused cancel) = ClaimsRefusal x cancel
+Claims x GivenBack = x.checked_in ≡ true
 
 -- The body of an APDU tells a fact.
-abbrev pub Tells : Body → Fact → Type 0
-Tells (types.CancelReply c true) Cancelled = Unit {0}
-Tells (types.IllAnswer answer) Ended = is_final answer ≡ true
-Tells types.Expired Ended = Unit {0}
-Tells (types.Shipped d) (Granted due) = d ≡ due
-Tells (types.RenewAnswer c (Some d)) (Granted due) = d ≡ due
-Tells (types.CancelReply c false) (Refused cancel) = c ≡ cancel
-Tells types.CheckedIn GivenBack = Unit {0}
-Tells other fact = ⊥
+abbrev pub IsEvidence : Body → Fact → Type 0
+IsEvidence (types.CancelReply c true) Cancelled = Unit {0}
+IsEvidence (types.IllAnswer answer) Ended = is_final answer ≡ true
+IsEvidence types.Expired Ended = Unit {0}
+IsEvidence (types.Shipped d) (Granted due) = d ≡ due
+IsEvidence (types.RenewAnswer c (Some d)) (Granted due) = d ≡ due
+IsEvidence (types.CancelReply c false) (Refused cancel) = c ≡ cancel
+IsEvidence types.CheckedIn GivenBack = Unit {0}
+IsEvidence other fact = ⊥
 
 -- Returns true if both due dates are there, and the new one is after the old one.
 abbrev pub is_raised : Option Date → Option Date → Bool

@@ -33,21 +33,21 @@ cancels n (types.CancelReply c true) = c == n
 cancels n other = false
 
 -- The record of a responder shows a fact.
-abbrev pub Shows : ResponderRecord → Fact → Type 0
-Shows y Requested = is_among (Idle ∷ []) y.state ≡ false
-Shows y (Accepted conditions) = y.accepted ≡ Some conditions
-Shows y (CancelAsked cancel) = (y.last_cancel ≡ Some cancel) ⊎ (has (cancels cancel) y.issued ≡ true)
-Shows y Arrived = y.received ≡ true
-Shows y SentBack = is_among (Returned ∷ CheckedIn ∷ []) y.state ≡ true
+abbrev pub Claims : ResponderRecord → Fact → Type 0
+Claims y Requested = is_among (Idle ∷ []) y.state ≡ false
+Claims y (Accepted conditions) = y.accepted ≡ Some conditions
+Claims y (CancelAsked cancel) = (y.last_cancel ≡ Some cancel) ⊎ (has (cancels cancel) y.issued ≡ true)
+Claims y Arrived = y.received ≡ true
+Claims y SentBack = is_among (Returned ∷ CheckedIn ∷ []) y.state ≡ true
 
 -- An APDU with this number and body tells a fact.
-abbrev pub Tells : ℕ → Body → Fact → Type 0
-Tells number (types.IllRequest expiry item) Requested = Unit {0}
-Tells number (types.ConditionalReply c true) (Accepted conditions) = c ≡ conditions
-Tells number types.Cancel (CancelAsked cancel) = number ≡ cancel
-Tells number types.Received Arrived = Unit {0}
-Tells number types.Returned SentBack = Unit {0}
-Tells number other fact = ⊥
+abbrev pub IsEvidence : ℕ → Body → Fact → Type 0
+IsEvidence number (types.IllRequest expiry item) Requested = Unit {0}
+IsEvidence number (types.ConditionalReply c true) (Accepted conditions) = c ≡ conditions
+IsEvidence number types.Cancel (CancelAsked cancel) = number ≡ cancel
+IsEvidence number types.Received Arrived = Unit {0}
+IsEvidence number types.Returned SentBack = Unit {0}
+IsEvidence number other fact = ⊥
 
 -- A record past IDLE keeps its request, and stays past IDLE.
 abbrev pub KeepsRequest : ResponderRecord → ResponderRecord → Type 0

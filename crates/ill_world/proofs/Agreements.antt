@@ -29,32 +29,32 @@ use Rattle.ill_world.proofs.Claims.{AreIssued, tells_grant, is_in_cancelled, has
 
 -- ---- what a message tells
 
-tells_sent_back : (n : ℕ) (body : Body) → responder.Tells n body responder.SentBack → is_returned body ≡ true
+tells_sent_back : (n : ℕ) (body : Body) → responder.IsEvidence n body responder.SentBack → is_returned body ≡ true
 tells_sent_back n types.Returned tells = refl
 tells_sent_back n body tells = search rules
 
-tells_arrived : (n : ℕ) (body : Body) → responder.Tells n body responder.Arrived → is_received body ≡ true
+tells_arrived : (n : ℕ) (body : Body) → responder.IsEvidence n body responder.Arrived → is_received body ≡ true
 tells_arrived n types.Received tells = refl
 tells_arrived n body tells = search rules
 
-pub tells_requested : (n : ℕ) (body : Body) → responder.Tells n body responder.Requested → is_ill_request body ≡ true
+pub tells_requested : (n : ℕ) (body : Body) → responder.IsEvidence n body responder.Requested → is_ill_request body ≡ true
 tells_requested n (types.IllRequest expiry item) tells = refl
 tells_requested n body tells = search rules
 
-pub tells_cancel : (n c : ℕ) (body : Body) → responder.Tells n body (responder.CancelAsked c) → (is_cancel body ≡ true) × (n ≡ c)
+pub tells_cancel : (n c : ℕ) (body : Body) → responder.IsEvidence n body (responder.CancelAsked c) → (is_cancel body ≡ true) × (n ≡ c)
 tells_cancel n c types.Cancel tells = (refl, tells)
 tells_cancel n c body tells = search rules
 
-tells_accepted : (n c : ℕ) (body : Body) → responder.Tells n body (responder.Accepted c) → accepts body ≡ Some c
+tells_accepted : (n c : ℕ) (body : Body) → responder.IsEvidence n body (responder.Accepted c) → accepts body ≡ Some c
 tells_accepted n c (types.ConditionalReply k true) tells = ap Some tells
 tells_accepted n c (types.ConditionalReply k false) tells = absurd tells
 tells_accepted n c body tells = search rules
 
-tells_given_back : (body : Body) → requester.Tells body requester.GivenBack → is_checked_in body ≡ true
+tells_given_back : (body : Body) → requester.IsEvidence body requester.GivenBack → is_checked_in body ≡ true
 tells_given_back types.CheckedIn tells = refl
 tells_given_back body tells = search rules
 
-pub tells_refused : (body : Body) (c : ℕ) → requester.Tells body (requester.Refused c) → body ≡ types.CancelReply c false
+pub tells_refused : (body : Body) (c : ℕ) → requester.IsEvidence body (requester.Refused c) → body ≡ types.CancelReply c false
 tells_refused (types.CancelReply k false) c tells = ap (λ n. types.CancelReply n false) tells
 tells_refused (types.CancelReply k true) c tells = absurd tells
 tells_refused body c tells = search rules

@@ -39,7 +39,7 @@ use Rattle.ill_world.proofs.Agreements.{tells_requested, cancel_is_open}
 pub record RowsFollow : Type 0 where
   pub shipped : (x : RequesterRecord) (a : Apdu) (due : Date) → is_same_txn a.txn x.txn ≡ true → a.body ≡ types.Shipped due
       → is_among (states.Pending ∷ states.Conditional ∷ states.CancelPending ∷ later) x.state ≡ true → requester.LeadsTo later (requester_deliveries.takes x a)
-  pub ended : (x : RequesterRecord) (a : Apdu) → is_same_txn a.txn x.txn ≡ true → requester.Tells a.body requester.Ended
+  pub ended : (x : RequesterRecord) (a : Apdu) → is_same_txn a.txn x.txn ≡ true → requester.IsEvidence a.body requester.Ended
       → is_among (states.Pending ∷ states.Conditional ∷ states.CancelPending ∷ states.NotSupplied ∷ []) x.state ≡ true
       → requester.LeadsTo (states.NotSupplied ∷ []) (requester_deliveries.takes x a)
   pub cancelled : (x : RequesterRecord) (a : Apdu) (c : ℕ) → is_same_txn a.txn x.txn ≡ true → a.body ≡ types.CancelReply c true → is_the c (last_cancel x) ≡ true
@@ -116,7 +116,7 @@ same_txn_as : (txn : Qualifiers) (x : RequesterRecord) (y : ResponderRecord) (to
 same_txn_as txn x y told heard n a requester_stands responder_stands at =
     subst (λ t. is_same_txn a.txn t ≡ true) (responder_stands.same_txn ∙ sym requester_stands.same_txn) (message_number y.txn y.issued n a responder_stands.rules.numbered at).0
 
-tells_end : (body : Body) → is_unsupplied body ≡ true → requester.Tells body requester.Ended
+tells_end : (body : Body) → is_unsupplied body ≡ true → requester.IsEvidence body requester.Ended
 tells_end (types.IllAnswer answer) is = is
 tells_end types.Expired is = tt
 tells_end body is = search rules

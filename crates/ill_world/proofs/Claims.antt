@@ -25,24 +25,24 @@ use Rattle.ill_world.proofs.Sendings.{front_message}
 
 -- ---- what a message tells
 
-tells_cancelled : (body : Body) → requester.Tells body requester.Cancelled → responder.is_cancelled body ≡ true
+tells_cancelled : (body : Body) → requester.IsEvidence body requester.Cancelled → responder.is_cancelled body ≡ true
 tells_cancelled (types.CancelReply c true) tells = refl
 tells_cancelled (types.CancelReply c false) tells = absurd tells
 tells_cancelled body tells = search rules
 
-tells_ended : (body : Body) → requester.Tells body requester.Ended → responder.is_unsupplied body ≡ true
+tells_ended : (body : Body) → requester.IsEvidence body requester.Ended → responder.is_unsupplied body ≡ true
 tells_ended (types.IllAnswer answer) tells = tells
 tells_ended types.Expired tells = refl
 tells_ended body tells = search rules
 
 -- it grants a date
-pub tells_grant : (body : Body) (due : Date) → requester.Tells body (requester.Granted due) → grant_in body ≡ Some due
+pub tells_grant : (body : Body) (due : Date) → requester.IsEvidence body (requester.Granted due) → grant_in body ≡ Some due
 tells_grant (types.Shipped d) due tells = ap Some tells
 tells_grant (types.RenewAnswer c (Some d)) due tells = ap Some tells
 tells_grant (types.RenewAnswer c None) due tells = absurd tells
 tells_grant body due tells = search rules
 
-tells_shipped : (body : Body) (due : Date) → requester.Tells body (requester.Granted due) → (is_shipped body ≡ true) ⊎ (is_renewal body ≡ true)
+tells_shipped : (body : Body) (due : Date) → requester.IsEvidence body (requester.Granted due) → (is_shipped body ≡ true) ⊎ (is_renewal body ≡ true)
 tells_shipped (types.Shipped d) due tells = inl refl
 tells_shipped (types.RenewAnswer c (Some d)) due tells = inr refl
 tells_shipped (types.RenewAnswer c None) due tells = absurd tells

@@ -174,7 +174,7 @@ renew_answer (types.RenewAnswer k granted) c is = let same : k ≡ c = search ru
 renew_answer body c is = search rules
 
 -- A message that tells of the request is an ILL-Request.
-tells_requested : (n : ℕ) (body : Body) → responder.Tells n body responder.Requested → is_ill_request body ≡ true
+tells_requested : (n : ℕ) (body : Body) → responder.IsEvidence n body responder.Requested → is_ill_request body ≡ true
 tells_requested n (types.IllRequest expiry item) tells = refl
 tells_requested n body tells = search rules
 

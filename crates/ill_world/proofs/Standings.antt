@@ -56,7 +56,7 @@ question_is_there y rules MayRenew = rules.parts.renew
 
 -- ---- before the first message
 
-requester_shows_nothing : (txn : Qualifiers) (fact : requester.Fact) → requester.Shows (requester_of txn Idle None false None []) fact → ⊥
+requester_shows_nothing : (txn : Qualifiers) (fact : requester.Fact) → requester.Claims (requester_of txn Idle None false None []) fact → ⊥
 requester_shows_nothing txn requester.Cancelled shows = search rules
 requester_shows_nothing txn requester.Ended shows = search rules
 requester_shows_nothing txn (requester.Granted due) shows = search rules
@@ -64,7 +64,7 @@ requester_shows_nothing txn (requester.Refused zero) shows = search rules
 requester_shows_nothing txn (requester.Refused (suc n)) shows = search rules
 requester_shows_nothing txn requester.GivenBack shows = search rules
 
-responder_shows_nothing : (txn : Qualifiers) (fact : responder.Fact) → responder.Shows (responder_of txn Idle None None None false None []) fact → ⊥
+responder_shows_nothing : (txn : Qualifiers) (fact : responder.Fact) → responder.Claims (responder_of txn Idle None None None false None []) fact → ⊥
 responder_shows_nothing txn responder.Requested shows = search rules
 responder_shows_nothing txn (responder.Accepted conditions) shows = search rules
 responder_shows_nothing txn (responder.CancelAsked cancel) shows = search rules

@@ -28,11 +28,11 @@ WasSent sent a = (n : ℕ) × (sent_message sent n ≡ Some a)
 -- Whatever a requester's record shows to have come, a message tells that the responder has sent.
 abbrev pub RequesterKnows : RequesterRecord → List (Option Apdu) → Type 0
 RequesterKnows x sent =
-    (fact : requester.Fact) → requester.Shows x fact → (a : Apdu) × WasSent sent a × requester.Tells a.body fact
+    (fact : requester.Fact) → requester.Claims x fact → (a : Apdu) × WasSent sent a × requester.IsEvidence a.body fact
 
 abbrev pub ResponderKnows : ResponderRecord → List (Option Apdu) → Type 0
 ResponderKnows y sent =
-    (fact : responder.Fact) → responder.Shows y fact → (a : Apdu) × WasSent sent a × responder.Tells a.number a.body fact
+    (fact : responder.Fact) → responder.Claims y fact → (a : Apdu) × WasSent sent a × responder.IsEvidence a.number a.body fact
 
 -- Whatever a requester's record reflects, a message attests that the responder has sent.
 abbrev pub RequesterNotes : RequesterRecord → List (Option Apdu) → Type 0

@@ -16,7 +16,7 @@ ghost use Rattle.ill_core.specs.Requester.{RequesterRecord, IsRequester, later, 
 ghost use Rattle.ill_core.specs.RequesterRules.{RequesterRules};
 ghost use Rattle.ill_core.specs.RequesterActions.{acts};
 ghost use Rattle.ill_core.specs.RequesterDeliveries.{takes};
-ghost use Rattle.ill_core.specs.RequesterFacts.{Fact, Shows, Tells, KeepsDue, Holds, Replies, LeadsTo, AnswersOnce};
+ghost use Rattle.ill_core.specs.RequesterFacts.{Fact, Claims, IsEvidence, KeepsDue, Holds, Replies, LeadsTo, AnswersOnce};
 ghost use Rattle.ill_core.specs.RequesterFacts as facts;
 ghost use Rattle.ill_core.specs.RequesterNotices.{Notice, Reflects, Attests, has_heard, reopens};
 
@@ -91,9 +91,9 @@ pub fn requester_keeps_due()
 /// shows nothing new.
 pub fn requester_shows()
     ensures acts { (x new : RequesterRecord) (wish : Wish) (fact : Fact) → acts x wish ≡ Ok new →
-        Shows new fact → Shows x fact }
+        Claims new fact → Claims x fact }
     ensures takes { (x : RequesterRecord) (a : Apdu) (fact : Fact) →
-        Shows (takes x a).1 fact → Shows x fact ⊎ Tells a.body fact }
+        Claims (takes x a).1 fact → Claims x fact ⊎ IsEvidence a.body fact }
 {}
 
 /// A Conditional-Reply is issued only in CONDITIONAL, to the conditions held, which were not
@@ -123,7 +123,7 @@ pub fn requester_follows()
         is_among (states.Pending ∷ states.Conditional ∷ states.CancelPending ∷ later)
         x.state ≡ true → LeadsTo later (takes x a) }
     ensures ended { (x : RequesterRecord) (a : Apdu) → is_same_txn a.txn x.txn ≡ true →
-        Tells a.body facts.Ended →
+        IsEvidence a.body facts.Ended →
         is_among (states.Pending ∷ states.Conditional ∷ states.CancelPending ∷ states.NotSupplied ∷ [])
         x.state ≡ true → LeadsTo (states.NotSupplied ∷ []) (takes x a) }
     ensures cancelled { (x : RequesterRecord) (a : Apdu) (c : ℕ) → is_same_txn a.txn x.txn ≡ true →

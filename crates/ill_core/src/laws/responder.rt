@@ -17,7 +17,7 @@ ghost use Rattle.ill_core.specs.ResponderActions.{acts};
 ghost use Rattle.ill_core.specs.ResponderDeliveries.{takes};
 ghost use Rattle.ill_values.specs.declared.apdu.Body.{Body};
 ghost use Rattle.ill_core.specs.ResponderNotices.{WasAsked, HasAnsweredLast, RecallFits, ShipsBeforeRecall, GrantsRise, OverdueFits, GrantsBeforeOverdue, has_heard, reopens};
-ghost use Rattle.ill_core.specs.ResponderFacts.{Fact, Shows, Tells, KeepsRequest, IssuesUnfilled, StaysLater, Ends, EntersByEnd, EndsOnce, Question, MayCancel, MayRenew, asks, waits, last_asked, AnswersLast, KeepsLast, TakesNew, AnswersOnce, LeadsTo};
+ghost use Rattle.ill_core.specs.ResponderFacts.{Fact, Claims, IsEvidence, KeepsRequest, IssuesUnfilled, StaysLater, Ends, EntersByEnd, EndsOnce, Question, MayCancel, MayRenew, asks, waits, last_asked, AnswersLast, KeepsLast, TakesNew, AnswersOnce, LeadsTo};
 
 /// A deed issues exactly one APDU, with the next number; a message none, or to a Conditional-Reply no
 /// one ILL-Answer unfilled. There are at most 255.
@@ -145,9 +145,9 @@ pub fn responder_shows()
     ensures acts { (y new : ResponderRecord) (deed : Deed) (today : Date) (fact : Fact) →
         acts y deed today ≡ Ok new →
         implies (waits MayCancel y.state) (is_some y.last_cancel) ≡ true →
-        Shows new fact → Shows y fact }
+        Claims new fact → Claims y fact }
     ensures takes { (y : ResponderRecord) (a : Apdu) (fact : Fact) →
-        Shows (takes y a).1 fact → Shows y fact ⊎ Tells a.number a.body fact }
+        Claims (takes y a).1 fact → Claims y fact ⊎ IsEvidence a.number a.body fact }
 {}
 
 /// If the item was shipped, a Returned of the transaction leads to RETURNED, or the item is checked

@@ -33,7 +33,7 @@ not_from false h = refl
 
 -- A requester's record keeps each rule.
 pub requester_rules : (x : RequesterRecord) → IsRequester x → RequesterRules x
-unfolding requester.keeps_rules
+unfolding requester.is_consistent
 requester_rules x h =
     let numbered = and_parts _ _ h in
     let fits = and_parts _ _ numbered.1 in
@@ -71,7 +71,7 @@ requester_rules x h =
 
 -- A record that keeps each rule is a requester's.
 pub is_requester : (x : RequesterRecord) → RequesterRules x → IsRequester x
-unfolding requester.keeps_rules
+unfolding requester.is_consistent
 is_requester x h =
     let p = h.parts in
     let i = h.issued in
@@ -83,7 +83,7 @@ is_requester x h =
 
 -- A responder's record keeps each rule.
 pub responder_rules : (y : ResponderRecord) → IsResponder y → ResponderRules y
-unfolding responder.keeps_rules
+unfolding responder.is_consistent
 responder_rules y h =
     let numbered = and_parts _ _ h in
     let request = and_parts _ _ numbered.1 in
@@ -123,7 +123,7 @@ responder_rules y h =
 
 -- A record that keeps each rule is a responder's.
 pub is_responder : (y : ResponderRecord) → ResponderRules y → IsResponder y
-unfolding responder.keeps_rules
+unfolding responder.is_consistent
 is_responder y h =
     let p = h.parts in
     let i = h.issued in
@@ -138,13 +138,13 @@ is_responder y h =
 pub requester_back : (x : RequesterRecord) (s : requesters.Standing) (count : ℕ) → IsRequester x
     → (requester.parts_fit s.state (is_some s.held) (is_some s.due) s.checked_in && requester.issued_keeps_rules s.state (take count x.issued)) ≡ true
     → IsRequester (requester.back_to s count x)
-unfolding requester.keeps_rules
+unfolding requester.is_consistent
 requester_back x s count h fits = and_from _ _ (numbered_front x.txn 1 count x.issued (and_parts _ _ h).0) fits
 
 -- If the requester with the parts of standing `s` and the first `count` messages keeps its rules, these fit together.
 pub requester_back_fits : (x : RequesterRecord) (s : requesters.Standing) (count : ℕ) → IsRequester (requester.back_to s count x)
     → (requester.parts_fit s.state (is_some s.held) (is_some s.due) s.checked_in && requester.issued_keeps_rules s.state (take count x.issued)) ≡ true
-unfolding requester.keeps_rules
+unfolding requester.is_consistent
 requester_back_fits x s count h = (and_parts _ _ h).1
 
 -- If the parts of standing `s` fit with the first `count` messages, the responder with them keeps its rules.
@@ -152,7 +152,7 @@ pub responder_back : (y : ResponderRecord) (s : responders.Standing) (count : �
     → (responder.parts_fit s.state (is_some (responder.request_in s.state y.request)) (is_some s.accepted) (is_some s.last_cancel) (is_some s.last_renew) s.received (is_none (take count y.issued))
     && responder.issued_keeps_rules s.state s.accepted (take count y.issued)) ≡ true
     → IsResponder (responder.back_to s count y)
-unfolding responder.keeps_rules
+unfolding responder.is_consistent
 responder_back y s count h fits =
     let numbered = and_parts _ _ h in
     and_from _ _ (numbered_front y.txn 1 count y.issued numbered.0) (
@@ -162,5 +162,5 @@ responder_back y s count h fits =
 pub responder_back_fits : (y : ResponderRecord) (s : responders.Standing) (count : ℕ) → IsResponder (responder.back_to s count y)
     → (responder.parts_fit s.state (is_some (responder.request_in s.state y.request)) (is_some s.accepted) (is_some s.last_cancel) (is_some s.last_renew) s.received (is_none (take count y.issued))
     && responder.issued_keeps_rules s.state s.accepted (take count y.issued)) ≡ true
-unfolding responder.keeps_rules
+unfolding responder.is_consistent
 responder_back_fits y s count h = (and_parts _ _ (and_parts _ _ h).1).1

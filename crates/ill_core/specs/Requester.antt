@@ -123,12 +123,12 @@ issued_keeps_rules state issued =
 
 -- Returns true if a record keeps the rules of a requester. Its messages have numbers from 1 on, and its parts and its
 -- list fit its state.
-unfoldable pub keeps_rules : RequesterRecord → Bool
-keeps_rules x =
+unfoldable pub is_consistent : RequesterRecord → Bool
+is_consistent x =
     are_numbered x.txn 1 x.issued
     && (parts_fit x.state (is_some x.held) (is_some x.due) x.checked_in
     && issued_keeps_rules x.state x.issued)
 
 -- A record is a requester's if it keeps these rules.
 abbrev pub IsRequester : RequesterRecord → Type 0
-IsRequester x = keeps_rules x ≡ true
+IsRequester x = is_consistent x ≡ true

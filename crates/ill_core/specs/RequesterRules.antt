@@ -1,4 +1,4 @@
--- The rules of a requester's record one by one. A proof takes them from `keeps_rules`, and back.
+-- The rules of a requester's record one by one. A proof takes them from `is_consistent`, and back.
 use Rattle.std.specs.Prelude.{◌≡◌, Bool, true, false, not, List, [], ◌∷◌, is_some}
 use Rattle.std.specs.List.{list_all}
 use Rattle.ill_values.specs.declared.apdu.Apdu.{Apdu}

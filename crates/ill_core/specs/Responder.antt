@@ -148,8 +148,8 @@ issued_keeps_rules state accepted apdus =
 
 -- Returns true if a record keeps the rules of a responder. Its messages have numbers from 1 on. Its request is of the
 -- transaction, and its parts and its list fit its state.
-unfoldable pub keeps_rules : ResponderRecord → Bool
-keeps_rules y =
+unfoldable pub is_consistent : ResponderRecord → Bool
+is_consistent y =
     are_numbered y.txn 1 y.issued
     && (is_request_of y.txn y.request
     && (parts_fit y.state (is_some y.request) (is_some y.accepted) (is_some y.last_cancel)
@@ -158,4 +158,4 @@ keeps_rules y =
 
 -- A record is a responder's if it keeps these rules.
 abbrev pub IsResponder : ResponderRecord → Type 0
-IsResponder y = keeps_rules y ≡ true
+IsResponder y = is_consistent y ≡ true

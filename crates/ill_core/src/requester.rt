@@ -92,7 +92,7 @@ impl Model for Requester {
 
 impl Requester {
     /// A requester that has issued and taken nothing. `alloc` is kept for later.
-    #[tactic(auto, unfolding(crate::specs::Issued::are_numbered, crate::specs::Requester::keeps_rules))]
+    #[tactic(auto, unfolding(crate::specs::Issued::are_numbered, crate::specs::Requester::is_consistent))]
     pub fn idle(alloc: Global, txn: TxnId) -> Requester
         ensures { result ≡ requester_of txn State.Idle None false None [] }
     {
@@ -108,7 +108,7 @@ impl Requester {
     }
 
     /// Returns the requester with these parts, or `None` if they do not fit together.
-    #[tactic(auto, unfolding(crate::specs::Requester::keeps_rules))]
+    #[tactic(auto, unfolding(crate::specs::Requester::is_consistent))]
     pub fn of_parts(
         txn: TxnId,
         state: State,

@@ -98,7 +98,7 @@ impl Model for Responder {
 
 impl Responder {
     /// A responder that has issued and taken nothing. `alloc` is kept for later.
-    #[tactic(auto, unfolding(crate::specs::Issued::are_numbered, crate::specs::Responder::rise_from, crate::specs::Responder::ships_first, crate::specs::Responder::keeps_rules))]
+    #[tactic(auto, unfolding(crate::specs::Issued::are_numbered, crate::specs::Responder::rise_from, crate::specs::Responder::ships_first, crate::specs::Responder::is_consistent))]
     pub fn idle(alloc: Global, txn: TxnId) -> Responder
         ensures { result ≡ responder_of txn State.Idle None None None false None [] }
     {
@@ -116,7 +116,7 @@ impl Responder {
     }
 
     /// Returns the responder with these parts, or `None` if they do not fit together.
-    #[tactic(auto, unfolding(crate::specs::Responder::keeps_rules))]
+    #[tactic(auto, unfolding(crate::specs::Responder::is_consistent))]
     pub fn of_parts(
         txn: TxnId,
         state: State,

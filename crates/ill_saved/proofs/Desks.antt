@@ -461,7 +461,7 @@ idle_twice (sides.Responder y) = refl
 
 -- An idle side is consistent.
 pub idle_consistent : (live : Side) → IsConsistent (idle_of live)
-unfolding are_numbered rise_from ships_first requesters.keeps_rules responders.keeps_rules
+unfolding are_numbered rise_from ships_first requesters.is_consistent responders.is_consistent
 idle_consistent (sides.Requester x) = search rules
 idle_consistent (sides.Responder y) = search rules
 

@@ -8,7 +8,7 @@ use Rattle.ill_saved.specs.declared.fault.RecordFault.{RecordFault}
 use Rattle.ill_saved.specs.declared.fault.RecordFault.TheVariants as faults
 use Rattle.ill_saved.specs.declared.role.Role.{Role}
 use Rattle.ill_saved.specs.declared.side.Side.{Side}
-use Rattle.ill_saved.specs.Side.{keeps_rules, IsConsistent}
+use Rattle.ill_saved.specs.Side.{is_consistent, IsConsistent}
 use Rattle.ill_saved.specs.Records.{start, side_at, side_spelled, judged, record_at, has_front, has_front_behind, begins_as_record, Decodes, record_spelling}
 use Rattle.ill_saved.specs.Ranges.{IsSide}
 use Rattle.ill_saved.proofs.Steps.{ok_is}
@@ -47,7 +47,7 @@ judged_by false read side is = absurd cc
 -- If judging gives a side, that side was read and is consistent.
 pub judged_ok : (read : Result Side LayoutFault) (side : Side) → judged read ≡ Ok side → (read ≡ Ok side) × IsConsistent side
 judged_ok (Ok found) side is =
-    let both = judged_by (keeps_rules found) found side is in
+    let both = judged_by (is_consistent found) found side is in
     (ap Ok both.1, subst IsConsistent both.1 both.0)
 judged_ok (Err fault) side is = absurd cc
 
@@ -64,7 +64,7 @@ not_kept false side breaks = refl
 -- If the side that was read is not consistent, judging gives `Inconsistent`.
 pub judged_not : (read : Result Side LayoutFault) (side : Side) → read ≡ Ok side → (IsConsistent side → ⊥)
     → judged read ≡ Err faults.Inconsistent
-judged_not read side is breaks = ap judged is ∙ not_kept (keeps_rules side) side breaks
+judged_not read side is breaks = ap judged is ∙ not_kept (is_consistent side) side breaks
 
 -- No test of a side gives `Digest`.
 kept_no_digest : (keeps : Bool) (side : Side) → Err faults.Digest ≡ cond keeps (Ok side) (Err faults.Inconsistent) → ⊥
@@ -73,7 +73,7 @@ kept_no_digest false side is = cc
 
 -- Judging never gives `Digest`.
 judged_no_digest : (read : Result Side LayoutFault) → Err faults.Digest ≡ judged read → ⊥
-judged_no_digest (Ok side) is = kept_no_digest (keeps_rules side) side is
+judged_no_digest (Ok side) is = kept_no_digest (is_consistent side) side is
 judged_no_digest (Err Short) is = cc
 judged_no_digest (Err (Bad at)) is = cc
 

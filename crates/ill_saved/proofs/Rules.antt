@@ -18,12 +18,12 @@ requester_parts x = requester.parts_fit x.state (is_some x.held) (is_some x.due)
 
 -- A consistent requester is not in IN-PROCESS or CHECKED-IN.
 pub requester_state : (x : RequesterRecord) → IsRequester x → is_among (InProcess ∷ CheckedIn ∷ []) x.state ≡ false
-unfolding requester.keeps_rules
+unfolding requester.is_consistent
 requester_state x is = not-true _ (and_parts _ _ (and_parts _ _ (and_parts _ _ is).1).0).0
 
 -- The first APDU of a consistent requester, and no other, is an ILL-Request.
 pub requester_request : (x : RequesterRecord) → IsRequester x → begins_with_request x.issued ≡ true
-unfolding requester.keeps_rules
+unfolding requester.is_consistent
 requester_request x is =
     let kept = requester.issued_keeps_rules x.state x.issued in
     let fits = and_parts (are_numbered x.txn 1 x.issued) (requester_parts x && kept) is in
@@ -44,7 +44,7 @@ responder_issued y = responder.issued_keeps_rules y.state y.accepted y.issued
 -- If a responder is consistent, its request, its parts and its issued APDUs keep their rules.
 each_part : (y : ResponderRecord) → IsResponder y
     → (is_request_of y.txn y.request ≡ true) × (responder_parts y ≡ true) × (responder_issued y ≡ true)
-unfolding responder.keeps_rules
+unfolding responder.is_consistent
 each_part y is =
     let rest = and_parts (are_numbered y.txn 1 y.issued) (is_request_of y.txn y.request && (responder_parts y && responder_issued y)) is in
     let asked = and_parts (is_request_of y.txn y.request) (responder_parts y && responder_issued y) rest.1 in

@@ -16,7 +16,7 @@ use Rattle.ill_saved.specs.declared.role.Role.{Role}
 use Rattle.ill_saved.specs.declared.role.Role.TheVariants as roles
 use Rattle.ill_saved.specs.declared.side.Side.{Side}
 use Rattle.ill_saved.specs.declared.side.Side.TheVariants as sides
-use Rattle.ill_saved.specs.Side.{role_of, keeps_rules}
+use Rattle.ill_saved.specs.Side.{role_of, is_consistent}
 use Rattle.ill_saved.specs.Layout.{Field, sized, octet, followed_by, constant, optional_number, mark, counted_text, apdu, ill_request, marked, counted, ended, record_fault}
 
 -- Returns the octet of a state. PENDING and IN-PROCESS have one octet, since no role has both.
@@ -203,7 +203,7 @@ side_spelled bytes = start.read (cursor_at 0 bytes) >>= λ start. side_at start.
 
 -- Returns a side that was read, if it is consistent, and otherwise `Inconsistent`.
 abbrev pub judged : Result Side LayoutFault → Result Side RecordFault
-judged (Ok side) = if keeps_rules side then Ok side else Err faults.Inconsistent
+judged (Ok side) = if is_consistent side then Ok side else Err faults.Inconsistent
 judged (Err fault) = Err (record_fault fault)
 
 -- Returns the consistent side that all of the bytes encode, or the first fault.

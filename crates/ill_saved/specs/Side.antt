@@ -67,13 +67,13 @@ due_date_of (sides.Requester x) = x.due
 due_date_of (sides.Responder y) = due_of y
 
 -- Returns true if the record of the side keeps the rules of its role.
-abbrev pub keeps_rules : Side → Bool
-keeps_rules (sides.Requester x) = requesters.keeps_rules x
-keeps_rules (sides.Responder y) = responders.keeps_rules y
+abbrev pub is_consistent : Side → Bool
+is_consistent (sides.Requester x) = requesters.is_consistent x
+is_consistent (sides.Responder y) = responders.is_consistent y
 
 -- The record of the side keeps the rules of its role.
 abbrev pub IsConsistent : Side → Type 0
-IsConsistent side = keeps_rules side ≡ true
+IsConsistent side = is_consistent side ≡ true
 
 -- Returns the standing of the side.
 abbrev pub standing_of : Side → Standing

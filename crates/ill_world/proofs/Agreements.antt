@@ -20,7 +20,7 @@ use Rattle.ill_saved.specs.Side.{issued_of}
 use Rattle.ill_world.specs.World.{Party, Parties, sent_message}
 use Rattle.ill_world.specs.Safety.{OfBoth}
 use Rattle.ill_world.specs.Agreement.{AnswersOnce, EndsOnce, Facing, AcceptedBy, IsNotLater, SaysTrue, Agrees}
-use Rattle.ill_world.specs.Invariant.{RequesterStands, ResponderStands, RequesterSideStands, ResponderSideStands, SendsSaved, Stands}
+use Rattle.ill_world.specs.Invariant.{RequesterStands, ResponderStands, RequesterSideStands, ResponderSideStands, SendsSaved, Invariant}
 use Rattle.ill_core.proofs.GrantLemmas.{granted_not_later}
 use Rattle.ill_core.proofs.MessageLemmas.{message_says, says_message}
 use Rattle.ill_world.proofs.Sendings.{front_message}
@@ -170,7 +170,7 @@ facing P pair txn (sides.Requester x) (sides.Responder y) told heard requester_s
 facing P pair txn (sides.Responder x) y told heard requester_stands responder_stands issued heeded = absurd requester_stands
 facing P pair txn (sides.Requester x) (sides.Requester y) told heard requester_stands responder_stands issued heeded = absurd responder_stands
 
-of_both_facing : (P : RequesterRecord → ResponderRecord → Type 0) → PairOf P → (txn : Qualifiers) (w : Parties) → Stands txn w → OfBoth (Facing P) w
+of_both_facing : (P : RequesterRecord → ResponderRecord → Type 0) → PairOf P → (txn : Qualifiers) (w : Parties) → Invariant txn w → OfBoth (Facing P) w
 of_both_facing P pair txn w stands =
     let sent = w.responder.sent in
     let heard = w.requester.sent in
@@ -220,7 +220,7 @@ accepted_by txn w (sides.Responder y) saved stands =
     (sent.0, known.0, sent.1, live, tells_accepted known.0.number c known.0.body known.2)
 accepted_by txn w (sides.Requester x) saved stands = absurd stands
 
-pub agrees : (txn : Qualifiers) (w : Parties) → Stands txn w → Agrees w
+pub agrees : (txn : Qualifiers) (w : Parties) → Invariant txn w → Agrees w
 agrees txn w stands =
     let requester_stands = stands.requester in
     let responder_stands = stands.responder in

@@ -29,7 +29,7 @@ use Rattle.ill_world.specs.declared.event.Event.TheVariants as events
 use Rattle.ill_world.specs.declared.event.Outcome.TheVariants.{Answered}
 use Rattle.ill_world.specs.World.{Party, Parties, sent_message, answer_to, receives}
 use Rattle.ill_world.specs.Agreement.{settled_by, Settles, Arrives}
-use Rattle.ill_world.specs.Invariant.{RequesterStands, ResponderStands, RequesterSideStands, ResponderSideStands, Stands}
+use Rattle.ill_world.specs.Invariant.{RequesterStands, ResponderStands, RequesterSideStands, ResponderSideStands, Invariant}
 use Rattle.ill_core.proofs.MessageLemmas.{message_says}
 use Rattle.ill_world.proofs.Uniqueness.{message_number}
 use Rattle.ill_world.proofs.Claims.{AreIssued, has_issued, cancelled_faces, not_supplied_faces, shipped_by, landed_issues, live_issues}
@@ -229,7 +229,7 @@ settles_responder rows txn p side told heard n a found requester_stands responde
     go (sides.Responder y) live requester_stands responder_stands issued at = absurd requester_stands
     go (sides.Requester x) (sides.Requester y) requester_stands responder_stands issued at = absurd responder_stands
 
-pub arrives : RowsFollow → (txn : Qualifiers) (w : Parties) (event : Event) → Stands txn w → Arrives w event
+pub arrives : RowsFollow → (txn : Qualifiers) (w : Parties) (event : Event) → Invariant txn w → Arrives w event
 arrives rows txn w (events.Deliver who.Requester n) stands =
     λ a sent ends.
     settles_requester rows txn w.requester w.responder.landed w.responder.sent w.requester.sent n a (sent_message w.responder.sent n) stands.requester.live stands.responder.landed

@@ -21,7 +21,7 @@ use Rattle.ill_world.specs.declared.event.Outcome.{Outcome}
 use Rattle.ill_world.specs.declared.event.Outcome.TheVariants.{Done, Saved, Faulted, Sent, Answered, Restarted}
 use Rattle.ill_world.specs.World.{Party, Parties, party, with_party, who_of, sent_message, decides, sends, answer_to, receives, hears, happens_to, happens, run_by, run_of}
 use Rattle.ill_world.specs.Changes.{OnlyLands, OnlyLandedChanges, MayChange, KeepsSent}
-use Rattle.ill_world.specs.Invariant.{SendsSaved, Stands}
+use Rattle.ill_world.specs.Invariant.{SendsSaved, Invariant}
 use Rattle.ill_world.proofs.Kept.{stays_sent}
 
 -- What the laws of the rows say: a message that is not taken changes nothing.
@@ -121,25 +121,25 @@ sent_by_one w who.Requester new keeps who.Responder n a was = was
 sent_by_one w who.Responder new keeps who.Responder n a was = keeps n a was
 sent_by_one w who.Responder new keeps who.Requester n a was = was
 
-saved_by : (txn : Qualifiers) (w : Parties) (of : Who) → Stands txn w → SendsSaved (party w of)
+saved_by : (txn : Qualifiers) (w : Parties) (of : Who) → Invariant txn w → SendsSaved (party w of)
 saved_by txn w who.Requester stands = stands.requester.saved
 saved_by txn w who.Responder stands = stands.responder.saved
 
-pub event_keeps_sent : (txn : Qualifiers) (w : Parties) (event : Event) → Stands txn w → KeepsSent w (happens w event).1
+pub event_keeps_sent : (txn : Qualifiers) (w : Parties) (event : Event) → Invariant txn w → KeepsSent w (happens w event).1
 event_keeps_sent txn w event stands =
     let of = who_of event in
     sent_by_one w of _ (stays_sent (party w of) (party w (other of)).sent event (saved_by txn w of stands))
 
 abbrev pub After : Qualifiers → Type 0
-After txn = (w : Parties) (event : Event) → Stands txn w → Stands txn (happens w event).1
+After txn = (w : Parties) (event : Event) → Invariant txn w → Invariant txn (happens w event).1
 
-further_keeps_sent : (txn : Qualifiers) → After txn → (w : Parties) (more : List Event) → Stands txn w → KeepsSent w (run_of w more)
+further_keeps_sent : (txn : Qualifiers) → After txn → (w : Parties) (more : List Event) → Invariant txn w → KeepsSent w (run_of w more)
 unfolding run_by
 further_keeps_sent txn after w [] stands = λ of n a was. was
 further_keeps_sent txn after w (event ∷ more) stands =
     λ of n a was. further_keeps_sent txn after (happens w event).1 more (after w event stands) of n a (event_keeps_sent txn w event stands of n a was)
 
-pub run_keeps_sent : (txn : Qualifiers) → After txn → (w : Parties) (events more : List Event) → Stands txn w → KeepsSent (run_of w events) (run_of w (events ++ more))
+pub run_keeps_sent : (txn : Qualifiers) → After txn → (w : Parties) (events more : List Event) → Invariant txn w → KeepsSent (run_of w events) (run_of w (events ++ more))
 unfolding run_by
 run_keeps_sent txn after w [] more stands = further_keeps_sent txn after w more stands
 run_keeps_sent txn after w (event ∷ events) more stands = run_keeps_sent txn after (happens w event).1 events more (after w event stands)

@@ -19,7 +19,7 @@ use Rattle.ill_saved.specs.declared.side.Side.TheVariants as sides
 use Rattle.ill_saved.specs.Side.{issued_of}
 use Rattle.ill_world.specs.World.{Party, Parties}
 use Rattle.ill_world.specs.Safety.{OfBoth, EndsAlike, WasShipped, WasGranted}
-use Rattle.ill_world.specs.Invariant.{WasSent, RequesterStands, ResponderStands, RequesterSideStands, ResponderSideStands, SendsSaved, Stands}
+use Rattle.ill_world.specs.Invariant.{WasSent, RequesterStands, ResponderStands, RequesterSideStands, ResponderSideStands, SendsSaved, Invariant}
 use Rattle.ill_core.proofs.MessageLemmas.{message_says}
 use Rattle.ill_world.proofs.Sendings.{front_message}
 
@@ -132,7 +132,7 @@ landed_issues p saved = λ a was. (was.0, saved.landed was.0 a was.1)
 pub live_issues : (p : Party) → SendsSaved p → AreIssued p.sent (issued_of p.live)
 live_issues p saved = λ a was. (was.0, front_message (issued_of p.landed) (issued_of p.live) was.0 a saved.front (saved.landed was.0 a was.1))
 
-of_both : (P : Side → Side → Type 0) → Pair P → (txn : Qualifiers) (w : Parties) → Stands txn w → OfBoth P w
+of_both : (P : Side → Side → Type 0) → Pair P → (txn : Qualifiers) (w : Parties) → Invariant txn w → OfBoth P w
 of_both P pair txn w stands =
     let sent = w.responder.sent in
     let heard = w.requester.sent in
@@ -145,11 +145,11 @@ of_both P pair txn w stands =
       landed = pair txn w.requester.landed w.responder.landed sent heard stands.requester.landed stands.responder.landed landed;
     }
 
-pub ends_alike : (txn : Qualifiers) (w : Parties) → Stands txn w → OfBoth EndsAlike w
+pub ends_alike : (txn : Qualifiers) (w : Parties) → Invariant txn w → OfBoth EndsAlike w
 ends_alike = of_both EndsAlike ends_pair
 
-pub was_shipped : (txn : Qualifiers) (w : Parties) → Stands txn w → OfBoth WasShipped w
+pub was_shipped : (txn : Qualifiers) (w : Parties) → Invariant txn w → OfBoth WasShipped w
 was_shipped = of_both WasShipped shipped_pair
 
-pub was_granted : (txn : Qualifiers) (w : Parties) → Stands txn w → OfBoth WasGranted w
+pub was_granted : (txn : Qualifiers) (w : Parties) → Invariant txn w → OfBoth WasGranted w
 was_granted = of_both WasGranted grant_pair

@@ -26,7 +26,7 @@ use Rattle.ill_world.specs.declared.event.DeskOutcome.TheVariants.{Plain, NoSuch
 use Rattle.ill_world.specs.World.{sent_message, party, Parties, happens}
 use Rattle.ill_world.specs.Desks.{DeskParty, sent_for, DeskParties, plain, desks_happen, project, concerns, if_reached, IsSeenAs}
 use Rattle.ill_world.specs.Agreement.{Settles, settled_by, Arrives}
-use Rattle.ill_world.specs.Invariant.{RequesterSideStands, ResponderSideStands, Stands}
+use Rattle.ill_world.specs.Invariant.{RequesterSideStands, ResponderSideStands, Invariant}
 use Rattle.ill_world.specs.DeskChanges.{IsPlain, Reaches, ReachesAt, ReachesSide}
 use Rattle.ill_world.specs.DeskSafety.{DesksStand, SettlesAt, ArrivesAt}
 use Rattle.ill_world.proofs.Claims.{AreIssued, has_issued, live_issues}
@@ -107,7 +107,7 @@ module _ (projects : EachProjects) (reaches : EachReaches) (w : DeskParties) (st
       settles_as among (concerns txn event) (happens (project txn w) (plain event)) (project txn w) (project txn (desks_happen w event).1) (desks_happen w event).0 (λ v. (party v role).live) (projects txn w event stands)
       (same_self txn) is_plain settles
 
-pub arrives_at : EachProjects → EachReaches → ((txn : Qualifiers) (w : Parties) (event : Event) → Stands txn w → Arrives w event) → (w : DeskParties) (event : DeskEvent) → DesksStand w → ArrivesAt w event
+pub arrives_at : EachProjects → EachReaches → ((txn : Qualifiers) (w : Parties) (event : Event) → Invariant txn w → Arrives w event) → (w : DeskParties) (event : DeskEvent) → DesksStand w → ArrivesAt w event
 arrives_at projects reaches arrives w (desk_events.Deliver who.Requester txn n) stands =
     λ a sent ends.
     let shown = stands.each txn in

@@ -26,7 +26,7 @@ use Rattle.ill_world.specs.declared.event.DeskOutcome.{DeskOutcome}
 use Rattle.ill_world.specs.World.{Parties, sent_message, sends_by, happens_to, happens_at, happens, party, with_party, who_of, run_by, run_of, first_world}
 use Rattle.ill_world.specs.Desks.{DeskParty, DeskParties, Sending, sent_for, plain, desk_decides, desk_sends, desk_receives, desk_happens_to, desks_happen, desks_run, first_desks, party_for, project, concerns, if_reached, is_event_of, events_for, IsSeenAs, Projects}
 use Rattle.ill_world.specs.Agreement.{KeepsDates}
-use Rattle.ill_world.specs.Invariant.{RequesterSideStands, ResponderSideStands, Stands}
+use Rattle.ill_world.specs.Invariant.{RequesterSideStands, ResponderSideStands, Invariant}
 use Rattle.ill_world.specs.Changes.{MayChange, OnlyLandedChanges, KeepsSent}
 use Rattle.ill_world.specs.DeskChanges.{DeskMayChange}
 use Rattle.ill_world.specs.declared.event.DeskOutcome.TheVariants.{Plain, NoSuchTransaction, DeskFull}
@@ -160,12 +160,12 @@ seen_keeps F true expected old new outcome seen before after = subst F (sym seen
 seen_keeps F false expected old new outcome seen before after = subst F (sym seen) before
 
 -- Two desks that hold nothing stand.
-pub desks_first : DesksCount first_desks → ((txn : Qualifiers) → Stands txn (first_world txn)) → DesksStand first_desks
+pub desks_first : DesksCount first_desks → ((txn : Qualifiers) → Invariant txn (first_world txn)) → DesksStand first_desks
 desks_first counts stands = record {
   requester = (refl, refl);
   responder = (refl, refl);
   counts = counts;
-  each = λ txn. subst (Stands txn) (sym (first_project txn)) (stands txn);
+  each = λ txn. subst (Invariant txn) (sym (first_project txn)) (stands txn);
 }
 
 -- An event leads two desks that stand to such.
@@ -177,7 +177,7 @@ desks_after grows rows after w event stands counts =
       responder = roles.1;
       counts = counts;
       each = λ txn.
-          seen_keeps (Stands txn) (is_event_of txn w event) (happens (project txn w) (plain event)) (project txn w) _ _ (desk_projects grows rows txn w event stands) (stands.each txn)
+          seen_keeps (Invariant txn) (is_event_of txn w event) (happens (project txn w) (plain event)) (project txn w) _ _ (desk_projects grows rows txn w event stands) (stands.each txn)
           (after txn (project txn w) (plain event) (stands.each txn));
     }
 
@@ -216,7 +216,7 @@ first_run_projects projects after first txn events =
 
 -- ---- dates
 
-pub desk_dates : EachProjects → ((txn : Qualifiers) (w : Parties) (event : Event) → Stands txn w → KeepsDates w event (happens w event).1) → (txn : Qualifiers) (w : DeskParties) (event : DeskEvent) → DesksStand w
+pub desk_dates : EachProjects → ((txn : Qualifiers) (w : Parties) (event : Event) → Invariant txn w → KeepsDates w event (happens w event).1) → (txn : Qualifiers) (w : DeskParties) (event : DeskEvent) → DesksStand w
     → KeepsDates (project txn w) (plain event) (project txn (desks_happen w event).1)
 desk_dates projects stay txn w event stands =
     seen_keeps (KeepsDates (project txn w) (plain event)) (is_event_of txn w event) (happens (project txn w) (plain event)) (project txn w) _ _ (projects txn w event stands) (same_dates (project txn w) (plain event))
@@ -242,7 +242,7 @@ desk_changes projects changes txn w event stands =
     unchanged (concerns txn event) (happens (project txn w) (plain event)) (project txn w) (project txn (desks_happen w event).1) (desks_happen w event).0 (projects txn w event stands)
     (changes (project txn w) (plain event)) (same_changes (project txn w))
 
-pub desk_keeps_sent : EachProjects → ((txn : Qualifiers) (w : Parties) (event : Event) → Stands txn w → KeepsSent w (happens w event).1) → (txn : Qualifiers) (w : DeskParties) (event : DeskEvent) → DesksStand w
+pub desk_keeps_sent : EachProjects → ((txn : Qualifiers) (w : Parties) (event : Event) → Invariant txn w → KeepsSent w (happens w event).1) → (txn : Qualifiers) (w : DeskParties) (event : DeskEvent) → DesksStand w
     → KeepsSent (project txn w) (project txn (desks_happen w event).1)
 desk_keeps_sent projects keeps txn w event stands =
     seen_keeps (KeepsSent (project txn w)) (is_event_of txn w event) (happens (project txn w) (plain event)) (project txn w) _ _ (projects txn w event stands) (λ of n a was. was)

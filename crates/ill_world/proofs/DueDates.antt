@@ -21,7 +21,7 @@ use Rattle.ill_saved.specs.declared.role.Role.TheVariants as who
 use Rattle.ill_world.specs.declared.event.Event.{Event}
 use Rattle.ill_world.specs.declared.event.Event.TheVariants as events
 use Rattle.ill_world.specs.World.{Party, Parties, sent_message, decides, sends, receives, happens_to, happens}
-use Rattle.ill_world.specs.Invariant.{RequesterSideStands, Stands}
+use Rattle.ill_world.specs.Invariant.{RequesterSideStands, Invariant}
 use Rattle.ill_world.specs.Agreement.{KeepsDates}
 
 -- a due date that is kept or raised, and then again
@@ -99,7 +99,7 @@ same_date : (a b : Side) → b ≡ a → KeepsDue (due_date_of a) (due_date_of b
 same_date a b e = inr (inl (ap due_date_of e))
 
 -- the dates of the requester, at every event
-pub dates_kept : RowsKeepDue → (txn : Qualifiers) (w : Parties) (event : Event) → Stands txn w → KeepsDates w event (happens w event).1
+pub dates_kept : RowsKeepDue → (txn : Qualifiers) (w : Parties) (event : Event) → Invariant txn w → KeepsDates w event (happens w event).1
 dates_kept rows txn w (events.Wish wish) stands =
     let p = w.requester in
     let kept = decides_due rows txn p w.responder.sent (actions.Wish wish) (acts p.live (actions.Wish wish)) refl stands.requester.live in

@@ -19,7 +19,7 @@ use Rattle.ill_world.specs.declared.event.Event.{Event}
 use Rattle.ill_world.specs.declared.event.Event.TheVariants.{Save}
 use Rattle.ill_world.specs.World.{Parties, happens, run_by, run_of}
 use Rattle.ill_world.specs.Agreement.{Facing}
-use Rattle.ill_world.specs.Invariant.{RequesterStands, ResponderStands, RequesterSideStands, ResponderSideStands, Stands}
+use Rattle.ill_world.specs.Invariant.{RequesterStands, ResponderStands, RequesterSideStands, ResponderSideStands, Invariant}
 use Rattle.ill_world.specs.Round.{passes_on, half_of, round_of, faced_in, AreInStep}
 use Rattle.ill_world.specs.Night.{is_nobodys, is_over, wants_sending, asks, half_if, night_of, AtRest, AreAtRest, AreInStepOrAtRest}
 use Rattle.ill_world.proofs.Claims.{AreIssued, live_issues, cancelled_faces, not_supplied_faces}
@@ -66,7 +66,7 @@ sides_rest txn (sides.Responder x) y told heard requester_stands responder_stand
 sides_rest txn (sides.Requester x) (sides.Requester y) told heard requester_stands responder_stands issued heeded over = absurd responder_stands
 
 -- Both sides of a world that stands are at rest if the loan is over for the requester.
-pub at_rest : (txn : Qualifiers) (w : Parties) → Stands txn w → is_over w.requester.live ≡ true → AreAtRest w
+pub at_rest : (txn : Qualifiers) (w : Parties) → Invariant txn w → is_over w.requester.live ≡ true → AreAtRest w
 at_rest txn w stands over =
     sides_rest txn w.requester.live w.responder.live w.responder.sent w.requester.sent stands.requester.live stands.responder.live (live_issues w.responder stands.responder.saved) (live_issues w.requester stands.requester.saved) over
 
@@ -119,15 +119,15 @@ unfolding run_by passes_on
 nothing_passes w [] is none = ap (λ (l : List Apdu). (run_of w (Save who.Requester ∷ passes_on who.Requester 1 (length l))).responder.live) is
 nothing_passes w (a ∷ apdus) is none = search rules
 
-module _ (txn : Qualifiers) (after : (w : Parties) (event : Event) → Stands txn w → Stands txn (happens w event).1) where
+module _ (txn : Qualifiers) (after : (w : Parties) (event : Event) → Invariant txn w → Invariant txn (happens w event).1) where
   -- The responder wants sending behind the half of a requester that wants it.
-  responder_wants : (w : Parties) → Stands txn w → is_over w.requester.live ≡ false → wants_sending (asks w.requester.live) (run_of w (half_of who.Requester w)).responder.live ≡ true
+  responder_wants : (w : Parties) → Invariant txn w → is_over w.requester.live ≡ false → wants_sending (asks w.requester.live) (run_of w (half_of who.Requester w)).responder.live ≡ true
   responder_wants w stands is_open = go (is_none (issued_of w.requester.live)) refl
     where
       between : Parties
       between = run_of w (half_of who.Requester w)
 
-      stands_between : Stands txn between
+      stands_between : Invariant txn between
       stands_between = run_stands txn after w (half_of who.Requester w) stands
 
       go : (none : Bool) → is_none (issued_of w.requester.live) ≡ none → wants_sending (asks w.requester.live) between.responder.live ≡ true
@@ -140,7 +140,7 @@ module _ (txn : Qualifiers) (after : (w : Parties) (event : Event) → Stands tx
           ap (λ b. wants_sending b between.responder.live) it_asks ∙ asked_wants txn between.responder.live between.requester.sent stands_between.responder.live
 
   -- A night is a round while the loan is not over for the requester.
-  pub night_is_round : (w : Parties) → Stands txn w → is_over w.requester.live ≡ false → night_of w ≡ round_of w
+  pub night_is_round : (w : Parties) → Invariant txn w → is_over w.requester.live ≡ false → night_of w ≡ round_of w
   night_is_round w stands is_open =
       let first = half_of who.Requester w in
       ap (night_from w) (ap (λ b. half_if b who.Requester w) (open_wants false w.requester.live is_open))

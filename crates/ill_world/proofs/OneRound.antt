@@ -32,7 +32,7 @@ use Rattle.ill_saved.specs.declared.role.Role.TheVariants as who
 use Rattle.ill_world.specs.declared.event.Event.{Event}
 use Rattle.ill_world.specs.World.{Parties, happens, run_of}
 use Rattle.ill_world.specs.Agreement.{Facing}
-use Rattle.ill_world.specs.Invariant.{RequesterStands, ResponderStands, RequesterSideStands, ResponderSideStands, Stands}
+use Rattle.ill_world.specs.Invariant.{RequesterStands, ResponderStands, RequesterSideStands, ResponderSideStands, Invariant}
 use Rattle.ill_world.specs.Round.{half_of, round_of, InStep, AreInStep, CanAnswer}
 use Rattle.ill_core.proofs.MessageLemmas.{message_says, says_message}
 use Rattle.ill_world.proofs.Claims.{AreIssued, live_issues}
@@ -309,12 +309,12 @@ module _ (rows : RowsHear) where
   sides_in_step txn (sides.Requester x) (sides.Responder y) (sides.Requester x_after) (sides.Requester z) heard told heard_after told_after borrower lender borrower_after lender_after issued heeded can lends_it asks_it = absurd lender_after
 
   -- Both sides of a world that stands are in step after a round.
-  pub one_round : (txn : Qualifiers) → ((w : Parties) (event : Event) → Stands txn w → Stands txn (happens w event).1) → (w : Parties) → Stands txn w → CanAnswer w.responder.live → AreInStep (run_of w (round_of w))
+  pub one_round : (txn : Qualifiers) → ((w : Parties) (event : Event) → Invariant txn w → Invariant txn (happens w event).1) → (w : Parties) → Invariant txn w → CanAnswer w.responder.live → AreInStep (run_of w (round_of w))
   one_round txn after w stands can =
       let between : Parties = run_of w (half_of who.Requester w) in
       let new : Parties = run_of w (round_of w) in
-      let stands_between : Stands txn between = run_stands txn after w (half_of who.Requester w) stands in
-      let stands_new : Stands txn new = run_stands txn after w (round_of w) stands in
+      let stands_between : Invariant txn between = run_stands txn after w (half_of who.Requester w) stands in
+      let stands_new : Invariant txn new = run_stands txn after w (round_of w) stands in
       let rounds = round_passes w (requester_few txn w.requester.live w.responder.sent stands.requester.live) stands.requester.saved.places
       (responder_few txn between.responder.live between.requester.sent stands_between.responder.live) stands_between.responder.saved.places in
       sides_in_step txn w.requester.live w.responder.live new.requester.live new.responder.live w.responder.sent w.requester.sent new.responder.sent new.requester.sent stands.requester.live stands.responder.live

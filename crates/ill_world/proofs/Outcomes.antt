@@ -39,7 +39,7 @@ use Rattle.ill_world.specs.declared.event.Outcome.{Outcome}
 use Rattle.ill_world.specs.declared.event.Outcome.TheVariants.{Forged, Refused}
 use Rattle.ill_world.specs.World.{Party, Parties, party, sent_message, decides, sends, answer_to, receives, hears, happens}
 use Rattle.ill_world.specs.Changes.{can_refuse, can_be_seen}
-use Rattle.ill_world.specs.Invariant.{RequesterSideStands, ResponderSideStands, Stands}
+use Rattle.ill_world.specs.Invariant.{RequesterSideStands, ResponderSideStands, Invariant}
 
 -- ---- rows
 
@@ -173,19 +173,19 @@ noise_seen p (Ok (a, [])) = one_of_two (is_same_txn a.txn (txn_of p.live)) Forge
 noise_seen p (Ok (a, byte ∷ rest)) = refl
 noise_seen p (Err fault) = refl
 
-asking_receives : (txn : Qualifiers) (w : Parties) (n : ℕ) (found : Option Apdu) → Stands txn w → sent_message w.responder.sent n ≡ found → can_be_seen (receives w.requester found).0 ≡ true
+asking_receives : (txn : Qualifiers) (w : Parties) (n : ℕ) (found : Option Apdu) → Invariant txn w → sent_message w.responder.sent n ≡ found → can_be_seen (receives w.requester found).0 ≡ true
 asking_receives txn w n None stands e = refl
 asking_receives txn w n (Some a) stands e =
     answer_seen (takes w.requester.live a).0
     (asking_seen txn w.requester.live w.responder.sent a stands.requester.live (responders_own txn w.responder.landed w.requester.sent n a stands.responder.landed (stands.responder.saved.landed n a e)))
 
-asked_receives : (txn : Qualifiers) (w : Parties) (n : ℕ) (found : Option Apdu) → Stands txn w → sent_message w.requester.sent n ≡ found → can_be_seen (receives w.responder found).0 ≡ true
+asked_receives : (txn : Qualifiers) (w : Parties) (n : ℕ) (found : Option Apdu) → Invariant txn w → sent_message w.requester.sent n ≡ found → can_be_seen (receives w.responder found).0 ≡ true
 asked_receives txn w n None stands e = refl
 asked_receives txn w n (Some a) stands e =
     answer_seen (takes w.responder.live a).0
     (asked_seen txn w.responder.live w.requester.sent a stands.responder.live (requesters_own txn w.requester.landed w.responder.sent n a stands.requester.landed (stands.requester.saved.landed n a e)))
 
-pub outcome_seen : (txn : Qualifiers) (w : Parties) (event : Event) → Stands txn w → can_be_seen (happens w event).0 ≡ true
+pub outcome_seen : (txn : Qualifiers) (w : Parties) (event : Event) → Invariant txn w → can_be_seen (happens w event).0 ≡ true
 outcome_seen txn w (events.Wish wish) stands = decision_seen w.requester (acts w.requester.live (actions.Wish wish)) (wish_seen txn w.requester.live w.responder.sent wish stands.requester.live)
 outcome_seen txn w (events.Deed deed today) stands =
     decision_seen w.responder (acts w.responder.live (actions.Deed deed today)) (deed_seen txn w.responder.live w.requester.sent deed today stands.responder.live)

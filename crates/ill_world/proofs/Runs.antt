@@ -4,7 +4,7 @@ use Rattle.std.proofs.lemmas.List.{length-drop, take_at, take_more}
 use Rattle.ill_world.specs.declared.event.Event.{Event}
 use Rattle.ill_values.specs.TxnId.{Qualifiers}
 use Rattle.ill_world.specs.World.{Parties, happens, run_by, run_of}
-use Rattle.ill_world.specs.Invariant.{Stands}
+use Rattle.ill_world.specs.Invariant.{Invariant}
 
 module _ {W E O : Type 0} (happening : W → E → O × W) where
   run_next : (w new : W) (events : List E) (event : E) (outcome : O) → happening w event ≡ (outcome, new) → run_by happening w (event ∷ events) ≡ run_by happening new events
@@ -51,7 +51,7 @@ module _ {W E O : Type 0} (happening : W → E → O × W) where
 
 -- ---- what every world of a run keeps
 
-pub run_stands : (txn : Qualifiers) → ((w : Parties) (event : Event) → Stands txn w → Stands txn (happens w event).1) → (w : Parties) (events : List Event) → Stands txn w → Stands txn (run_of w events)
+pub run_stands : (txn : Qualifiers) → ((w : Parties) (event : Event) → Invariant txn w → Invariant txn (happens w event).1) → (w : Parties) (events : List Event) → Invariant txn w → Invariant txn (run_of w events)
 unfolding run_by
 run_stands txn after w [] stands = stands
 run_stands txn after w (event ∷ events) stands = run_stands txn after (happens w event).1 events (after w event stands)

@@ -32,7 +32,7 @@ use Rattle.ill_world.specs.World.{Parties, first_party, first_world, with_party,
 use Rattle.ill_saved.specs.declared.role.Role.{Role as Who}
 use Rattle.ill_saved.specs.declared.role.Role.TheVariants as who
 use Rattle.ill_world.specs.declared.event.Event.{Event}
-use Rattle.ill_world.specs.Invariant.{WasSent, RequesterStands, ResponderStands, RequesterSideStands, ResponderSideStands, PartyStands, Stands}
+use Rattle.ill_world.specs.Invariant.{WasSent, RequesterStands, ResponderStands, RequesterSideStands, ResponderSideStands, PartyStands, Invariant}
 use Rattle.ill_world.proofs.DueDates.{RowsKeepDue, due_after}
 use Rattle.ill_world.proofs.Sendings.{front_of_itself}
 use Rattle.ill_world.proofs.Kept.{RowsGrow, Keeps, party_kept, told_more, was_sent_still}
@@ -235,15 +235,15 @@ first_stands K idle told stands = record {
   landed = stands;
 }
 
-pub world_first : (txn : Qualifiers) → Stands txn (first_world txn)
+pub world_first : (txn : Qualifiers) → Invariant txn (first_world txn)
 world_first txn = record {
   requester = first_stands (RequesterSideStands txn) _ _ (requester_first txn _);
   responder = first_stands (ResponderSideStands txn) _ _ (responder_first txn _);
   due = inl refl;
 }
 
-world_kept : RowsKeepDue → (txn : Qualifiers) (w : Parties) (of : Who) (event : Event) → RowsGrow → Keeps (RequesterSideStands txn) → Keeps (ResponderSideStands txn) → Stands txn w
-    → Stands txn (with_party w of (happens_to (party w of) (party w (other of)).sent event).1)
+world_kept : RowsKeepDue → (txn : Qualifiers) (w : Parties) (of : Who) (event : Event) → RowsGrow → Keeps (RequesterSideStands txn) → Keeps (ResponderSideStands txn) → Invariant txn w
+    → Invariant txn (with_party w of (happens_to (party w of) (party w (other of)).sent event).1)
 world_kept rows txn w who.Requester event grows requester_kept responder_kept stands = record {
   requester = party_kept (RequesterSideStands txn) w.requester w.responder.sent event grows requester_kept stands.requester;
   responder =
@@ -257,5 +257,5 @@ world_kept rows txn w who.Responder event grows requester_kept responder_kept st
   due = stands.due;
 }
 
-pub world_after : RowsKeepDue → (txn : Qualifiers) (w : Parties) (event : Event) → RowsGrow → Keeps (RequesterSideStands txn) → Keeps (ResponderSideStands txn) → Stands txn w → Stands txn (happens w event).1
+pub world_after : RowsKeepDue → (txn : Qualifiers) (w : Parties) (event : Event) → RowsGrow → Keeps (RequesterSideStands txn) → Keeps (ResponderSideStands txn) → Invariant txn w → Invariant txn (happens w event).1
 world_after rows txn w event grows requester_kept responder_kept stands = world_kept rows txn w (who_of event) event grows requester_kept responder_kept stands

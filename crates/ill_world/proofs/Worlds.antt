@@ -10,7 +10,7 @@ use Rattle.ill_world.specs.declared.event.Outcome.{Outcome}
 use Rattle.ill_world.specs.World.{Party, Parties, TwoOf, happens_at, first_party, first_world, party, with_party, who_of, happens_to, happens}
 use Rattle.ill_saved.specs.Side.{idle_side, other}
 use Rattle.ill_world.specs.PartyView.{Gives}
-use Rattle.ill_world.specs.Invariant.{Stands}
+use Rattle.ill_world.specs.Invariant.{Invariant}
 use Rattle.ill_world.specs.Agreement.{KeepsDates}
 
 first_side : (role : Who) (txn t : Qualifiers) (side : Side) (p : Party) → t ≡ txn → side ≡ idle_side role t → p ≡ first_party side → p ≡ party (first_world txn) role
@@ -44,9 +44,9 @@ pub given_keeps : {M O P : Type 0} (F : P → Type 0) (expected : O × P) (old n
 given_keeps {O = O} {P = P} F expected old new (Ok outcome) gives before after = subst (λ (x : O × P). F x.1) gives after
 given_keeps F expected old new (Err memory) same before after = subst F (sym same) before
 
-pub still_stands : {M : Type 0} → (txn : Qualifiers) (w new : Parties) (event : Event) (result : Result Outcome M) → ((w : Parties) (event : Event) → Stands txn w → Stands txn (happens w event).1)
-    → Gives (happens w event) w result new → Stands txn w → Stands txn new
-still_stands txn w new event result after gives stands = given_keeps (Stands txn) (happens w event) w new result gives stands (after w event stands)
+pub still_stands : {M : Type 0} → (txn : Qualifiers) (w new : Parties) (event : Event) (result : Result Outcome M) → ((w : Parties) (event : Event) → Invariant txn w → Invariant txn (happens w event).1)
+    → Gives (happens w event) w result new → Invariant txn w → Invariant txn new
+still_stands txn w new event result after gives stands = given_keeps (Invariant txn) (happens w event) w new result gives stands (after w event stands)
 
 pub same_dates : (w : Parties) (event : Event) → KeepsDates w event w
 same_dates w (events.Restart who.Requester) = (tt, inr (inl refl))

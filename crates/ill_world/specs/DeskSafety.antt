@@ -18,7 +18,7 @@ use Rattle.ill_world.specs.Desks.{DeskParty, DeskParties, first_desks, sent_for,
 use Rattle.ill_world.specs.DeskCounts.{DesksCount}
 use Rattle.ill_world.specs.Safety.{Safe}
 use Rattle.ill_world.specs.Agreement.{Agrees, Settles, settled_by}
-use Rattle.ill_world.specs.Invariant.{Stands}
+use Rattle.ill_world.specs.Invariant.{Invariant}
 
 -- ---- why
 
@@ -32,7 +32,7 @@ pub record DesksStand (w : DeskParties) : Type 0 where
   pub requester : IsDeskOf Requester w.requester
   pub responder : IsDeskOf Responder w.responder
   pub counts : DesksCount w
-  pub each : (txn : Qualifiers) → Stands txn (project txn w)
+  pub each : (txn : Qualifiers) → Invariant txn (project txn w)
 
 -- ---- runs
 

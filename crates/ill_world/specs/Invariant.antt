@@ -99,7 +99,7 @@ pub record PartyStands (K : Side → List (Option Apdu) → Type 0) (p : Party) 
 
 -- ---- a world
 
-pub record Stands (txn : Qualifiers) (w : Parties) : Type 0 where
+pub record Invariant (txn : Qualifiers) (w : Parties) : Type 0 where
   pub requester : PartyStands (RequesterSideStands txn) w.requester w.responder.sent
   pub responder : PartyStands (ResponderSideStands txn) w.responder w.requester.sent
   pub due : KeepsDue (due_date_of w.requester.landed) (due_date_of w.requester.live)

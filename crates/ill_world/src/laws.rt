@@ -33,7 +33,7 @@ ghost use Rattle.ill_world.specs.Changes.{MayChange, OnlyLandedChanges, KeepsSen
 ghost use Rattle.ill_world.specs.Round.{round_of, CanAnswer, AreInStep, InStep, OutOfStep};
 ghost use Rattle.ill_world.specs.Night.{is_over, wants_sending, asks, night_of, AreAtRest, AreInStepOrAtRest, AtRest};
 ghost use Rattle.ill_world.specs.BadNights.{MisjudgesEnd, MisjudgesSending, MisjudgesAsking, Restless};
-ghost use Rattle.ill_world.specs.Invariant.{WasSent, RequesterStands, ResponderStands, Stands};
+ghost use Rattle.ill_world.specs.Invariant.{WasSent, RequesterStands, ResponderStands, Invariant};
 
 use ill_core::laws::{
     requester_answers_once, requester_follows, requester_has_heard, requester_is_quiet,
@@ -89,9 +89,9 @@ pub fn responder_stands()
 
 /// The world of two idle sides stands, and so does every world that an event leads to from one.
 pub fn world_stands()
-    ensures first { (txn : Qualifiers) → Stands txn (first_world txn) }
-    ensures after { (txn : Qualifiers) (w : Parties) (event : Event) → Stands txn w →
-        Stands txn (happens w event).1 }
+    ensures first { (txn : Qualifiers) → Invariant txn (first_world txn) }
+    ensures after { (txn : Qualifiers) (w : Parties) (event : Event) → Invariant txn w →
+        Invariant txn (happens w event).1 }
 {
     requester_stands();
     responder_stands();
@@ -102,22 +102,22 @@ pub fn world_stands()
 /// Where the world stands, a requester in CANCELLED or NOT-SUPPLIED faces a responder in the same
 /// state.
 pub fn ends_alike()
-    ensures { (txn : Qualifiers) (w : Parties) → Stands txn w → OfBoth EndsAlike w }
+    ensures { (txn : Qualifiers) (w : Parties) → Invariant txn w → OfBoth EndsAlike w }
 {}
 
 /// Where the world stands, a requester in SHIPPED or later faces a responder that has shipped.
 pub fn was_shipped()
-    ensures { (txn : Qualifiers) (w : Parties) → Stands txn w → OfBoth WasShipped w }
+    ensures { (txn : Qualifiers) (w : Parties) → Invariant txn w → OfBoth WasShipped w }
 {}
 
 /// Where the world stands, a requester's due date is one that the responder has granted.
 pub fn was_granted()
-    ensures { (txn : Qualifiers) (w : Parties) → Stands txn w → OfBoth WasGranted w }
+    ensures { (txn : Qualifiers) (w : Parties) → Invariant txn w → OfBoth WasGranted w }
 {}
 
 /// Where the world stands, both sides agree.
 pub fn sides_agree()
-    ensures { (txn : Qualifiers) (w : Parties) → Stands txn w → Agrees w }
+    ensures { (txn : Qualifiers) (w : Parties) → Invariant txn w → Agrees w }
 {}
 
 /// The world after any events is safe.
@@ -154,7 +154,7 @@ pub fn every_run_agrees()
 
 /// Where the world stands, one arrival of the end of a request, or of a Returned, is enough.
 pub fn one_arrival_is_enough()
-    ensures { (txn : Qualifiers) (w : Parties) (event : Event) → Stands txn w → Arrives w event }
+    ensures { (txn : Qualifiers) (w : Parties) (event : Event) → Invariant txn w → Arrives w event }
 {
     requester_follows();
     responder_follows();
@@ -163,7 +163,7 @@ pub fn one_arrival_is_enough()
 /// After a round both sides are in step, if the responder can answer a Conditional-Reply no: where the world stands,
 /// and so after any events of a run.
 pub fn one_round_is_enough()
-    ensures stands { (txn : Qualifiers) (w : Parties) → Stands txn w → CanAnswer w.responder.live →
+    ensures stands { (txn : Qualifiers) (w : Parties) → Invariant txn w → CanAnswer w.responder.live →
         AreInStep (run_of w (round_of w)) }
     ensures run { (txn : Qualifiers) (events : List Event) →
         CanAnswer (run_of (first_world txn) events).responder.live →
@@ -214,16 +214,16 @@ pub fn one_of_two_in_step_acts()
 /// Where the world stands, both sides are at rest if the loan is over for the requester: it is over for the responder
 /// too, and their states face each other.
 pub fn requester_is_over_last()
-    ensures { (txn : Qualifiers) (w : Parties) → Stands txn w → is_over w.requester.live ≡ true →
+    ensures { (txn : Qualifiers) (w : Parties) → Invariant txn w → is_over w.requester.live ≡ true →
         AreAtRest w }
 {}
 
 /// Where the world stands, a night is a round while the loan is not over for the requester. Then both sides save, and
 /// nothing is sent.
 pub fn nights_are_rounds()
-    ensures open { (txn : Qualifiers) (w : Parties) → Stands txn w → is_over w.requester.live ≡ false →
+    ensures open { (txn : Qualifiers) (w : Parties) → Invariant txn w → is_over w.requester.live ≡ false →
         night_of w ≡ round_of w }
-    ensures over { (txn : Qualifiers) (w : Parties) → Stands txn w → is_over w.requester.live ≡ true →
+    ensures over { (txn : Qualifiers) (w : Parties) → Invariant txn w → is_over w.requester.live ≡ true →
         night_of w ≡ Save Requester ∷ Save Responder ∷ [] }
 {
     world_stands();
@@ -233,7 +233,7 @@ pub fn nights_are_rounds()
 /// After a night both sides are in step or at rest, if the responder can answer a Conditional-Reply no: where the world
 /// stands, and so after any events of a run.
 pub fn one_night_is_enough()
-    ensures stands { (txn : Qualifiers) (w : Parties) → Stands txn w → CanAnswer w.responder.live →
+    ensures stands { (txn : Qualifiers) (w : Parties) → Invariant txn w → CanAnswer w.responder.live →
         AreInStepOrAtRest (run_of w (night_of w)) }
     ensures run { (txn : Qualifiers) (events : List Event) → let w = run_of (first_world txn) events in
         CanAnswer w.responder.live → AreInStepOrAtRest (run_of w (night_of w)) }
@@ -257,7 +257,7 @@ pub fn no_bad_night_passes()
 
 /// Where the world stands, an event keeps or raises the requester's due date.
 pub fn due_dates_stay()
-    ensures { (txn : Qualifiers) (w : Parties) (event : Event) → Stands txn w →
+    ensures { (txn : Qualifiers) (w : Parties) (event : Event) → Invariant txn w →
         KeepsDates w event (happens w event).1 }
 {
     requester_keeps_due();
@@ -326,7 +326,7 @@ pub fn few_outcomes_change()
 /// What was sent stays sent, with its number: where the world stands, at every event, and so for as long
 /// as a run goes on.
 pub fn sent_stays_sent()
-    ensures event { (txn : Qualifiers) (w : Parties) (event : Event) → Stands txn w →
+    ensures event { (txn : Qualifiers) (w : Parties) (event : Event) → Invariant txn w →
         KeepsSent w (happens w event).1 }
     ensures run { (txn : Qualifiers) (events more : List Event) →
         KeepsSent (run_of (first_world txn) events) (run_of (first_world txn) (events ++ more)) }

@@ -7,7 +7,7 @@ ghost use Rattle.ill_world.specs.World as model;
 ghost use Rattle.ill_world.specs.Trace.{line};
 ghost use Rattle.ill_world.specs.Safety.{IsSafeRun};
 ghost use Rattle.ill_world.specs.Agreement.{IsAgreeingRun, KeepsDates, Arrives};
-ghost use Rattle.ill_world.specs.Invariant.{Stands};
+ghost use Rattle.ill_world.specs.Invariant.{Invariant};
 ghost use Rattle.ill_world.specs.PartyView.{Gives};
 ghost use Rattle.ill_world.specs.Round.{passes_on, half_of, round_of, Performs, CanAnswer, AreInStep};
 ghost use Rattle.ill_world.specs.declared.event.Event.TheVariants.{Save};
@@ -40,7 +40,7 @@ impl Model for World {
     ghost view = { λ w. record { requester = w.requester; responder = w.responder } };
 
     ghost invariant = { λ w. (txn : Qualifiers) ×
-        Stands txn (record { requester = w.requester; responder = w.responder }) };
+        Invariant txn (record { requester = w.requester; responder = w.responder }) };
 }
 
 impl World {

@@ -29,7 +29,7 @@ use Rattle.ill_world.specs.declared.event.DeskOutcome.{DeskOutcome}
 use Rattle.ill_world.specs.declared.event.DeskOutcome.TheVariants.{Plain}
 use Rattle.ill_world.specs.World.{Party, nothing_sent, sent_message, with_sent, sends, sends_by, answer_to, receives, decides, saves, restarts, fails_to_save, happens_to, who_of, first_world}
 use Rattle.ill_world.specs.Desks.{Sending, DeskParty, txn_sent, sent_for, with_sent_for, plain, fault_seen, desk_decides, desk_saves, desk_fails_to_save, desk_sends, taking_seen, desk_receives, desk_restarts, desk_happens_to, first_desks, party_for, project, concerns, if_reached, IsSeenAs}
-use Rattle.ill_world.specs.DeskChanges.{Shows}
+use Rattle.ill_world.specs.DeskChanges.{ProjectsTo}
 use Rattle.ill_world.proofs.Parties.{RowsGrow}
 use Rattle.ill_world.proofs.Changes.{Quiet, quiet}
 
@@ -92,7 +92,7 @@ row_txn grows old new row =
     sym (idle_txn (role_of new) (txn_of new)) ∙ ap txn_of (grows old new row).0 ∙ idle_txn (role_of old) (txn_of old)
 
 -- what there is of a transaction is shown
-pub shows : (p : DeskParty) (txn : Qualifiers) → Shows p txn (party_for txn p)
+pub shows : (p : DeskParty) (txn : Qualifiers) → ProjectsTo p txn (party_for txn p)
 shows p txn = record {
   live = λ held found.
       let is = ap (found_or (idle_held p.live.role txn)) found in (ap (λ (h : Held). h.side) is, ap (λ (h : Held). h.released) is);

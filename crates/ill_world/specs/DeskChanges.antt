@@ -17,7 +17,7 @@ use Rattle.ill_world.specs.Changes.{MayChange, OnlyLandedChanges}
 use Rattle.ill_world.specs.Desks.{Sending, DeskParty, DeskParties, txn_sent, sent_for, desks_happen}
 
 -- What a desk holds of a transaction, what has landed of it and what was sent in it is what it shows of it.
-pub record Shows (p : DeskParty) (txn : Qualifiers) (shown : Party) : Type 0 where
+pub record ProjectsTo (p : DeskParty) (txn : Qualifiers) (shown : Party) : Type 0 where
   pub live : (held : Held) → found_by txn_held txn p.live.held ≡ Some held →
       (shown.live ≡ held.side) × (shown.released ≡ held.released)
   pub landed : (side : Side) → side_with txn p.landed.sides ≡ Some side → shown.landed ≡ side

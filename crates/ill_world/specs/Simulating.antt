@@ -73,18 +73,18 @@ ReadsLine old new bytes (Err other) = ⊥
 
 -- What was told of a line that says this: nothing has happened; or its event has, and its text was added; or
 -- the line is bad.
-abbrev pub Tells : {W E C : Type 0} → Play W E C → Line E → ℕ → W → List ℕ → Told → W → List ℕ → Type 0
-Tells play lines.Skipped number w shown told.Nothing new new_shown = new ≡ w
-Tells play (lines.Event event) number w shown told.Event new new_shown =
+abbrev pub PerformsOne : {W E C : Type 0} → Play W E C → Line E → ℕ → W → List ℕ → Told → W → List ℕ → Type 0
+PerformsOne play lines.Skipped number w shown told.Nothing new new_shown = new ≡ w
+PerformsOne play (lines.Event event) number w shown told.Event new new_shown =
     (new ≡ play.next w event) × (new_shown ≡ shown ++ play.text number w event)
-Tells play lines.Bad number w shown told.BadLine new new_shown = Unit {0}
-Tells play says number w shown told new new_shown = ⊥
+PerformsOne play lines.Bad number w shown told.BadLine new new_shown = Unit {0}
+PerformsOne play says number w shown told new new_shown = ⊥
 
 -- a line was told, unless memory ran out
 abbrev pub TellsLine : {W E C M : Type 0} → Play W E C → Line E × C → ℕ → W → List ℕ → Result Told M → W → C →
     List ℕ → Type 0
 TellsLine play says number w shown (Ok told) new carried new_shown =
-    Tells play says.0 number w shown told new new_shown × (carried ≡ says.1)
+    PerformsOne play says.0 number w shown told new new_shown × (carried ≡ says.1)
 TellsLine play says number w shown (Err memory) new carried new_shown = Unit {0}
 
 -- A line that says this was performed behind so many events, and its text written: whole, a front of it where

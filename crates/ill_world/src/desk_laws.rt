@@ -27,7 +27,7 @@ ghost use Rattle.ill_world.specs.Agreement.{Agrees, KeepsDates};
 ghost use Rattle.ill_world.specs.BadDesks.{Names, IsNotReached, MissesHeld, ChangesUnreached, ArrivesInVainAt};
 ghost use Rattle.ill_world.specs.BadTraces.{Leaves, IsOfNoFront};
 ghost use Rattle.ill_world.specs.Changes.{KeepsSent};
-ghost use Rattle.ill_world.specs.DeskChanges.{DeskMayChange, ReachesSide, Shows};
+ghost use Rattle.ill_world.specs.DeskChanges.{DeskMayChange, ReachesSide, ProjectsTo};
 ghost use Rattle.ill_world.specs.Round.{round_of, CanAnswer, AreInStep};
 ghost use Rattle.ill_world.specs.DeskRound.{desk_round_of};
 ghost use Rattle.ill_world.specs.Night.{night_of, AreInStepOrAtRest};
@@ -43,8 +43,8 @@ use ill_saved::laws::rows_grow;
 
 /// Two desks show of a transaction what they hold of it, what has landed and what was sent.
 pub fn desks_show_what_they_hold()
-    ensures { (txn : Qualifiers) (w : DeskParties) → Shows w.requester txn (project txn w).requester
-        × Shows w.responder txn (project txn w).responder }
+    ensures { (txn : Qualifiers) (w : DeskParties) → ProjectsTo w.requester txn (project txn w).requester
+        × ProjectsTo w.responder txn (project txn w).responder }
 {}
 
 /// Where two desks stand, an event is one event of a transaction, with the same outcome, or changes

@@ -16,7 +16,7 @@ use Rattle.ill_tool.specs.Keeping.{many_sides}
 use Rattle.ill_tool.specs.Performing.{View}
 use Rattle.ill_tool.specs.Output.{WritesText}
 use Rattle.ill_tool.specs.Actions.{action_named}
-use Rattle.ill_tool.specs.Show.{Shows}
+use Rattle.ill_tool.specs.Show.{RunsShow}
 use Rattle.ill_tool.specs.Check.{Checks}
 use Rattle.ill_tool.specs.Simulate.{Performs, PerformsDesks}
 use Rattle.ill_tool.specs.New.{RunsNew}
@@ -255,7 +255,7 @@ ReportsPaths today before after result =
 -- holds. A group is retired on a shelf alone.
 abbrev pub Runs : Asked → Option (List ℕ) → Option (List ℕ) → Option (List ℕ) → Option (List ℕ) →
     Result Bool ToolFault → Type 0
-Runs (asks.Show form) left rest before after result = GoesWell (Shows form left rest before after) result
+Runs (asks.Show form) left rest before after result = GoesWell (RunsShow form left rest before after) result
 Runs asks.Check left rest before after result = GoesWell (Checks left rest before after) result
 Runs (asks.Simulate group transaction) left rest before after result =
     GoesWell (Performs (txn_id_of group transaction) left rest before after) result

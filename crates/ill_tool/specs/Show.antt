@@ -19,6 +19,6 @@ shows form before apdu result after = WritesText before after (apdu_text form ap
 
 -- Showing, from what the reader had left to what it has left, and from what the writer held to what
 -- it holds.
-abbrev pub Shows : Form → Option (List ℕ) → Option (List ℕ) → Option (List ℕ) → Option (List ℕ) →
+abbrev pub RunsShow : Form → Option (List ℕ) → Option (List ℕ) → Option (List ℕ) → Option (List ℕ) →
     Result ℕ ToolFault → Type 0
-Shows form old new before after result = ReadsInput (shows form) old new before result after
+RunsShow form old new before after result = ReadsInput (shows form) old new before result after

@@ -73,6 +73,6 @@ Reports words (Err fault) now text result = (result ≡ Err fault) × (text ≡ 
 
 -- The words of an outcome were written, and whether all went well was answered; or a front of them, where
 -- the writer failed; or nothing, without memory for them.
-abbrev pub Tells : Words → Option (List ℕ) → Option (List ℕ) → DeskOutcome → Held → Result Bool ToolFault → Type 0
-Tells words before after outcome now result =
+abbrev pub WritesOutcome : Words → Option (List ℕ) → Option (List ℕ) → DeskOutcome → Held → Result Bool ToolFault → Type 0
+WritesOutcome words before after outcome now result =
     (text : List ℕ) × Appends before after text × Reports words (Ok outcome) now text result

@@ -3,7 +3,7 @@
 ghost use Rattle.std.specs.Prelude.{◌≡◌, ◌++◌, OnOk};
 ghost use Rattle.ill_tool.specs.declared.form.Form.TheVariants.{Lines};
 ghost use Rattle.ill_tool.specs.Objects.{apdu_text};
-ghost use Rattle.ill_tool.specs.Show.{form_of, shows, Shows};
+ghost use Rattle.ill_tool.specs.Show.{form_of, shows, RunsShow};
 
 use crate::fault::ToolFault;
 use crate::form::Form;
@@ -26,7 +26,7 @@ pub fn run_show<R: Read, W: Write>(
     reader: &mut R,
     writer: &mut W,
 ) -> Result<u32, ToolFault>
-    ensures { Shows Lines (R.remaining reader.old) (R.remaining reader.new)
+    ensures { RunsShow Lines (R.remaining reader.old) (R.remaining reader.new)
         (W.contents writer.old) (W.contents writer.new) result }
 {
     run_show_as(alloc, Form::Lines, reader, writer)
@@ -39,7 +39,7 @@ pub fn run_show_as<R: Read, W: Write>(
     reader: &mut R,
     writer: &mut W,
 ) -> Result<u32, ToolFault>
-    ensures { Shows form (R.remaining reader.old) (R.remaining reader.new)
+    ensures { RunsShow form (R.remaining reader.old) (R.remaining reader.new)
         (W.contents writer.old) (W.contents writer.new) result }
 {
     match form {
@@ -54,7 +54,7 @@ fn show<R: Read, W: Write, const JSON: bool>(
     reader: &mut R,
     writer: &mut W,
 ) -> Result<u32, ToolFault>
-    ensures { Shows (form_of JSON) (R.remaining reader.old) (R.remaining reader.new)
+    ensures { RunsShow (form_of JSON) (R.remaining reader.old) (R.remaining reader.new)
         (W.contents writer.old) (W.contents writer.new) result }
 {
     let lines = Vec::new(alloc);

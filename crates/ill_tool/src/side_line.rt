@@ -1,7 +1,7 @@
 //! The line of how a side stands, alone or with what a message was and said.
 
 ghost use Rattle.std.specs.Prelude.{◌≡◌, ◌++◌, true, OnOk};
-ghost use Rattle.ill_tool.specs.Telling.{as_told, done_line, held_text, is_fine, long, side_line, wording, Tells};
+ghost use Rattle.ill_tool.specs.Telling.{as_told, done_line, held_text, is_fine, long, side_line, wording, WritesOutcome};
 
 use crate::fault::ToolFault;
 use crate::keeper::Keeper;
@@ -23,7 +23,7 @@ pub(crate) fn report<K: Keeper, W: Write>(
     keeper: &K,
     key: &K::Key,
 ) -> Result<bool, ToolFault>
-    ensures { Tells side_line (W.contents writer.old) (W.contents writer.new) outcome
+    ensures { WritesOutcome side_line (W.contents writer.old) (W.contents writer.new) outcome
         (K.keeping.side_for key.now (K.live keeper.now)) result }
 {
     let mut line = Vec::new(alloc);
@@ -42,7 +42,7 @@ pub(crate) fn report_message<K: Keeper, W: Write, const LONG: bool>(
     keeper: &K,
     key: &K::Key,
 ) -> Result<bool, ToolFault>
-    ensures { Tells (wording LONG apdu.now) (W.contents writer.old) (W.contents writer.new) outcome
+    ensures { WritesOutcome (wording LONG apdu.now) (W.contents writer.old) (W.contents writer.new) outcome
         (K.keeping.side_for key.now (K.live keeper.now)) result }
 {
     let mut lines = Vec::new(alloc);

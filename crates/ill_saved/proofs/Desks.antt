@@ -45,7 +45,7 @@ use Rattle.ill_saved.specs.declared.store.StoreFault.{StoreFault}
 use Rattle.ill_saved.specs.declared.store.StoreFault.TheVariants as stores
 use Rattle.ill_saved.specs.declared.store.NextCall.{NextCall}
 use Rattle.ill_saved.specs.declared.store.NextCall.TheVariants as plans
-use Rattle.ill_saved.specs.Side.{issued_of, txn_of, is_idle, standing_of, back_to, is_asked, KeepsRequest, IsConsistent, idle_of, done_by, acts, takes, Acts, Takes, IsRow, IsFrontOf, Grows, acted, took, Follows, same, further}
+use Rattle.ill_saved.specs.Side.{issued_of, txn_of, is_idle, standing_of, back_to, is_asked, KeepsRequest, IsConsistent, idle_of, done_by, acts, takes, Acts, Takes, IsStep, IsFrontOf, Grows, acted, took, Follows, same, further}
 use Rattle.ill_saved.specs.Faults.{of_record}
 use Rattle.ill_saved.proofs.Records.{no_digest}
 use Rattle.ill_saved.specs.Records.{record_at, record_spelling, begins_as_record, Decodes}
@@ -137,7 +137,7 @@ takes_grow rows (sides.Responder y) a =
     responder_grows y new (rows.responder_txn y a) (unfilled_grows y new a (rows.responder_issues y a))
 
 -- A side grows by each row.
-pub row_grows : CoreRows → (old new : Side) → IsRow old new → Grows old new
+pub row_grows : CoreRows → (old new : Side) → IsStep old new → Grows old new
 row_grows rows old new (acted action e) = acts_grow rows old new action e
 row_grows rows old new (took a e) = subst (Grows old) e (takes_grow rows old a)
 
@@ -175,17 +175,17 @@ takes_keep_request rows (sides.Responder y) a = keeps_request y (responder_deliv
 takes_keep_request rows (sides.Requester x) a = never_asked x (takes (sides.Requester x) a).1
 
 -- Each row keeps the request.
-pub row_keeps_request : RequestRows → (old new : Side) → IsRow old new → KeepsRequest old new
+pub row_keeps_request : RequestRows → (old new : Side) → IsStep old new → KeepsRequest old new
 row_keeps_request rows old new (acted action e) = acts_keep_request rows old new action e
 row_keeps_request rows old new (took a e) = subst (KeepsRequest old) e (takes_keep_request rows old a)
 
 -- The law of rows: a side grows by each row.
 abbrev pub RowsGrow : Type 0
-RowsGrow = (old new : Side) → IsRow old new → Grows old new
+RowsGrow = (old new : Side) → IsStep old new → Grows old new
 
 -- The law of requests: each row keeps the request.
 abbrev pub RowsKeepRequest : Type 0
-RowsKeepRequest = (old new : Side) → IsRow old new → KeepsRequest old new
+RowsKeepRequest = (old new : Side) → IsStep old new → KeepsRequest old new
 
 -- The laws of ill_core on IDLE: no wish or deed leads to it, and no APDU leads a requester back.
 pub record BeginningRows : Type 0 where
@@ -211,7 +211,7 @@ takes_stay rows keeps (sides.Responder y) a begun =
     not_true _ (keeps (sides.Responder y) (takes (sides.Responder y) a).1 (took a refl) (ap not begun)).0
 
 -- A side that is not idle is not idle after a row.
-pub rows_stay : BeginningRows → RowsKeepRequest → (old new : Side) → IsRow old new → is_idle old ≡ false → is_idle new ≡ false
+pub rows_stay : BeginningRows → RowsKeepRequest → (old new : Side) → IsStep old new → is_idle old ≡ false → is_idle new ≡ false
 rows_stay rows keeps old new (acted action e) begun = acts_begin rows old new action e
 rows_stay rows keeps old new (took a e) begun = subst (λ side. is_idle side ≡ false) e (takes_stay rows keeps old a begun)
 
@@ -249,14 +249,14 @@ follows_issues grows old _ (further between new follows row) =
 -- ---- the landed side backs the live one after a row
 
 -- If the side that was read backs the live one, it backs the live one after a row.
-read_backs : (read : Result Side RecordFault) (old new : Side) (released : ℕ) → IsRow old new
+read_backs : (read : Result Side RecordFault) (old new : Side) (released : ℕ) → IsStep old new
     → IsBackedByRead read old released → IsBackedByRead read new released
 read_backs (Ok side) old new released row backed =
     record { consistent = backed.consistent; follows = further old new backed.follows row; has-released = backed.has-released }
 read_backs (Err fault) old new released row backed = backed
 
 -- If the landed side backs the live one, it backs the live one after a row.
-pub row_backs : RowsGrow → (landed : Option (List ℕ)) (old new : Side) (released : ℕ) → IsRow old new
+pub row_backs : RowsGrow → (landed : Option (List ℕ)) (old new : Side) (released : ℕ) → IsStep old new
     → IsBacked landed old released → IsBacked landed new released
 row_backs grows None old new released row backed =
     subst (λ side. IsBackedByRead (Ok side) new released) (sym (grows old new row).0) (read_backs (Ok (idle_of old)) old new released row backed)
@@ -330,7 +330,7 @@ Rules store kept live released = (released ≤ length (issued_of live)) × (stor
 
 -- The rules of a desk hold after a row.
 pub row_rules : RowsGrow → RowsKeepRequest → (store : StoreState) (kept : KeptBytes) (old new : Side) (released : ℕ)
-    → IsRow old new → Rules store kept old released → Rules store kept new released
+    → IsStep old new → Rules store kept old released → Rules store kept new released
 row_rules grows keeps store kept old new released row rules =
     let more = grows old new row in
     (omega (arith, rules.0, no_less _ _ more.1), λ is. row_backs grows store.landed old new released row (rules.1 is), keeps_on kept old new released rules.0 more (keeps old new row) rules.2)

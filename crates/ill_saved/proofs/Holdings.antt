@@ -30,7 +30,7 @@ use Rattle.ill_saved.specs.declared.side.Action.{Action}
 use Rattle.ill_saved.specs.declared.fault.DeskFault.{DeskFault}
 use Rattle.ill_saved.specs.declared.fault.DeskFault.TheVariants as faults
 use Rattle.ill_saved.specs.declared.fault.RecordFault.{RecordFault}
-use Rattle.ill_saved.specs.Side.{issued_of, txn_of, role_of, idle_side, is_idle, role_for, begins, IsConsistent, IsRow, acts, takes, takes_memory, Acts, Takes, Follows, same as follows_itself, further as one_further, IsFrontOf}
+use Rattle.ill_saved.specs.Side.{issued_of, txn_of, role_of, idle_side, is_idle, role_for, begins, IsConsistent, IsStep, acts, takes, takes_memory, Acts, Takes, Follows, same as follows_itself, further as one_further, IsFrontOf}
 use Rattle.ill_saved.specs.Faults.{of_core}
 use Rattle.ill_saved.specs.Ranges.{Each, IsSide}
 use Rattle.ill_saved.specs.Sides.{SidesOf, is_same_role, most_sides, found_by, put_by, side_with, put_refusal, put_last as put_side, OnlyThat}
@@ -217,7 +217,7 @@ pub idle_of_txn : (role : Role) (txn : Qualifiers) → txn_of (idle_side role tx
 idle_of_txn role txn = search rules
 
 -- If `landed` backs a side, it backs the side after a row.
-backed_on : (landed old new : Side) (released : ℕ) → IsRow old new → IsBackedBy landed old released
+backed_on : (landed old new : Side) (released : ℕ) → IsStep old new → IsBackedBy landed old released
     → IsBackedBy landed new released
 backed_on landed old new released row backed = record { consistent = backed.consistent; follows = one_further old new backed.follows row; has-released = backed.has-released }
 
@@ -231,7 +231,7 @@ found_backs landed idle new old found false backs backed = backed
 
 -- If landed sides back the desk's content, they back it after a row of one side.
 pub row_backs_held : (landed : SidesOf) (live : Holding) (held : Held) (new : Side)
-    → held_for (txn_of new) live ≡ held → IsRow held.side new → AreBackedBy landed live
+    → held_for (txn_of new) live ≡ held → IsStep held.side new → AreBackedBy landed live
     → AreBackedBy landed (with_held live (record { side = new; released = held.released }))
 row_backs_held landed live held new is row backed = record {
   role = backed.role;
@@ -248,7 +248,7 @@ row_backs_held landed live held new is row backed = record {
 
 -- If the sides that were read back the desk's content, they back it after a row of one side.
 pub row_backs_all : (landed : Result SidesOf RecordFault) (live : Holding) (held : Held) (new : Side)
-    → held_for (txn_of new) live ≡ held → IsRow held.side new → AreBackedByRead landed live
+    → held_for (txn_of new) live ≡ held → IsStep held.side new → AreBackedByRead landed live
     → AreBackedByRead landed (with_held live (record { side = new; released = held.released }))
 row_backs_all (Ok landed) live held new is row backed = row_backs_held landed live held new is row backed
 row_backs_all (Err fault) live held new is row backed = backed
@@ -392,7 +392,7 @@ unfolding side_with
 none_with live txn none = found_mapped txn_held txn_of side_of (λ held. refl) txn live.held ∙ ap (option_map side_of) none
 
 -- A side that has begun in a transaction that is not held.
-module _ (grows : RowsGrow) (live : Holding) (txn : Qualifiers) (none : found_by txn_held txn live.held ≡ None) (room : nat_lt (length live.held) most_sides ≡ true) (side : Side) (row : IsRow (idle_side live.role txn) side)
+module _ (grows : RowsGrow) (live : Holding) (txn : Qualifiers) (none : found_by txn_held txn live.held ≡ None) (room : nat_lt (length live.held) most_sides ≡ true) (side : Side) (row : IsStep (idle_side live.role txn) side)
     (begun : is_idle side ≡ false) where
   -- The new side is of `txn`.
   first_txn : txn_of side ≡ txn
@@ -409,8 +409,8 @@ module _ (grows : RowsGrow) (live : Holding) (txn : Qualifiers) (none : found_by
       (ap (λ t. side_with t (sides_held live).sides) first_txn ∙ none_with live txn none) (ap (λ n. nat_lt n most_sides) (length-map live.held side_of) ∙ room)
 
   -- The new side may be put, and a row led to it from the idle side of its transaction.
-  pub first_may : (put_refusal (sides_held live) side ≡ None) × IsRow (idle_side live.role (txn_of side)) side
-  first_may = (first_put, subst (λ t. IsRow (idle_side live.role t) side) (sym first_txn) row)
+  pub first_may : (put_refusal (sides_held live) side ≡ None) × IsStep (idle_side live.role (txn_of side)) side
+  first_may = (first_put, subst (λ t. IsStep (idle_side live.role t) side) (sym first_txn) row)
 
 -- If an idle side takes an ILL-Request, it is not idle after it.
 pub first_begins : ((y : ResponderRecord) (a : Apdu) → is_ill_request a.body ≡ true → (responder_takes y a).0 ≡ Ok Taken → is_among (Idle ∷ []) (responder_takes y a).1.state ≡ false)
@@ -437,12 +437,12 @@ module _ (role : Role) (sides : List Side) (counted : List ℕ) (as_many : lengt
       → (held : Held) × (found_by txn_held txn (held_of sides counted) ≡ Some held) × (held.side ≡ side)
   side_held txn side there = some_mapped _ side (sym there ∙ found_side txn sides counted as_many)
 
-  module _ (grows : RowsGrow) (txn : Qualifiers) {A : Type 0} (Does : Side → A → Side → Type 0) (rows : (old new : Side) (answer : A) → Does old answer new → IsRow old new ⊎ (new ≡ old)) where
+  module _ (grows : RowsGrow) (txn : Qualifiers) {A : Type 0} (Does : Side → A → Side → Type 0) (rows : (old new : Side) (answer : A) → Does old answer new → IsStep old new ⊎ (new ≡ old)) where
     -- A side that does something keeps its transaction.
     same_txn : (side after : Side) (answer : A) → Does side answer after → txn ≡ txn_of side → txn ≡ txn_of after
     same_txn side after answer does of = by (rows side after answer does)
       where
-        by : IsRow side after ⊎ (after ≡ side) → txn ≡ txn_of after
+        by : IsStep side after ⊎ (after ≡ side) → txn ≡ txn_of after
         by (inl row) = of ∙ sym (idle_txn side) ∙ ap txn_of (sym (grows side after row).0) ∙ idle_txn after
         by (inr same) = of ∙ ap txn_of (sym same)
 
@@ -467,7 +467,7 @@ module _ (role : Role) (sides : List Side) (counted : List ℕ) (as_many : lengt
         → AreBackedByRead landed (with_held held_so (record { side = after; released = held.released }))
     changed_backs landed held after answer found does of backed = by (rows held.side after answer does)
       where
-        by : IsRow held.side after ⊎ (after ≡ held.side) → AreBackedByRead landed (with_held held_so (record { side = after; released = held.released }))
+        by : IsStep held.side after ⊎ (after ≡ held.side) → AreBackedByRead landed (with_held held_so (record { side = after; released = held.released }))
         by (inl row) = row_backs_all landed held_so held after (ap (λ t. held_for t held_so) (sym of) ∙ ap (found_or (idle_held role txn)) found) row backed
         by (inr same) = subst (AreBackedByRead landed) (sym (unchanged held_so held txn after found same)) backed
 
@@ -521,7 +521,7 @@ module _ (role : Role) (sides : List Side) (counted : List ℕ) (as_many : lengt
 
   -- If the landed bytes back the desk's content, they back it with a side that began by a row.
   pub more_backed : RowsGrow → (landed : Option (List ℕ)) (new : SidesOf)
-      → new ≡ put_side (record { role = role; sides = sides }) side → IsRow (idle_side role (txn_of side)) side
+      → new ≡ put_side (record { role = role; sides = sides }) side → IsStep (idle_side role (txn_of side)) side
       → AreBacked landed (held_so role sides counted as_many)
       → AreBacked landed (record { role = new.role; held = held_of new.sides (counted ++ 0 ∷ []) })
   more_backed grows landed new put row backed =
@@ -530,7 +530,7 @@ module _ (role : Role) (sides : List Side) (counted : List ℕ) (as_many : lengt
 
   -- If some sides back the desk's content, they back it with a side that began by a row.
   pub more_backable : RowsGrow → (new : SidesOf) → new ≡ put_side (record { role = role; sides = sides }) side
-      → IsRow (idle_side role (txn_of side)) side
+      → IsStep (idle_side role (txn_of side)) side
       → AreBackable (held_so role sides counted as_many)
       → AreBackable (record { role = new.role; held = held_of new.sides (counted ++ 0 ∷ []) })
   more_backable grows new put row backed = (

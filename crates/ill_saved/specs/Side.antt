@@ -186,14 +186,14 @@ Takes old a (Err refusals.OutOfMemory) new = WantsMemoryFor old a new
 Takes old a answer new = takes old a ≡ (answer, new)
 
 -- One row leads from the old side to the new one: an action that is done, or an APDU.
-pub data IsRow (old new : Side) : Type 0 where
-  acted : (action : Action) → acts old action ≡ Ok new → IsRow old new
-  took : (a : Apdu) → (takes old a).1 ≡ new → IsRow old new
+pub data IsStep (old new : Side) : Type 0 where
+  acted : (action : Action) → acts old action ≡ Ok new → IsStep old new
+  took : (a : Apdu) → (takes old a).1 ≡ new → IsStep old new
 
 -- Any number of rows, one after another, lead from the old side to the new one.
 pub data Follows (old : Side) : Side → Type 0 where
   same : Follows old old
-  further : (between new : Side) → Follows old between → IsRow between new → Follows old new
+  further : (between new : Side) → Follows old between → IsStep between new → Follows old new
 
 -- List `front` is a prefix of list `apdus`.
 abbrev pub IsFrontOf : List Apdu → List Apdu → Type 0

@@ -6,7 +6,7 @@ ghost use Rattle.ill_values.specs.declared.apdu.Apdu.{Apdu};
 ghost use Rattle.ill_core.specs.declared.refusal.Refusal.{Refusal};
 ghost use Rattle.ill_saved.specs.declared.side.Side.{Side};
 ghost use Rattle.ill_saved.specs.declared.side.Action.{Action};
-ghost use Rattle.ill_saved.specs.Side.{issued_of, is_idle, acts, takes, IsRow, Grows, KeepsRequest, Follows, IsFrontOf};
+ghost use Rattle.ill_saved.specs.Side.{issued_of, is_idle, acts, takes, IsStep, Grows, KeepsRequest, Follows, IsFrontOf};
 ghost use Rattle.ill_saved.specs.Records.{side_spelled, record_at, record_spelling};
 ghost use Rattle.ill_saved.specs.Records2.{sides_spelling, is_version_1, records_at, AreSides};
 ghost use Rattle.ill_saved.specs.Ranges.{IsInRange, IsSide};
@@ -89,7 +89,7 @@ pub fn one_sides()
 
 /// An action or a message keeps the role and the transaction, and takes no message away.
 pub fn rows_grow()
-    ensures { (old new : Side) → IsRow old new → Grows old new }
+    ensures { (old new : Side) → IsStep old new → Grows old new }
 {
     ill_core::laws::requester_issues();
     ill_core::laws::requester_keeps_txn();
@@ -99,7 +99,7 @@ pub fn rows_grow()
 
 /// An action or a message keeps the request of a responder that was asked, and leaves it asked.
 pub fn rows_keep_request()
-    ensures { (old new : Side) → IsRow old new → KeepsRequest old new }
+    ensures { (old new : Side) → IsStep old new → KeepsRequest old new }
 {
     ill_core::laws::responder_keeps_request();
 }
@@ -107,7 +107,7 @@ pub fn rows_keep_request()
 /// No side is idle after an action. A side that is not idle is not idle after a message.
 pub fn rows_begin()
     ensures acts { (old new : Side) (action : Action) → acts old action ≡ Ok new → is_idle new ≡ false }
-    ensures stays { (old new : Side) → IsRow old new → is_idle old ≡ false → is_idle new ≡ false }
+    ensures stays { (old new : Side) → IsStep old new → is_idle old ≡ false → is_idle new ≡ false }
 {
     ill_core::laws::requester_has_begun();
     ill_core::laws::responder_has_begun();

@@ -4,7 +4,7 @@ ghost use Rattle.std.specs.Prelude.{◌≡◌, ◌≤◌, true, false, [], None,
 ghost use Rattle.ill_der.specs.ShortForm.{apdu_at};
 ghost use Rattle.ill_core.specs.Bodies.{is_ill_request};
 ghost use Rattle.ill_saved.specs.declared.fault.DeskFault.TheVariants as desks;
-ghost use Rattle.ill_saved.specs.Side.{issued_of, txn_of, idle_side, role_for, begins, IsConsistent, IsRow};
+ghost use Rattle.ill_saved.specs.Side.{issued_of, txn_of, idle_side, role_for, begins, IsConsistent, IsStep};
 ghost use Rattle.ill_saved.specs.Ranges.{Each};
 ghost use Rattle.ill_saved.specs.Sides.{SidesOf, is_same_role, put_refusal, most_sides, found_by};
 ghost use Rattle.ill_saved.specs.Records2.{sides_spelling, records_at, begins_as_records};
@@ -189,7 +189,7 @@ impl<S: Store> Desk<S> {
     /// Holds a side that has begun, with none of its messages released. It is the last change.
     fn hold(&mut self, alloc: Global, side: Side) -> Result<(), DeskFault>
         requires may { put_refusal (sides_held self.old.live) side ≡ None }
-        requires row { IsRow (idle_side self.old.live.role (txn_of side)) side }
+        requires row { IsStep (idle_side self.old.live.role (txn_of side)) side }
         ensures held { OnOk result (self.new.live ≡ with_held self.old.live (record { side = side; released = 0 })) }
         ensures fault { IfErr result (λ fault. (fault ≡ desks.OutOfMemory) × (self.new.live ≡ self.old.live)) }
         ensures store { self.new.store ≡ self.old.store }

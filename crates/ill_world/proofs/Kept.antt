@@ -6,7 +6,7 @@ use Rattle.ill_core.specs.Issued.{message}
 use Rattle.ill_saved.specs.declared.side.Side.{Side}
 use Rattle.ill_saved.specs.declared.side.Action.{Action}
 use Rattle.ill_saved.specs.declared.side.Action.TheVariants as actions
-use Rattle.ill_saved.specs.Side.{issued_of, acts, takes, IsRow, Grows, acted, took}
+use Rattle.ill_saved.specs.Side.{issued_of, acts, takes, IsStep, Grows, acted, took}
 use Rattle.ill_world.specs.declared.event.Event.{Event}
 use Rattle.ill_world.specs.declared.event.Event.TheVariants as events
 use Rattle.ill_world.specs.World.{Party, sent_message, decides, sends, receives, happens_to}
@@ -17,7 +17,7 @@ use Rattle.ill_world.proofs.Sendings.{live_grows, saved_now, saved_by_fault, sav
 
 -- a row takes no message away
 abbrev pub RowsGrow : Type 0
-RowsGrow = (old new : Side) → IsRow old new → Grows old new
+RowsGrow = (old new : Side) → IsStep old new → Grows old new
 
 -- An action keeps K, and so does a message that was sent, and whatever is sent further.
 pub record Keeps (K : Side → List (Option Apdu) → Type 0) : Type 0 where

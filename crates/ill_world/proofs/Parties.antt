@@ -7,12 +7,12 @@ use Rattle.ill_core.specs.declared.taking.Taking.{Taking}
 use Rattle.ill_saved.specs.declared.side.Side.{Side}
 use Rattle.ill_saved.specs.declared.fault.DeskFault.{DeskFault}
 use Rattle.ill_saved.specs.declared.fault.DeskFault.TheVariants as faults
-use Rattle.ill_saved.specs.Side.{idle_of, takes, IsRow, Grows, took}
+use Rattle.ill_saved.specs.Side.{idle_of, takes, IsStep, Grows, took}
 use Rattle.ill_saved.specs.Desk.{DeskTakes}
 
 -- a row keeps the role and the transaction, and takes no message away
 abbrev pub RowsGrow : Type 0
-RowsGrow = (old new : Side) → IsRow old new → Grows old new
+RowsGrow = (old new : Side) → IsStep old new → Grows old new
 
 -- what a desk answers to exactly one APDU, and the side after it
 pub takes_one : (old new : Side) (read : Result (Apdu × List ℕ) DerFault) (a : Apdu) (answer : Result Taking DeskFault) → read ≡ Ok (a, []) → DeskTakes old read answer new

@@ -17,7 +17,7 @@ use Rattle.ill_saved.specs.declared.side.Side.{Side}
 use Rattle.ill_saved.specs.declared.side.Side.TheVariants as sides
 use Rattle.ill_saved.specs.declared.side.Action.{Action}
 use Rattle.ill_saved.specs.declared.side.Action.TheVariants as actions
-use Rattle.ill_saved.specs.Side.{issued_of, txn_of, role_of, idle_side, acts, takes, acted, took, IsRow, role_for, begins}
+use Rattle.ill_saved.specs.Side.{issued_of, txn_of, role_of, idle_side, acts, takes, acted, took, IsStep, role_for, begins}
 use Rattle.ill_saved.specs.Sides.{SidesOf, is_same_role, most_sides, side_with}
 use Rattle.ill_saved.specs.Many.{Held, Holding, found_by, txn_held, idle_held, whole, found_or, held_for, with_held, side_for, sides_held, whole_of, is_own, held_or_begun, reached, acted as acted_at, acts_reached, desk_acts, took as took_at, takes_reached}
 use Rattle.ill_saved.proofs.Finding.{same_is, same_self, found_is, found_put, found_mapped, side_of_held}
@@ -87,7 +87,7 @@ found_txn role txn held None e = idle_txn role txn
 pub held_txn : (txn : Qualifiers) (live : Holding) → txn_held (held_for txn live) ≡ txn
 held_txn txn live = found_txn live.role txn live.held (found_by txn_held txn live.held) refl
 
-pub row_txn : RowsGrow → (old new : Side) → IsRow old new → txn_of new ≡ txn_of old
+pub row_txn : RowsGrow → (old new : Side) → IsStep old new → txn_of new ≡ txn_of old
 row_txn grows old new row =
     sym (idle_txn (role_of new) (txn_of new)) ∙ ap txn_of (grows old new row).0 ∙ idle_txn (role_of old) (txn_of old)
 

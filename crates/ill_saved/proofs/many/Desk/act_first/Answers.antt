@@ -1,6 +1,6 @@
 -- Answers the contract of `Desk::act_first` (`src/many.rt`).
 use Rattle.std.proofs.Common.{rules, ◌≡◌, true, None, Ok, length, nat_lt}
-use Rattle.ill_saved.specs.Side.{acted, acts, txn_of, idle_side, IsRow}
+use Rattle.ill_saved.specs.Side.{acted, acts, txn_of, idle_side, IsStep}
 use Rattle.ill_saved.specs.Sides.{most_sides, put_refusal}
 use Rattle.ill_saved.specs.Many.{sides_held}
 use Rattle.ill_saved.proofs.Holdings.{first_may}
@@ -10,7 +10,7 @@ use Rattle.ill_saved.proofs.many.Desk.act_first.Goals as goal
 
 -- The side that has begun may be put. A row led to it from the idle side of its transaction.
 may : (g : Over) (c : In_ok-side g)
-    → (put_refusal (sides_held c.args.self.now.live) c.in_ok-side.side ≡ None) × IsRow (idle_side c.args.self.now.live.role (txn_of c.in_ok-side.side)) c.in_ok-side.side
+    → (put_refusal (sides_held c.args.self.now.live) c.in_ok-side.side ≡ None) × IsStep (idle_side c.args.self.now.live.role (txn_of c.in_ok-side.side)) c.in_ok-side.side
 may g c =
     let live = c.args.self.now.live in
     let room : nat_lt (length live.held) most_sides ≡ true = search rules in

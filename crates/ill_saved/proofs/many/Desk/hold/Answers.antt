@@ -1,6 +1,6 @@
 -- Answers the contract of `Desk::hold` (`src/many.rt`).
 use Rattle.std.proofs.Common.{rules, ◌≡◌, true, ℕ, List, ◌++◌, ◌+◌, ◌∷◌, [], length, None, length-append, ap, sym, subst, ◌∙◌}
-use Rattle.ill_saved.specs.Side.{txn_of, idle_side, IsRow}
+use Rattle.ill_saved.specs.Side.{txn_of, idle_side, IsStep}
 use Rattle.ill_saved.specs.Sides.{SidesOf, put_refusal, put_last}
 use Rattle.ill_saved.specs.Many.{sides_held, with_held, AreBacked, AreBackable, held_of}
 use Rattle.ill_saved.proofs.Holdings.{as_seen, held_more, more_backed, more_backable}
@@ -14,7 +14,7 @@ invariant_of-self-in-Ok g c =
     let seen : all ≡ sides_held c.args.self.now.live = as_seen all counted c.self.inside.store c.args.self.now c.self.invariant.0 c.self.view_is in
     let may : put_refusal all c.args.side ≡ None = ap (λ held. put_refusal held c.args.side) seen ∙ c.requires.may in
     let role = ap (λ desk. desk.live.role) c.self.view_is in
-    let row : IsRow (idle_side all.role (txn_of c.args.side)) c.args.side = subst (λ r. IsRow (idle_side r (txn_of c.args.side)) c.args.side) (sym role) c.requires.row in
+    let row : IsStep (idle_side all.role (txn_of c.args.side)) c.args.side = subst (λ r. IsStep (idle_side r (txn_of c.args.side)) c.args.side) (sym role) c.requires.row in
     let put : c.put.new.self ≡ put_last all c.args.side = search rules in
     let pushed : c.push.new.self.items ≡ counted ++ 0 ∷ [] = search rules in (
       ap length pushed ∙ length-append counted (0 ∷ []) ∙ ap (λ n. n + 1) c.self.invariant.0 ∙ sym (length-append all.sides (c.args.side ∷ [])) ∙ ap (λ held. length held.sides) (sym put),

@@ -45,7 +45,7 @@ use Rattle.ill_saved.specs.declared.store.StoreFault.{StoreFault}
 use Rattle.ill_saved.specs.declared.store.StoreFault.TheVariants as stores
 use Rattle.ill_saved.specs.declared.store.NextCall.{NextCall}
 use Rattle.ill_saved.specs.declared.store.NextCall.TheVariants as plans
-use Rattle.ill_saved.specs.Side.{issued_of, txn_of, is_idle, standing_of, back_to, is_asked, KeepsRequest, IsConsistent, idle_of, done_by, acts, takes, Acts, Takes, IsStep, IsFrontOf, Grows, acted, took, Follows, same, further}
+use Rattle.ill_saved.specs.Side.{issued_of, txn_of, is_idle, standing_of, back_to, is_asked, KeepsRequest, IsConsistent, idle_of, done_by, acts, takes, Acts, Takes, IsStep, IsPrefix, Grows, acted, took, Follows, same, further}
 use Rattle.ill_saved.specs.Faults.{of_record}
 use Rattle.ill_saved.proofs.Records.{no_digest}
 use Rattle.ill_saved.specs.Records.{record_at, record_spelling, begins_as_record, Decodes}
@@ -69,15 +69,15 @@ pub record CoreRows : Type 0 where
   pub responder_issues : (y : ResponderRecord) (a : Apdu) → IssuesUnfilled y a.body (responder_deliveries.takes y a).1
 
 -- A list is a prefix of itself with one more APDU.
-one_more : (apdus : List Apdu) (a : Apdu) → IsFrontOf apdus (apdus ++ a ∷ [])
+one_more : (apdus : List Apdu) (a : Apdu) → IsPrefix apdus (apdus ++ a ∷ [])
 one_more apdus a = (a ∷ [], refl)
 
 -- A list is a prefix of an equal one.
-none_more : (old new : List Apdu) → new ≡ old → IsFrontOf old new
+none_more : (old new : List Apdu) → new ≡ old → IsPrefix old new
 none_more old new e = ([], e ∙ sym (append-nil old))
 
 -- A list has no more APDUs than a list of which it is a prefix.
-pub no_less : (old new : List Apdu) → IsFrontOf old new → length old ≤ length new
+pub no_less : (old new : List Apdu) → IsPrefix old new → length old ≤ length new
 no_less old new front = omega (arith, ap length front.1 ∙ length-append old front.0)
 
 -- If the side of a result is `new`, the result is a record, and `new` is its side.
@@ -87,18 +87,18 @@ done_is make (Ok made) new e = (made, refl, search rules)
 done_is make (Err refusal) new e = search rules
 
 -- If a requester keeps its transaction and issues no less, its side grows.
-requester_grows : (x made : RequesterRecord) → made.txn ≡ x.txn → IsFrontOf x.issued made.issued
+requester_grows : (x made : RequesterRecord) → made.txn ≡ x.txn → IsPrefix x.issued made.issued
     → Grows (sides.Requester x) (sides.Requester made)
 requester_grows x made txn more = (ap (λ t. idle_of (sides.Requester (record x { txn = t }))) txn, more)
 
 -- If a responder keeps its transaction and issues no less, its side grows.
-responder_grows : (y made : ResponderRecord) → made.txn ≡ y.txn → IsFrontOf y.issued made.issued
+responder_grows : (y made : ResponderRecord) → made.txn ≡ y.txn → IsPrefix y.issued made.issued
     → Grows (sides.Responder y) (sides.Responder made)
 responder_grows y made txn more = (ap (λ t. idle_of (sides.Responder (record y { txn = t }))) txn, more)
 
 -- If one more APDU is issued, the old list is a prefix of the new one.
-issues_more : (txn : Qualifiers) (old new : List Apdu) → IssuesNext txn old new → IsFrontOf old new
-issues_more txn old new more = subst (IsFrontOf old) (sym more.1) (one_more old _)
+issues_more : (txn : Qualifiers) (old new : List Apdu) → IssuesNext txn old new → IsPrefix old new
+issues_more txn old new more = subst (IsPrefix old) (sym more.1) (one_more old _)
 
 -- A requester grows by a wish.
 wish_grows : CoreRows → (x made : RequesterRecord) (wish : Wish) → requester_actions.acts x wish ≡ Ok made
@@ -123,9 +123,9 @@ acts_grow rows (sides.Requester x) new (actions.Deed deed today) e = search rule
 acts_grow rows (sides.Responder y) new (actions.Wish wish) e = search rules
 
 -- A responder that issues nothing, or one ILL-Answer unfilled, keeps its old list as a prefix.
-unfilled_grows : (y new : ResponderRecord) (a : Apdu) → IssuesUnfilled y a.body new → IsFrontOf y.issued new.issued
+unfilled_grows : (y new : ResponderRecord) (a : Apdu) → IssuesUnfilled y a.body new → IsPrefix y.issued new.issued
 unfilled_grows y new a (inl none) = none_more y.issued new.issued none
-unfilled_grows y new a (inr more) = subst (IsFrontOf y.issued) (sym more.1) (one_more y.issued _)
+unfilled_grows y new a (inr more) = subst (IsPrefix y.issued) (sym more.1) (one_more y.issued _)
 
 -- A side grows by each APDU.
 takes_grow : CoreRows → (old : Side) (a : Apdu) → Grows old (takes old a).1
@@ -237,11 +237,11 @@ refusals_stay requester responder (sides.Responder y) a refusal e = elim (respon
 ]
 
 -- A prefix of a prefix is a prefix.
-front_of_front : (old between new : List Apdu) → IsFrontOf old between → IsFrontOf between new → IsFrontOf old new
+front_of_front : (old between new : List Apdu) → IsPrefix old between → IsPrefix between new → IsPrefix old new
 front_of_front old between new before after = (before.0 ++ after.0, after.1 ∙ (ap (λ l. l ++ after.0) before.1 ∙ append_assoc old before.0 after.0))
 
 -- If a side follows from another by rows, it has issued all that the other has, as a prefix.
-pub follows_issues : RowsGrow → (old new : Side) → Follows old new → IsFrontOf (issued_of old) (issued_of new)
+pub follows_issues : RowsGrow → (old new : Side) → Follows old new → IsPrefix (issued_of old) (issued_of new)
 follows_issues grows old _ same = none_more (issued_of old) (issued_of old) refl
 follows_issues grows old _ (further between new follows row) =
     front_of_front (issued_of old) (issued_of between) (issued_of new) (follows_issues grows old between follows) (grows between new row).1
@@ -264,7 +264,7 @@ row_backs grows (Some bytes) old new released row backed = read_backs (landed_si
 
 -- If a requester keeps its transaction and its first `count` messages, it goes back to the record of before.
 requester_back : (s : RequesterStanding) (count : ℕ) (x new : RequesterRecord) → new.txn ≡ x.txn
-    → IsFrontOf x.issued new.issued → count ≤ length x.issued
+    → IsPrefix x.issued new.issued → count ≤ length x.issued
     → requesters.back_to s count new ≡ requesters.back_to s count x
 requester_back s count x new txn more few =
     let issued : take count new.issued ≡ take count x.issued = ap (take count) more.1 ∙ take-append-le count x.issued more.0 few in
@@ -278,7 +278,7 @@ request_stays false old new stays = stays refl
 
 -- If a responder keeps its transaction, its first `count` messages and its request, it goes back as before.
 responder_back : (s : ResponderStanding) (count : ℕ) (y new : ResponderRecord) → new.txn ≡ y.txn
-    → IsFrontOf y.issued new.issued → count ≤ length y.issued
+    → IsPrefix y.issued new.issued → count ≤ length y.issued
     → (is_among (Idle ∷ []) s.state ≡ false → new.request ≡ y.request)
     → responders.back_to s count new ≡ responders.back_to s count y
 responder_back s count y new txn more few stays =

@@ -30,7 +30,7 @@ use Rattle.ill_saved.specs.declared.side.Action.{Action}
 use Rattle.ill_saved.specs.declared.fault.DeskFault.{DeskFault}
 use Rattle.ill_saved.specs.declared.fault.DeskFault.TheVariants as faults
 use Rattle.ill_saved.specs.declared.fault.RecordFault.{RecordFault}
-use Rattle.ill_saved.specs.Side.{issued_of, txn_of, role_of, idle_side, is_idle, role_for, begins, IsConsistent, IsStep, acts, takes, takes_memory, Acts, Takes, Follows, same as follows_itself, further as one_further, IsFrontOf}
+use Rattle.ill_saved.specs.Side.{issued_of, txn_of, role_of, idle_side, is_idle, role_for, begins, IsConsistent, IsStep, acts, takes, takes_memory, Acts, Takes, Follows, same as follows_itself, further as one_further, IsPrefix}
 use Rattle.ill_saved.specs.Faults.{of_core}
 use Rattle.ill_saved.specs.Ranges.{Each, IsSide}
 use Rattle.ill_saved.specs.Sides.{SidesOf, is_same_role, most_sides, found_by, put_by, side_with, put_refusal, put_last as put_side, OnlyThat}
@@ -601,7 +601,7 @@ pub whole_backable : (all : SidesOf) (counted : List ℕ) → Each IsConsistent 
 whole_backable all counted each whole = (all, subst (AreBackedBy all) (sym (whole_held all counted whole)) (whole_backed all each))
 
 -- If some sides back the desk's content, no more messages are released than issued.
-pub few_released : ((old new : Side) → Follows old new → IsFrontOf (issued_of old) (issued_of new))
+pub few_released : ((old new : Side) → Follows old new → IsPrefix (issued_of old) (issued_of new))
     → (live : Holding) (txn : Qualifiers) → AreBackable live
     → (held_for txn live).released ≤ length (issued_of (held_for txn live).side)
 few_released follows live txn backed =
@@ -643,7 +643,7 @@ saved_backed again landed all counted are lands whole = read_backed landed all c
 
 -- The law of rows: a side that follows by rows has issued all that the other has, as a prefix.
 abbrev FollowsIssues : Type 0
-FollowsIssues = (old new : Side) → Follows old new → IsFrontOf (issued_of old) (issued_of new)
+FollowsIssues = (old new : Side) → Follows old new → IsPrefix (issued_of old) (issued_of new)
 
 module _ (follows : FollowsIssues) (all : SidesOf) (counted : List ℕ) (as_many : length counted ≡ length all.sides) (each : Each IsConsistent all.sides) where
   -- If a found side is consistent, so is the side found, or else the idle one.

@@ -7,7 +7,7 @@ use Rattle.ill_saved.specs.declared.kept.Place.{Place}
 use Rattle.ill_saved.specs.Layout.{spell_all}
 use Rattle.ill_saved.specs.Records.{record_spelling}
 use Rattle.ill_saved.specs.Ranges.{IsSide}
-use Rattle.ill_saved.specs.Side.{issued_of, standing_of, back_to, is_asked, IsFrontOf}
+use Rattle.ill_saved.specs.Side.{issued_of, standing_of, back_to, is_asked, IsPrefix}
 
 -- The kept bytes: the standing of the side, its record, the part with its messages, and each message.
 pub record KeptBytes : Type 0 where
@@ -36,7 +36,7 @@ IsKept kept side = IsSide side × (kept ≡ kept_of side)
 -- `side` has issued just the released messages, and they are a prefix of the live side's.
 -- The live side can go back to `side`. If `side` was asked, so was the live one.
 pub record IsReleased (live : Side) (released : ℕ) (side : Side) : Type 0 where
-  pub front : IsFrontOf (issued_of side) (issued_of live)
+  pub front : IsPrefix (issued_of side) (issued_of live)
   pub all : released ≡ length (issued_of side)
   pub back : back_to (standing_of side) released live ≡ Some side
   pub asked : is_asked side ≡ true → is_asked live ≡ true

@@ -195,10 +195,10 @@ pub data Follows (old : Side) : Side → Type 0 where
   same : Follows old old
   further : (between new : Side) → Follows old between → IsStep between new → Follows old new
 
--- List `front` is a prefix of list `apdus`.
-abbrev pub IsFrontOf : List Apdu → List Apdu → Type 0
-IsFrontOf front apdus = (more : List Apdu) × (apdus ≡ front ++ more)
+-- The list `prefix` is a prefix of `all`.
+abbrev pub IsPrefix : {X : Type 0} → List X → List X → Type 0
+IsPrefix prefix all = (more : List _) × (all ≡ prefix ++ more)
 
 -- The new side keeps the role and the transaction. The messages of the old one are a prefix of its own.
 abbrev pub Grows : Side → Side → Type 0
-Grows old new = (idle_of new ≡ idle_of old) × IsFrontOf (issued_of old) (issued_of new)
+Grows old new = (idle_of new ≡ idle_of old) × IsPrefix (issued_of old) (issued_of new)

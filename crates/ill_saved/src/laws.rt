@@ -6,7 +6,7 @@ ghost use Rattle.ill_values.specs.declared.apdu.Apdu.{Apdu};
 ghost use Rattle.ill_core.specs.declared.refusal.Refusal.{Refusal};
 ghost use Rattle.ill_saved.specs.declared.side.Side.{Side};
 ghost use Rattle.ill_saved.specs.declared.side.Action.{Action};
-ghost use Rattle.ill_saved.specs.Side.{issued_of, is_idle, acts, takes, IsStep, Grows, KeepsRequest, Follows, IsFrontOf};
+ghost use Rattle.ill_saved.specs.Side.{issued_of, is_idle, acts, takes, IsStep, Grows, KeepsRequest, Follows, IsPrefix};
 ghost use Rattle.ill_saved.specs.Records.{side_spelled, record_at, record_spelling};
 ghost use Rattle.ill_saved.specs.Records2.{sides_spelling, is_version_1, records_at, AreSides};
 ghost use Rattle.ill_saved.specs.Ranges.{IsInRange, IsSide};
@@ -125,7 +125,7 @@ pub fn refusals_stay()
 
 /// A side that follows from another by rows has issued all that the other has, as a prefix.
 pub fn follows_issues()
-    ensures { (old new : Side) → Follows old new → IsFrontOf (issued_of old) (issued_of new) }
+    ensures { (old new : Side) → Follows old new → IsPrefix (issued_of old) (issued_of new) }
 {
     rows_grow();
 }

@@ -1,10 +1,10 @@
 -- The trace of a run of two desks.
 use Rattle.std.proofs.Common.{arith, ◌≡◌, ◌+◌, List, [], ◌∷◌, ◌++◌, length, refl, sym, ap, ◌∙◌}
+use Rattle.ill_saved.specs.Side.{IsPrefix}
 use Rattle.ill_world.specs.World.{run_by}
 use Rattle.ill_world.specs.Desks.{DeskParties, first_desks, desks_happen, desks_run}
 use Rattle.ill_world.specs.DeskScript.{EventIn}
 use Rattle.ill_world.specs.DeskSimulation.{two_desks, desk_events, desk_trace_of, desk_line_behind}
-use Rattle.ill_world.specs.Play.{IsFront}
 use Rattle.ill_world.specs.Trace.{desk_line}
 use Rattle.ill_world.proofs.Simulations.{run_more, trace_line, trace_front}
 
@@ -28,5 +28,5 @@ desks_line events event =
     ∙ ap (desk_line (length events + 1) event.txn (desks_happen after event.event).0) (sym (run_more two_desks run_in run_in_none run_in_next first_desks events event)) in
     trace_line two_desks run_in run_in_none run_in_next 1 first_desks events event ∙ ap (λ t. desk_trace_of events ++ t) text
 
-pub desks_front : (events more : List EventIn) → IsFront (desk_trace_of events) (desk_trace_of (events ++ more))
+pub desks_front : (events more : List EventIn) → IsPrefix (desk_trace_of events) (desk_trace_of (events ++ more))
 desks_front events more = trace_front two_desks run_in run_in_none run_in_next 1 first_desks events more

@@ -27,7 +27,7 @@ use Rattle.ill_core.specs.ResponderNotices as records
 use Rattle.ill_core.specs.ResponderNotices.{is_recall, grant, grant_of}
 use Rattle.ill_saved.specs.declared.side.Side.{Side}
 use Rattle.ill_saved.specs.declared.side.Side.TheVariants as sides
-use Rattle.ill_saved.specs.Side.{issued_of, IsFrontOf}
+use Rattle.ill_saved.specs.Side.{issued_of, IsPrefix}
 use Rattle.ill_saved.specs.declared.role.Role.TheVariants as who
 use Rattle.ill_world.specs.declared.event.Event.{Event}
 use Rattle.ill_world.specs.World.{Parties, happens, run_of}
@@ -107,7 +107,7 @@ first_alone [] j b begins at = search rules
 first_alone (a ∷ apdus) j b begins at = none_there is_ill_request apdus j b (not-true _ (and_parts _ _ begins).1) at
 
 -- A list says all that a front of it says.
-has_front : (says : Body → Bool) (front apdus : List Apdu) → IsFrontOf front apdus → has says front ≡ true → has says apdus ≡ true
+has_front : (says : Body → Bool) (front apdus : List Apdu) → IsPrefix front apdus → has says front ≡ true → has says apdus ≡ true
 has_front says front apdus is there =
     ap (has says) is.1 ∙ (list_any-append (λ (a : Apdu). says a.body) front is.0 ∙ ap (λ (b : Bool). b || has says is.0) there)
 
@@ -137,12 +137,12 @@ plain_reopens first second plain order dates = search rules
 
 module _ (rows : RowsHear) where
   -- A responder that takes APDUs keeps all that it has issued.
-  responder_grows : (y : ResponderRecord) (apdus : List Apdu) → IsFrontOf y.issued (taking lends y apdus).issued
+  responder_grows : (y : ResponderRecord) (apdus : List Apdu) → IsPrefix y.issued (taking lends y apdus).issued
   unfolding taking
   responder_grows y [] = front_of_itself y.issued
   responder_grows y (a ∷ apdus) = front_of_front y.issued (lends y a).issued _ (grown (rows.responder_issues y a)) (responder_grows (lends y a) apdus)
     where
-      grown : IssuesUnfilled y a.body (lends y a) → IsFrontOf y.issued (lends y a).issued
+      grown : IssuesUnfilled y a.body (lends y a) → IsPrefix y.issued (lends y a).issued
       grown (inl same) = ([], same ∙ sym (append-nil y.issued))
       grown (inr more) = (next_apdu y.txn y.issued (types.IllAnswer results.Unfilled) ∷ [], more.1)
 

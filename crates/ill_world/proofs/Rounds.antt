@@ -7,14 +7,13 @@ use Rattle.std.proofs.lemmas.Bool.{le-leb}
 use Rattle.ill_values.specs.declared.apdu.Apdu.{Apdu}
 use Rattle.ill_core.specs.Issued.{message}
 use Rattle.ill_saved.specs.declared.side.Side.{Side}
-use Rattle.ill_saved.specs.Side.{issued_of, takes, other}
+use Rattle.ill_saved.specs.Side.{issued_of, takes, other, IsPrefix}
 use Rattle.ill_saved.specs.declared.role.Role.{Role as Who}
 use Rattle.ill_saved.specs.declared.role.Role.TheVariants as who
 use Rattle.ill_world.specs.declared.event.Event.{Event}
 use Rattle.ill_world.specs.declared.event.Event.TheVariants as events
 use Rattle.ill_world.specs.World.{Party, Parties, party, saves, sends, receives, sent_message, with_sent, happens, run_of, run_by}
 use Rattle.std.specs.Prelude.{IsErr, OnOk}
-use Rattle.ill_world.specs.Play.{IsFront}
 use Rattle.ill_world.specs.Round.{passes_on, half_of, round_of, Performs}
 use Rattle.ill_world.proofs.Runs.{run_both}
 use Rattle.ill_world.proofs.Sendings.{places_kept}
@@ -165,7 +164,7 @@ passes_none before of n (suc count) none = absurd (omega (arith, none))
 
 module _ {W E O M : Type 0} (happening : W → E → O × W) where
   -- Events are performed if memory ran out and the first of them have led here.
-  pub performs_front : (events first : List E) (old new : W) (result : Result (Unit {0}) M) → IsErr result → IsFront first events → new ≡ run_by happening old first → Performs (run_by happening) events old result new
+  pub performs_front : (events first : List E) (old new : W) (result : Result (Unit {0}) M) → IsErr result → IsPrefix first events → new ≡ run_by happening old first → Performs (run_by happening) events old result new
   performs_front events first old new (Ok done) failed front is = search rules
   performs_front events first old new (Err memory) failed front is = (first, front, is)
 
@@ -182,5 +181,5 @@ module _ {W E O M : Type 0} (happening : W → E → O × W) where
   performed P events old new (Err memory) performs there = tt
 
 -- The first events of some are the first of more.
-pub front_further : {E : Type 0} (first events more : List E) → IsFront first events → IsFront first (events ++ more)
+pub front_further : {E : Type 0} (first events more : List E) → IsPrefix first events → IsPrefix first (events ++ more)
 front_further first events more front = (front.0 ++ more, ap (λ l. l ++ more) front.1 ∙ append_assoc first front.0 more)

@@ -7,7 +7,7 @@ use Rattle.std.proofs.lemmas.Bool.{leb-true}
 use Rattle.ill_values.specs.declared.apdu.Apdu.{Apdu}
 use Rattle.ill_core.specs.Issued.{message}
 use Rattle.ill_saved.specs.declared.side.Side.{Side}
-use Rattle.ill_saved.specs.Side.{issued_of, IsFrontOf}
+use Rattle.ill_saved.specs.Side.{issued_of, IsPrefix}
 use Rattle.ill_world.specs.World.{Party, sent_message, with_sent, saves, fails_to_save, restarts, sends}
 use Rattle.ill_world.specs.Invariant.{SendsSaved}
 
@@ -50,22 +50,22 @@ get_within (b ∷ front) more zero a less e = e
 get_within (b ∷ front) more (suc i) a less e = get_within front more i a (omega (arith, less)) e
 
 -- a message of the front is that of the whole
-pub front_message : (front apdus : List Apdu) (n : ℕ) (a : Apdu) → IsFrontOf front apdus → message front n ≡ Some a → message apdus n ≡ Some a
+pub front_message : (front apdus : List Apdu) (n : ℕ) (a : Apdu) → IsPrefix front apdus → message front n ≡ Some a → message apdus n ≡ Some a
 front_message front apdus zero a is e = search rules
 front_message front apdus (suc n) a is e = subst (λ l. slice_get l n ≡ Some a) (sym is.1) (get_front front is.0 n a e)
 
 -- and a message of the whole that of the front, where it is as long
-within_front : (front apdus : List Apdu) (n : ℕ) (a : Apdu) → IsFrontOf front apdus → n ≤ length front → message apdus n ≡ Some a → message front n ≡ Some a
+within_front : (front apdus : List Apdu) (n : ℕ) (a : Apdu) → IsPrefix front apdus → n ≤ length front → message apdus n ≡ Some a → message front n ≡ Some a
 within_front front apdus zero a is few e = search rules
 within_front front apdus (suc n) a is few e = get_within front is.0 n a (omega (arith, few)) (subst (λ l. slice_get l n ≡ Some a) is.1 e)
 
-pub front_of_front : (a b c : List Apdu) → IsFrontOf a b → IsFrontOf b c → IsFrontOf a c
+pub front_of_front : (a b c : List Apdu) → IsPrefix a b → IsPrefix b c → IsPrefix a c
 front_of_front a b c first second = (first.0 ++ second.0, second.1 ∙ ap (λ l. l ++ second.0) first.1 ∙ append_assoc a first.0 second.0)
 
-pub front_of_itself : (a : List Apdu) → IsFrontOf a a
+pub front_of_itself : (a : List Apdu) → IsPrefix a a
 front_of_itself a = ([], sym (append-nil a))
 
-front_is_shorter : (a b : List Apdu) → IsFrontOf a b → length a ≤ length b
+front_is_shorter : (a b : List Apdu) → IsPrefix a b → length a ≤ length b
 front_is_shorter a b is = omega (arith, ap length is.1, length-append a is.0)
 
 some_is : (a b : Apdu) → ◌≡◌ {A = Option Apdu} (Some a) (Some b) → a ≡ b
@@ -73,7 +73,7 @@ some_is a b e = search rules
 
 -- ---- a party
 
-pub live_grows : (p : Party) (new : Side) → IsFrontOf (issued_of p.live) (issued_of new) → SendsSaved p → SendsSaved (record p { live = new })
+pub live_grows : (p : Party) (new : Side) → IsPrefix (issued_of p.live) (issued_of new) → SendsSaved p → SendsSaved (record p { live = new })
 live_grows p new grows saved = record {
   landed = saved.landed;
   front = front_of_front (issued_of p.landed) (issued_of p.live) (issued_of new) saved.front grows;

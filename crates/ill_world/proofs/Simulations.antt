@@ -3,6 +3,7 @@ use Rattle.std.proofs.Common.{arith, ◌≡◌, ℕ, ◌+◌, true, List, [], �
 use Rattle.std.specs.Io.KnownBytes.{Consumes, Appends}
 use Rattle.std.proofs.KnownBytes.{Consumes-trans, Appends-trans}
 use Rattle.ill_values.specs.TxnId.{Qualifiers}
+use Rattle.ill_saved.specs.Side.{IsPrefix}
 use Rattle.ill_world.specs.declared.event.Event.{Event}
 use Rattle.ill_world.specs.declared.script.Line.{Line}
 use Rattle.ill_world.specs.declared.script.Line.TheVariants as lines
@@ -10,7 +11,7 @@ use Rattle.ill_world.specs.declared.fault.SimFault.{SimFault}
 use Rattle.ill_world.specs.declared.fault.SimFault.TheVariants.{Script, Read, Write, OutOfMemory}
 use Rattle.ill_world.specs.World.{Parties, first_world, happens, run_by, run_of}
 use Rattle.ill_world.specs.Trace.{line}
-use Rattle.ill_world.specs.Play.{Play, Said, line_at, then_says, ends, breaks_off, says_on, trace_from, IsFront, Answers, Plays}
+use Rattle.ill_world.specs.Play.{Play, Said, line_at, then_says, ends, breaks_off, says_on, trace_from, Answers, Plays}
 use Rattle.ill_world.specs.Simulation.{two_sides, trace_of, line_behind}
 use Rattle.ill_world.specs.Simulating.{IsLine, PerformsLine, StepsLine}
 use Rattle.ill_world.proofs.Scripts.{says_line}
@@ -61,7 +62,7 @@ module _ {W E C : Type 0} (play : Play W E C) (run : W → List E → W) (none :
   trace_line n w events event =
       trace_more n w events (event ∷ []) ∙ ap (λ t. trace_from play n w events ++ t) (trace_of_one play (n + length events) (run w events) event)
 
-  pub trace_front : (n : ℕ) (w : W) (events more : List E) → IsFront (trace_from play n w events) (trace_from play n w (events ++ more))
+  pub trace_front : (n : ℕ) (w : W) (events more : List E) → IsPrefix (trace_from play n w events) (trace_from play n w (events ++ more))
   trace_front n w events more = (trace_from play (n + length events) (run w events) more, trace_more n w events more)
 
 -- ---- the trace of two sides
@@ -84,7 +85,7 @@ sides_line txn events event =
     ∙ ap (line (length events + 1) (happens after event).0) (sym (run_more two_sides run_of run_of_none run_of_next first events event)) in
     trace_line two_sides run_of run_of_none run_of_next 1 first events event ∙ ap (λ t. trace_of txn events ++ t) text
 
-pub sides_front : (txn : Qualifiers) (events more : List Event) → IsFront (trace_of txn events) (trace_of txn (events ++ more))
+pub sides_front : (txn : Qualifiers) (events more : List Event) → IsPrefix (trace_of txn events) (trace_of txn (events ++ more))
 sides_front txn events more = trace_front two_sides run_of run_of_none run_of_next 1 (first_world txn) events more
 
 -- ---- events, and the rest behind them
@@ -121,13 +122,13 @@ answers_on whole broken rest rest_broken trace trace_on count next_count front s
     λ more e.
     let told = answers more e in
     let said = ap whole (append_assoc front text more) ∙ says (text ++ more) in
-    subst (λ (s : Said _). IsFront (shown ++ written) (trace s.events)) (sym said)
+    subst (λ (s : Said _). IsPrefix (shown ++ written) (trace s.events)) (sym said)
     (told.0, shows (rest (text ++ more)).events ∙ ap (λ t. shown ++ t) told.1 ∙ sym (append_assoc shown written told.0))
 answers_on whole broken rest rest_broken trace trace_on count next_count front shown events says breaks shows counts (Err OutOfMemory) text left written answers =
     λ more e.
     let told = answers more e in
     let said = ap whole (append_assoc front text more) ∙ says (text ++ more) in
-    subst (λ (s : Said _). (es : List _) × IsFront es s.events × (shown ++ written ≡ trace es)) (sym said) (
+    subst (λ (s : Said _). (es : List _) × IsPrefix es s.events × (shown ++ written ≡ trace es)) (sym said) (
       events ++ told.0,
       (told.1.0, ap (λ es. events ++ es) told.1.1 ∙ sym (append_assoc events told.0 told.1.0)),
       ap (λ t. shown ++ t) told.2 ∙ sym (shows told.0),

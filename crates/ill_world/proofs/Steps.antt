@@ -4,12 +4,13 @@ use Rattle.std.specs.Prelude.{IsErrAnd}
 use Rattle.std.specs.Io.KnownBytes.{Consumes, Appends, IsAtEnd, prepend_known}
 use Rattle.std.proofs.KnownBytes.{Appends-nil, Consumes-nil}
 use Rattle.std.proofs.Math.ListN.{take-append-drop}
+use Rattle.ill_saved.specs.Side.{IsPrefix}
 use Rattle.ill_world.specs.declared.lines.Found.TheVariants as found
 use Rattle.ill_world.specs.declared.script.Line.{Line}
 use Rattle.ill_world.specs.declared.script.Line.TheVariants as lines
 use Rattle.ill_world.specs.declared.fault.SimFault.{SimFault}
 use Rattle.ill_world.specs.declared.fault.SimFault.TheVariants.{Script, Read, Write, OutOfMemory}
-use Rattle.ill_world.specs.Play.{Play, Said, says_nothing, line_at, then_says, ends, breaks_off, says_from, says_on, trace_from, IsFront, OfAll, Answers, Plays}
+use Rattle.ill_world.specs.Play.{Play, Said, says_nothing, line_at, then_says, ends, breaks_off, says_from, says_on, trace_from, OfAll, Answers, Plays}
 use Rattle.ill_world.specs.Simulating.{IsLine, ReadsLine, PerformsLine, StepsLine, IsBeforeEnd, FindsEnd, IsUsedUp}
 use Rattle.ill_world.proofs.Scripts.{within, line_within, says_line, says_rest, ends_line, breaks_nothing, says_too_long, says_too_many, only_bad}
 use Rattle.ill_world.proofs.Simulations.{trace_of_none, trace_next, trace_of_one}
@@ -51,7 +52,7 @@ module _ {W E C : Type 0} (play : Play W E C) where
   no_memory c n w count text left before after nothing = ([], nothing, λ more e. ([], ((says_on play (ends play) c n (text ++ more)).events, refl), sym (trace_of_none play (count + 1) w)))
 
   -- the front of a line is the front of the trace
-  front_of : (w : W) (count size : ℕ) (event : E) (events : List E) → IsFront (take size (play.text (count + 1) w event)) (trace_from play (count + 1) w (event ∷ events))
+  front_of : (w : W) (count size : ℕ) (event : E) (events : List E) → IsPrefix (take size (play.text (count + 1) w event)) (trace_from play (count + 1) w (event ∷ events))
   front_of w count size event events =
       let shown = play.text (count + 1) w event in
       let rest = trace_from play (count + 1 + 1) (play.next w event) events in (
@@ -69,7 +70,7 @@ module _ {W E C : Type 0} (play : Play W E C) where
     fails.1,
     λ more e.
         let said = begins more e in
-        subst (λ (s : Said E). IsFront (take fails.0 (play.text (count + 1) w event)) (trace_from play (count + 1) w s.events)) (sym (said.1 ∙ ap (λ l. then_says l n said.0) is))
+        subst (λ (s : Said E). IsPrefix (take fails.0 (play.text (count + 1) w event)) (trace_from play (count + 1) w s.events)) (sym (said.1 ∙ ap (λ l. then_says l n said.0) is))
         (front_of w count fails.0 event said.0.events),
   )
   line_fails c n w next count next_count bytes text left before after lines.Bad (Script m) is begins fails = (
@@ -236,9 +237,9 @@ module _ {E : Type 0} (whole broken : List ℕ → Said E) (trace_of : List E �
       let none = none_ahead ahead rest answers.0 in read_whole text ahead rest trace (Ok count) none.0 (none.1, answers.1, answers.2, answers.3)
   answers_of_all text ahead rest trace (Err (Script n)) used answers = read_of_all text ahead rest (λ t. ((whole t).bad ≡ Some n) × (trace ≡ trace_of (whole t).events)) answers
   answers_of_all text ahead rest trace (Err Read) used answers = read_whole text ahead rest trace (Err Read) used answers
-  answers_of_all text ahead rest trace (Err Write) used answers = read_of_all text ahead rest (λ t. IsFront trace (trace_of (whole t).events)) answers
+  answers_of_all text ahead rest trace (Err Write) used answers = read_of_all text ahead rest (λ t. IsPrefix trace (trace_of (whole t).events)) answers
   answers_of_all text ahead rest trace (Err OutOfMemory) used answers =
-      read_of_all text ahead rest (λ t. (events : List E) × IsFront events (whole t).events × (trace ≡ trace_of events)) answers
+      read_of_all text ahead rest (λ t. (events : List E) × IsPrefix events (whole t).events × (trace ≡ trace_of events)) answers
 
 module _ {W E C : Type 0} (play : Play W E C) where
   all_read : (c : C) (n : ℕ) (w : W) (count : ℕ) (ahead : List ℕ) (old new before after : Option (List ℕ)) (result : Result ℕ SimFault) → IsUsedUp ahead result

@@ -16,7 +16,7 @@ use Rattle.ill_core.specs.ResponderFacts.{Question, asks}
 use Rattle.ill_core.specs.ResponderNotices.{WasAsked, HasAnsweredLast, RecallFits, ShipsBeforeRecall, GrantsRise, OverdueFits, GrantsBeforeOverdue}
 use Rattle.ill_saved.specs.declared.side.Side.{Side}
 use Rattle.ill_saved.specs.declared.side.Side.TheVariants as sides
-use Rattle.ill_saved.specs.Side.{issued_of, due_date_of, IsFrontOf}
+use Rattle.ill_saved.specs.Side.{issued_of, due_date_of, IsPrefix}
 use Rattle.ill_world.specs.World.{Party, Parties, sent_message}
 
 -- ---- one record, and what the other side has sent
@@ -87,7 +87,7 @@ ResponderSideStands txn (sides.Responder y) sent = ResponderStands txn y sent
 -- what has landed is released. There is a place for each number.
 pub record SendsSaved (p : Party) : Type 0 where
   pub landed : (n : ℕ) (a : Apdu) → sent_message p.sent n ≡ Some a → message (issued_of p.landed) n ≡ Some a
-  pub front : IsFrontOf (issued_of p.landed) (issued_of p.live)
+  pub front : IsPrefix (issued_of p.landed) (issued_of p.live)
   pub released : p.released ≤ length (issued_of p.landed)
   pub places : length p.sent ≡ 255
 

@@ -2,6 +2,7 @@
 use Rattle.std.specs.Prelude.{◌≡◌, ℕ, ◌+◌, Bool, ◌&&◌, ◌==◌, nat_le, List, [], ◌∷◌, ◌++◌, length, Option, Some, None, Result, Ok, Err, if◌then◌else◌}
 use Rattle.std.specs.List.{slice_split}
 use Rattle.std.specs.Io.KnownBytes.{Consumes, Appends, IsAtEnd}
+use Rattle.ill_saved.specs.Side.{IsPrefix}
 use Rattle.ill_world.specs.declared.script.Line.{Line}
 use Rattle.ill_world.specs.declared.script.Line.TheVariants as lines
 use Rattle.ill_world.specs.declared.fault.SimFault.{SimFault}
@@ -73,10 +74,6 @@ trace_from play n w (event ∷ events) = play.text n w event ++ trace_from play 
 
 -- ---- performing a script
 
--- one list is the front of another
-abbrev pub IsFront : {X : Type 0} → List X → List X → Type 0
-IsFront front xs = (more : List _) × (xs ≡ front ++ more)
-
 -- of what was read, with whatever the reader has left
 abbrev pub OfAll : List ℕ → Option (List ℕ) → (List ℕ → Type 0) → Type 0
 OfAll text left P = (more : List ℕ) → left ≡ Some more → P (text ++ more)
@@ -93,9 +90,9 @@ Answers whole broken trace_of count (Err (Script m)) text left trace =
 Answers whole broken trace_of count (Err Read) text left trace =
     ((broken text).bad ≡ None) × (trace ≡ trace_of (broken text).events)
 Answers whole broken trace_of count (Err Write) text left trace =
-    OfAll text left (λ t. IsFront trace (trace_of (whole t).events))
+    OfAll text left (λ t. IsPrefix trace (trace_of (whole t).events))
 Answers {E = E} whole broken trace_of count (Err OutOfMemory) text left trace =
-    OfAll text left (λ t. (events : List E) × IsFront events (whole t).events × (trace ≡ trace_of events))
+    OfAll text left (λ t. (events : List E) × IsPrefix events (whole t).events × (trace ≡ trace_of events))
 
 -- A script was performed from line n on, behind so many events, from what the reader had left to what it
 -- has left, and from what the writer held to what it holds.

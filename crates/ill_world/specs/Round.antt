@@ -9,13 +9,12 @@ use Rattle.ill_core.specs.Issued.{has}
 use Rattle.ill_core.specs.Requester.{RequesterRecord, is_declined, is_received_by}
 use Rattle.ill_core.specs.Responder.{ResponderRecord, due_of, later}
 use Rattle.ill_saved.specs.declared.side.Side.{Side}
-use Rattle.ill_saved.specs.Side.{issued_of, other}
+use Rattle.ill_saved.specs.Side.{issued_of, other, IsPrefix}
 use Rattle.ill_saved.specs.declared.role.Role.{Role as Who}
 use Rattle.ill_saved.specs.declared.role.Role.TheVariants.{Requester, Responder}
 use Rattle.ill_world.specs.declared.event.Event.{Event}
 use Rattle.ill_world.specs.declared.event.Event.TheVariants.{Save, Send, Deliver}
 use Rattle.ill_world.specs.World.{Parties, party, run_of}
-use Rattle.ill_world.specs.Play.{IsFront}
 use Rattle.ill_world.specs.Agreement.{Facing}
 
 -- ---- the events of a round
@@ -37,7 +36,7 @@ round_of w = half_of Requester w ++ half_of Responder (run_of w (half_of Request
 -- Events were performed, one after another, that lead on by a run; or memory ran out, and only the first of them were.
 abbrev pub Performs : {W E M : Type 0} → (W → List E → W) → List E → W → Result (Unit {0}) M → W → Type 0
 Performs run events old (Ok done) new = new ≡ run old events
-Performs {E = E} run events old (Err memory) new = (first : List E) × IsFront first events × (new ≡ run old first)
+Performs {E = E} run events old (Err memory) new = (first : List E) × IsPrefix first events × (new ≡ run old first)
 
 -- ---- the two records after it
 

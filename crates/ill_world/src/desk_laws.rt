@@ -2,6 +2,7 @@
 
 ghost use Rattle.std.specs.Prelude.{◌≡◌, ◌++◌, ℕ, Bool, List, [], ◌∷◌, Option, Some, None, Err};
 ghost use Rattle.ill_values.specs.TxnId.{Qualifiers};
+ghost use Rattle.ill_saved.specs.Side.{IsPrefix};
 ghost use Rattle.ill_saved.specs.declared.role.Role.{Role as Who};
 ghost use Rattle.ill_saved.specs.declared.role.Role.TheVariants.{Requester};
 ghost use Rattle.ill_saved.specs.Many.{found_by, txn_held};
@@ -17,7 +18,6 @@ ghost use Rattle.ill_world.specs.declared.fault.SimFault.TheVariants.{Write, Out
 ghost use Rattle.ill_world.specs.declared.script.Line.{Line};
 ghost use Rattle.ill_world.specs.declared.script.Line.TheVariants as lines;
 ghost use Rattle.ill_world.specs.declared.desk_script.DeskLine.TheVariants as desk_lines;
-ghost use Rattle.ill_world.specs.Play.{IsFront};
 ghost use Rattle.ill_world.specs.Desks.{DeskParties, plain, first_desks, desks_happen, desks_run, project, events_for, Projects};
 ghost use Rattle.ill_world.specs.DeskScript.{EventIn, in_txn, says_in, IsInTxn};
 ghost use Rattle.ill_world.specs.DeskSimulation.{desk_script, desk_trace_of, desk_line_behind, SimulatesDesks};
@@ -261,5 +261,5 @@ pub fn desk_traces_show_runs()
     ensures next { (events : List EventIn) (event : EventIn) →
         desk_trace_of (events ++ event ∷ []) ≡ desk_trace_of events ++ desk_line_behind events event }
     ensures front { (events more : List EventIn) →
-        IsFront (desk_trace_of events) (desk_trace_of (events ++ more)) }
+        IsPrefix (desk_trace_of events) (desk_trace_of (events ++ more)) }
 {}

@@ -15,6 +15,7 @@ ghost use Rattle.ill_core.specs.Responder.{ResponderRecord};
 ghost use Rattle.ill_core.specs.ResponderActions as responder_actions;
 ghost use Rattle.ill_core.specs.ResponderDeliveries as responder_deliveries;
 ghost use Rattle.ill_core.specs.Verbs.{requester_turn, responder_turn, requester_verbs, responder_verbs};
+ghost use Rattle.ill_saved.specs.Side.{IsPrefix};
 ghost use Rattle.ill_saved.specs.declared.role.Role.{Role as Who};
 ghost use Rattle.ill_saved.specs.declared.role.Role.TheVariants.{Requester, Responder};
 ghost use Rattle.ill_saved.specs.declared.side.Side.{Side};
@@ -22,7 +23,6 @@ ghost use Rattle.ill_world.specs.declared.event.Event.{Event};
 ghost use Rattle.ill_world.specs.declared.event.Event.TheVariants.{Save};
 ghost use Rattle.ill_world.specs.declared.fault.SimFault.TheVariants.{Write, OutOfMemory};
 ghost use Rattle.ill_world.specs.World.{Parties, first_world, happens, run_of};
-ghost use Rattle.ill_world.specs.Play.{IsFront};
 ghost use Rattle.ill_world.specs.Simulation.{script, trace_of, line_behind, Simulates};
 ghost use Rattle.ill_world.specs.Safety.{OfBoth, EndsAlike, WasShipped, WasGranted, Safe, IsSafeRun};
 ghost use Rattle.ill_world.specs.Agreement.{Agrees, IsAgreeingRun, KeepsDates, Arrives};
@@ -299,7 +299,7 @@ pub fn traces_show_runs()
     ensures next { (txn : Qualifiers) (events : List Event) (event : Event) →
         trace_of txn (events ++ event ∷ []) ≡ trace_of txn events ++ line_behind txn events event }
     ensures front { (txn : Qualifiers) (events more : List Event) →
-        IsFront (trace_of txn events) (trace_of txn (events ++ more)) }
+        IsPrefix (trace_of txn events) (trace_of txn (events ++ more)) }
 {}
 
 /// No simulation has written bytes that leave the trace of the script, where the writer failed. Where memory

@@ -7,7 +7,7 @@ use Rattle.ill_der.specs.declared.fault.DerFault.{DerFault}
 use Rattle.ill_der.specs.declared.fault.DerFault.TheVariants.{Short}
 use Rattle.ill_der.specs.ShortForm.{spelling, header_at, outer_at, apdu_at}
 use Rattle.ill_der.specs.Stream.{IsUnfinished, IfShort}
-use Rattle.ill_der.specs.Feed.{Begins, Held, Leaves, Feeds, FeedsAll}
+use Rattle.ill_der.specs.Feed.{Begins, Unread, Leaves, Feeds, FeedsAll}
 use Rattle.ill_der.proofs.Chains.{no_value, ok_is, fault_is}
 use Rattle.ill_der.proofs.ShortFormLaws.{fault_stays}
 use Rattle.ill_der.proofs.FeedLemmas.{AgainLaw, ShortLaw, begins_join, begins_more}
@@ -15,7 +15,7 @@ use Rattle.ill_der.proofs.FeedLemmas.{AgainLaw, ShortLaw, begins_join, begins_mo
 -- ---- pieces one after another
 
 -- If `front` and then `piece` are pushed, one push of `front ++ piece` gives all their APDUs and the last feed.
-pub two_pushes : (old middle new : Held) (front piece : List ℕ) (first more : List Apdu) → Feeds old front first middle
+pub two_pushes : (old middle new : Unread) (front piece : List ℕ) (first more : List Apdu) → Feeds old front first middle
     → Feeds middle piece more new → Feeds old (front ++ piece) (first ++ more) new
 two_pushes (Ok held) (Ok between) new front piece first more a b =
     let bytes : (held ++ front) ++ piece ≡ held ++ (front ++ piece) = append_assoc held front piece in
@@ -32,34 +32,34 @@ two_pushes (Ok held) (Err fault) new front piece first more a b =
       subst (Leaves (a.0 ++ piece)) (sym b.1) leaves,
     )
 two_pushes (Err fault) middle new front piece first more a b =
-    let closed : Feeds (Err fault) piece more new = subst (λ (m : Held). Feeds m piece more new) a.1 b in
+    let closed : Feeds (Err fault) piece more new = subst (λ (m : Unread). Feeds m piece more new) a.1 b in
     (ap (λ (x : List Apdu). x ++ more) a.0 ∙ closed.0, closed.1)
 
 -- Holds of each closed feed, and of an open one that holds unfinished bytes.
-abbrev IsFeed : Held → Type 0
+abbrev IsFeed : Unread → Type 0
 IsFeed (Ok held) = IsUnfinished held
 IsFeed (Err fault) = Unit {0}
 
 -- A feed that a rest leaves is closed or holds unfinished bytes.
-is_left : (rest : List ℕ) (new : Held) → Leaves rest new → IsFeed new
+is_left : (rest : List ℕ) (new : Unread) → Leaves rest new → IsFeed new
 is_left rest (Ok held) leaves = subst IsUnfinished (sym leaves.0) leaves.1
 is_left rest (Err fault) leaves = tt
 
 -- After a push, the feed `new` is closed or holds unfinished bytes.
-is_fed : (old : Held) (piece : List ℕ) (apdus : List Apdu) (new : Held) → Feeds old piece apdus new → IsFeed new
+is_fed : (old : Unread) (piece : List ℕ) (apdus : List Apdu) (new : Unread) → Feeds old piece apdus new → IsFeed new
 is_fed (Ok held) piece apdus new feeds = is_left feeds.0 new feeds.2
 is_fed (Err fault) piece apdus new feeds = subst IsFeed (sym feeds.1) tt
 
 -- If `old` is closed or holds unfinished bytes, a push of no bytes gives no APDU and keeps it.
-no_push : (old : Held) → IsFeed old → Feeds old [] [] old
+no_push : (old : Unread) → IsFeed old → Feeds old [] [] old
 no_push (Ok held) is = (held, record { spelled = tt; parts = append-nil held }, (refl, is))
 no_push (Err fault) is = (refl, refl)
 
 -- If `pieces` are pushed into `old` one after another, one push of all their bytes gives the APDUs and the feed.
-pub all_pushes : (pieces : List (List ℕ)) (old : Held) (apdus : List Apdu) (new : Held) → IsFeed old
+pub all_pushes : (pieces : List (List ℕ)) (old : Unread) (apdus : List Apdu) (new : Unread) → IsFeed old
     → FeedsAll old pieces apdus new → Feeds old (concat pieces) apdus new
 all_pushes [] old apdus new is all =
-    subst (λ (x : List Apdu). Feeds old [] x new) (sym all.0) (subst (λ (h : Held). Feeds old [] [] h) (sym all.1) (no_push old is))
+    subst (λ (x : List Apdu). Feeds old [] x new) (sym all.0) (subst (λ (h : Unread). Feeds old [] [] h) (sym all.1) (no_push old is))
 all_pushes (piece ∷ pieces) old apdus new is all =
     let later = all_pushes pieces all.2 all.1 new (is_fed old piece all.0 all.2 all.3) all.4 in
     subst (λ (x : List Apdu). Feeds old (piece ++ concat pieces) x new) (sym all.5) (two_pushes old all.2 new piece (concat pieces) all.0 all.1 all.3 later)
@@ -67,7 +67,7 @@ all_pushes (piece ∷ pieces) old apdus new is all =
 -- ---- all cuts agree
 
 -- A rest that leaves a feed has a fault.
-has_fault : (rest : List ℕ) (new : Held) → Leaves rest new → (d : DerFault) × (apdu_at rest ≡ Err d)
+has_fault : (rest : List ℕ) (new : Unread) → Leaves rest new → (d : DerFault) × (apdu_at rest ≡ Err d)
 has_fault rest (Ok held) leaves = (Short (length rest), leaves.1)
 has_fault rest (Err fault) leaves = (fault, leaves.0)
 
@@ -78,14 +78,14 @@ first_again again bytes rest apdu apdus begins =
     ap apdu_at (begins.parts ∙ append_assoc (spelling apdu) (flat_map spelling apdus) rest) ∙ again apdu (flat_map spelling apdus ++ rest) begins.spelled.0
 
 -- If `bytes` are all a rest that leaves a feed, no APDU begins them.
-no_first : AgainLaw → (bytes rest behind : List ℕ) (new : Held) (apdu : Apdu) (apdus : List Apdu) → Begins bytes [] rest
+no_first : AgainLaw → (bytes rest behind : List ℕ) (new : Unread) (apdu : Apdu) (apdus : List Apdu) → Begins bytes [] rest
     → Leaves rest new → Begins bytes (apdu ∷ apdus) behind → ⊥
 no_first again bytes rest behind new apdu apdus none leaves some =
     let fault = has_fault rest new leaves in
     no_value fault.0 (apdu, flat_map spelling apdus ++ behind) (sym (first_again again bytes behind apdu apdus some) ∙ ap apdu_at none.parts ∙ fault.1)
 
 -- If `rest` leaves the feed `a` and leaves the feed `b`, `a` equals `b`.
-same_left : (rest : List ℕ) (a b : Held) → Leaves rest a → Leaves rest b → a ≡ b
+same_left : (rest : List ℕ) (a b : Unread) → Leaves rest a → Leaves rest b → a ≡ b
 same_left rest (Ok one) (Ok other) a b = ap Ok (a.0 ∙ sym b.0)
 same_left rest (Ok one) (Err fault) a b =
     absurd (subst (λ (f : DerFault). IfShort f ⊥) (fault_is fault (Short (length rest)) (sym b.0 ∙ a.1)) b.1)
@@ -94,7 +94,7 @@ same_left rest (Err fault) (Ok other) a b =
 same_left rest (Err one) (Err other) a b = ap Err (fault_is one other (sym a.0 ∙ b.0))
 
 -- If `bytes` are divided into APDUs and a rest in two ways, the APDUs are equal, and the feeds left are.
-one_cut : AgainLaw → (first second : List Apdu) (bytes rest behind : List ℕ) (a b : Held) → Begins bytes first rest
+one_cut : AgainLaw → (first second : List Apdu) (bytes rest behind : List ℕ) (a b : Unread) → Begins bytes first rest
     → Leaves rest a → Begins bytes second behind → Leaves behind b
     → (first ≡ second) × (a ≡ b)
 one_cut again [] [] bytes rest behind a b x leaves y other =
@@ -119,7 +119,7 @@ unfolding apdu_at outer_at header_at
 nothing_held = refl
 
 -- If two lists of pieces have equal bytes, an empty feed gives equal APDUs for them and comes to equal ends.
-pub any_cut : AgainLaw → (pieces others : List (List ℕ)) (first second : List Apdu) (a b : Held)
+pub any_cut : AgainLaw → (pieces others : List (List ℕ)) (first second : List Apdu) (a b : Unread)
     → concat pieces ≡ concat others → FeedsAll (Ok []) pieces first a → FeedsAll (Ok []) others second b
     → (first ≡ second) × (a ≡ b)
 any_cut again pieces others first second a b same one other =

@@ -12,7 +12,7 @@ use Rattle.ill_der.specs.declared.fault.DerFault.TheVariants.{Short, Tag, Length
 use Rattle.ill_der.specs.Laws.{IsBytes, BeginsWithOne}
 use Rattle.ill_der.specs.ShortForm.{spelling, header_at, outer_at, apdu_at}
 use Rattle.ill_der.specs.Stream.{IsUnfinished, IfShort}
-use Rattle.ill_der.specs.Feed.{Begins, Held, Leaves, HasApdu, fault_of}
+use Rattle.ill_der.specs.Feed.{Begins, Unread, Leaves, HasApdu, fault_of}
 use Rattle.ill_der.specs.Handling.{Handles, Handled, FailsIn, FailsAt, HandlesEach}
 use Rattle.ill_der.specs.FeedView.{held_of, closing, Holds, Fills, HandlesFirst, GoesOn}
 use Rattle.ill_der.proofs.Chains.{no_value}
@@ -119,14 +119,14 @@ fails_later handles bytes middle before now after apdu fault begins first later 
 -- ---- the buffer
 
 -- If the feed `now` is open, no fault closed it.
-pub is_open : (closed : Option DerFault) (bytes : List ℕ) (now : Held) → held_of closed bytes ≡ now → IsOk now → closed ≡ None
+pub is_open : (closed : Option DerFault) (bytes : List ℕ) (now : Unread) → held_of closed bytes ≡ now → IsOk now → closed ≡ None
 is_open None bytes now e opened = refl
 is_open (Some fault) bytes now e opened =
     let not_open : IsOk (held_of (Some fault) bytes) = subst IsOk (sym e) opened in
     absurd cc
 
 -- If the feed `now` is open, it holds `bytes`.
-pub holds_front : (closed : Option DerFault) (bytes : List ℕ) (now : Held) → held_of closed bytes ≡ now → IsOk now
+pub holds_front : (closed : Option DerFault) (bytes : List ℕ) (now : Unread) → held_of closed bytes ≡ now → IsOk now
     → now ≡ Ok bytes
 holds_front closed bytes now e opened = sym e ∙ ap (λ (k : Option DerFault). held_of k bytes) (is_open closed bytes now e opened)
 
@@ -279,7 +279,7 @@ goes_on_from handles again old new piece size filled end before now fills is fir
     (omega (arith, behind, long), omega (arith, first.1, whole, fills.count))
 
 -- If the first APDU of `held ++ piece` was handled, going on with the rest has the outcome of a push.
-on_behind : {S F : Type 0} (handles : Handles S F) (held piece behind : List ℕ) (apdu : Apdu) (before now after : S) (result : Result (Option DerFault) F) (new : Held)
+on_behind : {S F : Type 0} (handles : Handles S F) (held piece behind : List ℕ) (apdu : Apdu) (before now after : S) (result : Result (Option DerFault) F) (new : Unread)
     → Begins (held ++ piece) (apdu ∷ []) behind → handles before apdu (Ok tt) now → GoesOn handles (Ok held) behind now result new after
     → HandlesEach handles (Ok held) piece before result new after
 on_behind handles held piece behind apdu before now after (Ok fault) new begins first on = (
@@ -295,7 +295,7 @@ on_behind handles held piece behind apdu before now after (Err fault) new begins
 
 -- If the first APDU of the filled bytes was handled, going on with the rest has the outcome of a push.
 pub goes_on_behind : {S F : Type 0} (handles : Handles S F) → AgainLaw
-    → (old new piece : List ℕ) (size filled end : ℕ) (before now after : S) (was : Held) (result : Result (Option DerFault) F) (feed : Held)
+    → (old new piece : List ℕ) (size filled end : ℕ) (before now after : S) (was : Unread) (result : Result (Option DerFault) F) (feed : Unread)
     → Fills old new size piece filled → Holds size old → was ≡ Ok (take size old)
     → HandlesFirst handles (take filled new) before (Ok (Ok end)) now
     → GoesOn handles (Ok (take size new)) (take (length piece - (end - size)) (drop (end - size) piece)) now result feed after
@@ -310,11 +310,11 @@ goes_on_behind handles again old new piece size filled end before now after was 
     let begun = subst (λ (n : ℕ). Begins (held ++ piece) (first.2.0 ∷ []) (drop (end - n) piece)) long begins in
     let on_rest = subst (λ (x : List ℕ). GoesOn handles (Ok (take size new)) x now result feed after) (take_rest piece (end - size)) on in
     let on_held = subst (λ (x : List ℕ). GoesOn handles (Ok x) (drop (end - size) piece) now result feed after) (still_held old new piece size filled fills) on_rest in
-    subst (λ (h : Held). HandlesEach handles h piece before result feed after) (sym opened)
+    subst (λ (h : Unread). HandlesEach handles h piece before result feed after) (sym opened)
     (on_behind handles held piece (drop (end - size) piece) first.2.0 before now after result feed begun first.2.2 on_held)
 
 -- If nothing was held, going on with `piece` has the outcome of a push.
-on_alone : {S F : Type 0} (handles : Handles S F) (held piece : List ℕ) (before after : S) (result : Result (Option DerFault) F) (new : Held)
+on_alone : {S F : Type 0} (handles : Handles S F) (held piece : List ℕ) (before after : S) (result : Result (Option DerFault) F) (new : Unread)
     → held ≡ []
     → GoesOn handles (Ok held) piece before result new after → HandlesEach handles (Ok held) piece before result new after
 on_alone handles held piece before after (Ok fault) new none on =
@@ -323,19 +323,19 @@ on_alone handles held piece before after (Err fault) new none on =
     (on.0, subst (λ (x : List ℕ). FailsIn handles (x ++ piece) before fault after) (sym none) on.1)
 
 -- If `was` is open and holds nothing, going on with `piece` has the outcome of a push.
-pub goes_on_alone : {S F : Type 0} (handles : Handles S F) (held piece : List ℕ) (before after : S) (was : Held) (result : Result (Option DerFault) F) (new : Held)
+pub goes_on_alone : {S F : Type 0} (handles : Handles S F) (held piece : List ℕ) (before after : S) (was : Unread) (result : Result (Option DerFault) F) (new : Unread)
     → was ≡ Ok held → held ≡ []
     → GoesOn handles was piece before result new after → HandlesEach handles was piece before result new after
 goes_on_alone handles held piece before after was result new opened none on =
-    subst (λ (h : Held). HandlesEach handles h piece before result new after) (sym opened)
-    (on_alone handles held piece before after result new none (subst (λ (h : Held). GoesOn handles h piece before result new after) opened on))
+    subst (λ (h : Unread). HandlesEach handles h piece before result new after) (sym opened)
+    (on_alone handles held piece before after result new none (subst (λ (h : Unread). GoesOn handles h piece before result new after) opened on))
 
 -- If `held ++ piece` is all a rest, which leaves `new`, a push of `piece` handles nothing and keeps the state.
-pub all_left : {S F : Type 0} (handles : Handles S F) (held piece : List ℕ) (before after : S) (was new : Held)
+pub all_left : {S F : Type 0} (handles : Handles S F) (held piece : List ℕ) (before after : S) (was new : Unread)
     → was ≡ Ok held → Leaves (held ++ piece) new → after ≡ before
     → HandlesEach handles was piece before (Ok (fault_of new)) new after
 all_left handles held piece before after was new opened leaves same =
-    subst (λ (h : Held). HandlesEach handles h piece before (Ok (fault_of new)) new after) (sym opened)
+    subst (λ (h : Unread). HandlesEach handles h piece before (Ok (fault_of new)) new after) (sym opened)
     (refl, ([], (held ++ piece, begins_none (held ++ piece), leaves), same))
 
 -- A fault of the filled bytes other than Short is the fault of the held bytes and all of `piece`.
@@ -347,7 +347,7 @@ fault_of_all old new piece size filled fault fills other e =
     (ap apdu_at (sym (whole_piece k (take size old) piece (take filled new) fills.parts)) ∙ fault_stays (take filled new) (drop k piece) fault other e, other)
 
 -- If handling the first APDU of the filled bytes failed, handling failed at an APDU of `was` and `piece`.
-pub fails_first : {S F : Type 0} (handles : Handles S F) (old new piece : List ℕ) (size filled : ℕ) (before after : S) (was : Held) (fault : F)
+pub fails_first : {S F : Type 0} (handles : Handles S F) (old new piece : List ℕ) (size filled : ℕ) (before after : S) (was : Unread) (fault : F)
     → Fills old new size piece filled
     → was ≡ Ok (take size old) → HandlesFirst handles (take filled new) before (Err fault) after
     → FailsAt handles was piece before fault after
@@ -358,10 +358,10 @@ fails_first handles old new piece size filled before after was fault fills opene
     let begins =
     subst (λ (x : List ℕ). Begins x (first.0 ∷ []) rest) (whole_piece k held piece (take filled new) fills.parts) (begins_more (take filled new) first.1 (drop k piece) (first.0 ∷ []) first.2) in
     let failed : FailsIn handles (held ++ piece) before fault after = ([], first.0, rest, before, begins, refl, first.3) in
-    subst (λ (h : Held). FailsAt handles h piece before fault after) (sym opened) failed
+    subst (λ (h : Unread). FailsAt handles h piece before fault after) (sym opened) failed
 
 -- If handling failed, the feed is open, and an APDU begins its bytes and `piece`.
-pub fails_at_apdu : {S F : Type 0} (handles : Handles S F) (old : Held) (piece : List ℕ) (before after : S) (fault : F)
+pub fails_at_apdu : {S F : Type 0} (handles : Handles S F) (old : Unread) (piece : List ℕ) (before after : S) (fault : F)
     → FailsAt handles old piece before fault after → HasApdu old piece
 fails_at_apdu handles (Ok held) piece before after fault fails = begins_first (held ++ piece) fails.0 fails.1 fails.2 fails.4
 fails_at_apdu handles (Err closed) piece before after fault fails = fails

@@ -7,11 +7,11 @@ use Rattle.ill_der.specs.declared.fault.DerFault.TheVariants.{Short}
 use Rattle.ill_der.specs.declared.feed.Collector.{Collector}
 use Rattle.ill_der.specs.Stream.{IsUnfinished}
 use Rattle.ill_der.specs.ShortForm.{apdu_at}
-use Rattle.ill_der.specs.Feed.{Begins, Held}
+use Rattle.ill_der.specs.Feed.{Begins, Unread}
 use Rattle.ill_der.specs.Handling.{Handles, Handled, FailsIn, HandlesEach}
 
 -- Returns the feed with these held bytes, or with the fault that closed it.
-abbrev pub held_of : Option DerFault → List ℕ → Held
+abbrev pub held_of : Option DerFault → List ℕ → Unread
 held_of None bytes = Ok bytes
 held_of (Some fault) bytes = Err fault
 
@@ -53,7 +53,7 @@ HandlesAll handles bytes before (Ok (at, fault)) after =
 HandlesAll handles bytes before (Err fault) after = FailsIn handles bytes before fault after
 
 -- Holds if an open feed dropped its held bytes, and `bytes` were pushed. If handling failed, the feed stays.
-abbrev pub GoesOn : {S F : Type 0} → Handles S F → Held → List ℕ → S → Result (Option DerFault) F → Held → S
+abbrev pub GoesOn : {S F : Type 0} → Handles S F → Unread → List ℕ → S → Result (Option DerFault) F → Unread → S
     → Type 0
 GoesOn handles old bytes before (Ok fault) new after =
     HandlesEach handles (Ok []) bytes before (Ok fault) new after

@@ -2,7 +2,7 @@
 use Rattle.std.specs.Prelude.{◌≡◌, ℕ, List, [], ◌∷◌, ◌++◌, Option, Result, Ok, Err}
 use Rattle.ill_values.specs.declared.apdu.Apdu.{Apdu}
 use Rattle.ill_der.specs.declared.fault.DerFault.{DerFault}
-use Rattle.ill_der.specs.Feed.{Begins, Held, Feeds, fault_of}
+use Rattle.ill_der.specs.Feed.{Begins, Unread, Feeds, fault_of}
 
 -- A relation for one APDU: of the state before, the APDU, the result of handling it, and the state after.
 abbrev pub Handles : Type 0 → Type 0 → Type 1
@@ -22,13 +22,13 @@ FailsIn {S = S} handles bytes before fault after =
     × handles state apdu (Err fault) after
 
 -- Holds if handling failed at an APDU of the bytes of an open feed and of `piece`.
-abbrev pub FailsAt : {S F : Type 0} → Handles S F → Held → List ℕ → S → F → S → Type 0
+abbrev pub FailsAt : {S F : Type 0} → Handles S F → Unread → List ℕ → S → F → S → Type 0
 FailsAt handles (Ok held) piece before fault after = FailsIn handles (held ++ piece) before fault after
 FailsAt handles (Err closed) piece before fault after = ⊥
 
 -- Holds if `piece` was pushed and its APDUs were handled, which led to the feed `new` and the state `after`.
 -- If handling failed, the feed stays.
-abbrev pub HandlesEach : {S F : Type 0} → Handles S F → Held → List ℕ → S → Result (Option DerFault) F → Held → S
+abbrev pub HandlesEach : {S F : Type 0} → Handles S F → Unread → List ℕ → S → Result (Option DerFault) F → Unread → S
     → Type 0
 HandlesEach handles old piece before (Ok fault) new after =
     (fault ≡ fault_of new)

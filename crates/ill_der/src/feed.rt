@@ -3,7 +3,7 @@
 ghost use Rattle.std.specs.Prelude.{◌≡◌, ◌+◌, ◌-◌, ◌≤◌, [], ◌∷◌, ◌++◌, length, take, min, IfOk, IsOk, OnOk};
 ghost use Rattle.ill_der.specs.ShortForm.{apdu_at};
 ghost use Rattle.ill_der.specs.Stream.{IsUnfinished};
-ghost use Rattle.ill_der.specs.Feed.{Held, Leaves, Pushes, fault_of, end_of};
+ghost use Rattle.ill_der.specs.Feed.{Unread, Leaves, Pushes, fault_of, end_of};
 ghost use Rattle.ill_der.specs.Handling.{HandlesEach};
 ghost use Rattle.ill_der.specs.FeedView.{held_of, closing, Holds, Fills, GoesOn, Keeps};
 
@@ -29,7 +29,7 @@ pub struct Feed {
 }
 
 impl Model for Feed {
-    ghost Value = { Held };
+    ghost Value = { Unread };
 
     ghost view = { λ f. held_of f.closed (take f.size f.buffer) };
 

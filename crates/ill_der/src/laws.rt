@@ -10,7 +10,7 @@ ghost use Rattle.ill_values.specs.Types.{type_of};
 ghost use Rattle.ill_der.specs.ShortForm.{spelling, apdu_at};
 ghost use Rattle.ill_der.specs.Stream.{IfShort};
 ghost use Rattle.std.specs.List.{concat};
-ghost use Rattle.ill_der.specs.Feed.{Held, Feeds, FeedsAll};
+ghost use Rattle.ill_der.specs.Feed.{Unread, Feeds, FeedsAll};
 ghost use Rattle.ill_der.specs.Laws.{IsBytes, BeginsWithOne};
 
 use ill_values::laws::{date_texts, text_sizes};
@@ -85,14 +85,14 @@ pub fn short_has_the_size()
 
 /// Two pushes, one after the other, give the APDUs and the feed of one push of both pieces.
 pub fn two_pushes()
-    ensures { (old middle new : Held) (front piece : List ℕ) (first more : List Apdu) →
+    ensures { (old middle new : Unread) (front piece : List ℕ) (first more : List Apdu) →
         Feeds old front first middle → Feeds middle piece more new →
         Feeds old (front ++ piece) (first ++ more) new }
 {}
 
 /// A feed gives equal APDUs for all ways to cut bytes into pieces, and comes to equal ends.
 pub fn any_cut()
-    ensures { (pieces others : List (List ℕ)) (a b : List Apdu) (x y : Held) →
+    ensures { (pieces others : List (List ℕ)) (a b : List Apdu) (x y : Unread) →
         concat pieces ≡ concat others → FeedsAll (Ok []) pieces a x → FeedsAll (Ok []) others b y →
         (a ≡ b) × (x ≡ y) }
 {

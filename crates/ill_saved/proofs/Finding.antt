@@ -9,7 +9,7 @@ use Rattle.ill_values.specs.TxnId.{Qualifiers}
 use Rattle.ill_core.specs.Issued.{is_same_txn}
 use Rattle.ill_saved.specs.Side.{txn_of, idle_side}
 use Rattle.ill_saved.specs.Sides.{found_by, put_by, side_with}
-use Rattle.ill_saved.specs.Many.{Held, Holding, txn_held, idle_held, found_or, held_for, side_for, sides_held}
+use Rattle.ill_saved.specs.Many.{DeskEntry, DeskContents, txn_held, idle_held, found_or, held_for, side_for, sides_held}
 
 -- If the test of two transactions is true, they are equal.
 pub same_is : (a b : Qualifiers) → is_same_txn a b ≡ true → a ≡ b
@@ -204,14 +204,14 @@ position_mapped test f xs =
     ∙ ap (λ n. cond (nat_lt (position_or_len (λ x. test (f x)) xs) n) (Some (position_or_len (λ x. test (f x)) xs)) None) (length-map xs f)
 
 -- The side of the held one found, or else of `idle`, is the side found, or else idle.
-side_found : (idle : Held) (found : Option Held)
-    → found_or idle.side (option_map (λ (held : Held). held.side) found) ≡ (found_or idle found).side
+side_found : (idle : DeskEntry) (found : Option DeskEntry)
+    → found_or idle.side (option_map (λ (held : DeskEntry). held.side) found) ≡ (found_or idle found).side
 side_found idle (Some held) = refl
 side_found idle None = refl
 
 -- The side of `txn` among the sides of a desk is the side of what the desk holds for `txn`.
-pub side_of_held : (txn : Qualifiers) (live : Holding) → side_for txn (sides_held live) ≡ (held_for txn live).side
+pub side_of_held : (txn : Qualifiers) (live : DeskContents) → side_for txn (sides_held live) ≡ (held_for txn live).side
 unfolding side_with
 side_of_held txn live =
-    ap (found_or (idle_side live.role txn)) (found_mapped txn_held txn_of (λ (held : Held). held.side) (λ held. refl) txn live.held)
+    ap (found_or (idle_side live.role txn)) (found_mapped txn_held txn_of (λ (held : DeskEntry). held.side) (λ held. refl) txn live.held)
     ∙ side_found (idle_held live.role txn) (found_by txn_held txn live.held)

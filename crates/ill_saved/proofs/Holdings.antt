@@ -40,20 +40,20 @@ use Rattle.ill_saved.specs.declared.store.NextCall.{NextCall}
 use Rattle.ill_saved.specs.Records.{record_at, record_spelling}
 use Rattle.ill_saved.specs.Records2.{AreSides, alone, read_alone, is_version_1, unsealed, sides_at, sides_spelling, records_at, begins_as_records}
 use Rattle.ill_saved.specs.Desk.{IsBackedBy, Loads}
-use Rattle.ill_saved.specs.Many.{ManyOf, StartsMany, LoadsOrNone, Held, Holding, held_of, counts, txn_held, idle_held, whole, found_or, held_for, with_held, sides_held, whole_of, is_own, held_or_begun, reached, acted as acted_by, acts_reached, desk_acts, took as took_by, takes_reached, desk_takes, ManyActs, ManyTakesApdu, FirstActs, FirstTakes, side_for, AreBackedBy, AreBackable, AreBackedByRead, landed_sides, AreBacked}
+use Rattle.ill_saved.specs.Many.{ManyOf, StartsMany, LoadsOrNone, DeskEntry, DeskContents, held_of, counts, txn_held, idle_held, whole, found_or, held_for, with_held, sides_held, whole_of, is_own, held_or_begun, reached, acted as acted_by, acts_reached, desk_acts, took as took_by, takes_reached, desk_takes, ManyActs, ManyTakesApdu, FirstActs, FirstTakes, side_for, AreBackedBy, AreBackable, AreBackedByRead, landed_sides, AreBacked}
 use Rattle.ill_saved.proofs.Desks.{RowsGrow, RefusalsStay, itself_backs, no_less, idle_consistent}
-use Rattle.ill_saved.proofs.Held.{new_to, idle_txn, idle_role, acts_row, takes_row, found_plainly}
+use Rattle.ill_saved.proofs.DeskEntry.{new_to, idle_txn, idle_role, acts_row, takes_row, found_plainly}
 use Rattle.ill_saved.proofs.Finding.{same_is, same_self, found_is, found_put, put_last, put_again, found_mapped, put_length, some_is}
 
 -- ---- sides and their counts
 
 -- Returns the side of `held`.
-abbrev side_of : Held → Side
+abbrev side_of : DeskEntry → Side
 side_of held = held.side
 
 -- If there is a count for each side, the sides that are held are those sides.
 pub sides_there : (sides : List Side) (counted : List ℕ) → length counted ≡ length sides
-    → map (λ (held : Held). held.side) (held_of sides counted) ≡ sides
+    → map (λ (held : DeskEntry). held.side) (held_of sides counted) ≡ sides
 unfolding held_of
 sides_there [] counted as_many = refl
 sides_there (side ∷ sides) [] as_many = absurd (omega (arith, as_many))
@@ -77,10 +77,10 @@ as_many_held sides counted as_many = sym (length-map (held_of sides counted) sid
 
 -- If there is a count for each side, a search of the sides finds the side that is held.
 pub found_side : (txn : Qualifiers) (sides : List Side) (counted : List ℕ) → length counted ≡ length sides
-    → side_with txn sides ≡ option_map (λ (held : Held). held.side) (found_by txn_held txn (held_of sides counted))
+    → side_with txn sides ≡ option_map (λ (held : DeskEntry). held.side) (found_by txn_held txn (held_of sides counted))
 unfolding side_with
 found_side txn sides counted as_many =
-    ap (λ vs. found_by txn_of txn vs) (sym (sides_there sides counted as_many)) ∙ found_mapped txn_held txn_of (λ (held : Held). held.side) (λ held. refl) txn (held_of sides counted)
+    ap (λ vs. found_by txn_of txn vs) (sym (sides_there sides counted as_many)) ∙ found_mapped txn_held txn_of (λ (held : DeskEntry). held.side) (λ held. refl) txn (held_of sides counted)
 
 -- One more side with its count comes after all that are held.
 pub held_last : (sides : List Side) (counted : List ℕ) (side : Side) (n : ℕ) → length counted ≡ length sides
@@ -98,17 +98,17 @@ held_whole [] = refl
 held_whole (side ∷ sides) = ap (λ hs. whole side ∷ hs) (held_whole sides)
 
 -- If `held_put` holds of the other sides, it holds with `x` before them.
-put_among : (after x : Side) (n : ℕ) (held : Held) (sides : List Side) (counted : List ℕ) (same : Bool)
+put_among : (after x : Side) (n : ℕ) (held : DeskEntry) (sides : List Side) (counted : List ℕ) (same : Bool)
     → cond same (Some (record { side = x; released = n })) (found_by txn_held (txn_of after) (held_of sides counted)) ≡ Some held
     → (found_by txn_held (txn_of after) (held_of sides counted) ≡ Some held → held_of (put_by txn_of after sides) counted ≡ put_by txn_held (record { side = after; released = held.released }) (held_of sides counted))
     → held_of (cond same (after ∷ sides) (x ∷ put_by txn_of after sides)) (n ∷ counted)
     ≡ cond same (record { side = after; released = held.released } ∷ held_of sides counted) (record { side = x; released = n } ∷ put_by txn_held (record { side = after; released = held.released }) (held_of sides counted))
 unfolding held_of
-put_among after x n held sides counted true found on = ap (λ (h : Held). record { side = after; released = h.released } ∷ held_of sides counted) (some_is _ _ found)
+put_among after x n held sides counted true found on = ap (λ (h : DeskEntry). record { side = after; released = h.released } ∷ held_of sides counted) (some_is _ _ found)
 put_among after x n held sides counted false found on = ap (λ hs. record { side = x; released = n } ∷ hs) (on found)
 
 -- Putting a side whose transaction is held changes that side alone, and its count stays.
-pub held_put : (after : Side) (held : Held) (sides : List Side) (counted : List ℕ) → length counted ≡ length sides
+pub held_put : (after : Side) (held : DeskEntry) (sides : List Side) (counted : List ℕ) → length counted ≡ length sides
     → found_by txn_held (txn_of after) (held_of sides counted) ≡ Some held
     → held_of (put_by txn_of after sides) counted ≡ put_by txn_held (record { side = after; released = held.released }) (held_of sides counted)
 unfolding held_of put_by
@@ -129,20 +129,20 @@ at_place (x ∷ sides) (m ∷ counted) (suc i) n as_many within at = at_place si
 
 -- A search by transaction stops at one index, among the sides and among those held.
 same_place : (test : Qualifiers → Bool) (sides : List Side) (counted : List ℕ) → length counted ≡ length sides
-    → position_or_len (λ (held : Held). test (txn_of held.side)) (held_of sides counted) ≡ position_or_len (λ side. test (txn_of side)) sides
+    → position_or_len (λ (held : DeskEntry). test (txn_of held.side)) (held_of sides counted) ≡ position_or_len (λ side. test (txn_of side)) sides
 unfolding held_of
 same_place test [] counted as_many = refl
 same_place test (side ∷ sides) [] as_many = absurd (omega (arith, as_many))
 same_place test (side ∷ sides) (n ∷ counted) as_many = ap (λ m. cond (not (test (txn_of side))) (1 + m) 0) (same_place test sides counted (omega (arith, as_many)))
 
 -- If a search among those held gives `side`, it finds a held one, and its side is `side`.
-some_mapped : (found : Option Held) (side : Side) → Some side ≡ option_map (λ (held : Held). held.side) found
-    → (held : Held) × (found ≡ Some held) × (held.side ≡ side)
+some_mapped : (found : Option DeskEntry) (side : Side) → Some side ≡ option_map (λ (held : DeskEntry). held.side) found
+    → (held : DeskEntry) × (found ≡ Some held) × (held.side ≡ side)
 some_mapped (Some held) side e = (held, refl, sym (some_is side held.side e))
 some_mapped None side e = absurd (true≢false (ap is_some e))
 
 -- If a search among those held gives no side, it finds nothing.
-none_mapped : (found : Option Held) → None ≡ option_map (λ (held : Held). held.side) found → found ≡ None
+none_mapped : (found : Option DeskEntry) → None ≡ option_map (λ (held : DeskEntry). held.side) found → found ≡ None
 none_mapped None e = refl
 none_mapped (Some held) e = absurd (true≢false (sym (ap is_some e)))
 
@@ -177,7 +177,7 @@ count_there role sides counted txn place n as_many at within counted_at =
     let pos : position_or_len test sides ≡ place = is_position (position_or_len test sides) (length sides) place (sym at) in
     let there = at_place sides counted place n as_many within counted_at in
     let found : found_by txn_held txn (held_of sides counted) ≡ Some (record { side = there.0; released = n }) =
-    find_at (λ (held : Held). is_same_txn txn (txn_of held.side)) (held_of sides counted) ∙ ap (slice_get (held_of sides counted)) (same_place (is_same_txn txn) sides counted as_many ∙ pos) ∙ there.1 in
+    find_at (λ (held : DeskEntry). is_same_txn txn (txn_of held.side)) (held_of sides counted) ∙ ap (slice_get (held_of sides counted)) (same_place (is_same_txn txn) sides counted as_many ∙ pos) ∙ there.1 in
     sym (ap (λ f. (found_or (idle_held role txn) f).released) found)
 
 -- If no side is of `txn`, none of its messages is released.
@@ -189,23 +189,23 @@ no_count role sides counted txn as_many at =
     let past = no_position (position_or_len test sides) (length sides) (sym at) in
     let pos = same_place (is_same_txn txn) sides counted as_many in
     let found : found_by txn_held txn (held_of sides counted) ≡ None =
-    none_there (λ (held : Held). is_same_txn txn (txn_of held.side)) (held_of sides counted) (ap (λ n. nat_lt n (length (held_of sides counted))) pos ∙ ap (nat_lt (position_or_len test sides)) (as_many_held sides counted as_many) ∙ past) in
+    none_there (λ (held : DeskEntry). is_same_txn txn (txn_of held.side)) (held_of sides counted) (ap (λ n. nat_lt n (length (held_of sides counted))) pos ∙ ap (nat_lt (position_or_len test sides)) (as_many_held sides counted as_many) ∙ past) in
     sym (ap (λ f. (found_or (idle_held role txn) f).released) found)
 
 -- If a search among those held gives `side`, then `side` is held with its released count.
-found_so : (idle : Held) (side : Side) (found : Option Held) → Some side ≡ option_map side_of found
+found_so : (idle : DeskEntry) (side : Side) (found : Option DeskEntry) → Some side ≡ option_map side_of found
     → found ≡ Some (record { side = side; released = (found_or idle found).released })
 found_so idle side (Some held) e = ap (λ s. Some (record { side = s; released = held.released })) (sym (some_is side held.side e))
 found_so idle side None e = absurd (true≢false (ap is_some e))
 
 -- If `side` is the side of `txn`, it is held with its released count.
-pub held_there : (live : Holding) (txn : Qualifiers) (side : Side) → side_with txn (sides_held live).sides ≡ Some side
+pub held_there : (live : DeskContents) (txn : Qualifiers) (side : Side) → side_with txn (sides_held live).sides ≡ Some side
     → found_by txn_held txn live.held ≡ Some (record { side = side; released = (held_for txn live).released })
 unfolding side_with
 held_there live txn side there = found_so (idle_held live.role txn) side (found_by txn_held txn live.held) (sym there ∙ found_mapped txn_held txn_of side_of (λ held. refl) txn live.held)
 
 -- If no side is of `txn`, nothing is held of `txn`.
-pub none_held_there : (live : Holding) (txn : Qualifiers) → side_with txn (sides_held live).sides ≡ None
+pub none_held_there : (live : DeskContents) (txn : Qualifiers) → side_with txn (sides_held live).sides ≡ None
     → found_by txn_held txn live.held ≡ None
 unfolding side_with
 none_held_there live txn none = none_mapped _ (sym none ∙ found_mapped txn_held txn_of side_of (λ held. refl) txn live.held)
@@ -222,7 +222,7 @@ backed_on : (landed old new : Side) (released : ℕ) → IsStep old new → IsBa
 backed_on landed old new released row backed = record { consistent = backed.consistent; follows = one_further old new backed.follows row; has-released = backed.has-released }
 
 -- If `landed` backs the held side that is found, it still does after a side that it backs is put.
-found_backs : (landed : Side) (idle new old : Held) (found : Option Held) (same : Bool)
+found_backs : (landed : Side) (idle new old : DeskEntry) (found : Option DeskEntry) (same : Bool)
     → (same ≡ true → IsBackedBy landed new.side new.released)
     → IsBackedBy landed (found_or idle found).side (found_or idle found).released
     → IsBackedBy landed (found_or idle (cond same (Some new) found)).side (found_or idle (cond same (Some new) found)).released
@@ -230,24 +230,24 @@ found_backs landed idle new old found true backs backed = backs refl
 found_backs landed idle new old found false backs backed = backed
 
 -- If landed sides back the desk's content, they back it after a row of one side.
-pub row_backs_held : (landed : SidesOf) (live : Holding) (held : Held) (new : Side)
+pub row_backs_held : (landed : SidesOf) (live : DeskContents) (held : DeskEntry) (new : Side)
     → held_for (txn_of new) live ≡ held → IsStep held.side new → AreBackedBy landed live
     → AreBackedBy landed (with_held live (record { side = new; released = held.released }))
 row_backs_held landed live held new is row backed = record {
   role = backed.role;
   each = λ txn.
-      let after : Held = record { side = new; released = held.released } in
+      let after : DeskEntry = record { side = new; released = held.released } in
       let here : is_same_txn txn (txn_of new) ≡ true → IsBackedBy (side_for txn landed) new held.released =
       λ same.
       let of : txn ≡ txn_of new = same_is txn (txn_of new) same in
       let there : held_for txn live ≡ held = ap (λ t. held_for t live) of ∙ is in
-      backed_on (side_for txn landed) held.side new held.released row (subst (λ (h : Held). IsBackedBy (side_for txn landed) h.side h.released) there (backed.each txn)) in
+      backed_on (side_for txn landed) held.side new held.released row (subst (λ (h : DeskEntry). IsBackedBy (side_for txn landed) h.side h.released) there (backed.each txn)) in
       subst (λ found. IsBackedBy (side_for txn landed) (found_or (idle_held live.role txn) found).side (found_or (idle_held live.role txn) found).released) (sym (found_put txn_held txn after live.held))
       (found_backs (side_for txn landed) (idle_held live.role txn) after held (found_by txn_held txn live.held) (is_same_txn txn (txn_of new)) here (backed.each txn));
 }
 
 -- If the sides that were read back the desk's content, they back it after a row of one side.
-pub row_backs_all : (landed : Result SidesOf RecordFault) (live : Holding) (held : Held) (new : Side)
+pub row_backs_all : (landed : Result SidesOf RecordFault) (live : DeskContents) (held : DeskEntry) (new : Side)
     → held_for (txn_of new) live ≡ held → IsStep held.side new → AreBackedByRead landed live
     → AreBackedByRead landed (with_held live (record { side = new; released = held.released }))
 row_backs_all (Ok landed) live held new is row backed = row_backs_held landed live held new is row backed
@@ -256,7 +256,7 @@ row_backs_all (Err fault) live held new is row backed = backed
 -- ---- actions and messages of a side that is held
 
 -- Putting a held side as it is changes nothing.
-pub unchanged : (live : Holding) (held : Held) (txn : Qualifiers) (new : Side)
+pub unchanged : (live : DeskContents) (held : DeskEntry) (txn : Qualifiers) (new : Side)
     → found_by txn_held txn live.held ≡ Some held → new ≡ held.side
     → with_held live (record { side = new; released = held.released }) ≡ live
 unchanged live held txn new found same =
@@ -270,19 +270,19 @@ desk_answer (Ok answer) = Ok answer
 desk_answer (Err refusal) = Err (of_core refusal)
 
 -- An action of the desk is done exactly if that of its side is.
-acted_ok : (live : Holding) (held : Held) (r : Result Side Refusal) → is_ok (acted_by live held r) ≡ is_ok r
+acted_ok : (live : DeskContents) (held : DeskEntry) (r : Result Side Refusal) → is_ok (acted_by live held r) ≡ is_ok r
 acted_ok live held (Ok new) = refl
 acted_ok live held (Err refusal) = refl
 
 -- If the side takes an APDU, the desk does.
-took_taken : (live : Holding) (held : Held) (r : Result Taking Refusal) (new : Side) → r ≡ Ok Taken
+took_taken : (live : DeskContents) (held : DeskEntry) (r : Result Taking Refusal) (new : Side) → r ≡ Ok Taken
     → (took_by live held (r, new)).0 ≡ Ok Taken
 took_taken live held (Ok taking) new e = search rules
 took_taken live held (Err refusal) new e = search rules
 
-module _ (live : Holding) (txn : Qualifiers) (held : Held) (after : Side) (found : found_by txn_held txn live.held ≡ Some held) where
+module _ (live : DeskContents) (txn : Qualifiers) (held : DeskEntry) (after : Side) (found : found_by txn_held txn live.held ≡ Some held) where
   -- Returns the desk's content with `after` instead of its old side. The released count stays.
-  abbrev next : Holding
+  abbrev next : DeskContents
   next = with_held live (record { side = after; released = held.released })
 
   -- If the side of `txn` is held and the role fits, the desk acts as the side does.
@@ -301,7 +301,7 @@ module _ (live : Holding) (txn : Qualifiers) (held : Held) (after : Side) (found
       (ap is_ok (acts_there action fits) ∙ acted_ok live held _ ∙ acts.0, unchanged live held txn after found acts.1)
   acts_held action (Err refusal) fits acts = (acts_there action fits ∙ ap (acted_by live held) acts.0, unchanged live held txn after found acts.1)
 
-module _ (live : Holding) (a : Apdu) (held : Held) (after : Side) (found : found_by txn_held a.txn live.held ≡ Some held) (other : is_own live.role a.body ≡ false) where
+module _ (live : DeskContents) (a : Apdu) (held : DeskEntry) (after : Side) (found : found_by txn_held a.txn live.held ≡ Some held) (other : is_own live.role a.body ≡ false) where
   -- If the side of the APDU's transaction is held, and the APDU is not its own, that side takes it.
   takes_there : desk_takes live a ≡ took_by live held (takes held.side a)
   takes_there =
@@ -312,7 +312,7 @@ module _ (live : Holding) (a : Apdu) (held : Held) (after : Side) (found : found
   pub takes_held : RefusalsStay → (answer : Result Taking Refusal) → Takes held.side a answer after
       → ManyTakesApdu live a (desk_answer answer) (next live a.txn held after found)
   takes_held stay (Err refusals.OutOfMemory) takes_so = (
-    ap (λ (p : Result Taking DeskFault × Holding). p.0) takes_there ∙ took_taken live held (takes held.side a).0 (takes held.side a).1 takes_so.0,
+    ap (λ (p : Result Taking DeskFault × DeskContents). p.0) takes_there ∙ took_taken live held (takes held.side a).0 (takes held.side a).1 takes_so.0,
     ap (λ f. takes_memory (found_or (idle_held live.role a.txn) f).side a) found ∙ takes_so.1,
     unchanged live held a.txn after found takes_so.2,
   )
@@ -386,13 +386,13 @@ may_put : (held : SidesOf) (side : Side) → is_same_role held.role (role_of sid
 may_put held side fits begun none room = may_put_so (is_same_role held.role (role_of side)) (is_idle side) (is_some (side_with (txn_of side) held.sides)) (nat_lt (length held.sides) most_sides) fits begun (ap is_some none) room
 
 -- If nothing is held of `txn`, no side is of `txn`.
-none_with : (live : Holding) (txn : Qualifiers) → found_by txn_held txn live.held ≡ None
+none_with : (live : DeskContents) (txn : Qualifiers) → found_by txn_held txn live.held ≡ None
     → side_with txn (sides_held live).sides ≡ None
 unfolding side_with
 none_with live txn none = found_mapped txn_held txn_of side_of (λ held. refl) txn live.held ∙ ap (option_map side_of) none
 
 -- A side that has begun in a transaction that is not held.
-module _ (grows : RowsGrow) (live : Holding) (txn : Qualifiers) (none : found_by txn_held txn live.held ≡ None) (room : nat_lt (length live.held) most_sides ≡ true) (side : Side) (row : IsStep (idle_side live.role txn) side)
+module _ (grows : RowsGrow) (live : DeskContents) (txn : Qualifiers) (none : found_by txn_held txn live.held ≡ None) (room : nat_lt (length live.held) most_sides ≡ true) (side : Side) (row : IsStep (idle_side live.role txn) side)
     (begun : is_idle side ≡ false) where
   -- The new side is of `txn`.
   first_txn : txn_of side ≡ txn
@@ -425,7 +425,7 @@ first_begins law roles.Requester a side request other taken = absurd (true≢fal
 
 module _ (role : Role) (sides : List Side) (counted : List ℕ) (as_many : length counted ≡ length sides) where
   -- Returns the content of a desk with these sides and counts.
-  abbrev held_so : Holding
+  abbrev held_so : DeskContents
   held_so = record { role = role; held = held_of sides counted }
 
   -- If no side is of `txn`, nothing is held of `txn`.
@@ -434,7 +434,7 @@ module _ (role : Role) (sides : List Side) (counted : List ℕ) (as_many : lengt
 
   -- If `side` is the side of `txn`, it is held.
   side_held : (txn : Qualifiers) (side : Side) → side_with txn sides ≡ Some side
-      → (held : Held) × (found_by txn_held txn (held_of sides counted) ≡ Some held) × (held.side ≡ side)
+      → (held : DeskEntry) × (found_by txn_held txn (held_of sides counted) ≡ Some held) × (held.side ≡ side)
   side_held txn side there = some_mapped _ side (sym there ∙ found_side txn sides counted as_many)
 
   module _ (grows : RowsGrow) (txn : Qualifiers) {A : Type 0} (Does : Side → A → Side → Type 0) (rows : (old new : Side) (answer : A) → Does old answer new → IsStep old new ⊎ (new ≡ old)) where
@@ -448,7 +448,7 @@ module _ (role : Role) (sides : List Side) (counted : List ℕ) (as_many : lengt
 
     -- If the side of `txn` alone does something, the desk holds the side after it instead, and its count stays.
     pub changed_held : (answer : A) (new : SidesOf) → OnlyThat Does txn (record { role = role; sides = sides }) (Some answer) new
-        → (held : Held) × (after : Side) × (found_by txn_held txn (held_of sides counted) ≡ Some held) × Does held.side answer after × (txn ≡ txn_of after)
+        → (held : DeskEntry) × (after : Side) × (found_by txn_held txn (held_of sides counted) ≡ Some held) × Does held.side answer after × (txn ≡ txn_of after)
         × (record { role = new.role; held = held_of new.sides counted } ≡ with_held held_so (record { side = after; released = held.released })) × (length counted ≡ length new.sides)
     changed_held answer new (side, after, there, does, changed) =
         let held = side_held txn side there in
@@ -461,7 +461,7 @@ module _ (role : Role) (sides : List Side) (counted : List ℕ) (as_many : lengt
         (held.0, after, held.1, subst (λ s. Does s answer after) (sym held.2) does, of, holding, as_many ∙ sym (ap (λ (all : SidesOf). length all.sides) changed ∙ few))
 
     -- If landed sides back the desk's content, they back it after a held side does something.
-    changed_backs : (landed : Result SidesOf RecordFault) (held : Held) (after : Side) (answer : A)
+    changed_backs : (landed : Result SidesOf RecordFault) (held : DeskEntry) (after : Side) (answer : A)
         → found_by txn_held txn (held_of sides counted) ≡ Some held → Does held.side answer after → txn ≡ txn_of after
         → AreBackedByRead landed held_so
         → AreBackedByRead landed (with_held held_so (record { side = after; released = held.released }))
@@ -602,7 +602,7 @@ whole_backable all counted each whole = (all, subst (AreBackedBy all) (sym (whol
 
 -- If some sides back the desk's content, no more messages are released than issued.
 pub few_released : ((old new : Side) → Follows old new → IsPrefix (issued_of old) (issued_of new))
-    → (live : Holding) (txn : Qualifiers) → AreBackable live
+    → (live : DeskContents) (txn : Qualifiers) → AreBackable live
     → (held_for txn live).released ≤ length (issued_of (held_for txn live).side)
 few_released follows live txn backed =
     let is = backed.1.each txn in
@@ -647,13 +647,13 @@ FollowsIssues = (old new : Side) → Follows old new → IsPrefix (issued_of old
 
 module _ (follows : FollowsIssues) (all : SidesOf) (counted : List ℕ) (as_many : length counted ≡ length all.sides) (each : Each IsConsistent all.sides) where
   -- If a found side is consistent, so is the side found, or else the idle one.
-  keeps_or : (txn : Qualifiers) (found : Option Held) → IfSome (option_map side_of found) IsConsistent
+  keeps_or : (txn : Qualifiers) (found : Option DeskEntry) → IfSome (option_map side_of found) IsConsistent
       → IsConsistent (found_or (idle_held all.role txn) found).side
   keeps_or txn (Some held) is = is
   keeps_or txn None is = idle_keeps all.role txn
 
   -- The side found, or else idle, is the side of the held one found, or else of the idle one.
-  same_or : (txn : Qualifiers) (found : Option Held)
+  same_or : (txn : Qualifiers) (found : Option DeskEntry)
       → found_or (idle_side all.role txn) (option_map side_of found) ≡ (found_or (idle_held all.role txn) found).side
   same_or txn (Some held) = refl
   same_or txn None = refl
@@ -665,7 +665,7 @@ module _ (follows : FollowsIssues) (all : SidesOf) (counted : List ℕ) (as_many
   self_backed landed backed = record {
     role = refl;
     each = λ txn.
-        let live : Holding = record { role = all.role; held = held_of all.sides counted } in
+        let live : DeskContents = record { role = all.role; held = held_of all.sides counted } in
         let held = held_for txn live in
         let found = found_by txn_held txn live.held in
         let there = found_side txn all.sides counted as_many in

@@ -7,7 +7,7 @@ pub mod RecordLaws
 pub mod SidesLaws
 pub mod Roles
 pub mod Finding
-pub mod Held
+pub mod DeskEntry
 pub mod Together
 pub mod Desks
 pub mod Holdings

@@ -28,18 +28,18 @@ use Rattle.ill_saved.specs.Records2.{AreSides, records_at, begins_as_records}
 use Rattle.ill_saved.specs.Desk.{Begins, IsBackedBy, IsLoadFault, Sends, store_after}
 
 -- A held side, and the number of its messages that are released.
-pub record Held : Type 0 where
+pub record DeskEntry : Type 0 where
   pub side : Side
   pub released : ℕ
 
 -- The content of a desk: sides of one role, in the order in which they were begun.
-pub record Holding : Type 0 where
+pub record DeskContents : Type 0 where
   pub role : Role
-  pub held : List Held
+  pub held : List DeskEntry
 
 -- A desk of many transactions, with its store.
 pub record ManyOf (S : Type 0) : Type 0 where
-  pub live : Holding
+  pub live : DeskContents
   pub store : S
 
 -- ---- the side of a transaction
@@ -49,20 +49,20 @@ abbrev pub counts : List Side → List ℕ
 counts sides = map (λ side. length (issued_of side)) sides
 
 -- Returns each side with its count, as the number of its released messages.
-unfoldable pub held_of : List Side → List ℕ → List Held
+unfoldable pub held_of : List Side → List ℕ → List DeskEntry
 held_of (side ∷ sides) (count ∷ counts) = record { side = side; released = count } ∷ held_of sides counts
 held_of sides counts = []
 
 -- Returns the transaction of a held side.
-abbrev pub txn_held : Held → Qualifiers
+abbrev pub txn_held : DeskEntry → Qualifiers
 txn_held held = txn_of held.side
 
 -- Returns the idle side of this role and transaction, with no message released.
-abbrev pub idle_held : Role → Qualifiers → Held
+abbrev pub idle_held : Role → Qualifiers → DeskEntry
 idle_held role txn = record { side = idle_side role txn; released = 0 }
 
 -- Returns the side with all of its messages released.
-abbrev pub whole : Side → Held
+abbrev pub whole : Side → DeskEntry
 whole side = record { side = side; released = length (issued_of side) }
 
 -- Returns the item that was found, or else `instead`.
@@ -71,19 +71,19 @@ found_or instead (Some item) = item
 found_or instead None = instead
 
 -- Returns the held side of transaction `txn`, or else the idle one with no message released.
-abbrev pub held_for : Qualifiers → Holding → Held
+abbrev pub held_for : Qualifiers → DeskContents → DeskEntry
 held_for txn live = found_or (idle_held live.role txn) (found_by txn_held txn live.held)
 
 -- Returns the desk's content with `held` instead of the side of its transaction, or after all if there is none.
-abbrev pub with_held : Holding → Held → Holding
+abbrev pub with_held : DeskContents → DeskEntry → DeskContents
 with_held live held = record { role = live.role; held = put_by txn_held held live.held }
 
 -- Returns the sides that are held, without their counts.
-abbrev pub sides_held : Holding → SidesOf
+abbrev pub sides_held : DeskContents → SidesOf
 sides_held live = record { role = live.role; sides = map (λ held. held.side) live.held }
 
 -- Returns the sides with all of their messages released.
-abbrev pub whole_of : SidesOf → Holding
+abbrev pub whole_of : SidesOf → DeskContents
 whole_of all = record { role = all.role; held = map whole all.sides }
 
 -- ---- actions and messages
@@ -95,62 +95,62 @@ is_own Responder body = not (is_requesters body)
 
 -- Returns the held side, or `idle` if the transaction may begin and there is room.
 -- Otherwise the fault is `DeskFull`, or `NoSuchTransaction` if it may not begin.
-abbrev pub held_or_begun : Bool → Bool → Held → Option Held → Result Held DeskFault
+abbrev pub held_or_begun : Bool → Bool → DeskEntry → Option DeskEntry → Result DeskEntry DeskFault
 held_or_begun may_begin has_room idle (Some held) = Ok held
 held_or_begun may_begin has_room idle None =
     if may_begin then (if has_room then Ok idle else Err DeskFull) else Err NoSuchTransaction
 
 -- Returns the side of `txn` that an action or a message reaches: held, or idle if it may begin.
-abbrev pub reached : Holding → Qualifiers → Bool → Result Held DeskFault
+abbrev pub reached : DeskContents → Qualifiers → Bool → Result DeskEntry DeskFault
 reached live txn may_begin =
     held_or_begun may_begin (nat_lt (length live.held) most_sides) (idle_held live.role txn)
     (found_by txn_held txn live.held)
 
 -- Returns the desk's content with the new side of an action, or the refusal. The released count stays.
-abbrev pub acted : Holding → Held → Result Side Refusal → Result Holding DeskFault
+abbrev pub acted : DeskContents → DeskEntry → Result Side Refusal → Result DeskContents DeskFault
 acted live held (Ok new) = Ok (with_held live (record { side = new; released = held.released }))
 acted live held (Err refusal) = Err (Core refusal)
 
 -- Returns the desk's content after the action of the side that was reached, or the fault.
-abbrev pub acts_reached : Holding → Action → Result Held DeskFault → Result Holding DeskFault
+abbrev pub acts_reached : DeskContents → Action → Result DeskEntry DeskFault → Result DeskContents DeskFault
 acts_reached live action (Ok held) = acted live held (acts held.side action)
 acts_reached live action (Err fault) = Err fault
 
 -- Returns the desk's content after an action in transaction `txn`, or the refusal.
 -- An action of the other role is refused as `WrongRole`.
-abbrev pub desk_acts : Holding → Qualifiers → Action → Result Holding DeskFault
+abbrev pub desk_acts : DeskContents → Qualifiers → Action → Result DeskContents DeskFault
 desk_acts live txn action =
     if is_same_role live.role (role_for action)
     then acts_reached live action (reached live txn (begins action))
     else Err (Core WrongRole)
 
 -- Returns the answer to an APDU, and the desk's content with the side after it. A refusal leaves the content.
-abbrev pub took : Holding → Held → Result Taking Refusal × Side → Result Taking DeskFault × Holding
+abbrev pub took : DeskContents → DeskEntry → Result Taking Refusal × Side → Result Taking DeskFault × DeskContents
 took live held (Ok taking, new) =
     (Ok taking, with_held live (record { side = new; released = held.released }))
 took live held (Err refusal, new) = (Err (Core refusal), live)
 
 -- Returns the answer to an APDU of the side that was reached, and the desk's content after it. A fault leaves it.
-abbrev pub takes_reached : Holding → Apdu → Result Held DeskFault → Result Taking DeskFault × Holding
+abbrev pub takes_reached : DeskContents → Apdu → Result DeskEntry DeskFault → Result Taking DeskFault × DeskContents
 takes_reached live a (Ok held) = took live held (takes held.side a)
 takes_reached live a (Err fault) = (Err fault, live)
 
 -- Returns the answer of a desk to an APDU, and its content after it. The side of the APDU's own transaction takes it.
-abbrev pub desk_takes : Holding → Apdu → Result Taking DeskFault × Holding
+abbrev pub desk_takes : DeskContents → Apdu → Result Taking DeskFault × DeskContents
 desk_takes live a =
     if is_own live.role a.body then (Err (Core WrongRole), live)
     else takes_reached live a (reached live a.txn (is_ill_request a.body))
 
 -- States the answer of a desk to an action, and its content after it. A fault changes nothing.
 -- Memory can run out only for an action that would be done.
-abbrev pub ManyActs : Holding → Qualifiers → Action → Result (Unit {0}) DeskFault → Holding → Type 0
+abbrev pub ManyActs : DeskContents → Qualifiers → Action → Result (Unit {0}) DeskFault → DeskContents → Type 0
 ManyActs old txn action (Ok done) new = desk_acts old txn action ≡ Ok new
 ManyActs old txn action (Err OutOfMemory) new = (is_ok (desk_acts old txn action) ≡ true) × (new ≡ old)
 ManyActs old txn action (Err fault) new = (desk_acts old txn action ≡ Err fault) × (new ≡ old)
 
 -- States the answer of a desk to an APDU, and its content after it.
 -- Memory can run out only if the side takes memory for the APDU.
-abbrev pub ManyTakesApdu : Holding → Apdu → Result Taking DeskFault → Holding → Type 0
+abbrev pub ManyTakesApdu : DeskContents → Apdu → Result Taking DeskFault → DeskContents → Type 0
 ManyTakesApdu old a (Err OutOfMemory) new =
     ((desk_takes old a).0 ≡ Ok Taken) × (takes_memory (held_for a.txn old).side a ≡ true) × (new ≡ old)
 ManyTakesApdu old a answer new = desk_takes old a ≡ (answer, new)
@@ -158,14 +158,14 @@ ManyTakesApdu old a answer new = desk_takes old a ≡ (answer, new)
 -- States the answer of a desk to bytes, from the APDU that a prefix encodes, or its fault.
 -- If the APDU is all of the bytes, the side of its transaction takes it. If bytes follow it, the answer is `Trailing`.
 -- If memory runs out for an APDU that was read, nothing changes.
-abbrev pub ManyTakes : Holding → Result (Apdu × List ℕ) DerFault → Result Taking DeskFault → Holding → Type 0
+abbrev pub ManyTakes : DeskContents → Result (Apdu × List ℕ) DerFault → Result Taking DeskFault → DeskContents → Type 0
 ManyTakes old (Err fault) answer new = (answer ≡ Err (Bytes fault)) × (new ≡ old)
 ManyTakes old (Ok found) (Err OutOfMemory) new = new ≡ old
 ManyTakes old (Ok (a, [])) answer new = desk_takes old a ≡ (answer, new)
 ManyTakes old (Ok (a, byte ∷ rest)) answer new = (answer ≡ Err Trailing) × (new ≡ old)
 
 -- States the answer to a call that asks for message `number` of a held side. No side is `NoSuchTransaction`.
-abbrev pub SendsHeld : {X : Type 0} → (X → List ℕ) → Option Held → ℕ → Result X DeskFault → Type 0
+abbrev pub SendsHeld : {X : Type 0} → (X → List ℕ) → Option DeskEntry → ℕ → Result X DeskFault → Type 0
 SendsHeld view None number answer = answer ≡ Err NoSuchTransaction
 SendsHeld view (Some held) number answer =
     Sends view (message (issued_of held.side) number) (nat_le number held.released) answer
@@ -188,16 +188,16 @@ abbrev pub side_for : Qualifiers → SidesOf → Side
 side_for txn all = found_or (idle_side all.role txn) (side_with txn all.sides)
 
 -- In each transaction, the landed side has each released message, and the live side follows from it by rows.
-pub record AreBackedBy (landed : SidesOf) (live : Holding) : Type 0 where
+pub record AreBackedBy (landed : SidesOf) (live : DeskContents) : Type 0 where
   pub role : landed.role ≡ live.role
   pub each : (txn : Qualifiers) → IsBackedBy (side_for txn landed) (held_for txn live).side (held_for txn live).released
 
 -- There are sides that back the desk's content. They need not have landed.
-abbrev pub AreBackable : Holding → Type 0
+abbrev pub AreBackable : DeskContents → Type 0
 AreBackable live = (landed : SidesOf) × AreBackedBy landed live
 
 -- Reading gave sides, and they back the desk's content. No fault backs it.
-abbrev pub AreBackedByRead : Result SidesOf RecordFault → Holding → Type 0
+abbrev pub AreBackedByRead : Result SidesOf RecordFault → DeskContents → Type 0
 AreBackedByRead (Ok landed) live = AreBackedBy landed live
 AreBackedByRead (Err fault) live = ⊥
 
@@ -207,16 +207,16 @@ landed_sides None role = Ok (record { role = role; sides = [] })
 landed_sides (Some bytes) role = records_at bytes
 
 -- The sides that have landed back the desk's content.
-abbrev pub AreBacked : Option (List ℕ) → Holding → Type 0
+abbrev pub AreBacked : Option (List ℕ) → DeskContents → Type 0
 AreBacked landed live = AreBackedByRead (landed_sides landed live.role) live
 
 -- Returns the desk's content after a save: all messages are released. After a fault, it is unchanged.
-abbrev pub holding_after : Result (Unit {0}) DeskFault → Holding → Holding
+abbrev pub holding_after : Result (Unit {0}) DeskFault → DeskContents → DeskContents
 holding_after (Ok done) live = whole_of (sides_held live)
 holding_after (Err fault) live = live
 
 -- Unless memory ran out, the held sides are consistent and in range.
-abbrev pub WereSpelled : Result (Unit {0}) DeskFault → Holding → Type 0
+abbrev pub WereSpelled : Result (Unit {0}) DeskFault → DeskContents → Type 0
 WereSpelled (Err OutOfMemory) live = Unit {0}
 WereSpelled answer live = AreSides (sides_held live)
 

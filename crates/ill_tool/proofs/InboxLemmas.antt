@@ -5,7 +5,7 @@ use Rattle.ill_values.specs.declared.apdu.Apdu.{Apdu}
 use Rattle.ill_der.specs.declared.fault.DerFault.{DerFault}
 use Rattle.ill_der.specs.ShortForm.{Views}
 use Rattle.ill_tool.specs.declared.verdict.Unfit.TheVariants.{Trailing}
-use Rattle.ill_saved.specs.Many.{Holding}
+use Rattle.ill_saved.specs.Many.{DeskContents}
 use Rattle.ill_tool.specs.declared.verdict.Mail.{Mail}
 use Rattle.ill_tool.specs.declared.verdict.Verdict.{Verdict}
 use Rattle.ill_tool.specs.declared.tally.Tally.{Tally}
@@ -32,7 +32,7 @@ concluded_is waiting sorted end verdicts tally told is all counted text =
     ap (λ told. record { live = sorted.live; verdicts = sorted.verdicts; told = told; kept = sorted.kept }) whole ∙ ap (concluded waiting) is
 
 -- A run that answers verdicts has ended well.
-pub ended_if_ok : {X : Type 0} (items : X → List Verdict) (mails : List Mail) (waiting : ℕ) (kept_before kept_after before after : Option (List ℕ)) (old new : View Holding) (result : Result X ToolFault)
+pub ended_if_ok : {X : Type 0} (items : X → List Verdict) (mails : List Mail) (waiting : ℕ) (kept_before kept_after before after : Option (List ℕ)) (old new : View DeskContents) (result : Result X ToolFault)
     → RunsInbox many_sides mails waiting kept_before kept_after before after old (answered_with items result) new → IfOk result (λ verdicts. EndedWell mails (items verdicts) new)
 unfolding EndedWell
 ended_if_ok items mails waiting kept_before kept_after before after old new (Ok verdicts) runs = (waiting, kept_before, kept_after, before, after, old, runs)

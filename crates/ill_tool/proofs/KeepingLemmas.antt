@@ -16,7 +16,7 @@ use Rattle.ill_saved.specs.declared.fault.DeskFault.{DeskFault}
 use Rattle.ill_saved.specs.declared.fault.DeskFault.TheVariants as desks
 use Rattle.ill_saved.specs.Side.{txn_of, role_for, begins, acts, takes}
 use Rattle.ill_saved.specs.Sides.{most_sides, is_same_role, side_with, are_apart}
-use Rattle.ill_saved.specs.Many.{Held, Holding, is_own, found_by, txn_held, found_or, idle_held, held_for, sides_held, held_or_begun, reached, acted, acts_reached, desk_acts, took, takes_reached, desk_takes, ManyActs, ManyTakesApdu}
+use Rattle.ill_saved.specs.Many.{DeskEntry, DeskContents, is_own, found_by, txn_held, found_or, idle_held, held_for, sides_held, held_or_begun, reached, acted, acts_reached, desk_acts, took, takes_reached, desk_takes, ManyActs, ManyTakesApdu}
 use Rattle.ill_tool.specs.Keeping.{many_sides}
 use Rattle.ill_tool.specs.Keeper.{IsRefusal, KeeperActs, KeeperTakes}
 use Rattle.ill_saved.proofs.Finding.{same_is, same_self, some_is, found_mapped}
@@ -30,80 +30,80 @@ either P false x y p q = q
 abbrev OnlyRefuses : {X : Type 0} → Result X DeskFault → Type 0
 OnlyRefuses answer = IfErr answer IsRefusal
 
-begun_or_refused : (may room : Bool) (idle : Held) (found : Option Held) → OnlyRefuses (held_or_begun may room idle found)
+begun_or_refused : (may room : Bool) (idle : DeskEntry) (found : Option DeskEntry) → OnlyRefuses (held_or_begun may room idle found)
 begun_or_refused may room idle (Some held) = tt
 begun_or_refused may room idle None =
     either OnlyRefuses may (cond room (Ok idle) (Err desks.DeskFull)) (Err desks.NoSuchTransaction) (either OnlyRefuses room (Ok idle) (Err desks.DeskFull) tt refl) refl
 
-acted_or_refused : (live : Holding) (held : Held) (answer : Result Side Refusal) → OnlyRefuses (acted live held answer)
+acted_or_refused : (live : DeskContents) (held : DeskEntry) (answer : Result Side Refusal) → OnlyRefuses (acted live held answer)
 acted_or_refused live held (Ok side) = tt
 acted_or_refused live held (Err refusal) = refl
 
-acts_or_refused : (live : Holding) (action : Action) (there : Result Held DeskFault) → OnlyRefuses there → OnlyRefuses (acts_reached live action there)
+acts_or_refused : (live : DeskContents) (action : Action) (there : Result DeskEntry DeskFault) → OnlyRefuses there → OnlyRefuses (acts_reached live action there)
 acts_or_refused live action (Ok held) only = acted_or_refused live held (acts held.side action)
 acts_or_refused live action (Err fault) only = only
 
-took_or_refused : (live : Holding) (held : Held) (answer : Result Taking Refusal) (side : Side) → OnlyRefuses (took live held (answer, side)).0
+took_or_refused : (live : DeskContents) (held : DeskEntry) (answer : Result Taking Refusal) (side : Side) → OnlyRefuses (took live held (answer, side)).0
 took_or_refused live held (Ok answer) side = tt
 took_or_refused live held (Err refusal) side = refl
 
-takes_or_refused : (live : Holding) (a : Apdu) (there : Result Held DeskFault) → OnlyRefuses there → OnlyRefuses (takes_reached live a there).0
+takes_or_refused : (live : DeskContents) (a : Apdu) (there : Result DeskEntry DeskFault) → OnlyRefuses there → OnlyRefuses (takes_reached live a there).0
 takes_or_refused live a (Ok held) only = took_or_refused live held (takes held.side a).0 (takes held.side a).1
 takes_or_refused live a (Err fault) only = only
 
-reached_or_refused : (live : Holding) (txn : Qualifiers) (may : Bool) → OnlyRefuses (reached live txn may)
+reached_or_refused : (live : DeskContents) (txn : Qualifiers) (may : Bool) → OnlyRefuses (reached live txn may)
 reached_or_refused live txn may = begun_or_refused may (nat_lt (length live.held) most_sides) (idle_held live.role txn) (found_by txn_held txn live.held)
 
-desk_acts_or_refuses : (live : Holding) (txn : Qualifiers) (action : Action) → OnlyRefuses (desk_acts live txn action)
+desk_acts_or_refuses : (live : DeskContents) (txn : Qualifiers) (action : Action) → OnlyRefuses (desk_acts live txn action)
 desk_acts_or_refuses live txn action =
-    let there : Result Held DeskFault = reached live txn (begins action) in
+    let there : Result DeskEntry DeskFault = reached live txn (begins action) in
     either OnlyRefuses (is_same_role live.role (role_for action)) (acts_reached live action there) (Err (desks.Core WrongRole))
     (acts_or_refused live action there (reached_or_refused live txn (begins action))) refl
 
-desk_takes_or_refuses : (live : Holding) (a : Apdu) → OnlyRefuses (desk_takes live a).0
+desk_takes_or_refuses : (live : DeskContents) (a : Apdu) → OnlyRefuses (desk_takes live a).0
 desk_takes_or_refuses live a =
-    let there : Result Held DeskFault = reached live a.txn (is_ill_request a.body) in
-    either (λ (p : Result Taking DeskFault × Holding). OnlyRefuses p.0) (is_own live.role a.body) (Err (desks.Core WrongRole), live) (takes_reached live a there) refl
+    let there : Result DeskEntry DeskFault = reached live a.txn (is_ill_request a.body) in
+    either (λ (p : Result Taking DeskFault × DeskContents). OnlyRefuses p.0) (is_own live.role a.body) (Err (desks.Core WrongRole), live) (takes_reached live a there) refl
     (takes_or_refused live a there (reached_or_refused live a.txn (is_ill_request a.body)))
 
 -- ---- what its calls answer
 
-pub many_acts : (old : Holding) (txn : Qualifiers) (action : Action) (answer : Result (Unit {0}) DeskFault) (new : Holding) → ManyActs old txn action answer new
+pub many_acts : (old : DeskContents) (txn : Qualifiers) (action : Action) (answer : Result (Unit {0}) DeskFault) (new : DeskContents) → ManyActs old txn action answer new
     → KeeperActs many_sides old txn action answer new
 many_acts old txn action (Ok done) new is = is
 many_acts old txn action (Err desks.OutOfMemory) new is = is.1
 many_acts old txn action (Err fault) new is = (is.0, IfErr-at_err IsRefusal is.0 (desk_acts_or_refuses old txn action), is.1)
 
-pub many_takes : (old : Holding) (a : Apdu) (answer : Result Taking DeskFault) (new : Holding) → ManyTakesApdu old a answer new → KeeperTakes many_sides old a answer new
+pub many_takes : (old : DeskContents) (a : Apdu) (answer : Result Taking DeskFault) (new : DeskContents) → ManyTakesApdu old a answer new → KeeperTakes many_sides old a answer new
 many_takes old a (Ok answer) new is = is
 many_takes old a (Err desks.OutOfMemory) new is = ((is.0, is.1), is.2)
-many_takes old a (Err fault) new is = (is, IfErr-at_err IsRefusal (ap (λ (p : Result Taking DeskFault × Holding). p.0) is) (desk_takes_or_refuses old a))
+many_takes old a (Err fault) new is = (is, IfErr-at_err IsRefusal (ap (λ (p : Result Taking DeskFault × DeskContents). p.0) is) (desk_takes_or_refuses old a))
 
 -- ---- how a side stands
 
 -- No two sides are of one transaction, so each is found by its own.
-abbrev side_of : Held → Side
+abbrev side_of : DeskEntry → Side
 side_of held = held.side
 
-hidden_by : (txn : Qualifiers) (sides : List Held) (held : Held) → is_none (side_with txn (map side_of sides)) ≡ true → found_by txn_held txn sides ≡ Some held → ⊥
+hidden_by : (txn : Qualifiers) (sides : List DeskEntry) (held : DeskEntry) → is_none (side_with txn (map side_of sides)) ≡ true → found_by txn_held txn sides ≡ Some held → ⊥
 unfolding side_with
 hidden_by txn sides held none found = true≢false (sym none ∙ ap is_none (found_mapped txn_held txn_of side_of (λ h. refl) txn sides ∙ ap (option_map side_of) found))
 
-found_behind : (first held : Held) (sides : List Held) (same : Bool) → is_same_txn (txn_held held) (txn_held first) ≡ same → is_none (side_with (txn_held first) (map side_of sides)) ≡ true
+found_behind : (first held : DeskEntry) (sides : List DeskEntry) (same : Bool) → is_same_txn (txn_held held) (txn_held first) ≡ same → is_none (side_with (txn_held first) (map side_of sides)) ≡ true
     → found_by txn_held (txn_held held) sides ≡ Some held → cond same (Some first) (found_by txn_held (txn_held held) sides) ≡ Some held
 found_behind first held sides true same none found =
     let of : txn_held held ≡ txn_held first = same_is (txn_held held) (txn_held first) same in
     absurd (hidden_by (txn_held first) sides held none (ap (λ t. found_by txn_held t sides) (sym of) ∙ found))
 found_behind first held sides false same none found = found
 
-apart_found : (sides : List Held) (place : ℕ) (held : Held) → are_apart (map side_of sides) ≡ true → slice_get sides place ≡ Some held → found_by txn_held (txn_held held) sides ≡ Some held
+apart_found : (sides : List DeskEntry) (place : ℕ) (held : DeskEntry) → are_apart (map side_of sides) ≡ true → slice_get sides place ≡ Some held → found_by txn_held (txn_held held) sides ≡ Some held
 unfolding are_apart
 apart_found [] place held apart at = absurd (true≢false (sym (ap is_some at)))
 apart_found (first ∷ sides) zero held apart at =
-    subst (λ (h : Held). found_by txn_held (txn_held h) (first ∷ sides) ≡ Some h) (some_is first held at) (ap (λ same. cond same (Some first) (found_by txn_held (txn_held first) sides)) (same_self (txn_held first)))
+    subst (λ (h : DeskEntry). found_by txn_held (txn_held h) (first ∷ sides) ≡ Some h) (some_is first held at) (ap (λ same. cond same (Some first) (found_by txn_held (txn_held first) sides)) (same_self (txn_held first)))
 apart_found (first ∷ sides) (suc place) held apart at =
     let parts = and_parts _ _ apart in
     found_behind first held sides (is_same_txn (txn_held held) (txn_held first)) refl parts.0 (apart_found sides place held parts.1 at)
 
-pub held_at_place : (live : Holding) (place : ℕ) (held : Held) → are_apart (sides_held live).sides ≡ true → slice_get live.held place ≡ Some held → held_for (txn_held held) live ≡ held
+pub held_at_place : (live : DeskContents) (place : ℕ) (held : DeskEntry) → are_apart (sides_held live).sides ≡ true → slice_get live.held place ≡ Some held → held_for (txn_held held) live ≡ held
 held_at_place live place held apart at = ap (found_or (idle_held live.role (txn_held held))) (apart_found live.held place held apart at)

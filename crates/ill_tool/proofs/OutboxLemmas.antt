@@ -4,7 +4,7 @@ use Rattle.std.specs.Prelude.{slice_get}
 use Rattle.std.specs.List.{zip}
 use Rattle.std.specs.Io.KnownBytes.{Appends}
 use Rattle.std.proofs.lemmas.List.{take-map, append-nil}
-use Rattle.ill_saved.specs.Many.{Held, Holding}
+use Rattle.ill_saved.specs.Many.{DeskEntry, DeskContents}
 use Rattle.ill_saved.proofs.Finding.{some_is}
 use Rattle.ill_tool.specs.declared.fault.ToolFault.{ToolFault}
 use Rattle.ill_tool.specs.declared.verdict.Mail.{Mail}
@@ -37,7 +37,7 @@ stream_has letters start bytes empty put =
     some_is _ _ (put ∙ ap (λ start. after_all (λ there letter. there ++ letter.bytes) letters (Some start)) empty ∙ streamed [] letters)
 
 -- What was gathered on a stream and then written is what the command writes.
-pub stream_written : (asking : List ℕ) (held : List Held) (start bytes gathered : List ℕ) (count : ℕ) (before after : Option (List ℕ)) (result : Result (Unit {0}) ToolFault) → start ≡ [] → gathered ≡ bytes
+pub stream_written : (asking : List ℕ) (held : List DeskEntry) (start bytes gathered : List ℕ) (count : ℕ) (before after : Option (List ℕ)) (result : Result (Unit {0}) ToolFault) → start ≡ [] → gathered ≡ bytes
     → RunsOutbox (λ there letter. there ++ letter.bytes) asking held (Some start) (Some bytes) (Ok count) → WritesFront before after gathered result → StreamsOutbox asking held before after result
 stream_written asking held start bytes gathered count before after (Ok done) empty same (a, are, (counted, put)) written =
     (a, are, subst (λ text. Appends before after text) (same ∙ stream_has (letters_of a held) start bytes empty put) written)
@@ -53,12 +53,12 @@ zip_nothing [] = refl
 zip_nothing (item ∷ items) = refl
 
 -- A mail without a verdict does not ask.
-absent : (live : Holding) (mail : Option Mail) (rest : List ℕ) → asks_at live mail None ++ rest ≡ rest
+absent : (live : DeskContents) (mail : Option Mail) (rest : List ℕ) → asks_at live mail None ++ rest ≡ rest
 absent live None rest = refl
 absent live (Some mail) rest = refl
 
 -- What asks from a place on is what asks there and behind it.
-pub one_asking : (live : Holding) (mails : List Mail) (verdicts : List Verdict) (place : ℕ)
+pub one_asking : (live : DeskContents) (mails : List Mail) (verdicts : List Verdict) (place : ℕ)
     → asks_at live (slice_get mails place) (slice_get verdicts place) ++ asked_by live (zip (drop (suc place) mails) (drop (suc place) verdicts)) ≡ asked_by live (zip (drop place mails) (drop place verdicts))
 one_asking live [] verdicts zero = refl
 one_asking live [] verdicts (suc place) = refl

@@ -5,7 +5,7 @@ use Rattle.std.proofs.lemmas.Option.{slice_get-map}
 use Rattle.ill_saved.specs.declared.side.Side.{Side}
 use Rattle.ill_saved.specs.Side.{txn_of}
 use Rattle.ill_saved.specs.Sides.{are_apart}
-use Rattle.ill_saved.specs.Many.{Held, Holding, held_for, sides_held}
+use Rattle.ill_saved.specs.Many.{DeskEntry, DeskContents, held_for, sides_held}
 use Rattle.ill_saved.proofs.Finding.{some_is}
 use Rattle.ill_tool.proofs.KeepingLemmas.{held_at_place}
 use Rattle.std.specs.Option.{option_to_list}
@@ -18,24 +18,24 @@ one_item (item ∷ items) zero = refl
 one_item (item ∷ items) (suc place) = one_item items place
 
 -- The side at a place of a desk, with how many of its messages were saved, is what the desk holds there.
-held_so : (live : Holding) (place : ℕ) (side : Side) (released : ℕ) (found : Option Held) → are_apart (sides_held live).sides ≡ true → slice_get live.held place ≡ found → option_map (λ (held : Held). held.side) found ≡ Some side
+held_so : (live : DeskContents) (place : ℕ) (side : Side) (released : ℕ) (found : Option DeskEntry) → are_apart (sides_held live).sides ≡ true → slice_get live.held place ≡ found → option_map (λ (held : DeskEntry). held.side) found ≡ Some side
     → released ≡ (held_for (txn_of side) live).released → found ≡ Some (record { side = side; released = released })
 held_so live place side released (Some held) apart at e counted =
     let is : held.side ≡ side = some_is held.side side e in
     let there : held_for (txn_of side) live ≡ held = ap (λ s. held_for (txn_of s) live) (sym is) ∙ held_at_place live place held apart at in
-    let many : held.released ≡ released = sym (counted ∙ ap (λ (h : Held). h.released) there) in
+    let many : held.released ≡ released = sym (counted ∙ ap (λ (h : DeskEntry). h.released) there) in
     ap (λ s. Some (record { side = s; released = held.released })) is ∙ ap (λ n. Some (record { side = side; released = n })) many
 held_so live place side released None apart at e counted = absurd (true≢false (sym (ap is_some e)))
 
-pub held_there : (live : Holding) (place : ℕ) (side : Side) (released : ℕ) → are_apart (sides_held live).sides ≡ true → slice_get (sides_held live).sides place ≡ Some side
+pub held_there : (live : DeskContents) (place : ℕ) (side : Side) (released : ℕ) → are_apart (sides_held live).sides ≡ true → slice_get (sides_held live).sides place ≡ Some side
     → released ≡ (held_for (txn_of side) live).released → slice_get live.held place ≡ Some (record { side = side; released = released })
 held_there live place side released apart at counted =
-    held_so live place side released (slice_get live.held place) apart refl (sym (slice_get-map (λ (held : Held). held.side) live.held place) ∙ at) counted
+    held_so live place side released (slice_get live.held place) apart refl (sym (slice_get-map (λ (held : DeskEntry). held.side) live.held place) ∙ at) counted
 
 -- If a desk has no side at a place, it holds nothing there.
-none_so : (found : Option Held) → option_map (λ (held : Held). held.side) found ≡ None → found ≡ None
+none_so : (found : Option DeskEntry) → option_map (λ (held : DeskEntry). held.side) found ≡ None → found ≡ None
 none_so (Some held) e = absurd (true≢false (ap is_some e))
 none_so None e = refl
 
-pub none_there : (live : Holding) (place : ℕ) → slice_get (sides_held live).sides place ≡ None → slice_get live.held place ≡ None
-none_there live place at = none_so (slice_get live.held place) (sym (slice_get-map (λ (held : Held). held.side) live.held place) ∙ at)
+pub none_there : (live : DeskContents) (place : ℕ) → slice_get (sides_held live).sides place ≡ None → slice_get live.held place ≡ None
+none_there live place at = none_so (slice_get live.held place) (sym (slice_get-map (λ (held : DeskEntry). held.side) live.held place) ∙ at)

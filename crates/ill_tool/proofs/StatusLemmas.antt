@@ -6,7 +6,7 @@ use Rattle.std.proofs.lemmas.Option.{slice_get-map}
 use Rattle.ill_saved.specs.declared.side.Side.{Side}
 use Rattle.ill_saved.specs.Side.{txn_of}
 use Rattle.ill_saved.specs.Sides.{are_apart}
-use Rattle.ill_saved.specs.Many.{Held, Holding, held_for, sides_held}
+use Rattle.ill_saved.specs.Many.{DeskEntry, DeskContents, held_for, sides_held}
 use Rattle.ill_saved.proofs.Finding.{some_is}
 use Rattle.ill_tool.specs.declared.form.Form.{Form}
 use Rattle.ill_tool.specs.Objects.{status_of_desk, status_text, text_of_one}
@@ -25,29 +25,29 @@ joined_by_spaces text (word ∷ words) some = ap (λ (more : List ℕ). text wor
 -- ---- one side after another
 
 -- The text of the sides from a place on is that of the one there, and of the others.
-pub one_further : (form : Form) (sides : List Held) (place : ℕ) → status_of_desk form (drop place sides) ≡ text_of_one form (slice_get sides place) ++ status_of_desk form (drop (suc place) sides)
+pub one_further : (form : Form) (sides : List DeskEntry) (place : ℕ) → status_of_desk form (drop place sides) ≡ text_of_one form (slice_get sides place) ++ status_of_desk form (drop (suc place) sides)
 one_further form [] zero = refl
 one_further form [] (suc place) = refl
 one_further form (held ∷ sides) zero = refl
 one_further form (held ∷ sides) (suc place) = one_further form sides place
 
 -- The text of a side at a place is that by its transaction.
-lines_so : (form : Form) (live : Holding) (place : ℕ) (side : Side) (released : ℕ) (found : Option Held) → are_apart (sides_held live).sides ≡ true → slice_get live.held place ≡ found → option_map (λ (held : Held). held.side) found ≡ Some side
+lines_so : (form : Form) (live : DeskContents) (place : ℕ) (side : Side) (released : ℕ) (found : Option DeskEntry) → are_apart (sides_held live).sides ≡ true → slice_get live.held place ≡ found → option_map (λ (held : DeskEntry). held.side) found ≡ Some side
     → released ≡ (held_for (txn_of side) live).released → status_text form side released ≡ text_of_one form found
 lines_so form live place side released (Some held) apart at e counted =
     let is : held.side ≡ side = some_is held.side side e in
     let there : held_for (txn_of side) live ≡ held = ap (λ s. held_for (txn_of s) live) (sym is) ∙ held_at_place live place held apart at in
-    ap (status_text form side) (counted ∙ ap (λ (h : Held). h.released) there) ∙ ap (λ s. status_text form s held.released) (sym is)
+    ap (status_text form side) (counted ∙ ap (λ (h : DeskEntry). h.released) there) ∙ ap (λ s. status_text form s held.released) (sym is)
 lines_so form live place side released None apart at e counted = absurd (true≢false (sym (ap is_some e)))
 
-no_lines_so : (form : Form) (found : Option Held) → option_map (λ (held : Held). held.side) found ≡ None → [] ≡ text_of_one form found
+no_lines_so : (form : Form) (found : Option DeskEntry) → option_map (λ (held : DeskEntry). held.side) found ≡ None → [] ≡ text_of_one form found
 no_lines_so form (Some held) e = absurd (true≢false (ap is_some e))
 no_lines_so form None e = refl
 
-pub lines_there : (form : Form) (live : Holding) (place : ℕ) (side : Side) (released : ℕ) → are_apart (sides_held live).sides ≡ true → slice_get (sides_held live).sides place ≡ Some side
+pub lines_there : (form : Form) (live : DeskContents) (place : ℕ) (side : Side) (released : ℕ) → are_apart (sides_held live).sides ≡ true → slice_get (sides_held live).sides place ≡ Some side
     → released ≡ (held_for (txn_of side) live).released → status_text form side released ≡ text_of_one form (slice_get live.held place)
 lines_there form live place side released apart at counted =
-    lines_so form live place side released (slice_get live.held place) apart refl (sym (slice_get-map (λ (held : Held). held.side) live.held place) ∙ at) counted
+    lines_so form live place side released (slice_get live.held place) apart refl (sym (slice_get-map (λ (held : DeskEntry). held.side) live.held place) ∙ at) counted
 
-pub no_lines_there : (form : Form) (live : Holding) (place : ℕ) → slice_get (sides_held live).sides place ≡ None → [] ≡ text_of_one form (slice_get live.held place)
-no_lines_there form live place at = no_lines_so form (slice_get live.held place) (sym (slice_get-map (λ (held : Held). held.side) live.held place) ∙ at)
+pub no_lines_there : (form : Form) (live : DeskContents) (place : ℕ) → slice_get (sides_held live).sides place ≡ None → [] ≡ text_of_one form (slice_get live.held place)
+no_lines_there form live place at = no_lines_so form (slice_get live.held place) (sym (slice_get-map (λ (held : DeskEntry). held.side) live.held place) ∙ at)

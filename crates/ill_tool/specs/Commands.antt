@@ -7,7 +7,7 @@ use Rattle.ill_values.specs.TxnId.{Qualifiers, txn_id_of}
 use Rattle.ill_values.specs.declared.apdu.Apdu.{Apdu}
 use Rattle.ill_saved.specs.declared.side.Side.{Side}
 use Rattle.ill_saved.specs.declared.store.StoreFault.{StoreFault}
-use Rattle.ill_saved.specs.Many.{Held, Holding, found_by, txn_held}
+use Rattle.ill_saved.specs.Many.{DeskEntry, DeskContents, found_by, txn_held}
 use Rattle.ill_tool.specs.declared.fault.ToolFault.{ToolFault}
 use Rattle.ill_tool.specs.declared.fault.ToolFault.TheVariants.{Arguments, Desk, Left, OutOfMemory}
 use Rattle.std.specs.List.{zip}
@@ -73,7 +73,7 @@ abbrev pub ActsAtFile : Qualifiers → Option Date → List (List ℕ) → Optio
     Result Bool ToolFault → Type 0
 ActsAtFile txn today words before after result =
     IsShut before after result
-    ⊎ ((old : View Holding) × (new : View Holding)
+    ⊎ ((old : View DeskContents) × (new : View DeskContents)
     × RunsAct many_sides txn (action_named old.live.role today words) old before after result new)
 
 -- the APDUs of the input were taken at a desk, and kept where that is asked for, and told in long words or short ones
@@ -81,7 +81,7 @@ abbrev pub TakesAtFile : Bool → Bool → Option (List ℕ) → Option (List �
     Result Bool ToolFault → Type 0
 TakesAtFile is_kept is_long left rest before after result =
     (IsShut before after result × (rest ≡ left))
-    ⊎ ((old : View Holding) × (new : View Holding)
+    ⊎ ((old : View DeskContents) × (new : View DeskContents)
     × RunsTaking is_kept (wording is_long) many_sides left rest None None before after old result new)
 
 -- the mails of a night and their verdicts, and how many further mails wait
@@ -104,8 +104,8 @@ SettlesRun mails waiting (Ok verdicts) result =
 SettlesRun mails waiting (Err fault) result = result ≡ Err fault
 
 -- The mails of a folder, with so many more waiting, were taken at a desk, and their files settled.
-abbrev pub TakesMails : View Holding → Option (List ℕ) → Option (List ℕ) →
-    Result Night ToolFault → View Holding → Type 0
+abbrev pub TakesMails : View DeskContents → Option (List ℕ) → Option (List ℕ) →
+    Result Night ToolFault → View DeskContents → Type 0
 TakesMails old before after result new =
     (IsShut before after result × (new ≡ old))
     ⊎ ((mails : List Mail) × (waiting : ℕ) × (answer : Result (List Verdict) ToolFault)
@@ -121,33 +121,33 @@ ending_of (Err fault) = Err fault
 abbrev pub InboxAtFile : Option (List ℕ) → Option (List ℕ) → Result Bool ToolFault → Type 0
 InboxAtFile before after result =
     IsShut before after result
-    ⊎ ((old new : View Holding) × (taken : Result Night ToolFault)
+    ⊎ ((old new : View DeskContents) × (taken : Result Night ToolFault)
     × TakesMails old before after taken new × (result ≡ ending_of taken))
 
 -- The messages that want sending were put into a folder, of which nothing is known, and their number was written.
-abbrev pub SendsTo : List Held → Option (List ℕ) → Option (List ℕ) → Result (Unit {0}) ToolFault → Type 0
+abbrev pub SendsTo : List DeskEntry → Option (List ℕ) → Option (List ℕ) → Result (Unit {0}) ToolFault → Type 0
 SendsTo held before after result =
     (IsErrAnd result IsOpenFault × (after ≡ before))
     ⊎ ((bytes : List ℕ) × (asking : List Apdu) × AreIn bytes asking
     × WritesText before after (sent_line (length (letters_of asking held))) result)
 
 -- The messages that want sending were written, one behind another.
-abbrev pub SendsOn : List Held → Option (List ℕ) → Option (List ℕ) → Result (Unit {0}) ToolFault → Type 0
+abbrev pub SendsOn : List DeskEntry → Option (List ℕ) → Option (List ℕ) → Result (Unit {0}) ToolFault → Type 0
 SendsOn held before after result =
     IsShut before after result ⊎ ((bytes : List ℕ) × StreamsOutbox bytes held before after result)
 
 -- the messages of a desk left, into a folder or to the output
-abbrev pub SendsFrom : Bool → List Held → Option (List ℕ) → Option (List ℕ) → Result (Unit {0}) ToolFault → Type 0
+abbrev pub SendsFrom : Bool → List DeskEntry → Option (List ℕ) → Option (List ℕ) → Result (Unit {0}) ToolFault → Type 0
 SendsFrom true = SendsTo
 SendsFrom false = SendsOn
 
 abbrev pub OutboxAtFile : Bool → Option (List ℕ) → Option (List ℕ) → Result Bool ToolFault → Type 0
 OutboxAtFile has_folder before after result =
-    IsShut before after result ⊎ ((held : List Held) × GoesWell (SendsFrom has_folder held before after) result)
+    IsShut before after result ⊎ ((held : List DeskEntry) × GoesWell (SendsFrom has_folder held before after) result)
 
 -- what the date says was said, and saved, if something of it is wanted
-abbrev pub SaysDates : Option (Date × Dates) → Option (List ℕ) → Option (List ℕ) → View Holding →
-    Result (Unit {0}) ToolFault → View Holding → Type 0
+abbrev pub SaysDates : Option (Date × Dates) → Option (List ℕ) → Option (List ℕ) → View DeskContents →
+    Result (Unit {0}) ToolFault → View DeskContents → Type 0
 SaysDates None before after old result new = (result ≡ Ok tt) × (after ≡ before) × (new ≡ old)
 SaysDates (Some (today, which)) before after old result new = RunsDates which today before after old result new
 
@@ -164,7 +164,7 @@ Departs ending (Err fault) result = result ≡ Err fault
 
 -- A night goes on once its day was said: the desk is copied, and then what it holds leaves. If it cannot be copied
 -- nothing leaves.
-abbrev pub SendsAll : Result Bool ToolFault → List Held → Option (List ℕ) → Option (List ℕ) →
+abbrev pub SendsAll : Result Bool ToolFault → List DeskEntry → Option (List ℕ) → Option (List ℕ) →
     Result (Unit {0}) ToolFault → Result Bool ToolFault → Type 0
 SendsAll ending held before after (Err fault) result = (result ≡ Err fault) × (after ≡ before)
 SendsAll ending held before after (Ok done) result =
@@ -173,35 +173,35 @@ SendsAll ending held before after (Ok done) result =
 
 -- A night goes on once its mails were taken. If that failed, nothing else is done.
 abbrev pub GoesOn : Option (Date × Dates) → Result Night ToolFault → Option (List ℕ) → Option (List ℕ) →
-    View Holding → Result Bool ToolFault → View Holding → Type 0
+    View DeskContents → Result Bool ToolFault → View DeskContents → Type 0
 GoesOn dates (Err fault) before after old result new = (result ≡ Err fault) × (after ≡ before) × (new ≡ old)
 GoesOn dates (Ok night) before after old result new =
     (between : Option (List ℕ)) × (said : Result (Unit {0}) ToolFault) × SaysDates dates before between old said new
     × SendsAll (night_ending new.live.role night) new.live.held between after said result
 
 -- a night of a desk: its mails were taken, what the date says was said, and its messages left
-abbrev pub ExchangesAt : Option (Date × Dates) → View Holding → Option (List ℕ) → Option (List ℕ) →
-    Result Bool ToolFault → View Holding → Type 0
+abbrev pub ExchangesAt : Option (Date × Dates) → View DeskContents → Option (List ℕ) → Option (List ℕ) →
+    Result Bool ToolFault → View DeskContents → Type 0
 ExchangesAt dates old before after result new =
-    (met : View Holding) × (between : Option (List ℕ)) × (taken : Result Night ToolFault)
+    (met : View DeskContents) × (between : Option (List ℕ)) × (taken : Result Night ToolFault)
     × TakesMails old before between taken met × GoesOn dates taken between after met result new
 
 abbrev pub ExchangesAtFile : Option (Date × Dates) → Option (List ℕ) → Option (List ℕ) → Result Bool ToolFault → Type 0
 ExchangesAtFile dates before after result =
     IsShut before after result
-    ⊎ ((old : View Holding) × (new : View Holding) × ExchangesAt dates old before after result new)
+    ⊎ ((old : View DeskContents) × (new : View DeskContents) × ExchangesAt dates old before after result new)
 
 -- the message with this number was written, of this transaction at a desk
 abbrev pub SendsAtFile : Qualifiers → ℕ → Option (List ℕ) → Option (List ℕ) → Result Bool ToolFault → Type 0
 SendsAtFile txn number before after result =
     IsShut before after result
-    ⊎ ((held : List Held) × GoesWell (RunsSend (found_by txn_held txn held) number before after) result)
+    ⊎ ((held : List DeskEntry) × GoesWell (RunsSend (found_by txn_held txn held) number before after) result)
 
 -- what a desk holds was written in this form
 abbrev pub ShowsFile : Form → Option (List ℕ) → Option (List ℕ) → Result Bool ToolFault → Type 0
 ShowsFile form before after result =
     IsShut before after result
-    ⊎ ((held : List Held) × GoesWell (WritesText before after (status_of_desk form held)) result)
+    ⊎ ((held : List DeskEntry) × GoesWell (WritesText before after (status_of_desk form held)) result)
 
 -- the sides of a desk that are wanted were listed, as the first desk or behind another
 abbrev pub ListsDesk : Form → Wanted → (is_first is_headed : Bool) → List ℕ → Option (List ℕ) → Option (List ℕ) →
@@ -236,7 +236,7 @@ ListsPaths form wanted before after result =
 abbrev pub LoanAtFile : Form → Bool → Qualifiers → Option (List ℕ) → Option (List ℕ) → Result Bool ToolFault → Type 0
 LoanAtFile form is_picture txn before after result =
     IsShut before after result
-    ⊎ ((held : List Held) × (came : List ℕ)
+    ⊎ ((held : List DeskEntry) × (came : List ℕ)
     × GoesWell (RunsKeptLoan (drawn_or_shown form is_picture) (found_by txn_held txn held) came before after) result)
 
 -- what the record in a file has was written, or the fault of what its store gave

@@ -16,7 +16,7 @@ use Rattle.ill_saved.specs.declared.side.Side.{Side}
 use Rattle.ill_saved.specs.declared.side.Action.TheVariants as actions
 use Rattle.ill_saved.specs.declared.fault.DeskFault.{DeskFault}
 use Rattle.ill_saved.specs.Side.{due_date_of, role_of, state_of, txn_of}
-use Rattle.ill_saved.specs.Many.{Holding, sides_held}
+use Rattle.ill_saved.specs.Many.{DeskContents, sides_held}
 use Rattle.ill_tool.specs.declared.fault.ToolFault.{ToolFault}
 use Rattle.ill_tool.specs.declared.dates.Dates.{Dates}
 use Rattle.ill_tool.specs.declared.dates.Due.{Due}
@@ -120,7 +120,7 @@ RunsDeeds keeping today dues before after old result new =
     EndsRun keeping (deeds_run keeping (after_deeds keeping today old.live dues)) before after old result new
 
 -- The same at a desk, of all deeds that the day asks for.
-abbrev pub RunsDates : Dates → Date → Option (List ℕ) → Option (List ℕ) → View Holding →
-    Result (Unit {0}) ToolFault → View Holding → Type 0
+abbrev pub RunsDates : Dates → Date → Option (List ℕ) → Option (List ℕ) → View DeskContents →
+    Result (Unit {0}) ToolFault → View DeskContents → Type 0
 RunsDates which today before after old result new =
     RunsDeeds many_sides today (all_due which today (sides_held old.live).sides) before after old result new

@@ -10,7 +10,7 @@ use Rattle.ill_der.specs.Faults.{place_of}
 use Rattle.ill_core.specs.declared.taking.Taking.TheVariants as takings
 use Rattle.ill_saved.specs.declared.role.Role.{Role}
 use Rattle.ill_saved.specs.declared.role.Role.TheVariants.{Requester}
-use Rattle.ill_saved.specs.Many.{Holding}
+use Rattle.ill_saved.specs.Many.{DeskContents}
 use Rattle.ill_world.specs.declared.event.Outcome.TheVariants as outcomes
 use Rattle.ill_world.specs.declared.event.DeskOutcome.{DeskOutcome}
 use Rattle.ill_world.specs.declared.event.DeskOutcome.TheVariants as seen
@@ -262,9 +262,9 @@ RunsInbox keeping mails waiting kept_before kept_after before after old result n
 
 -- A run over these mails, with these verdicts, has ended well at a desk of which this is known: all that they change is
 -- saved.
-unfoldable pub EndedWell : List Mail → List Verdict → View Holding → Type 0
+unfoldable pub EndedWell : List Mail → List Verdict → View DeskContents → Type 0
 EndedWell mails verdicts new =
-    (waiting : ℕ) × (kept_before kept_after before after : Option (List ℕ)) × (old : View Holding)
+    (waiting : ℕ) × (kept_before kept_after before after : Option (List ℕ)) × (old : View DeskContents)
     × RunsInbox many_sides mails waiting kept_before kept_after before after old (Ok verdicts) new
 
 -- ---- what is answered

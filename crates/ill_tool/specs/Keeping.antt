@@ -12,7 +12,7 @@ use Rattle.ill_saved.specs.declared.fault.DeskFault.TheVariants.{Core}
 use Rattle.ill_saved.specs.Side.{role_of, acts, takes}
 use Rattle.ill_saved.specs.Records.{record_spelling}
 use Rattle.ill_saved.specs.Records2.{sides_spelling}
-use Rattle.ill_saved.specs.Many.{Held, Holding, whole, held_for, found_by, txn_held, sides_held, whole_of, desk_acts, desk_takes}
+use Rattle.ill_saved.specs.Many.{DeskEntry, DeskContents, whole, held_for, found_by, txn_held, sides_held, whole_of, desk_acts, desk_takes}
 
 -- What keeps sides: `L` is what is held, and `K` names one of its sides.
 pub record Keeping (L K : Type 0) : Type 0 where
@@ -25,9 +25,9 @@ pub record Keeping (L K : Type 0) : Type 0 where
   -- the side that it is for
   pub key_of : Apdu → K
   -- a side, if it is held
-  pub found : K → L → Option Held
+  pub found : K → L → Option DeskEntry
   -- how it stands, held or not
-  pub side_for : K → L → Held
+  pub side_for : K → L → DeskEntry
   -- the side that is there from the beginning, if one is
   pub first_key : Option K
   -- what is held once all is saved
@@ -38,14 +38,14 @@ pub record Keeping (L K : Type 0) : Type 0 where
 -- ---- one side
 
 -- a side of which no message may be sent
-abbrev pub alone : Side → Held
+abbrev pub alone : Side → DeskEntry
 alone side = record { side = side; released = 0 }
 
 -- the same, with this side
-abbrev pub with_side : Held → Side → Held
+abbrev pub with_side : DeskEntry → Side → DeskEntry
 with_side held side = record held { side = side }
 
-abbrev pub one_acts : Held → Result Side Refusal → Result Held DeskFault
+abbrev pub one_acts : DeskEntry → Result Side Refusal → Result DeskEntry DeskFault
 one_acts held (Ok side) = Ok (with_side held side)
 one_acts held (Err refusal) = Err (Core refusal)
 
@@ -54,7 +54,7 @@ one_answers (Ok taking) = Ok taking
 one_answers (Err refusal) = Err (Core refusal)
 
 -- one side alone, which wants no name
-abbrev pub one_side : Keeping Held (Unit {0})
+abbrev pub one_side : Keeping DeskEntry (Unit {0})
 one_side = record {
   role = λ held. role_of held.side;
   acts = λ held none action. one_acts held (acts held.side action);
@@ -70,11 +70,11 @@ one_side = record {
 -- ---- many sides
 
 -- a desk of this role that holds no side
-abbrev pub no_sides : Role → Holding
+abbrev pub no_sides : Role → DeskContents
 no_sides role = record { role = role; held = [] }
 
 -- one side in each of many transactions
-abbrev pub many_sides : Keeping Holding Qualifiers
+abbrev pub many_sides : Keeping DeskContents Qualifiers
 many_sides = record {
   role = λ live. live.role;
   acts = desk_acts;

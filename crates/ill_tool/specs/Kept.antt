@@ -9,7 +9,7 @@ use Rattle.ill_der.specs.ShortForm.{spelling}
 use Rattle.ill_der.specs.Feed as feeds
 use Rattle.ill_core.specs.Issued.{is_same_txn}
 use Rattle.ill_saved.specs.Side.{txn_of}
-use Rattle.ill_saved.specs.Many.{Held}
+use Rattle.ill_saved.specs.Many.{DeskEntry}
 use Rattle.ill_saved.specs.declared.fault.DeskFault.TheVariants.{NoSuchTransaction}
 use Rattle.ill_tool.specs.declared.fault.ToolFault.{ToolFault}
 use Rattle.ill_tool.specs.declared.fault.ToolFault.TheVariants.{Desk, OutOfMemory}
@@ -23,7 +23,7 @@ use Rattle.ill_tool.specs.Output.{WritesText}
 
 -- These messages stand one behind another in the bytes, up to the end or to what is no message.
 abbrev pub AreIn : List ℕ → List Apdu → Type 0
-AreIn bytes came = (left : feeds.Held) × feeds.Feeds (Ok []) bytes came left
+AreIn bytes came = (left : feeds.DeskEntry) × feeds.Feeds (Ok []) bytes came left
 
 -- messages of the same bytes
 abbrev pub is_same : Apdu → Apdu → Bool
@@ -43,11 +43,11 @@ kept_of txn came = fold (with_new txn) [] came
 -- ---- what is shown
 
 -- all lines of a loan, and behind them those of the messages that came
-abbrev pub kept_lines : Held → List Apdu → List ℕ
+abbrev pub kept_lines : DeskEntry → List Apdu → List ℕ
 kept_lines held kept = loan_lines held.side held.released ++ flat_map (marked_lines (codes "came") true) kept
 
 -- a loan and the messages that came, in lines, or in an object
-abbrev pub kept_text : Form → Held → List Apdu → List ℕ
+abbrev pub kept_text : Form → DeskEntry → List Apdu → List ℕ
 kept_text Lines = kept_lines
 kept_text Json = λ held kept. object_line (loan_fields held.side held.released ++ came_fields kept)
 
@@ -59,7 +59,7 @@ WritesKept text txn bytes before after result =
     (came : List Apdu) × AreIn bytes came × WritesText before after (text (kept_of txn came)) result
 
 -- The command: the text of the side, and of the messages of its transaction that came, if the side is held.
-abbrev pub RunsKeptLoan : (Held → List Apdu → List ℕ) → Option Held → List ℕ → Option (List ℕ) →
+abbrev pub RunsKeptLoan : (DeskEntry → List Apdu → List ℕ) → Option DeskEntry → List ℕ → Option (List ℕ) →
     Option (List ℕ) → Result (Unit {0}) ToolFault → Type 0
 RunsKeptLoan text None bytes before after result =
     (result ≡ Err (Desk NoSuchTransaction)) × Appends before after []

@@ -12,7 +12,7 @@ use Rattle.ill_core.specs.Verbs.{verb_name}
 use Rattle.ill_saved.specs.declared.side.Side.{Side}
 use Rattle.ill_saved.specs.declared.side.Side.TheVariants.{Requester, Responder}
 use Rattle.ill_saved.specs.Side.{issued_of, turn_of, verbs_of}
-use Rattle.ill_saved.specs.Many.{Held}
+use Rattle.ill_saved.specs.Many.{DeskEntry}
 use Rattle.ill_saved.specs.declared.fault.DeskFault.TheVariants.{NoSuchTransaction}
 use Rattle.ill_world.specs.Trace.{due_text}
 use Rattle.ill_tool.specs.declared.fault.ToolFault.{ToolFault}
@@ -83,7 +83,7 @@ loan_lines side released =
     side_lines side released ++ flat_map (message_lines released) (issued_of side)
 
 -- The command: the lines of the side, if one is held.
-abbrev pub RunsLoan : Option Held → Option (List ℕ) → Option (List ℕ) → Result (Unit {0}) ToolFault → Type 0
+abbrev pub RunsLoan : Option DeskEntry → Option (List ℕ) → Option (List ℕ) → Result (Unit {0}) ToolFault → Type 0
 RunsLoan None before after result = (result ≡ Err (Desk NoSuchTransaction)) × Appends before after []
 RunsLoan (Some held) before after result =
     WritesText before after (loan_lines held.side held.released) result

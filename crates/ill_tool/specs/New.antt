@@ -4,7 +4,7 @@ use Rattle.std.specs.Io.KnownBytes.{Appends}
 use Rattle.ill_saved.specs.declared.fault.DeskFault.TheVariants.{Exists, Store}
 use Rattle.ill_saved.specs.declared.store.StoreFault.TheVariants.{Failed}
 use Rattle.ill_saved.specs.declared.store.NextCall.{NextCall}
-use Rattle.ill_saved.specs.Many.{Held}
+use Rattle.ill_saved.specs.Many.{DeskEntry}
 use Rattle.ill_tool.specs.Keeping.{Keeping}
 use Rattle.ill_tool.specs.Performing.{CountsToolFailure}
 use Rattle.ill_tool.specs.Telling.{done_line}
@@ -13,7 +13,7 @@ use Rattle.ill_tool.specs.declared.fault.ToolFault.{ToolFault}
 use Rattle.ill_tool.specs.declared.fault.ToolFault.TheVariants.{Desk, Write, OutOfMemory}
 
 -- The line of a beginning that was saved: that of the side, or the outcome alone where no side begins.
-abbrev pub line_of_first : Option Held → List ℕ
+abbrev pub line_of_first : Option DeskEntry → List ℕ
 line_of_first (Some held) = done_line held
 line_of_first None = codes "done\n"
 

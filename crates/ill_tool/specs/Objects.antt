@@ -15,7 +15,7 @@ use Rattle.ill_core.specs.ResponderActions.{expiry_of}
 use Rattle.ill_saved.specs.declared.side.Side.{Side}
 use Rattle.ill_saved.specs.declared.side.Side.TheVariants.{Requester, Responder}
 use Rattle.ill_saved.specs.Side.{role_of, issued_of, txn_of, state_of, due_date_of, turn_of, verbs_of}
-use Rattle.ill_saved.specs.Many.{Held}
+use Rattle.ill_saved.specs.Many.{DeskEntry}
 use Rattle.ill_tool.specs.declared.form.Form.{Form}
 use Rattle.ill_tool.specs.declared.form.Form.TheVariants.{Lines, Json}
 use Rattle.ill_tool.specs.declared.list.Counts.{Counts}
@@ -92,14 +92,14 @@ status_text Lines = status_lines
 status_text Json = λ side released. object_line (status_fields side released)
 
 -- each side that is held, in their order
-abbrev pub held_text : Form → Held → List ℕ
+abbrev pub held_text : Form → DeskEntry → List ℕ
 held_text form held = status_text form held.side held.released
 
-abbrev pub text_of_one : Form → Option Held → List ℕ
+abbrev pub text_of_one : Form → Option DeskEntry → List ℕ
 text_of_one form (Some held) = held_text form held
 text_of_one form None = []
 
-abbrev pub status_of_desk : Form → List Held → List ℕ
+abbrev pub status_of_desk : Form → List DeskEntry → List ℕ
 status_of_desk form held = flat_map (held_text form) held
 
 -- ---- loans

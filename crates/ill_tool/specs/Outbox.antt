@@ -15,7 +15,7 @@ use Rattle.ill_saved.specs.declared.store.StoreFault.TheVariants.{Failed}
 use Rattle.ill_saved.specs.Side.{role_of, issued_of, txn_of}
 use Rattle.ill_world.specs.Night.{is_over, wants_sending}
 use Rattle.ill_saved.specs.Sides.{side_with}
-use Rattle.ill_saved.specs.Many.{Held, Holding, sides_held}
+use Rattle.ill_saved.specs.Many.{DeskEntry, DeskContents, sides_held}
 use Rattle.ill_tool.specs.declared.fault.ToolFault.{ToolFault}
 use Rattle.ill_tool.specs.declared.fault.ToolFault.TheVariants.{Desk, OutOfMemory}
 use Rattle.ill_tool.specs.declared.verdict.Mail.{Mail}
@@ -43,7 +43,7 @@ pub record Issue : Type 0 where
   pub apdu : Apdu
 
 -- the messages of a side that were saved
-abbrev pub released_of : Held → List Apdu
+abbrev pub released_of : DeskEntry → List Apdu
 released_of held = take held.released (issued_of held.side)
 
 -- messages of a side
@@ -51,13 +51,13 @@ abbrev pub issues_of : Side → List Apdu → List Issue
 issues_of side apdus = map (λ a. record { side = side; apdu = a }) apdus
 
 -- All of them leave, in their order, if the side wants that.
-abbrev pub leaving_side : List Apdu → Held → List Issue
+abbrev pub leaving_side : List Apdu → DeskEntry → List Issue
 leaving_side asking held =
     if wants_sending (is_asked asking (txn_of held.side)) held.side
     then issues_of held.side (released_of held) else []
 
 -- those of all sides, in the order in which these were begun
-abbrev pub leaving_desk : List Apdu → List Held → List Issue
+abbrev pub leaving_desk : List Apdu → List DeskEntry → List Issue
 leaving_desk asking held = flat_map (leaving_side asking) held
 
 -- ---- the mails
@@ -93,12 +93,12 @@ abbrev pub letter_of : Issue → Letter
 letter_of issue = record { name = mail_name issue.side issue.apdu.number; bytes = spelling issue.apdu }
 
 -- the mails that leave a desk
-abbrev pub letters_of : List Apdu → List Held → List Letter
+abbrev pub letters_of : List Apdu → List DeskEntry → List Letter
 letters_of asking held = map letter_of (leaving_desk asking held)
 
 -- what the program holds is this
 
-abbrev pub held_of : HeldSide → Held
+abbrev pub held_of : HeldSide → DeskEntry
 held_of held = record { side = held.side.now; released = held.released }
 
 abbrev pub issue_of : Leaving → Issue
@@ -134,7 +134,7 @@ PutsAll after letters old new (Err fault) =
 
 -- The messages of these sides that want sending were put there, as these bytes tell who asks; or memory ran out to
 -- read them, and nothing was put there.
-abbrev pub RunsOutbox : {M : Type 0} → (M → Letter → M) → List ℕ → List Held → Option M → Option M →
+abbrev pub RunsOutbox : {M : Type 0} → (M → Letter → M) → List ℕ → List DeskEntry → Option M → Option M →
     Result ℕ ToolFault → Type 0
 RunsOutbox after bytes held old new (Ok count) =
     (asking : List Apdu) × AreIn bytes asking × PutsAll after (letters_of asking held) old new (Ok count)
@@ -151,7 +151,7 @@ abbrev pub stream_of : List Letter → List ℕ
 stream_of letters = flat_map (λ letter. letter.bytes) letters
 
 -- The messages of these sides that want sending were written, or a prefix of them; or memory ran out for them.
-abbrev pub StreamsOutbox : List ℕ → List Held → Option (List ℕ) → Option (List ℕ) → Result (Unit {0}) ToolFault →
+abbrev pub StreamsOutbox : List ℕ → List DeskEntry → Option (List ℕ) → Option (List ℕ) → Result (Unit {0}) ToolFault →
     Type 0
 StreamsOutbox bytes held before after (Err OutOfMemory) = Appends before after []
 StreamsOutbox bytes held before after result =
@@ -165,24 +165,24 @@ is_held_over None = false
 is_held_over (Some side) = is_over side
 
 -- The bytes of a mail ask at this desk, if its message is of a loan that is over.
-abbrev pub asks : Holding → List ℕ → Result Apdu Unfit → List ℕ
+abbrev pub asks : DeskContents → List ℕ → Result Apdu Unfit → List ℕ
 asks live bytes (Ok a) = if is_held_over (side_with a.txn (sides_held live).sides) then bytes else []
 asks live bytes (Err unfit) = []
 
-abbrev pub asks_in : Holding → Option (List ℕ) → List ℕ
+abbrev pub asks_in : DeskContents → Option (List ℕ) → List ℕ
 asks_in live None = []
 asks_in live (Some bytes) = asks live bytes (message_in bytes)
 
 -- A mail asks only if the desk has done with it.
-abbrev pub asks_of : Holding → Mail → Verdict → List ℕ
+abbrev pub asks_of : DeskContents → Mail → Verdict → List ℕ
 asks_of live mail (Done outcome) = asks_in live (option_map (λ bytes. bytes.items) mail.bytes)
 asks_of live mail verdict = []
 
 -- the same of a mail and a verdict that may be there
-abbrev pub asks_at : Holding → Option Mail → Option Verdict → List ℕ
+abbrev pub asks_at : DeskContents → Option Mail → Option Verdict → List ℕ
 asks_at live (Some mail) (Some verdict) = asks_of live mail verdict
 asks_at live mail verdict = []
 
 -- the bytes of all mails that ask, by their verdicts
-abbrev pub asked_by : Holding → List (Mail × Verdict) → List ℕ
+abbrev pub asked_by : DeskContents → List (Mail × Verdict) → List ℕ
 asked_by live mails = flat_map (λ mail. asks_of live mail.0 mail.1) mails

@@ -10,7 +10,7 @@ use Rattle.ill_saved.specs.declared.fault.DeskFault.TheVariants as desks
 use Rattle.ill_saved.specs.declared.store.StoreFault.TheVariants.{Failed}
 use Rattle.ill_saved.specs.Store.{HasRisen, StoreState}
 use Rattle.ill_saved.specs.Desk.{DeskOf}
-use Rattle.ill_saved.specs.Many.{Held, Holding, ManyOf}
+use Rattle.ill_saved.specs.Many.{DeskEntry, DeskContents, ManyOf}
 use Rattle.ill_world.specs.declared.event.Outcome.TheVariants as outcomes
 use Rattle.ill_world.specs.declared.event.DeskOutcome.{DeskOutcome}
 use Rattle.ill_world.specs.declared.event.DeskOutcome.TheVariants.{Plain, NoSuchTransaction, DeskFull}
@@ -37,13 +37,13 @@ abbrev pub view_of : {L S : Type 0} → (S → StoreState) → L → S → View 
 view_of state live store = record { live = live; landed = known (state store) }
 
 -- the side of a desk of one
-abbrev pub the_one : {S : Type 0} → DeskOf S → Held
+abbrev pub the_one : {S : Type 0} → DeskOf S → DeskEntry
 the_one desk = record { side = desk.live; released = desk.released }
 
-abbrev pub one_view : {S : Type 0} → (S → StoreState) → DeskOf S → View Held
+abbrev pub one_view : {S : Type 0} → (S → StoreState) → DeskOf S → View DeskEntry
 one_view state desk = view_of state (the_one desk) desk.store
 
-abbrev pub many_view : {S : Type 0} → (S → StoreState) → ManyOf S → View Holding
+abbrev pub many_view : {S : Type 0} → (S → StoreState) → ManyOf S → View DeskContents
 many_view state desk = view_of state desk.live desk.store
 
 -- this is held, and not saved yet

@@ -9,7 +9,7 @@ use Rattle.ill_core.specs.Bodies.{is_requesters}
 use Rattle.ill_saved.specs.declared.side.Side.{Side}
 use Rattle.ill_saved.specs.declared.side.Side.TheVariants.{Requester, Responder}
 use Rattle.ill_saved.specs.Side.{issued_of}
-use Rattle.ill_saved.specs.Many.{Held}
+use Rattle.ill_saved.specs.Many.{DeskEntry}
 use Rattle.ill_tool.specs.declared.picture.Link.{Link}
 use Rattle.ill_tool.specs.declared.picture.Link.TheVariants.{Before, Behind}
 use Rattle.ill_tool.specs.Escape.{is_within}
@@ -136,11 +136,11 @@ all_drawn drawing = drawing.lines ++ arrows drawing.left
 abbrev pub picture_of : List Apdu → List Apdu → List ℕ
 picture_of own theirs = all_drawn (fold with_own (record { lines = opening; left = theirs }) own)
 
-abbrev pub picture : Held → List Apdu → List ℕ
+abbrev pub picture : DeskEntry → List Apdu → List ℕ
 picture held kept = picture_of (issued_of held.side) (theirs_of held.side kept)
 
 -- what is written of a loan: an object, its picture, or its lines
-abbrev pub drawn_or_shown : Form → Bool → Held → List Apdu → List ℕ
+abbrev pub drawn_or_shown : Form → Bool → DeskEntry → List Apdu → List ℕ
 drawn_or_shown Json is_picture = kept_text Json
 drawn_or_shown Lines true = picture
 drawn_or_shown Lines false = kept_text Lines

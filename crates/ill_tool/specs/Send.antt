@@ -5,7 +5,7 @@ use Rattle.ill_values.specs.declared.apdu.Apdu.{Apdu}
 use Rattle.ill_der.specs.ShortForm.{spelling}
 use Rattle.ill_core.specs.Issued.{message}
 use Rattle.ill_saved.specs.Side.{issued_of}
-use Rattle.ill_saved.specs.Many.{Held}
+use Rattle.ill_saved.specs.Many.{DeskEntry}
 use Rattle.ill_saved.specs.declared.fault.DeskFault.TheVariants.{NoSuchTransaction, NoSuchMessage, NotSaved}
 use Rattle.ill_tool.specs.declared.fault.ToolFault.{ToolFault}
 use Rattle.ill_tool.specs.declared.fault.ToolFault.TheVariants.{Desk}
@@ -20,7 +20,7 @@ WritesMessage (Some a) false before after result = (result ≡ Err (Desk NotSave
 WritesMessage (Some a) true before after result = WritesText before after (spelling a) result
 
 -- The command: the message with this number of the side, if one is held.
-abbrev pub RunsSend : Option Held → ℕ → Option (List ℕ) → Option (List ℕ) → Result (Unit {0}) ToolFault →
+abbrev pub RunsSend : Option DeskEntry → ℕ → Option (List ℕ) → Option (List ℕ) → Result (Unit {0}) ToolFault →
     Type 0
 RunsSend None number before after result =
     (result ≡ Err (Desk NoSuchTransaction)) × Appends before after []

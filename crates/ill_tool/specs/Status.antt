@@ -9,7 +9,7 @@ use Rattle.ill_saved.specs.declared.side.Side.TheVariants.{Requester, Responder}
 use Rattle.ill_saved.specs.declared.role.Role.{Role}
 use Rattle.ill_saved.specs.declared.role.Role.TheVariants as roles
 use Rattle.ill_saved.specs.Side.{role_of, issued_of, txn_of, state_of, due_date_of}
-use Rattle.ill_saved.specs.Many.{Held}
+use Rattle.ill_saved.specs.Many.{DeskEntry}
 use Rattle.ill_world.specs.Words.{spaced}
 use Rattle.ill_world.specs.Trace.{due_text}
 use Rattle.ill_tool.specs.Lines.{line, id_lines}
@@ -49,8 +49,8 @@ status_lines side released =
     ++ line (codes "marks") (spaced_or_dash (marks_of side))
 
 -- the lines of each side that is held, in their order
-abbrev pub held_lines : Held → List ℕ
+abbrev pub held_lines : DeskEntry → List ℕ
 held_lines held = status_lines held.side held.released
 
-abbrev pub desk_lines : List Held → List ℕ
+abbrev pub desk_lines : List DeskEntry → List ℕ
 desk_lines held = flat_map held_lines held

@@ -3,7 +3,7 @@ use Rattle.std.specs.Prelude.{◌≡◌, ℕ, Bool, true, false, List, [], ◌++
 use Rattle.std.specs.Io.KnownBytes.{Appends}
 use Rattle.ill_values.specs.declared.apdu.Apdu.{Apdu}
 use Rattle.ill_core.specs.declared.taking.Taking.TheVariants.{Conflict}
-use Rattle.ill_saved.specs.Many.{Held, whole}
+use Rattle.ill_saved.specs.Many.{DeskEntry, whole}
 use Rattle.ill_world.specs.declared.event.Outcome.TheVariants as outcomes
 use Rattle.ill_world.specs.declared.event.DeskOutcome.{DeskOutcome}
 use Rattle.ill_world.specs.declared.event.DeskOutcome.TheVariants.{Plain, NoSuchTransaction, DeskFull}
@@ -21,27 +21,27 @@ is_fine DeskFull = false
 is_fine (Plain outcome) = true
 
 -- a side as it is told: as it stands, or as it will stand once all is saved
-abbrev pub as_told : Bool → Held → Held
+abbrev pub as_told : Bool → DeskEntry → DeskEntry
 as_told true now = whole now.side
 as_told false now = now
 
 -- how a side stands
-abbrev pub held_text : Held → List ℕ
+abbrev pub held_text : DeskEntry → List ℕ
 held_text now = side_text now.side now.released
 
 -- the line of an outcome, with how the side stands after it
-abbrev pub side_line : DeskOutcome → Held → List ℕ
+abbrev pub side_line : DeskOutcome → DeskEntry → List ℕ
 side_line outcome now = desk_outcome_word outcome ++ codes " " ++ held_text now ++ codes "\n"
 
 -- the line of a side that has begun and is saved
-abbrev pub done_line : Held → List ℕ
+abbrev pub done_line : DeskEntry → List ℕ
 done_line now = side_line (Plain outcomes.Done) now
 
 -- ---- messages
 
 -- what is written of an outcome, and of how the side stands after it
 abbrev pub Words : Type 0
-Words = DeskOutcome → Held → List ℕ
+Words = DeskOutcome → DeskEntry → List ℕ
 
 -- the same, of the outcome of a message
 abbrev pub Wording : Type 0
@@ -64,7 +64,7 @@ wording false = short
 
 -- What is written and answered of an outcome: its words, and whether all went well; a front of them where
 -- the writer failed; nothing without memory for them, or where a fault stands in their place.
-abbrev pub Reports : Words → Result DeskOutcome ToolFault → Held → List ℕ → Result Bool ToolFault → Type 0
+abbrev pub Reports : Words → Result DeskOutcome ToolFault → DeskEntry → List ℕ → Result Bool ToolFault → Type 0
 Reports words (Ok outcome) now text (Ok fine) = (fine ≡ is_fine outcome) × (text ≡ words outcome now)
 Reports words (Ok outcome) now text (Err Write) = (size : ℕ) × (text ≡ take size (words outcome now))
 Reports words (Ok outcome) now text (Err OutOfMemory) = text ≡ []
@@ -73,6 +73,6 @@ Reports words (Err fault) now text result = (result ≡ Err fault) × (text ≡ 
 
 -- The words of an outcome were written, and whether all went well was answered; or a front of them, where
 -- the writer failed; or nothing, without memory for them.
-abbrev pub WritesOutcome : Words → Option (List ℕ) → Option (List ℕ) → DeskOutcome → Held → Result Bool ToolFault → Type 0
+abbrev pub WritesOutcome : Words → Option (List ℕ) → Option (List ℕ) → DeskOutcome → DeskEntry → Result Bool ToolFault → Type 0
 WritesOutcome words before after outcome now result =
     (text : List ℕ) × Appends before after text × Reports words (Ok outcome) now text result

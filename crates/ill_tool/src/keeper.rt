@@ -4,7 +4,7 @@ ghost use Rattle.std.specs.Prelude.{◌≡◌, ◌++◌, true, length, option_co
 ghost use Rattle.ill_der.specs.Adding.{AddsFront};
 ghost use Rattle.ill_saved.specs.Side.{idle_side, issued_of};
 ghost use Rattle.ill_saved.specs.Desk.{Creates, IsCreateAnswer, DeskLoads, DeskSaves, IsSaveFault, answer_of, store_after};
-ghost use Rattle.ill_saved.specs.Many.{Held, Holding, SendsHeld, idle_held, side_for};
+ghost use Rattle.ill_saved.specs.Many.{DeskEntry, DeskContents, SendsHeld, idle_held, side_for};
 ghost use Rattle.ill_tool.specs.Keeping.{Keeping, alone, many_sides, no_sides, one_side};
 ghost use Rattle.ill_tool.specs.Performing.{the_one};
 ghost use Rattle.ill_tool.specs.Keeper.{KeeperActs, KeeperTakes, held_after};
@@ -117,7 +117,7 @@ impl<S: Store> Keeper for Desk1<S> {
 
     type First = (Role, TxnId);
 
-    ghost Live = { Held };
+    ghost Live = { DeskEntry };
 
     ghost keeping = { one_side };
 
@@ -180,7 +180,7 @@ impl<S: Store> Keeper for Desk<S> {
 
     type First = Role;
 
-    ghost Live = { Holding };
+    ghost Live = { DeskContents };
 
     ghost keeping = { many_sides };
 

@@ -10,7 +10,7 @@ use Rattle.ill_core.specs.Issued.{is_same_txn}
 use Rattle.ill_saved.specs.declared.role.Role.{Role as Who}
 use Rattle.ill_saved.specs.declared.role.Role.TheVariants as who
 use Rattle.ill_saved.specs.Side.{other}
-use Rattle.ill_saved.specs.Many.{Held, found_by, txn_held, held_for}
+use Rattle.ill_saved.specs.Many.{DeskEntry, found_by, txn_held, held_for}
 use Rattle.ill_saved.specs.declared.side.Side.{Side}
 use Rattle.ill_saved.proofs.Finding.{same_is, same_self}
 use Rattle.ill_world.specs.declared.event.DeskEvent.{DeskEvent}
@@ -143,7 +143,7 @@ not_plain NoSuchTransaction plainly missed = plainly
 not_plain DeskFull plainly missed = plainly
 
 -- A transaction that a desk holds is reached there.
-held_missed : (may_begin : Bool) (p : DeskParty) (txn of : Qualifiers) (held : Held) (outcome : DeskOutcome) → of ≡ txn → found_by txn_held txn p.live.held ≡ Some held → ReachesAt may_begin p of outcome → IsNotReached outcome → ⊥
+held_missed : (may_begin : Bool) (p : DeskParty) (txn of : Qualifiers) (held : DeskEntry) (outcome : DeskOutcome) → of ≡ txn → found_by txn_held txn p.live.held ≡ Some held → ReachesAt may_begin p of outcome → IsNotReached outcome → ⊥
 held_missed may_begin p txn of held outcome is found reaches missed =
     not_plain outcome
     (subst (λ o. Reaches may_begin (nat_lt (length p.live.held) 1000) o outcome) (ap (λ t. found_by txn_held t p.live.held) is ∙ found) reaches) missed

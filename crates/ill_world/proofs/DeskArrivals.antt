@@ -14,7 +14,7 @@ use Rattle.ill_saved.specs.declared.role.Role.TheVariants as who
 use Rattle.ill_saved.specs.declared.side.Side.{Side}
 use Rattle.ill_saved.specs.declared.side.Side.TheVariants as sides
 use Rattle.ill_saved.specs.Side.{other, issued_of, idle_side}
-use Rattle.ill_saved.specs.Many.{Held, held_for, found_or, idle_held, found_by, txn_held}
+use Rattle.ill_saved.specs.Many.{DeskEntry, held_for, found_or, idle_held, found_by, txn_held}
 use Rattle.ill_saved.proofs.Finding.{same_self}
 use Rattle.ill_world.specs.declared.event.DeskEvent.{DeskEvent}
 use Rattle.ill_world.specs.declared.event.DeskEvent.TheVariants as desk_events
@@ -77,7 +77,7 @@ idle_issues who.Requester txn = refl
 idle_issues who.Responder txn = refl
 
 -- a side that has issued something is held
-held_plainly : (may_begin : Bool) (p : DeskParty) (txn : Qualifiers) (found : Option Held) (outcome : DeskOutcome) → found_by txn_held txn p.live.held ≡ found → (issued_of (held_for txn p.live).side ≡ [] → ⊥)
+held_plainly : (may_begin : Bool) (p : DeskParty) (txn : Qualifiers) (found : Option DeskEntry) (outcome : DeskOutcome) → found_by txn_held txn p.live.held ≡ found → (issued_of (held_for txn p.live).side ≡ [] → ⊥)
     → ReachesAt may_begin p txn outcome → IsPlain outcome
 held_plainly may_begin p txn (Some held) outcome e not_idle reaches = subst (λ o. Reaches may_begin (nat_lt (length p.live.held) 1000) o outcome) e reaches
 held_plainly may_begin p txn None outcome e not_idle reaches = absurd (not_idle (ap (λ o. issued_of (found_or (idle_held p.live.role txn) o).side) e ∙ idle_issues p.live.role txn))

@@ -21,7 +21,7 @@ use Rattle.ill_saved.specs.declared.side.Action.{Action}
 use Rattle.ill_saved.specs.declared.side.Action.TheVariants as actions
 use Rattle.ill_saved.specs.Side.{issued_of, txn_of, other, idle_side, acts, takes, acted, took, begins}
 use Rattle.ill_saved.specs.Sides.{found_by, is_same_role, most_sides, side_with}
-use Rattle.ill_saved.specs.Many.{Held, txn_held, idle_held, whole, found_or, with_held, held_or_begun, reached, is_own, acted as acted_at, acts_reached, took as took_at, takes_reached}
+use Rattle.ill_saved.specs.Many.{DeskEntry, txn_held, idle_held, whole, found_or, with_held, held_or_begun, reached, is_own, acted as acted_at, acts_reached, took as took_at, takes_reached}
 use Rattle.ill_saved.proofs.Finding.{same_is, same_self, apart_back, found_is, keys_put, put_last}
 use Rattle.ill_world.specs.declared.event.DeskEvent.{DeskEvent}
 use Rattle.ill_world.specs.declared.event.DeskEvent.TheVariants as desk_events
@@ -145,11 +145,11 @@ LeadsTo May p new = Leads May (live_txns p) (landed_txns p) (live_txns new) (lan
 
 -- the desk as it was, or with this transaction's side put
 abbrev Puts : Qualifiers → DeskParty → DeskParty → Type 0
-Puts of p new = (new ≡ p) ⊎ ((held : Held) × (txn_held held ≡ of) × (new ≡ record p { live = with_held p.live held }))
+Puts of p new = (new ≡ p) ⊎ ((held : DeskEntry) × (txn_held held ≡ of) × (new ≡ record p { live = with_held p.live held }))
 
 module _ (May : Qualifiers → Type 0) (p : DeskParty) (of : Qualifiers) where
   -- A side that is put leaves the transactions as they are, where its own is held, and else begins it.
-  put_leads : (held : Held) → txn_held held ≡ of → (found : Option Held) → found_by txn_held of p.live.held ≡ found → (found ≡ None → (nat_lt (length p.live.held) most_sides ≡ true) × May of)
+  put_leads : (held : DeskEntry) → txn_held held ≡ of → (found : Option DeskEntry) → found_by txn_held of p.live.held ≡ found → (found ≡ None → (nat_lt (length p.live.held) most_sides ≡ true) × May of)
       → LeadsTo May p (record p { live = with_held p.live held })
   put_leads held is (Some there) e may = stays (keys_put txn_held held there p.live.held (ap (λ t. found_by txn_held t p.live.held) is ∙ e)) refl
   put_leads held is None e may =
@@ -161,13 +161,13 @@ module _ (May : Qualifiers → Type 0) (p : DeskParty) (of : Qualifiers) where
       few room = omega (arith, ltb-true (length p.live.held) 1000 room, length-map p.live.held txn_held)
 
   -- A desk that puts a side, or stays, leads on.
-  puts_lead : (new : DeskParty) → Puts of p new → (found : Option Held) → found_by txn_held of p.live.held ≡ found → (found ≡ None → (nat_lt (length p.live.held) most_sides ≡ true) × May of) → LeadsTo May p new
+  puts_lead : (new : DeskParty) → Puts of p new → (found : Option DeskEntry) → found_by txn_held of p.live.held ≡ found → (found ≡ None → (nat_lt (length p.live.held) most_sides ≡ true) × May of) → LeadsTo May p new
   puts_lead new (inl is) found e may = subst (LeadsTo May p) (sym is) (stays refl refl)
   puts_lead new (inr (held, is, put)) found e may = subst (LeadsTo May p) (sym put) (put_leads held is found e may)
 
   -- A desk at which a side is reached puts it or stays; one at which none is stays.
-  reach_leads : (seen : Result Held DeskFault → DeskParty) → ((held : Held) → txn_held held ≡ of → Puts of p (seen (Ok held))) → ((fault : DeskFault) → seen (Err fault) ≡ p) → txn_held (idle_held p.live.role of) ≡ of
-      → (may_begin : Bool) → (may_begin ≡ true → May of) → (has_room : Bool) → nat_lt (length p.live.held) most_sides ≡ has_room → (found : Option Held) → found_by txn_held of p.live.held ≡ found
+  reach_leads : (seen : Result DeskEntry DeskFault → DeskParty) → ((held : DeskEntry) → txn_held held ≡ of → Puts of p (seen (Ok held))) → ((fault : DeskFault) → seen (Err fault) ≡ p) → txn_held (idle_held p.live.role of) ≡ of
+      → (may_begin : Bool) → (may_begin ≡ true → May of) → (has_room : Bool) → nat_lt (length p.live.held) most_sides ≡ has_room → (found : Option DeskEntry) → found_by txn_held of p.live.held ≡ found
       → LeadsTo May p (seen (held_or_begun may_begin has_room (idle_held p.live.role of) found))
   reach_leads seen puts fails idle may_begin may has_room room (Some held) e =
       puts_lead (seen (Ok held)) (puts held (sym (found_is txn_held of p.live.held held e))) (Some held) e (λ none. absurd (true≢false (ap is_some none)))
@@ -183,7 +183,7 @@ Permits May told other = Unit {0}
 
 module _ (grows : RowsGrow) (May : Qualifiers → Type 0) (p : DeskParty) where
   -- A decision puts its side, or the desk stays.
-  decided_puts : (of : Qualifiers) (action : Action) (held : Held) → txn_held held ≡ of → (result : Result Side Refusal) → acts held.side action ≡ result → Puts of p (desk_decides p (acted_at p.live held result)).1
+  decided_puts : (of : Qualifiers) (action : Action) (held : DeskEntry) → txn_held held ≡ of → (result : Result Side Refusal) → acts held.side action ≡ result → Puts of p (desk_decides p (acted_at p.live held result)).1
   decided_puts of action held is (Ok new) e = inr (record { side = new; released = held.released }, row_txn grows held.side new (acted action e) ∙ is, refl)
   decided_puts of action held is (Err refusal) e = inl refl
 
@@ -196,7 +196,7 @@ module _ (grows : RowsGrow) (May : Qualifiers → Type 0) (p : DeskParty) where
   decides_leads of action may false = stays refl refl
 
   -- A message that comes puts its side, or the desk stays.
-  took_puts : (a : Apdu) (held : Held) → txn_held held ≡ a.txn → (answer : Result Taking Refusal) (new : Side) → takes held.side a ≡ (answer, new) → Puts a.txn p (record p { live = (took_at p.live held (answer, new)).1 })
+  took_puts : (a : Apdu) (held : DeskEntry) → txn_held held ≡ a.txn → (answer : Result Taking Refusal) (new : Side) → takes held.side a ≡ (answer, new) → Puts a.txn p (record p { live = (took_at p.live held (answer, new)).1 })
   took_puts a held is (Ok _) new e = inr (record { side = new; released = held.released }, row_txn grows held.side new (took a (ap (λ (r : Result Taking Refusal × Side). r.1) e)) ∙ is, refl)
   took_puts a held is (Err refusal) new e = inl refl
 
@@ -220,19 +220,19 @@ module _ (grows : RowsGrow) (May : Qualifiers → Type 0) (p : DeskParty) where
   sends_leads after (Some a) true leads = leads a
 
   -- A sending leads on.
-  send_leads : (of : Qualifiers) (n : ℕ) (found : Option Held) → LeadsTo May p (desk_sends p of n found).1
+  send_leads : (of : Qualifiers) (n : ℕ) (found : Option DeskEntry) → LeadsTo May p (desk_sends p of n found).1
   send_leads of n None = stays refl refl
   send_leads of n (Some held) = sends_leads _ _ _ (λ a. stays refl refl)
 
   -- The sides that are held are of the transactions that are held.
-  held_txns : map txn_of (map (λ (held : Held). held.side) p.live.held) ≡ live_txns p
-  held_txns = map-map txn_of (λ (held : Held). held.side) p.live.held
+  held_txns : map txn_of (map (λ (held : DeskEntry). held.side) p.live.held) ≡ live_txns p
+  held_txns = map-map txn_of (λ (held : DeskEntry). held.side) p.live.held
 
   -- An event leads on.
   pub event_leads : (told : List Sending) (event : DeskEvent) → Permits May told event → LeadsTo May p (desk_happens_to p told event).1
   event_leads told (desk_events.Wish of wish) may = decides_leads of (actions.Wish wish) (λ is. may) (is_same_role p.live.role who.Requester)
   event_leads told (desk_events.Deed of deed today) may = decides_leads of (actions.Deed deed today) (λ is. absurd (true≢false (sym is))) (is_same_role p.live.role who.Responder)
-  event_leads told (desk_events.Save role) may = lands (map-map txn_held whole (map (λ (held : Held). held.side) p.live.held) ∙ held_txns) held_txns
+  event_leads told (desk_events.Save role) may = lands (map-map txn_held whole (map (λ (held : DeskEntry). held.side) p.live.held) ∙ held_txns) held_txns
   event_leads told (desk_events.SaveFault role true) may = lands refl held_txns
   event_leads told (desk_events.SaveFault role false) may = stays refl refl
   event_leads told (desk_events.Send role of n) may = send_leads of n (found_by txn_held of p.live.held)
@@ -299,7 +299,7 @@ sent_known w stands of n a sent =
     let saved = (stands.each of).requester.saved in
     let p = w.requester in
     let live = live_issues (project of w).requester saved a (n, sent) in (
-      sym (has_found txn_held of p.live.held) ∙ issued_found (λ (held : Held). held.side) (idle_held p.live.role of) (found_by txn_held of p.live.held) live.0 a (idle_issues p.live.role of) live.1,
+      sym (has_found txn_held of p.live.held) ∙ issued_found (λ (held : DeskEntry). held.side) (idle_held p.live.role of) (found_by txn_held of p.live.held) live.0 a (idle_issues p.live.role of) live.1,
       sym (has_found txn_of of p.landed.sides) ∙ issued_found (λ side. side) (idle_side p.landed.role of) (found_by txn_of of p.landed.sides) n a (idle_issues p.landed.role of) (saved.landed n a sent),
     )
 
@@ -334,7 +334,7 @@ first_counts = ((tt, omega arith), (tt, omega arith), (tt, (λ t is. is), (λ t 
 -- ---- deliveries
 
 -- A delivery that is never without room is not to a full desk.
-never_full : (may_begin has_room : Bool) (found : Option Held) → (found ≡ None → has_room ≡ false → ⊥) → Reaches may_begin has_room found DeskFull → ⊥
+never_full : (may_begin has_room : Bool) (found : Option DeskEntry) → (found ≡ None → has_room ≡ false → ⊥) → Reaches may_begin has_room found DeskFull → ⊥
 never_full may_begin has_room (Some held) room reaches = reaches
 never_full true true None room reaches = reaches
 never_full true false None room reaches = room refl refl

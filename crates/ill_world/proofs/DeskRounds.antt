@@ -20,7 +20,7 @@ use Rattle.ill_saved.specs.declared.side.Side.{Side}
 use Rattle.ill_saved.specs.declared.side.Side.TheVariants as sides
 use Rattle.ill_saved.specs.Side.{issued_of, txn_of, idle_side, other, takes}
 use Rattle.ill_saved.specs.Sides.{found_by, side_with}
-use Rattle.ill_saved.specs.Many.{Held, Holding, txn_held, idle_held, found_or, held_for, sides_held}
+use Rattle.ill_saved.specs.Many.{DeskEntry, DeskContents, txn_held, idle_held, found_or, held_for, sides_held}
 use Rattle.ill_saved.proofs.Finding.{same_is, same_self, side_of_held}
 use Rattle.ill_world.specs.declared.event.Event.TheVariants as events
 use Rattle.ill_world.specs.declared.event.DeskEvent.{DeskEvent}
@@ -75,7 +75,7 @@ idle_takes txn a is =
     (refused_or_same (first_refusal txn (not (is_requesters a.body)) a) (idle_responder txn) (take_message (idle_responder txn) a a.body) (idle_message txn a a.body is))
 
 -- A side that is not held has issued nothing.
-unheld_issues : (txn : Qualifiers) (live : Holding) → found_by txn_held txn live.held ≡ None → issued_of (held_for txn live).side ≡ []
+unheld_issues : (txn : Qualifiers) (live : DeskContents) → found_by txn_held txn live.held ≡ None → issued_of (held_for txn live).side ≡ []
 unheld_issues txn live none = ap (λ o. issued_of (found_or (idle_held live.role txn) o).side) none ∙ idle_issues live.role txn
 
 -- ---- one event
@@ -106,14 +106,14 @@ seen_elsewhere false is expected old new NoSuchTransaction seen = seen
 seen_elsewhere false is expected old new DeskFull seen = seen
 
 -- A transaction that is not reached is not held, and the event may not begin it.
-not_reached : (may_begin has_room : Bool) (found : Option Held) → Reaches may_begin has_room found NoSuchTransaction → (found ≡ None) × (may_begin ≡ false)
+not_reached : (may_begin has_room : Bool) (found : Option DeskEntry) → Reaches may_begin has_room found NoSuchTransaction → (found ≡ None) × (may_begin ≡ false)
 not_reached may_begin has_room (Some held) reaches = absurd reaches
 not_reached true true None reaches = absurd reaches
 not_reached true false None reaches = search rules
 not_reached false has_room None reaches = (refl, refl)
 
 -- An event that begins nothing finds no desk full.
-begins_in_room : (has_room : Bool) (found : Option Held) → Reaches false has_room found DeskFull → ⊥
+begins_in_room : (has_room : Bool) (found : Option DeskEntry) → Reaches false has_room found DeskFull → ⊥
 begins_in_room has_room (Some held) reaches = reaches
 begins_in_room has_room None reaches = search rules
 
@@ -146,7 +146,7 @@ module _ (projects : EachProjects) (reaches : EachReaches) (after : EachStands) 
       has_room : Bool
       has_room = nat_lt (length (party w role).live.held) 1000
 
-      found : Option Held
+      found : Option DeskEntry
       found = found_by txn_held txn (party w role).live.held
 
       reached : (outcome : DeskOutcome) → (desks_happen w event).0 ≡ outcome → Reaches false has_room found outcome
@@ -167,7 +167,7 @@ module _ (projects : EachProjects) (reaches : EachReaches) (after : EachStands) 
       has_room : Bool
       has_room = nat_lt (length (party w role).live.held) 1000
 
-      found : Option Held
+      found : Option DeskEntry
       found = found_by txn_held txn (party w role).live.held
 
       go : (to : Who) → sent_message (sent_for txn (party w (other to)).sent) n ≡ Some a → (found_by txn_held txn (party w to).live.held ≡ None) × (is_ill_request a.body ≡ false)
@@ -272,15 +272,15 @@ module _ (projects : EachProjects) (reaches : EachReaches) (after : EachStands) 
 
   -- No two sides of a desk are of one transaction.
   pub held_apart : (w : DeskParties) (role : Who) → DesksStand w → AreApart (map txn_of (sides_held (party w role).live).sides)
-  held_apart w who.Requester stands = subst AreApart (sym (map-map txn_of (λ (held : Held). held.side) w.requester.live.held)) stands.counts.0.0
-  held_apart w who.Responder stands = subst AreApart (sym (map-map txn_of (λ (held : Held). held.side) w.responder.live.held)) stands.counts.2.0
+  held_apart w who.Requester stands = subst AreApart (sym (map-map txn_of (λ (held : DeskEntry). held.side) w.requester.live.held)) stands.counts.0.0
+  held_apart w who.Responder stands = subst AreApart (sym (map-map txn_of (λ (held : DeskEntry). held.side) w.responder.live.held)) stands.counts.2.0
 
   -- The half of a desk is, of the transaction, the half of its side.
   half_alike : (w : DeskParties) (role : Who) → DesksStand w → project txn (desks_run w (desk_half_of role w)) ≡ run_of (project txn w) (half_of role (project txn w))
   unfolding run_by side_with
   half_alike w role stands = saved_alike ∙ ap (λ (p : Party). run_of (project txn w) (events.Save role ∷ passes_on role 1 (length (issued_of p.live)))) (sym (shown txn w role))
     where
-      live : Holding
+      live : DeskContents
       live = (party w role).live
 
       idle : Side

@@ -16,7 +16,7 @@ use Rattle.ill_saved.specs.declared.side.Action.TheVariants as actions
 use Rattle.ill_saved.specs.Side.{issued_of, role_of, other, acts, takes, begins}
 use Rattle.ill_saved.specs.Sides.{is_same_role}
 use Rattle.ill_core.specs.Bodies.{is_ill_request}
-use Rattle.ill_saved.specs.Many.{Held, held_for, reached, acted as acted_at, acts_reached, took as took_at, takes_reached, is_own, found_by, txn_held}
+use Rattle.ill_saved.specs.Many.{DeskEntry, held_for, reached, acted as acted_at, acts_reached, took as took_at, takes_reached, is_own, found_by, txn_held}
 use Rattle.ill_saved.proofs.Finding.{same_is}
 use Rattle.ill_world.specs.declared.event.Event.{Event}
 use Rattle.ill_world.specs.declared.event.DeskEvent.{DeskEvent}
@@ -98,24 +98,24 @@ desk_projects grows rows txn w event stands =
 
 -- ---- a desk keeps its role
 
-acted_role : (role : Who) (p : DeskParty) (held : Held) (result : Result Side Refusal) → IsDeskOf role p → IsDeskOf role (desk_decides p (acted_at p.live held result)).1
+acted_role : (role : Who) (p : DeskParty) (held : DeskEntry) (result : Result Side Refusal) → IsDeskOf role p → IsDeskOf role (desk_decides p (acted_at p.live held result)).1
 acted_role role p held (Ok new) is = is
 acted_role role p held (Err refusal) is = is
 
-reached_role : (role : Who) (p : DeskParty) (action : Action) (found : Result Held DeskFault) → IsDeskOf role p → IsDeskOf role (desk_decides p (acts_reached p.live action found)).1
+reached_role : (role : Who) (p : DeskParty) (action : Action) (found : Result DeskEntry DeskFault) → IsDeskOf role p → IsDeskOf role (desk_decides p (acts_reached p.live action found)).1
 reached_role role p action (Ok held) is = acted_role role p held (acts held.side action) is
 reached_role role p action (Err fault) is = is
 
-decided_role : (role : Who) (p : DeskParty) (action : Action) (found : Result Held DeskFault) (may : Bool) → IsDeskOf role p
+decided_role : (role : Who) (p : DeskParty) (action : Action) (found : Result DeskEntry DeskFault) (may : Bool) → IsDeskOf role p
     → IsDeskOf role (desk_decides p (if may then acts_reached p.live action found else Err (faults.Core WrongRole))).1
 decided_role role p action found true is = reached_role role p action found is
 decided_role role p action found false is = is
 
-took_role : (role : Who) (p : DeskParty) (held : Held) (answer : Result _ Refusal) (new : Side) → IsDeskOf role p → (took_at p.live held (answer, new)).1.role ≡ role
+took_role : (role : Who) (p : DeskParty) (held : DeskEntry) (answer : Result _ Refusal) (new : Side) → IsDeskOf role p → (took_at p.live held (answer, new)).1.role ≡ role
 took_role role p held (Ok _) new is = is.0
 took_role role p held (Err refusal) new is = is.0
 
-takes_role : (role : Who) (p : DeskParty) (a : Apdu) (found : Result Held DeskFault) → IsDeskOf role p → (takes_reached p.live a found).1.role ≡ role
+takes_role : (role : Who) (p : DeskParty) (a : Apdu) (found : Result DeskEntry DeskFault) → IsDeskOf role p → (takes_reached p.live a found).1.role ≡ role
 takes_role role p a (Ok held) is = took_role role p held (takes held.side a).0 (takes held.side a).1 is
 takes_role role p a (Err fault) is = is.0
 
@@ -132,7 +132,7 @@ sends_role role p after None released is sent = is
 sends_role role p after (Some a) false is sent = is
 sends_role role p after (Some a) true is sent = sent a
 
-send_role : (role : Who) (p : DeskParty) (of : Qualifiers) (n : ℕ) (found : Option Held) → IsDeskOf role p → IsDeskOf role (desk_sends p of n found).1
+send_role : (role : Who) (p : DeskParty) (of : Qualifiers) (n : ℕ) (found : Option DeskEntry) → IsDeskOf role p → IsDeskOf role (desk_sends p of n found).1
 send_role role p of n None is = is
 send_role role p of n (Some held) is = sends_role role p _ _ _ is (λ a. is)
 

@@ -19,7 +19,7 @@ use Rattle.ill_saved.specs.declared.side.Action.{Action}
 use Rattle.ill_saved.specs.declared.side.Action.TheVariants as actions
 use Rattle.ill_saved.specs.Side.{issued_of, txn_of, role_of, idle_side, acts, takes, acted, took, IsStep, role_for, begins}
 use Rattle.ill_saved.specs.Sides.{SidesOf, is_same_role, most_sides, side_with}
-use Rattle.ill_saved.specs.Many.{Held, Holding, found_by, txn_held, idle_held, whole, found_or, held_for, with_held, side_for, sides_held, whole_of, is_own, held_or_begun, reached, acted as acted_at, acts_reached, desk_acts, took as took_at, takes_reached}
+use Rattle.ill_saved.specs.Many.{DeskEntry, DeskContents, found_by, txn_held, idle_held, whole, found_or, held_for, with_held, side_for, sides_held, whole_of, is_own, held_or_begun, reached, acted as acted_at, acts_reached, desk_acts, took as took_at, takes_reached}
 use Rattle.ill_saved.proofs.Finding.{same_is, same_self, found_is, found_put, found_mapped, side_of_held}
 use Rattle.ill_world.specs.declared.event.DeskEvent.{DeskEvent}
 use Rattle.ill_world.specs.declared.event.DeskEvent.TheVariants as events
@@ -45,7 +45,7 @@ found_either true instead new found = refl
 found_either false instead new found = refl
 
 -- once a side was put: it, or what there was of another transaction
-held_after : (txn : Qualifiers) (live : Holding) (new : Held) → held_for txn (with_held live new) ≡ cond (is_same_txn txn (txn_held new)) new (held_for txn live)
+held_after : (txn : Qualifiers) (live : DeskContents) (new : DeskEntry) → held_for txn (with_held live new) ≡ cond (is_same_txn txn (txn_held new)) new (held_for txn live)
 held_after txn live new =
     ap (found_or (idle_held live.role txn)) (found_put txn_held txn new live.held)
     ∙ found_either (is_same_txn txn (txn_held new)) (idle_held live.role txn) new (found_by txn_held txn live.held)
@@ -79,12 +79,12 @@ pub idle_txn : (role : Who) (txn : Qualifiers) → txn_of (idle_side role txn) �
 idle_txn who.Requester txn = refl
 idle_txn who.Responder txn = refl
 
-found_txn : (role : Who) (txn : Qualifiers) (held : List Held) (found : Option Held) → found_by txn_held txn held ≡ found → txn_held (found_or (idle_held role txn) found) ≡ txn
+found_txn : (role : Who) (txn : Qualifiers) (held : List DeskEntry) (found : Option DeskEntry) → found_by txn_held txn held ≡ found → txn_held (found_or (idle_held role txn) found) ≡ txn
 found_txn role txn held (Some there) e = sym (found_is txn_held txn held there e)
 found_txn role txn held None e = idle_txn role txn
 
 -- the side that a desk has of a transaction is of it
-pub held_txn : (txn : Qualifiers) (live : Holding) → txn_held (held_for txn live) ≡ txn
+pub held_txn : (txn : Qualifiers) (live : DeskContents) → txn_held (held_for txn live) ≡ txn
 held_txn txn live = found_txn live.role txn live.held (found_by txn_held txn live.held) refl
 
 pub row_txn : RowsGrow → (old new : Side) → IsStep old new → txn_of new ≡ txn_of old
@@ -95,7 +95,7 @@ row_txn grows old new row =
 pub shows : (p : DeskParty) (txn : Qualifiers) → ProjectsTo p txn (party_for txn p)
 shows p txn = record {
   live = λ held found.
-      let is = ap (found_or (idle_held p.live.role txn)) found in (ap (λ (h : Held). h.side) is, ap (λ (h : Held). h.released) is);
+      let is = ap (found_or (idle_held p.live.role txn)) found in (ap (λ (h : DeskEntry). h.side) is, ap (λ (h : DeskEntry). h.released) is);
   landed = λ side found. ap (found_or (idle_side p.landed.role txn)) found;
   sent = λ sending found. ap (λ o. (found_or {X = Sending} (record { txn = txn; sent = nothing_sent }) o).sent) found;
 }
@@ -121,7 +121,7 @@ single expected of p new outcome here there txn = go (is_same_txn txn of) refl
 nothing_done : (expected : Qualifiers → Outcome × Party) (of : Qualifiers) (p : DeskParty) (outcome : Outcome) → expected of ≡ (outcome, party_for of p) → (txn : Qualifiers) → Seen expected of p txn (Plain outcome, p)
 nothing_done expected of p outcome here = single expected of p p outcome here (λ txn another. refl)
 
-abbrev next_held : Held → Side → Held
+abbrev next_held : DeskEntry → Side → DeskEntry
 next_held held new = record { side = new; released = held.released }
 
 -- one that leads the side of the transaction on
@@ -132,7 +132,7 @@ goes_on expected of p new outcome is here =
     let next = next_held (held_for of p.live) new in
     let after : DeskParty = record p { live = with_held p.live next } in
     let shows : (txn : Qualifiers) → party_for txn after ≡ record (party_for txn p) { live = (cond (is_same_txn txn (txn_held next)) next (held_for txn p.live)).side; released = (cond (is_same_txn txn (txn_held next)) next (held_for txn p.live)).released } =
-    λ txn. ap (λ (h : Held). record (party_for txn p) { live = h.side; released = h.released }) (held_after txn p.live next) in
+    λ txn. ap (λ (h : DeskEntry). record (party_for txn p) { live = h.side; released = h.released }) (held_after txn p.live next) in
     let at : (txn : Qualifiers) (same : Bool) → is_same_txn txn of ≡ same → is_same_txn txn (txn_held next) ≡ same = λ txn same e. ap (is_same_txn txn) is ∙ e in
     single expected of p after outcome
     (here ∙ ap (λ (q : Party). (outcome, q)) (sym (shows of ∙ ap (λ b. record (party_for of p) { live = (cond b next (held_for of p.live)).side; released = (cond b next (held_for of p.live)).released }) (at of true (same_self of)))))
@@ -148,11 +148,11 @@ not_reached : (expected : Qualifiers → Outcome × Party) (of : Qualifiers) (p 
 not_reached expected of p fault (inl is) txn = subst (λ f. Seen expected of p txn (fault_seen f, p)) (sym is) refl
 not_reached expected of p fault (inr is) txn = subst (λ f. Seen expected of p txn (fault_seen f, p)) (sym is) refl
 
-abbrev Reaches : Held → Result Held DeskFault → Type 0
+abbrev Reaches : DeskEntry → Result DeskEntry DeskFault → Type 0
 Reaches held (Ok found) = found ≡ held
 Reaches held (Err fault) = IsNotReached fault
 
-reaches : (may_begin has_room : Bool) (idle : Held) (found : Option Held) → Reaches (found_or idle found) (held_or_begun may_begin has_room idle found)
+reaches : (may_begin has_room : Bool) (idle : DeskEntry) (found : Option DeskEntry) → Reaches (found_or idle found) (held_or_begun may_begin has_room idle found)
 reaches may_begin has_room idle (Some held) = refl
 reaches true true idle None = refl
 reaches true false idle None = inr refl
@@ -169,7 +169,7 @@ decides_held grows p of action (Ok new) e txn =
     goes_on (decided p action) of p new Done (row_txn grows (held_for of p.live).side new (acted action e) ∙ held_txn of p.live) (ap (decides (party_for of p)) e) txn
 decides_held grows p of action (Err refusal) e txn = nothing_done (decided p action) of p (Refused refusal) (ap (decides (party_for of p)) e) txn
 
-decides_reached : RowsGrow → (p : DeskParty) (of : Qualifiers) (action : Action) (found : Result Held DeskFault) → Reaches (held_for of p.live) found → (txn : Qualifiers)
+decides_reached : RowsGrow → (p : DeskParty) (of : Qualifiers) (action : Action) (found : Result DeskEntry DeskFault) → Reaches (held_for of p.live) found → (txn : Qualifiers)
     → Seen (decided p action) of p txn (desk_decides p (acts_reached p.live action found))
 decides_reached grows p of action (Ok held) is txn =
     subst (λ h. Seen (decided p action) of p txn (desk_decides p (acted_at p.live h (acts h.side action)))) (sym is)
@@ -196,7 +196,7 @@ taken_by rows side new a refusal e =
     ]
 
 module _ (grows : RowsGrow) (rows : Quiet) (p : DeskParty) (told : List Sending) (n : ℕ) (a : Apdu) (was : sent_message (sent_for a.txn told) n ≡ Some a) where
-  abbrev desk_took : Result Taking DeskFault × Holding → DeskOutcome × DeskParty
+  abbrev desk_took : Result Taking DeskFault × DeskContents → DeskOutcome × DeskParty
   desk_took result = (taking_seen result.0, record p { live = result.1 })
 
   here : (answer : Result Taking Refusal) (new : Side) → takes (held_for a.txn p.live).side a ≡ (answer, new) → received p told n a.txn ≡ (answer_to answer, record (party_for a.txn p) { live = new })
@@ -210,7 +210,7 @@ module _ (grows : RowsGrow) (rows : Quiet) (p : DeskParty) (told : List Sending)
       nothing_done (received p told n) a.txn p (Refused refusal)
       (here (Err refusal) new e ∙ ap (λ side. (Refused refusal, record (party_for a.txn p) { live = side })) (taken_by rows (held_for a.txn p.live).side new a refusal e)) txn
 
-  takes_found : (found : Result Held DeskFault) → Reaches (held_for a.txn p.live) found → (txn : Qualifiers) → Seen (received p told n) a.txn p txn (desk_took (takes_reached p.live a found))
+  takes_found : (found : Result DeskEntry DeskFault) → Reaches (held_for a.txn p.live) found → (txn : Qualifiers) → Seen (received p told n) a.txn p txn (desk_took (takes_reached p.live a found))
   takes_found (Ok held) is txn =
       let side = (held_for a.txn p.live).side in
       subst (λ h. Seen (received p told n) a.txn p txn (desk_took (took_at p.live h (takes h.side a)))) (sym is) (takes_held (takes side a).0 (takes side a).1 refl txn)
@@ -247,7 +247,7 @@ sends_held p of n (Some a) true is may txn =
     (ap (λ o. sends (party_for of p) n o (nat_le n (held_for of p.live).released)) is ∙ ap (sends (party_for of p) n (Some a)) may ∙ ap (λ (q : Party). (Sent, q)) (sym (shows of true (same_self of))))
     (λ txn another. shows txn false another) txn
 
-desk_sends_seen : (p : DeskParty) (of : Qualifiers) (n : ℕ) (found : Option Held) → found_by txn_held of p.live.held ≡ found → (txn : Qualifiers) → Seen (sent_by p n) of p txn (desk_sends p of n found)
+desk_sends_seen : (p : DeskParty) (of : Qualifiers) (n : ℕ) (found : Option DeskEntry) → found_by txn_held of p.live.held ≡ found → (txn : Qualifiers) → Seen (sent_by p n) of p txn (desk_sends p of n found)
 desk_sends_seen p of n None e txn = refl
 desk_sends_seen p of n (Some held) e txn =
     let is : held_for of p.live ≡ held = ap (found_or (idle_held p.live.role of)) e in
@@ -258,7 +258,7 @@ desk_sends_seen p of n (Some held) e txn =
 
 saves_seen : (p : DeskParty) (txn : Qualifiers) → party_for txn (desk_saves p) ≡ saves (party_for txn p)
 saves_seen p txn =
-    ap (λ (h : Held). record (party_for txn p) { live = h.side; landed = side_for txn (sides_held p.live); released = h.released }) (whole_for txn (sides_held p.live))
+    ap (λ (h : DeskEntry). record (party_for txn p) { live = h.side; landed = side_for txn (sides_held p.live); released = h.released }) (whole_for txn (sides_held p.live))
     ∙ ap (λ side. record (party_for txn p) { live = side; landed = side; released = length (issued_of side) }) (side_of_held txn p.live)
 
 fault_of_save : (p : DeskParty) (txn : Qualifiers) (landed : Bool) → party_for txn (desk_fails_to_save p landed) ≡ fails_to_save (party_for txn p) landed
@@ -266,7 +266,7 @@ fault_of_save p txn true = ap (λ side. record (party_for txn p) { landed = side
 fault_of_save p txn false = refl
 
 restarts_seen : (p : DeskParty) (txn : Qualifiers) → party_for txn (desk_restarts p) ≡ restarts (party_for txn p)
-restarts_seen p txn = ap (λ (h : Held). record (party_for txn p) { live = h.side; released = h.released }) (whole_for txn p.landed)
+restarts_seen p txn = ap (λ (h : DeskEntry). record (party_for txn p) { live = h.side; released = h.released }) (whole_for txn p.landed)
 
 -- ---- every event
 

@@ -14,7 +14,7 @@ use Rattle.ill_saved.specs.declared.side.Action.{Action}
 use Rattle.ill_saved.specs.declared.side.Action.TheVariants as actions
 use Rattle.ill_saved.specs.Side.{other, acts, takes, role_for, begins}
 use Rattle.ill_saved.specs.Sides.{is_same_role, most_sides}
-use Rattle.ill_saved.specs.Many.{Held, Holding, found_by, txn_held, idle_held, held_or_begun, reached, acted as acted_at, acts_reached, desk_acts, took as took_at, takes_reached, is_own}
+use Rattle.ill_saved.specs.Many.{DeskEntry, DeskContents, found_by, txn_held, idle_held, held_or_begun, reached, acted as acted_at, acts_reached, desk_acts, took as took_at, takes_reached, is_own}
 use Rattle.ill_world.specs.declared.event.DeskEvent.{DeskEvent}
 use Rattle.ill_world.specs.declared.event.DeskEvent.TheVariants as events
 use Rattle.ill_world.specs.declared.event.DeskOutcome.{DeskOutcome}
@@ -27,14 +27,14 @@ use Rattle.ill_world.proofs.Projections.{may_act}
 use Rattle.ill_world.proofs.Desks.{keeps_to}
 
 -- what is seen of a side that is reached, and of a fault to reach one
-reach : (seen : Result Held DeskFault → DeskOutcome) → ((held : Held) → IsPlain (seen (Ok held))) → ((fault : DeskFault) → seen (Err fault) ≡ fault_seen fault) → (may_begin has_room : Bool) (idle : Held) (found : Option Held)
+reach : (seen : Result DeskEntry DeskFault → DeskOutcome) → ((held : DeskEntry) → IsPlain (seen (Ok held))) → ((fault : DeskFault) → seen (Err fault) ≡ fault_seen fault) → (may_begin has_room : Bool) (idle : DeskEntry) (found : Option DeskEntry)
     → Reaches may_begin has_room found (seen (held_or_begun may_begin has_room idle found))
 reach seen plainly faulted may_begin has_room idle (Some held) = plainly held
 reach seen plainly faulted true true idle None = plainly idle
 reach seen plainly faulted true false idle None = faulted faults.DeskFull
 reach seen plainly faulted false has_room idle None = faulted faults.NoSuchTransaction
 
-decided_plainly : (p : DeskParty) (held : Held) (result : Result Side Refusal) → IsPlain (desk_decides p (acted_at p.live held result)).0
+decided_plainly : (p : DeskParty) (held : DeskEntry) (result : Result Side Refusal) → IsPlain (desk_decides p (acted_at p.live held result)).0
 decided_plainly p held (Ok new) = tt
 decided_plainly p held (Err refusal) = tt
 
@@ -44,11 +44,11 @@ decides_reaches p txn action may =
     (reach (λ found. (desk_decides p (acts_reached p.live action found)).0) (λ held. decided_plainly p held (acts held.side action)) (λ fault. refl) (begins action) (nat_lt (length p.live.held) most_sides)
     (idle_held p.live.role txn) (found_by txn_held txn p.live.held))
 
-sent_plainly : (p : DeskParty) (txn : Qualifiers) (n : ℕ) (found : Option Held) → Reaches false (nat_lt (length p.live.held) 1000) found (desk_sends p txn n found).0
+sent_plainly : (p : DeskParty) (txn : Qualifiers) (n : ℕ) (found : Option DeskEntry) → Reaches false (nat_lt (length p.live.held) 1000) found (desk_sends p txn n found).0
 sent_plainly p txn n (Some held) = tt
 sent_plainly p txn n None = refl
 
-took_plainly : (live : Holding) (held : Held) (answer : Result _ Refusal) (new : Side) → IsPlain (taking_seen (took_at live held (answer, new)).0)
+took_plainly : (live : DeskContents) (held : DeskEntry) (answer : Result _ Refusal) (new : Side) → IsPlain (taking_seen (took_at live held (answer, new)).0)
 took_plainly live held (Ok _) new = tt
 took_plainly live held (Err refusal) new = tt
 

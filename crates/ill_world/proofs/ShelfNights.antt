@@ -9,7 +9,7 @@ use Rattle.ill_saved.specs.declared.role.Role.{Role as Who}
 use Rattle.ill_saved.specs.declared.role.Role.TheVariants as who
 use Rattle.ill_saved.specs.declared.side.Side.{Side}
 use Rattle.ill_saved.specs.Side.{issued_of, txn_of}
-use Rattle.ill_saved.specs.Many.{Held, txn_held, sides_held}
+use Rattle.ill_saved.specs.Many.{DeskEntry, txn_held, sides_held}
 use Rattle.ill_saved.proofs.Finding.{same_self}
 use Rattle.ill_world.specs.declared.event.Event.{Event}
 use Rattle.ill_world.specs.declared.event.Event.TheVariants as events
@@ -86,7 +86,7 @@ module _ (group : List ℕ) where
       go false rest = rest
 
   -- Sides that a desk holds are of the group, if it lacks each transaction of another.
-  held_of : (held : List Held) → ((txn : Qualifiers) → (txn.group ≡ group → ⊥) → is_one_of txn (map txn_held held) ≡ false) → AllOf (map (λ (h : Held). h.side) held)
+  held_of : (held : List DeskEntry) → ((txn : Qualifiers) → (txn.group ≡ group → ⊥) → is_one_of txn (map txn_held held) ≡ false) → AllOf (map (λ (h : DeskEntry). h.side) held)
   held_of [] lacks = tt
   held_of (h ∷ more) lacks =
       (go (bytes_eq (txn_held h).group group) refl, held_of more (λ txn apart. (or_parts (is_same_txn txn (txn_held h)) (is_one_of txn (map txn_held more)) (lacks txn apart)).1))

@@ -7,7 +7,7 @@ use Rattle.ill_values.specs.declared.apdu.Apdu.{Apdu}
 use Rattle.ill_core.specs.Issued.{is_same_txn}
 use Rattle.ill_saved.specs.declared.role.Role.{Role as Who}
 use Rattle.ill_saved.specs.declared.role.Role.TheVariants as who
-use Rattle.ill_saved.specs.Many.{Held, found_by, txn_held}
+use Rattle.ill_saved.specs.Many.{DeskEntry, found_by, txn_held}
 use Rattle.ill_saved.proofs.Finding.{same_is}
 use Rattle.ill_world.specs.declared.event.DeskEvent.{DeskEvent}
 use Rattle.ill_world.specs.declared.event.DeskEvent.TheVariants as events
@@ -157,7 +157,7 @@ lack_elsewhere grows after first txn group all apart =
 none_held : (txn : Qualifiers) (p : DeskParty) → Lacks txn p → found_by txn_held txn p.live.held ≡ None
 none_held txn p lacks = go (found_by txn_held txn p.live.held) (has_found txn_held txn p.live.held ∙ lacks.0)
   where
-    go : (found : Option Held) → is_some found ≡ false → found ≡ None
+    go : (found : Option DeskEntry) → is_some found ≡ false → found ≡ None
     go (Some held) is = absurd (true≢false is)
     go None is = refl
 

@@ -13,7 +13,7 @@ use Rattle.ill_core.specs.Bodies.{is_final}
 use Rattle.ill_core.specs.Requester.{later}
 use Rattle.ill_saved.specs.declared.role.Role.TheVariants.{Requester, Responder}
 use Rattle.ill_saved.specs.declared.side.Side.{Side}
-use Rattle.ill_saved.specs.Many.{Held, found_by, txn_held, held_for}
+use Rattle.ill_saved.specs.Many.{DeskEntry, found_by, txn_held, held_for}
 use Rattle.ill_world.specs.declared.event.DeskEvent.{DeskEvent}
 use Rattle.ill_world.specs.declared.event.DeskEvent.TheVariants.{Wish, Deed, Send, Deliver}
 use Rattle.ill_world.specs.declared.event.DeskOutcome.{DeskOutcome}
@@ -39,7 +39,7 @@ IsNotReached outcome = (outcome ≡ NoSuchTransaction) ⊎ (outcome ≡ DeskFull
 -- An event names a transaction that its desk holds, and is not reached.
 abbrev pub MissesHeld : DeskParties → DeskEvent → Type 0
 MissesHeld w event =
-    (txn : Qualifiers) × (held : Held) × Names txn event
+    (txn : Qualifiers) × (held : DeskEntry) × Names txn event
     × (found_by txn_held txn (party w (who_of (plain event))).live.held ≡ Some held)
     × IsNotReached (desks_happen w event).0
 

@@ -7,7 +7,7 @@ use Rattle.ill_saved.specs.declared.side.Action.TheVariants as actions
 use Rattle.ill_saved.specs.declared.side.Side.{Side}
 use Rattle.ill_saved.specs.Side.{other, begins}
 use Rattle.ill_saved.specs.Sides.{side_with}
-use Rattle.ill_saved.specs.Many.{Held, found_by, txn_held}
+use Rattle.ill_saved.specs.Many.{DeskEntry, found_by, txn_held}
 use Rattle.ill_world.specs.declared.event.DeskEvent.{DeskEvent}
 use Rattle.ill_world.specs.declared.event.DeskEvent.TheVariants.{Wish, Deed, Send, Deliver}
 use Rattle.ill_world.specs.declared.event.DeskOutcome.{DeskOutcome}
@@ -18,7 +18,7 @@ use Rattle.ill_world.specs.Desks.{Sending, DeskParty, DeskParties, txn_sent, sen
 
 -- What a desk holds of a transaction, what has landed of it and what was sent in it is what it shows of it.
 pub record ProjectsTo (p : DeskParty) (txn : Qualifiers) (shown : Party) : Type 0 where
-  pub live : (held : Held) → found_by txn_held txn p.live.held ≡ Some held →
+  pub live : (held : DeskEntry) → found_by txn_held txn p.live.held ≡ Some held →
       (shown.live ≡ held.side) × (shown.released ≡ held.released)
   pub landed : (side : Side) → side_with txn p.landed.sides ≡ Some side → shown.landed ≡ side
   pub sent : (sending : Sending) → found_by txn_sent txn p.sent ≡ Some sending → shown.sent ≡ sending.sent
@@ -30,7 +30,7 @@ IsPlain other = ⊥
 
 -- By whether an event may begin a transaction, whether there is room, and the side that is held: the event reaches
 -- this side, or one that it begins.
-abbrev pub Reaches : Bool → Bool → Option Held → DeskOutcome → Type 0
+abbrev pub Reaches : Bool → Bool → Option DeskEntry → DeskOutcome → Type 0
 Reaches may_begin has_room (Some held) outcome = IsPlain outcome
 Reaches true true None outcome = IsPlain outcome
 Reaches true false None outcome = outcome ≡ DeskFull

@@ -14,7 +14,7 @@ use Rattle.ill_saved.specs.declared.role.Role.{Role as Who}
 use Rattle.ill_saved.specs.declared.role.Role.TheVariants.{Requester, Responder}
 use Rattle.ill_saved.specs.Side.{issued_of}
 use Rattle.ill_saved.specs.Sides.{SidesOf}
-use Rattle.ill_saved.specs.Many.{Held, Holding, found_by, put_by, txn_held, found_or, held_for, side_for, sides_held, whole_of, desk_acts, desk_takes}
+use Rattle.ill_saved.specs.Many.{DeskEntry, DeskContents, found_by, put_by, txn_held, found_or, held_for, side_for, sides_held, whole_of, desk_acts, desk_takes}
 use Rattle.ill_world.specs.declared.event.Event.{Event}
 use Rattle.ill_world.specs.declared.event.Event.TheVariants as events
 use Rattle.ill_world.specs.declared.event.DeskEvent.{DeskEvent}
@@ -35,7 +35,7 @@ pub record Sending : Type 0 where
 -- A desk: what it holds in memory; the sides that have landed; and what it has sent, in each transaction in which
 -- it has sent anything.
 pub record DeskParty : Type 0 where
-  pub live : Holding
+  pub live : DeskContents
   pub landed : SidesOf
   pub sent : List Sending
 
@@ -84,7 +84,7 @@ fault_seen faults.DeskFull = DeskFull
 fault_seen other = NoSuchTransaction
 
 -- a decision of the library, in one transaction
-abbrev pub desk_decides : DeskParty → Result Holding DeskFault → DeskOutcome × DeskParty
+abbrev pub desk_decides : DeskParty → Result DeskContents DeskFault → DeskOutcome × DeskParty
 desk_decides p (Ok new) = (Plain Done, record p { live = new })
 desk_decides p (Err fault) = (fault_seen fault, p)
 
@@ -98,7 +98,7 @@ desk_fails_to_save p true = record p { landed = sides_held p.live }
 desk_fails_to_save p false = p
 
 -- A message of a transaction that is held may be sent once it is released.
-abbrev pub desk_sends : DeskParty → Qualifiers → ℕ → Option Held → DeskOutcome × DeskParty
+abbrev pub desk_sends : DeskParty → Qualifiers → ℕ → Option DeskEntry → DeskOutcome × DeskParty
 desk_sends p txn n None = (NoSuchTransaction, p)
 desk_sends p txn n (Some held) =
     let after = sends_by p (λ a. record p { sent = with_sent_for txn p.sent n a })

@@ -1,7 +1,7 @@
 use Rattle.std.proofs.Common.{rules, ◌≡◌, Option, Some, None, ℕ, sym, subst}
 use Rattle.ill_saved.specs.Sides.{side_with}
 use Rattle.ill_saved.specs.Side.{txn_of}
-use Rattle.ill_saved.specs.Many.{Held, held_for, sides_held}
+use Rattle.ill_saved.specs.Many.{DeskEntry, held_for, sides_held}
 use Rattle.ill_saved.proofs.Holdings.{held_there, none_held_there}
 use Rattle.ill_tool.specs.Kept.{RunsKeptLoan, WritesKept, kept_text}
 use Rattle.ill_tool.proofs.kept.run_desk_kept_loan.Goals as goal
@@ -16,7 +16,7 @@ returns-in-Some g c =
     let after = g.W.Write.contents c.write_kept.new.writer in
     let there : side_with txn (sides_held live).sides ≡ Some side = search rules in
     let counted : c.released.result ≡ (held_for txn live).released = search rules in
-    subst (λ (found : Option Held). RunsKeptLoan (kept_text c.args.form) found bytes before after c.write_kept.result) (sym (held_there live txn side there))
+    subst (λ (found : Option DeskEntry). RunsKeptLoan (kept_text c.args.form) found bytes before after c.write_kept.result) (sym (held_there live txn side there))
     (subst (λ (released : ℕ). WritesKept (kept_text c.args.form (record { side = side; released = released })) (txn_of side) bytes before after c.write_kept.result) counted c.write_kept.ensures)
 
 pub returns-in-None : goal.returns-in-None

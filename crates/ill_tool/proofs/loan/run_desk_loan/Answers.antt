@@ -1,6 +1,6 @@
 use Rattle.std.proofs.Common.{rules, ◌≡◌, Option, Some, None, ℕ, sym, subst}
 use Rattle.ill_saved.specs.Sides.{side_with}
-use Rattle.ill_saved.specs.Many.{Held, held_for, sides_held}
+use Rattle.ill_saved.specs.Many.{DeskEntry, held_for, sides_held}
 use Rattle.ill_saved.proofs.Holdings.{held_there, none_held_there}
 use Rattle.ill_tool.specs.Output.{WritesText}
 use Rattle.ill_tool.specs.Loan.{RunsLoan, loan_lines}
@@ -15,7 +15,7 @@ returns-in-Some g c =
     let after = g.W.Write.contents c.write_loan.new.writer in
     let there : side_with txn (sides_held live).sides ≡ Some side = search rules in
     let counted : c.released.result ≡ (held_for txn live).released = search rules in
-    subst (λ (found : Option Held). RunsLoan found before after c.write_loan.result) (sym (held_there live txn side there))
+    subst (λ (found : Option DeskEntry). RunsLoan found before after c.write_loan.result) (sym (held_there live txn side there))
     (subst (λ (released : ℕ). WritesText before after (loan_lines side released) c.write_loan.result) counted c.write_loan.ensures)
 
 pub returns-in-None : goal.returns-in-None

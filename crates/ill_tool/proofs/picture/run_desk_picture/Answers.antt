@@ -1,6 +1,6 @@
 use Rattle.std.proofs.Common.{rules, ◌≡◌, Option, Some, None, sym, subst}
 use Rattle.ill_saved.specs.Sides.{side_with}
-use Rattle.ill_saved.specs.Many.{Held, sides_held}
+use Rattle.ill_saved.specs.Many.{DeskEntry, sides_held}
 use Rattle.ill_saved.proofs.Holdings.{held_there, none_held_there}
 use Rattle.ill_tool.specs.Kept.{RunsKeptLoan}
 use Rattle.ill_tool.specs.Picture.{picture}
@@ -14,7 +14,7 @@ returns-in-Some g c =
     let before = g.W.Write.contents c.args.writer.now in
     let after = g.W.Write.contents c.write_picture.new.writer in
     let there : side_with txn (sides_held live).sides ≡ Some side = search rules in
-    subst (λ (found : Option Held). RunsKeptLoan picture found c.args.came.now before after c.write_picture.result) (sym (held_there live txn side there)) c.write_picture.ensures
+    subst (λ (found : Option DeskEntry). RunsKeptLoan picture found c.args.came.now before after c.write_picture.result) (sym (held_there live txn side there)) c.write_picture.ensures
 
 pub returns-in-None : goal.returns-in-None
 returns-in-None g c =

@@ -3,7 +3,7 @@ use Rattle.std.specs.Prelude.{slice_get}
 use Rattle.std.specs.Option.{option_to_list}
 use Rattle.std.proofs.lemmas.List.{append-nil, map-append}
 use Rattle.ill_saved.specs.Side.{txn_of}
-use Rattle.ill_saved.specs.Many.{Held, held_for, sides_held}
+use Rattle.ill_saved.specs.Many.{DeskEntry, held_for, sides_held}
 use Rattle.ill_tool.specs.Outbox.{held_of}
 use Rattle.ill_tool.proofs.SidesLemmas.{held_there, none_there}
 use Rattle.ill_tool.proofs.sides.push_held_at.Goals as goal
@@ -15,10 +15,10 @@ returns-in_ok-push g c =
     let there : slice_get (sides_held live).sides c.args.place ≡ Some side = search rules in
     let counted : c.released-released.result ≡ (held_for (txn_of side) live).released = search rules in
     let pushed : map held_of c.push.new.self.items ≡ map held_of c.args.all.now.items ++ record { side = side; released = c.released-released.result } ∷ [] = ap (map held_of) c.in_ok-push.ensures.items ∙ map-append held_of c.args.all.now.items (record { side = c.in-Some.side; released = c.released-released.result } ∷ []) in
-    subst (λ (found : Option Held). map held_of c.push.new.self.items ≡ map held_of c.args.all.now.items ++ option_to_list found) (sym (held_there live c.args.place side c.released-released.result c.requires.apart there counted)) pushed
+    subst (λ (found : Option DeskEntry). map held_of c.push.new.self.items ≡ map held_of c.args.all.now.items ++ option_to_list found) (sym (held_there live c.args.place side c.released-released.result c.requires.apart there counted)) pushed
 
 pub returns-in_default : goal.returns-in_default
 returns-in_default g c =
     let live = c.args.desk.now.live in
     let none : slice_get (sides_held live).sides c.args.place ≡ None = search rules in
-    subst (λ (found : Option Held). map held_of c.args.all.now.items ≡ map held_of c.args.all.now.items ++ option_to_list found) (sym (none_there live c.args.place none)) (sym (append-nil (map held_of c.args.all.now.items)))
+    subst (λ (found : Option DeskEntry). map held_of c.args.all.now.items ≡ map held_of c.args.all.now.items ++ option_to_list found) (sym (none_there live c.args.place none)) (sym (append-nil (map held_of c.args.all.now.items)))

@@ -3,7 +3,7 @@ use Rattle.std.proofs.Common.{rules, ◌≡◌, true, length, ap, subst, ◌∙�
 use Rattle.ill_saved.specs.Side.{Acts, role_for}
 use Rattle.ill_saved.specs.Sides.{is_same_role, found_by}
 use Rattle.ill_saved.specs.Many.{txn_held, held_of, ManyActs, AreBacked, AreBackable}
-use Rattle.ill_saved.proofs.Held.{acts_row}
+use Rattle.ill_saved.proofs.DeskEntry.{acts_row}
 use Rattle.ill_saved.proofs.Holdings.{none_held, changed_held, still_backed, still_backable, desk_answer, desk_acts_so}
 use Rattle.ill_saved.proofs.many.Desk.act.Given.{Over}
 use Rattle.ill_saved.proofs.many.Desk.act.Goals.{In-Some}

@@ -3,7 +3,7 @@ use Rattle.std.proofs.Common.{rules, ◌≡◌, true, false, length, ap, subst, 
 use Rattle.ill_saved.specs.Side.{Takes}
 use Rattle.ill_saved.specs.Sides.{found_by}
 use Rattle.ill_saved.specs.Many.{txn_held, held_of, is_own, ManyTakesApdu, AreBacked, AreBackable}
-use Rattle.ill_saved.proofs.Held.{takes_row}
+use Rattle.ill_saved.proofs.DeskEntry.{takes_row}
 use Rattle.ill_saved.proofs.Holdings.{none_held, changed_held, still_backed, still_backable, desk_answer, desk_takes_so}
 use Rattle.ill_saved.proofs.many.Desk.take.Given.{Over}
 use Rattle.ill_saved.proofs.many.Desk.take.Goals.{In-Some}

@@ -3,7 +3,7 @@ use Rattle.std.proofs.Common.{subst}
 use Rattle.std.specs.Map.{values_of}
 use Rattle.ill_saved.specs.Sides.{OnlyThat}
 use Rattle.ill_saved.specs.Side.{Acts}
-use Rattle.ill_saved.proofs.Held.{filed_on, only_that, acts_row}
+use Rattle.ill_saved.proofs.DeskEntry.{filed_on, only_that, acts_row}
 use Rattle.ill_saved.proofs.sides.Sides.act.Goals as goal
 
 -- All sides are filed after one of them acts.

@@ -1,7 +1,7 @@
 -- Answers the contract of `Sides::get` (`src/sides.rt`).
 use Rattle.std.proofs.Common.{ap, ◌∙◌}
 use Rattle.ill_saved.specs.Sides.{side_with}
-use Rattle.ill_saved.proofs.Held.{filed_with}
+use Rattle.ill_saved.proofs.DeskEntry.{filed_with}
 use Rattle.ill_saved.proofs.sides.Sides.get.Goals as goal
 
 -- The map gives the side of the transaction.

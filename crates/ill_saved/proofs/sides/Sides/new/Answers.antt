@@ -1,5 +1,5 @@
 -- Answers the contract of `Sides::new` (`src/sides.rt`).
-use Rattle.ill_saved.proofs.Held.{none_filed}
+use Rattle.ill_saved.proofs.DeskEntry.{none_filed}
 use Rattle.ill_saved.proofs.sides.Sides.new.Goals as goal
 
 -- An empty map is filed.

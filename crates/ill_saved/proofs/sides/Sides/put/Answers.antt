@@ -1,7 +1,7 @@
 -- Answers the contract of `Sides::put` (`src/sides.rt`).
 use Rattle.std.proofs.Common.{◌≡◌, None, sym, ap, ◌∙◌}
 use Rattle.ill_saved.specs.Sides.{put_refusal}
-use Rattle.ill_saved.proofs.Held.{handed_back, no_fault, is_new, filed_more, filed_still}
+use Rattle.ill_saved.proofs.DeskEntry.{handed_back, no_fault, is_new, filed_more, filed_still}
 use Rattle.ill_saved.proofs.sides.Sides.put.Goals.{in-Ok-insert_new, in-Err}
 use Rattle.ill_saved.proofs.sides.Sides.put.Goals as goal
 

@@ -3,7 +3,7 @@ use Rattle.std.proofs.Common.{subst}
 use Rattle.std.specs.Map.{values_of}
 use Rattle.ill_saved.specs.Sides.{OnlyThat}
 use Rattle.ill_saved.specs.Side.{Takes}
-use Rattle.ill_saved.proofs.Held.{filed_on, only_that, takes_row}
+use Rattle.ill_saved.proofs.DeskEntry.{filed_on, only_that, takes_row}
 use Rattle.ill_saved.proofs.sides.Sides.take.Goals as goal
 
 -- All sides are filed after one of them takes an APDU.

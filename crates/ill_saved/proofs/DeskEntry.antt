@@ -25,7 +25,7 @@ use Rattle.ill_saved.specs.Side.{idle_of, IsStep, acted, took, Acts, Takes}
 use Rattle.ill_saved.specs.Sides.{found_by, put_by, OnlyThat, OnlyThatEntry}
 use Rattle.ill_saved.proofs.Desks.{RowsGrow}
 use Rattle.ill_saved.proofs.Finding.{apart_back, found_is, found_mapped, found_passes, keys_put, put_passes, not_true}
-use Rattle.ill_saved.specs.Sides.{SidesOf, AreFiled, side_with, is_same_role, may_stand, are_apart, most_sides, put_refusal, Puts}
+use Rattle.ill_saved.specs.Sides.{SidesOf, AreFiled, side_with, is_same_role, is_begun, are_apart, most_sides, put_refusal, Puts}
 
 -- If each side is filed under its own transaction, a search of the entries finds the side of the transaction.
 pub filed_with : (txn : Qualifiers) (entries : List (Qualifiers × Side)) → keys_of entries ≡ map txn_of (values_of entries)
@@ -142,8 +142,8 @@ module _ (role : Role) (entries : List (Qualifiers × Side)) (side : Side)
       let values : values_of new ≡ values_of entries ++ side ∷ [] = ap values_of put ∙ map-append (λ e. e.1) entries ((txn_of side, side) ∷ []) in
       let keys : keys_of new ≡ map txn_of (values_of entries ++ side ∷ []) =
       ap keys_of put ∙ map-append (λ e. e.0) entries ((txn_of side, side) ∷ []) ∙ ap (λ ids. ids ++ txn_of side ∷ []) filed.keys ∙ sym (map-append txn_of (values_of entries) (side ∷ [])) in
-      let stands : may_stand role side ≡ true = and_from _ _ may.0 (ap not may.1) in
-      let all : list_all (may_stand role) (values_of entries ++ side ∷ []) ≡ true = list_all-append (may_stand role) (values_of entries) (side ∷ []) ∙ and_from _ _ held.0 (and_from _ _ stands refl) in
+      let stands : is_begun role side ≡ true = and_from _ _ may.0 (ap not may.1) in
+      let all : list_all (is_begun role) (values_of entries ++ side ∷ []) ≡ true = list_all-append (is_begun role) (values_of entries) (side ∷ []) ∙ and_from _ _ held.0 (and_from _ _ stands refl) in
       let small = below (length (values_of entries)) most_sides may.3 in
       subst (λ vs. AreFiled (keys_of new) (record { role = role; sides = vs })) (sym values) (record {
         keys = keys;
@@ -243,10 +243,10 @@ module _ (role : Role) (entries : List (Qualifiers × Side)) (filed : AreFiled (
   same_txns = keys_put txn_of after side (values_of entries) (ap (λ t. found_by txn_of t (values_of entries)) (sym of_txn) ∙ found)
 
   -- `after` may stand among sides of the role.
-  stands : may_stand role after ≡ true
+  stands : is_begun role after ≡ true
   stands =
       let held = and_parts _ _ filed.held in
-      let stood = and_parts _ _ (found_passes txn_of (may_stand role) txn (values_of entries) side held.0 found) in
+      let stood = and_parts _ _ (found_passes txn_of (is_begun role) txn (values_of entries) side held.0 found) in
       let same : role_of after ≡ role_of side = sym (idle_role after) ∙ ap role_of stays.idle ∙ idle_role side in
       and_from _ _ (ap (is_same_role role) same ∙ stood.0) (ap not (stays.begun (not_true _ stood.1)))
 
@@ -261,7 +261,7 @@ module _ (role : Role) (entries : List (Qualifiers × Side)) (filed : AreFiled (
       apart_by_txns (put_by txn_of after (values_of entries)) ∙ ap are_other same_txns ∙ sym (apart_by_txns (values_of entries)) ∙ held.1 in
       subst (λ vs. AreFiled (keys_of new) (record { role = role; sides = vs })) (sym values) (record {
         keys = keys;
-        held = and_from _ _ (put_passes txn_of (may_stand role) after (values_of entries) stands held.0) apart;
+        held = and_from _ _ (put_passes txn_of (is_begun role) after (values_of entries) stands held.0) apart;
         few = subst (λ n. n ≤ most_sides) (sym (length-map (values_of entries) txn_of) ∙ ap length (sym same_txns) ∙ length-map (put_by txn_of after (values_of entries)) txn_of) filed.few;
       })
 

@@ -14,7 +14,7 @@ use Rattle.ill_saved.specs.declared.fault.RecordFault.{RecordFault}
 use Rattle.ill_saved.specs.declared.fault.RecordFault.TheVariants as faults
 use Rattle.ill_saved.specs.declared.fault.SidesFault.TheVariants as refusals
 use Rattle.ill_saved.specs.Side.{role_of, txn_of, is_idle}
-use Rattle.ill_saved.specs.Sides.{SidesOf, side_with, is_same_role, may_stand, are_apart, may_be_held, most_sides, put_refusal}
+use Rattle.ill_saved.specs.Sides.{SidesOf, side_with, is_same_role, is_begun, are_apart, may_be_held, most_sides, put_refusal}
 use Rattle.ill_saved.specs.Layout.{counted_by, read_all, ended}
 use Rattle.ill_saved.specs.Records.{role, front, start, has_front, has_front_behind, requester_fields, responder_fields, requester_states, responder_states, read_fields, side_at, side_spelled, record_at, begins_as_record, Decodes}
 use Rattle.ill_saved.specs.Records2.{part, side_count, role_and_sides, unsealed, together, judged_together, sides_at, read_alone, is_version_1, counts_any, has_sides, records_at, begins_as_records, PutsRead}
@@ -61,10 +61,10 @@ stands_last : (role : Role) (front : List Side) (side : Side) (rest : List Side)
     → may_be_held (record { role = role; sides = front ++ side ∷ rest }) ≡ true
     → put_refusal (record { role = role; sides = front }) side ≡ None
 stands_last role front side rest few held =
-    let parts = and_parts (list_all (may_stand role) (front ++ side ∷ rest)) (are_apart (front ++ side ∷ rest)) held in
-    let all : list_all (may_stand role) front && list_all (may_stand role) (side ∷ rest) ≡ true = sym (list_all-append (may_stand role) front (side ∷ rest)) ∙ parts.0 in
-    let behind = and_parts (list_all (may_stand role) front) (list_all (may_stand role) (side ∷ rest)) all in
-    let stands = and_parts (may_stand role side) (list_all (may_stand role) rest) behind.1 in
+    let parts = and_parts (list_all (is_begun role) (front ++ side ∷ rest)) (are_apart (front ++ side ∷ rest)) held in
+    let all : list_all (is_begun role) front && list_all (is_begun role) (side ∷ rest) ≡ true = sym (list_all-append (is_begun role) front (side ∷ rest)) ∙ parts.0 in
+    let behind = and_parts (list_all (is_begun role) front) (list_all (is_begun role) (side ∷ rest)) all in
+    let stands = and_parts (is_begun role side) (list_all (is_begun role) rest) behind.1 in
     let one = and_parts (is_same_role role (role_of side)) (not (is_idle side)) stands.0 in
     let room : length front < most_sides = omega (arith, few, length-append front (side ∷ rest)) in
     none_refused (is_same_role role (role_of side)) (is_idle side) (is_some (side_with (txn_of side) front)) (nat_lt (length front) most_sides)

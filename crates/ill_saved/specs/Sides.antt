@@ -41,8 +41,8 @@ is_same_role roles.Responder roles.Responder = true
 is_same_role role of_another = false
 
 -- Returns true if the side has this role and is not idle.
-abbrev pub may_stand : Role → Side → Bool
-may_stand role side = is_same_role role (role_of side) && not (is_idle side)
+abbrev pub is_begun : Role → Side → Bool
+is_begun role side = is_same_role role (role_of side) && not (is_idle side)
 
 -- Returns true if no two sides are of one transaction.
 unfoldable pub are_apart : List Side → Bool
@@ -51,7 +51,7 @@ are_apart (side ∷ sides) = is_none (side_with (txn_of side) sides) && are_apar
 
 -- Returns true if all sides have the role, none is idle, and no two are of one transaction.
 abbrev pub may_be_held : SidesOf → Bool
-may_be_held held = list_all (may_stand held.role) held.sides && are_apart held.sides
+may_be_held held = list_all (is_begun held.role) held.sides && are_apart held.sides
 
 -- Each side is filed under its own transaction. They may be held together and are within the limit.
 pub record AreFiled (under : List Qualifiers) (all : SidesOf) : Type 0 where

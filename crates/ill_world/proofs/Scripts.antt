@@ -2,8 +2,8 @@
 use Rattle.std.proofs.Common.{arith, ◌≡◌, ℕ, ◌+◌, ◌<◌, ◌≤◌, Bool, true, false, ◌&&◌, nat_le, if◌then◌else◌, cond, ◌==◌, List, [], ◌∷◌, ◌++◌, length, Some, refl, sym, ap, ◌∙◌, length-append}
 use Rattle.std.specs.List.{onto_first}
 use Rattle.std.proofs.lemmas.Bool.{le-leb, lt-leb}
-use Rattle.ill_world.specs.declared.script.Line.{Line}
-use Rattle.ill_world.specs.declared.script.Line.TheVariants as lines
+use Rattle.ill_world.specs.declared.script.ScriptLine.{ScriptLine}
+use Rattle.ill_world.specs.declared.script.ScriptLine.TheVariants as lines
 use Rattle.ill_world.specs.Play.{Play, Said, says_nothing, is_within, line_at, then_says, ends, breaks_off, says_from, lines_in, says_on}
 use Rattle.ill_world.specs.Simulating.{has_lf}
 use Rattle.ill_world.proofs.Texts.{line_first, line_alone, some_line, line_begins}
@@ -80,13 +80,13 @@ module _ {W E C : Type 0} (play : Play W E C) where
   -- ---- beyond the limits
 
   bad_ends : (c : C) (n : ℕ) (bytes : List ℕ) → 1 ≤ length bytes → is_within n bytes ≡ false → ends play c n bytes ≡ only_bad n
-  bad_ends c n bytes some out = ends_line c n bytes some ∙ ap (λ (line : Line E × C). then_says line.0 n says_nothing) (line_bad c n bytes out)
+  bad_ends c n bytes some out = ends_line c n bytes some ∙ ap (λ (line : ScriptLine E × C). then_says line.0 n says_nothing) (line_bad c n bytes out)
 
   -- a bad line, and whatever follows
   bad_first : (c : C) (n : ℕ) (first second : List ℕ) (more : List (List ℕ)) → is_within n first ≡ false → says_from play (ends play) c n (first ∷ second ∷ more) ≡ only_bad n
   bad_first c n first second more out =
       says_first (ends play) c n first second more
-      ∙ ap (λ (line : Line E × C). then_says line.0 n (says_from play (ends play) line.1 (n + 1) (second ∷ more))) (line_bad c n first out)
+      ∙ ap (λ (line : ScriptLine E × C). then_says line.0 n (says_from play (ends play) line.1 (n + 1) (second ∷ more))) (line_bad c n first out)
 
   -- the first line is a bad one
   first_bad : (c : C) (n : ℕ) (first : List ℕ) (more : List (List ℕ)) → is_within n first ≡ false → 1 ≤ length first → says_from play (ends play) c n (first ∷ more) ≡ only_bad n

@@ -5,8 +5,8 @@ use Rattle.std.proofs.KnownBytes.{Consumes-trans, Appends-trans}
 use Rattle.ill_values.specs.TxnId.{Qualifiers}
 use Rattle.ill_saved.specs.Side.{IsPrefix}
 use Rattle.ill_world.specs.declared.event.Event.{Event}
-use Rattle.ill_world.specs.declared.script.Line.{Line}
-use Rattle.ill_world.specs.declared.script.Line.TheVariants as lines
+use Rattle.ill_world.specs.declared.script.ScriptLine.{ScriptLine}
+use Rattle.ill_world.specs.declared.script.ScriptLine.TheVariants as lines
 use Rattle.ill_world.specs.declared.fault.SimFault.{SimFault}
 use Rattle.ill_world.specs.declared.fault.SimFault.TheVariants.{Script, Read, Write, OutOfMemory}
 use Rattle.ill_world.specs.World.{Parties, first_world, happens, run_by, run_of}
@@ -150,14 +150,14 @@ module _ {W E C : Type 0} (play : Play W E C) where
   )
 
   -- what a line says that an LF closes, and then the rest
-  says_closed : (c kept : C) (n : ℕ) (bytes : List ℕ) (says : Line E) → IsLine bytes → (line_at play c n bytes).0 ≡ says → kept ≡ (line_at play c n bytes).1 → (end : C → ℕ → List ℕ → Said E) (text : List ℕ)
+  says_closed : (c kept : C) (n : ℕ) (bytes : List ℕ) (says : ScriptLine E) → IsLine bytes → (line_at play c n bytes).0 ≡ says → kept ≡ (line_at play c n bytes).1 → (end : C → ℕ → List ℕ → Said E) (text : List ℕ)
       → says_on play end c n ((bytes ++ 10 ∷ []) ++ text) ≡ then_says says n (says_on play end kept (n + 1) text)
   says_closed c kept n bytes says is e leaves end text =
       ap (says_on play end c n) (append_assoc bytes (10 ∷ []) text) ∙ says_line play end c n bytes text is.0
       ∙ ap (λ line. then_says line n (says_on play end (line_at play c n bytes).1 (n + 1) text)) e
       ∙ ap (λ l. then_says says n (says_on play end l (n + 1) text)) (sym leaves)
 
-  line_first : (c kept : C) (n : ℕ) (w next : W) (count next_count : ℕ) (bytes : List ℕ) (says : Line E) (old middle new before between after : Option (List ℕ)) (result : Result ℕ SimFault)
+  line_first : (c kept : C) (n : ℕ) (w next : W) (count next_count : ℕ) (bytes : List ℕ) (says : ScriptLine E) (old middle new before between after : Option (List ℕ)) (result : Result ℕ SimFault)
       → IsLine bytes → (line_at play c n bytes).0 ≡ says → kept ≡ (line_at play c n bytes).1 → Consumes old middle (bytes ++ 10 ∷ []) → PerformsLine play says n w count before between (Ok tt) next next_count
       → Plays play kept (n + 1) next next_count middle new between after result → Plays play c n w count old new before after result
   line_first c kept n w next count next_count bytes lines.Skipped old middle new before between after result is e leaves read done rest =

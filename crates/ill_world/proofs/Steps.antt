@@ -6,8 +6,8 @@ use Rattle.std.proofs.KnownBytes.{Appends-nil, Consumes-nil}
 use Rattle.std.proofs.Math.ListN.{take-append-drop}
 use Rattle.ill_saved.specs.Side.{IsPrefix}
 use Rattle.ill_world.specs.declared.lines.Found.TheVariants as found
-use Rattle.ill_world.specs.declared.script.Line.{Line}
-use Rattle.ill_world.specs.declared.script.Line.TheVariants as lines
+use Rattle.ill_world.specs.declared.script.ScriptLine.{ScriptLine}
+use Rattle.ill_world.specs.declared.script.ScriptLine.TheVariants as lines
 use Rattle.ill_world.specs.declared.fault.SimFault.{SimFault}
 use Rattle.ill_world.specs.declared.fault.SimFault.TheVariants.{Script, Read, Write, OutOfMemory}
 use Rattle.ill_world.specs.Play.{Play, Said, says_nothing, line_at, then_says, ends, breaks_off, says_from, says_on, trace_from, OfAll, Answers, Plays}
@@ -60,7 +60,7 @@ module _ {W E C : Type 0} (play : Play W E C) where
         trace_next play (count + 1) w event events ∙ ap (λ t. t ++ rest) (sym (take-append-drop size shown)) ∙ append_assoc (take size shown) (drop size shown) rest,
       )
 
-  line_fails : (c : C) (n : ℕ) (w next : W) (count next_count : ℕ) (bytes text : List ℕ) (left before after : Option (List ℕ)) (says : Line E) (fault : SimFault) → (line_at play c n bytes).0 ≡ says
+  line_fails : (c : C) (n : ℕ) (w next : W) (count next_count : ℕ) (bytes text : List ℕ) (left before after : Option (List ℕ)) (says : ScriptLine E) (fault : SimFault) → (line_at play c n bytes).0 ≡ says
       → Begins c n bytes text left → PerformsLine play says n w count before after (Err fault) next next_count → Fails c n w count fault text left before after
   line_fails c n w next count next_count bytes text left before after lines.Skipped OutOfMemory is begins fails = no_memory c n w count text left before after fails
   line_fails c n w next count next_count bytes text left before after (lines.Event event) OutOfMemory is begins fails = no_memory c n w count text left before after fails
@@ -93,7 +93,7 @@ module _ {W E C : Type 0} (play : Play W E C) where
   pub performs_at : (c : C) (n : ℕ) (w next : W) (count next_count : ℕ) (bytes : List ℕ) (before after : Option (List ℕ)) (result : Result (Unit {0}) SimFault) → n ≤ 100000 → IsLine bytes
       → PerformsLine play (play.says c bytes).0 n w count before after result next next_count → PerformsLine play (line_at play c n bytes).0 n w count before after result next next_count
   performs_at c n w next count next_count bytes before after result few is performs =
-      subst (λ (line : Line E × C). PerformsLine play line.0 n w count before after result next next_count) (sym (line_within play c n bytes few is.1)) performs
+      subst (λ (line : ScriptLine E × C). PerformsLine play line.0 n w count before after result next next_count) (sym (line_within play c n bytes few is.1)) performs
 
   -- ---- the answers of a step
 
@@ -130,7 +130,7 @@ module _ {W E C : Type 0} (play : Play W E C) where
   nothing_follows c n w count old new before (byte ∷ bytes) none read at_end = absurd (omega (arith, none))
 
   -- the last line was performed, which no LF closes
-  last_performed : (c : C) (n : ℕ) (w next : W) (count next_count : ℕ) (old new before after : Option (List ℕ)) (bytes : List ℕ) (says : Line E) → Consumes old new bytes → IsAtEnd new
+  last_performed : (c : C) (n : ℕ) (w next : W) (count next_count : ℕ) (old new before after : Option (List ℕ)) (bytes : List ℕ) (says : ScriptLine E) → Consumes old new bytes → IsAtEnd new
       → says_on play (ends play) c n bytes ≡ then_says says n says_nothing → PerformsLine play says n w count before after (Ok tt) next next_count
       → Plays play c n w count old new before after (Ok next_count)
   last_performed c n w next count next_count old new before after bytes lines.Skipped read at_end said done = (

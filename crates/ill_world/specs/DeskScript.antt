@@ -7,8 +7,8 @@ use Rattle.ill_world.specs.declared.event.Event.{Event}
 use Rattle.ill_world.specs.declared.event.Event.TheVariants as events
 use Rattle.ill_world.specs.declared.event.DeskEvent.{DeskEvent}
 use Rattle.ill_world.specs.declared.event.DeskEvent.TheVariants.{Wish, Deed, Save, SaveFault, Send, Deliver, Noise, Restart}
-use Rattle.ill_world.specs.declared.script.Line.{Line}
-use Rattle.ill_world.specs.declared.script.Line.TheVariants as lines
+use Rattle.ill_world.specs.declared.script.ScriptLine.{ScriptLine}
+use Rattle.ill_world.specs.declared.script.ScriptLine.TheVariants as lines
 use Rattle.ill_world.specs.declared.desk_script.DeskLine.{DeskLine}
 use Rattle.ill_world.specs.declared.desk_script.DeskLine.TheVariants.{Use, Plain}
 use Rattle.ill_world.specs.Script.{is_remark, line_of, words_of}
@@ -62,13 +62,13 @@ IsInTxn txn (Deliver who named n) = named ≡ txn
 IsInTxn txn other = Unit {0}
 
 -- Nothing happens before a transaction is in use.
-abbrev pub line_in : Option Qualifiers → Line Event → Line EventIn
+abbrev pub line_in : Option Qualifiers → ScriptLine Event → ScriptLine EventIn
 line_in in_use lines.Skipped = lines.Skipped
 line_in (Some txn) (lines.Event event) = lines.Event (record { txn = txn; event = in_txn txn event })
 line_in None (lines.Event event) = lines.Bad
 line_in in_use lines.Bad = lines.Bad
 
 -- what a line says with the transaction in use, and the one in use behind it
-abbrev pub says_in : Option Qualifiers → DeskLine → Line EventIn × Option Qualifiers
+abbrev pub says_in : Option Qualifiers → DeskLine → ScriptLine EventIn × Option Qualifiers
 says_in in_use (Use txn) = (lines.Skipped, Some txn)
 says_in in_use (Plain line) = (line_in in_use line, in_use)

@@ -3,15 +3,15 @@ use Rattle.std.specs.Prelude.{◌≡◌, ℕ, ◌+◌, Bool, ◌&&◌, ◌==◌,
 use Rattle.std.specs.List.{slice_split}
 use Rattle.std.specs.Io.KnownBytes.{Consumes, Appends, IsAtEnd}
 use Rattle.ill_saved.specs.Side.{IsPrefix}
-use Rattle.ill_world.specs.declared.script.Line.{Line}
-use Rattle.ill_world.specs.declared.script.Line.TheVariants as lines
+use Rattle.ill_world.specs.declared.script.ScriptLine.{ScriptLine}
+use Rattle.ill_world.specs.declared.script.ScriptLine.TheVariants as lines
 use Rattle.ill_world.specs.declared.fault.SimFault.{SimFault}
 use Rattle.ill_world.specs.declared.fault.SimFault.TheVariants.{Script, Read, Write, OutOfMemory}
 
 -- A play: what a line says with what is carried to it, and what is carried on from it; the world after an
 -- event; and the text that shows the event with this number in a world.
 pub record Play (W E C : Type 0) : Type 0 where
-  pub says : C → List ℕ → Line E × C
+  pub says : C → List ℕ → ScriptLine E × C
   pub next : W → E → W
   pub text : ℕ → W → E → List ℕ
 
@@ -30,11 +30,11 @@ abbrev pub is_within : ℕ → List ℕ → Bool
 is_within n bytes = nat_le n 100000 && nat_le (length bytes) 1024
 
 -- what line n says, and what is carried on
-abbrev pub line_at : {W E C : Type 0} → Play W E C → C → ℕ → List ℕ → Line E × C
+abbrev pub line_at : {W E C : Type 0} → Play W E C → C → ℕ → List ℕ → ScriptLine E × C
 line_at play c n bytes = if is_within n bytes then play.says c bytes else (lines.Bad, c)
 
 -- line n, and what the lines behind it say
-abbrev pub then_says : {E : Type 0} → Line E → ℕ → Said E → Said E
+abbrev pub then_says : {E : Type 0} → ScriptLine E → ℕ → Said E → Said E
 then_says lines.Skipped n more = more
 then_says (lines.Event event) n more = record { events = event ∷ more.events; bad = more.bad }
 then_says lines.Bad n more = record { events = []; bad = Some n }

@@ -4,8 +4,8 @@ use Rattle.std.specs.List.{slice_split, filter}
 use Rattle.ill_saved.specs.declared.role.Role.{Role as Who}
 use Rattle.ill_world.specs.declared.event.Event.{Event}
 use Rattle.ill_world.specs.declared.event.Event.TheVariants.{Wish, Deed, Save, SaveFault, Send, Deliver, Noise, Restart}
-use Rattle.ill_world.specs.declared.script.Line.{Line}
-use Rattle.ill_world.specs.declared.script.Line.TheVariants as lines
+use Rattle.ill_world.specs.declared.script.ScriptLine.{ScriptLine}
+use Rattle.ill_world.specs.declared.script.ScriptLine.TheVariants as lines
 use Rattle.ill_world.specs.Words.{◌>>=◌, named, who_named, landed_named, day_of, number_of, bytes_of, wish_of, deed_of}
 
 -- the words of a line: what stands between its spaces, without the empty runs
@@ -47,12 +47,12 @@ event_of (first ∷ words) =
     else if bytes_eq first (codes "responder") then deed_event words
     else side_event first words
 
-abbrev pub line_with : Option Event → Line Event
+abbrev pub line_with : Option Event → ScriptLine Event
 line_with (Some event) = lines.Event event
 line_with None = lines.Bad
 
 -- what the words of a line say, which is nothing where there are none
-abbrev pub line_of : List (List ℕ) → Line Event
+abbrev pub line_of : List (List ℕ) → ScriptLine Event
 line_of [] = lines.Skipped
 line_of (word ∷ words) = line_with (event_of (word ∷ words))
 
@@ -62,5 +62,5 @@ is_remark [] = false
 is_remark (byte ∷ bytes) = byte == 0x23
 
 -- what a line says, which is nothing where it is a remark
-unfoldable pub meaning : List ℕ → Line Event
+unfoldable pub meaning : List ℕ → ScriptLine Event
 meaning line = if is_remark line then lines.Skipped else line_of (words_of line)

@@ -3,8 +3,8 @@ use Rattle.std.specs.Prelude.{◌≡◌, ℕ, ◌+◌, ◌≤◌, Bool, true, fa
 use Rattle.std.specs.List.{list_any, position_from}
 use Rattle.std.specs.Io.KnownBytes.{Consumes, Appends, IsAtEnd, prepend_known}
 use Rattle.std.specs.declared.alloc.AllocError.{AllocError}
-use Rattle.ill_world.specs.declared.script.Line.{Line}
-use Rattle.ill_world.specs.declared.script.Line.TheVariants as lines
+use Rattle.ill_world.specs.declared.script.ScriptLine.{ScriptLine}
+use Rattle.ill_world.specs.declared.script.ScriptLine.TheVariants as lines
 use Rattle.ill_world.specs.declared.performer.Told.{Told}
 use Rattle.ill_world.specs.declared.performer.Told.TheVariants as told
 use Rattle.ill_world.specs.declared.lines.Found.{Found}
@@ -47,7 +47,7 @@ IsLine bytes = (has_lf bytes ≡ false) × (length bytes ≤ 1024)
 -- What is ahead was taken behind the front of a line: up to its LF, which is dropped; more bytes than a
 -- line may have; all, of a line that goes on; or none, for want of memory.
 abbrev pub TakesPart : List ℕ → List ℕ → List ℕ → List ℕ → Result (Option Found) AllocError → Type 0
-TakesPart before ahead front line (Ok (Some found.Line)) =
+TakesPart before ahead front line (Ok (Some found.ScriptLine)) =
     (bytes : List ℕ) × (before ≡ bytes ++ 10 ∷ ahead) × (has_lf bytes ≡ false)
     × (line ≡ front ++ bytes) × (length line ≤ 1024)
 TakesPart before ahead front line (Ok (Some found.Rest)) = ⊥
@@ -61,7 +61,7 @@ TakesPart before ahead front line (Err fault) = ahead ≡ before
 -- What was found, and read: a line and its LF; what follows the last LF; more bytes than a line may
 -- have; a line that a reader or want of memory cut off.
 abbrev pub ReadsLine : Option (List ℕ) → Option (List ℕ) → List ℕ → Result Found SimFault → Type 0
-ReadsLine old new bytes (Ok found.Line) = IsLine bytes × Consumes old new (bytes ++ 10 ∷ [])
+ReadsLine old new bytes (Ok found.ScriptLine) = IsLine bytes × Consumes old new (bytes ++ 10 ∷ [])
 ReadsLine old new bytes (Ok found.Rest) = IsLine bytes × Consumes old new bytes × IsAtEnd new
 ReadsLine old new bytes (Ok found.TooLong) =
     (more : List ℕ) × (has_lf more ≡ false) × (length more ≡ 1025) × Consumes old new more
@@ -73,7 +73,7 @@ ReadsLine old new bytes (Err other) = ⊥
 
 -- What was told of a line that says this: nothing has happened; or its event has, and its text was added; or
 -- the line is bad.
-abbrev pub PerformsOne : {W E C : Type 0} → Play W E C → Line E → ℕ → W → List ℕ → Told → W → List ℕ → Type 0
+abbrev pub PerformsOne : {W E C : Type 0} → Play W E C → ScriptLine E → ℕ → W → List ℕ → Told → W → List ℕ → Type 0
 PerformsOne play lines.Skipped number w shown told.Nothing new new_shown = new ≡ w
 PerformsOne play (lines.Event event) number w shown told.Event new new_shown =
     (new ≡ play.next w event) × (new_shown ≡ shown ++ play.text number w event)
@@ -81,7 +81,7 @@ PerformsOne play lines.Bad number w shown told.BadLine new new_shown = Unit {0}
 PerformsOne play says number w shown told new new_shown = ⊥
 
 -- a line was told, unless memory ran out
-abbrev pub TellsLine : {W E C M : Type 0} → Play W E C → Line E × C → ℕ → W → List ℕ → Result Told M → W → C →
+abbrev pub TellsLine : {W E C M : Type 0} → Play W E C → ScriptLine E × C → ℕ → W → List ℕ → Result Told M → W → C →
     List ℕ → Type 0
 TellsLine play says number w shown (Ok told) new carried new_shown =
     PerformsOne play says.0 number w shown told new new_shown × (carried ≡ says.1)
@@ -89,7 +89,7 @@ TellsLine play says number w shown (Err memory) new carried new_shown = Unit {0}
 
 -- A line that says this was performed behind so many events, and its text written: whole, a front of it where
 -- the writer failed, or nothing for want of memory.
-abbrev pub PerformsLine : {W E C : Type 0} → Play W E C → Line E → ℕ → W → ℕ → Option (List ℕ) →
+abbrev pub PerformsLine : {W E C : Type 0} → Play W E C → ScriptLine E → ℕ → W → ℕ → Option (List ℕ) →
     Option (List ℕ) → Result (Unit {0}) SimFault → W → ℕ → Type 0
 PerformsLine play says n w count before after (Err OutOfMemory) new new_count = Appends before after []
 PerformsLine play lines.Skipped n w count before after (Ok done) new new_count =

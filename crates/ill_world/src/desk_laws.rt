@@ -15,8 +15,8 @@ ghost use Rattle.ill_world.specs.declared.event.Event.TheVariants as events;
 ghost use Rattle.ill_world.specs.declared.event.Outcome.{Outcome};
 ghost use Rattle.ill_world.specs.declared.event.Outcome.TheVariants.{NotSent};
 ghost use Rattle.ill_world.specs.declared.fault.SimFault.TheVariants.{Write, OutOfMemory};
-ghost use Rattle.ill_world.specs.declared.script.Line.{Line};
-ghost use Rattle.ill_world.specs.declared.script.Line.TheVariants as lines;
+ghost use Rattle.ill_world.specs.declared.script.ScriptLine.{ScriptLine};
+ghost use Rattle.ill_world.specs.declared.script.ScriptLine.TheVariants as lines;
 ghost use Rattle.ill_world.specs.declared.desk_script.DeskLine.TheVariants as desk_lines;
 ghost use Rattle.ill_world.specs.Desks.{DeskParties, plain, first_desks, desks_happen, desks_run, project, events_for, Projects};
 ghost use Rattle.ill_world.specs.DeskScript.{EventIn, in_txn, says_in, IsInTxn};
@@ -246,7 +246,7 @@ pub fn one_desk_night_is_enough()
 /// what a script of two sides says, in the transaction in use, if it is one of a transaction; and before
 /// the first `use` there is none.
 pub fn events_are_in_the_transaction_in_use()
-    ensures stays { (in_use : Option Qualifiers) (line : Line Event) →
+    ensures stays { (in_use : Option Qualifiers) (line : ScriptLine Event) →
         (says_in in_use (desk_lines.Plain line)).1 ≡ in_use }
     ensures plain { (txn : Qualifiers) (event : Event) → plain (in_txn txn event) ≡ event }
     ensures named { (txn : Qualifiers) (event : Event) → IsInTxn txn (in_txn txn event) }

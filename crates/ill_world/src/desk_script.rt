@@ -4,7 +4,7 @@ ghost use Rattle.std.specs.Prelude.{◌≡◌, map, IfOk};
 ghost use Rattle.ill_world.specs.DeskScript.{desk_meaning, desk_line_of, use_line};
 
 use crate::event::Event;
-use crate::script::{Line, read_words, split_words};
+use crate::script::{ScriptLine, read_words, split_words};
 use crate::words::is;
 use ill_values::{OutOfMemory, TextFault, TxnId};
 use std::alloc::Global;
@@ -15,7 +15,7 @@ pub(crate) enum DeskLine {
     /// That the lines behind it are in this transaction.
     Use(TxnId),
     /// What a line of a script of two sides says.
-    Plain(Line<Event>),
+    Plain(ScriptLine<Event>),
 }
 
 /// Reads a line of a script of two desks, which ends before its LF.
@@ -27,7 +27,7 @@ pub(crate) fn read_desk_line(alloc: Global, line: &[u8]) -> Result<DeskLine, Out
     ensures { IfOk result (λ read. read ≡ desk_meaning line.now) }
 {
     if line.starts_with(b"#") {
-        return Ok(DeskLine::Plain(Line::Skipped));
+        return Ok(DeskLine::Plain(ScriptLine::Skipped));
     }
     let words = split_words(alloc, line)?;
     read_desk_words(alloc, &words)
@@ -51,8 +51,8 @@ fn read_use(alloc: Global, words: &[&[u8]]) -> Result<DeskLine, OutOfMemory>
         [group, transaction] => match TxnId::new(alloc, group, transaction) {
             Ok(txn) => Ok(DeskLine::Use(txn)),
             Err(TextFault::OutOfMemory) => Err(OutOfMemory),
-            Err(_) => Ok(DeskLine::Plain(Line::Bad)),
+            Err(_) => Ok(DeskLine::Plain(ScriptLine::Bad)),
         },
-        _ => Ok(DeskLine::Plain(Line::Bad)),
+        _ => Ok(DeskLine::Plain(ScriptLine::Bad)),
     }
 }

@@ -14,7 +14,7 @@ use crate::desk_world::DeskWorld;
 use crate::event::Event;
 use crate::fault::SimFault;
 use crate::performer::{Performer, Told};
-use crate::script::Line;
+use crate::script::ScriptLine;
 use crate::simulation::Simulation;
 use ill_values::{OutOfMemory, TxnId};
 use std::alloc::Global;
@@ -66,15 +66,15 @@ impl Performer for DeskWorld {
                 *in_use = Some(txn);
                 Ok(Told::Nothing)
             }
-            DeskLine::Plain(Line::Skipped) => Ok(Told::Nothing),
-            DeskLine::Plain(Line::Event(event)) => match in_use {
+            DeskLine::Plain(ScriptLine::Skipped) => Ok(Told::Nothing),
+            DeskLine::Plain(ScriptLine::Event(event)) => match in_use {
                 Some(txn) => {
                     self.perform_in(alloc, txn, event, number, shown)?;
                     Ok(Told::Event)
                 }
                 None => Ok(Told::BadLine),
             },
-            DeskLine::Plain(Line::Bad) => Ok(Told::BadLine),
+            DeskLine::Plain(ScriptLine::Bad) => Ok(Told::BadLine),
         }
     }
 }

@@ -12,7 +12,7 @@ use std::alloc::Global;
 
 /// What a line of a script says.
 #[derive(Drop)]
-pub(crate) enum Line<E> {
+pub(crate) enum ScriptLine<E> {
     /// Nothing that happens.
     Skipped,
     /// That this happens.
@@ -42,26 +42,26 @@ pub(crate) enum Line<E> {
 /// one to three decimal digits for 1 to 255. HEX is two hexadecimal digits, of either case, for each
 /// byte, or `none` for no bytes. No due day of a script is counted from another.
 #[tactic(auto, unfolding(crate::specs::Script::meaning))]
-pub(crate) fn read_line(alloc: Global, line: &[u8]) -> Result<Line<Event>, OutOfMemory>
+pub(crate) fn read_line(alloc: Global, line: &[u8]) -> Result<ScriptLine<Event>, OutOfMemory>
     ensures { IfOk result (λ read. read ≡ meaning line.now) }
 {
     if line.starts_with(b"#") {
-        return Ok(Line::Skipped);
+        return Ok(ScriptLine::Skipped);
     }
     let words = split_words(alloc, line)?;
     read_words(alloc, &words)
 }
 
 /// What the words of a line say that is no remark.
-pub(crate) fn read_words(alloc: Global, words: &[&[u8]]) -> Result<Line<Event>, OutOfMemory>
+pub(crate) fn read_words(alloc: Global, words: &[&[u8]]) -> Result<ScriptLine<Event>, OutOfMemory>
     ensures { IfOk result (λ read. read ≡ line_of (map (λ word. word.now) words.now)) }
 {
     if words.is_empty() {
-        return Ok(Line::Skipped);
+        return Ok(ScriptLine::Skipped);
     }
     match event(alloc, words)? {
-        Some(event) => Ok(Line::Event(event)),
-        None => Ok(Line::Bad),
+        Some(event) => Ok(ScriptLine::Event(event)),
+        None => Ok(ScriptLine::Bad),
     }
 }
 

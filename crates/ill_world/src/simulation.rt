@@ -15,7 +15,7 @@ use crate::fault::SimFault;
 use crate::laws::{every_run_agrees, every_run_is_safe};
 use crate::lines::{Found, next_line};
 use crate::performer::{Performer, Told};
-use crate::script::{Line, read_line};
+use crate::script::{ScriptLine, read_line};
 use crate::world::World;
 use ill_der::write_bytes;
 use ill_values::{OutOfMemory, TxnId};
@@ -69,13 +69,13 @@ impl Performer for World {
         shown: &mut Vec<u8>,
     ) -> Result<Told, OutOfMemory> {
         match read_line(alloc, line)? {
-            Line::Skipped => Ok(Told::Nothing),
-            Line::Event(event) => {
+            ScriptLine::Skipped => Ok(Told::Nothing),
+            ScriptLine::Event(event) => {
                 let outcome = self.step(alloc, &event)?;
                 self.push_line(shown, number, outcome)?;
                 Ok(Told::Event)
             }
-            Line::Bad => Ok(Told::BadLine),
+            ScriptLine::Bad => Ok(Told::BadLine),
         }
     }
 }
@@ -156,7 +156,7 @@ impl<T: Performer> Simulation<T> {
         ensures few { self.new.count ≤ self.old.count + 1 }
     {
         match next_line(reader, &mut self.ahead, &mut self.line)? {
-            Found::Line => {
+            Found::ScriptLine => {
                 self.perform_line(alloc, writer, number)?;
                 Ok(true)
             }

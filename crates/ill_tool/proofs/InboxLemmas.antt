@@ -10,7 +10,7 @@ use Rattle.ill_tool.specs.declared.verdict.Mail.{Mail}
 use Rattle.ill_tool.specs.declared.verdict.Verdict.{Verdict}
 use Rattle.ill_tool.specs.declared.tally.Tally.{Tally}
 use Rattle.ill_tool.specs.Keeping.{many_sides}
-use Rattle.ill_tool.specs.Performing.{View}
+use Rattle.ill_tool.specs.Performing.{HeldAndLanded}
 use Rattle.ill_tool.specs.declared.fault.ToolFault.{ToolFault}
 use Rattle.ill_tool.specs.Inbox.{EndedWell, RunsInbox, Sorting, answered_with, concluded, inbox_text, one_message, tally_line, tally_of}
 
@@ -32,7 +32,7 @@ concluded_is waiting sorted end verdicts tally told is all counted text =
     ap (λ told. record { live = sorted.live; verdicts = sorted.verdicts; told = told; kept = sorted.kept }) whole ∙ ap (concluded waiting) is
 
 -- A run that answers verdicts has ended well.
-pub ended_if_ok : {X : Type 0} (items : X → List Verdict) (mails : List Mail) (waiting : ℕ) (kept_before kept_after before after : Option (List ℕ)) (old new : View DeskContents) (result : Result X ToolFault)
+pub ended_if_ok : {X : Type 0} (items : X → List Verdict) (mails : List Mail) (waiting : ℕ) (kept_before kept_after before after : Option (List ℕ)) (old new : HeldAndLanded DeskContents) (result : Result X ToolFault)
     → RunsInbox many_sides mails waiting kept_before kept_after before after old (answered_with items result) new → IfOk result (λ verdicts. EndedWell mails (items verdicts) new)
 unfolding EndedWell
 ended_if_ok items mails waiting kept_before kept_after before after old new (Ok verdicts) runs = (waiting, kept_before, kept_after, before, after, old, runs)

@@ -10,7 +10,7 @@ use Rattle.ill_tool.specs.declared.fault.ToolFault.TheVariants.{Desk}
 use Rattle.ill_tool.specs.Input.{StopsReading, ReadsInput}
 use Rattle.ill_tool.specs.declared.take.TakesEach.{TakesEach}
 use Rattle.ill_tool.specs.Keeping.{Keeping}
-use Rattle.ill_tool.specs.Performing.{View, ToolFailsCounted}
+use Rattle.ill_tool.specs.Performing.{HeldAndLanded, ToolFailsCounted}
 use Rattle.ill_tool.specs.Telling.{Wording}
 use Rattle.ill_tool.specs.Take.{KeepsDesk, Progress, progress, takes_each, answer_of, RunsTaking}
 use Rattle.ill_tool.proofs.InputLemmas.{reads_as}
@@ -64,7 +64,7 @@ module _ {S N M : Type 0} (is_kept : Bool) (handles : Handles S ToolFault) (name
 -- ---- the command
 
 -- an input whose messages are taken on a keeper that is lent, and kept where they are
-module _ {T D A B C L N W : Type 0} {n m : ℕ} (is_kept : Bool) (told : Wording) (keeping : Keeping L N) (view : T → View L) (failures : T → ℕ) (kept : D → Option (List ℕ))
+module _ {T D A B C L N W : Type 0} {n m : ℕ} (is_kept : Bool) (told : Wording) (keeping : Keeping L N) (view : T → HeldAndLanded L) (failures : T → ℕ) (kept : D → Option (List ℕ))
     (contents : W → Option (List ℕ)) where
   abbrev how_far : TakesEach T D n m A B C × W → Progress L
   how_far s = progress (view s.0.keeper.now) (kept s.0.came.now) (contents s.1) s.0.all_fine

@@ -6,20 +6,20 @@ use Rattle.ill_world.specs.declared.event.DeskOutcome.{DeskOutcome}
 use Rattle.ill_tool.specs.declared.fault.ToolFault.{ToolFault}
 use Rattle.ill_tool.specs.declared.fault.ToolFault.TheVariants.{Arguments, OutOfMemory}
 use Rattle.ill_tool.specs.Keeping.{Keeping}
-use Rattle.ill_tool.specs.Performing.{View, acted, Performs}
+use Rattle.ill_tool.specs.Performing.{HeldAndLanded, acted, Performs}
 use Rattle.ill_tool.specs.Telling.{side_line, Reports}
 
 -- What an action did: it was done and saved; it was refused, and nothing changed; it was done, and the
 -- save failed; or memory ran out before it was done, or before it was saved.
-abbrev pub ActsAndSaves : {L K : Type 0} → Keeping L K → K → View L → Action → Result DeskOutcome ToolFault →
-    View L → Type 0
+abbrev pub ActsAndSaves : {L K : Type 0} → Keeping L K → K → HeldAndLanded L → Action → Result DeskOutcome ToolFault →
+    HeldAndLanded L → Type 0
 ActsAndSaves keeping key old action result new =
     Performs keeping (Unit {0}) old (acted old.live (keeping.acts old.live key action)) result new
 
 -- The command: its words name an action, which is performed and told; or they name none, and nothing
 -- changes. Whether they do may not be known for want of memory.
-abbrev pub RunsAct : {L K : Type 0} → Keeping L K → K → Option Action → View L → Option (List ℕ) →
-    Option (List ℕ) → Result Bool ToolFault → View L → Type 0
+abbrev pub RunsAct : {L K : Type 0} → Keeping L K → K → Option Action → HeldAndLanded L → Option (List ℕ) →
+    Option (List ℕ) → Result Bool ToolFault → HeldAndLanded L → Type 0
 RunsAct keeping key (Some action) old before after result new =
     (performed : Result DeskOutcome ToolFault) × (text : List ℕ)
     × ActsAndSaves keeping key old action performed new × Appends before after text

@@ -13,7 +13,7 @@ use Rattle.ill_tool.specs.declared.fault.ToolFault.TheVariants.{Arguments, Desk,
 use Rattle.std.specs.List.{zip}
 use Rattle.ill_saved.specs.declared.role.Role.{Role}
 use Rattle.ill_tool.specs.Keeping.{many_sides}
-use Rattle.ill_tool.specs.Performing.{View}
+use Rattle.ill_tool.specs.Performing.{HeldAndLanded}
 use Rattle.ill_tool.specs.Output.{WritesText}
 use Rattle.ill_tool.specs.Actions.{action_named}
 use Rattle.ill_tool.specs.Show.{RunsShow}
@@ -73,7 +73,7 @@ abbrev pub ActsAtFile : Qualifiers → Option Date → List (List ℕ) → Optio
     Result Bool ToolFault → Type 0
 ActsAtFile txn today words before after result =
     IsShut before after result
-    ⊎ ((old : View DeskContents) × (new : View DeskContents)
+    ⊎ ((old : HeldAndLanded DeskContents) × (new : HeldAndLanded DeskContents)
     × RunsAct many_sides txn (action_named old.live.role today words) old before after result new)
 
 -- the APDUs of the input were taken at a desk, and kept where that is asked for, and told in long words or short ones
@@ -81,7 +81,7 @@ abbrev pub TakesAtFile : Bool → Bool → Option (List ℕ) → Option (List �
     Result Bool ToolFault → Type 0
 TakesAtFile is_kept is_long left rest before after result =
     (IsShut before after result × (rest ≡ left))
-    ⊎ ((old : View DeskContents) × (new : View DeskContents)
+    ⊎ ((old : HeldAndLanded DeskContents) × (new : HeldAndLanded DeskContents)
     × RunsTaking is_kept (wording is_long) many_sides left rest None None before after old result new)
 
 -- the mails of a night and their verdicts, and how many further mails wait
@@ -104,8 +104,8 @@ SettlesRun mails waiting (Ok verdicts) result =
 SettlesRun mails waiting (Err fault) result = result ≡ Err fault
 
 -- The mails of a folder, with so many more waiting, were taken at a desk, and their files settled.
-abbrev pub TakesMails : View DeskContents → Option (List ℕ) → Option (List ℕ) →
-    Result Night ToolFault → View DeskContents → Type 0
+abbrev pub TakesMails : HeldAndLanded DeskContents → Option (List ℕ) → Option (List ℕ) →
+    Result Night ToolFault → HeldAndLanded DeskContents → Type 0
 TakesMails old before after result new =
     (IsShut before after result × (new ≡ old))
     ⊎ ((mails : List Mail) × (waiting : ℕ) × (answer : Result (List Verdict) ToolFault)
@@ -121,7 +121,7 @@ ending_of (Err fault) = Err fault
 abbrev pub InboxAtFile : Option (List ℕ) → Option (List ℕ) → Result Bool ToolFault → Type 0
 InboxAtFile before after result =
     IsShut before after result
-    ⊎ ((old new : View DeskContents) × (taken : Result Night ToolFault)
+    ⊎ ((old new : HeldAndLanded DeskContents) × (taken : Result Night ToolFault)
     × TakesMails old before after taken new × (result ≡ ending_of taken))
 
 -- The messages that want sending were put into a folder, of which nothing is known, and their number was written.
@@ -146,8 +146,8 @@ OutboxAtFile has_folder before after result =
     IsShut before after result ⊎ ((held : List DeskEntry) × GoesWell (SendsFrom has_folder held before after) result)
 
 -- what the date says was said, and saved, if something of it is wanted
-abbrev pub SaysDates : Option (Date × Dates) → Option (List ℕ) → Option (List ℕ) → View DeskContents →
-    Result (Unit {0}) ToolFault → View DeskContents → Type 0
+abbrev pub SaysDates : Option (Date × Dates) → Option (List ℕ) → Option (List ℕ) → HeldAndLanded DeskContents →
+    Result (Unit {0}) ToolFault → HeldAndLanded DeskContents → Type 0
 SaysDates None before after old result new = (result ≡ Ok tt) × (after ≡ before) × (new ≡ old)
 SaysDates (Some (today, which)) before after old result new = RunsDates which today before after old result new
 
@@ -173,23 +173,23 @@ SendsAll ending held before after (Ok done) result =
 
 -- A night goes on once its mails were taken. If that failed, nothing else is done.
 abbrev pub GoesOn : Option (Date × Dates) → Result Night ToolFault → Option (List ℕ) → Option (List ℕ) →
-    View DeskContents → Result Bool ToolFault → View DeskContents → Type 0
+    HeldAndLanded DeskContents → Result Bool ToolFault → HeldAndLanded DeskContents → Type 0
 GoesOn dates (Err fault) before after old result new = (result ≡ Err fault) × (after ≡ before) × (new ≡ old)
 GoesOn dates (Ok night) before after old result new =
     (between : Option (List ℕ)) × (said : Result (Unit {0}) ToolFault) × SaysDates dates before between old said new
     × SendsAll (night_ending new.live.role night) new.live.held between after said result
 
 -- a night of a desk: its mails were taken, what the date says was said, and its messages left
-abbrev pub ExchangesAt : Option (Date × Dates) → View DeskContents → Option (List ℕ) → Option (List ℕ) →
-    Result Bool ToolFault → View DeskContents → Type 0
+abbrev pub ExchangesAt : Option (Date × Dates) → HeldAndLanded DeskContents → Option (List ℕ) → Option (List ℕ) →
+    Result Bool ToolFault → HeldAndLanded DeskContents → Type 0
 ExchangesAt dates old before after result new =
-    (met : View DeskContents) × (between : Option (List ℕ)) × (taken : Result Night ToolFault)
+    (met : HeldAndLanded DeskContents) × (between : Option (List ℕ)) × (taken : Result Night ToolFault)
     × TakesMails old before between taken met × GoesOn dates taken between after met result new
 
 abbrev pub ExchangesAtFile : Option (Date × Dates) → Option (List ℕ) → Option (List ℕ) → Result Bool ToolFault → Type 0
 ExchangesAtFile dates before after result =
     IsShut before after result
-    ⊎ ((old : View DeskContents) × (new : View DeskContents) × ExchangesAt dates old before after result new)
+    ⊎ ((old : HeldAndLanded DeskContents) × (new : HeldAndLanded DeskContents) × ExchangesAt dates old before after result new)
 
 -- the message with this number was written, of this transaction at a desk
 abbrev pub SendsAtFile : Qualifiers → ℕ → Option (List ℕ) → Option (List ℕ) → Result Bool ToolFault → Type 0

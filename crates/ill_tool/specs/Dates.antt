@@ -22,7 +22,7 @@ use Rattle.ill_tool.specs.declared.dates.Dates.{Dates}
 use Rattle.ill_tool.specs.declared.dates.Due.{Due}
 use Rattle.ill_tool.specs.Keeping.{Keeping, many_sides}
 use Rattle.ill_tool.specs.LongLines.{word}
-use Rattle.ill_tool.specs.Performing.{View, has_any, Run, EndsRun}
+use Rattle.ill_tool.specs.Performing.{HeldAndLanded, has_any, Run, EndsRun}
 use Rattle.ill_tool.specs.Telling.{as_told, done_line}
 use Rattle.ill_tool.specs.Waiting.{is_sooner}
 
@@ -115,12 +115,12 @@ deeds_run keeping end = record {
 
 -- A run of deeds on a day, from what the writer held to what it holds, and from what was known to what is known.
 abbrev pub RunsDeeds : {L : Type 0} → Keeping L Qualifiers → Date → List Due → Option (List ℕ) → Option (List ℕ) →
-    View L → Result (Unit {0}) ToolFault → View L → Type 0
+    HeldAndLanded L → Result (Unit {0}) ToolFault → HeldAndLanded L → Type 0
 RunsDeeds keeping today dues before after old result new =
     EndsRun keeping (deeds_run keeping (after_deeds keeping today old.live dues)) before after old result new
 
 -- The same at a desk, of all deeds that the day asks for.
-abbrev pub RunsDates : Dates → Date → Option (List ℕ) → Option (List ℕ) → View DeskContents →
-    Result (Unit {0}) ToolFault → View DeskContents → Type 0
+abbrev pub RunsDates : Dates → Date → Option (List ℕ) → Option (List ℕ) → HeldAndLanded DeskContents →
+    Result (Unit {0}) ToolFault → HeldAndLanded DeskContents → Type 0
 RunsDates which today before after old result new =
     RunsDeeds many_sides today (all_due which today (sides_held old.live).sides) before after old result new

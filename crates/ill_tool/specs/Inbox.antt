@@ -30,7 +30,7 @@ use Rattle.ill_tool.specs.declared.tally.Tally.{Tally}
 use Rattle.ill_tool.specs.declared.inbox.Sorted.{Sorted}
 use Rattle.ill_tool.specs.Escape.{escaped}
 use Rattle.ill_tool.specs.Keeping.{Keeping, many_sides}
-use Rattle.ill_tool.specs.Performing.{View, handed, is_change, has_any, Run, EndsRun}
+use Rattle.ill_tool.specs.Performing.{HeldAndLanded, handed, is_change, has_any, Run, EndsRun}
 use Rattle.ill_tool.specs.Take.{KeepsBefore}
 use Rattle.ill_tool.specs.Telling.{as_told, long}
 
@@ -255,16 +255,16 @@ answered_with value (Err fault) = Err fault
 -- A run over mails, with so many more waiting, from what is kept to what is, from what the writer held to what it
 -- holds, and from what was known to what is known. What was taken is kept before it is saved.
 abbrev pub RunsInbox : {L K : Type 0} → Keeping L K → List Mail → ℕ → Option (List ℕ) → Option (List ℕ) →
-    Option (List ℕ) → Option (List ℕ) → View L → Result (List Verdict) ToolFault → View L → Type 0
+    Option (List ℕ) → Option (List ℕ) → HeldAndLanded L → Result (List Verdict) ToolFault → HeldAndLanded L → Type 0
 RunsInbox keeping mails waiting kept_before kept_after before after old result new =
     KeepsBefore (after_mails keeping old.live mails).kept result kept_before kept_after old new
     × EndsRun keeping (inbox_run (after_mails keeping old.live mails) waiting) before after old result new
 
 -- A run over these mails, with these verdicts, has ended well at a desk of which this is known: all that they change is
 -- saved.
-unfoldable pub EndedWell : List Mail → List Verdict → View DeskContents → Type 0
+unfoldable pub EndedWell : List Mail → List Verdict → HeldAndLanded DeskContents → Type 0
 EndedWell mails verdicts new =
-    (waiting : ℕ) × (kept_before kept_after before after : Option (List ℕ)) × (old : View DeskContents)
+    (waiting : ℕ) × (kept_before kept_after before after : Option (List ℕ)) × (old : HeldAndLanded DeskContents)
     × RunsInbox many_sides mails waiting kept_before kept_after before after old (Ok verdicts) new
 
 -- ---- what is answered

@@ -21,7 +21,7 @@ use Rattle.ill_tool.specs.Keeping.{Keeping}
 -- ---- what is known
 
 -- What is held, and what has landed in the store, of a store of which that is known.
-pub record View (L : Type 0) : Type 0 where
+pub record HeldAndLanded (L : Type 0) : Type 0 where
   pub live : L
   pub landed : Option (Option (List ℕ))
 
@@ -33,32 +33,32 @@ known_if false landed = None
 abbrev pub known : StoreState → Option (Option (List ℕ))
 known store = known_if store.is_honest store.landed
 
-abbrev pub view_of : {L S : Type 0} → (S → StoreState) → L → S → View L
+abbrev pub view_of : {L S : Type 0} → (S → StoreState) → L → S → HeldAndLanded L
 view_of state live store = record { live = live; landed = known (state store) }
 
 -- the side of a desk of one
 abbrev pub the_one : {S : Type 0} → DeskOf S → DeskEntry
 the_one desk = record { side = desk.live; released = desk.released }
 
-abbrev pub one_view : {S : Type 0} → (S → StoreState) → DeskOf S → View DeskEntry
+abbrev pub one_view : {S : Type 0} → (S → StoreState) → DeskOf S → HeldAndLanded DeskEntry
 one_view state desk = view_of state (the_one desk) desk.store
 
-abbrev pub many_view : {S : Type 0} → (S → StoreState) → ManyOf S → View DeskContents
+abbrev pub many_view : {S : Type 0} → (S → StoreState) → ManyOf S → HeldAndLanded DeskContents
 many_view state desk = view_of state desk.live desk.store
 
 -- this is held, and not saved yet
-abbrev pub becomes : {L : Type 0} → View L → L → View L
+abbrev pub becomes : {L : Type 0} → HeldAndLanded L → L → HeldAndLanded L
 becomes old live = record old { live = live }
 
 -- all is saved
-abbrev pub saved : {L K : Type 0} → Keeping L K → View L → View L
+abbrev pub saved : {L K : Type 0} → Keeping L K → HeldAndLanded L → HeldAndLanded L
 saved keeping old = record {
   live = keeping.saves old.live;
   landed = option_map (λ _. Some (keeping.spelling old.live)) old.landed;
 }
 
 -- A save has failed: what is held is as before, and the old record has landed or the new one.
-abbrev pub IsFaulted : {L K : Type 0} → Keeping L K → View L → View L → Type 0
+abbrev pub IsFaulted : {L K : Type 0} → Keeping L K → HeldAndLanded L → HeldAndLanded L → Type 0
 IsFaulted keeping old new = (new ≡ old) ⊎ (new ≡ record old { landed = (saved keeping old).landed })
 
 -- ---- what is seen
@@ -104,8 +104,8 @@ IsChange (Err fault) = ⊥
 -- What came of an event of which this is seen and after which this is held: it happened, and was saved if it
 -- was a change; it was one, and the save failed; or memory ran out for it, where it wants memory, or for the
 -- save.
-abbrev pub Performs : {L K : Type 0} → Keeping L K → Type 0 → View L → Result DeskOutcome ToolFault × L →
-    Result DeskOutcome ToolFault → View L → Type 0
+abbrev pub Performs : {L K : Type 0} → Keeping L K → Type 0 → HeldAndLanded L → Result DeskOutcome ToolFault × L →
+    Result DeskOutcome ToolFault → HeldAndLanded L → Type 0
 Performs keeping WantsMemory old event (Ok outcome) new =
     (event.0 ≡ Ok outcome)
     × (new ≡ (if is_change outcome then saved keeping (becomes old event.1) else becomes old event.1))
@@ -122,7 +122,7 @@ abbrev pub has_any : {X : Type 0} → List X → Bool
 has_any items = nat_lt 0 (length items)
 
 -- The changes are saved at once, if there are any; or that failed, or memory ran out for it.
-abbrev pub SavesOnce : {L K X : Type 0} → Keeping L K → List X → View L → Result (Unit {0}) ToolFault → View L → Type 0
+abbrev pub SavesOnce : {L K X : Type 0} → Keeping L K → List X → HeldAndLanded L → Result (Unit {0}) ToolFault → HeldAndLanded L → Type 0
 SavesOnce keeping changes old (Ok done) new = new ≡ (if has_any changes then saved keeping old else old)
 SavesOnce keeping changes old (Err (Desk (desks.Store Failed))) new =
     (has_any changes ≡ true) × IsFaulted keeping old new
@@ -137,14 +137,14 @@ pub record Run (L A : Type 0) : Type 0 where
   pub answer : A
 
 -- what is known after a run: all is saved, if anything has changed
-abbrev pub after_run : {L K A : Type 0} → Keeping L K → View L → Run L A → View L
+abbrev pub after_run : {L K A : Type 0} → Keeping L K → HeldAndLanded L → Run L A → HeldAndLanded L
 after_run keeping old run =
     if run.has_changed then saved keeping (becomes old run.live) else becomes old run.live
 
 -- How a run ends. Where all is well it is told. If the writer fails all is saved too. If the one save fails, the old
 -- record has landed or that of all changes, and nothing is told. If memory runs out, nothing more has landed.
-abbrev pub EndsRun : {L K A : Type 0} → Keeping L K → Run L A → Option (List ℕ) → Option (List ℕ) → View L →
-    Result A ToolFault → View L → Type 0
+abbrev pub EndsRun : {L K A : Type 0} → Keeping L K → Run L A → Option (List ℕ) → Option (List ℕ) → HeldAndLanded L →
+    Result A ToolFault → HeldAndLanded L → Type 0
 EndsRun keeping run before after old (Ok answer) new =
     (answer ≡ run.answer) × Appends before after run.told × (new ≡ after_run keeping old run)
 EndsRun keeping run before after old (Err Write) new =

@@ -11,7 +11,7 @@ use Rattle.ill_der.specs.ShortForm.{spelling}
 use Rattle.ill_der.specs.Handling.{Handles}
 use Rattle.ill_tool.specs.Input.{ReadsInput}
 use Rattle.ill_tool.specs.Keeping.{Keeping}
-use Rattle.ill_tool.specs.Performing.{View, handed, is_change, saved, IsFaulted, Performs, ToolFailsCounted}
+use Rattle.ill_tool.specs.Performing.{HeldAndLanded, handed, is_change, saved, IsFaulted, Performs, ToolFailsCounted}
 use Rattle.ill_tool.specs.Keeper.{WantsMemory}
 use Rattle.ill_tool.specs.Telling.{is_fine, Wording, Reports}
 
@@ -19,8 +19,8 @@ use Rattle.ill_tool.specs.Telling.{is_fine, Wording, Reports}
 
 -- What a message did: it was handed to its side, and saved where it was taken; it was taken, and the
 -- save failed; or memory ran out for it, where it takes memory, or for the save.
-abbrev pub TakesAndSaves : {L K : Type 0} → Keeping L K → View L → Apdu → Result DeskOutcome ToolFault →
-    View L → Type 0
+abbrev pub TakesAndSaves : {L K : Type 0} → Keeping L K → HeldAndLanded L → Apdu → Result DeskOutcome ToolFault →
+    HeldAndLanded L → Type 0
 TakesAndSaves keeping old a result new =
     Performs keeping (WantsMemory keeping old.live a) old (handed keeping old.live a) result new
 
@@ -41,7 +41,7 @@ KeepsFront text before after (Err other) = ⊥
 
 -- A text is kept before more has landed: all of it is, or a front of it, and nothing more has landed.
 abbrev pub KeepsBefore : {L X : Type 0} → List ℕ → Result X ToolFault → Option (List ℕ) → Option (List ℕ) →
-    View L → View L → Type 0
+    HeldAndLanded L → HeldAndLanded L → Type 0
 KeepsBefore text (Ok done) before after old new = Appends before after text
 KeepsBefore text (Err fault) before after old new =
     Appends before after text
@@ -50,14 +50,14 @@ KeepsBefore text (Err fault) before after old new =
 -- What is kept of a message: its bytes where it was taken, and else nothing. Where there was a fault, it was to be
 -- taken, and was kept before that landed.
 abbrev pub KeepsTaken : {L : Type 0} → Bool → Apdu → Result DeskOutcome ToolFault → Option (List ℕ) →
-    Option (List ℕ) → View L → View L → Type 0
+    Option (List ℕ) → HeldAndLanded L → HeldAndLanded L → Type 0
 KeepsTaken is_kept a (Ok outcome) before after old new =
     Appends before after (kept_text (is_change outcome && is_kept) a)
 KeepsTaken is_kept a (Err fault) before after old new =
     KeepsBefore {X = Unit {0}} (kept_text is_kept a) (Err fault) before after old new
 
 -- What was taken is saved, or the save failed, or memory ran out for it.
-abbrev pub SavesTaken : {L K : Type 0} → Keeping L K → View L → Result (Unit {0}) ToolFault → View L → Type 0
+abbrev pub SavesTaken : {L K : Type 0} → Keeping L K → HeldAndLanded L → Result (Unit {0}) ToolFault → HeldAndLanded L → Type 0
 SavesTaken keeping old (Ok done) new = new ≡ saved keeping old
 SavesTaken keeping old (Err (Desk (desks.Store Failed))) new = IsFaulted keeping old new
 SavesTaken keeping old (Err OutOfMemory) new = new ≡ old
@@ -72,12 +72,12 @@ CountsTaking is_kept answer old new = (old ≤ new) × (is_kept ≡ false → To
 
 -- how far the command is: what is known, what is kept, what the writer holds, and whether all went well so far
 pub record Progress (L : Type 0) : Type 0 where
-  pub view : View L
+  pub view : HeldAndLanded L
   pub came : Option (List ℕ)
   pub written : Option (List ℕ)
   pub fine : Bool
 
-abbrev pub progress : {L : Type 0} → View L → Option (List ℕ) → Option (List ℕ) → Bool → Progress L
+abbrev pub progress : {L : Type 0} → HeldAndLanded L → Option (List ℕ) → Option (List ℕ) → Bool → Progress L
 progress view came written fine = record { view = view; came = came; written = written; fine = fine }
 
 -- A message is taken: it was handed to its side, kept, saved where it was taken, and told; or memory ran out
@@ -105,8 +105,8 @@ answer_of (Err fault) fine = Err fault
 -- from what the writer held to what it holds, and from what was known to what is known. At the end of the input it
 -- is answered whether all went well.
 abbrev pub RunsTaking : {L K : Type 0} → Bool → Wording → Keeping L K → Option (List ℕ) → Option (List ℕ) →
-    Option (List ℕ) → Option (List ℕ) → Option (List ℕ) → Option (List ℕ) → View L → Result Bool ToolFault →
-    View L → Type 0
+    Option (List ℕ) → Option (List ℕ) → Option (List ℕ) → Option (List ℕ) → HeldAndLanded L → Result Bool ToolFault →
+    HeldAndLanded L → Type 0
 RunsTaking is_kept told keeping old new kept_before kept_after before after from result to =
     (ended : Result ℕ ToolFault) × (fine : Bool) × (result ≡ answer_of ended fine)
     × ReadsInput (takes_each is_kept told keeping) old new (progress from kept_before before true) ended
@@ -114,14 +114,14 @@ RunsTaking is_kept told keeping old new kept_before kept_after before after from
 
 -- the same, where no message is kept
 abbrev pub RunsTake : {L K : Type 0} → Wording → Keeping L K → Option (List ℕ) → Option (List ℕ) →
-    Option (List ℕ) → Option (List ℕ) → View L → Result Bool ToolFault → View L → Type 0
+    Option (List ℕ) → Option (List ℕ) → HeldAndLanded L → Result Bool ToolFault → HeldAndLanded L → Type 0
 RunsTake told keeping old new before after from result to =
     RunsTaking false told keeping old new None None before after from result to
 
 -- the same, where each is kept that was taken
 abbrev pub RunsKeptTake : {L K : Type 0} → Wording → Keeping L K → Option (List ℕ) → Option (List ℕ) →
-    Option (List ℕ) → Option (List ℕ) → Option (List ℕ) → Option (List ℕ) → View L → Result Bool ToolFault →
-    View L → Type 0
+    Option (List ℕ) → Option (List ℕ) → Option (List ℕ) → Option (List ℕ) → HeldAndLanded L → Result Bool ToolFault →
+    HeldAndLanded L → Type 0
 RunsKeptTake told keeping old new kept_before kept_after before after from result to =
     RunsTaking true told keeping old new kept_before kept_after before after from result to
 

@@ -21,7 +21,7 @@ use crate::outbox::{run_desk_outbox, run_desk_outbox_stream};
 use crate::outgoing::MailFolder;
 use crate::output::write_and_flush;
 use crate::person::{tell_person, wants_person};
-use crate::settle::{Place, settle_mails};
+use crate::settle::{MailPaths, settle_mails};
 use crate::tally::Tally;
 use crate::verdict::Verdict;
 use crate::warning::warn;
@@ -86,7 +86,7 @@ fn take_mails<T: Files, S: Store, W: Write, E: Write>(
     let role = desk.sides().role();
     let found = find_mails(rt, alloc, &mail_box, file, incoming, role, errors)?;
     let run = run_desk_inbox(alloc, desk, &found.mails, found.waiting, &mut came, writer);
-    let place = Place {
+    let place = MailPaths {
         file,
         folder: incoming.folder,
         mail_box: &mail_box,
@@ -158,7 +158,7 @@ pub(crate) fn open_box<T: Files>(rt: &T, alloc: Global, file: &str) -> Result<Ma
 fn conclude<T: Files, S: Store, E: Write>(
     rt: &T,
     alloc: Global,
-    place: &Place<'_>,
+    place: &MailPaths<'_>,
     desk: &Desk<S>,
     found: Mails,
     verdicts: Vec<Verdict>,

@@ -20,7 +20,7 @@ use std::{fs, io};
 pub fn settle_mails<T: Files, E: Write>(
     rt: &T,
     alloc: Global,
-    place: &Place<'_>,
+    place: &MailPaths<'_>,
     found: &Mails,
     verdicts: &[Verdict],
     errors: &mut E,
@@ -56,7 +56,7 @@ pub(crate) fn remove_runs<T: Files>(rt: &T, found: &Mails) {
 
 /// The file of a desk, the folder from which its mails come, and that of the desk's mail.
 #[derive(Clone, Copy)]
-pub struct Place<'a> {
+pub struct MailPaths<'a> {
     pub file: &'a str,
     pub folder: &'a str,
     pub mail_box: &'a MailBox,
@@ -68,7 +68,7 @@ pub struct Place<'a> {
 fn settle_mail<T: Files>(
     rt: &T,
     alloc: Global,
-    place: &Place<'_>,
+    place: &MailPaths<'_>,
     mail: &Mail,
     file: Option<&String>,
     verdict: Verdict,

@@ -261,6 +261,6 @@ IsRefusal is_nothing (Fault OutOfMemory) = Unit {0}
 IsRefusal is_nothing (Fault other) = ⊥
 
 -- The value that the arguments say was read; or they say none, or memory ran out for it.
-abbrev pub Gives : {A B : Type 0} → (B → A) → Option A → Result B Refusal → Type 0
-Gives value said (Ok read) = said ≡ Some (value read)
-Gives value said (Err refusal) = IsRefusal (is_none said) refusal
+abbrev pub ReadsValue : {A B : Type 0} → (B → A) → Option A → Result B Refusal → Type 0
+ReadsValue value said (Ok read) = said ≡ Some (value read)
+ReadsValue value said (Err refusal) = IsRefusal (is_none said) refusal

@@ -5,7 +5,7 @@ ghost use Rattle.clap.specs.Words.{found_of, rows_of, subcommand_rows_of};
 ghost use Rattle.ill_tool.specs.declared.request.Refusal.TheVariants.{Usage, Fault};
 ghost use Rattle.ill_tool.specs.declared.fault.ToolFault.TheVariants.{OutOfMemory};
 ghost use Rattle.ill_tool.specs.declared.command_line.Name.TheVariants as names;
-ghost use Rattle.ill_tool.specs.Asked.{Gives, IsRefusal, asked_by, asked_in, asked_of, text_of, texts_of, role_of, loan_of, group_of, day_in, state_in, number_of_message, dates_of, outlet_of, is_set, which_of, form_of, wanted_of, report_day_of, asked};
+ghost use Rattle.ill_tool.specs.Asked.{ReadsValue, IsRefusal, asked_by, asked_in, asked_of, text_of, texts_of, role_of, loan_of, group_of, day_in, state_in, number_of_message, dates_of, outlet_of, is_set, which_of, form_of, wanted_of, report_day_of, asked};
 
 use crate::command_line::{Argument, Name, SHELF, command};
 use crate::dates::Dates;
@@ -201,7 +201,7 @@ pub fn read_words<'a>(alloc: Global, words: &'a [&'a str]) -> Result<Call<'a>, R
 
 /// The request of what was found in words.
 fn found<'a>(alloc: Global, matches: &ArgMatches<'a>) -> Result<Request<'a>, Refusal>
-    ensures { Gives asked (asked_in (subcommand_rows_of matches.now)) result }
+    ensures { ReadsValue asked (asked_in (subcommand_rows_of matches.now)) result }
 {
     match matches.subcommand() {
         Some((word, matches)) => named(alloc, word, matches),
@@ -211,7 +211,7 @@ fn found<'a>(alloc: Global, matches: &ArgMatches<'a>) -> Result<Request<'a>, Ref
 
 /// The request of the command that a word stands for, by the matches behind the word.
 fn named<'a>(alloc: Global, word: &str, matches: &ArgMatches<'a>) -> Result<Request<'a>, Refusal>
-    ensures { Gives asked (asked_by word.now (rows_of (found_of matches.now))) result }
+    ensures { ReadsValue asked (asked_by word.now (rows_of (found_of matches.now))) result }
 {
     match Name::read(word) {
         Some(name) => requested(alloc, name, matches),
@@ -225,7 +225,7 @@ fn requested<'a>(
     name: Name,
     matches: &ArgMatches<'a>,
 ) -> Result<Request<'a>, Refusal>
-    ensures { Gives asked (asked_of name (rows_of (found_of matches.now))) result }
+    ensures { ReadsValue asked (asked_of name (rows_of (found_of matches.now))) result }
 {
     match name {
         Name::New => new_request(alloc, matches),
@@ -252,7 +252,7 @@ fn requested<'a>(
 
 /// The request of `ill new`.
 fn new_request<'a>(alloc: Global, matches: &ArgMatches<'a>) -> Result<Request<'a>, Refusal>
-    ensures { Gives asked (asked_of names.New (rows_of (found_of matches.now))) result }
+    ensures { ReadsValue asked (asked_of names.New (rows_of (found_of matches.now))) result }
 {
     let file = text(alloc, matches, Argument::NewFile)?;
     let role = role(alloc, matches)?;
@@ -261,7 +261,7 @@ fn new_request<'a>(alloc: Global, matches: &ArgMatches<'a>) -> Result<Request<'a
 
 /// The request of `ill act`.
 fn act_request<'a>(alloc: Global, matches: &ArgMatches<'a>) -> Result<Request<'a>, Refusal>
-    ensures { Gives asked (asked_of names.Act (rows_of (found_of matches.now))) result }
+    ensures { ReadsValue asked (asked_of names.Act (rows_of (found_of matches.now))) result }
 {
     let file = text(alloc, matches, Argument::File)?;
     let today = day(matches, Argument::Today)?;
@@ -279,7 +279,7 @@ fn act_request<'a>(alloc: Global, matches: &ArgMatches<'a>) -> Result<Request<'a
 
 /// The request of `ill take`.
 fn take_request<'a>(alloc: Global, matches: &ArgMatches<'a>) -> Result<Request<'a>, Refusal>
-    ensures { Gives asked (asked_of names.Take (rows_of (found_of matches.now))) result }
+    ensures { ReadsValue asked (asked_of names.Take (rows_of (found_of matches.now))) result }
 {
     let file = text(alloc, matches, Argument::File)?;
     let is_long = is_set(matches, Argument::Long);
@@ -293,7 +293,7 @@ fn take_request<'a>(alloc: Global, matches: &ArgMatches<'a>) -> Result<Request<'
 
 /// The request of `ill inbox`.
 fn inbox_request<'a>(alloc: Global, matches: &ArgMatches<'a>) -> Result<Request<'a>, Refusal>
-    ensures { Gives asked (asked_of names.Inbox (rows_of (found_of matches.now))) result }
+    ensures { ReadsValue asked (asked_of names.Inbox (rows_of (found_of matches.now))) result }
 {
     let file = text(alloc, matches, Argument::File)?;
     let folder = text(alloc, matches, Argument::Folder)?;
@@ -302,7 +302,7 @@ fn inbox_request<'a>(alloc: Global, matches: &ArgMatches<'a>) -> Result<Request<
 
 /// The request of `ill outbox`.
 fn outbox_request<'a>(alloc: Global, matches: &ArgMatches<'a>) -> Result<Request<'a>, Refusal>
-    ensures { Gives asked (asked_of names.Outbox (rows_of (found_of matches.now))) result }
+    ensures { ReadsValue asked (asked_of names.Outbox (rows_of (found_of matches.now))) result }
 {
     let file = text(alloc, matches, Argument::File)?;
     let folder = outlet(matches)?;
@@ -311,7 +311,7 @@ fn outbox_request<'a>(alloc: Global, matches: &ArgMatches<'a>) -> Result<Request
 
 /// Where an outbox sends: into a folder, or to the output. One of both is said.
 fn outlet<'a>(matches: &ArgMatches<'a>) -> Result<Option<&'a str>, Refusal>
-    ensures { Gives (λ folder. option_map (λ text. text.now) folder) (outlet_of (rows_of (found_of matches.now))) result }
+    ensures { ReadsValue (λ folder. option_map (λ text. text.now) folder) (outlet_of (rows_of (found_of matches.now))) result }
 {
     let folder = said(matches, Argument::OutFolder);
     match (is_set(matches, Argument::Stream), folder) {
@@ -333,7 +333,7 @@ fn said<'a>(matches: &ArgMatches<'a>, argument: Argument) -> Option<&'a str>
 
 /// The request of `ill exchange`.
 fn exchange_request<'a>(alloc: Global, matches: &ArgMatches<'a>) -> Result<Request<'a>, Refusal>
-    ensures { Gives asked (asked_of names.Exchange (rows_of (found_of matches.now))) result }
+    ensures { ReadsValue asked (asked_of names.Exchange (rows_of (found_of matches.now))) result }
 {
     let file = text(alloc, matches, Argument::File)?;
     let incoming = text(alloc, matches, Argument::In)?;
@@ -356,7 +356,7 @@ fn exchange_request<'a>(alloc: Global, matches: &ArgMatches<'a>) -> Result<Reque
 
 /// The day of a night and what is said of it, if something is: then the day is there.
 fn dates(matches: &ArgMatches<'_>) -> Result<Option<(Day, Dates)>, Refusal>
-    ensures { Gives (λ dates. dates) (dates_of (rows_of (found_of matches.now))) result }
+    ensures { ReadsValue (λ dates. dates) (dates_of (rows_of (found_of matches.now))) result }
 {
     let today = day(matches, Argument::NightDay)?;
     let overdue = is_set(matches, Argument::Overdue);
@@ -372,7 +372,7 @@ fn dates(matches: &ArgMatches<'_>) -> Result<Option<(Day, Dates)>, Refusal>
 
 /// The request of `ill send`.
 fn send_request<'a>(alloc: Global, matches: &ArgMatches<'a>) -> Result<Request<'a>, Refusal>
-    ensures { Gives asked (asked_of names.Send (rows_of (found_of matches.now))) result }
+    ensures { ReadsValue asked (asked_of names.Send (rows_of (found_of matches.now))) result }
 {
     let file = text(alloc, matches, Argument::File)?;
     let txn = loan(alloc, matches)?;
@@ -382,7 +382,7 @@ fn send_request<'a>(alloc: Global, matches: &ArgMatches<'a>) -> Result<Request<'
 
 /// The request of `ill list`.
 fn list_request<'a>(alloc: Global, matches: &ArgMatches<'a>) -> Result<Request<'a>, Refusal>
-    ensures { Gives asked (asked_of names.List (rows_of (found_of matches.now))) result }
+    ensures { ReadsValue asked (asked_of names.List (rows_of (found_of matches.now))) result }
 {
     let paths = texts(alloc, matches, Argument::Paths)?;
     let wanted = match wanted(matches) {
@@ -398,7 +398,7 @@ fn list_request<'a>(alloc: Global, matches: &ArgMatches<'a>) -> Result<Request<'
 
 /// The request of `ill status`.
 fn status_request<'a>(alloc: Global, matches: &ArgMatches<'a>) -> Result<Request<'a>, Refusal>
-    ensures { Gives asked (asked_of names.Status (rows_of (found_of matches.now))) result }
+    ensures { ReadsValue asked (asked_of names.Status (rows_of (found_of matches.now))) result }
 {
     let file = text(alloc, matches, Argument::File)?;
     let form = form(matches);
@@ -407,7 +407,7 @@ fn status_request<'a>(alloc: Global, matches: &ArgMatches<'a>) -> Result<Request
 
 /// The request of `ill loan`.
 fn loan_request<'a>(alloc: Global, matches: &ArgMatches<'a>) -> Result<Request<'a>, Refusal>
-    ensures { Gives asked (asked_of names.Loan (rows_of (found_of matches.now))) result }
+    ensures { ReadsValue asked (asked_of names.Loan (rows_of (found_of matches.now))) result }
 {
     let file = text(alloc, matches, Argument::File)?;
     let txn = loan(alloc, matches)?;
@@ -423,7 +423,7 @@ fn loan_request<'a>(alloc: Global, matches: &ArgMatches<'a>) -> Result<Request<'
 
 /// The request of `ill shelf retire`.
 fn retire_request<'a>(alloc: Global, matches: &ArgMatches<'a>) -> Result<Request<'a>, Refusal>
-    ensures { Gives asked (asked_of names.Retire (rows_of (found_of matches.now))) result }
+    ensures { ReadsValue asked (asked_of names.Retire (rows_of (found_of matches.now))) result }
 {
     let file = text(alloc, matches, Argument::File)?;
     let group = group(alloc, matches)?;
@@ -432,7 +432,7 @@ fn retire_request<'a>(alloc: Global, matches: &ArgMatches<'a>) -> Result<Request
 
 /// The group of an argument.
 fn group<'a>(alloc: Global, matches: &ArgMatches<'a>) -> Result<&'a str, Refusal>
-    ensures { Gives (λ group. group.now) (group_of (rows_of (found_of matches.now))) result }
+    ensures { ReadsValue (λ group. group.now) (group_of (rows_of (found_of matches.now))) result }
 {
     let group = text(alloc, matches, Argument::Group)?;
     if TxnId::is_qualifier(group.as_bytes()) {
@@ -444,7 +444,7 @@ fn group<'a>(alloc: Global, matches: &ArgMatches<'a>) -> Result<&'a str, Refusal
 
 /// The request of `ill verify`.
 fn verify_request<'a>(alloc: Global, matches: &ArgMatches<'a>) -> Result<Request<'a>, Refusal>
-    ensures { Gives asked (asked_of names.Verify (rows_of (found_of matches.now))) result }
+    ensures { ReadsValue asked (asked_of names.Verify (rows_of (found_of matches.now))) result }
 {
     let file = text(alloc, matches, Argument::File)?;
     Ok(Request::Verify { file })
@@ -452,7 +452,7 @@ fn verify_request<'a>(alloc: Global, matches: &ArgMatches<'a>) -> Result<Request
 
 /// The request of `ill report`.
 fn report_request<'a>(alloc: Global, matches: &ArgMatches<'a>) -> Result<Request<'a>, Refusal>
-    ensures { Gives asked (asked_of names.Report (rows_of (found_of matches.now))) result }
+    ensures { ReadsValue asked (asked_of names.Report (rows_of (found_of matches.now))) result }
 {
     let paths = texts(alloc, matches, Argument::Paths)?;
     let today = report_day(alloc, matches)?;
@@ -461,7 +461,7 @@ fn report_request<'a>(alloc: Global, matches: &ArgMatches<'a>) -> Result<Request
 
 /// The request of `ill simulate`.
 fn simulate_request<'a>(alloc: Global, matches: &ArgMatches<'a>) -> Result<Request<'a>, Refusal>
-    ensures { Gives asked (asked_of names.Simulate (rows_of (found_of matches.now))) result }
+    ensures { ReadsValue asked (asked_of names.Simulate (rows_of (found_of matches.now))) result }
 {
     let group = text(alloc, matches, Argument::Group)?;
     let transaction = text(alloc, matches, Argument::Transaction)?;
@@ -470,7 +470,7 @@ fn simulate_request<'a>(alloc: Global, matches: &ArgMatches<'a>) -> Result<Reque
 
 /// The role of a desk.
 fn role(alloc: Global, matches: &ArgMatches<'_>) -> Result<Who, Refusal>
-    ensures { Gives (λ role. role) (role_of (rows_of (found_of matches.now))) result }
+    ensures { ReadsValue (λ role. role) (role_of (rows_of (found_of matches.now))) result }
 {
     let word = text(alloc, matches, Argument::Role)?;
     match who(word.as_bytes()) {
@@ -481,7 +481,7 @@ fn role(alloc: Global, matches: &ArgMatches<'_>) -> Result<Who, Refusal>
 
 /// The transaction of a loan.
 fn loan(alloc: Global, matches: &ArgMatches<'_>) -> Result<TxnId, Refusal>
-    ensures { Gives (λ txn. txn) (loan_of (rows_of (found_of matches.now))) result }
+    ensures { ReadsValue (λ txn. txn) (loan_of (rows_of (found_of matches.now))) result }
 {
     let group = text(alloc, matches, Argument::Group)?;
     let transaction = text(alloc, matches, Argument::Transaction)?;
@@ -493,7 +493,7 @@ fn loan(alloc: Global, matches: &ArgMatches<'_>) -> Result<TxnId, Refusal>
 
 /// The loans that are listed.
 fn wanted(matches: &ArgMatches<'_>) -> Result<Wanted, Refusal>
-    ensures { Gives (λ wanted. wanted) (wanted_of (rows_of (found_of matches.now))) result }
+    ensures { ReadsValue (λ wanted. wanted) (wanted_of (rows_of (found_of matches.now))) result }
 {
     let which = which(matches);
     let today = day(matches, Argument::OnDay)?;
@@ -515,7 +515,7 @@ fn wanted(matches: &ArgMatches<'_>) -> Result<Wanted, Refusal>
 
 /// The state of an option, if one is said.
 fn state(matches: &ArgMatches<'_>) -> Result<Option<State>, Refusal>
-    ensures { Gives (λ state. state) (state_in (rows_of (found_of matches.now))) result }
+    ensures { ReadsValue (λ state. state) (state_in (rows_of (found_of matches.now))) result }
 {
     match matches.get_str(Argument::InState.id()) {
         Some(word) => match State::read(word.as_bytes()) {
@@ -528,7 +528,7 @@ fn state(matches: &ArgMatches<'_>) -> Result<Option<State>, Refusal>
 
 /// The day of an option, if one is said.
 fn day(matches: &ArgMatches<'_>, argument: Argument) -> Result<Option<Day>, Refusal>
-    ensures { Gives (λ day. day) (day_in argument (rows_of (found_of matches.now))) result }
+    ensures { ReadsValue (λ day. day) (day_in argument (rows_of (found_of matches.now))) result }
 {
     match matches.get_str(argument.id()) {
         Some(word) => match Day::read(word.as_bytes()) {
@@ -541,7 +541,7 @@ fn day(matches: &ArgMatches<'_>, argument: Argument) -> Result<Option<Day>, Refu
 
 /// The day of a report.
 fn report_day(alloc: Global, matches: &ArgMatches<'_>) -> Result<Day, Refusal>
-    ensures { Gives (λ today. today) (report_day_of (rows_of (found_of matches.now))) result }
+    ensures { ReadsValue (λ today. today) (report_day_of (rows_of (found_of matches.now))) result }
 {
     let word = text(alloc, matches, Argument::ReportDay)?;
     match Day::read(word.as_bytes()) {
@@ -586,7 +586,7 @@ fn is_set(matches: &ArgMatches<'_>, flag: Argument) -> bool
 
 /// The number of a message.
 fn message_number(alloc: Global, matches: &ArgMatches<'_>) -> Result<Number, Refusal>
-    ensures { Gives (λ number. number) (number_of_message (rows_of (found_of matches.now))) result }
+    ensures { ReadsValue (λ number. number) (number_of_message (rows_of (found_of matches.now))) result }
 {
     let word = text(alloc, matches, Argument::Number)?;
     match number(word.as_bytes()) {
@@ -601,7 +601,7 @@ fn texts<'a>(
     matches: &ArgMatches<'a>,
     argument: Argument,
 ) -> Result<Vec<&'a str>, Refusal>
-    ensures { Gives (λ texts. map (λ text. text.now) texts.items)
+    ensures { ReadsValue (λ texts. map (λ text. text.now) texts.items)
         (texts_of argument (rows_of (found_of matches.now))) result }
 {
     match matches.get_strs(argument.id()) {
@@ -615,7 +615,7 @@ fn texts<'a>(
 
 /// The text of an argument that a command has to have.
 fn text<'a>(alloc: Global, matches: &ArgMatches<'a>, argument: Argument) -> Result<&'a str, Refusal>
-    ensures { Gives (λ text. text.now) (text_of argument (rows_of (found_of matches.now))) result }
+    ensures { ReadsValue (λ text. text.now) (text_of argument (rows_of (found_of matches.now))) result }
 {
     match matches.get_str(argument.id()) {
         Some(text) => Ok(text),

@@ -51,6 +51,6 @@ abbrev pub item_of : List ℕ → Result (List ℕ) TextFault
 item_of text = item_check text >>= λ _. Ok text
 
 -- Holds if a call returned the fault, or else the value or OutOfMemory.
-abbrev pub Gives : {V : Type 0} → Result V TextFault → Result V TextFault → Type 0
-Gives (Err fault) result = result ≡ Err fault
-Gives (Ok value) result = MatchResult result (λ made. made ≡ value) (λ fault. fault ≡ OutOfMemory)
+abbrev pub MakesText : {V : Type 0} → Result V TextFault → Result V TextFault → Type 0
+MakesText (Err fault) result = result ≡ Err fault
+MakesText (Ok value) result = MatchResult result (λ made. made ≡ value) (λ fault. fault ≡ OutOfMemory)

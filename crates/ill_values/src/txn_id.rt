@@ -5,7 +5,7 @@ ghost use Rattle.std.specs.Str.{bytes_eq};
 ghost use Rattle.std.specs.Hash as fed;
 ghost use Rattle.std.specs.Cmp.Rules.{comparing, hashing};
 ghost use Rattle.std.proofs.Common.{rules};
-ghost use Rattle.ill_values.specs.Text.{qualifier_check, Gives};
+ghost use Rattle.ill_values.specs.Text.{qualifier_check, MakesText};
 ghost use Rattle.ill_values.specs.TxnId.{Qualifiers, AreQualifiers, txn_id_of};
 
 use crate::fault::TextFault;
@@ -61,7 +61,7 @@ impl TxnId {
     /// Returns the id with these qualifiers, on its own memory, or the first fault: of the group, then of
     /// the transaction, then out of memory.
     pub fn new(alloc: Global, group: &[u8], transaction: &[u8]) -> Result<TxnId, TextFault>
-        ensures { Gives (txn_id_of group.now transaction.now) result }
+        ensures { MakesText (txn_id_of group.now transaction.now) result }
     {
         check_qualifier(group)?;
         check_qualifier(transaction)?;

@@ -9,7 +9,7 @@ use Rattle.ill_world.specs.declared.event.Event.TheVariants as events
 use Rattle.ill_world.specs.declared.event.Outcome.{Outcome}
 use Rattle.ill_world.specs.World.{Party, Parties, TwoOf, happens_at, first_party, first_world, party, with_party, who_of, happens_to, happens}
 use Rattle.ill_saved.specs.Side.{idle_side, other}
-use Rattle.ill_world.specs.PartyView.{Gives}
+use Rattle.ill_world.specs.PartyView.{GivesOutcome}
 use Rattle.ill_world.specs.Invariant.{Invariant}
 use Rattle.ill_world.specs.Agreement.{KeepsDates}
 
@@ -31,26 +31,26 @@ stays_whole w who.Responder = refl
 
 -- what one of two gives, both give
 pub both_give : {M O P : Type 0} (happening : P → P → O × P) (w : TwoOf P) (at of : Who) (result : Result O M) (new : P) → at ≡ of
-    → Gives (happening (party w of) (party w (other of))) (party w of) result new → Gives (happens_at w at happening) w result (with_party w of new)
+    → GivesOutcome (happening (party w of) (party w (other of))) (party w of) result new → GivesOutcome (happens_at w at happening) w result (with_party w of new)
 both_give {O = O} {P = P} happening w at of (Ok outcome) new is gives = ap (λ o. happens_at w o happening) is ∙ ap (λ (after : O × P). (after.0, with_party w of after.1)) gives
 both_give happening w at of (Err memory) new is same = ap (with_party w of) same ∙ stays_whole w of
 
 pub world_gives : {M : Type 0} → (w : Parties) (event : Event) (of : Who) (result : Result Outcome M) (new : Party) → who_of event ≡ of
-    → Gives (happens_to (party w of) (party w (other of)).sent event) (party w of) result new → Gives (happens w event) w result (with_party w of new)
+    → GivesOutcome (happens_to (party w of) (party w (other of)).sent event) (party w of) result new → GivesOutcome (happens w event) w result (with_party w of new)
 world_gives w event of result new is gives = both_give (λ (p : Party) (partner : Party). happens_to p partner.sent event) w (who_of event) of result new is gives
 
 -- what held before holds after, where it does after what is given
-pub given_keeps : {M O P : Type 0} (F : P → Type 0) (expected : O × P) (old new : P) (result : Result O M) → Gives expected old result new → F old → F expected.1 → F new
+pub given_keeps : {M O P : Type 0} (F : P → Type 0) (expected : O × P) (old new : P) (result : Result O M) → GivesOutcome expected old result new → F old → F expected.1 → F new
 given_keeps {O = O} {P = P} F expected old new (Ok outcome) gives before after = subst (λ (x : O × P). F x.1) gives after
 given_keeps F expected old new (Err memory) same before after = subst F (sym same) before
 
 pub still_stands : {M : Type 0} → (txn : Qualifiers) (w new : Parties) (event : Event) (result : Result Outcome M) → ((w : Parties) (event : Event) → Invariant txn w → Invariant txn (happens w event).1)
-    → Gives (happens w event) w result new → Invariant txn w → Invariant txn new
+    → GivesOutcome (happens w event) w result new → Invariant txn w → Invariant txn new
 still_stands txn w new event result after gives stands = given_keeps (Invariant txn) (happens w event) w new result gives stands (after w event stands)
 
 pub same_dates : (w : Parties) (event : Event) → KeepsDates w event w
 same_dates w (events.Restart who.Requester) = (tt, inr (inl refl))
 same_dates w event = (inr (inl refl), inr (inl refl))
 
-pub dates_of : {M : Type 0} → (w new : Parties) (event : Event) (result : Result Outcome M) → KeepsDates w event (happens w event).1 → Gives (happens w event) w result new → KeepsDates w event new
+pub dates_of : {M : Type 0} → (w new : Parties) (event : Event) (result : Result Outcome M) → KeepsDates w event (happens w event).1 → GivesOutcome (happens w event) w result new → KeepsDates w event new
 dates_of w new event result keeps gives = given_keeps (KeepsDates w event) (happens w event) w new result gives (same_dates w event) keeps

@@ -56,6 +56,6 @@ pub record IsReady (desk : DeskOf MemoryStoreState) : Type 0 where
 
 -- what a party answers to an event, and the party after it: as expected, or nothing has changed for
 -- want of memory
-abbrev pub Gives : {O M P : Type 0} → O × P → P → Result O M → P → Type 0
-Gives expected old (Ok outcome) new = expected ≡ (outcome, new)
-Gives expected old (Err memory) new = new ≡ old
+abbrev pub GivesOutcome : {O M P : Type 0} → O × P → P → Result O M → P → Type 0
+GivesOutcome expected old (Ok outcome) new = expected ≡ (outcome, new)
+GivesOutcome expected old (Err memory) new = new ≡ old

@@ -7,7 +7,7 @@ ghost use Rattle.ill_world.specs.World as model;
 ghost use Rattle.ill_world.specs.Desks as desks;
 ghost use Rattle.ill_world.specs.declared.event.DeskOutcome.TheVariants as desk_outcomes;
 ghost use Rattle.ill_world.specs.declared.event.Outcome.TheVariants as outcomes;
-ghost use Rattle.ill_world.specs.PartyView.{Gives};
+ghost use Rattle.ill_world.specs.PartyView.{GivesOutcome};
 ghost use Rattle.ill_world.specs.Trace.{desk_shown};
 ghost use Rattle.ill_world.specs.DeskView.{desk_party_of, CanBeSeen, FaultSeen, IsReadyDesk};
 
@@ -59,7 +59,7 @@ impl DeskParty {
         txn: &TxnId,
         action: &Action,
     ) -> Result<DeskOutcome, OutOfMemory>
-        ensures { Gives (desks.desk_decides self.old (desk_acts self.old.live txn.now action.now))
+        ensures { GivesOutcome (desks.desk_decides self.old (desk_acts self.old.live txn.now action.now))
             self.old result self.new }
     {
         match self.desk.act(alloc, txn, action) {
@@ -70,7 +70,7 @@ impl DeskParty {
 
     /// Takes a message of the other desk.
     pub fn take(&mut self, alloc: Global, message: &Message) -> Result<DeskOutcome, OutOfMemory>
-        ensures { Gives (desks.desk_takes_message self.old message.now) self.old result self.new }
+        ensures { GivesOutcome (desks.desk_takes_message self.old message.now) self.old result self.new }
     {
         match self.desk.take_bytes(alloc, message.bytes()) {
             Ok(taking) => Ok(DeskOutcome::Plain(Outcome::Answered(taking))),
@@ -80,7 +80,7 @@ impl DeskParty {
 
     /// Saves the desk.
     pub fn save(&mut self, alloc: Global) -> Result<DeskOutcome, OutOfMemory>
-        ensures { Gives (desk_outcomes.Plain outcomes.Saved, desks.desk_saves self.old)
+        ensures { GivesOutcome (desk_outcomes.Plain outcomes.Saved, desks.desk_saves self.old)
             self.old result self.new }
     {
         sides_read_again();
@@ -93,7 +93,7 @@ impl DeskParty {
 
     /// Tries to save the desk, and fails: the new record has landed, or it has not.
     pub fn fail_to_save(&mut self, alloc: Global, landed: bool) -> Result<DeskOutcome, OutOfMemory>
-        ensures { Gives (desk_outcomes.Plain outcomes.Faulted, desks.desk_fails_to_save self.old landed)
+        ensures { GivesOutcome (desk_outcomes.Plain outcomes.Faulted, desks.desk_fails_to_save self.old landed)
             self.old result self.new }
     {
         sides_read_again();
@@ -114,7 +114,7 @@ impl DeskParty {
 
     /// Begins again from what has landed.
     pub fn restart(&mut self, alloc: Global) -> Result<DeskOutcome, OutOfMemory>
-        ensures { Gives (desk_outcomes.Plain outcomes.Restarted, desks.desk_restarts self.old)
+        ensures { GivesOutcome (desk_outcomes.Plain outcomes.Restarted, desks.desk_restarts self.old)
             self.old result self.new }
     {
         match self.desk.restart(alloc) {
@@ -131,7 +131,7 @@ impl DeskParty {
         txn: &TxnId,
         number: Number,
     ) -> Result<DeskOutcome, OutOfMemory>
-        ensures { Gives (desks.desk_sends self.old txn.now number
+        ensures { GivesOutcome (desks.desk_sends self.old txn.now number
             (found_by txn_held txn.now self.old.live.held)) self.old result self.new }
     {
         match self.desk.message(alloc, txn, number) {

@@ -8,7 +8,7 @@ ghost use Rattle.ill_world.specs.Desks as model;
 ghost use Rattle.ill_world.specs.Desks.{plain, project, Projects};
 ghost use Rattle.ill_world.specs.Agreement.{KeepsDates};
 ghost use Rattle.ill_world.specs.DeskSafety.{DesksStand, ArrivesAt, IsRunOfEach, IsSafeDeskRun, IsAgreeingDeskRun};
-ghost use Rattle.ill_world.specs.PartyView.{Gives};
+ghost use Rattle.ill_world.specs.PartyView.{GivesOutcome};
 ghost use Rattle.ill_world.specs.Trace.{desk_line};
 ghost use Rattle.ill_world.specs.Round.{Performs, CanAnswer, AreInStep};
 ghost use Rattle.ill_world.specs.DeskRound.{passes_side, saves_and_passes, desk_half_of, desk_round_of};
@@ -61,7 +61,7 @@ impl DeskWorld {
     /// `Deliver` of the message that ended a request leads the requester's side to its outcome, and one of a
     /// Returned the responder's to RETURNED, or the item is checked in.
     pub fn step(&mut self, alloc: Global, event: &DeskEvent) -> Result<DeskOutcome, OutOfMemory>
-        ensures gives { Gives (model.desks_happen self.old event.now) self.old result self.new }
+        ensures gives { GivesOutcome (model.desks_happen self.old event.now) self.old result self.new }
         ensures projects { (txn : Qualifiers) → Projects txn self.old event.now }
         ensures dates { (txn : Qualifiers) →
             KeepsDates (project txn self.old) (plain event.now) (project txn self.new) }
@@ -218,7 +218,7 @@ fn happen(
     alloc: Global,
     event: &DeskEvent,
 ) -> Result<DeskOutcome, OutOfMemory>
-    ensures { Gives
+    ensures { GivesOutcome
         (model.desks_happen (record { requester = requester.old; responder = responder.old }) event.now)
         (record { requester = requester.old; responder = responder.old }) result
         (record { requester = requester.new; responder = responder.new }) }
@@ -236,7 +236,7 @@ fn perform(
     alloc: Global,
     event: &DeskEvent,
 ) -> Result<DeskOutcome, OutOfMemory>
-    ensures { Gives (model.desk_happens_to party.old other.now.sent event.now)
+    ensures { GivesOutcome (model.desk_happens_to party.old other.now.sent event.now)
         party.old result party.new }
 {
     match event {

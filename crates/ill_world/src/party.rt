@@ -7,7 +7,7 @@ ghost use Rattle.ill_saved.specs.Side.{acts, issued_of, idle_of, txn_of};
 ghost use Rattle.ill_world.specs.World as model;
 ghost use Rattle.ill_world.specs.declared.event.Outcome.TheVariants as outcomes;
 ghost use Rattle.ill_world.specs.Trace.{party_shown};
-ghost use Rattle.ill_world.specs.PartyView.{party_of, IsReady, Gives, is_of};
+ghost use Rattle.ill_world.specs.PartyView.{party_of, IsReady, GivesOutcome, is_of};
 
 use crate::event::Outcome;
 use crate::message::Message;
@@ -51,7 +51,7 @@ impl Party {
 
     /// Does what the library decides.
     pub fn act(&mut self, alloc: Global, action: &Action) -> Result<Outcome, OutOfMemory>
-        ensures { Gives (model.decides self.old (acts self.old.live action.now))
+        ensures { GivesOutcome (model.decides self.old (acts self.old.live action.now))
             self.old result self.new }
     {
         rows_grow();
@@ -65,7 +65,7 @@ impl Party {
 
     /// Takes a message of the other side.
     pub fn take(&mut self, alloc: Global, message: &Message) -> Result<Outcome, OutOfMemory>
-        ensures { Gives (model.takes_message self.old message.now) self.old result self.new }
+        ensures { GivesOutcome (model.takes_message self.old message.now) self.old result self.new }
     {
         rows_grow();
         match self.desk.take_bytes(alloc, message.bytes()) {
@@ -78,7 +78,7 @@ impl Party {
 
     /// Saves the side.
     pub fn save(&mut self, alloc: Global) -> Result<Outcome, OutOfMemory>
-        ensures { Gives (outcomes.Saved, model.saves self.old) self.old result self.new }
+        ensures { GivesOutcome (outcomes.Saved, model.saves self.old) self.old result self.new }
     {
         read_again();
         match self.desk.save(alloc) {
@@ -90,7 +90,7 @@ impl Party {
 
     /// Tries to save the side, and fails: the new record has landed, or it has not.
     pub fn fail_to_save(&mut self, alloc: Global, landed: bool) -> Result<Outcome, OutOfMemory>
-        ensures { Gives (outcomes.Faulted, model.fails_to_save self.old landed)
+        ensures { GivesOutcome (outcomes.Faulted, model.fails_to_save self.old landed)
             self.old result self.new }
     {
         read_again();
@@ -111,7 +111,7 @@ impl Party {
 
     /// Begins again from what has landed.
     pub fn restart(&mut self, alloc: Global) -> Result<Outcome, OutOfMemory>
-        ensures { Gives (outcomes.Restarted, model.restarts self.old)
+        ensures { GivesOutcome (outcomes.Restarted, model.restarts self.old)
             self.old result self.new }
     {
         match self.desk.restart(alloc) {
@@ -123,7 +123,7 @@ impl Party {
 
     /// Sends the message with this number.
     pub fn send(&mut self, alloc: Global, number: Number) -> Result<Outcome, OutOfMemory>
-        ensures { Gives (model.sends self.old number (message (issued_of self.old.live) number)
+        ensures { GivesOutcome (model.sends self.old number (message (issued_of self.old.live) number)
             (nat_le number self.old.released)) self.old result self.new }
     {
         match self.desk.message(alloc, number) {
@@ -140,7 +140,7 @@ impl Party {
 
     /// Is handed other bytes. An APDU of the transaction would be forged, and is not handed on.
     pub fn hear(&mut self, alloc: Global, bytes: &[u8]) -> Result<Outcome, OutOfMemory>
-        ensures { Gives (model.hears self.old (apdu_at bytes.now), self.old)
+        ensures { GivesOutcome (model.hears self.old (apdu_at bytes.now), self.old)
             self.old result self.new }
     {
         if self.is_forged(alloc, bytes)? {
@@ -163,7 +163,7 @@ impl Party {
     /// Is handed bytes that are no APDU of this transaction.
     fn refuse(&mut self, alloc: Global, bytes: &[u8]) -> Result<Outcome, OutOfMemory>
         requires other { is_of (txn_of self.old.live) (apdu_at bytes.now) ≡ false }
-        ensures { Gives (model.hears self.old (apdu_at bytes.now), self.old)
+        ensures { GivesOutcome (model.hears self.old (apdu_at bytes.now), self.old)
             self.old result self.new }
     {
         match self.desk.take_bytes(alloc, bytes) {

@@ -8,7 +8,7 @@ ghost use Rattle.ill_world.specs.Trace.{line};
 ghost use Rattle.ill_world.specs.Safety.{IsSafeRun};
 ghost use Rattle.ill_world.specs.Agreement.{IsAgreeingRun, KeepsDates, Arrives};
 ghost use Rattle.ill_world.specs.Invariant.{Invariant};
-ghost use Rattle.ill_world.specs.PartyView.{Gives};
+ghost use Rattle.ill_world.specs.PartyView.{GivesOutcome};
 ghost use Rattle.ill_world.specs.Round.{passes_on, half_of, round_of, Performs, CanAnswer, AreInStep};
 ghost use Rattle.ill_world.specs.declared.event.Event.TheVariants.{Save};
 
@@ -65,7 +65,7 @@ impl World {
     /// the requester to its outcome, and one of a Returned the responder to RETURNED, or the item is
     /// checked in.
     pub fn step(&mut self, alloc: Global, event: &Event) -> Result<Outcome, OutOfMemory>
-        ensures gives { Gives (model.happens self.old event.now) self.old result self.new }
+        ensures gives { GivesOutcome (model.happens self.old event.now) self.old result self.new }
         ensures dates { KeepsDates self.old event.now self.new }
         ensures arrives { Arrives self.old event.now }
     {
@@ -212,7 +212,7 @@ fn perform(
     alloc: Global,
     event: &Event,
 ) -> Result<Outcome, OutOfMemory>
-    ensures { Gives (model.happens_to party.old other.now.sent event.now)
+    ensures { GivesOutcome (model.happens_to party.old other.now.sent event.now)
         party.old result party.new }
 {
     match event {

@@ -2,7 +2,7 @@ use Rattle.std.proofs.Common.{sym, ◌∙◌, subst}
 use Rattle.ill_saved.specs.declared.role.Role.TheVariants as who
 use Rattle.ill_world.specs.World.{Parties, happens}
 use Rattle.ill_world.specs.Agreement.{KeepsDates, Arrives}
-use Rattle.ill_world.specs.PartyView.{Gives}
+use Rattle.ill_world.specs.PartyView.{GivesOutcome}
 use Rattle.ill_world.proofs.Worlds.{world_gives, still_stands, dates_of}
 use Rattle.ill_world.proofs.world.World.step.Goals as goal
 
@@ -20,7 +20,7 @@ returns-in-Requester-clause-gives c =
     let new : Parties = record { requester = c.perform.new.party; responder = c.self.inside.responder } in
     let event = c.args.event.now in
     let gives = world_gives w event who.Requester c.perform.result c.perform.new.party (sym c.who.ensures ∙ c.in-Requester.is) c.perform.ensures in
-    subst (λ v. Gives (happens v event) v c.perform.result new) c.self.view_is gives
+    subst (λ v. GivesOutcome (happens v event) v c.perform.result new) c.self.view_is gives
 
 pub returns-in-Requester-clause-dates : goal.returns-in-Requester-clause-dates
 returns-in-Requester-clause-dates c =
@@ -49,7 +49,7 @@ returns-in-Responder-clause-gives c =
     let new : Parties = record { requester = c.self.inside.requester; responder = c.perform-in-Responder.new.party } in
     let event = c.args.event.now in
     let gives = world_gives w event who.Responder c.perform-in-Responder.result c.perform-in-Responder.new.party (sym c.who.ensures ∙ c.in-Responder.is) c.perform-in-Responder.ensures in
-    subst (λ v. Gives (happens v event) v c.perform-in-Responder.result new) c.self.view_is gives
+    subst (λ v. GivesOutcome (happens v event) v c.perform-in-Responder.result new) c.self.view_is gives
 
 pub returns-in-Responder-clause-dates : goal.returns-in-Responder-clause-dates
 returns-in-Responder-clause-dates c =

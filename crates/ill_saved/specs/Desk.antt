@@ -50,11 +50,11 @@ IsBacked landed live released = IsBackedByRead (landed_side landed live) live re
 
 -- States the answer to `action` and the side after it. A refusal changes nothing.
 -- Only an action that would be done can run out of memory, and then nothing changes.
-abbrev pub DeskActs : Side → Action → Result (Unit {0}) DeskFault → Side → Type 0
-DeskActs old action (Ok done) new = acts old action ≡ Ok new
-DeskActs old action (Err (Core refusal)) new = (acts old action ≡ Err refusal) × (new ≡ old)
-DeskActs old action (Err OutOfMemory) new = (is_ok (acts old action) ≡ true) × (new ≡ old)
-DeskActs old action (Err other) new = ⊥
+abbrev pub OneSideActs : Side → Action → Result (Unit {0}) DeskFault → Side → Type 0
+OneSideActs old action (Ok done) new = acts old action ≡ Ok new
+OneSideActs old action (Err (Core refusal)) new = (acts old action ≡ Err refusal) × (new ≡ old)
+OneSideActs old action (Err OutOfMemory) new = (is_ok (acts old action) ≡ true) × (new ≡ old)
+OneSideActs old action (Err other) new = ⊥
 
 -- States the answer to APDU `a` and the side after it. Memory can run out only if the side takes memory for `a`.
 abbrev pub DeskTakesApdu : Side → Apdu → Result Taking DeskFault → Side → Type 0

@@ -5,7 +5,7 @@ ghost use Rattle.ill_core.specs.Issued.{message};
 ghost use Rattle.ill_saved.specs.Side.{issued_of, idle_of, IsConsistent};
 ghost use Rattle.ill_saved.specs.Records.{record_spelling, record_at, begins_as_record, Decodes};
 ghost use Rattle.ill_saved.specs.Ranges.{IsSide};
-ghost use Rattle.ill_saved.specs.Desk.{DeskOf, IsBacked, DeskActs, DeskTakes, DeskTakesApdu, IsOneApdu, Sends, released_after, DeskSaves, IsSaveFault, landed_side, LoadsSide, IsLoadFault, Restarts, RestartLeaves, answer_of, store_of, Creates, IsCreateAnswer, Starts, IsStartAnswer, IsWhole, DeskLoads, WasSpelled};
+ghost use Rattle.ill_saved.specs.Desk.{DeskOf, IsBacked, OneSideActs, DeskTakes, DeskTakesApdu, IsOneApdu, Sends, released_after, DeskSaves, IsSaveFault, landed_side, LoadsSide, IsLoadFault, Restarts, RestartLeaves, answer_of, store_of, Creates, IsCreateAnswer, Starts, IsStartAnswer, IsWhole, DeskLoads, WasSpelled};
 ghost use Rattle.ill_saved.specs.Kept.{Keeps, IsKept};
 ghost use Rattle.ill_saved.specs.Loading.{LoadsRecord, LoadsOrIdle, side_loaded};
 ghost use Rattle.ill_der.specs.ShortForm.{apdu_at};
@@ -104,7 +104,7 @@ impl<S: Store> Desk1<S> {
 
     /// Performs `action`. The message that it issues may be sent after the next `save`.
     pub fn act(&mut self, alloc: Global, action: &Action) -> Result<(), DeskFault>
-        ensures acts { DeskActs self.old.live action.now result self.new.live }
+        ensures acts { OneSideActs self.old.live action.now result self.new.live }
         ensures store { self.new.store ≡ self.old.store }
         ensures released { self.new.released ≡ self.old.released }
     {

@@ -11,8 +11,7 @@ use crate::apdu_view::{ApduView, BodyView};
 use crate::cursor::Cursor;
 use crate::fault::DerFault;
 use crate::header::header_at;
-use crate::laws::prefix_or_fault;
-use crate::tags;
+use crate::{laws, tags};
 use ill_values::{Apdu, ApduType, Day, Number};
 use std::alloc::Global;
 
@@ -48,7 +47,7 @@ pub fn view(bytes: &[u8]) -> Result<(ApduView<'_>, usize), DerFault>
     ensures most { IfOk result (λ found. found.1 ≤ 359) }
     ensures memory { IfErr result (λ fault. fault ≢ OutOfMemory) }
 {
-    prefix_or_fault();
+    laws::prefix_or_fault();
     match outer_at(bytes) {
         Ok(mut outer) => match inside_of(outer.apdu_type, &mut outer.inside) {
             Ok(apdu) => Ok((apdu, outer.size)),

@@ -11,7 +11,7 @@ use crate::apdu_view::ApduView;
 use crate::fault::DerFault;
 use crate::handling::{Handler, handle_all, handle_first};
 use crate::header::APDU_LIMIT;
-use crate::laws::{read_again, short_has_the_size};
+use crate::laws;
 use ill_values::{Apdu, OutOfMemory};
 use std::alloc::Global;
 use std::marker::Model;
@@ -124,8 +124,8 @@ impl Feed {
         ensures { HandlesEach H.handles self.old piece.now (handler.old, context.old) result self.new
             (handler.new, context.new) }
     {
-        read_again();
-        short_has_the_size();
+        laws::read_again();
+        laws::short_has_the_size();
         if self.size == 0 {
             return self.go_on(piece, context, handler);
         }
@@ -175,7 +175,7 @@ impl Feed {
         ensures leaves { Leaves rest.now self.new }
         ensures fault { result ≡ fault_of self.new }
     {
-        short_has_the_size();
+        laws::short_has_the_size();
         match closing(fault) {
             None => {
                 self.size = fill(&mut self.buffer, 0, rest);

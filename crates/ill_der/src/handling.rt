@@ -7,7 +7,7 @@ ghost use Rattle.ill_der.specs.FeedView.{HandlesFirst, HandlesAll};
 use crate::apdu_view::ApduView;
 use crate::decoding::view;
 use crate::fault::DerFault;
-use crate::laws::prefix_or_fault;
+use crate::laws;
 use std::alloc::Global;
 
 /// Handles each APDU of some bytes. Beside itself it has a context that the caller lends, such as a
@@ -40,7 +40,7 @@ pub fn handle_first<C, H: Handler<C>>(
     ensures { HandlesFirst H.handles bytes.now (handler.old, context.old) result
         (handler.new, context.new) }
 {
-    prefix_or_fault();
+    laws::prefix_or_fault();
     match view(bytes) {
         Ok((apdu, size)) => match handler.handle(alloc, context, &apdu) {
             Ok(()) => Ok(Ok(size)),

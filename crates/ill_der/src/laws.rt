@@ -13,16 +13,14 @@ ghost use Rattle.std.specs.List.{concat};
 ghost use Rattle.ill_der.specs.Feed.{Unread, Feeds, FeedsAll};
 ghost use Rattle.ill_der.specs.Laws.{IsBytes, BeginsWithOne};
 
-use ill_values::laws::{date_texts, text_sizes};
-
 /// An APDU is read from its encoding, whatever follows. So `decode` returns the APDU that `encode`
 /// encoded.
 pub fn read_again()
     ensures { (apdu : Apdu) (rest : List ℕ) → IsApdu apdu →
         apdu_at (spelling apdu ++ rest) ≡ Ok (apdu, rest) }
 {
-    date_texts();
-    text_sizes();
+    ill_values::laws::date_texts();
+    ill_values::laws::text_sizes();
 }
 
 /// No bytes are the encoding of two APDUs.
@@ -45,8 +43,8 @@ pub fn longest()
     ensures most { (apdu : Apdu) → IsApdu apdu → length (spelling apdu) ≤ 359 }
     ensures reached { (apdu : Apdu) × IsApdu apdu × (length (spelling apdu) ≡ 359) }
 {
-    date_texts();
-    text_sizes();
+    ill_values::laws::date_texts();
+    ill_values::laws::text_sizes();
 }
 
 /// The longest encoding of an APDU that is no ILL-Request has 162 bytes.
@@ -56,16 +54,16 @@ pub fn shorter()
     ensures reached { (apdu : Apdu) × IsApdu apdu × (type_of apdu.body ≡ IllRequest → ⊥)
         × (length (spelling apdu) ≡ 162) }
 {
-    date_texts();
-    text_sizes();
+    ill_values::laws::date_texts();
+    ill_values::laws::text_sizes();
 }
 
 /// Bytes begin with the encoding of exactly one APDU, or they begin with none and have a fault.
 pub fn prefix_or_fault()
     ensures { (bytes : List ℕ) → IsBytes bytes → BeginsWithOne bytes (apdu_at bytes) }
 {
-    date_texts();
-    text_sizes();
+    ill_values::laws::date_texts();
+    ill_values::laws::text_sizes();
 }
 
 /// A fault other than Short is the fault of the bytes followed by anything.
@@ -79,8 +77,8 @@ pub fn short_has_the_size()
     ensures { (bytes : List ℕ) (n : ℕ) → apdu_at bytes ≡ Err (Short n) →
         (n ≡ length bytes) × (n ≤ 358) }
 {
-    date_texts();
-    text_sizes();
+    ill_values::laws::date_texts();
+    ill_values::laws::text_sizes();
 }
 
 /// Two pushes, one after the other, give the APDUs and the feed of one push of both pieces.

@@ -9,7 +9,6 @@ use crate::fault::{DerFault, ReadFault};
 use crate::header::{APDU_LIMIT, header_at};
 use crate::steps::Steps;
 use ill_values::Apdu;
-use ill_values::laws::{date_texts, text_sizes};
 use std::alloc::Global;
 use std::io::Read;
 use std::marker::Brand;
@@ -100,8 +99,8 @@ fn judge(alloc: Global, bytes: &[u8]) -> Result<Option<Apdu>, ReadFault>
     requires enough { missing_of bytes.now ≡ 0 }
     ensures { IsJudged bytes.now result }
 {
-    date_texts();
-    text_sizes();
+    ill_values::laws::date_texts();
+    ill_values::laws::text_sizes();
     let (apdu, _) = decode(alloc, bytes)?;
     Ok(Some(apdu))
 }

@@ -13,13 +13,12 @@ ghost use Rattle.ill_der.specs.ShortForm.{apdu_at};
 use crate::decoding::decode_record;
 use crate::fault::{DeskFault, RecordFault};
 use crate::kept::KeptRecord;
-use crate::laws::{read_again, rows_grow, rows_keep_request, spelled};
+use crate::laws;
 use crate::memory_store::MemoryStore;
 use crate::side::{Action, Side};
 use crate::store::{NextCall, Store};
 use ill_core::Taking;
 use ill_der::decode;
-use ill_der::laws::prefix_or_fault;
 use ill_values::{Apdu, Number, OutOfMemory};
 use std::alloc::Global;
 use std::marker::Model;
@@ -108,8 +107,8 @@ impl<S: Store> Desk1<S> {
         ensures store { self.new.store ≡ self.old.store }
         ensures released { self.new.released ≡ self.old.released }
     {
-        rows_grow();
-        rows_keep_request();
+        laws::rows_grow();
+        laws::rows_keep_request();
         Ok(self.live.act(alloc, action)?)
     }
 
@@ -129,8 +128,8 @@ impl<S: Store> Desk1<S> {
         ensures store { self.new.store ≡ self.old.store }
         ensures released { self.new.released ≡ self.old.released }
     {
-        rows_grow();
-        rows_keep_request();
+        laws::rows_grow();
+        laws::rows_keep_request();
         Ok(self.live.take(alloc, apdu)?)
     }
 
@@ -145,7 +144,7 @@ impl<S: Store> Desk1<S> {
         ensures side { WasSpelled result self.old.live }
         ensures faults { IsSaveFault result }
     {
-        read_again();
+        laws::read_again();
         let record = self.kept.next(alloc, &self.live, self.released)?;
         self.store.save(alloc, record.bytes())?;
         self.released = self.live.issued_count();
@@ -162,7 +161,7 @@ impl<S: Store> Desk1<S> {
         ensures leaves { RestartLeaves result self.old self.new }
         ensures store { DeskLoads (S.state self.old.store) result (S.state self.new.store) }
     {
-        read_again();
+        laws::read_again();
         let bytes = self.store.load(alloc)?;
         if self.kept.take_back(&bytes, self.released, &mut self.live) {
             return Ok(());
@@ -227,7 +226,7 @@ impl Desk1<MemoryStore> {
 pub(crate) fn one_apdu(alloc: Global, bytes: &[u8]) -> Result<Apdu, DeskFault>
     ensures { IsOneApdu (apdu_at bytes.now) result }
 {
-    prefix_or_fault();
+    ill_der::laws::prefix_or_fault();
     match decode(alloc, bytes)? {
         (apdu, size) if size == bytes.len() => Ok(apdu),
         _ => Err(DeskFault::Trailing),
@@ -263,7 +262,7 @@ fn read_side(alloc: Global, bytes: &[u8]) -> Result<Side, RecordFault>
     ensures decodes { Decodes (record_at bytes.now) (begins_as_record bytes.now) result }
     ensures spelled { IfOk result (λ side. IsSide side × (bytes.now ≡ record_spelling side)) }
 {
-    spelled();
+    laws::spelled();
     decode_record(alloc, bytes)
 }
 

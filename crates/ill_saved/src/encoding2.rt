@@ -7,7 +7,7 @@ ghost use Rattle.ill_saved.specs.Records2.{two_octets, part, sides_spelling, Are
 ghost use Rattle.ill_saved.specs.Ranges.{Each, IsSide};
 
 use crate::encoding::push_record;
-use crate::laws::record_is_short;
+use crate::laws;
 use crate::role::Role;
 use crate::side::Side;
 use crate::sides::Sides;
@@ -53,7 +53,7 @@ fn push_part(bytes: &mut Vec<u8>, record: &mut Vec<u8>, side: &Side) -> Result<(
     ensures bytes { OnOk result (bytes.new.items ≡ bytes.old.items ++ part.spell side.now) }
     ensures side { OnOk result (IsSide side.now) }
 {
-    record_is_short();
+    laws::record_is_short();
     record.clear();
     push_record(record, side, &[], side.all_issued())?;
     bytes.extend_from_slice(&two_octets(record.len()))?;

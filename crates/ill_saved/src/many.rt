@@ -15,15 +15,12 @@ use crate::decoding2::decode_record2;
 use crate::desk::one_apdu;
 use crate::encoding2::encode_record2;
 use crate::fault::DeskFault;
-use crate::laws::{
-    follows_issues, refusals_stay, rows_begin, rows_grow, sides_read_again, sides_spelled, spelled,
-};
+use crate::laws;
 use crate::memory_store::MemoryStore;
 use crate::role::Role;
 use crate::side::{Action, Side};
 use crate::sides::{SIDES_LIMIT, Sides};
 use crate::store::{NextCall, Store};
-use ill_core::laws::responder_has_begun;
 use ill_core::{Refusal, Taking, is_ill_request, is_requesters};
 use ill_der::encode;
 use ill_values::{Apdu, Body, Number, OutOfMemory, TxnId};
@@ -107,7 +104,7 @@ impl<S: Store> Desk<S> {
         ensures acts { ManyActs self.old.live txn.now action.now result self.new.live }
         ensures store { self.new.store ≡ self.old.store }
     {
-        rows_grow();
+        laws::rows_grow();
         if action.role() != self.sides.role() {
             return Err(DeskFault::Core(Refusal::WrongRole));
         }
@@ -132,8 +129,8 @@ impl<S: Store> Desk<S> {
         ensures takes { ManyTakesApdu self.old.live apdu.now result self.new.live }
         ensures store { self.new.store ≡ self.old.store }
     {
-        rows_grow();
-        refusals_stay();
+        laws::rows_grow();
+        laws::refusals_stay();
         if is_own(self.sides.role(), &apdu.body) {
             return Err(DeskFault::Core(Refusal::WrongRole));
         }
@@ -150,8 +147,8 @@ impl<S: Store> Desk<S> {
         ensures acts { ManyActs self.old.live txn.now action.now result self.new.live }
         ensures store { self.new.store ≡ self.old.store }
     {
-        rows_grow();
-        rows_begin();
+        laws::rows_grow();
+        laws::rows_begin();
         self.may_begin(action.begins())?;
         let side = first_act(alloc, self.sides.role(), txn, action)?;
         self.hold(alloc, side)
@@ -164,8 +161,8 @@ impl<S: Store> Desk<S> {
         ensures takes { ManyTakesApdu self.old.live apdu.now result self.new.live }
         ensures store { self.new.store ≡ self.old.store }
     {
-        rows_grow();
-        responder_has_begun();
+        laws::rows_grow();
+        ill_core::laws::responder_has_begun();
         self.may_begin(is_ill_request(&apdu.body))?;
         let side = first_take(alloc, self.sides.role(), apdu)?;
         self.hold(alloc, side)?;
@@ -194,7 +191,7 @@ impl<S: Store> Desk<S> {
         ensures fault { IfErr result (λ fault. (fault ≡ desks.OutOfMemory) × (self.new.live ≡ self.old.live)) }
         ensures store { self.new.store ≡ self.old.store }
     {
-        rows_grow();
+        laws::rows_grow();
         self.released.reserve(1)?;
         match self.sides.put(alloc, side) {
             Ok(()) => Ok(self.released.push(0)?),
@@ -214,8 +211,8 @@ impl<S: Store> Desk<S> {
         ensures sides { WereSpelled result self.old.live }
         ensures faults { IsSaveFault result }
     {
-        sides_read_again();
-        follows_issues();
+        laws::sides_read_again();
+        laws::follows_issues();
         let record = encode_record2(alloc, &self.sides)?;
         let released = counts_of(alloc, &self.sides)?;
         self.store.save(alloc, &record)?;
@@ -269,7 +266,7 @@ impl<S: Store> Desk<S> {
         ensures value { result ≡ (held_for txn.now self.now.live).released }
         ensures issued { result ≤ length (issued_of (held_for txn.now self.now.live).side) }
     {
-        follows_issues();
+        laws::follows_issues();
         match self.sides.place(txn) {
             Some(place) => self.released[place],
             None => 0,
@@ -395,8 +392,8 @@ fn read_whole(alloc: Global, bytes: &[u8]) -> Result<Whole, DeskFault>
     ensures rules { IfOk result (λ all. Each IsConsistent all.sides) }
     ensures faults { IfErr result IsManyLoadFault }
 {
-    spelled();
-    sides_spelled();
+    laws::spelled();
+    laws::sides_spelled();
     let sides = decode_record2(alloc, bytes)?;
     let released = counts_of(alloc, &sides)?;
     Ok(Whole { sides, released })

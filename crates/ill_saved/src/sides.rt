@@ -7,7 +7,7 @@ ghost use Rattle.ill_saved.specs.Side.{txn_of, Acts, Takes};
 ghost use Rattle.ill_saved.specs.Sides.{SidesOf, AreFiled, most_sides, side_with, may_be_held, put_refusal, Puts, OnlyThat, OnlyThatEntry};
 
 use crate::fault::SidesFault;
-use crate::laws::{rows_begin, rows_grow};
+use crate::laws;
 use crate::role::Role;
 use crate::side::{Action, Side};
 use ill_core::{Refusal, Taking};
@@ -115,8 +115,8 @@ impl Sides {
     ) -> Option<Result<(), Refusal>>
         ensures { OnlyThat (λ old answer new. Acts old action.now answer new) txn.now self.old result self.new }
     {
-        rows_grow();
-        rows_begin();
+        laws::rows_grow();
+        laws::rows_begin();
         act_among(&mut self.map, alloc, txn, action)
     }
 
@@ -124,8 +124,8 @@ impl Sides {
     pub(crate) fn take(&mut self, alloc: Global, apdu: &Apdu) -> Option<Result<Taking, Refusal>>
         ensures { OnlyThat (λ old answer new. Takes old apdu.now answer new) apdu.now.txn self.old result self.new }
     {
-        rows_grow();
-        rows_begin();
+        laws::rows_grow();
+        laws::rows_begin();
         take_among(&mut self.map, alloc, apdu)
     }
 

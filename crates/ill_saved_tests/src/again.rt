@@ -3,7 +3,6 @@
 ghost use Rattle.std.specs.Prelude.{◌≡◌, MatchResult};
 ghost use Rattle.ill_saved.specs.declared.fault.RecordFault.TheVariants.{OutOfMemory};
 
-use ill_saved::laws::{read_again, sides_read_again};
 use ill_saved::{
     RecordFault, Side, Sides, decode_record, decode_record2, encode_record, encode_record2,
 };
@@ -14,7 +13,7 @@ use std::alloc::Global;
 pub fn written_and_read(alloc: Global, side: &Side) -> Result<Side, RecordFault>
     ensures { MatchResult result (λ again. again ≡ side.now) (λ fault. fault ≡ OutOfMemory) }
 {
-    read_again();
+    ill_saved::laws::read_again();
     let bytes = encode_record(alloc, side)?;
     decode_record(alloc, &bytes)
 }
@@ -24,7 +23,7 @@ pub fn written_and_read(alloc: Global, side: &Side) -> Result<Side, RecordFault>
 pub fn all_written_and_read(alloc: Global, sides: &Sides) -> Result<Sides, RecordFault>
     ensures { MatchResult result (λ again. again ≡ sides.now) (λ fault. fault ≡ OutOfMemory) }
 {
-    sides_read_again();
+    ill_saved::laws::sides_read_again();
     let bytes = encode_record2(alloc, sides)?;
     decode_record2(alloc, &bytes)
 }

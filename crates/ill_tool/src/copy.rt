@@ -7,7 +7,6 @@ ghost use Rattle.ill_tool.specs.Performing.{CountsToolFailure, known};
 ghost use Rattle.ill_tool.specs.Copy.{Copies};
 
 use crate::fault::ToolFault;
-use ill_saved::laws::sides_read_again;
 use ill_saved::{Desk, DeskFault, Store, encode_record2};
 use std::alloc::Global;
 
@@ -26,7 +25,7 @@ pub fn run_desk_copy<S: Store, C: Store>(
         ≡ Ok (sides_held desk.now.live)) }
     ensures counted { CountsToolFailure result (C.state copy.old).failures (C.state copy.new).failures }
 {
-    sides_read_again();
+    ill_saved::laws::sides_read_again();
     let record = match encode_record2(alloc, desk.sides()) {
         Ok(record) => record,
         Err(_) => return Err(ToolFault::OutOfMemory),

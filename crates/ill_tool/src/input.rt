@@ -5,7 +5,6 @@ ghost use Rattle.ill_der.specs.Feed.{end_of};
 ghost use Rattle.ill_tool.specs.Input.{answer_at_end, CountsOn, ReadsInput};
 
 use crate::fault::ToolFault;
-use ill_der::laws::short_has_the_size;
 use ill_der::{ApduView, Feed, Handler};
 use std::alloc::Global;
 use std::io::Read;
@@ -74,7 +73,7 @@ pub fn handle_input<R: Read, C, H: Handler<C, Fault = ToolFault>>(
     ensures { ReadsInput H.handles (R.remaining reader.old) (R.remaining reader.new)
         (counted.old.handler, context.old) result (counted.new.handler, context.new) }
 {
-    short_has_the_size();
+    ill_der::laws::short_has_the_size();
     let mut feed = Feed::new(alloc);
     let mut piece = [0; PIECE];
     loop {

@@ -34,12 +34,7 @@ ghost use Rattle.ill_world.specs.Night.{night_of, AreInStepOrAtRest};
 ghost use Rattle.ill_world.specs.DeskNight.{desk_night_of};
 ghost use Rattle.ill_world.specs.DeskSafety.{ArrivesAt, DesksStand, IsRunOfEach, IsSafeDeskRun, IsAgreeingDeskRun};
 
-use crate::laws::{
-    due_dates_stay, every_world_agrees, every_world_is_safe, few_outcomes_change,
-    one_arrival_is_enough, one_night_is_enough, one_round_is_enough, sent_stays_sent, world_stands,
-};
-use ill_core::laws::{requester_is_quiet, responder_is_quiet};
-use ill_saved::laws::rows_grow;
+use crate::laws;
 
 /// Two desks show of a transaction what they hold of it, what has landed and what was sent.
 pub fn desks_show_what_they_hold()
@@ -53,9 +48,9 @@ pub fn desk_events_are_events()
     ensures { (txn : Qualifiers) (w : DeskParties) (event : DeskEvent) → DesksStand w →
         Projects txn w event }
 {
-    rows_grow();
-    requester_is_quiet();
-    responder_is_quiet();
+    ill_saved::laws::rows_grow();
+    ill_core::laws::requester_is_quiet();
+    ill_core::laws::responder_is_quiet();
 }
 
 /// Two desks that hold nothing stand, and so do the desks that an event leads to from such.
@@ -64,10 +59,10 @@ pub fn desks_stand()
     ensures after { (w : DeskParties) (event : DeskEvent) → DesksStand w →
         DesksStand (desks_happen w event).1 }
 {
-    world_stands();
-    rows_grow();
-    requester_is_quiet();
-    responder_is_quiet();
+    laws::world_stands();
+    ill_saved::laws::rows_grow();
+    ill_core::laws::requester_is_quiet();
+    ill_core::laws::responder_is_quiet();
 }
 
 /// What two desks show of a transaction after any events is the world after the events of this
@@ -84,7 +79,7 @@ pub fn every_desk_run_is_safe()
     ensures { (events : List DeskEvent) → IsSafeDeskRun first_desks events }
 {
     desk_runs_are_runs();
-    every_world_is_safe();
+    laws::every_world_is_safe();
 }
 
 /// Both sides of each transaction agree in every world of every run of two desks.
@@ -92,7 +87,7 @@ pub fn every_desk_run_agrees()
     ensures { (events : List DeskEvent) → IsAgreeingDeskRun first_desks events }
 {
     desk_runs_are_runs();
-    every_world_agrees();
+    laws::every_world_agrees();
 }
 
 /// Where two desks stand, an event keeps or raises the requester's due date in each transaction.
@@ -101,7 +96,7 @@ pub fn due_dates_stay_at_desks()
         KeepsDates (project txn w) (plain event) (project txn (desks_happen w event).1) }
 {
     desk_events_are_events();
-    due_dates_stay();
+    laws::due_dates_stay();
 }
 
 /// Where two desks stand, an event that names a transaction reaches the side that is held, or one that
@@ -118,7 +113,7 @@ pub fn one_arrival_at_a_desk_is_enough()
 {
     desk_events_are_events();
     desks_reach_what_they_hold();
-    one_arrival_is_enough();
+    laws::one_arrival_is_enough();
 }
 
 /// Where two desks stand, only `Done`, `Saved`, `Sent`, `Restarted`, `Answered(Taken)` and `Faulted`
@@ -129,7 +124,7 @@ pub fn few_desk_outcomes_change()
         DeskMayChange after.0 (project txn w) (project txn after.1) }
 {
     desk_events_are_events();
-    few_outcomes_change();
+    laws::few_outcomes_change();
 }
 
 /// Where two desks stand, what was sent in a transaction stays sent, with its number, at every event.
@@ -138,7 +133,7 @@ pub fn sent_stays_sent_at_desks()
         KeepsSent (project txn w) (project txn (desks_happen w event).1) }
 {
     desk_events_are_events();
-    sent_stays_sent();
+    laws::sent_stays_sent();
 }
 
 /// A run of two desks is safe, and both sides of each transaction agree in it, only where that is so of each
@@ -223,7 +218,7 @@ pub fn one_desk_round_is_enough()
     desks_stand();
     desk_events_are_events();
     desks_reach_what_they_hold();
-    one_round_is_enough();
+    laws::one_round_is_enough();
 }
 
 /// A night of two desks is a night of both sides in each transaction. After it both sides are in step or at rest in each
@@ -239,7 +234,7 @@ pub fn one_desk_night_is_enough()
     desks_stand();
     desk_events_are_events();
     desks_reach_what_they_hold();
-    one_night_is_enough();
+    laws::one_night_is_enough();
 }
 
 /// A line of a script of two desks that is no `use` leaves the transaction in use as it was. Its event is

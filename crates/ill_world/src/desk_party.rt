@@ -16,7 +16,6 @@ use crate::event::{DeskOutcome, Outcome, Who};
 use crate::message::Message;
 use crate::trace::Shown;
 use ill_der::{DerFault, decode};
-use ill_saved::laws::sides_read_again;
 use ill_saved::{Action, Desk, DeskFault, MemoryStore, NextCall, Sides, StoreFault};
 use ill_values::{Number, OutOfMemory, TxnId};
 use std::alloc::Global;
@@ -83,7 +82,7 @@ impl DeskParty {
         ensures { GivesOutcome (desk_outcomes.Plain outcomes.Saved, desks.desk_saves self.old)
             self.old result self.new }
     {
-        sides_read_again();
+        ill_saved::laws::sides_read_again();
         match self.desk.save(alloc) {
             Ok(()) => Ok(DeskOutcome::Plain(Outcome::Saved)),
             Err(DeskFault::OutOfMemory) => Err(OutOfMemory),
@@ -96,7 +95,7 @@ impl DeskParty {
         ensures { GivesOutcome (desk_outcomes.Plain outcomes.Faulted, desks.desk_fails_to_save self.old landed)
             self.old result self.new }
     {
-        sides_read_again();
+        ill_saved::laws::sides_read_again();
         self.desk.set_next(if landed {
             NextCall::FailsNew
         } else {

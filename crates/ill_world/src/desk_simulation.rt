@@ -8,7 +8,7 @@ ghost use Rattle.ill_world.specs.DeskScript.{EventIn, in_txn};
 ghost use Rattle.ill_world.specs.DeskSimulation.{SimulatesDesks, two_desks};
 ghost use Rattle.ill_world.specs.Trace.{desk_line};
 
-use crate::desk_laws::{desk_runs_are_runs, every_desk_run_agrees, every_desk_run_is_safe};
+use crate::desk_laws;
 use crate::desk_script::{DeskLine, read_desk_line};
 use crate::desk_world::DeskWorld;
 use crate::event::Event;
@@ -39,9 +39,9 @@ pub fn simulate_desks<R: Read, W: Write>(
     ensures safe { (events : List DeskEvent) → IsSafeDeskRun first_desks events }
     ensures agrees { (events : List DeskEvent) → IsAgreeingDeskRun first_desks events }
 {
-    desk_runs_are_runs();
-    every_desk_run_is_safe();
-    every_desk_run_agrees();
+    desk_laws::desk_runs_are_runs();
+    desk_laws::every_desk_run_is_safe();
+    desk_laws::every_desk_run_agrees();
     let simulation = Simulation::new(alloc, DeskWorld::new(alloc)?, None);
     simulation.run(alloc, reader, writer)
 }

@@ -13,11 +13,7 @@ ghost use Rattle.ill_world.specs.Trace.{desk_line};
 ghost use Rattle.ill_world.specs.Round.{Performs, CanAnswer, AreInStep};
 ghost use Rattle.ill_world.specs.DeskRound.{passes_side, saves_and_passes, desk_half_of, desk_round_of};
 
-use crate::desk_laws::{
-    desk_events_are_events, desk_runs_are_runs, desks_stand, due_dates_stay_at_desks,
-    every_desk_run_agrees, every_desk_run_is_safe, one_arrival_at_a_desk_is_enough,
-    one_desk_round_is_enough,
-};
+use crate::desk_laws;
 use crate::desk_party::{DeskParty, heard};
 use crate::event::{DeskEvent, DeskOutcome, Outcome, Who};
 use crate::trace::push_line;
@@ -47,7 +43,7 @@ impl DeskWorld {
     pub fn new(alloc: Global) -> Result<DeskWorld, OutOfMemory>
         ensures { IfOk result (λ world. world ≡ model.first_desks) }
     {
-        desks_stand();
+        desk_laws::desks_stand();
         Ok(DeskWorld {
             requester: DeskParty::new(alloc, Who::Requester)?,
             responder: DeskParty::new(alloc, Who::Responder)?,
@@ -67,10 +63,10 @@ impl DeskWorld {
             KeepsDates (project txn self.old) (plain event.now) (project txn self.new) }
         ensures arrives { ArrivesAt self.old event.now }
     {
-        desks_stand();
-        desk_events_are_events();
-        due_dates_stay_at_desks();
-        one_arrival_at_a_desk_is_enough();
+        desk_laws::desks_stand();
+        desk_laws::desk_events_are_events();
+        desk_laws::due_dates_stay_at_desks();
+        desk_laws::one_arrival_at_a_desk_is_enough();
         happen(&mut self.requester, &mut self.responder, alloc, event)
     }
 
@@ -85,7 +81,7 @@ impl DeskWorld {
             CanAnswer (project txn self.old).responder.live → AreInStep (project txn self.new)) }
     {
         let _ = &self.requester; // makes the invariant of these desks known
-        one_desk_round_is_enough();
+        desk_laws::one_desk_round_is_enough();
         self.pass_on(alloc, Who::Requester)?;
         self.pass_on(alloc, Who::Responder)
     }
@@ -170,9 +166,9 @@ pub fn run_desks(alloc: Global, events: &[DeskEvent]) -> Result<DeskWorld, OutOf
     ensures safe { IsSafeDeskRun model.first_desks events.now }
     ensures agrees { IsAgreeingDeskRun model.first_desks events.now }
 {
-    desk_runs_are_runs();
-    every_desk_run_is_safe();
-    every_desk_run_agrees();
+    desk_laws::desk_runs_are_runs();
+    desk_laws::every_desk_run_is_safe();
+    desk_laws::every_desk_run_agrees();
     let mut world = DeskWorld::new(alloc)?;
     for event in events {
         world.step(alloc, event)?;

@@ -35,17 +35,6 @@ ghost use Rattle.ill_world.specs.Night.{is_over, wants_sending, asks, night_of, 
 ghost use Rattle.ill_world.specs.BadNights.{MisjudgesEnd, MisjudgesSending, MisjudgesAsking, Restless};
 ghost use Rattle.ill_world.specs.Invariant.{WasSent, RequesterStands, ResponderStands, Invariant};
 
-use ill_core::laws::{
-    requester_answers_once, requester_follows, requester_has_heard, requester_is_quiet,
-    requester_issues, requester_keeps_due, requester_keeps_rules, requester_keeps_txn,
-    requester_reflects, requester_rules, requester_shows, responder_answers_once, responder_ends,
-    responder_ends_once, responder_follows, responder_grants_rise, responder_has_answered_last,
-    responder_has_heard, responder_is_final, responder_is_overdue, responder_is_quiet,
-    responder_issues, responder_keeps_rules, responder_keeps_txn, responder_recalls,
-    responder_rules, responder_shows, responder_was_asked, turns_have_verbs,
-};
-use ill_saved::laws::rows_grow;
-
 /// A requester stands by what the responder has sent, after every wish and every message of it.
 pub fn requester_stands()
     ensures acts { (txn : Qualifiers) (x new : RequesterRecord) (wish : Wish)
@@ -55,13 +44,13 @@ pub fn requester_stands()
         (sent : List (Option Apdu)) → WasSent sent a →
         RequesterStands txn x sent → RequesterStands txn (requester_deliveries.takes x a).1 sent }
 {
-    requester_keeps_txn();
-    requester_keeps_rules();
-    requester_rules();
-    requester_answers_once();
-    requester_shows();
-    requester_reflects();
-    requester_issues();
+    ill_core::laws::requester_keeps_txn();
+    ill_core::laws::requester_keeps_rules();
+    ill_core::laws::requester_rules();
+    ill_core::laws::requester_answers_once();
+    ill_core::laws::requester_shows();
+    ill_core::laws::requester_reflects();
+    ill_core::laws::requester_issues();
 }
 
 /// A responder stands by what the requester has sent, after every deed and every message of it.
@@ -73,18 +62,18 @@ pub fn responder_stands()
         (sent : List (Option Apdu)) → WasSent sent a →
         ResponderStands txn y sent → ResponderStands txn (responder_deliveries.takes y a).1 sent }
 {
-    responder_keeps_txn();
-    responder_keeps_rules();
-    responder_rules();
-    responder_ends_once();
-    responder_answers_once();
-    responder_shows();
-    responder_was_asked();
-    responder_has_answered_last();
-    responder_recalls();
-    responder_grants_rise();
-    responder_is_overdue();
-    responder_issues();
+    ill_core::laws::responder_keeps_txn();
+    ill_core::laws::responder_keeps_rules();
+    ill_core::laws::responder_rules();
+    ill_core::laws::responder_ends_once();
+    ill_core::laws::responder_answers_once();
+    ill_core::laws::responder_shows();
+    ill_core::laws::responder_was_asked();
+    ill_core::laws::responder_has_answered_last();
+    ill_core::laws::responder_recalls();
+    ill_core::laws::responder_grants_rise();
+    ill_core::laws::responder_is_overdue();
+    ill_core::laws::responder_issues();
 }
 
 /// The world of two idle sides stands, and so does every world that an event leads to from one.
@@ -95,8 +84,8 @@ pub fn world_stands()
 {
     requester_stands();
     responder_stands();
-    rows_grow();
-    requester_keeps_due();
+    ill_saved::laws::rows_grow();
+    ill_core::laws::requester_keeps_due();
 }
 
 /// Where the world stands, a requester in CANCELLED or NOT-SUPPLIED faces a responder in the same
@@ -156,8 +145,8 @@ pub fn every_run_agrees()
 pub fn one_arrival_is_enough()
     ensures { (txn : Qualifiers) (w : Parties) (event : Event) → Invariant txn w → Arrives w event }
 {
-    requester_follows();
-    responder_follows();
+    ill_core::laws::requester_follows();
+    ill_core::laws::responder_follows();
 }
 
 /// After a round both sides are in step, if the responder can answer a Conditional-Reply no: where the world stands,
@@ -170,14 +159,14 @@ pub fn one_round_is_enough()
         AreInStep (run_of (run_of (first_world txn) events) (round_of (run_of (first_world txn) events))) }
 {
     world_stands();
-    requester_keeps_txn();
-    requester_issues();
-    requester_has_heard();
-    responder_keeps_txn();
-    responder_issues();
-    responder_ends();
-    responder_is_final();
-    responder_has_heard();
+    ill_core::laws::requester_keeps_txn();
+    ill_core::laws::requester_issues();
+    ill_core::laws::requester_has_heard();
+    ill_core::laws::responder_keeps_txn();
+    ill_core::laws::responder_issues();
+    ill_core::laws::responder_ends();
+    ill_core::laws::responder_is_final();
+    ill_core::laws::responder_has_heard();
 }
 
 /// A round that leaves out the last message of a side does not bring every two sides in step that a
@@ -208,7 +197,7 @@ pub fn one_of_two_in_step_acts()
         requester_turn x ≡ Mine → responder_turn y ≡ Mine →
         (x.state ≡ states.Conditional) × (y.state ≡ states.InProcess) }
 {
-    turns_have_verbs();
+    ill_core::laws::turns_have_verbs();
 }
 
 /// Where the world stands, both sides are at rest if the loan is over for the requester: it is over for the responder
@@ -260,7 +249,7 @@ pub fn due_dates_stay()
     ensures { (txn : Qualifiers) (w : Parties) (event : Event) → Invariant txn w →
         KeepsDates w event (happens w event).1 }
 {
-    requester_keeps_due();
+    ill_core::laws::requester_keeps_due();
 }
 
 /// No world is safe in which a record of the requester is contradicted by one of the responder.
@@ -319,8 +308,8 @@ pub fn few_outcomes_change()
     ensures { (w : Parties) (event : Event) →
         MayChange OnlyLandedChanges (happens w event).0 w (happens w event).1 }
 {
-    requester_is_quiet();
-    responder_is_quiet();
+    ill_core::laws::requester_is_quiet();
+    ill_core::laws::responder_is_quiet();
 }
 
 /// What was sent stays sent, with its number: where the world stands, at every event, and so for as long

@@ -6,7 +6,6 @@ ghost use Rattle.ill_values.specs.Apdu.{IsApdu};
 ghost use Rattle.ill_der.specs.ShortForm.{spelling, apdu_at};
 ghost use Rattle.ill_world.specs.PartyView.{apdu_of};
 
-use ill_der::laws::read_again;
 use std::marker::Model;
 
 /// A message as it was sent: its bytes, which are exactly one APDU. Contracts see that APDU.
@@ -30,7 +29,7 @@ impl Message {
         requires spelled { (a : Apdu) × IsApdu a × (bytes.items ≡ spelling a) }
         ensures { (a : Apdu) → IsApdu a → bytes.items ≡ spelling a → result ≡ a }
     {
-        read_again();
+        ill_der::laws::read_again();
         Message { bytes }
     }
 

@@ -14,7 +14,6 @@ use crate::message::Message;
 use crate::sent::Sent;
 use crate::trace::Shown;
 use ill_der::{DerFault, decode};
-use ill_saved::laws::{read_again, rows_grow};
 use ill_saved::{Action, Desk1, DeskFault, MemoryStore, NextCall, Side, StoreFault};
 use ill_values::{Number, OutOfMemory};
 use std::alloc::Global;
@@ -54,7 +53,7 @@ impl Party {
         ensures { GivesOutcome (model.decides self.old (acts self.old.live action.now))
             self.old result self.new }
     {
-        rows_grow();
+        ill_saved::laws::rows_grow();
         match self.desk.act(alloc, action) {
             Ok(()) => Ok(Outcome::Done),
             Err(DeskFault::Core(refusal)) => Ok(Outcome::Refused(refusal)),
@@ -67,7 +66,7 @@ impl Party {
     pub fn take(&mut self, alloc: Global, message: &Message) -> Result<Outcome, OutOfMemory>
         ensures { GivesOutcome (model.takes_message self.old message.now) self.old result self.new }
     {
-        rows_grow();
+        ill_saved::laws::rows_grow();
         match self.desk.take_bytes(alloc, message.bytes()) {
             Ok(taking) => Ok(Outcome::Answered(taking)),
             Err(DeskFault::Core(refusal)) => Ok(Outcome::Refused(refusal)),
@@ -80,7 +79,7 @@ impl Party {
     pub fn save(&mut self, alloc: Global) -> Result<Outcome, OutOfMemory>
         ensures { GivesOutcome (outcomes.Saved, model.saves self.old) self.old result self.new }
     {
-        read_again();
+        ill_saved::laws::read_again();
         match self.desk.save(alloc) {
             Ok(()) => Ok(Outcome::Saved),
             Err(DeskFault::OutOfMemory) => Err(OutOfMemory),
@@ -93,7 +92,7 @@ impl Party {
         ensures { GivesOutcome (outcomes.Faulted, model.fails_to_save self.old landed)
             self.old result self.new }
     {
-        read_again();
+        ill_saved::laws::read_again();
         self.desk.set_next(if landed {
             NextCall::FailsNew
         } else {

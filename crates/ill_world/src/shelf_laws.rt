@@ -15,11 +15,7 @@ ghost use Rattle.ill_world.specs.DeskNight.{desk_night_of};
 ghost use Rattle.ill_world.specs.Shelves.{Shelves, ShelfEvent, first_shelves, home, shelves_happen, shelves_run};
 ghost use Rattle.ill_world.specs.Shelves.{said_in, events_at, IsSafeShelfRun, IsAgreeingShelfRun};
 
-use crate::desk_laws::{
-    desk_events_are_events, desk_runs_have_each_world, desks_stand, every_desk_run_agrees,
-    every_desk_run_is_safe, one_desk_night_is_enough,
-};
-use ill_saved::laws::rows_grow;
+use crate::desk_laws;
 
 /// An event happens to the desks at its home, and leaves those of each other group as they were. Its home is the group
 /// of the transaction that it names. If it names none, its home is the group that is said with it. The desks of a group
@@ -52,8 +48,8 @@ pub fn every_shelf_run_is_safe()
     ensures { (events : List ShelfEvent) → IsSafeShelfRun first_shelves events }
 {
     shelf_runs_are_desk_runs();
-    every_desk_run_is_safe();
-    desk_runs_have_each_world();
+    desk_laws::every_desk_run_is_safe();
+    desk_laws::desk_runs_have_each_world();
 }
 
 /// Both sides of each transaction agree in every world of every run of two shelves.
@@ -61,8 +57,8 @@ pub fn every_shelf_run_agrees()
     ensures { (events : List ShelfEvent) → IsAgreeingShelfRun first_shelves events }
 {
     shelf_runs_are_desk_runs();
-    every_desk_run_agrees();
-    desk_runs_have_each_world();
+    desk_laws::every_desk_run_agrees();
+    desk_laws::desk_runs_have_each_world();
 }
 
 /// A run of two shelves is safe only if each world on the way is. Both sides agree in it only if they do in each of
@@ -84,9 +80,9 @@ pub fn no_transaction_has_two_homes()
     ensures shown { (txn : Qualifiers) (group : List ℕ) (events : List ShelfEvent) → (txn.group ≡ group → ⊥) →
         project txn (shelves_run first_shelves events group) ≡ first_world txn }
 {
-    rows_grow();
-    desks_stand();
-    desk_events_are_events();
+    ill_saved::laws::rows_grow();
+    desk_laws::desks_stand();
+    desk_laws::desk_events_are_events();
     shelf_runs_are_desk_runs();
 }
 
@@ -101,8 +97,8 @@ pub fn a_night_of_a_group_is_enough()
         let night = said_in txn.group (desk_night_of (w txn.group)) in
         AreInStepOrAtRest (project txn (shelves_run w night txn.group)) }
 {
-    rows_grow();
-    desks_stand();
+    ill_saved::laws::rows_grow();
+    desk_laws::desks_stand();
     shelf_runs_are_desk_runs();
-    one_desk_night_is_enough();
+    desk_laws::one_desk_night_is_enough();
 }

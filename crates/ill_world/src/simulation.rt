@@ -12,7 +12,7 @@ ghost use Rattle.ill_world.specs.Simulating.{PerformsLine, StepsLine, FindsEnd, 
 
 use crate::ahead::Ahead;
 use crate::fault::SimFault;
-use crate::laws::{every_run_agrees, every_run_is_safe};
+use crate::laws;
 use crate::lines::{Found, next_line};
 use crate::performer::{Performer, Told};
 use crate::script::{ScriptLine, read_line};
@@ -47,8 +47,8 @@ pub fn simulate<R: Read, W: Write>(
     ensures safe { (events : List Event) → IsSafeRun (first_world txn.now) events }
     ensures agrees { (events : List Event) → IsAgreeingRun (first_world txn.now) events }
 {
-    every_run_is_safe();
-    every_run_agrees();
+    laws::every_run_is_safe();
+    laws::every_run_agrees();
     let simulation = Simulation::new(alloc, World::new(alloc, txn)?, ());
     simulation.run(alloc, reader, writer)
 }

@@ -13,10 +13,7 @@ ghost use Rattle.ill_world.specs.Round.{passes_on, half_of, round_of, Performs, 
 ghost use Rattle.ill_world.specs.declared.event.Event.TheVariants.{Save};
 
 use crate::event::{Event, Outcome, Who};
-use crate::laws::{
-    due_dates_stay, every_run_agrees, every_run_is_safe, one_arrival_is_enough,
-    one_round_is_enough, world_stands,
-};
+use crate::laws;
 use crate::party::Party;
 use crate::trace::push_line;
 use ill_core::{Requester, Responder, Wish};
@@ -48,7 +45,7 @@ impl World {
     pub fn new(alloc: Global, txn: &TxnId) -> Result<World, OutOfMemory>
         ensures { IfOk result (λ world. world ≡ model.first_world txn.now) }
     {
-        world_stands();
+        laws::world_stands();
         let requester = Side::idle(alloc, Who::Requester, txn.copy(alloc)?);
         let responder = Side::idle(alloc, Who::Responder, txn.copy(alloc)?);
         Ok(World {
@@ -69,9 +66,9 @@ impl World {
         ensures dates { KeepsDates self.old event.now self.new }
         ensures arrives { Arrives self.old event.now }
     {
-        world_stands();
-        due_dates_stay();
-        one_arrival_is_enough();
+        laws::world_stands();
+        laws::due_dates_stay();
+        laws::one_arrival_is_enough();
         match event.who() {
             Who::Requester => perform(&mut self.requester, &self.responder, alloc, event),
             Who::Responder => perform(&mut self.responder, &self.requester, alloc, event),
@@ -87,7 +84,7 @@ impl World {
         ensures in_step { OnOk result (CanAnswer self.old.responder.live → AreInStep self.new) }
     {
         let _ = &self.requester; // makes the invariant of this world known
-        one_round_is_enough();
+        laws::one_round_is_enough();
         self.pass_on(alloc, Who::Requester)?;
         self.pass_on(alloc, Who::Responder)
     }
@@ -171,8 +168,8 @@ pub fn run(alloc: Global, txn: &TxnId, events: &[Event]) -> Result<World, OutOfM
     ensures safe { IsSafeRun (model.first_world txn.now) events.now }
     ensures agrees { IsAgreeingRun (model.first_world txn.now) events.now }
 {
-    every_run_is_safe();
-    every_run_agrees();
+    laws::every_run_is_safe();
+    laws::every_run_agrees();
     let mut world = World::new(alloc, txn)?;
     for event in events {
         world.step(alloc, event)?;

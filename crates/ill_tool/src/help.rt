@@ -67,9 +67,9 @@ The exit status, and the line of a fault on standard error behind `ill: `:
   2  record bad at N      FILE has a record with a wrong byte, at N
   2  record digest        FILE was damaged: its digest is not that of its bytes
   2  record inconsistent  FILE has a record that no desk can have
-  3  store failed         FILE or its folder cannot be read or written, or
-                          another command held FILE for ten seconds
-  3  store too-large      FILE has more than 67,108,864 bytes
+  3  store failed         FILE is no regular file, or cannot be read or written,
+                          or another command held FILE for ten seconds
+  3  store too-large      FILE or FILE.came has more than 67,108,864 bytes
   3  left                 `inbox` or `exchange` has left mails for the next run
   3  read                 the input cannot be read
   3  write                the output cannot be written; a closed pipe too
@@ -82,9 +82,9 @@ The desk has no loan yet. A library that both asks and is asked has two desks,
 one as requester and one as responder, in two files.
 
 FILE must not be there yet, and its folder must. The program writes a record by
-way of FILE.new, beside it; that file belongs to the program. From its start to
-its end no other command may run on FILE, as `ill --help` tells. One line,
-`done`, is written to standard output. Standard input is not read.
+way of FILE.new, beside it; that file belongs to the program. Other commands may
+run on FILE at any time, as `ill --help` tells. One line, `done`, is written to
+standard output. Standard input is not read.
 
 The exit status is 0 where the desk is saved, 1 with `exists`, 2 for wrong
 arguments, a ROLE that is none too, and 3 with `store failed`, `store
@@ -504,10 +504,10 @@ the loans were begun; none, where the desk has no loan:
 With --json each loan is an object of JSON on a line, with these labels. It has
 `released` and `issued` in place of `messages`.
 
-FILE has at most 67,108,864 bytes and is not changed. From its start to its end
-no other command may run on FILE, as `ill --help` tells. Standard input is not
-read. The exit status is 0 where the loans are shown, 1 with `no-record`, 2 for
-a bad record, and 3 with `store failed`, `store too-large`, `write` or `memory`.";
+FILE has at most 67,108,864 bytes and is not changed. Other commands may run on
+FILE at any time, as `ill --help` tells. Standard input is not read. The exit
+status is 0 where the loans are shown, 1 with `no-record`, 2 for a bad record,
+and 3 with `store failed`, `store too-large`, `write` or `memory`.";
 
 pub const STATUS_EXAMPLE: &str = "Example:
   $ ill new box requester
@@ -646,11 +646,11 @@ What a person wrote, titles, groups, transactions and names of files, stands
 there as text, whatever its characters. One that may turn the direction of a
 text is shown by its number, as \\u{202e}.
 
-FILE has at most 67,108,864 bytes and is not changed. From its start to its end
-no other command may run on FILE, as `ill --help` tells. Standard input is not
-read. Nothing is written unless all desks can be read. The exit status is 0
-where the page is written, 1 with `no-record`, 2 for wrong arguments or a bad
-record, and 3 with `store failed`, `store too-large`, `write` or `memory`.";
+FILE has at most 67,108,864 bytes and is not changed. Other commands may run on
+FILE at any time, as `ill --help` tells. Standard input is not read. Nothing is
+written unless all desks can be read. The exit status is 0 where the page is
+written, 1 with `no-record`, 2 for wrong arguments or a bad record, and 3 with
+`store failed`, `store too-large`, `write` or `memory`.";
 
 pub const REPORT_EXAMPLE: &str = "Example:
   $ ill new here requester
@@ -883,7 +883,7 @@ pub const SHELF_OUTBOX: &str = "\
 Put the messages of all desks that want sending into a folder.
 
 Each desk puts its messages into FOLDER, or onto standard output, as `ill
-outbox` does.";
+outbox` does. A line of its path stands before what it tells of FOLDER.";
 
 pub const SHELF_EXCHANGE: &str = "\
 Take the mails of a folder, and send into another.

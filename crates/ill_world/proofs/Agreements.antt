@@ -27,7 +27,7 @@ use Rattle.ill_world.proofs.Sendings.{front_message}
 use Rattle.ill_world.proofs.Uniqueness.{message_number, answers_once, one_end}
 use Rattle.ill_world.proofs.Claims.{AreIssued, tells_grant, is_in_cancelled, has_issued, not_supplied_faces, shipped_by, landed_issues, live_issues}
 
--- ---- what a message tells
+-- ---- evidence
 
 tells_sent_back : (n : ℕ) (body : Body) → responder.IsEvidence n body responder.SentBack → is_returned body ≡ true
 tells_sent_back n types.Returned tells = refl
@@ -59,38 +59,48 @@ tells_refused (types.CancelReply k false) c tells = ap (λ n. types.CancelReply 
 tells_refused (types.CancelReply k true) c tells = absurd tells
 tells_refused body c tells = search rules
 
+-- A message that cancels the request is a Cancel-Reply yes.
 pub cancels_with : (body : Body) → is_cancelled body ≡ true → (c : ℕ) × (body ≡ types.CancelReply c true)
 cancels_with (types.CancelReply c true) is = (c, refl)
 cancels_with (types.CancelReply c false) is = search rules
 cancels_with body is = search rules
 
+-- A state that is one of RETURNED alone is RETURNED.
 is_in_returned : (state : State) → is_among (states.Returned ∷ []) state ≡ true → state ≡ states.Returned
 is_in_returned states.Returned e = refl
 is_in_returned state e = search rules
 
+-- A state that is one of CHECKED-IN alone is CHECKED-IN.
 is_in_checked_in : (state : State) → is_among (states.CheckedIn ∷ []) state ≡ true → state ≡ states.CheckedIn
 is_in_checked_in states.CheckedIn e = refl
 is_in_checked_in state e = search rules
 
 -- ---- a requester's record and a responder's
 
+-- `P` holds of a requester's and a responder's record that stand, if each has issued the messages that the other was
+-- sent.
 abbrev pub PairOf : (RequesterRecord → ResponderRecord → Type 0) → Type 0
 PairOf P =
     (txn : Qualifiers) (x : RequesterRecord) (y : ResponderRecord) (told heard : List (Option Apdu)) → RequesterStands txn x told → ResponderStands txn y heard → AreIssued told y.issued
     → AreIssued heard x.issued → P x y
 
-split_final : (state : State) → is_among (states.NotSupplied ∷ later) state ≡ true → (state ≡ states.NotSupplied) ⊎ (is_among later state ≡ true)
+-- A state that is one of NOT-SUPPLIED, SHIPPED and later is NOT-SUPPLIED, or one of SHIPPED and later.
+split_final : (state : State) → is_among (states.NotSupplied ∷ later) state ≡ true
+    → (state ≡ states.NotSupplied) ⊎ (is_among later state ≡ true)
 split_final states.NotSupplied is = inl refl
 split_final state is = inr is
 
-shipped_is_later : (y : ResponderRecord) (txn : Qualifiers) (heard : List (Option Apdu)) → ResponderStands txn y heard → has is_shipped y.issued ≡ true → y.state ≡ states.Cancelled → ⊥
+-- A responder that stands, and has issued a Shipped, is not in CANCELLED.
+shipped_is_later : (y : ResponderRecord) (txn : Qualifiers) (heard : List (Option Apdu)) → ResponderStands txn y heard
+    → has is_shipped y.issued ≡ true → y.state ≡ states.Cancelled → ⊥
 shipped_is_later y txn heard responder_stands shipped e =
     let no : has is_shipped y.issued ≡ false = responder_stands.ends.shipped ∙ ap (is_among shipped_states) e in
     let both : true ≡ false = sym shipped ∙ no in
     search rules
 
--- the request has come to no other end
-no_other_end : (txn : Qualifiers) (x : RequesterRecord) (y : ResponderRecord) (told heard : List (Option Apdu)) → RequesterStands txn x told → ResponderStands txn y heard → AreIssued told y.issued
+-- If the responder is in CANCELLED, the requester is neither in NOT-SUPPLIED nor in SHIPPED or later.
+no_other_end : (txn : Qualifiers) (x : RequesterRecord) (y : ResponderRecord) (told heard : List (Option Apdu))
+    → RequesterStands txn x told → ResponderStands txn y heard → AreIssued told y.issued
     → y.state ≡ states.Cancelled → is_among (states.NotSupplied ∷ later) x.state ≡ false
 no_other_end txn x y told heard requester_stands responder_stands issued e = go (is_among (states.NotSupplied ∷ later) x.state) refl
   where
@@ -102,12 +112,15 @@ no_other_end txn x y told heard requester_stands responder_stands issued e = go 
           | inr shipped ↦ absurd (shipped_is_later y txn heard responder_stands (shipped_by txn x y told heard x.due requester_stands responder_stands issued refl (requester_stands.rules.parts.due ∙ shipped)) e)
         ]
 
+-- Equal APDUs have equal bodies.
 body_of : (a b : Apdu) → ◌≡◌ {A = Option Apdu} (Some a) (Some b) → a.body ≡ b.body
 body_of a b e = let same : a ≡ b = search rules in ap (λ (x : Apdu). x.body) same
 
--- A Cancel that was accepted is the last one, and it is open.
-pub cancel_is_open : (txn : Qualifiers) (x : RequesterRecord) (y : ResponderRecord) (told heard : List (Option Apdu)) → RequesterStands txn x told → ResponderStands txn y heard → AreIssued told y.issued
-    → AreIssued heard x.issued → (m c : ℕ) (a : Apdu) → message y.issued m ≡ Some a → a.body ≡ types.CancelReply c true → requester.is_open x c ≡ true
+-- If the responder has issued a Cancel-Reply yes to c, Cancel c is open at the requester.
+pub cancel_is_open : (txn : Qualifiers) (x : RequesterRecord) (y : ResponderRecord) (told heard : List (Option Apdu))
+    → RequesterStands txn x told → ResponderStands txn y heard → AreIssued told y.issued
+    → AreIssued heard x.issued → (m c : ℕ) (a : Apdu) → message y.issued m ≡ Some a
+    → a.body ≡ types.CancelReply c true → requester.is_open x c ≡ true
 cancel_is_open txn x y told heard requester_stands responder_stands issued heeded m c a at is =
     let ends : is_cancelled a.body ≡ true = ap is_cancelled is in
     let cancelled : y.state ≡ states.Cancelled = is_in_cancelled y.state (sym responder_stands.ends.cancelled ∙ message_says is_cancelled y.issued m a at ends) in
@@ -133,6 +146,7 @@ cancel_is_open txn x y told heard requester_stands responder_stands issued heede
         let bodies : types.CancelReply c true ≡ types.CancelReply c false = sym is ∙ body_of a refused.0 same ∙ no in
         search rules
 
+-- Two records that stand by each other's messages are right on each other.
 pub says_true : PairOf SaysTrue
 says_true txn x y told heard requester_stands responder_stands issued heeded = record {
   returned =
@@ -155,6 +169,7 @@ says_true txn x y told heard requester_stands responder_stands issued heeded = r
       is_in_checked_in y.state (sym responder_stands.rules.issued.checked_in ∙ has_issued y.issued told is_checked_in known.0 issued known.1 (tells_given_back known.0.body known.2));
 }
 
+-- Of two records that stand by each other's messages, the requester's due date is not later than the responder's.
 not_later : PairOf IsNotLater
 not_later txn x y told heard requester_stands responder_stands issued heeded =
     λ d e.
@@ -164,7 +179,10 @@ not_later txn x y told heard requester_stands responder_stands issued heeded =
 
 -- ---- both records of either
 
-facing : (P : RequesterRecord → ResponderRecord → Type 0) → PairOf P → (txn : Qualifiers) (x y : Side) (told heard : List (Option Apdu)) → RequesterSideStands txn x told → ResponderSideStands txn y heard
+-- A fact of all such pairs of records holds of two sides that stand by each other's messages.
+facing : (P : RequesterRecord → ResponderRecord → Type 0) → PairOf P
+    → (txn : Qualifiers) (x y : Side) (told heard : List (Option Apdu)) → RequesterSideStands txn x told
+    → ResponderSideStands txn y heard
     → AreIssued told (issued_of y) → AreIssued heard (issued_of x) → Facing P x y
 facing P pair txn (sides.Requester x) (sides.Responder y) told heard requester_stands responder_stands issued heeded = pair txn x y told heard requester_stands responder_stands issued heeded
 facing P pair txn (sides.Responder x) y told heard requester_stands responder_stands issued heeded = absurd requester_stands
@@ -187,31 +205,43 @@ of_both_facing P pair txn w stands =
 
 -- ---- one answer, and one end
 
-once_sent : (answered : Body → Option ℕ) (p : Party) → SendsSaved p → AnswersOnce answered (message (issued_of p.landed)) → AnswersOnce answered (sent_message p.sent)
+-- If no two landed messages answer one number, no two messages that were sent do.
+once_sent : (answered : Body → Option ℕ) (p : Party) → SendsSaved p
+    → AnswersOnce answered (message (issued_of p.landed)) → AnswersOnce answered (sent_message p.sent)
 once_sent answered p saved once = λ m n k a b at_m at_n is_a is_b. once m n k a b (saved.landed m a at_m) (saved.landed n b at_n) is_a is_b
 
-replies_once : (txn : Qualifiers) (side : Side) (told : List (Option Apdu)) → RequesterSideStands txn side told → AnswersOnce requester.replied_number (message (issued_of side))
+-- No two messages of a requester's side that stands reply to one number.
+replies_once : (txn : Qualifiers) (side : Side) (told : List (Option Apdu)) → RequesterSideStands txn side told
+    → AnswersOnce requester.replied_number (message (issued_of side))
 replies_once txn (sides.Requester x) told stands = answers_once requester.replied_number x.issued stands.replies.distinct
 replies_once txn (sides.Responder y) told stands = absurd stands
 
-cancels_once : (txn : Qualifiers) (side : Side) (told : List (Option Apdu)) → ResponderSideStands txn side told → AnswersOnce (responder.answered_number responder.MayCancel) (message (issued_of side))
+-- No two messages of a responder's side that stands answer one Cancel.
+cancels_once : (txn : Qualifiers) (side : Side) (told : List (Option Apdu)) → ResponderSideStands txn side told
+    → AnswersOnce (responder.answered_number responder.MayCancel) (message (issued_of side))
 cancels_once txn (sides.Responder y) told stands = answers_once (responder.answered_number responder.MayCancel) y.issued stands.cancels.distinct
 cancels_once txn (sides.Requester x) told stands = absurd stands
 
-renewals_once : (txn : Qualifiers) (side : Side) (told : List (Option Apdu)) → ResponderSideStands txn side told → AnswersOnce (responder.answered_number responder.MayRenew) (message (issued_of side))
+-- No two messages of a responder's side that stands answer one Renew.
+renewals_once : (txn : Qualifiers) (side : Side) (told : List (Option Apdu)) → ResponderSideStands txn side told
+    → AnswersOnce (responder.answered_number responder.MayRenew) (message (issued_of side))
 renewals_once txn (sides.Responder y) told stands = answers_once (responder.answered_number responder.MayRenew) y.issued stands.renewals.distinct
 renewals_once txn (sides.Requester x) told stands = absurd stands
 
+-- A Bool counts as one at most.
 pub at_most_one : (b : Bool) → (if b then 1 else 0) ≤ 1
 at_most_one true = omega arith
 at_most_one false = omega arith
 
+-- A message of a responder's side that stands, if it ends the request, is the last that does.
 ends_once : (txn : Qualifiers) (side : Side) (told : List (Option Apdu)) → ResponderSideStands txn side told → EndsOnce side
 ends_once txn (sides.Responder y) told stands =
     λ n a at is. one_end y.txn y.issued n a stands.rules.numbered (omega (arith, stands.ends.once, at_most_one (is_among responder.ended y.state))) at is
 ends_once txn (sides.Requester x) told stands = absurd stands
 
-accepted_by : (txn : Qualifiers) (w : Parties) (side : Side) → SendsSaved w.requester → ResponderSideStands txn side w.requester.sent → AcceptedBy w side
+-- If a responder's side that stands has conditions as accepted, the requester has sent the acceptance, and has it.
+accepted_by : (txn : Qualifiers) (w : Parties) (side : Side) → SendsSaved w.requester
+    → ResponderSideStands txn side w.requester.sent → AcceptedBy w side
 accepted_by txn w (sides.Responder y) saved stands =
     λ c e.
     let known = stands.knows (responder.Accepted c) e in

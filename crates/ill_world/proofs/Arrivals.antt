@@ -35,7 +35,8 @@ use Rattle.ill_world.proofs.Uniqueness.{message_number}
 use Rattle.ill_world.proofs.Claims.{AreIssued, has_issued, cancelled_faces, not_supplied_faces, shipped_by, landed_issues, live_issues}
 use Rattle.ill_world.proofs.Agreements.{tells_requested, cancel_is_open}
 
--- what the rows do with the end of a request, and with a Returned
+-- The rows lead a requester that takes an end of the request to its states. They lead a responder that takes a
+-- Returned to RETURNED or CHECKED-IN.
 pub record RowsFollow : Type 0 where
   pub shipped : (x : RequesterRecord) (a : Apdu) (due : Date) → is_same_txn a.txn x.txn ≡ true → a.body ≡ types.Shipped due
       → is_among (states.Pending ∷ states.Conditional ∷ states.CancelPending ∷ later) x.state ≡ true → requester.LeadsTo later (requester_deliveries.takes x a)
@@ -49,16 +50,20 @@ pub record RowsFollow : Type 0 where
 
 -- ---- states
 
--- a requester whose request has not ended otherwise may be told that the item is shipped
-may_ship : (state : State) → is_among (states.InProcess ∷ states.CheckedIn ∷ []) state ≡ false → is_among (states.Idle ∷ []) state ≡ false → (state ≡ states.Cancelled → ⊥)
-    → (state ≡ states.NotSupplied → ⊥) → is_among (states.Pending ∷ states.Conditional ∷ states.CancelPending ∷ later) state ≡ true
+-- A requester in none of IDLE, CANCELLED and NOT-SUPPLIED is in a state in which it may take a Shipped.
+may_ship : (state : State) → is_among (states.InProcess ∷ states.CheckedIn ∷ []) state ≡ false
+    → is_among (states.Idle ∷ []) state ≡ false → (state ≡ states.Cancelled → ⊥)
+    → (state ≡ states.NotSupplied → ⊥)
+    → is_among (states.Pending ∷ states.Conditional ∷ states.CancelPending ∷ later) state ≡ true
 may_ship states.Cancelled role idle cancelled ended = absurd (cancelled refl)
 may_ship states.NotSupplied role idle cancelled ended = absurd (ended refl)
 may_ship state role idle cancelled ended = search rules
 
--- or that it has ended
-may_end : (state : State) → is_among (states.InProcess ∷ states.CheckedIn ∷ []) state ≡ false → is_among (states.Idle ∷ []) state ≡ false → (state ≡ states.Cancelled → ⊥)
-    → (is_among later state ≡ true → ⊥) → is_among (states.Pending ∷ states.Conditional ∷ states.CancelPending ∷ states.NotSupplied ∷ []) state ≡ true
+-- A requester in none of IDLE, CANCELLED, SHIPPED and later is in a state in which it may take a no.
+may_end : (state : State) → is_among (states.InProcess ∷ states.CheckedIn ∷ []) state ≡ false
+    → is_among (states.Idle ∷ []) state ≡ false → (state ≡ states.Cancelled → ⊥)
+    → (is_among later state ≡ true → ⊥)
+    → is_among (states.Pending ∷ states.Conditional ∷ states.CancelPending ∷ states.NotSupplied ∷ []) state ≡ true
 may_end states.Cancelled role idle cancelled shipped = absurd (cancelled refl)
 may_end states.Shipped role idle cancelled shipped = absurd (shipped refl)
 may_end states.Received role idle cancelled shipped = absurd (shipped refl)
@@ -70,48 +75,58 @@ may_end states.Recall role idle cancelled shipped = absurd (shipped refl)
 may_end states.Returned role idle cancelled shipped = absurd (shipped refl)
 may_end state role idle cancelled shipped = search rules
 
--- a responder whose request has ended is not idle
+-- A responder in a state that has ended the request is not in IDLE.
 ended_not_idle : (state : State) → is_among responder.ended state ≡ true → is_among (states.Idle ∷ []) state ≡ false
 ended_not_idle states.Idle ended = search rules
 ended_not_idle state ended = refl
 
+-- A responder in SHIPPED or later has ended the request.
 shipped_is_ended : (state : State) → is_among shipped_states state ≡ true → is_among responder.ended state ≡ true
 shipped_is_ended states.NotSupplied shipped = refl
 shipped_is_ended states.Cancelled shipped = refl
 shipped_is_ended state shipped = shipped
 
+-- A responder in NOT-SUPPLIED has ended the request.
 unsupplied_is_ended : (state : State) → is_among (states.NotSupplied ∷ []) state ≡ true → is_among responder.ended state ≡ true
 unsupplied_is_ended states.NotSupplied e = refl
 unsupplied_is_ended state e = search rules
 
+-- A state that is one of NOT-SUPPLIED alone is neither SHIPPED nor later.
 not_shipped : (state : State) → is_among (states.NotSupplied ∷ []) state ≡ true → is_among shipped_states state ≡ true → ⊥
 not_shipped states.NotSupplied e shipped = search rules
 not_shipped state e shipped = search rules
 
+-- CANCELLED is neither SHIPPED nor later.
 not_cancelled : (state : State) → state ≡ states.Cancelled → is_among shipped_states state ≡ true → ⊥
 not_cancelled state e shipped = let no : is_among shipped_states states.Cancelled ≡ true = subst (λ s. is_among shipped_states s ≡ true) e shipped in search rules
 
+-- NOT-SUPPLIED is neither SHIPPED nor later.
 not_unsupplied : (state : State) → state ≡ states.NotSupplied → is_among shipped_states state ≡ true → ⊥
 not_unsupplied state e shipped = let no : is_among shipped_states states.NotSupplied ≡ true = subst (λ s. is_among shipped_states s ≡ true) e shipped in search rules
 
+-- CANCELLED is not NOT-SUPPLIED.
 not_cancelled_too : (state : State) → state ≡ states.Cancelled → is_among (states.NotSupplied ∷ []) state ≡ true → ⊥
 not_cancelled_too state e ended = let no : is_among (states.NotSupplied ∷ []) states.Cancelled ≡ true = subst (λ s. is_among (states.NotSupplied ∷ []) s ≡ true) e ended in search rules
 
+-- A list that has an APDU of which `says` holds is not empty.
 pub not_none : (says : Body → Bool) (apdus : List Apdu) → has says apdus ≡ true → is_none apdus ≡ false
 not_none says [] is = search rules
 not_none says (a ∷ apdus) is = refl
 
 -- ---- a requester's record and a responder's
 
--- the requester has asked for the item
-was_asked : (txn : Qualifiers) (x : RequesterRecord) (y : ResponderRecord) (told heard : List (Option Apdu)) → RequesterStands txn x told → ResponderStands txn y heard → AreIssued heard x.issued
+-- If the responder has ended the request, the requester is not in IDLE.
+was_asked : (txn : Qualifiers) (x : RequesterRecord) (y : ResponderRecord) (told heard : List (Option Apdu))
+    → RequesterStands txn x told → ResponderStands txn y heard → AreIssued heard x.issued
     → is_among responder.ended y.state ≡ true → is_among (states.Idle ∷ []) x.state ≡ false
 was_asked txn x y told heard requester_stands responder_stands heeded ended =
     let known = responder_stands.knows responder.Requested (ended_not_idle y.state ended) in
     let request = has_issued x.issued heard is_ill_request known.0 heeded known.1 (tells_requested known.0.number known.0.body known.2) in
     sym requester_stands.rules.issued.idle ∙ not_none is_ill_request x.issued request
 
-same_txn_as : (txn : Qualifiers) (x : RequesterRecord) (y : ResponderRecord) (told heard : List (Option Apdu)) (n : ℕ) (a : Apdu) → RequesterStands txn x told → ResponderStands txn y heard
+-- A message that the responder has issued is of the requester's transaction.
+same_txn_as : (txn : Qualifiers) (x : RequesterRecord) (y : ResponderRecord) (told heard : List (Option Apdu)) (n : ℕ) (a : Apdu)
+    → RequesterStands txn x told → ResponderStands txn y heard
     → message y.issued n ≡ Some a → is_same_txn a.txn x.txn ≡ true
 same_txn_as txn x y told heard n a requester_stands responder_stands at =
     subst (λ t. is_same_txn a.txn t ≡ true) (responder_stands.same_txn ∙ sym requester_stands.same_txn) (message_number y.txn y.issued n a responder_stands.rules.numbered at).0
@@ -121,8 +136,12 @@ tells_end (types.IllAnswer answer) is = is
 tells_end types.Expired is = tt
 tells_end body is = search rules
 
-shipped_arrives : RowsFollow → (txn : Qualifiers) (x : RequesterRecord) (y : ResponderRecord) (told heard : List (Option Apdu)) (n : ℕ) (a : Apdu) (due : Date) → RequesterStands txn x told
-    → ResponderStands txn y heard → AreIssued told y.issued → AreIssued heard x.issued → message y.issued n ≡ Some a → a.body ≡ types.Shipped due
+-- A Shipped that the responder has issued leads a requester that takes it to SHIPPED or later.
+shipped_arrives : RowsFollow
+    → (txn : Qualifiers) (x : RequesterRecord) (y : ResponderRecord) (told heard : List (Option Apdu)) (n : ℕ) (a : Apdu) (due : Date)
+    → RequesterStands txn x told
+    → ResponderStands txn y heard → AreIssued told y.issued → AreIssued heard x.issued → message y.issued n ≡ Some a
+    → a.body ≡ types.Shipped due
     → requester.LeadsTo later (requester_deliveries.takes x a)
 shipped_arrives rows txn x y told heard n a due requester_stands responder_stands issued heeded at is =
     let shipped : is_among shipped_states y.state ≡ true = sym responder_stands.ends.shipped ∙ message_says is_shipped y.issued n a at (ap is_shipped is) in
@@ -131,8 +150,12 @@ shipped_arrives rows txn x y told heard n a due requester_stands responder_stand
     (λ e. not_cancelled y.state (cancelled_faces txn x y told heard requester_stands responder_stands issued e) shipped)
     (λ e. not_unsupplied y.state (not_supplied_faces txn x y told heard requester_stands responder_stands issued e) shipped))
 
-end_arrives : RowsFollow → (txn : Qualifiers) (x : RequesterRecord) (y : ResponderRecord) (told heard : List (Option Apdu)) (n : ℕ) (a : Apdu) → RequesterStands txn x told
-    → ResponderStands txn y heard → AreIssued told y.issued → AreIssued heard x.issued → message y.issued n ≡ Some a → is_unsupplied a.body ≡ true
+-- A message of the responder that the item is not supplied leads a requester that takes it to NOT-SUPPLIED.
+end_arrives : RowsFollow
+    → (txn : Qualifiers) (x : RequesterRecord) (y : ResponderRecord) (told heard : List (Option Apdu)) (n : ℕ) (a : Apdu)
+    → RequesterStands txn x told
+    → ResponderStands txn y heard → AreIssued told y.issued → AreIssued heard x.issued → message y.issued n ≡ Some a
+    → is_unsupplied a.body ≡ true
     → requester.LeadsTo (states.NotSupplied ∷ []) (requester_deliveries.takes x a)
 end_arrives rows txn x y told heard n a requester_stands responder_stands issued heeded at is =
     let ended : is_among (states.NotSupplied ∷ []) y.state ≡ true = sym responder_stands.ends.unsupplied ∙ message_says is_unsupplied y.issued n a at is in
@@ -141,23 +164,32 @@ end_arrives rows txn x y told heard n a requester_stands responder_stands issued
     (λ e. not_cancelled_too y.state (cancelled_faces txn x y told heard requester_stands responder_stands issued e) ended)
     (λ shipped. not_shipped y.state ended (sym responder_stands.ends.shipped ∙ shipped_by txn x y told heard x.due requester_stands responder_stands issued refl (requester_stands.rules.parts.due ∙ shipped))))
 
+-- If `a && b` is true, so are a and b.
 both_of : (a b : Bool) → (a && b) ≡ true → (a ≡ true) × (b ≡ true)
 both_of true b is = (refl, is)
 both_of false b is = search rules
 
-yes_arrives : RowsFollow → (txn : Qualifiers) (x : RequesterRecord) (y : ResponderRecord) (told heard : List (Option Apdu)) (n c : ℕ) (a : Apdu) → RequesterStands txn x told
-    → ResponderStands txn y heard → AreIssued told y.issued → AreIssued heard x.issued → message y.issued n ≡ Some a → a.body ≡ types.CancelReply c true
+-- A Cancel-Reply yes that the responder has issued leads a requester that takes it to CANCELLED.
+yes_arrives : RowsFollow
+    → (txn : Qualifiers) (x : RequesterRecord) (y : ResponderRecord) (told heard : List (Option Apdu)) (n c : ℕ) (a : Apdu)
+    → RequesterStands txn x told
+    → ResponderStands txn y heard → AreIssued told y.issued → AreIssued heard x.issued → message y.issued n ≡ Some a
+    → a.body ≡ types.CancelReply c true
     → requester.LeadsTo (states.Cancelled ∷ []) (requester_deliveries.takes x a)
 yes_arrives rows txn x y told heard n c a requester_stands responder_stands issued heeded at is =
     let parts = both_of _ _ (cancel_is_open txn x y told heard requester_stands responder_stands issued heeded n c a at is) in
     rows.cancelled x a c (same_txn_as txn x y told heard n a requester_stands responder_stands at) is parts.1 parts.0
 
+-- Requester `x`, when it takes `a`, is led to the states to which an end with `body` leads.
 abbrev Leads : RequesterRecord → Apdu → Body → Type 0
 Leads x a body = requester.LeadsTo (settled_by body) (requester_deliveries.takes x a)
 
--- whichever end it is
-arrives_as : RowsFollow → (txn : Qualifiers) (x : RequesterRecord) (y : ResponderRecord) (told heard : List (Option Apdu)) (n : ℕ) (a : Apdu) (body : Body) → RequesterStands txn x told
-    → ResponderStands txn y heard → AreIssued told y.issued → AreIssued heard x.issued → message y.issued n ≡ Some a → a.body ≡ body → is_end body ≡ true → Leads x a body
+-- An end of the request that the responder has issued leads a requester that takes it to its states.
+arrives_as : RowsFollow
+    → (txn : Qualifiers) (x : RequesterRecord) (y : ResponderRecord) (told heard : List (Option Apdu)) (n : ℕ) (a : Apdu) (body : Body)
+    → RequesterStands txn x told
+    → ResponderStands txn y heard → AreIssued told y.issued → AreIssued heard x.issued → message y.issued n ≡ Some a
+    → a.body ≡ body → is_end body ≡ true → Leads x a body
 arrives_as rows txn x y told heard n a (types.Shipped due) requester_stands responder_stands issued heeded at is ends = shipped_arrives rows txn x y told heard n a due requester_stands responder_stands issued heeded at is
 arrives_as rows txn x y told heard n a (types.CancelReply c true) requester_stands responder_stands issued heeded at is ends = yes_arrives rows txn x y told heard n c a requester_stands responder_stands issued heeded at is
 arrives_as rows txn x y told heard n a (types.CancelReply c false) requester_stands responder_stands issued heeded at is ends = search rules
@@ -170,14 +202,20 @@ arrives_as rows txn x y told heard n a (types.IllAnswer answer) requester_stands
     plain_end false is = search rules
 arrives_as rows txn x y told heard n a body requester_stands responder_stands issued heeded at is ends = search rules
 
--- ---- what is seen of it
+-- ---- its outcome
 
-answers : (answer : Result Taking Refusal) → (answer ≡ Ok Taken) ⊎ (answer ≡ Ok Repeat) → (answer_to answer ≡ Answered Taken) ⊎ (answer_to answer ≡ Answered Repeat)
+-- If an answer is Taken or a Repeat, so is its outcome.
+answers : (answer : Result Taking Refusal) → (answer ≡ Ok Taken) ⊎ (answer ≡ Ok Repeat)
+    → (answer_to answer ≡ Answered Taken) ⊎ (answer_to answer ≡ Answered Repeat)
 answers answer (inl taken) = inl (ap answer_to taken)
 answers answer (inr repeat) = inr (ap answer_to repeat)
 
-settles_requester : RowsFollow → (txn : Qualifiers) (p : Party) (side : Side) (told heard : List (Option Apdu)) (n : ℕ) (a : Apdu) (found : Option Apdu) → RequesterSideStands txn p.live told
-    → ResponderSideStands txn side heard → AreIssued told (issued_of side) → AreIssued heard (issued_of p.live) → message (issued_of side) n ≡ Some a → found ≡ Some a → is_end a.body ≡ true
+-- An end of the request that the responder has issued settles the requester's party that receives it.
+settles_requester : RowsFollow
+    → (txn : Qualifiers) (p : Party) (side : Side) (told heard : List (Option Apdu)) (n : ℕ) (a : Apdu) (found : Option Apdu)
+    → RequesterSideStands txn p.live told
+    → ResponderSideStands txn side heard → AreIssued told (issued_of side) → AreIssued heard (issued_of p.live)
+    → message (issued_of side) n ≡ Some a → found ≡ Some a → is_end a.body ≡ true
     → Settles (settled_by a.body) (receives p found).0 (receives p found).1.live
 settles_requester rows txn p side told heard n a found requester_stands responder_stands issued heeded at is ends =
     subst (λ o. Settles (settled_by a.body) (receives p o).0 (receives p o).1.live) (sym is) (go p.live side requester_stands responder_stands issued heeded at)
@@ -192,22 +230,28 @@ settles_requester rows txn p side told heard n a found requester_stands responde
 
 -- ---- a Returned
 
+-- A body of which `is_returned` holds is a Returned.
 returned_is : (body : Body) → is_returned body ≡ true → body ≡ types.Returned
 returned_is types.Returned is = refl
 returned_is body is = search rules
 
+-- RETURNED is one of SHIPPED and later.
 returned_is_later : (state : State) → is_among (states.Returned ∷ []) state ≡ true → is_among later state ≡ true
 returned_is_later states.Returned is = refl
 returned_is_later state is = search rules
 
--- the item was shipped before it was returned
-pub shipped_before : (txn : Qualifiers) (x : RequesterRecord) (y : ResponderRecord) (told heard : List (Option Apdu)) (n : ℕ) (a : Apdu) → RequesterStands txn x told → ResponderStands txn y heard
+-- If the requester has issued a Returned, the responder has issued a Shipped.
+pub shipped_before : (txn : Qualifiers) (x : RequesterRecord) (y : ResponderRecord) (told heard : List (Option Apdu)) (n : ℕ) (a : Apdu)
+    → RequesterStands txn x told → ResponderStands txn y heard
     → AreIssued told y.issued → message x.issued n ≡ Some a → is_returned a.body ≡ true → has is_shipped y.issued ≡ true
 shipped_before txn x y told heard n a requester_stands responder_stands issued at is =
     let returned = sym requester_stands.rules.issued.returned ∙ message_says is_returned x.issued n a at is in
     shipped_by txn x y told heard x.due requester_stands responder_stands issued refl (requester_stands.rules.parts.due ∙ returned_is_later x.state returned)
 
-returned_arrives : RowsFollow → (txn : Qualifiers) (x : RequesterRecord) (y : ResponderRecord) (told heard : List (Option Apdu)) (n : ℕ) (a : Apdu) → RequesterStands txn x told
+-- A Returned that the requester has issued leads a responder that takes it to RETURNED or CHECKED-IN.
+returned_arrives : RowsFollow
+    → (txn : Qualifiers) (x : RequesterRecord) (y : ResponderRecord) (told heard : List (Option Apdu)) (n : ℕ) (a : Apdu)
+    → RequesterStands txn x told
     → ResponderStands txn y heard → AreIssued told y.issued → message x.issued n ≡ Some a → is_returned a.body ≡ true
     → responder.LeadsTo (states.Returned ∷ states.CheckedIn ∷ []) (responder_deliveries.takes y a)
 returned_arrives rows txn x y told heard n a requester_stands responder_stands issued at is =
@@ -215,8 +259,12 @@ returned_arrives rows txn x y told heard n a requester_stands responder_stands i
     let same = subst (λ t. is_same_txn a.txn t ≡ true) (requester_stands.same_txn ∙ sym responder_stands.same_txn) (message_number x.txn x.issued n a requester_stands.rules.numbered at).0 in
     rows.returned y a same (returned_is a.body is) (sym responder_stands.ends.shipped ∙ shipped)
 
-settles_responder : RowsFollow → (txn : Qualifiers) (p : Party) (side : Side) (told heard : List (Option Apdu)) (n : ℕ) (a : Apdu) (found : Option Apdu) → RequesterSideStands txn side told
-    → ResponderSideStands txn p.live heard → AreIssued told (issued_of p.live) → message (issued_of side) n ≡ Some a → found ≡ Some a → is_returned a.body ≡ true
+-- A Returned that the requester has issued settles the responder's party that receives it.
+settles_responder : RowsFollow
+    → (txn : Qualifiers) (p : Party) (side : Side) (told heard : List (Option Apdu)) (n : ℕ) (a : Apdu) (found : Option Apdu)
+    → RequesterSideStands txn side told
+    → ResponderSideStands txn p.live heard → AreIssued told (issued_of p.live) → message (issued_of side) n ≡ Some a
+    → found ≡ Some a → is_returned a.body ≡ true
     → Settles (states.Returned ∷ states.CheckedIn ∷ []) (receives p found).0 (receives p found).1.live
 settles_responder rows txn p side told heard n a found requester_stands responder_stands issued at is returned =
     subst (λ o. Settles (states.Returned ∷ states.CheckedIn ∷ []) (receives p o).0 (receives p o).1.live) (sym is) (go side p.live requester_stands responder_stands issued at)

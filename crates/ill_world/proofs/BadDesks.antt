@@ -1,4 +1,4 @@
--- What the definitions on two desks take and exclude.
+-- The definitions on two desks take the events of a transaction, and exclude the bad ones.
 use Rattle.std.proofs.Common.{rules, ◌≡◌, inl, inr, ℕ, Bool, true, false, if◌then◌else◌, List, [], ◌∷◌, ◌++◌, length, nat_lt, Option, Some, None, refl, sym, ap, ◌∙◌, subst}
 use Rattle.ill_values.specs.TxnId.{Qualifiers}
 use Rattle.ill_values.specs.declared.apdu.Apdu.{Apdu}
@@ -30,13 +30,15 @@ use Rattle.ill_world.proofs.Runs.{run_both, run_one}
 
 -- ---- runs
 
--- Two lists stay joined, if one more item goes before them or none does.
-pub joined : {X : Type 0} (own : Bool) (event : X) (first rest more : List X) → more ≡ first ++ rest → (if own then event ∷ more else more) ≡ (if own then event ∷ first else first) ++ rest
+-- Two lists stay joined, if one more event goes before them, or none does.
+pub joined : {X : Type 0} (own : Bool) (event : X) (first rest more : List X) → more ≡ first ++ rest
+    → (if own then event ∷ more else more) ≡ (if own then event ∷ first else first) ++ rest
 joined true event first rest more is = ap (λ l. event ∷ l) is
 joined false event first rest more is = is
 
 -- The events of a transaction come in the order of those of the desks.
-pub events_in_order : (txn : Qualifiers) (w : DeskParties) (before after : List DeskEvent) → events_for txn w (before ++ after) ≡ events_for txn w before ++ events_for txn (desks_run w before) after
+pub events_in_order : (txn : Qualifiers) (w : DeskParties) (before after : List DeskEvent)
+    → events_for txn w (before ++ after) ≡ events_for txn w before ++ events_for txn (desks_run w before) after
 unfolding events_for run_by
 events_in_order txn w [] after = refl
 events_in_order txn w (event ∷ before) after =
@@ -44,7 +46,8 @@ events_in_order txn w (event ∷ before) after =
     joined (is_event_of txn w event) (plain event) (events_for txn next before) (events_for txn (desks_run next before) after) (events_for txn next (before ++ after)) (events_in_order txn next before after)
 
 -- One event more leads a transaction on by the events that it has of it.
-pub runs_go_on : (events : List DeskEvent) (event : DeskEvent) (txn : Qualifiers) → IsRunOfEach events → IsRunOfEach (events ++ event ∷ [])
+pub runs_go_on : (events : List DeskEvent) (event : DeskEvent) (txn : Qualifiers) → IsRunOfEach events
+    → IsRunOfEach (events ++ event ∷ [])
     → let w = desks_run first_desks events in project txn (desks_happen w event).1 ≡ run_of (project txn w) (events_for txn w (event ∷ []))
 runs_go_on events event txn before after =
     let w = desks_run first_desks events in
@@ -58,19 +61,23 @@ runs_go_on events event txn before after =
 -- ---- the events of a transaction
 
 -- One event is an event of a transaction, or is none.
-pub one_event : (txn : Qualifiers) (w : DeskParties) (event : DeskEvent) → events_for txn w (event ∷ []) ≡ (if is_event_of txn w event then plain event ∷ [] else [])
+pub one_event : (txn : Qualifiers) (w : DeskParties) (event : DeskEvent)
+    → events_for txn w (event ∷ []) ≡ (if is_event_of txn w event then plain event ∷ [] else [])
 unfolding events_for
 one_event txn w event = refl
 
+-- A save, a failed save and a restart of a desk are events of each transaction.
 pub whole_events : (txn : Qualifiers) (w : DeskParties) (role : Who) (landed : Bool)
     → events_for txn w (events.Save role ∷ events.SaveFault role landed ∷ events.Restart role ∷ []) ≡ plain (events.Save role) ∷ plain (events.SaveFault role landed) ∷ plain (events.Restart role) ∷ []
 unfolding events_for
 whole_events txn w role landed = refl
 
-is_one : (txn : Qualifiers) (w : DeskParties) (event : DeskEvent) (own : Bool) → is_event_of txn w event ≡ own → events_for txn w (event ∷ []) ≡ (if own then plain event ∷ [] else [])
+-- Of one event, a transaction has this event if `is_event_of` is true, and else none.
+is_one : (txn : Qualifiers) (w : DeskParties) (event : DeskEvent) (own : Bool) → is_event_of txn w event ≡ own
+    → events_for txn w (event ∷ []) ≡ (if own then plain event ∷ [] else [])
 is_one txn w event own is = one_event txn w event ∙ ap (λ b. if b then plain event ∷ [] else []) is
 
--- An event that names a transaction concerns this one alone.
+-- An event that names `txn` concerns `txn`.
 names_own : (txn : Qualifiers) (event : DeskEvent) → Names txn event → concerns txn event ≡ true
 names_own txn (events.Wish of wish) is = ap (is_same_txn txn) is ∙ same_self txn
 names_own txn (events.Deed of deed today) is = ap (is_same_txn txn) is ∙ same_self txn
@@ -78,6 +85,7 @@ names_own txn (events.Send role of n) is = ap (is_same_txn txn) is ∙ same_self
 names_own txn (events.Deliver role of n) is = ap (is_same_txn txn) is ∙ same_self txn
 names_own txn event is = absurd is
 
+-- If `txn` is not `another`, it is not `of`, which equals `another`.
 apart_from : (txn another of : Qualifiers) → of ≡ another → (txn ≡ another → ⊥) → is_same_txn txn of ≡ false
 apart_from txn another of is apart = go (is_same_txn txn of) refl
   where
@@ -85,45 +93,59 @@ apart_from txn another of is apart = go (is_same_txn txn of) refl
     go true same = absurd (apart (same_is txn of same ∙ is))
     go false same = refl
 
-names_another : (txn another : Qualifiers) (event : DeskEvent) → Names another event → (txn ≡ another → ⊥) → concerns txn event ≡ false
+-- An event that names another transaction does not concern `txn`.
+names_another : (txn another : Qualifiers) (event : DeskEvent) → Names another event → (txn ≡ another → ⊥)
+    → concerns txn event ≡ false
 names_another txn another (events.Wish of wish) is apart = apart_from txn another of is apart
 names_another txn another (events.Deed of deed today) is apart = apart_from txn another of is apart
 names_another txn another (events.Send role of n) is apart = apart_from txn another of is apart
 names_another txn another (events.Deliver role of n) is apart = apart_from txn another of is apart
 names_another txn another event is apart = absurd is
 
+-- An event that does not concern a transaction is none of it, with any outcome.
 never_reached : (outcome : DeskOutcome) → if_reached outcome false ≡ false
 never_reached (Plain outcome) = refl
 never_reached other = refl
 
-pub named_event : (txn : Qualifiers) (w : DeskParties) (event : DeskEvent) (outcome : Outcome) → Names txn event → (desks_happen w event).0 ≡ Plain outcome → events_for txn w (event ∷ []) ≡ plain event ∷ []
+-- An event that names `txn`, and reaches it, is an event of `txn`.
+pub named_event : (txn : Qualifiers) (w : DeskParties) (event : DeskEvent) (outcome : Outcome) → Names txn event
+    → (desks_happen w event).0 ≡ Plain outcome → events_for txn w (event ∷ []) ≡ plain event ∷ []
 named_event txn w event outcome names seen = is_one txn w event true (ap (λ o. if_reached o (concerns txn event)) seen ∙ names_own txn event names)
 
-pub other_event : (txn another : Qualifiers) (w : DeskParties) (event : DeskEvent) → Names another event → (txn ≡ another → ⊥) → events_for txn w (event ∷ []) ≡ []
+-- An event that names another transaction is no event of `txn`.
+pub other_event : (txn another : Qualifiers) (w : DeskParties) (event : DeskEvent) → Names another event
+    → (txn ≡ another → ⊥) → events_for txn w (event ∷ []) ≡ []
 other_event txn another w event names apart =
     is_one txn w event false (ap (if_reached (desks_happen w event).0) (names_another txn another event names apart) ∙ never_reached (desks_happen w event).0)
 
-pub unreached_event : (txn : Qualifiers) (w : DeskParties) (event : DeskEvent) → IsNotReached (desks_happen w event).0 → events_for txn w (event ∷ []) ≡ []
+-- An event that does not reach its transaction is no event of `txn`.
+pub unreached_event : (txn : Qualifiers) (w : DeskParties) (event : DeskEvent) → IsNotReached (desks_happen w event).0
+    → events_for txn w (event ∷ []) ≡ []
 unreached_event txn w event (inl seen) = is_one txn w event false (ap (λ o. if_reached o (concerns txn event)) seen)
 unreached_event txn w event (inr seen) = is_one txn w event false (ap (λ o. if_reached o (concerns txn event)) seen)
 
-pub noise_event : (txn : Qualifiers) (w : DeskParties) (role : Who) (bytes : List ℕ) → events_for txn w (events.Noise role bytes ∷ []) ≡ []
+-- Noise is no event of `txn`.
+pub noise_event : (txn : Qualifiers) (w : DeskParties) (role : Who) (bytes : List ℕ)
+    → events_for txn w (events.Noise role bytes ∷ []) ≡ []
 noise_event txn w role bytes = is_one txn w (events.Noise role bytes) false refl
 
 -- ---- deliveries
 
--- What ends a request settles it in these states.
+-- A body that has to lead to the states `among` ends the request, and settles it in these.
 ends_as : (body : Body) (among : List State) → EndsIn body among → (is_end body ≡ true) × (settled_by body ≡ among)
 ends_as _ _ (shipped due) = (refl, refl)
 ends_as _ _ (cancelled c) = (refl, refl)
 ends_as _ _ expired = (refl, refl)
 ends_as _ _ (refused answer final) = (final_ends answer final, refl)
 
-heeded_at : (among : List State) (outcome : DeskOutcome) (side : Side) → IsUnheededAt among outcome side → SettlesAt among outcome side → ⊥
+-- A message that settles a side in the states `among` is not unheeded there.
+heeded_at : (among : List State) (outcome : DeskOutcome) (side : Side) → IsUnheededAt among outcome side
+    → SettlesAt among outcome side → ⊥
 heeded_at among (Plain outcome) side unheeded settles = heeded among outcome side unheeded settles
 heeded_at among NoSuchTransaction side unheeded settles = settles
 heeded_at among DeskFull side unheeded settles = settles
 
+-- If `ArrivesAt` holds of an event, no message arrives in vain by it.
 pub none_in_vain_at : (w : DeskParties) (event : DeskEvent) → ArrivesInVainAt w event → ArrivesAt w event → ⊥
 none_in_vain_at w _ (end_in_vain txn n a among sent ends unheeded) arrives =
     let after = desks_happen w (events.Deliver who.Requester txn n) in
@@ -134,8 +156,9 @@ none_in_vain_at w _ (returned_in_vain txn n a sent is unheeded) arrives =
     let after = desks_happen w (events.Deliver who.Responder txn n) in
     heeded_at (states.Returned ∷ states.CheckedIn ∷ []) after.0 (held_for txn after.1.responder.live).side unheeded (arrives a sent (ap is_returned is))
 
--- ---- what is reached, and what changes
+-- ---- events that reach a side, and changes
 
+-- An outcome of an event in one transaction is neither NoSuchTransaction nor DeskFull.
 not_plain : (outcome : DeskOutcome) → IsPlain outcome → IsNotReached outcome → ⊥
 not_plain (Plain outcome) plainly (inl is) = search rules
 not_plain (Plain outcome) plainly (inr is) = search rules
@@ -148,6 +171,7 @@ held_missed may_begin p txn of held outcome is found reaches missed =
     not_plain outcome
     (subst (λ o. Reaches may_begin (nat_lt (length p.live.held) 1000) o outcome) (ap (λ t. found_by txn_held t p.live.held) is ∙ found) reaches) missed
 
+-- If `ReachesSide` holds of an event, it does not miss a transaction that its desk holds.
 pub none_missed : (w : DeskParties) (event : DeskEvent) → MissesHeld w event → ReachesSide w event → ⊥
 none_missed w (events.Wish of wish) (txn, held, names, found, missed) reaches = held_missed _ w.requester txn of held _ names found reaches missed
 none_missed w (events.Deed of deed today) (txn, held, names, found, missed) reaches = held_missed false w.responder txn of held _ names found reaches missed
@@ -159,7 +183,9 @@ none_missed w (events.Deliver role of n) (txn, held, names, found, missed) reach
     go (Some a) e = held_missed (is_ill_request a.body) (party w role) txn of held _ names found (reaches a e) missed
 none_missed w event (txn, held, names, found, missed) reaches = absurd names
 
-pub none_changed : (outcome : DeskOutcome) (old new : Parties) → ChangesUnreached outcome old new → DeskMayChange outcome old new → ⊥
+-- If `DeskMayChange` holds of an event that is not reached, the projection has not changed.
+pub none_changed : (outcome : DeskOutcome) (old new : Parties) → ChangesUnreached outcome old new
+    → DeskMayChange outcome old new → ⊥
 none_changed (Plain outcome) old new (missed, changed) may = not_plain (Plain outcome) tt missed
 none_changed NoSuchTransaction old new (missed, changed) may = changed may
 none_changed DeskFull old new (missed, changed) may = changed may

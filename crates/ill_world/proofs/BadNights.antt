@@ -16,25 +16,36 @@ use Rattle.ill_world.specs.BadNights.{MisjudgesEnd, ended, marked, unmarked, uns
 use Rattle.ill_world.proofs.Nights.{open_wants, over_is_silent}
 use Rattle.ill_world.proofs.OutOfStep.{faces_back}
 
--- ---- whether a loan is over
+-- ---- a loan that is over
 
-ended_requester : (s : State) (declined checked_in : Bool) → is_among (states.Cancelled ∷ states.NotSupplied ∷ states.CheckedIn ∷ []) s ≡ true → is_nobodys (requester_turn_in s declined checked_in) ≡ true
+-- In CANCELLED, NOT-SUPPLIED and CHECKED-IN it is nobody's turn, by a requester's record.
+ended_requester : (s : State) (declined checked_in : Bool)
+    → is_among (states.Cancelled ∷ states.NotSupplied ∷ states.CheckedIn ∷ []) s ≡ true
+    → is_nobodys (requester_turn_in s declined checked_in) ≡ true
 ended_requester states.Cancelled declined checked_in is = refl
 ended_requester states.NotSupplied declined checked_in is = refl
 ended_requester states.CheckedIn declined checked_in is = refl
 ended_requester s declined checked_in is = search rules
 
-ended_responder : (s : State) → is_among (states.Cancelled ∷ states.NotSupplied ∷ states.CheckedIn ∷ []) s ≡ true → is_nobodys (responder_turn_in s) ≡ true
+-- In CANCELLED, NOT-SUPPLIED and CHECKED-IN it is nobody's turn, by a responder's record.
+ended_responder : (s : State) → is_among (states.Cancelled ∷ states.NotSupplied ∷ states.CheckedIn ∷ []) s ≡ true
+    → is_nobodys (responder_turn_in s) ≡ true
 ended_responder states.Cancelled is = refl
 ended_responder states.NotSupplied is = refl
 ended_responder states.CheckedIn is = refl
 ended_responder s is = search rules
 
-ended_is_over : (side : Side) → is_among (states.Cancelled ∷ states.NotSupplied ∷ states.CheckedIn ∷ []) (state_of side) ≡ true → is_over side ≡ true
+-- The loan is over for a side in CANCELLED, NOT-SUPPLIED or CHECKED-IN.
+ended_is_over : (side : Side)
+    → is_among (states.Cancelled ∷ states.NotSupplied ∷ states.CheckedIn ∷ []) (state_of side) ≡ true
+    → is_over side ≡ true
 ended_is_over (sides.Requester x) is = ended_requester x.state (is_declined x) x.checked_in is
 ended_is_over (sides.Responder y) is = ended_responder y.state is
 
-unsettled_requester : (s : State) (declined checked_in : Bool) → is_among (states.Idle ∷ states.Conditional ∷ states.CancelPending ∷ states.Recall ∷ []) s ≡ true → is_nobodys (requester_turn_in s declined checked_in) ≡ false
+-- In IDLE, CONDITIONAL, CANCEL-PENDING and RECALL it is somebody's turn, by a requester's record.
+unsettled_requester : (s : State) (declined checked_in : Bool)
+    → is_among (states.Idle ∷ states.Conditional ∷ states.CancelPending ∷ states.Recall ∷ []) s ≡ true
+    → is_nobodys (requester_turn_in s declined checked_in) ≡ false
 unsettled_requester states.Idle declined checked_in is = refl
 unsettled_requester states.Conditional true checked_in is = refl
 unsettled_requester states.Conditional false checked_in is = refl
@@ -42,22 +53,31 @@ unsettled_requester states.CancelPending declined checked_in is = refl
 unsettled_requester states.Recall declined checked_in is = refl
 unsettled_requester s declined checked_in is = search rules
 
-unsettled_responder : (s : State) → is_among (states.Idle ∷ states.Conditional ∷ states.CancelPending ∷ states.Recall ∷ []) s ≡ true → is_nobodys (responder_turn_in s) ≡ false
+-- In IDLE, CONDITIONAL, CANCEL-PENDING and RECALL it is somebody's turn, by a responder's record.
+unsettled_responder : (s : State)
+    → is_among (states.Idle ∷ states.Conditional ∷ states.CancelPending ∷ states.Recall ∷ []) s ≡ true
+    → is_nobodys (responder_turn_in s) ≡ false
 unsettled_responder states.Idle is = refl
 unsettled_responder states.Conditional is = refl
 unsettled_responder states.CancelPending is = refl
 unsettled_responder states.Recall is = refl
 unsettled_responder s is = search rules
 
-unsettled_is_open : (side : Side) → is_among (states.Idle ∷ states.Conditional ∷ states.CancelPending ∷ states.Recall ∷ []) (state_of side) ≡ true → is_over side ≡ false
+-- The loan is not over for a side in IDLE, CONDITIONAL, CANCEL-PENDING or RECALL.
+unsettled_is_open : (side : Side)
+    → is_among (states.Idle ∷ states.Conditional ∷ states.CancelPending ∷ states.Recall ∷ []) (state_of side) ≡ true
+    → is_over side ≡ false
 unsettled_is_open (sides.Requester x) is = unsettled_requester x.state (is_declined x) x.checked_in is
 unsettled_is_open (sides.Responder y) is = unsettled_responder y.state is
 
-over_requester : (s : State) (declined checked_in received : Bool) → is_nobodys (requester_turn_in s declined checked_in) ≡ true → requester_verbs_in s declined received ≡ []
+-- A requester has no verbs if it is nobody's turn.
+over_requester : (s : State) (declined checked_in received : Bool)
+    → is_nobodys (requester_turn_in s declined checked_in) ≡ true → requester_verbs_in s declined received ≡ []
 over_requester states.Conditional true checked_in received over = refl
 over_requester states.Conditional false checked_in received over = search rules
 over_requester s declined checked_in received over = search rules
 
+-- A responder has no verbs if it is nobody's turn.
 over_responder : (s : State) → is_nobodys (responder_turn_in s) ≡ true → responder_verbs_in s ≡ []
 over_responder s over = search rules
 
@@ -66,7 +86,7 @@ no_verbs : (side : Side) → is_over side ≡ true → verbs_of side ≡ []
 no_verbs (sides.Requester x) over = over_requester x.state (is_declined x) x.checked_in (is_received_by x) over
 no_verbs (sides.Responder y) over = over_responder y.state over
 
--- No wrong answer is the one that is given.
+-- The answer of `is_over` is no wrong one.
 pub not_misjudged : (side : Side) (says : Bool) → MisjudgesEnd side says → says ≡ is_over side → ⊥
 not_misjudged side says (ended _ is) e = true≢false (sym (ended_is_over side is) ∙ sym e)
 not_misjudged side says (marked x at has_mark) e =
@@ -76,18 +96,22 @@ not_misjudged side says (unmarked x at no_mark) e =
 not_misjudged side says (unsettled _ is) e = true≢false (e ∙ unsettled_is_open side is)
 not_misjudged side says (may_act _ acts) e = acts (no_verbs side (sym e))
 
--- ---- who sends
+-- ---- the sides that send
 
+-- A Bool and false is false.
 and_false : (b : Bool) → (b && false) ≡ false
 and_false true = refl
 and_false false = refl
 
-pub not_missent : (was_asked : Bool) (side : Side) (says : Bool) → MisjudgesSending was_asked side says → says ≡ wants_sending was_asked side → ⊥
+-- The answer of `wants_sending` is no wrong one.
+pub not_missent : (was_asked : Bool) (side : Side) (says : Bool) → MisjudgesSending was_asked side says
+    → says ≡ wants_sending was_asked side → ⊥
 not_missent was_asked side says (over_requester_sends x over) e = true≢false (e ∙ ap not over)
 not_missent was_asked side says (unasked_sends y over unasked) e = true≢false (e ∙ or_from (not (is_over (sides.Responder y))) was_asked (ap not over) unasked)
 not_missent was_asked side says (asked_is_silent y asked) e = true≢false (sym (or_right (not (is_over (sides.Responder y))) was_asked asked) ∙ sym e)
 not_missent was_asked side says (open_is_silent _ is_open) e = true≢false (sym (open_wants was_asked side is_open) ∙ sym e)
 
+-- The answer of `asks` is no wrong one.
 pub not_misasked : (side : Side) (says : Bool) → MisjudgesAsking side says → says ≡ asks side → ⊥
 not_misasked side says (over_asks _ over) e = true≢false (e ∙ ap (λ b. b && not (is_none (issued_of side))) (over_is_silent side over))
 not_misasked side says (idle_asks _ none) e = true≢false (e ∙ ap (λ b. wants_sending false side && not b) none ∙ and_false (wants_sending false side))
@@ -95,6 +119,7 @@ not_misasked side says (open_asks_not _ is_open some) e = true≢false (sym (and
 
 -- ---- records at rest
 
+-- Two records that are restless are not at rest.
 pub not_at_rest : (x : RequesterRecord) (y : ResponderRecord) → Restless x y → AtRest x y → ⊥
 not_at_rest x y (open_requester is_open) rest = true≢false (sym rest.requester ∙ is_open)
 not_at_rest x y (open_responder is_open) rest = true≢false (sym rest.responder ∙ is_open)

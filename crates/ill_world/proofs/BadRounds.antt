@@ -1,4 +1,4 @@
--- Why a round that is cut short by one message does not bring both sides in step.
+-- A round without one message does not bring both sides in step, and a whole one does.
 use Rattle.std.proofs.Common.{rules, refl, sym}
 use Rattle.std.proofs.lemmas.Bool.{true≢false}
 use Rattle.ill_saved.specs.declared.role.Role.{Role as Who}
@@ -13,7 +13,7 @@ unfolding run_by passes_on
 cut_leaves_apart who.Requester step = true≢false (sym step.faced)
 cut_leaves_apart who.Responder step = true≢false (sym step.faced)
 
--- A whole round brings the same two sides in step.
+-- A whole round brings these two sides in step.
 pub whole_brings_in_step : (who : Who) → AreInStep (run_of (last_unheard who) (round_of (last_unheard who)))
 unfolding run_by passes_on
 whole_brings_in_step who.Requester = record { faced = refl; undeclined = refl; received = λ is. search rules; checked_in = refl; due = λ is. refl }

@@ -1,4 +1,4 @@
--- What an event changes of a party, and so of the world.
+-- The changes that an event may make to a party, and so to the world.
 use Rattle.std.proofs.Common.{◌≡◌, ◌⊎◌, inl, inr, ℕ, Bool, true, false, List, [], ◌∷◌, ◌++◌, Option, Some, None, Result, Ok, Err, refl, sym, ap, subst}
 use Rattle.ill_values.specs.TxnId.{Qualifiers}
 use Rattle.ill_values.specs.declared.apdu.Apdu.{Apdu}
@@ -24,17 +24,18 @@ use Rattle.ill_world.specs.Changes.{OnlyLands, OnlyLandedChanges, MayChange, Kee
 use Rattle.ill_world.specs.Invariant.{SendsSaved, Invariant}
 use Rattle.ill_world.proofs.Kept.{stays_sent}
 
--- What the laws of the rows say: a message that is not taken changes nothing.
+-- By the laws of the rows, a message that is not taken changes nothing.
 pub record Quiet : Type 0 where
   pub requester : (x : RequesterRecord) (a : Apdu) → ((requester_deliveries.takes x a).0 ≡ Ok Taken) ⊎ ((requester_deliveries.takes x a).1 ≡ x)
   pub responder : (y : ResponderRecord) (a : Apdu) → ((responder_deliveries.takes y a).0 ≡ Ok Taken) ⊎ ((responder_deliveries.takes y a).1 ≡ y)
 
 -- ---- one party
 
+-- A party that stays as it is has changed at most its landed side.
 same_lands : (p : Party) → OnlyLands p p
 same_lands p = record { live = refl; released = refl; sent = refl }
 
--- a party that stays as it is
+-- Each outcome allows a party to stay as it is.
 nothing_changes : (outcome : Outcome) (p : Party) → MayChange OnlyLands outcome p p
 nothing_changes Done p = tt
 nothing_changes Saved p = tt
@@ -47,23 +48,30 @@ nothing_changes (Answered (Conflict state)) p = refl
 nothing_changes Faulted p = same_lands p
 nothing_changes other p = refl
 
+-- The outcome of a decision allows its change.
 decides_changes : (p : Party) (result : Result Side Refusal) → MayChange OnlyLands (decides p result).0 p (decides p result).1
 decides_changes p (Ok new) = tt
 decides_changes p (Err refusal) = refl
 
-fails_changes : (p : Party) (told : List (Option Apdu)) (of : Who) (landed : Bool) → OnlyLands p (happens_to p told (events.SaveFault of landed)).1
+-- A failed save changes at most the landed side.
+fails_changes : (p : Party) (told : List (Option Apdu)) (of : Who) (landed : Bool)
+    → OnlyLands p (happens_to p told (events.SaveFault of landed)).1
 fails_changes p told of true = record { live = refl; released = refl; sent = refl }
 fails_changes p told of false = same_lands p
 
-sends_changes : (p : Party) (n : ℕ) (found : Option Apdu) (released : Bool) → MayChange OnlyLands (sends p n found released).0 p (sends p n found released).1
+-- The outcome of a Send allows its change.
+sends_changes : (p : Party) (n : ℕ) (found : Option Apdu) (released : Bool)
+    → MayChange OnlyLands (sends p n found released).0 p (sends p n found released).1
 sends_changes p n None released = refl
 sends_changes p n (Some a) true = tt
 sends_changes p n (Some a) false = refl
 
+-- A message that a side does not take changes nothing of it.
 pub quiet : Quiet → (side : Side) (a : Apdu) → ((takes side a).0 ≡ Ok Taken) ⊎ ((takes side a).1 ≡ side)
 quiet rows (sides.Requester x) a = elim (rows.requester x a) [ inl taken ↦ inl taken | inr same ↦ inr (ap sides.Requester same) ]
 quiet rows (sides.Responder y) a = elim (rows.responder y a) [ inl taken ↦ inl taken | inr same ↦ inr (ap sides.Responder same) ]
 
+-- The outcome of a delivery allows its change.
 receives_changes : Quiet → (p : Party) (found : Option Apdu) → MayChange OnlyLands (receives p found).0 p (receives p found).1
 receives_changes rows p None = refl
 receives_changes rows p (Some a) =
@@ -72,7 +80,9 @@ receives_changes rows p (Some a) =
       | inr same ↦ subst (λ side. MayChange OnlyLands (receives p (Some a)).0 p (record p { live = side })) (sym same) (nothing_changes (receives p (Some a)).0 p)
     ]
 
-party_changes : Quiet → (p : Party) (told : List (Option Apdu)) (event : Event) → MayChange OnlyLands (happens_to p told event).0 p (happens_to p told event).1
+-- The outcome of each event allows the change of the party.
+party_changes : Quiet → (p : Party) (told : List (Option Apdu)) (event : Event)
+    → MayChange OnlyLands (happens_to p told event).0 p (happens_to p told event).1
 party_changes rows p told (events.Wish wish) = decides_changes p (acts p.live (actions.Wish wish))
 party_changes rows p told (events.Deed deed today) = decides_changes p (acts p.live (actions.Deed deed today))
 party_changes rows p told (events.Save of) = tt
@@ -84,15 +94,19 @@ party_changes rows p told (events.Restart of) = tt
 
 -- ---- the world
 
+-- If at most the landed side of one party has changed, so it is of the world.
 landed_of_one : (w : Parties) (of : Who) (new : Party) → OnlyLands (party w of) new → OnlyLandedChanges w (with_party w of new)
 landed_of_one w who.Requester new lands = (lands, same_lands w.responder)
 landed_of_one w who.Responder new lands = (same_lands w.requester, lands)
 
+-- A world in which a party is replaced by itself stays as it is.
 same_world : (w : Parties) (of : Who) (new : Party) → new ≡ party w of → with_party w of new ≡ w
 same_world w who.Requester new same = ap (with_party w who.Requester) same
 same_world w who.Responder new same = ap (with_party w who.Responder) same
 
-changes_of_one : (outcome : Outcome) (w : Parties) (of : Who) (new : Party) → MayChange OnlyLands outcome (party w of) new → MayChange OnlyLandedChanges outcome w (with_party w of new)
+-- If an outcome allows the change of one party, it allows that of the world.
+changes_of_one : (outcome : Outcome) (w : Parties) (of : Who) (new : Party)
+    → MayChange OnlyLands outcome (party w of) new → MayChange OnlyLandedChanges outcome w (with_party w of new)
 changes_of_one Done w of new changes = tt
 changes_of_one Saved w of new changes = tt
 changes_of_one Sent w of new changes = tt
@@ -104,18 +118,22 @@ changes_of_one (Answered (Conflict state)) w of new changes = same_world w of ne
 changes_of_one Faulted w of new changes = landed_of_one w of new changes
 changes_of_one other w of new changes = same_world w of new changes
 
--- a world that stays as it is
+-- Each outcome allows a world to stay as it is.
 pub same_changes : (w : Parties) (outcome : Outcome) → MayChange OnlyLandedChanges outcome w w
 same_changes w outcome = changes_of_one outcome w who.Requester w.requester (nothing_changes outcome w.requester)
 
+-- The outcome of each event allows the change of the world.
 pub world_changes : Quiet → (w : Parties) (event : Event) → MayChange OnlyLandedChanges (happens w event).0 w (happens w event).1
 world_changes rows w event =
     let of = who_of event in
     changes_of_one (happens w event).0 w of _ (party_changes rows (party w of) (party w (other of)).sent event)
 
--- ---- what was sent
+-- ---- sent messages
 
-sent_by_one : (w : Parties) (of : Who) (new : Party) → ((n : ℕ) (a : Apdu) → sent_message (party w of).sent n ≡ Some a → sent_message new.sent n ≡ Some a) → KeepsSent w (with_party w of new)
+-- If one party keeps what it had sent, and the other stays, the world keeps what was sent.
+sent_by_one : (w : Parties) (of : Who) (new : Party)
+    → ((n : ℕ) (a : Apdu) → sent_message (party w of).sent n ≡ Some a → sent_message new.sent n ≡ Some a)
+    → KeepsSent w (with_party w of new)
 sent_by_one w who.Requester new keeps who.Requester n a was = keeps n a was
 sent_by_one w who.Requester new keeps who.Responder n a was = was
 sent_by_one w who.Responder new keeps who.Responder n a was = keeps n a was
@@ -130,6 +148,7 @@ event_keeps_sent txn w event stands =
     let of = who_of event in
     sent_by_one w of _ (stays_sent (party w of) (party w (other of)).sent event (saved_by txn w of stands))
 
+-- An event keeps the invariant.
 abbrev pub After : Qualifiers → Type 0
 After txn = (w : Parties) (event : Event) → Invariant txn w → Invariant txn (happens w event).1
 

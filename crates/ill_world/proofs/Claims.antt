@@ -1,4 +1,4 @@
--- Why a world that stands is safe: of a requester's record and a responder's that it faces.
+-- A world with the invariant is safe, by a requester's record and a responder's that it faces.
 use Rattle.std.proofs.Common.{rules, ◌≡◌, ◌⊎◌, inl, inr, ℕ, Bool, true, false, not, ◌&&◌, ◌||◌, List, [], ◌∷◌, Option, Some, None, is_some, refl, sym, ap, ◌∙◌}
 use Rattle.ill_values.specs.Day.{Date}
 use Rattle.ill_values.specs.TxnId.{Qualifiers}
@@ -23,7 +23,7 @@ use Rattle.ill_world.specs.Invariant.{WasSent, RequesterStands, ResponderStands,
 use Rattle.ill_core.proofs.MessageLemmas.{message_says}
 use Rattle.ill_world.proofs.Sendings.{front_message}
 
--- ---- what a message tells
+-- ---- evidence
 
 tells_cancelled : (body : Body) → requester.IsEvidence body requester.Cancelled → responder.is_cancelled body ≡ true
 tells_cancelled (types.CancelReply c true) tells = refl
@@ -48,17 +48,19 @@ tells_shipped (types.RenewAnswer c (Some d)) due tells = inr refl
 tells_shipped (types.RenewAnswer c None) due tells = absurd tells
 tells_shipped body due tells = search rules
 
--- ---- what a responder's record says
+-- ---- a responder's record
 
+-- A state that is one of CANCELLED alone is CANCELLED.
 pub is_in_cancelled : (state : State) → is_among (states.Cancelled ∷ []) state ≡ true → state ≡ states.Cancelled
 is_in_cancelled states.Cancelled e = refl
 is_in_cancelled state e = search rules
 
+-- A state that is one of NOT-SUPPLIED alone is NOT-SUPPLIED.
 pub is_in_not_supplied : (state : State) → is_among (states.NotSupplied ∷ []) state ≡ true → state ≡ states.NotSupplied
 is_in_not_supplied states.NotSupplied e = refl
 is_in_not_supplied state e = search rules
 
--- a Shipped stands before each renewal
+-- If a Shipped stands before each renewal, a list that has a renewal has a Shipped.
 pub ships_before : (apdus : List Apdu) → ships_first apdus ≡ true → has is_renewal apdus ≡ true → has is_shipped apdus ≡ true
 unfolding ships_first
 ships_before [] first renewed = search rules
@@ -71,35 +73,43 @@ ships_before (a ∷ apdus) first renewed = go (is_shipped a.body) (is_renewal a.
 
 -- ---- a requester's record and a responder's
 
--- what was sent is among what this side has issued
+-- Each message that was sent is among the `apdus` issued.
 abbrev pub AreIssued : List (Option Apdu) → List Apdu → Type 0
 AreIssued sent apdus = (a : Apdu) → WasSent sent a → (n : ℕ) × (message apdus n ≡ Some a)
 
+-- `P` holds of two sides that stand, if the responder's has issued the messages by which the requester's stands.
 abbrev Pair : (Side → Side → Type 0) → Type 0
 Pair P = (txn : Qualifiers) (x y : Side) (told heard : List (Option Apdu)) → RequesterSideStands txn x told → ResponderSideStands txn y heard → AreIssued told (issued_of y) → P x y
 
--- a message that was sent tells what the responder has issued
-pub has_issued : (apdus : List Apdu) (told : List (Option Apdu)) (says : Body → Bool) (a : Apdu) → AreIssued told apdus → WasSent told a → says a.body ≡ true → has says apdus ≡ true
+-- If `says` holds of a message that was sent, and those are issued, it holds of one that is issued.
+pub has_issued : (apdus : List Apdu) (told : List (Option Apdu)) (says : Body → Bool) (a : Apdu)
+    → AreIssued told apdus → WasSent told a → says a.body ≡ true → has says apdus ≡ true
 has_issued apdus told says a issued was is = let at = issued a was in message_says says apdus at.0 a at.1 is
 
-pub cancelled_faces : (txn : Qualifiers) (x : RequesterRecord) (y : ResponderRecord) (told heard : List (Option Apdu)) → RequesterStands txn x told → ResponderStands txn y heard → AreIssued told y.issued
+-- A requester in CANCELLED faces a responder in CANCELLED, if both stand.
+pub cancelled_faces : (txn : Qualifiers) (x : RequesterRecord) (y : ResponderRecord) (told heard : List (Option Apdu))
+    → RequesterStands txn x told → ResponderStands txn y heard → AreIssued told y.issued
     → x.state ≡ states.Cancelled → y.state ≡ states.Cancelled
 cancelled_faces txn x y told heard requester_stands responder_stands issued e =
     let known = requester_stands.knows requester.Cancelled e in
     is_in_cancelled y.state (sym responder_stands.ends.cancelled ∙ has_issued y.issued told responder.is_cancelled known.0 issued known.1 (tells_cancelled known.0.body known.2))
 
-pub not_supplied_faces : (txn : Qualifiers) (x : RequesterRecord) (y : ResponderRecord) (told heard : List (Option Apdu)) → RequesterStands txn x told → ResponderStands txn y heard
+-- A requester in NOT-SUPPLIED faces a responder in NOT-SUPPLIED, if both stand.
+pub not_supplied_faces : (txn : Qualifiers) (x : RequesterRecord) (y : ResponderRecord) (told heard : List (Option Apdu))
+    → RequesterStands txn x told → ResponderStands txn y heard
     → AreIssued told y.issued → x.state ≡ states.NotSupplied → y.state ≡ states.NotSupplied
 not_supplied_faces txn x y told heard requester_stands responder_stands issued e =
     let known = requester_stands.knows requester.Ended e in
     is_in_not_supplied y.state (sym responder_stands.ends.unsupplied ∙ has_issued y.issued told responder.is_unsupplied known.0 issued known.1 (tells_ended known.0.body known.2))
 
+-- `EndsAlike` holds of two sides that stand.
 ends_pair : Pair EndsAlike
 ends_pair txn (sides.Requester x) (sides.Responder y) told heard requester_stands responder_stands issued =
     (cancelled_faces txn x y told heard requester_stands responder_stands issued, not_supplied_faces txn x y told heard requester_stands responder_stands issued)
 ends_pair txn (sides.Responder x) y told heard requester_stands responder_stands issued = absurd requester_stands
 ends_pair txn (sides.Requester x) (sides.Requester y) told heard requester_stands responder_stands issued = absurd responder_stands
 
+-- `WasGranted` holds of two sides that stand.
 grant_pair : Pair WasGranted
 grant_pair txn (sides.Requester x) (sides.Responder y) told heard requester_stands responder_stands issued =
     λ due e.
@@ -109,7 +119,9 @@ grant_pair txn (sides.Requester x) (sides.Responder y) told heard requester_stan
 grant_pair txn (sides.Responder x) y told heard requester_stands responder_stands issued = absurd requester_stands
 grant_pair txn (sides.Requester x) (sides.Requester y) told heard requester_stands responder_stands issued = absurd responder_stands
 
-pub shipped_by : (txn : Qualifiers) (x : RequesterRecord) (y : ResponderRecord) (told heard : List (Option Apdu)) (due : Option Date) → RequesterStands txn x told → ResponderStands txn y heard
+-- If a requester has a due date, the responder has issued a Shipped, if both stand.
+pub shipped_by : (txn : Qualifiers) (x : RequesterRecord) (y : ResponderRecord) (told heard : List (Option Apdu)) (due : Option Date)
+    → RequesterStands txn x told → ResponderStands txn y heard
     → AreIssued told y.issued → x.due ≡ due → is_some due ≡ true → has is_shipped y.issued ≡ true
 shipped_by txn x y told heard None requester_stands responder_stands issued e some = search rules
 shipped_by txn x y told heard (Some d) requester_stands responder_stands issued e some =
@@ -119,6 +131,7 @@ shipped_by txn x y told heard (Some d) requester_stands responder_stands issued 
       | inr renewal ↦ ships_before y.issued responder_stands.rules.ships_first (has_issued y.issued told is_renewal known.0 issued known.1 renewal)
     ]
 
+-- `WasShipped` holds of two sides that stand.
 shipped_pair : Pair WasShipped
 shipped_pair txn (sides.Requester x) (sides.Responder y) told heard requester_stands responder_stands issued = λ is. shipped_by txn x y told heard x.due requester_stands responder_stands issued refl (requester_stands.rules.parts.due ∙ is)
 shipped_pair txn (sides.Responder x) y told heard requester_stands responder_stands issued = absurd requester_stands
@@ -126,9 +139,11 @@ shipped_pair txn (sides.Requester x) (sides.Requester y) told heard requester_st
 
 -- ---- both records of either
 
+-- A party that sends only what it has saved has sent only messages of its landed side.
 pub landed_issues : (p : Party) → SendsSaved p → AreIssued p.sent (issued_of p.landed)
 landed_issues p saved = λ a was. (was.0, saved.landed was.0 a was.1)
 
+-- A party that sends only what it has saved has sent only messages of its live side.
 pub live_issues : (p : Party) → SendsSaved p → AreIssued p.sent (issued_of p.live)
 live_issues p saved = λ a was. (was.0, front_message (issued_of p.landed) (issued_of p.live) was.0 a saved.front (saved.landed was.0 a was.1))
 

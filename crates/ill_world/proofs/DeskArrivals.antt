@@ -34,23 +34,27 @@ use Rattle.ill_world.proofs.Arrivals.{shipped_before}
 use Rattle.ill_world.proofs.Agreements.{tells_requested}
 use Rattle.ill_world.proofs.Desks.{EachProjects, same_plain}
 
--- ---- who has issued a message has a side
+-- ---- an issued message has a side
 
--- what has been issued is not nothing
+-- A list that has an APDU of which `says` holds is not empty.
 not_nothing : (says : _ → Bool) (apdus : List Apdu) → has says apdus ≡ true → apdus ≡ [] → ⊥
 not_nothing says apdus is none = true≢false (sym is ∙ ap (has says) none)
 
-last_of_five : (idle a b c d none : Bool) → idle ≡ true → implies idle (not a && (not b && (not c && (not d && none)))) ≡ true → none ≡ true
+-- If an idle record implies five facts, the last of them holds of it.
+last_of_five : (idle a b c d none : Bool) → idle ≡ true
+    → implies idle (not a && (not b && (not c && (not d && none)))) ≡ true → none ≡ true
 last_of_five true false false false false none is empty = empty
 last_of_five idle a b c d none is empty = search rules
 
+-- A list that is empty has no message.
 pub idle_issued : (apdus : List Apdu) (n : ℕ) (a : Apdu) → is_none apdus ≡ true → message apdus n ≡ Some a → ⊥
 idle_issued [] zero a none at = true≢false (sym (ap is_some at))
 idle_issued [] (suc n) a none at = search rules
 idle_issued (b ∷ apdus) n a none at = true≢false (sym none)
 
--- a responder that has issued anything was asked
-pub asked : (txn : Qualifiers) (x y : Side) (told heard : List (Option Apdu)) (n : ℕ) (a : Apdu) → RequesterSideStands txn x told → ResponderSideStands txn y heard → AreIssued heard (issued_of x)
+-- If the responder has issued a message, the requester has issued one.
+pub asked : (txn : Qualifiers) (x y : Side) (told heard : List (Option Apdu)) (n : ℕ) (a : Apdu)
+    → RequesterSideStands txn x told → ResponderSideStands txn y heard → AreIssued heard (issued_of x)
     → message (issued_of y) n ≡ Some a → issued_of x ≡ [] → ⊥
 asked txn (sides.Requester x) (sides.Responder y) told heard n a requester_stands responder_stands heeded at none =
     let known = responder_stands.knows responder.Requested (begun (is_among (states.Idle ∷ []) y.state) refl) in
@@ -62,16 +66,18 @@ asked txn (sides.Requester x) (sides.Responder y) told heard n a requester_stand
 asked txn (sides.Responder x) y told heard n a requester_stands responder_stands heeded at none = absurd requester_stands
 asked txn (sides.Requester x) (sides.Requester y) told heard n a requester_stands responder_stands heeded at none = absurd responder_stands
 
--- a responder whose item was returned has shipped it
-supplied : (txn : Qualifiers) (x y : Side) (told heard : List (Option Apdu)) (n : ℕ) (a : Apdu) → RequesterSideStands txn x told → ResponderSideStands txn y heard → AreIssued told (issued_of y)
+-- If the requester has issued a Returned, the responder has issued a message.
+supplied : (txn : Qualifiers) (x y : Side) (told heard : List (Option Apdu)) (n : ℕ) (a : Apdu)
+    → RequesterSideStands txn x told → ResponderSideStands txn y heard → AreIssued told (issued_of y)
     → message (issued_of x) n ≡ Some a → is_returned a.body ≡ true → issued_of y ≡ [] → ⊥
 supplied txn (sides.Requester x) (sides.Responder y) told heard n a requester_stands responder_stands issued at is none =
     not_nothing is_shipped y.issued (shipped_before txn x y told heard n a requester_stands responder_stands issued at is) none
 supplied txn (sides.Responder x) y told heard n a requester_stands responder_stands issued at is none = absurd requester_stands
 supplied txn (sides.Requester x) (sides.Requester y) told heard n a requester_stands responder_stands issued at is none = absurd responder_stands
 
--- ---- what is held is reached
+-- ---- a side that is held is reached
 
+-- An idle side has issued nothing.
 pub idle_issues : (role : Who) (txn : Qualifiers) → issued_of (idle_side role txn) ≡ []
 idle_issues who.Requester txn = refl
 idle_issues who.Responder txn = refl
@@ -84,7 +90,9 @@ held_plainly may_begin p txn None outcome e not_idle reaches = absurd (not_idle 
 
 -- ---- the law
 
-settles_as : (among : List State) (own : Bool) (expected : Outcome × Parties) (old new : Parties) (outcome : DeskOutcome) (side : Parties → Side) → IsSeenAs (if_reached outcome own) expected old outcome new → own ≡ true → IsPlain outcome
+-- If a delivery reaches its transaction, and settles the expected side, it settles the side that is seen.
+settles_as : (among : List State) (own : Bool) (expected : Outcome × Parties) (old new : Parties) (outcome : DeskOutcome) (side : Parties → Side)
+    → IsSeenAs (if_reached outcome own) expected old outcome new → own ≡ true → IsPlain outcome
     → Settles among expected.0 (side expected.1) → SettlesAt among outcome (side new)
 settles_as among true expected old new (Plain outcome) side seen concerned is_plain settles =
     subst (λ o. Settles among o (side new)) (sym (same_plain outcome expected.0 seen.0)) (subst (λ w. Settles among expected.0 (side w)) (sym seen.1) settles)
@@ -92,11 +100,12 @@ settles_as among false expected old new outcome side seen concerned is_plain set
 settles_as among true expected old new NoSuchTransaction side seen concerned is_plain settles = absurd is_plain
 settles_as among true expected old new DeskFull side seen concerned is_plain settles = absurd is_plain
 
+-- `ReachesSide` holds of each event at two desks that stand.
 abbrev pub EachReaches : Type 0
 EachReaches = (w : DeskParties) (event : DeskEvent) → DesksStand w → ReachesSide w event
 
 module _ (projects : EachProjects) (reaches : EachReaches) (w : DeskParties) (stands : DesksStand w) (txn : Qualifiers) (n : ℕ) (a : Apdu) where
-  -- a message that settles a side that has issued something settles it at a desk
+  -- If a message settles a side that has issued something, it settles this side at its desk.
   settles_there : (role : Who) (among : List State) → sent_message (sent_for txn (party w (other role)).sent) n ≡ Some a → (issued_of (held_for txn (party w role).live).side ≡ [] → ⊥)
       → let after = happens (project txn w) (events.Deliver role n) in Settles among after.0 (party after.1 role).live
       → let after = desks_happen w (desk_events.Deliver role txn n) in SettlesAt among after.0 (party (project txn after.1) role).live

@@ -1,5 +1,5 @@
--- Why the delivery of a message finds room: the responder's desk holds no transaction that the requester's does not
--- hold, which holds 1,000 at most.
+-- The delivery of a message finds room: the requester's desk holds each transaction of the responder's desk, and 1,000
+-- at most.
 use Rattle.std.proofs.Common.{arith, rules, ◌≡◌, ◌⊎◌, inl, inr, ℕ, suc, ◌+◌, ◌≤◌, nat_lt, Bool, true, false, cond, if◌then◌else◌, ◌||◌, List, [], ◌∷◌, ◌++◌, length, map, Option, Some, None, is_some, Result, Ok, Err, refl, sym, ap, ◌∙◌, subst, true≢false, length-append}
 use Rattle.std.proofs.lemmas.Bool.{ltb-true, ltb-false, or_parts, or_from, or_left, or_right}
 use Rattle.std.proofs.lemmas.List.{length-map, map-append}
@@ -41,57 +41,64 @@ use Rattle.ill_world.proofs.DeskArrivals.{EachReaches, asked, idle_issued, idle_
 
 -- ---- lists of transactions
 
--- One of two is true, if either is.
+-- If `a || b` is true, a or b is true.
 one_of : (a b : Bool) → (a || b) ≡ true → (a ≡ true) ⊎ (b ≡ true)
 one_of true b is = inl refl
 one_of false b is = inr is
 
--- The second of two may give way to what follows from it.
+-- If `a || b` is true, and b implies c, `a || c` is true.
 or_as : (a b c : Bool) → (a || b) ≡ true → (b ≡ true → c ≡ true) → (a || c) ≡ true
 or_as true b c is follows = refl
 or_as false b c is follows = follows is
 
--- A transaction that is one of these is one of these and one more.
+-- A transaction that is one of `txns` is one of them with one more.
 has_still : (txn new : Qualifiers) (txns : List Qualifiers) → is_one_of txn txns ≡ true → is_one_of txn (txns ++ new ∷ []) ≡ true
 has_still txn new txns is = list_any-append (is_same_txn txn) txns (new ∷ []) ∙ or_left (is_one_of txn txns) (is_one_of txn (new ∷ [])) is
 
--- A transaction that is one of these and one more is one of these, or this one.
-has_either : (txn new : Qualifiers) (txns : List Qualifiers) → is_one_of txn (txns ++ new ∷ []) ≡ true → (is_one_of txn txns ≡ true) ⊎ (txn ≡ new)
+-- A transaction that is one of `txns` with `new` at the end is one of `txns`, or is `new`.
+has_either : (txn new : Qualifiers) (txns : List Qualifiers) → is_one_of txn (txns ++ new ∷ []) ≡ true
+    → (is_one_of txn txns ≡ true) ⊎ (txn ≡ new)
 has_either txn new txns is =
     elim (one_of (is_one_of txn txns) (is_one_of txn (new ∷ [])) (sym (list_any-append (is_same_txn txn) txns (new ∷ [])) ∙ is)) [
       | inl there ↦ inl there
       | inr last ↦ inr (elim (one_of (is_same_txn txn new) false last) [ inl same ↦ same_is txn new same | inr none ↦ absurd (true≢false (sym none)) ])
     ]
 
--- A transaction that is none of these, and not one more, is none of both.
-pub has_not : (txn new : Qualifiers) (txns : List Qualifiers) → is_one_of txn txns ≡ false → is_same_txn txn new ≡ false → is_one_of txn (txns ++ new ∷ []) ≡ false
+-- A transaction that is none of `txns`, and not `new`, is none of `txns` with `new` at the end.
+pub has_not : (txn new : Qualifiers) (txns : List Qualifiers) → is_one_of txn txns ≡ false
+    → is_same_txn txn new ≡ false → is_one_of txn (txns ++ new ∷ []) ≡ false
 has_not txn new txns none other =
     list_any-append (is_same_txn txn) txns (new ∷ []) ∙ or_from (is_one_of txn txns) (is_one_of txn (new ∷ [])) none (or_from (is_same_txn txn new) false other refl)
 
--- One more that is not among them leaves them apart.
-apart_still : (new : Qualifiers) (txns : List Qualifiers) → AreApart txns → is_one_of new txns ≡ false → AreApart (txns ++ new ∷ [])
+-- If no transaction stands twice in `txns`, and `new` is none of them, none does with `new` at the end.
+apart_still : (new : Qualifiers) (txns : List Qualifiers) → AreApart txns → is_one_of new txns ≡ false
+    → AreApart (txns ++ new ∷ [])
 apart_still new [] apart none = (refl, tt)
 apart_still new (first ∷ txns) apart none =
     let parts = or_parts (is_same_txn new first) (is_one_of new txns) none in
     (has_not first new txns apart.0 (apart_back new first parts.0), apart_still new txns apart.1 parts.1)
 
--- the transactions without this one
+-- Returns the transactions without `txn`.
 abbrev without : Qualifiers → List Qualifiers → List Qualifiers
 without txn [] = []
 without txn (first ∷ txns) = cond (is_same_txn txn first) txns (first ∷ without txn txns)
 
 -- They are one less without the first one, or without one of the others.
-one_less : (first : Qualifiers) (txns rest : List Qualifiers) (same there : Bool) → (same || there) ≡ true → (there ≡ true → suc (length rest) ≡ length txns) → suc (length (cond same txns (first ∷ rest))) ≡ suc (length txns)
+one_less : (first : Qualifiers) (txns rest : List Qualifiers) (same there : Bool) → (same || there) ≡ true
+    → (there ≡ true → suc (length rest) ≡ length txns)
+    → suc (length (cond same txns (first ∷ rest))) ≡ suc (length txns)
 one_less first txns rest true there is further = refl
 one_less first txns rest false there is further = ap suc (further is)
 
 -- They are one less without one that is among them.
-length_without : (txn : Qualifiers) (txns : List Qualifiers) → is_one_of txn txns ≡ true → suc (length (without txn txns)) ≡ length txns
+length_without : (txn : Qualifiers) (txns : List Qualifiers) → is_one_of txn txns ≡ true
+    → suc (length (without txn txns)) ≡ length txns
 length_without txn [] is = absurd (true≢false (sym is))
 length_without txn (first ∷ txns) is = one_less first txns (without txn txns) (is_same_txn txn first) (is_one_of txn txns) is (length_without txn txns)
 
 -- Another one is among them without this one too.
-has_without : (txn another : Qualifiers) (txns : List Qualifiers) → is_same_txn another txn ≡ false → is_one_of another txns ≡ true → is_one_of another (without txn txns) ≡ true
+has_without : (txn another : Qualifiers) (txns : List Qualifiers) → is_same_txn another txn ≡ false
+    → is_one_of another txns ≡ true → is_one_of another (without txn txns) ≡ true
 has_without txn another [] apart is = is
 has_without txn another (first ∷ txns) apart is = go (is_same_txn txn first) refl (has_without txn another txns apart)
   where
@@ -104,7 +111,8 @@ has_without txn another (first ∷ txns) apart is = go (is_same_txn txn first) r
     go false same further = or_as (is_same_txn another first) (is_one_of another txns) (is_one_of another (without txn txns)) is further
 
 -- A transaction that is one of these is not another that is none of them.
-not_both : (txn another : Qualifiers) (txns : List Qualifiers) → is_one_of txn txns ≡ false → is_one_of another txns ≡ true → is_same_txn another txn ≡ false
+not_both : (txn another : Qualifiers) (txns : List Qualifiers) → is_one_of txn txns ≡ false
+    → is_one_of another txns ≡ true → is_same_txn another txn ≡ false
 not_both txn another txns none is = go (is_same_txn another txn) refl
   where
     go : (same : Bool) → is_same_txn another txn ≡ same → same ≡ false
@@ -122,28 +130,30 @@ no_more (txn ∷ these) those apart among =
 
 -- ---- the transactions of a desk
 
--- An item is found if it is the first one, or if one is found behind it.
-either_some : {X : Type 0} (same there : Bool) (item : X) (found : Option X) → is_some found ≡ there → is_some (cond same (Some item) found) ≡ (same || there)
+-- An item is found if it is the first one, or if one is found after it.
+either_some : {X : Type 0} (same there : Bool) (item : X) (found : Option X) → is_some found ≡ there
+    → is_some (cond same (Some item) found) ≡ (same || there)
 either_some true there item found is = refl
 either_some false there item found is = is
 
--- The item of a transaction is found where the transaction is among theirs.
-pub has_found : {X : Type 0} (key : X → Qualifiers) (txn : Qualifiers) (items : List X) → is_some (found_by key txn items) ≡ is_one_of txn (map key items)
+-- An item of `txn` is found exactly if `txn` is one of the items' transactions.
+pub has_found : {X : Type 0} (key : X → Qualifiers) (txn : Qualifiers) (items : List X)
+    → is_some (found_by key txn items) ≡ is_one_of txn (map key items)
 has_found key txn [] = refl
 has_found key txn (item ∷ items) = either_some (is_same_txn txn (key item)) (is_one_of txn (map key items)) item (found_by key txn items) (has_found key txn items)
 
--- What an event leaves of the transactions that a desk holds, and of those that have landed: the same; one more
--- that may begin; those held, which have landed; or those that had landed.
+-- An event leaves the transactions held and landed, or begins one. Or it lands those held, or holds those landed.
 pub data Leads (May : Qualifiers → Type 0) (live landed new_live new_landed : List Qualifiers) : Type 0 where
   stays : new_live ≡ live → new_landed ≡ landed → Leads May live landed new_live new_landed
   begun : (txn : Qualifiers) → is_one_of txn live ≡ false → length live + 1 ≤ 1000 → May txn → new_live ≡ live ++ txn ∷ [] → new_landed ≡ landed → Leads May live landed new_live new_landed
   lands : new_live ≡ live → new_landed ≡ live → Leads May live landed new_live new_landed
   returns : new_live ≡ landed → new_landed ≡ landed → Leads May live landed new_live new_landed
 
+-- `Leads` holds of the transactions of desk `p`, and those of `new`.
 abbrev pub LeadsTo : (Qualifiers → Type 0) → DeskParty → DeskParty → Type 0
 LeadsTo May p new = Leads May (live_txns p) (landed_txns p) (live_txns new) (landed_txns new)
 
--- the desk as it was, or with this transaction's side put
+-- The desk stays as it was, or puts an entry of `of`.
 abbrev Puts : Qualifiers → DeskParty → DeskParty → Type 0
 Puts of p new = (new ≡ p) ⊎ ((held : DeskEntry) × (txn_held held ≡ of) × (new ≡ record p { live = with_held p.live held }))
 
@@ -175,7 +185,7 @@ module _ (May : Qualifiers → Type 0) (p : DeskParty) (of : Qualifiers) where
   reach_leads seen puts fails idle true may false room None e = subst (LeadsTo May p) (sym (fails faults.DeskFull)) (stays refl refl)
   reach_leads seen puts fails idle false may has_room room None e = subst (LeadsTo May p) (sym (fails faults.NoSuchTransaction)) (stays refl refl)
 
--- what may begin by an event: the transaction of a wish, and that of a message that comes
+-- `May` holds of each transaction that an event may begin: that of a wish, or of a message that comes.
 abbrev pub Permits : (Qualifiers → Type 0) → List Sending → DeskEvent → Type 0
 Permits May told (desk_events.Wish of wish) = May of
 Permits May told (desk_events.Deliver role of n) = (a : Apdu) → sent_message (sent_for of told) n ≡ Some a → May a.txn
@@ -240,14 +250,17 @@ module _ (grows : RowsGrow) (May : Qualifiers → Type 0) (p : DeskParty) where
   event_leads told (desk_events.Noise role bytes) may = stays refl refl
   event_leads told (desk_events.Restart role) may = returns (map-map txn_held whole p.landed.sides) refl
 
--- ---- what every event of two desks keeps
+-- ---- facts that each event of two desks keeps
 
--- A fact of two lists holds of those that are the same.
-both_are : (P : List Qualifiers → List Qualifiers → Type 0) (live landed new_live new_landed : List Qualifiers) → new_live ≡ live → new_landed ≡ landed → P live landed → P new_live new_landed
+-- A fact of two lists holds of lists that are equal to them.
+both_are : (P : List Qualifiers → List Qualifiers → Type 0) (live landed new_live new_landed : List Qualifiers)
+    → new_live ≡ live → new_landed ≡ landed → P live landed → P new_live new_landed
 both_are P live landed new_live new_landed is there holds = subst (λ l. P l new_landed) (sym is) (subst (P live) (sym there) holds)
 
--- The requester's desk keeps the counts.
-requester_counts : (live landed new_live new_landed others others_landed : List Qualifiers) → Leads (λ txn. Unit {0}) live landed new_live new_landed → Counts live landed others others_landed → Counts new_live new_landed others others_landed
+-- The counts hold after the requester's desk has changed as `Leads` says.
+requester_counts : (live landed new_live new_landed others others_landed : List Qualifiers)
+    → Leads (λ txn. Unit {0}) live landed new_live new_landed → Counts live landed others others_landed
+    → Counts new_live new_landed others others_landed
 requester_counts live landed new_live new_landed others others_landed leads (few, few_landed, known, known_landed) = go leads
   where
     P : List Qualifiers → List Qualifiers → Type 0
@@ -265,12 +278,15 @@ requester_counts live landed new_live new_landed others others_landed leads (few
     go (lands is there) = both_are P live live new_live new_landed is there (few, few, (known.0, known.1, known.1), (known_landed.0, known_landed.1, known_landed.1))
     go (returns is there) = both_are P landed landed new_live new_landed is there (few_landed, few_landed, (known.0, known.2, known.2), (known_landed.0, known_landed.2, known_landed.2))
 
--- what a responder may begin, the requester's desk holds, live and landed
+-- `txn` is one of the requester's live transactions, and one of its landed ones.
 abbrev IsKnown : List Qualifiers → List Qualifiers → Qualifiers → Type 0
 IsKnown live landed txn = (is_one_of txn live ≡ true) × (is_one_of txn landed ≡ true)
 
--- The responder's desk keeps the counts.
-responder_counts : (live landed others others_landed new new_landed : List Qualifiers) → Leads (IsKnown live landed) others others_landed new new_landed → Counts live landed others others_landed → Counts live landed new new_landed
+-- The counts hold after the responder's desk has changed as `Leads` says, and has begun only what the requester's desk
+-- knows.
+responder_counts : (live landed others others_landed new new_landed : List Qualifiers)
+    → Leads (IsKnown live landed) others others_landed new new_landed → Counts live landed others others_landed
+    → Counts live landed new new_landed
 responder_counts live landed others others_landed new new_landed leads (few, few_landed, known, known_landed) = go leads
   where
     P : List Qualifiers → List Qualifiers → Type 0
@@ -288,12 +304,15 @@ responder_counts live landed others others_landed new new_landed leads (few, few
     go (returns is there) = both_are P others_landed others_landed new new_landed is there (few, few_landed, known_landed, known_landed)
 
 -- A side that has issued a message is found.
-issued_found : {X : Type 0} (side : X → Side) (idle : X) (found : Option X) (n : ℕ) (a : Apdu) → issued_of (side idle) ≡ [] → message (issued_of (side (found_or idle found))) n ≡ Some a → is_some found ≡ true
+issued_found : {X : Type 0} (side : X → Side) (idle : X) (found : Option X) (n : ℕ) (a : Apdu)
+    → issued_of (side idle) ≡ [] → message (issued_of (side (found_or idle found))) n ≡ Some a → is_some found ≡ true
 issued_found side idle (Some there) n a none at = refl
 issued_found side idle None n a none at = absurd (idle_issued [] n a refl (subst (λ l. message l n ≡ Some a) none at))
 
 -- The requester's desk has each transaction in which it has sent, held and landed.
-sent_known : (w : DeskParties) → DesksStand w → (of : Qualifiers) (n : ℕ) (a : Apdu) → sent_message (sent_for of w.requester.sent) n ≡ Some a → IsKnown (live_txns w.requester) (landed_txns w.requester) of
+sent_known : (w : DeskParties) → DesksStand w → (of : Qualifiers) (n : ℕ) (a : Apdu)
+    → sent_message (sent_for of w.requester.sent) n ≡ Some a
+    → IsKnown (live_txns w.requester) (landed_txns w.requester) of
 unfolding side_with
 sent_known w stands of n a sent =
     let saved = (stands.each of).requester.saved in
@@ -310,14 +329,17 @@ all_permitted told (desk_events.Deliver role of n) = λ a sent. tt
 all_permitted told event = tt
 
 -- An event begins at the responder's desk only a transaction that the requester's has.
-known_permitted : (w : DeskParties) → DesksStand w → (event : DeskEvent) → who_of (plain event) ≡ who.Responder → Permits (IsKnown (live_txns w.requester) (landed_txns w.requester)) w.requester.sent event
+known_permitted : (w : DeskParties) → DesksStand w → (event : DeskEvent) → who_of (plain event) ≡ who.Responder
+    → Permits (IsKnown (live_txns w.requester) (landed_txns w.requester)) w.requester.sent event
 known_permitted w stands (desk_events.Wish of wish) is = search rules
 known_permitted w stands (desk_events.Deliver role of n) is =
     λ a sent. subst (IsKnown (live_txns w.requester) (landed_txns w.requester)) ((keeps_to w who.Responder stands).told_of of n a sent) (sent_known w stands of n a sent)
 known_permitted w stands event is = tt
 
 -- An event leaves the transactions of two desks few and known.
-pub count_at : RowsGrow → (w : DeskParties) (event : DeskEvent) → DesksStand w → (role : Who) → who_of (plain event) ≡ role → DesksCount (happens_at w role (λ p partner. desk_happens_to p partner.sent event)).1
+pub count_at : RowsGrow → (w : DeskParties) (event : DeskEvent) → DesksStand w → (role : Who)
+    → who_of (plain event) ≡ role
+    → DesksCount (happens_at w role (λ p partner. desk_happens_to p partner.sent event)).1
 count_at grows w event stands who.Requester is =
     let new = (desk_happens_to w.requester w.responder.sent event).1 in
     requester_counts (live_txns w.requester) (landed_txns w.requester) (live_txns new) (landed_txns new) (live_txns w.responder) (landed_txns w.responder)
@@ -327,7 +349,7 @@ count_at grows w event stands who.Responder is =
     responder_counts (live_txns w.requester) (landed_txns w.requester) (live_txns w.responder) (landed_txns w.responder) (live_txns new) (landed_txns new)
     (event_leads grows (IsKnown (live_txns w.requester) (landed_txns w.requester)) w.responder w.requester.sent event (known_permitted w stands event is)) stands.counts
 
--- Desks that hold nothing have few transactions, all known.
+-- `DesksCount` holds of two desks that hold nothing.
 pub first_counts : DesksCount first_desks
 first_counts = ((tt, omega arith), (tt, omega arith), (tt, (λ t is. is), (λ t is. is)), (tt, (λ t is. is), (λ t is. is)))
 
@@ -340,7 +362,7 @@ never_full true true None room reaches = reaches
 never_full true false None room reaches = room refl refl
 never_full false has_room None room reaches = search rules
 
--- A delivery finds room where a desk without room holds the transaction of each message that was sent.
+-- A delivery finds room, if a desk without room holds the transaction of each message that was sent.
 none_full : EachReaches → (w : DeskParties) → DesksStand w → (role : Who) (txn : Qualifiers) (n : ℕ)
     → ((a : Apdu) → sent_message (sent_for txn (party w (other role)).sent) n ≡ Some a → found_by txn_held txn (party w role).live.held ≡ None → nat_lt (length (party w role).live.held) 1000 ≡ false → ⊥)
     → (desks_happen w (desk_events.Deliver role txn n)).0 ≡ DeskFull → ⊥
@@ -353,15 +375,18 @@ none_full reaches w stands role txn n room full = go (sent_message (sent_for txn
         (subst (Reaches (is_ill_request a.body) (nat_lt (length (party w role).live.held) 1000) (found_by txn_held txn (party w role).live.held)) full (reaches w (desk_events.Deliver role txn n) stands a e))
 
 -- Nothing was sent to the requester in a transaction that its desk does not hold.
-pub none_sent : (w : DeskParties) → DesksStand w → (txn : Qualifiers) (n : ℕ) (a : Apdu) → sent_message (sent_for txn w.responder.sent) n ≡ Some a → found_by txn_held txn w.requester.live.held ≡ None → ⊥
+pub none_sent : (w : DeskParties) → DesksStand w → (txn : Qualifiers) (n : ℕ) (a : Apdu)
+    → sent_message (sent_for txn w.responder.sent) n ≡ Some a → found_by txn_held txn w.requester.live.held ≡ None → ⊥
 none_sent w stands txn n a sent none =
     let shown = stands.each txn in
     let v = project txn w in
     asked txn v.requester.live v.responder.landed v.responder.sent v.requester.sent n a shown.requester.live shown.responder.landed (live_issues v.requester shown.requester.saved) (shown.responder.saved.landed n a sent)
     (ap (λ o. issued_of (found_or (idle_held w.requester.live.role txn) o).side) none ∙ idle_issues w.requester.live.role txn)
 
--- A delivery to the requester's desk is not sent in a transaction that it does not hold.
-pub unheld_is_not_sent : (w : DeskParties) (txn : Qualifiers) (n : ℕ) → DesksStand w → found_by txn_held txn w.requester.live.held ≡ None → (desks_happen w (desk_events.Deliver who.Requester txn n)).0 ≡ Plain NotSent
+-- A delivery to the requester's desk in a transaction that it does not hold has the outcome NotSent.
+pub unheld_is_not_sent : (w : DeskParties) (txn : Qualifiers) (n : ℕ) → DesksStand w
+    → found_by txn_held txn w.requester.live.held ≡ None
+    → (desks_happen w (desk_events.Deliver who.Requester txn n)).0 ≡ Plain NotSent
 unheld_is_not_sent w txn n stands none = go (sent_message (sent_for txn w.responder.sent) n) refl
   where
     go : (found : Option Apdu) → sent_message (sent_for txn w.responder.sent) n ≡ found → (desks_happen w (desk_events.Deliver who.Requester txn n)).0 ≡ Plain NotSent
@@ -369,7 +394,8 @@ unheld_is_not_sent w txn n stands none = go (sent_message (sent_for txn w.respon
     go (Some a) e = absurd (none_sent w stands txn n a e none)
 
 -- The responder's desk has room for a transaction that is not held, if the requester has sent in it.
-responder_room : (w : DeskParties) → DesksStand w → (txn : Qualifiers) (n : ℕ) (a : Apdu) → sent_message (sent_for txn w.requester.sent) n ≡ Some a → found_by txn_held txn w.responder.live.held ≡ None
+responder_room : (w : DeskParties) → DesksStand w → (txn : Qualifiers) (n : ℕ) (a : Apdu)
+    → sent_message (sent_for txn w.requester.sent) n ≡ Some a → found_by txn_held txn w.responder.live.held ≡ None
     → nat_lt (length w.responder.live.held) 1000 ≡ false → ⊥
 responder_room w stands txn n a sent none full =
     let few = stands.counts.0.1 in
@@ -381,7 +407,8 @@ responder_room w stands txn n a sent none full =
     let more = no_more (txn ∷ live_txns w.responder) (live_txns w.requester) (absent, known.0) all in
     omega (arith, few, more, ltb-false (length w.responder.live.held) 1000 full, length-map w.responder.live.held txn_held)
 
--- A delivery finds room where two desks stand.
-pub finds_room : EachReaches → (w : DeskParties) (role : Who) (txn : Qualifiers) (n : ℕ) → DesksStand w → (desks_happen w (desk_events.Deliver role txn n)).0 ≡ DeskFull → ⊥
+-- If two desks stand, a delivery finds room.
+pub finds_room : EachReaches → (w : DeskParties) (role : Who) (txn : Qualifiers) (n : ℕ) → DesksStand w
+    → (desks_happen w (desk_events.Deliver role txn n)).0 ≡ DeskFull → ⊥
 finds_room reaches w who.Requester txn n stands = none_full reaches w stands who.Requester txn n (λ a sent none full. none_sent w stands txn n a sent none)
 finds_room reaches w who.Responder txn n stands = none_full reaches w stands who.Responder txn n (responder_room w stands txn n)

@@ -31,7 +31,7 @@ use Rattle.ill_world.proofs.DeskRounds.{shown, sides_alike, held_apart}
 -- ---- the sides that want sending
 
 module _ (wants : Side → Bool) where
-  -- A transaction of none of the sides is one of none that want sending.
+  -- If a transaction has none of the sides, it has none of those that want sending.
   none_wanted : (txn : Qualifiers) (all : List Side) → is_one_of txn (map txn_of all) ≡ false → is_one_of txn (map txn_of (filter wants all)) ≡ false
   none_wanted txn [] none = none
   none_wanted txn (side ∷ more) none = go (wants side) (none_wanted txn more parts.1)
@@ -43,7 +43,7 @@ module _ (wants : Side → Bool) where
       go true rest = or_from (is_same_txn txn (txn_of side)) (is_one_of txn (map txn_of (filter wants more))) parts.0 rest
       go false rest = rest
 
-  -- Of sides that are apart, those that want sending are.
+  -- If no transaction stands twice among sides, none does among those that want sending.
   apart_wanted : (all : List Side) → AreApart (map txn_of all) → AreApart (map txn_of (filter wants all))
   apart_wanted [] apart = apart
   apart_wanted (side ∷ more) apart = go (wants side) (apart_wanted more apart.1)
@@ -52,19 +52,19 @@ module _ (wants : Side → Bool) where
       go true rest = (none_wanted (txn_of side) more apart.0, rest)
       go false rest = rest
 
-  -- No side is found of a transaction of none.
+  -- If a transaction has none of the sides, no side of it is found.
   found_none : (txn : Qualifiers) (all : List Side) → is_one_of txn (map txn_of all) ≡ false → found_by txn_of txn all ≡ None
   found_none txn [] none = refl
   found_none txn (side ∷ more) none =
       let parts = or_parts (is_same_txn txn (txn_of side)) (is_one_of txn (map txn_of more)) none in
       ap (λ b. cond b (Some side) (found_by txn_of txn more)) parts.0 ∙ found_none txn more parts.1
 
-  -- An idle side stays one, whether or not it wants sending.
+  -- An idle side is an idle side, if it wants sending and if it does not.
   idle_either : (idle : Side) (wanted : Bool) → idle ≡ cond wanted idle idle
   idle_either idle true = refl
   idle_either idle false = refl
 
-  -- Among those that want sending the side of the transaction is found if it wants it, or else an idle one.
+  -- Among sides that want sending, the one found for `txn` is its side if that wants it, or else idle.
   found_wanted : (txn : Qualifiers) (idle : Side) (all : List Side) → AreApart (map txn_of all)
       → found_or idle (found_by txn_of txn (filter wants all)) ≡ cond (wants (found_or idle (found_by txn_of txn all))) (found_or idle (found_by txn_of txn all)) idle
   found_wanted txn idle [] apart = idle_either idle (wants idle)
@@ -88,12 +88,12 @@ module _ (wants : Side → Bool) where
 
 -- ---- a night
 
--- the events by which all messages of a side are passed on
+-- Returns the events by which all messages of a side are passed on.
 abbrev passes_of : Who → Side → List Event
 passes_of role side = passes_on role 1 (length (issued_of side))
 
 module _ (projects : EachProjects) (reaches : EachReaches) (after : EachStands) (txn : Qualifiers) where
-  -- The half of the sides of a desk that want sending is, of the transaction, the half of its side if it wants it.
+  -- The half of the sides that want sending is, in `txn`, the half of its side if that wants sending.
   half_if_alike : (wants : Side → Bool) (w : DeskParties) (role : Who) → DesksStand w
       → project txn (desks_run w (desk_half_if wants role w)) ≡ run_of (project txn w) (half_if (wants (party (project txn w) role).live) role (project txn w))
   unfolding run_by side_with passes_on

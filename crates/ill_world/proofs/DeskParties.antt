@@ -1,4 +1,4 @@
--- What a desk of many transactions answers, as a party of the model answers it.
+-- The answers of a desk of many transactions are those of a party of the model.
 use Rattle.std.proofs.Common.{rules, length, ◌≡◌, nat_lt, Bool, true, false, if◌then◌else◌, Option, Some, None, List, [], ℕ, Result, Ok, Err, IfErr, refl, sym, ap, subst, ◌∙◌}
 use Rattle.ill_values.specs.declared.apdu.Apdu.{Apdu}
 use Rattle.ill_der.specs.declared.fault.DerFault.{DerFault}
@@ -64,16 +64,20 @@ take_faults old new a fault takes = subst (λ (r : Result Taking DeskFault). IfE
 
 -- ---- other bytes
 
--- what they are, by what was read of them
+-- The outcome of noise fits the APDU that was read: forged if it is all of the bytes, and else garbled.
 abbrev pub HeardAs : List ℕ → Outcome → Result (Apdu × ℕ) DerFault → Type 0
 HeardAs bytes outcome (Ok (a, size)) = (size ≡ length bytes → outcome ≡ Forged) × ((size ≡ length bytes → ⊥) → outcome ≡ Garbled)
 HeardAs bytes outcome (Err OutOfMemory) = Unit {0}
 HeardAs bytes outcome (Err fault) = outcome ≡ Garbled
 
-heard_part : (bytes : List ℕ) (read : Result (Apdu × List ℕ) DerFault) (a : Apdu) (size : ℕ) → Decodes bytes read (Ok (a, size)) → (size ≡ length bytes → ⊥) → desk_hears read ≡ Garbled
+-- Noise that begins with a shorter APDU is garbled.
+heard_part : (bytes : List ℕ) (read : Result (Apdu × List ℕ) DerFault) (a : Apdu) (size : ℕ)
+    → Decodes bytes read (Ok (a, size)) → (size ≡ length bytes → ⊥) → desk_hears read ≡ Garbled
 heard_part bytes read a size decodes part = let found = part_reads bytes read a size decodes part in ap desk_hears found.2
 
-pub heard_as : (bytes : List ℕ) (read : Result (Apdu × List ℕ) DerFault) (answer : Result (Apdu × ℕ) DerFault) → Decodes bytes read answer → HeardAs bytes (desk_hears read) answer
+-- The outcome of noise fits the APDU that was decoded.
+pub heard_as : (bytes : List ℕ) (read : Result (Apdu × List ℕ) DerFault) (answer : Result (Apdu × ℕ) DerFault)
+    → Decodes bytes read answer → HeardAs bytes (desk_hears read) answer
 heard_as bytes read (Ok (a, size)) decodes = (λ whole. ap desk_hears (whole_reads bytes read a size decodes whole), λ part. heard_part bytes read a size decodes part)
 heard_as bytes read (Err OutOfMemory) decodes = tt
 heard_as bytes (Err none) (Err fault) decodes = refl

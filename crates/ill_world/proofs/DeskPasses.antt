@@ -4,8 +4,9 @@ use Rattle.std.specs.List.{slice_get, flat_map}
 use Rattle.std.proofs.lemmas.List.{take_more, flat_map_more}
 use Rattle.std.proofs.lemmas.Option.{get_or_from_slice_get, slice_get_within}
 
--- The events of the first sides, with those of the next one behind them, are those of one side more.
-pub flat_map_grows : {X A : Type 0} (f : X → List A) (xs : List X) (i : ℕ) (x : X) (first : A) (before after : List A) → slice_get xs i ≡ Some x → after ≡ before ++ f x
+-- The events of the first sides, followed by those of the next one, are those of one side more.
+pub flat_map_grows : {X A : Type 0} (f : X → List A) (xs : List X) (i : ℕ) (x : X) (first : A) (before after : List A)
+    → slice_get xs i ≡ Some x → after ≡ before ++ f x
     → before ≡ first ∷ flat_map f (take i xs) → after ≡ first ∷ flat_map f (take (i + 1) xs)
 flat_map_grows f xs i x first before after found is so_far =
     let one_more : take (i + 1) xs ≡ take i xs ++ x ∷ [] = take_more xs i x (slice_get_within xs i x found) ∙ ap (λ y. take i xs ++ y ∷ []) (get_or_from_slice_get xs i x x found) in

@@ -1,4 +1,4 @@
--- Why a round of two desks is a round of both sides in each transaction.
+-- In each transaction, a round of two desks is a round of both sides.
 use Rattle.std.proofs.Common.{rules, ◌≡◌, ℕ, zero, suc, ◌+◌, nat_le, nat_lt, Bool, true, false, not, cond, List, [], ◌∷◌, length, map, Option, Some, None, refl, sym, ap, ◌∙◌, subst, true≢false}
 use Rattle.std.specs.Prelude.{flat_map}
 use Rattle.std.proofs.lemmas.Bool.{or_parts}
@@ -44,7 +44,8 @@ use Rattle.ill_world.proofs.DeskCounts.{none_sent, finds_room}
 -- ---- an idle side
 
 -- A side that has issued nothing sends nothing.
-idle_sends : (p : Party) (n : ℕ) (released : Bool) → issued_of p.live ≡ [] → (sends p n (message (issued_of p.live) n) released).1 ≡ p
+idle_sends : (p : Party) (n : ℕ) (released : Bool) → issued_of p.live ≡ []
+    → (sends p n (message (issued_of p.live) n) released).1 ≡ p
 idle_sends p n released none = ap (λ apdus. (sends p n (message apdus n) released).1) none ∙ go n
   where
     go : (m : ℕ) → (sends p n (message [] m) released).1 ≡ p
@@ -52,16 +53,18 @@ idle_sends p n released none = ap (λ apdus. (sends p n (message apdus n) releas
     go (suc m) = refl
 
 -- A record that an answer leaves, a refusal leaves too.
-refused_or_same : (refusal : Option Refusal) (y : ResponderRecord) (answer : _ × ResponderRecord) → answer.1 ≡ y → (unless_refused refusal y answer).1 ≡ y
+refused_or_same : (refusal : Option Refusal) (y : ResponderRecord) (answer : _ × ResponderRecord) → answer.1 ≡ y
+    → (unless_refused refusal y answer).1 ≡ y
 refused_or_same (Some refusal) y answer same = refl
 refused_or_same None y answer same = same
 
--- a responder that has issued and taken nothing
+-- Returns a responder that has issued and taken nothing.
 abbrev idle_responder : Qualifiers → ResponderRecord
 idle_responder txn = responder_of txn states.Idle None None None false None []
 
 -- No message but an ILL-Request changes an idle responder.
-idle_message : (txn : Qualifiers) (a : Apdu) (body : Body) → is_ill_request body ≡ false → (take_message (idle_responder txn) a body).1 ≡ idle_responder txn
+idle_message : (txn : Qualifiers) (a : Apdu) (body : Body) → is_ill_request body ≡ false
+    → (take_message (idle_responder txn) a body).1 ≡ idle_responder txn
 idle_message txn a (types.IllRequest expiry item) is = absurd (true≢false is)
 idle_message txn a (types.ConditionalReply zero true) is = refl
 idle_message txn a (types.ConditionalReply (suc c) true) is = refl
@@ -69,7 +72,8 @@ idle_message txn a (types.ConditionalReply c false) is = refl
 idle_message txn a body is = refl
 
 -- An idle responder takes no message that is no ILL-Request.
-idle_takes : (txn : Qualifiers) (a : Apdu) → is_ill_request a.body ≡ false → (takes (idle_side who.Responder txn) a).1 ≡ idle_side who.Responder txn
+idle_takes : (txn : Qualifiers) (a : Apdu) → is_ill_request a.body ≡ false
+    → (takes (idle_side who.Responder txn) a).1 ≡ idle_side who.Responder txn
 idle_takes txn a is =
     ap sides.Responder
     (refused_or_same (first_refusal txn (not (is_requesters a.body)) a) (idle_responder txn) (take_message (idle_responder txn) a a.body) (idle_message txn a a.body is))
@@ -85,21 +89,24 @@ pub shown : (txn : Qualifiers) (w : DeskParties) (role : Who) → party (project
 shown txn w who.Requester = refl
 shown txn w who.Responder = refl
 
--- A party in its own place changes nothing.
+-- Putting a party in its own place changes nothing.
 same_party : (v : Parties) (role : Who) → with_party v role (party v role) ≡ v
 same_party v who.Requester = refl
 same_party v who.Responder = refl
 
--- An event of the transaction, if it changes nothing where it is not reached, leads on as in it alone.
-seen_alike : (own : Bool) → own ≡ true → (expected : Outcome × Parties) (old new : Parties) (outcome : DeskOutcome) → IsSeenAs (if_reached outcome own) expected old outcome new
+-- An event of the transaction leads on as in it alone, if an event that is not reached changes nothing.
+seen_alike : (own : Bool) → own ≡ true → (expected : Outcome × Parties) (old new : Parties) (outcome : DeskOutcome)
+    → IsSeenAs (if_reached outcome own) expected old outcome new
     → (outcome ≡ DeskFull → ⊥) → (outcome ≡ NoSuchTransaction → expected.1 ≡ old) → new ≡ expected.1
 seen_alike true is expected old new (Plain outcome) seen room stays = seen.1
 seen_alike true is expected old new NoSuchTransaction seen room stays = seen ∙ sym (stays refl)
 seen_alike true is expected old new DeskFull seen room stays = absurd (room refl)
 seen_alike false is expected old new outcome seen room stays = absurd (true≢false (sym is))
 
--- An event of another transaction changes nothing, whatever is seen of it.
-seen_elsewhere : (own : Bool) → own ≡ false → (expected : Outcome × Parties) (old new : Parties) (outcome : DeskOutcome) → IsSeenAs (if_reached outcome own) expected old outcome new → new ≡ old
+-- An event of another transaction changes nothing, with any outcome.
+seen_elsewhere : (own : Bool) → own ≡ false
+    → (expected : Outcome × Parties) (old new : Parties) (outcome : DeskOutcome)
+    → IsSeenAs (if_reached outcome own) expected old outcome new → new ≡ old
 seen_elsewhere true is expected old new outcome seen = absurd (true≢false is)
 seen_elsewhere false is expected old new (Plain outcome) seen = seen
 seen_elsewhere false is expected old new NoSuchTransaction seen = seen
@@ -127,13 +134,13 @@ module _ (projects : EachProjects) (reaches : EachReaches) (after : EachStands) 
   other_stays w event is stands =
       seen_elsewhere (concerns txn event) is (happens (project txn w) (plain event)) (project txn w) (project txn (desks_happen w event).1) (desks_happen w event).0 (projects txn w event stands)
 
-  -- An event of the transaction, if it changes nothing where it is not reached, happens alike.
+  -- An event of the transaction happens alike, if an event that is not reached changes nothing.
   alike : (w : DeskParties) (event : DeskEvent) → concerns txn event ≡ true → DesksStand w → ((desks_happen w event).0 ≡ DeskFull → ⊥)
       → ((desks_happen w event).0 ≡ NoSuchTransaction → (happens (project txn w) (plain event)).1 ≡ project txn w) → HappensAlike w event
   alike w event is stands room stays =
       seen_alike (concerns txn event) is (happens (project txn w) (plain event)) (project txn w) (project txn (desks_happen w event).1) (desks_happen w event).0 (projects txn w event stands) room stays
 
-  -- A message is sent alike.
+  -- A Send in the transaction happens alike.
   send_alike : (w : DeskParties) (role : Who) (n : ℕ) → DesksStand w → HappensAlike w (desk_events.Send role txn n)
   send_alike w role n stands = alike w event (same_self txn) stands (λ full. begins_in_room has_room found (reached DeskFull full)) stays
     where
@@ -179,7 +186,7 @@ module _ (projects : EachProjects) (reaches : EachReaches) (after : EachStands) 
           ap (λ o. (found_or (idle_held live.role txn) o).side) missed.0 ∙ ap (λ role. idle_side role txn) stands.responder.0 in
           ap (λ side. record (party_for txn w.responder) { live = side }) (ap (λ side. (takes side a).1) idle ∙ idle_takes txn a missed.1 ∙ sym idle)
 
-  -- A message arrives alike.
+  -- A delivery in the transaction happens alike.
   deliver_alike : (w : DeskParties) (role : Who) (n : ℕ) → DesksStand w → HappensAlike w (desk_events.Deliver role txn n)
   deliver_alike w role n stands = alike w event (same_self txn) stands (λ full. finds_room reaches w role txn n stands full) stays
     where
@@ -201,7 +208,7 @@ module _ (projects : EachProjects) (reaches : EachReaches) (after : EachStands) 
 
   -- ---- the messages of a side
 
-  -- Messages of the transaction are passed on alike.
+  -- Passing on messages of the transaction leads on as in it alone.
   passes_alike : (w : DeskParties) (role : Who) (n count : ℕ) → DesksStand w → project txn (desks_run w (map (in_txn txn) (passes_on role n count))) ≡ run_of (project txn w) (passes_on role n count)
   unfolding passes_on run_by
   passes_alike w role n zero stands = refl
@@ -213,7 +220,7 @@ module _ (projects : EachProjects) (reaches : EachReaches) (after : EachStands) 
       passes_alike (desks_happen sent deliver).1 role (n + 1) count (after sent deliver sent_stands)
       ∙ ap (λ v. run_of v (passes_on role (n + 1) count)) (deliver_alike sent (other role) n sent_stands ∙ ap (λ v. (happens v (events.Deliver (other role) n)).1) (send_alike w role n stands))
 
-  -- Messages of another transaction change nothing.
+  -- Passing on messages of another transaction changes nothing.
   others_stay : (of : Qualifiers) → is_same_txn txn of ≡ false → (w : DeskParties) (role : Who) (n count : ℕ) → DesksStand w → project txn (desks_run w (map (in_txn of) (passes_on role n count))) ≡ project txn w
   unfolding passes_on run_by
   others_stay of apart w role n zero stands = refl
@@ -228,11 +235,11 @@ module _ (projects : EachProjects) (reaches : EachReaches) (after : EachStands) 
 
   -- ---- the messages of a desk
 
-  -- A desk's messages are those of its first side, and then those of the others.
+  -- Passing on the messages of sides is passing on those of the first side, and then those of the others.
   passes_both : (w : DeskParties) (role : Who) (side : Side) (more : List Side) → desks_run w (flat_map (passes_side role) (side ∷ more)) ≡ desks_run (desks_run w (passes_side role side)) (flat_map (passes_side role) more)
   passes_both w role side more = run_both desks_happen w (passes_side role side) (flat_map (passes_side role) more)
 
-  -- Messages of sides of other transactions change nothing.
+  -- Passing on the messages of sides of other transactions changes nothing.
   sides_stay : (w : DeskParties) (role : Who) (all : List Side) → is_one_of txn (map txn_of all) ≡ false → DesksStand w → project txn (desks_run w (flat_map (passes_side role) all)) ≡ project txn w
   unfolding run_by
   sides_stay w role [] none stands = refl
@@ -242,7 +249,7 @@ module _ (projects : EachProjects) (reaches : EachReaches) (after : EachStands) 
       ∙ sides_stay (desks_run w (passes_side role side)) role more parts.1 (desks_stand_on after w (passes_side role side) stands)
       ∙ others_stay (txn_of side) parts.0 w role 1 (length (issued_of side)) stands
 
-  -- Messages of sides that are apart are, of the transaction, those of its side.
+  -- Passing on the messages of sides that are apart is, in the transaction, passing on those of its side.
   pub sides_alike : (w : DeskParties) (role : Who) (idle : Side) → issued_of idle ≡ [] → (all : List Side) → AreApart (map txn_of all) → DesksStand w
       → project txn (desks_run w (flat_map (passes_side role) all)) ≡ run_of (project txn w) (passes_on role 1 (length (issued_of (found_or idle (found_by txn_of txn all)))))
   unfolding run_by passes_on
@@ -275,7 +282,7 @@ module _ (projects : EachProjects) (reaches : EachReaches) (after : EachStands) 
   held_apart w who.Requester stands = subst AreApart (sym (map-map txn_of (λ (held : DeskEntry). held.side) w.requester.live.held)) stands.counts.0.0
   held_apart w who.Responder stands = subst AreApart (sym (map-map txn_of (λ (held : DeskEntry). held.side) w.responder.live.held)) stands.counts.2.0
 
-  -- The half of a desk is, of the transaction, the half of its side.
+  -- The half of a desk is, in the transaction, the half of its side.
   half_alike : (w : DeskParties) (role : Who) → DesksStand w → project txn (desks_run w (desk_half_of role w)) ≡ run_of (project txn w) (half_of role (project txn w))
   unfolding run_by side_with
   half_alike w role stands = saved_alike ∙ ap (λ (p : Party). run_of (project txn w) (events.Save role ∷ passes_on role 1 (length (issued_of p.live)))) (sym (shown txn w role))

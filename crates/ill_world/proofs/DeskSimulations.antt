@@ -8,18 +8,24 @@ use Rattle.ill_world.specs.DeskSimulation.{two_desks, desk_events, desk_trace_of
 use Rattle.ill_world.specs.Trace.{desk_line}
 use Rattle.ill_world.proofs.Simulations.{run_more, trace_line, trace_front}
 
+-- Returns the desks after events, each with its transaction in use.
 abbrev run_in : DeskParties → List EventIn → DeskParties
 run_in w events = desks_run w (desk_events events)
 
-run_in_next : (w : DeskParties) (event : EventIn) (events : List EventIn) → run_in w (event ∷ events) ≡ run_in (two_desks.next w event) events
+-- Running events is running all but the first from the desks after the first.
+run_in_next : (w : DeskParties) (event : EventIn) (events : List EventIn)
+    → run_in w (event ∷ events) ≡ run_in (two_desks.next w event) events
 unfolding run_by
 run_in_next w event events = refl
 
+-- Running no events leaves the desks.
 run_in_none : (w : DeskParties) → run_in w [] ≡ w
 unfolding run_by
 run_in_none w = refl
 
-pub desks_line : (events : List EventIn) (event : EventIn) → desk_trace_of (events ++ event ∷ []) ≡ desk_trace_of events ++ desk_line_behind events event
+-- One event more adds its line to the trace.
+pub desks_line : (events : List EventIn) (event : EventIn)
+    → desk_trace_of (events ++ event ∷ []) ≡ desk_trace_of events ++ desk_line_behind events event
 desks_line events event =
     let after = run_in first_desks events in
     let number : 1 + length events ≡ length events + 1 = omega arith in

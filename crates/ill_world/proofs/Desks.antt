@@ -40,17 +40,21 @@ use Rattle.ill_world.proofs.Projections.{PartySeen, KeepsTo, party_seen, first_p
 
 -- ---- an event of two desks, of one transaction
 
-seen_in : {P Q : Type 0} (f : P → Q) (own : Bool) (expected : Outcome × P) (old new : P) (outcome : DeskOutcome) → IsSeenAs own expected old outcome new → IsSeenAs own (expected.0, f expected.1) (f old) outcome (f new)
+-- If a world is seen as expected, so is each part of it.
+seen_in : {P Q : Type 0} (f : P → Q) (own : Bool) (expected : Outcome × P) (old new : P) (outcome : DeskOutcome)
+    → IsSeenAs own expected old outcome new → IsSeenAs own (expected.0, f expected.1) (f old) outcome (f new)
 seen_in f true expected old new outcome seen = (seen.0, ap f seen.1)
 seen_in f false expected old new outcome seen = ap f seen
 
+-- Outcome and projection of `txn` are as expected after an event at the desk in role `role`, or the projection stays.
 abbrev SeenAt : Qualifiers → DeskParties → Who → DeskEvent → Type 0
 SeenAt txn w role event =
     let after = happens_at w role (λ p partner. desk_happens_to p partner.sent event) in
     IsSeenAs (if_reached after.0 (concerns txn event)) (happens_at (project txn w) role (λ p partner. happens_to p partner.sent (plain event))) (project txn w) after.0 (project txn after.1)
 
--- the other desk stays as it is
-seen_at : (txn : Qualifiers) (w : DeskParties) (role : Who) (event : DeskEvent) → PartySeen txn (party w role) (party w (other role)).sent event → SeenAt txn w role event
+-- If the party of `txn` is seen as expected at its desk, so is the projection. The other desk stays as it is.
+seen_at : (txn : Qualifiers) (w : DeskParties) (role : Who) (event : DeskEvent)
+    → PartySeen txn (party w role) (party w (other role)).sent event → SeenAt txn w role event
 seen_at txn w who.Requester event seen =
     let after = desk_happens_to w.requester w.responder.sent event in
     seen_in (with_party (project txn w) who.Requester) (if_reached after.0 (concerns txn event)) (happens_to (party_for txn w.requester) (sent_for txn w.responder.sent) (plain event)) (party_for txn w.requester)
@@ -60,25 +64,33 @@ seen_at txn w who.Responder event seen =
     seen_in (with_party (project txn w) who.Responder) (if_reached after.0 (concerns txn event)) (happens_to (party_for txn w.responder) (sent_for txn w.requester.sent) (plain event)) (party_for txn w.responder)
     (party_for txn after.1) after.0 seen
 
--- ---- what two desks keep to
+-- ---- the roles to which two desks keep
 
-requesters : (txn : Qualifiers) (side : Side) (told : List (Option Apdu)) → RequesterSideStands txn side told → role_of side ≡ who.Requester
+-- A side that stands as a requester's is in the role of the requester.
+requesters : (txn : Qualifiers) (side : Side) (told : List (Option Apdu)) → RequesterSideStands txn side told
+    → role_of side ≡ who.Requester
 requesters txn (sides.Requester x) told stands = refl
 requesters txn (sides.Responder y) told stands = absurd stands
 
-responders : (txn : Qualifiers) (side : Side) (told : List (Option Apdu)) → ResponderSideStands txn side told → role_of side ≡ who.Responder
+-- A side that stands as a responder's is in the role of the responder.
+responders : (txn : Qualifiers) (side : Side) (told : List (Option Apdu)) → ResponderSideStands txn side told
+    → role_of side ≡ who.Responder
 responders txn (sides.Responder y) told stands = refl
 responders txn (sides.Requester x) told stands = absurd stands
 
--- what a side has issued is of its transaction
-requesters_txn : (txn : Qualifiers) (side : Side) (told : List (Option Apdu)) (n : ℕ) (a : Apdu) → RequesterSideStands txn side told → message (issued_of side) n ≡ Some a → txn ≡ a.txn
+-- Each message that a requester's side that stands has issued is of its transaction.
+requesters_txn : (txn : Qualifiers) (side : Side) (told : List (Option Apdu)) (n : ℕ) (a : Apdu)
+    → RequesterSideStands txn side told → message (issued_of side) n ≡ Some a → txn ≡ a.txn
 requesters_txn txn (sides.Requester x) told n a stands at = sym (same_is a.txn x.txn (message_number x.txn x.issued n a stands.rules.numbered at).0 ∙ stands.same_txn)
 requesters_txn txn (sides.Responder y) told n a stands at = absurd stands
 
-responders_txn : (txn : Qualifiers) (side : Side) (told : List (Option Apdu)) (n : ℕ) (a : Apdu) → ResponderSideStands txn side told → message (issued_of side) n ≡ Some a → txn ≡ a.txn
+-- Each message that a responder's side that stands has issued is of its transaction.
+responders_txn : (txn : Qualifiers) (side : Side) (told : List (Option Apdu)) (n : ℕ) (a : Apdu)
+    → ResponderSideStands txn side told → message (issued_of side) n ≡ Some a → txn ≡ a.txn
 responders_txn txn (sides.Responder y) told n a stands at = sym (same_is a.txn y.txn (message_number y.txn y.issued n a stands.rules.numbered at).0 ∙ stands.same_txn)
 responders_txn txn (sides.Requester x) told n a stands at = absurd stands
 
+-- Each of two desks that stand keeps to its role.
 pub keeps_to : (w : DeskParties) (role : Who) → DesksStand w → KeepsTo role (party w role) (party w (other role)).sent
 keeps_to w who.Requester stands = record {
   role_is = stands.requester.0;
@@ -91,7 +103,9 @@ keeps_to w who.Responder stands = record {
   told_of = λ txn n a at. let requester = (stands.each txn).requester in requesters_txn txn _ _ n a requester.landed (requester.saved.landed n a at);
 }
 
-pub desk_projects : RowsGrow → Quiet → (txn : Qualifiers) (w : DeskParties) (event : DeskEvent) → DesksStand w → Projects txn w event
+-- By the laws of the rows, `Projects` holds of each event at two desks that stand.
+pub desk_projects : RowsGrow → Quiet → (txn : Qualifiers) (w : DeskParties) (event : DeskEvent) → DesksStand w
+    → Projects txn w event
 desk_projects grows rows txn w event stands =
     let role = who_of (plain event) in
     seen_at txn w role event (party_seen grows rows (party w role) (party w (other role)).sent event (keeps_to w role stands) txn)
@@ -119,6 +133,7 @@ takes_role : (role : Who) (p : DeskParty) (a : Apdu) (found : Result DeskEntry D
 takes_role role p a (Ok held) is = took_role role p held (takes held.side a).0 (takes held.side a).1 is
 takes_role role p a (Err fault) is = is.0
 
+-- A desk keeps its role when it receives a message.
 pub receives_role : (role : Who) (p : DeskParty) (found : Option Apdu) → IsDeskOf role p → IsDeskOf role (desk_receives p found).1
 receives_role role p None is = is
 receives_role role p (Some a) is = (go (is_own p.live.role a.body), is.1)
@@ -127,7 +142,9 @@ receives_role role p (Some a) is = (go (is_own p.live.role a.body), is.1)
     go true = is.0
     go false = takes_role role p a (reached p.live a.txn (is_ill_request a.body)) is
 
-sends_role : (role : Who) (p : DeskParty) (after : Apdu → DeskParty) (issued : Option Apdu) (released : Bool) → IsDeskOf role p → ((a : Apdu) → IsDeskOf role (after a)) → IsDeskOf role (sends_by p after issued released).1
+-- A desk keeps its role at a Send, if it does so after the message is added.
+sends_role : (role : Who) (p : DeskParty) (after : Apdu → DeskParty) (issued : Option Apdu) (released : Bool)
+    → IsDeskOf role p → ((a : Apdu) → IsDeskOf role (after a)) → IsDeskOf role (sends_by p after issued released).1
 sends_role role p after None released is sent = is
 sends_role role p after (Some a) false is sent = is
 sends_role role p after (Some a) true is sent = sent a
@@ -136,7 +153,9 @@ send_role : (role : Who) (p : DeskParty) (of : Qualifiers) (n : ℕ) (found : Op
 send_role role p of n None is = is
 send_role role p of n (Some held) is = sends_role role p _ _ _ is (λ a. is)
 
-role_kept : (role : Who) (p : DeskParty) (told : List Sending) (event : DeskEvent) → IsDeskOf role p → IsDeskOf role (desk_happens_to p told event).1
+-- A desk keeps its role at each event.
+role_kept : (role : Who) (p : DeskParty) (told : List Sending) (event : DeskEvent) → IsDeskOf role p
+    → IsDeskOf role (desk_happens_to p told event).1
 role_kept role p told (events.Wish of wish) is = decided_role role p (actions.Wish wish) (reached p.live of (begins (actions.Wish wish))) (is_same_role p.live.role who.Requester) is
 role_kept role p told (events.Deed of deed today) is = decided_role role p (actions.Deed deed today) (reached p.live of (begins (actions.Deed deed today))) (is_same_role p.live.role who.Responder) is
 role_kept role p told (events.Save at) is = (is.0, is.0)
@@ -147,15 +166,18 @@ role_kept role p told (events.Deliver at of n) is = receives_role role p (sent_m
 role_kept role p told (events.Noise at bytes) is = is
 role_kept role p told (events.Restart at) is = (is.1, is.1)
 
-roles_kept : (w : DeskParties) (role : Who) (event : DeskEvent) → IsDeskOf who.Requester w.requester → IsDeskOf who.Responder w.responder
+-- Both desks keep their roles at each event.
+roles_kept : (w : DeskParties) (role : Who) (event : DeskEvent) → IsDeskOf who.Requester w.requester
+    → IsDeskOf who.Responder w.responder
     → let after = (happens_at w role (λ p partner. desk_happens_to p partner.sent event)).1 in IsDeskOf who.Requester after.requester × IsDeskOf who.Responder after.responder
 roles_kept w who.Requester event requester responder = (role_kept who.Requester w.requester w.responder.sent event requester, responder)
 roles_kept w who.Responder event requester responder = (requester, role_kept who.Responder w.responder w.requester.sent event responder)
 
 -- ---- worlds
 
--- of what is seen, a fact of the expected that held before
-seen_keeps : {P : Type 0} (F : P → Type 0) (own : Bool) (expected : Outcome × P) (old new : P) (outcome : DeskOutcome) → IsSeenAs own expected old outcome new → F old → F expected.1 → F new
+-- A fact that held of the old world, and holds of the expected one, holds of the world that is seen.
+seen_keeps : {P : Type 0} (F : P → Type 0) (own : Bool) (expected : Outcome × P) (old new : P) (outcome : DeskOutcome)
+    → IsSeenAs own expected old outcome new → F old → F expected.1 → F new
 seen_keeps F true expected old new outcome seen before after = subst F (sym seen.1) after
 seen_keeps F false expected old new outcome seen before after = subst F (sym seen) before
 
@@ -168,8 +190,9 @@ desks_first counts stands = record {
   each = λ txn. subst (Invariant txn) (sym (first_project txn)) (stands txn);
 }
 
--- An event leads two desks that stand to such.
-pub desks_after : RowsGrow → Quiet → ((txn : Qualifiers) → After txn) → (w : DeskParties) (event : DeskEvent) → DesksStand w → DesksCount (desks_happen w event).1 → DesksStand (desks_happen w event).1
+-- If two desks stand, they stand after an event, when `DesksCount` holds then.
+pub desks_after : RowsGrow → Quiet → ((txn : Qualifiers) → After txn) → (w : DeskParties) (event : DeskEvent)
+    → DesksStand w → DesksCount (desks_happen w event).1 → DesksStand (desks_happen w event).1
 desks_after grows rows after w event stands counts =
     let roles = roles_kept w (who_of (plain event)) event stands.requester stands.responder in
     record {
@@ -183,26 +206,32 @@ desks_after grows rows after w event stands counts =
 
 -- ---- runs
 
+-- `Projects` holds of each event at two desks that stand.
 abbrev pub EachProjects : Type 0
 EachProjects = (txn : Qualifiers) (w : DeskParties) (event : DeskEvent) → DesksStand w → Projects txn w event
 
+-- If two desks stand, they stand after each event.
 abbrev pub EachStands : Type 0
 EachStands = (w : DeskParties) (event : DeskEvent) → DesksStand w → DesksStand (desks_happen w event).1
 
-leads_on : (own : Bool) (w : Parties) (event : Event) (more : List Event) (new : Parties) (outcome : DeskOutcome) → IsSeenAs own (happens w event) w outcome new
+-- If an event is one of the transaction, running `more` after it is running it and `more`. Otherwise it is running
+-- `more` alone.
+leads_on : (own : Bool) (w : Parties) (event : Event) (more : List Event) (new : Parties) (outcome : DeskOutcome)
+    → IsSeenAs own (happens w event) w outcome new
     → run_of new more ≡ run_of w (if own then event ∷ more else more)
 unfolding run_by
 leads_on true w event more new outcome seen = ap (λ v. run_of v more) seen.1
 leads_on false w event more new outcome seen = ap (λ v. run_of v more) seen
 
--- Events lead two desks that stand to such.
+-- If two desks stand, they stand after any events.
 pub desks_stand_on : EachStands → (w : DeskParties) (events : List DeskEvent) → DesksStand w → DesksStand (desks_run w events)
 unfolding run_by
 desks_stand_on after w [] stands = stands
 desks_stand_on after w (event ∷ events) stands = desks_stand_on after (desks_happen w event).1 events (after w event stands)
 
--- what the desks show after events is a run
-pub run_projects : EachProjects → EachStands → (txn : Qualifiers) (w : DeskParties) (events : List DeskEvent) → DesksStand w → project txn (desks_run w events) ≡ run_of (project txn w) (events_for txn w events)
+-- The projection of two desks that stand, after events, is the world after the events of the transaction.
+pub run_projects : EachProjects → EachStands → (txn : Qualifiers) (w : DeskParties) (events : List DeskEvent)
+    → DesksStand w → project txn (desks_run w events) ≡ run_of (project txn w) (events_for txn w events)
 unfolding run_by events_for
 run_projects projects after txn w [] stands = refl
 run_projects projects after txn w (event ∷ events) stands =
@@ -210,7 +239,10 @@ run_projects projects after txn w (event ∷ events) stands =
     run_projects projects after txn next events (after w event stands)
     ∙ leads_on (is_event_of txn w event) (project txn w) (plain event) (events_for txn next events) (project txn next) (desks_happen w event).0 (projects txn w event stands)
 
-pub first_run_projects : EachProjects → EachStands → DesksStand first_desks → (txn : Qualifiers) (events : List DeskEvent) → project txn (desks_run first_desks events) ≡ run_of (first_world txn) (events_for txn first_desks events)
+-- From two desks on that hold nothing, the projection after events is the world after those of the transaction.
+pub first_run_projects : EachProjects → EachStands → DesksStand first_desks
+    → (txn : Qualifiers) (events : List DeskEvent)
+    → project txn (desks_run first_desks events) ≡ run_of (first_world txn) (events_for txn first_desks events)
 first_run_projects projects after first txn events =
     run_projects projects after txn first_desks events first ∙ ap (λ w. run_of w (events_for txn first_desks events)) (first_project txn)
 
@@ -222,12 +254,16 @@ desk_dates projects stay txn w event stands =
     seen_keeps (KeepsDates (project txn w) (plain event)) (is_event_of txn w event) (happens (project txn w) (plain event)) (project txn w) _ _ (projects txn w event stands) (same_dates (project txn w) (plain event))
     (stay txn (project txn w) (plain event) (stands.each txn))
 
--- ---- what changes
+-- ---- changes
 
+-- Two outcomes are equal if they are equal as outcomes of desks.
 pub same_plain : (a b : Outcome) → ◌≡◌ {A = DeskOutcome} (Plain a) (Plain b) → a ≡ b
 same_plain a b e = search rules
 
-unchanged : (own : Bool) (expected : Outcome × Parties) (old new : Parties) (outcome : DeskOutcome) → IsSeenAs (if_reached outcome own) expected old outcome new → MayChange OnlyLandedChanges expected.0 old expected.1
+-- If the expected outcome allows the expected change, the outcome at the desks allows the change of the projection.
+unchanged : (own : Bool) (expected : Outcome × Parties) (old new : Parties) (outcome : DeskOutcome)
+    → IsSeenAs (if_reached outcome own) expected old outcome new
+    → MayChange OnlyLandedChanges expected.0 old expected.1
     → ((outcome : Outcome) → MayChange OnlyLandedChanges outcome old old) → DeskMayChange outcome old new
 unchanged true expected old new (Plain outcome) seen changes same =
     let is : expected.0 ≡ outcome = sym (same_plain outcome expected.0 seen.0) in
@@ -236,7 +272,10 @@ unchanged false expected old new (Plain outcome) seen changes same = subst (MayC
 unchanged own expected old new NoSuchTransaction seen changes same = seen
 unchanged own expected old new DeskFull seen changes same = seen
 
-pub desk_changes : EachProjects → ((w : Parties) (event : Event) → MayChange OnlyLandedChanges (happens w event).0 w (happens w event).1) → (txn : Qualifiers) (w : DeskParties) (event : DeskEvent) → DesksStand w
+-- If the outcome of each event of a transaction allows its change, that of each event of desks does.
+pub desk_changes : EachProjects
+    → ((w : Parties) (event : Event) → MayChange OnlyLandedChanges (happens w event).0 w (happens w event).1)
+    → (txn : Qualifiers) (w : DeskParties) (event : DeskEvent) → DesksStand w
     → DeskMayChange (desks_happen w event).0 (project txn w) (project txn (desks_happen w event).1)
 desk_changes projects changes txn w event stands =
     unchanged (concerns txn event) (happens (project txn w) (plain event)) (project txn w) (project txn (desks_happen w event).1) (desks_happen w event).0 (projects txn w event stands)

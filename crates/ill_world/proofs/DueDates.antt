@@ -24,7 +24,7 @@ use Rattle.ill_world.specs.World.{Party, Parties, sent_message, decides, sends, 
 use Rattle.ill_world.specs.Invariant.{RequesterSideStands, Invariant}
 use Rattle.ill_world.specs.Agreement.{KeepsDates}
 
--- a due date that is kept or raised, and then again
+-- A due date that is kept or raised twice is kept or raised.
 pub keeps_on : (a b c : Option Date) → KeepsDue a b → KeepsDue b c → KeepsDue a c
 keeps_on a b c (inl none) second = inl none
 keeps_on a b c (inr (inl same)) second = subst (λ x. KeepsDue x c) same second
@@ -35,53 +35,70 @@ keeps_on (Some x) (Some y) c (inr (inr raised)) (inr (inl same)) = inr (inr (sub
 keeps_on (Some x) (Some y) None (inr (inr raised)) (inr (inr again)) = search rules
 keeps_on (Some x) (Some y) (Some z) (inr (inr raised)) (inr (inr again)) = inr (inr (before_on x y z raised again))
 
--- what the rows do to a due date
+-- A wish leaves the requester's due date, and a message that it takes keeps or raises it.
 pub record RowsKeepDue : Type 0 where
   pub acts : (x new : RequesterRecord) (wish : Wish) → requester_actions.acts x wish ≡ Ok new → new.due ≡ x.due
   pub takes : (x : RequesterRecord) (a : Apdu) → is_some x.due ≡ is_among later x.state → KeepsDue x.due (requester_deliveries.takes x a).1.due
 
+-- A due date that stays is kept.
 stays : (due : Option Date) → KeepsDue due due
 stays due = inr (inl refl)
 
-made_due : (x : RequesterRecord) (result : Result RequesterRecord Refusal) (new : Side) → ((made : RequesterRecord) → result ≡ Ok made → made.due ≡ x.due) → done_by sides.Requester result ≡ Ok new
+-- If the record that is made has the old due date, so has its side.
+made_due : (x : RequesterRecord) (result : Result RequesterRecord Refusal) (new : Side)
+    → ((made : RequesterRecord) → result ≡ Ok made → made.due ≡ x.due) → done_by sides.Requester result ≡ Ok new
     → due_date_of new ≡ x.due
 made_due x (Ok made) new keeps e = let is : sides.Requester made ≡ new = search rules in subst (λ side. due_date_of side ≡ x.due) is (keeps made refl)
 made_due x (Err refusal) new keeps e = search rules
 
-acts_due : RowsKeepDue → (txn : Qualifiers) (old new : Side) (action : Action) (told : List (Option Apdu)) → acts old action ≡ Ok new → RequesterSideStands txn old told → due_date_of new ≡ due_date_of old
+-- An action that is done leaves the due date of a requester's side.
+acts_due : RowsKeepDue → (txn : Qualifiers) (old new : Side) (action : Action) (told : List (Option Apdu))
+    → acts old action ≡ Ok new → RequesterSideStands txn old told → due_date_of new ≡ due_date_of old
 acts_due rows txn (sides.Requester x) new (actions.Wish wish) told e stands = made_due x (requester_actions.acts x wish) new (λ made is. rows.acts x made wish is) e
 acts_due rows txn (sides.Requester x) new (actions.Deed deed today) told e stands = search rules
 acts_due rows txn (sides.Responder y) new action told e stands = absurd stands
 
-takes_due : RowsKeepDue → (txn : Qualifiers) (old : Side) (a : Apdu) (told : List (Option Apdu)) → RequesterSideStands txn old told → KeepsDue (due_date_of old) (due_date_of (takes old a).1)
+-- A message that is taken keeps or raises the due date of a requester's side.
+takes_due : RowsKeepDue → (txn : Qualifiers) (old : Side) (a : Apdu) (told : List (Option Apdu))
+    → RequesterSideStands txn old told → KeepsDue (due_date_of old) (due_date_of (takes old a).1)
 takes_due rows txn (sides.Requester x) a told stands = rows.takes x a stands.rules.parts.due
 takes_due rows txn (sides.Responder y) a told stands = absurd stands
 
-decides_due : RowsKeepDue → (txn : Qualifiers) (p : Party) (told : List (Option Apdu)) (action : Action) (result : Result Side Refusal) → acts p.live action ≡ result → RequesterSideStands txn p.live told
+-- A decision keeps or raises the requester's live due date, and leaves its landed side.
+decides_due : RowsKeepDue
+    → (txn : Qualifiers) (p : Party) (told : List (Option Apdu)) (action : Action) (result : Result Side Refusal)
+    → acts p.live action ≡ result → RequesterSideStands txn p.live told
     → KeepsDue (due_date_of p.live) (due_date_of (decides p result).1.live) × ((decides p result).1.landed ≡ p.landed)
 decides_due rows txn p told action (Ok new) e stands = (inr (inl (acts_due rows txn p.live new action told e stands)), refl)
 decides_due rows txn p told action (Err refusal) e stands = (stays (due_date_of p.live), refl)
 
-receives_due : RowsKeepDue → (txn : Qualifiers) (p : Party) (told : List (Option Apdu)) (found : Option Apdu) → RequesterSideStands txn p.live told
+-- A delivery keeps or raises the requester's live due date, and leaves its landed side.
+receives_due : RowsKeepDue → (txn : Qualifiers) (p : Party) (told : List (Option Apdu)) (found : Option Apdu)
+    → RequesterSideStands txn p.live told
     → KeepsDue (due_date_of p.live) (due_date_of (receives p found).1.live) × ((receives p found).1.landed ≡ p.landed)
 receives_due rows txn p told None stands = (stays (due_date_of p.live), refl)
 receives_due rows txn p told (Some a) stands = (takes_due rows txn p.live a told stands, refl)
 
-sends_same : (p : Party) (n : ℕ) (found : Option Apdu) (released : Bool) → ((sends p n found released).1.live ≡ p.live) × ((sends p n found released).1.landed ≡ p.landed)
+-- A Send leaves the live and the landed side.
+sends_same : (p : Party) (n : ℕ) (found : Option Apdu) (released : Bool)
+    → ((sends p n found released).1.live ≡ p.live) × ((sends p n found released).1.landed ≡ p.landed)
 sends_same p n None released = (refl, refl)
 sends_same p n (Some a) false = (refl, refl)
 sends_same p n (Some a) true = (refl, refl)
 
--- both records of a party have the due dates of another's
-same_dates : (p q : Party) → (q.live ≡ p.live) × (q.landed ≡ p.landed) → KeepsDue (due_date_of p.landed) (due_date_of p.live) → KeepsDue (due_date_of q.landed) (due_date_of q.live)
+-- If two parties have equal sides, and one's live due date is the landed one or later, so is the other's.
+same_dates : (p q : Party) → (q.live ≡ p.live) × (q.landed ≡ p.landed)
+    → KeepsDue (due_date_of p.landed) (due_date_of p.live) → KeepsDue (due_date_of q.landed) (due_date_of q.live)
 same_dates p q same kept = subst (λ side. KeepsDue (due_date_of side) (due_date_of q.live)) (sym same.1) (subst (λ side. KeepsDue (due_date_of p.landed) (due_date_of side)) (sym same.0) kept)
 
--- the live one is kept, and what has landed stays
-live_kept : (p q : Party) → KeepsDue (due_date_of p.live) (due_date_of q.live) × (q.landed ≡ p.landed) → KeepsDue (due_date_of p.landed) (due_date_of p.live) → KeepsDue (due_date_of q.landed) (due_date_of q.live)
+-- Beside an unchanged landed side, a live due date that is kept or raised stays the landed one or later.
+live_kept : (p q : Party) → KeepsDue (due_date_of p.live) (due_date_of q.live) × (q.landed ≡ p.landed)
+    → KeepsDue (due_date_of p.landed) (due_date_of p.live) → KeepsDue (due_date_of q.landed) (due_date_of q.live)
 live_kept p q both kept = subst (λ side. KeepsDue (due_date_of side) (due_date_of q.live)) (sym both.1) (keeps_on (due_date_of p.landed) (due_date_of p.live) (due_date_of q.live) kept both.0)
 
--- what has landed has no later date than what is in memory
-pub due_after : RowsKeepDue → (txn : Qualifiers) (p : Party) (told : List (Option Apdu)) (event : Event) → RequesterSideStands txn p.live told → KeepsDue (due_date_of p.landed) (due_date_of p.live)
+-- After each event the requester's live due date is the landed one or later, if it was so before.
+pub due_after : RowsKeepDue → (txn : Qualifiers) (p : Party) (told : List (Option Apdu)) (event : Event)
+    → RequesterSideStands txn p.live told → KeepsDue (due_date_of p.landed) (due_date_of p.live)
     → KeepsDue (due_date_of (happens_to p told event).1.landed) (due_date_of (happens_to p told event).1.live)
 due_after rows txn p told (events.Wish wish) stands kept =
     live_kept p (happens_to p told (events.Wish wish)).1 (decides_due rows txn p told (actions.Wish wish) (acts p.live (actions.Wish wish)) refl stands) kept
@@ -95,6 +112,7 @@ due_after rows txn p told (events.Deliver of n) stands kept = live_kept p (happe
 due_after rows txn p told (events.Noise of bytes) stands kept = kept
 due_after rows txn p told (events.Restart of) stands kept = stays (due_date_of p.landed)
 
+-- Equal sides have equal due dates.
 same_date : (a b : Side) → b ≡ a → KeepsDue (due_date_of a) (due_date_of b)
 same_date a b e = inr (inl (ap due_date_of e))
 

@@ -1,4 +1,4 @@
--- What is found in a list of APDUs stands in one of them.
+-- A value found in a list of APDUs is found in one of them.
 use Rattle.std.proofs.Common.{rules, arith, ◌≡◌, ◌⊎◌, inl, inr, ℕ, zero, suc, ◌+◌, ◌≤◌, ◌<◌, Bool, true, false, ◌||◌, ◌==◌, List, [], ◌∷◌, Option, Some, None, if◌then◌else◌, refl, sym, ap, ◌∙◌, subst}
 use Rattle.std.specs.Prelude.{slice_get}
 use Rattle.std.specs.List.{list_any, list_all, filter_map, cons_option, last_or}
@@ -9,17 +9,19 @@ use Rattle.ill_values.specs.declared.apdu.Body.{Body}
 use Rattle.ill_core.specs.Issued.{message, last_of, are_numbered}
 use Rattle.ill_world.proofs.Uniqueness.{at_number, message_number, same_apdu}
 
--- an APDU at some place, in which f finds this
+-- Some message of `apdus` is an APDU in which `f` finds `x`.
 abbrev pub Finds : {X : Type 0} → (Apdu → Option X) → List Apdu → X → Type 0
 Finds f apdus x = (n : ℕ) × (a : Apdu) × (message apdus n ≡ Some a) × (f a ≡ Some x)
 
--- What is found in the rest is found in the whole.
-finds_further : {X : Type 0} (f : Apdu → Option X) (a : Apdu) (apdus : List Apdu) (x : X) → Finds f apdus x → Finds f (a ∷ apdus) x
+-- A value found in the rest of a list is found in the whole.
+finds_further : {X : Type 0} (f : Apdu → Option X) (a : Apdu) (apdus : List Apdu) (x : X) → Finds f apdus x
+    → Finds f (a ∷ apdus) x
 finds_further f a apdus x (zero, b, at, is) = search rules
 finds_further f a apdus x (suc n, b, at, is) = (suc (suc n), b, at, is)
 
--- The last that is found is found in one of the APDUs, or was there before.
-last_from : {X : Type 0} (f : Apdu → Option X) (o : Option X) (apdus : List Apdu) (x : X) → last_or o (filter_map f apdus) ≡ Some x → (o ≡ Some x) ⊎ Finds f apdus x
+-- The last value found is found in one of the APDUs, or was there before.
+last_from : {X : Type 0} (f : Apdu → Option X) (o : Option X) (apdus : List Apdu) (x : X)
+    → last_or o (filter_map f apdus) ≡ Some x → (o ≡ Some x) ⊎ Finds f apdus x
 last_from f o [] x is = inl is
 last_from {X = X} f o (a ∷ apdus) x is = go (f a) refl (λ p. last_from f p apdus x) is
   where
@@ -28,12 +30,13 @@ last_from {X = X} f o (a ∷ apdus) x is = go (f a) refl (λ p. last_from f p ap
     go None e rest is = elim (rest o is) [ inl before ↦ inl before | inr there ↦ inr (finds_further f a apdus x there) ]
     go (Some y) e rest is = elim (rest (Some y) is) [ inl here ↦ inr (suc zero, a, refl, e ∙ here) | inr there ↦ inr (finds_further f a apdus x there) ]
 
--- The last that is found is found in one of the APDUs.
+-- The last value found is found in one of the APDUs.
 pub finds_last : {X : Type 0} (f : Apdu → Option X) (apdus : List Apdu) (x : X) → last_of f apdus ≡ Some x → Finds f apdus x
 finds_last f apdus x is = elim (last_from f None apdus x is) [ inl none ↦ search (rules, none) | inr there ↦ there ]
 
--- What is among all that is found is found in one of the APDUs.
-pub finds_any : (f : Apdu → Option ℕ) (apdus : List Apdu) (k : ℕ) → list_any (λ m. m == k) (filter_map f apdus) ≡ true → Finds f apdus k
+-- A number that is one of all that are found is found in one of the APDUs.
+pub finds_any : (f : Apdu → Option ℕ) (apdus : List Apdu) (k : ℕ) → list_any (λ m. m == k) (filter_map f apdus) ≡ true
+    → Finds f apdus k
 finds_any f [] k is = search rules
 finds_any f (a ∷ apdus) k is = go (f a) refl (finds_any f apdus k) is
   where
@@ -47,8 +50,9 @@ finds_any f (a ∷ apdus) k is = go (f a) refl (finds_any f apdus k) is
     go None e rest is = finds_further f a apdus k (rest is)
     go (Some m) e rest is = pick m (m == k) refl e rest is
 
--- Whatever holds of all that is found holds of what is found in one APDU.
-pub all_found : (f : Apdu → Option ℕ) (p : ℕ → Bool) (apdus : List Apdu) (n : ℕ) (a : Apdu) (k : ℕ) → list_all p (filter_map f apdus) ≡ true → message apdus n ≡ Some a → f a ≡ Some k → p k ≡ true
+-- A test that all numbers found pass is passed by the number found in one APDU.
+pub all_found : (f : Apdu → Option ℕ) (p : ℕ → Bool) (apdus : List Apdu) (n : ℕ) (a : Apdu) (k : ℕ)
+    → list_all p (filter_map f apdus) ≡ true → message apdus n ≡ Some a → f a ≡ Some k → p k ≡ true
 all_found f p apdus zero a k all at is = search rules
 all_found f p [] (suc n) a k all at is = search rules
 all_found f p (b ∷ apdus) (suc zero) a k all at is = go (f b) (ap f (same_apdu b a at) ∙ is) all
@@ -64,16 +68,18 @@ all_found f p (b ∷ apdus) (suc (suc n)) a k all at is = all_found f p apdus (s
 
 -- ---- numbers
 
--- the number of an APDU that says this
+-- Returns the number of an APDU, if `says` holds of its body.
 abbrev pub number_if : (Body → Bool) → Apdu → Option ℕ
 number_if says a = if says a.body then Some a.number else None
 
+-- If a Bool gives a number, it is true, and the number is the one given.
 said_it : (says : Bool) (number n : ℕ) → (if says then Some number else None) ≡ Some n → (says ≡ true) × (number ≡ n)
 said_it true number n is = (refl, search rules)
 said_it false number n is = search rules
 
--- The last number of an APDU that says this is that of a message that says it.
-pub was_last : (says : Body → Bool) (txn : Qualifiers) (apdus : List Apdu) (n : ℕ) → are_numbered txn 1 apdus ≡ true → last_of (number_if says) apdus ≡ Some n
+-- The last number of an APDU of which `says` holds is that of a message of which `says` holds.
+pub was_last : (says : Body → Bool) (txn : Qualifiers) (apdus : List Apdu) (n : ℕ) → are_numbered txn 1 apdus ≡ true
+    → last_of (number_if says) apdus ≡ Some n
     → (a : Apdu) × (message apdus n ≡ Some a) × (says a.body ≡ true) × (a.number ≡ n)
 was_last says txn apdus n numbered is =
     let found = finds_last (number_if says) apdus n is in
@@ -81,8 +87,9 @@ was_last says txn apdus n numbered is =
     let number = message_number txn apdus found.0 found.1 numbered found.2 in
     (found.1, subst (λ k. message apdus k ≡ Some found.1) (sym number.1 ∙ said.1) found.2, said.0, said.1)
 
--- Where an APDU says this, the last number that is found is not below its own.
-last_from_there : (says : Body → Bool) (txn : Qualifiers) (first number : ℕ) (apdus : List Apdu) (n : ℕ) → are_numbered txn first apdus ≡ true → number < first
+-- If the search of a numbered list starts from a lower number, the last number found is not below it.
+last_from_there : (says : Body → Bool) (txn : Qualifiers) (first number : ℕ) (apdus : List Apdu) (n : ℕ)
+    → are_numbered txn first apdus ≡ true → number < first
     → last_or (Some number) (filter_map (number_if says) apdus) ≡ Some n → number ≤ n
 last_from_there says txn first number apdus n numbered below last = go (last_from (number_if says) (Some number) apdus n last)
   where
@@ -94,7 +101,9 @@ last_from_there says txn first number apdus n numbered below last = go (last_fro
         let said = said_it (says a.body) a.number n is in
         omega (arith, below, there.1, said.1)
 
-last_not_below : (says : Body → Bool) (txn : Qualifiers) (first : ℕ) (o : Option ℕ) (apdus : List Apdu) (i : ℕ) (a : Apdu) (n : ℕ) → are_numbered txn first apdus ≡ true → slice_get apdus i ≡ Some a
+-- The last number found is not below the number of an APDU of which `says` holds.
+last_not_below : (says : Body → Bool) (txn : Qualifiers) (first : ℕ) (o : Option ℕ) (apdus : List Apdu) (i : ℕ) (a : Apdu) (n : ℕ)
+    → are_numbered txn first apdus ≡ true → slice_get apdus i ≡ Some a
     → says a.body ≡ true → last_or o (filter_map (number_if says) apdus) ≡ Some n → a.number ≤ n
 unfolding are_numbered
 last_not_below says txn first o [] i a n numbered at is last = search rules
@@ -111,18 +120,22 @@ last_not_below says txn first o (b ∷ apdus) (suc i) a n numbered at is last = 
     go None rest last = rest o last
     go (Some m) rest last = rest (Some m) last
 
--- No message that says this has a number above the last one's.
-pub not_above_last : (says : Body → Bool) (txn : Qualifiers) (apdus : List Apdu) (m n : ℕ) (a : Apdu) → are_numbered txn 1 apdus ≡ true → message apdus m ≡ Some a → says a.body ≡ true
+-- No message of which `says` holds has a number above the last one found.
+pub not_above_last : (says : Body → Bool) (txn : Qualifiers) (apdus : List Apdu) (m n : ℕ) (a : Apdu)
+    → are_numbered txn 1 apdus ≡ true → message apdus m ≡ Some a → says a.body ≡ true
     → last_of (number_if says) apdus ≡ Some n → a.number ≤ n
 not_above_last says txn apdus zero n a numbered at is last = search rules
 not_above_last says txn apdus (suc i) n a numbered at is last = last_not_below says txn 1 None apdus i a n numbered at is last
 
+-- A list that is not empty has a last value.
 last_some : {X : Type 0} (o : Option X) (xs : List X) (x : X) → (last : X) × (last_or o (x ∷ xs) ≡ Some last)
 last_some o [] x = (x, refl)
 last_some o (y ∷ xs) x = last_some (Some x) xs y
 
--- Where an APDU says this, there is a last one.
-pub has_last : (says : Body → Bool) (o : Option ℕ) (apdus : List Apdu) → list_any (λ (a : Apdu). says a.body) apdus ≡ true → (n : ℕ) × (last_or o (filter_map (number_if says) apdus) ≡ Some n)
+-- If `says` holds of an APDU of the list, there is a last number.
+pub has_last : (says : Body → Bool) (o : Option ℕ) (apdus : List Apdu)
+    → list_any (λ (a : Apdu). says a.body) apdus ≡ true
+    → (n : ℕ) × (last_or o (filter_map (number_if says) apdus) ≡ Some n)
 has_last says o [] is = search rules
 has_last says o (a ∷ apdus) is = go (says a.body) (has_last says o apdus) is
   where

@@ -6,7 +6,7 @@ use Rattle.ill_values.specs.declared.apdu.Body.{Body}
 use Rattle.ill_world.proofs.Uniqueness.{same_apdu}
 
 module _ {R : Type 0} (take : R → Apdu → R) where
-  -- a record that takes these APDUs, one after another
+  -- Returns a record after it takes these APDUs, one after another.
   unfoldable pub taking : R → List Apdu → R
   taking r [] = r
   taking r (a ∷ apdus) = taking (take r a) apdus
@@ -31,7 +31,7 @@ module _ {R : Type 0} (take : R → Apdu → R) where
     stays_heard r [] number body none heard = heard
     stays_heard r (b ∷ apdus) number body none heard = stays_heard (take r b) apdus number body (λ i c at. none (suc i) c at) (hears.stays r b number body (none zero b refl) heard)
 
-    -- A message has been heard behind the last one, unless a later one reopens it.
+    -- After a record takes all APDUs, it has heard each that no later one reopens.
     pub heard_behind : (r : R) (apdus : List Apdu) (i : ℕ) (a : Apdu) → Is r → slice_get apdus i ≡ Some a → Of a
         → ((j : ℕ) (b : Apdu) → slice_get apdus j ≡ Some b → i < j → reopens b.body a.body ≡ false) → has_heard (taking r apdus) a.number a.body ≡ true
     unfolding taking

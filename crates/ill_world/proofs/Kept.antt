@@ -1,4 +1,4 @@
--- What an event keeps of a party.
+-- Each event keeps the invariant of a party.
 use Rattle.std.proofs.Common.{◌≡◌, ℕ, Bool, true, false, nat_le, List, Option, Some, None, Result, Ok, Err, refl, sym, subst}
 use Rattle.ill_values.specs.declared.apdu.Apdu.{Apdu}
 use Rattle.ill_core.specs.declared.refusal.Refusal.{Refusal}
@@ -13,13 +13,13 @@ use Rattle.ill_world.specs.World.{Party, sent_message, decides, sends, receives,
 use Rattle.ill_world.specs.Invariant.{WasSent, SendsSaved, PartyStands}
 use Rattle.ill_world.proofs.Sendings.{live_grows, saved_now, saved_by_fault, saved_at_restart, saved_by_send, sent_stays}
 
--- ---- what is used of the rows
+-- ---- facts of the rows
 
--- a row takes no message away
+-- A row takes no message away, and keeps the role and the transaction.
 abbrev pub RowsGrow : Type 0
 RowsGrow = (old new : Side) → IsStep old new → Grows old new
 
--- An action keeps K, and so does a message that was sent, and whatever is sent further.
+-- An action keeps `K`, and so do a message that was sent and is taken, and further messages.
 pub record Keeps (K : Side → List (Option Apdu) → Type 0) : Type 0 where
   pub acts : (old new : Side) (action : Action) (told : List (Option Apdu)) → acts old action ≡ Ok new → K old told → K new told
   pub more : (side : Side) (told more : List (Option Apdu)) → ((a : Apdu) → WasSent told a → WasSent more a) → K side told → K side more
@@ -27,7 +27,9 @@ pub record Keeps (K : Side → List (Option Apdu) → Type 0) : Type 0 where
 
 -- ---- one event
 
-party_decides : (K : Side → List (Option Apdu) → Type 0) (p : Party) (told : List (Option Apdu)) (action : Action) (result : Result Side Refusal) → RowsGrow → Keeps K → acts p.live action ≡ result
+-- A party that stands does so after a decision.
+party_decides : (K : Side → List (Option Apdu) → Type 0) (p : Party) (told : List (Option Apdu)) (action : Action) (result : Result Side Refusal)
+    → RowsGrow → Keeps K → acts p.live action ≡ result
     → PartyStands K p told → PartyStands K (decides p result).1 told
 party_decides K p told action (Ok new) grows keeps e stands = record {
   saved = live_grows p new (grows p.live new (acted action e)).1 stands.saved;
@@ -36,7 +38,9 @@ party_decides K p told action (Ok new) grows keeps e stands = record {
 }
 party_decides K p told action (Err refusal) grows keeps e stands = stands
 
-party_receives : (K : Side → List (Option Apdu) → Type 0) (p : Party) (told : List (Option Apdu)) (n : ℕ) (found : Option Apdu) → RowsGrow → Keeps K → sent_message told n ≡ found
+-- A party that stands does so after it receives a message that was sent to it.
+party_receives : (K : Side → List (Option Apdu) → Type 0) (p : Party) (told : List (Option Apdu)) (n : ℕ) (found : Option Apdu)
+    → RowsGrow → Keeps K → sent_message told n ≡ found
     → PartyStands K p told → PartyStands K (receives p found).1 told
 party_receives K p told n None grows keeps e stands = stands
 party_receives K p told n (Some a) grows keeps e stands = record {
@@ -45,17 +49,23 @@ party_receives K p told n (Some a) grows keeps e stands = record {
   landed = stands.landed;
 }
 
-party_fails : (K : Side → List (Option Apdu) → Type 0) (p : Party) (told : List (Option Apdu)) (who : _) (landed : Bool) → PartyStands K p told → PartyStands K (happens_to p told (events.SaveFault who landed)).1 told
+-- A party that stands does so after a save that fails.
+party_fails : (K : Side → List (Option Apdu) → Type 0) (p : Party) (told : List (Option Apdu)) (who : _) (landed : Bool)
+    → PartyStands K p told → PartyStands K (happens_to p told (events.SaveFault who landed)).1 told
 party_fails K p told who true stands = record { saved = saved_by_fault p true stands.saved; live = stands.live; landed = stands.live }
 party_fails K p told who false stands = stands
 
-party_sends : (K : Side → List (Option Apdu) → Type 0) (p : Party) (told : List (Option Apdu)) (n : ℕ) (found : Option Apdu) (released : Bool) → message (issued_of p.live) n ≡ found
+-- A party that stands does so after a Send.
+party_sends : (K : Side → List (Option Apdu) → Type 0) (p : Party) (told : List (Option Apdu)) (n : ℕ) (found : Option Apdu) (released : Bool)
+    → message (issued_of p.live) n ≡ found
     → nat_le n p.released ≡ released → PartyStands K p told → PartyStands K (sends p n found released).1 told
 party_sends K p told n None released is e stands = stands
 party_sends K p told n (Some a) false is e stands = stands
 party_sends K p told n (Some a) true is e stands = record { saved = saved_by_send p n (Some a) true is e stands.saved; live = stands.live; landed = stands.landed }
 
-pub party_kept : (K : Side → List (Option Apdu) → Type 0) (p : Party) (told : List (Option Apdu)) (event : Event) → RowsGrow → Keeps K → PartyStands K p told
+-- A party that stands does so after each event.
+pub party_kept : (K : Side → List (Option Apdu) → Type 0) (p : Party) (told : List (Option Apdu)) (event : Event)
+    → RowsGrow → Keeps K → PartyStands K p told
     → PartyStands K (happens_to p told event).1 told
 party_kept K p told (events.Wish wish) grows keeps stands = party_decides K p told (actions.Wish wish) (acts p.live (actions.Wish wish)) grows keeps refl stands
 party_kept K p told (events.Deed deed today) grows keeps stands = party_decides K p told (actions.Deed deed today) (acts p.live (actions.Deed deed today)) grows keeps refl stands
@@ -66,27 +76,33 @@ party_kept K p told (events.Deliver who n) grows keeps stands = party_receives K
 party_kept K p told (events.Noise who bytes) grows keeps stands = stands
 party_kept K p told (events.Restart who) grows keeps stands = record { saved = saved_at_restart p stands.saved; live = stands.landed; landed = stands.landed }
 
--- what the other party sends further
-pub told_more : (K : Side → List (Option Apdu) → Type 0) (p : Party) (told more : List (Option Apdu)) → Keeps K → ((a : Apdu) → WasSent told a → WasSent more a) → PartyStands K p told
+-- A party that stands by `told` stands by `more`, if each message of `told` is in `more`.
+pub told_more : (K : Side → List (Option Apdu) → Type 0) (p : Party) (told more : List (Option Apdu)) → Keeps K
+    → ((a : Apdu) → WasSent told a → WasSent more a) → PartyStands K p told
     → PartyStands K p more
 told_more K p told more keeps stays stands = record { saved = stands.saved; live = keeps.more p.live told more stays stands.live; landed = keeps.more p.landed told more stays stands.landed }
 
--- ---- what it has sent
+-- ---- sent messages
 
+-- A decision leaves the messages sent.
 decides_sends : (p : Party) (result : Result Side Refusal) → (decides p result).1.sent ≡ p.sent
 decides_sends p (Ok new) = refl
 decides_sends p (Err refusal) = refl
 
+-- A delivery leaves the messages that the receiving party has sent.
 receives_sends : (p : Party) (found : Option Apdu) → (receives p found).1.sent ≡ p.sent
 receives_sends p None = refl
 receives_sends p (Some a) = refl
 
-fails_sends : (p : Party) (told : List (Option Apdu)) (who : _) (landed : Bool) → (happens_to p told (events.SaveFault who landed)).1.sent ≡ p.sent
+-- A failed save leaves the messages sent.
+fails_sends : (p : Party) (told : List (Option Apdu)) (who : _) (landed : Bool)
+    → (happens_to p told (events.SaveFault who landed)).1.sent ≡ p.sent
 fails_sends p told who true = refl
 fails_sends p told who false = refl
 
--- what a party has sent stays sent, at its number
-pub stays_sent : (p : Party) (told : List (Option Apdu)) (event : Event) → SendsSaved p → (m : ℕ) (a : Apdu) → sent_message p.sent m ≡ Some a → sent_message (happens_to p told event).1.sent m ≡ Some a
+-- A message that a party has sent stays sent, under its number, at each event.
+pub stays_sent : (p : Party) (told : List (Option Apdu)) (event : Event) → SendsSaved p → (m : ℕ) (a : Apdu)
+    → sent_message p.sent m ≡ Some a → sent_message (happens_to p told event).1.sent m ≡ Some a
 stays_sent p told (events.Wish wish) saved m a was = subst (λ s. sent_message s m ≡ Some a) (sym (decides_sends p (acts p.live (actions.Wish wish)))) was
 stays_sent p told (events.Deed deed today) saved m a was = subst (λ s. sent_message s m ≡ Some a) (sym (decides_sends p (acts p.live (actions.Deed deed today)))) was
 stays_sent p told (events.Save who) saved m a was = was
@@ -96,5 +112,7 @@ stays_sent p told (events.Deliver who n) saved m a was = subst (λ s. sent_messa
 stays_sent p told (events.Noise who bytes) saved m a was = was
 stays_sent p told (events.Restart who) saved m a was = was
 
-pub was_sent_still : (p : Party) (told : List (Option Apdu)) (event : Event) → SendsSaved p → (a : Apdu) → WasSent p.sent a → WasSent (happens_to p told event).1.sent a
+-- A message that a party has sent is sent still, after each event.
+pub was_sent_still : (p : Party) (told : List (Option Apdu)) (event : Event) → SendsSaved p → (a : Apdu)
+    → WasSent p.sent a → WasSent (happens_to p told event).1.sent a
 was_sent_still p told event saved a was = (was.0, stays_sent p told event saved was.0 a was.1)

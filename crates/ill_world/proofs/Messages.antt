@@ -9,7 +9,7 @@ use Rattle.ill_der.specs.declared.fault.DerFault.{DerFault}
 use Rattle.ill_der.specs.ShortForm.{spelling, apdu_at, Decodes}
 use Rattle.ill_world.specs.PartyView.{apdu_of, is_of}
 
--- an APDU is read from its spelling, whatever follows
+-- An APDU is read from its spelling, and all bytes after it are left.
 abbrev pub ReadAgain : Type 0
 ReadAgain = (a : Apdu) (rest : List ℕ) → IsApdu a → apdu_at (spelling a ++ rest) ≡ Ok (a, rest)
 
@@ -22,10 +22,11 @@ pub apdu_is : ReadAgain → (bytes : List ℕ) (a : Apdu) → IsApdu a → bytes
 apdu_is again bytes a is spelled = ap apdu_of (spelled_whole again bytes a is spelled)
 
 -- Bytes that spell an APDU are read as the APDU of them, with none left.
-pub is_whole : ReadAgain → (bytes : List ℕ) (a : Apdu) → IsApdu a → bytes ≡ spelling a → apdu_at bytes ≡ Ok (apdu_of (apdu_at bytes), [])
+pub is_whole : ReadAgain → (bytes : List ℕ) (a : Apdu) → IsApdu a → bytes ≡ spelling a
+    → apdu_at bytes ≡ Ok (apdu_of (apdu_at bytes), [])
 is_whole again bytes a is spelled = spelled_whole again bytes a is spelled ∙ ap (λ x. Ok (x, [])) (sym (apdu_is again bytes a is spelled))
 
--- ---- whether bytes are exactly one APDU
+-- ---- bytes that are exactly one APDU
 
 -- A list of length 0 is empty.
 none_left : (rest : List ℕ) → length rest ≡ 0 → rest ≡ []
@@ -38,13 +39,15 @@ some_left [] some = absurd (omega (arith, some))
 some_left (byte ∷ rest) some = (byte, rest, refl)
 
 -- Bytes that decode to an APDU of their whole length are read as it, with none left.
-pub whole_reads : (bytes : List ℕ) (read : Result (Apdu × List ℕ) DerFault) (a : Apdu) (size : ℕ) → Decodes bytes read (Ok (a, size)) → size ≡ length bytes → read ≡ Ok (a, [])
+pub whole_reads : (bytes : List ℕ) (read : Result (Apdu × List ℕ) DerFault) (a : Apdu) (size : ℕ)
+    → Decodes bytes read (Ok (a, size)) → size ≡ length bytes → read ≡ Ok (a, [])
 whole_reads bytes (Ok found) a size decodes whole =
     ap Ok decodes.1 ∙ ap (λ rest. Ok (a, rest)) (none_left (drop size bytes) (omega (arith, length-drop size bytes, whole)))
 whole_reads bytes (Err fault) a size decodes whole = search rules
 
 -- Bytes that decode to a shorter APDU are read as it, with some left.
-pub part_reads : (bytes : List ℕ) (read : Result (Apdu × List ℕ) DerFault) (a : Apdu) (size : ℕ) → Decodes bytes read (Ok (a, size)) → (size ≡ length bytes → ⊥)
+pub part_reads : (bytes : List ℕ) (read : Result (Apdu × List ℕ) DerFault) (a : Apdu) (size : ℕ)
+    → Decodes bytes read (Ok (a, size)) → (size ≡ length bytes → ⊥)
     → (byte : ℕ) × (more : List ℕ) × (read ≡ Ok (a, byte ∷ more))
 part_reads bytes (Ok found) a size decodes part =
     let left = some_left (drop size bytes) (omega (arith, length-drop size bytes, decodes.0, part)) in
@@ -52,11 +55,13 @@ part_reads bytes (Ok found) a size decodes part =
 part_reads bytes (Err fault) a size decodes part = search rules
 
 -- Bytes that are one APDU are of a transaction exactly if the APDU is.
-pub whole_is_of : (txn : Qualifiers) (bytes : List ℕ) (read : Result (Apdu × List ℕ) DerFault) (a : Apdu) (size : ℕ) → Decodes bytes read (Ok (a, size)) → size ≡ length bytes
+pub whole_is_of : (txn : Qualifiers) (bytes : List ℕ) (read : Result (Apdu × List ℕ) DerFault) (a : Apdu) (size : ℕ)
+    → Decodes bytes read (Ok (a, size)) → size ≡ length bytes
     → is_of txn read ≡ is_same_txn a.txn txn
 whole_is_of txn bytes read a size decodes whole = ap (is_of txn) (whole_reads bytes read a size decodes whole)
 
--- Bytes that go on behind an APDU are of no transaction.
-pub part_is_of : (txn : Qualifiers) (bytes : List ℕ) (read : Result (Apdu × List ℕ) DerFault) (a : Apdu) (size : ℕ) → Decodes bytes read (Ok (a, size)) → (size ≡ length bytes → ⊥)
+-- Bytes that go on after an APDU are of no transaction.
+pub part_is_of : (txn : Qualifiers) (bytes : List ℕ) (read : Result (Apdu × List ℕ) DerFault) (a : Apdu) (size : ℕ)
+    → Decodes bytes read (Ok (a, size)) → (size ≡ length bytes → ⊥)
     → is_of txn read ≡ false
 part_is_of txn bytes read a size decodes part = ap (is_of txn) (part_reads bytes read a size decodes part).2

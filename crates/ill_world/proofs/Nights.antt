@@ -29,8 +29,10 @@ use Rattle.ill_world.proofs.Runs.{run_stands}
 
 -- ---- a loan that is over for the requester
 
--- A requester says that it is over in CANCELLED, in NOT-SUPPLIED, and in RETURNED with the checked-in mark.
-over_means : (s : State) (declined marked : Bool) → is_among (states.InProcess ∷ states.CheckedIn ∷ []) s ≡ false → is_nobodys (requester_turn_in s declined marked) ≡ true
+-- If a requester says that the loan is over, it is in CANCELLED or NOT-SUPPLIED, or in RETURNED with the checked-in
+-- mark.
+over_means : (s : State) (declined marked : Bool) → is_among (states.InProcess ∷ states.CheckedIn ∷ []) s ≡ false
+    → is_nobodys (requester_turn_in s declined marked) ≡ true
     → (s ≡ states.Cancelled) ⊎ (s ≡ states.NotSupplied) ⊎ ((s ≡ states.Returned) × (marked ≡ true))
 over_means states.Cancelled declined marked own over = inl refl
 over_means states.NotSupplied declined marked own over = inr (inl refl)
@@ -40,16 +42,18 @@ over_means states.Conditional true marked own over = search rules
 over_means states.Conditional false marked own over = search rules
 over_means s declined marked own over = search rules
 
--- Two records are at rest if it is over for both in these states, which face each other.
-rest_in : (x : RequesterRecord) (y : ResponderRecord) (s t : State) → is_over (sides.Requester x) ≡ true → x.state ≡ s → y.state ≡ t → is_nobodys (responder_turn_in t) ≡ true → is_among (faced_in s) t ≡ true → AtRest x y
+-- Two records in these states are at rest, if the loan is over for both, and the states face each other.
+rest_in : (x : RequesterRecord) (y : ResponderRecord) (s t : State) → is_over (sides.Requester x) ≡ true → x.state ≡ s
+    → y.state ≡ t → is_nobodys (responder_turn_in t) ≡ true → is_among (faced_in s) t ≡ true → AtRest x y
 rest_in x y s t over at_s at_t ends faces = record {
   requester = over;
   responder = ap (λ u. is_nobodys (responder_turn_in u)) at_t ∙ ends;
   faced = ap (λ u. is_among (faced_in u) y.state) at_s ∙ ap (is_among (faced_in s)) at_t ∙ faces;
 }
 
--- What is over for the requester is over for the responder.
-records_rest : (txn : Qualifiers) (x : RequesterRecord) (y : ResponderRecord) (told heard : List (Option Apdu)) → RequesterStands txn x told → ResponderStands txn y heard → AreIssued told y.issued → AreIssued heard x.issued
+-- If the loan is over for a requester's record that stands, it is at rest with the responder's.
+records_rest : (txn : Qualifiers) (x : RequesterRecord) (y : ResponderRecord) (told heard : List (Option Apdu))
+    → RequesterStands txn x told → ResponderStands txn y heard → AreIssued told y.issued → AreIssued heard x.issued
     → is_over (sides.Requester x) ≡ true → AtRest x y
 records_rest txn x y told heard requester_stands responder_stands issued heeded over =
     elim (over_means x.state (is_declined x) x.checked_in requester_stands.rules.parts.role over) [
@@ -59,7 +63,9 @@ records_rest txn x y told heard requester_stands responder_stands issued heeded 
           rest_in x y states.Returned states.CheckedIn over returned ((says_true txn x y told heard requester_stands responder_stands issued heeded).checked_in marked) refl refl
     ]
 
-sides_rest : (txn : Qualifiers) (x y : Side) (told heard : List (Option Apdu)) → RequesterSideStands txn x told → ResponderSideStands txn y heard → AreIssued told (issued_of y) → AreIssued heard (issued_of x)
+-- If the loan is over for a requester's side that stands, it is at rest with the responder's.
+sides_rest : (txn : Qualifiers) (x y : Side) (told heard : List (Option Apdu)) → RequesterSideStands txn x told
+    → ResponderSideStands txn y heard → AreIssued told (issued_of y) → AreIssued heard (issued_of x)
     → is_over x ≡ true → Facing AtRest x y
 sides_rest txn (sides.Requester x) (sides.Responder y) told heard requester_stands responder_stands issued heeded over = records_rest txn x y told heard requester_stands responder_stands issued heeded over
 sides_rest txn (sides.Responder x) y told heard requester_stands responder_stands issued heeded over = absurd requester_stands
@@ -70,13 +76,13 @@ pub at_rest : (txn : Qualifiers) (w : Parties) → Invariant txn w → is_over w
 at_rest txn w stands over =
     sides_rest txn w.requester.live w.responder.live w.responder.sent w.requester.sent stands.requester.live stands.responder.live (live_issues w.responder stands.responder.saved) (live_issues w.requester stands.requester.saved) over
 
--- Of two sides at rest it is over for the responder's.
+-- If two sides are at rest, the loan is over for the responder's.
 rests_responder : (x y : Side) → Facing AtRest x y → is_over y ≡ true
 rests_responder (sides.Requester x) (sides.Responder y) rest = rest.responder
 rests_responder (sides.Responder x) y rest = absurd rest
 rests_responder (sides.Requester x) (sides.Requester y) rest = absurd rest
 
--- ---- who sends
+-- ---- the sides that send
 
 -- A side wants sending if its loan is not over.
 pub open_wants : (was_asked : Bool) (side : Side) → is_over side ≡ false → wants_sending was_asked side ≡ true
@@ -89,17 +95,19 @@ over_is_silent (sides.Requester x) over = ap not over
 over_is_silent (sides.Responder y) over = ap (λ b. not b || false) over
 
 -- A responder that was asked wants sending.
-asked_wants : (txn : Qualifiers) (side : Side) (heard : List (Option Apdu)) → ResponderSideStands txn side heard → wants_sending true side ≡ true
+asked_wants : (txn : Qualifiers) (side : Side) (heard : List (Option Apdu)) → ResponderSideStands txn side heard
+    → wants_sending true side ≡ true
 asked_wants txn (sides.Responder y) heard stands = or_right (not (is_over (sides.Responder y))) true refl
 asked_wants txn (sides.Requester x) heard stands = absurd stands
 
--- In IDLE a loan is not over for a responder.
+-- For a responder in IDLE the loan is not over.
 idle_is_open : (s : State) → is_among (states.Idle ∷ []) s ≡ true → is_nobodys (responder_turn_in s) ≡ false
 idle_is_open states.Idle is = refl
 idle_is_open s is = search rules
 
--- A responder is not over if the requester has issued nothing.
-unasked_is_open : (txn : Qualifiers) (side : Side) (heard : List (Option Apdu)) (apdus : List Apdu) → ResponderSideStands txn side heard → AreIssued heard apdus → is_none apdus ≡ true → is_over side ≡ false
+-- If the requester has issued nothing, the loan is not over for the responder.
+unasked_is_open : (txn : Qualifiers) (side : Side) (heard : List (Option Apdu)) (apdus : List Apdu)
+    → ResponderSideStands txn side heard → AreIssued heard apdus → is_none apdus ≡ true → is_over side ≡ false
 unasked_is_open txn (sides.Responder y) heard apdus stands heeded none = go (is_among (states.Idle ∷ []) y.state) refl
   where
     go : (idle : Bool) → is_among (states.Idle ∷ []) y.state ≡ idle → is_over (sides.Responder y) ≡ false
@@ -109,12 +117,13 @@ unasked_is_open txn (sides.Requester x) heard apdus stands heeded none = absurd 
 
 -- ---- the events of a night
 
--- a night whose first half is this
+-- Returns a night whose first half is `first`.
 abbrev night_from : Parties → List Event → List Event
 night_from w first = first ++ half_if (wants_sending (asks w.requester.live) (run_of w first).responder.live) who.Responder (run_of w first)
 
--- A half of nothing is a save, which leaves the responder as it is.
-nothing_passes : (w : Parties) (apdus : List Apdu) → issued_of w.requester.live ≡ apdus → is_none apdus ≡ true → (run_of w (half_of who.Requester w)).responder.live ≡ w.responder.live
+-- The half of a requester that has issued nothing is a save, which leaves the responder.
+nothing_passes : (w : Parties) (apdus : List Apdu) → issued_of w.requester.live ≡ apdus → is_none apdus ≡ true
+    → (run_of w (half_of who.Requester w)).responder.live ≡ w.responder.live
 unfolding run_by passes_on
 nothing_passes w [] is none = ap (λ (l : List Apdu). (run_of w (Save who.Requester ∷ passes_on who.Requester 1 (length l))).responder.live) is
 nothing_passes w (a ∷ apdus) is none = search rules
@@ -146,7 +155,7 @@ module _ (txn : Qualifiers) (after : (w : Parties) (event : Event) → Invariant
       ap (night_from w) (ap (λ b. half_if b who.Requester w) (open_wants false w.requester.live is_open))
       ∙ ap (λ b. first ++ half_if b who.Responder (run_of w first)) (responder_wants w stands is_open)
 
-  -- In a night both save alone if the loan is over for the requester.
+  -- If the loan is over for the requester, and both are at rest, a night is a save of each side.
   pub night_is_saves : (w : Parties) → AreAtRest w → is_over w.requester.live ≡ true → night_of w ≡ Save who.Requester ∷ Save who.Responder ∷ []
   unfolding run_by
   night_is_saves w rest over =
@@ -159,13 +168,17 @@ module _ (txn : Qualifiers) (after : (w : Parties) (event : Event) → Invariant
 -- ---- a night
 
 -- Saves leave both sides at rest.
-rest_after : (w : Parties) (events : List Event) → AreAtRest w → events ≡ Save who.Requester ∷ Save who.Responder ∷ [] → AreAtRest (run_of w events)
+rest_after : (w : Parties) (events : List Event) → AreAtRest w → events ≡ Save who.Requester ∷ Save who.Responder ∷ []
+    → AreAtRest (run_of w events)
 unfolding run_by
 rest_after w events rest is = subst (λ (l : List Event). AreAtRest (run_of w l)) (sym is) rest
 
--- Both sides of a world are in step or at rest after a night if a round brings them in step, or if they are at rest and save alone.
-pub one_night : (w : Parties) → (is_over w.requester.live ≡ false → night_of w ≡ round_of w) → (is_over w.requester.live ≡ true → night_of w ≡ Save who.Requester ∷ Save who.Responder ∷ [])
-    → (is_over w.requester.live ≡ true → AreAtRest w) → AreInStep (run_of w (round_of w)) → AreInStepOrAtRest (run_of w (night_of w))
+-- After a night both sides are in step, if it is a round that brings them in step. They are at rest if they were, and
+-- save alone.
+pub one_night : (w : Parties) → (is_over w.requester.live ≡ false → night_of w ≡ round_of w)
+    → (is_over w.requester.live ≡ true → night_of w ≡ Save who.Requester ∷ Save who.Responder ∷ [])
+    → (is_over w.requester.live ≡ true → AreAtRest w) → AreInStep (run_of w (round_of w))
+    → AreInStepOrAtRest (run_of w (night_of w))
 one_night w rounds saves rests step = go (is_over w.requester.live) refl
   where
     go : (over : Bool) → is_over w.requester.live ≡ over → AreInStepOrAtRest (run_of w (night_of w))

@@ -43,14 +43,16 @@ use Rattle.ill_world.proofs.Runs.{run_stands}
 use Rattle.ill_world.proofs.Sendings.{front_of_front, front_of_itself}
 use Rattle.ill_world.proofs.Uniqueness.{message_number}
 
--- a requester that takes an APDU, and a responder
+-- Returns requester `x` after it takes `a`.
 abbrev asks : RequesterRecord → Apdu → RequesterRecord
 asks x a = (requester_deliveries.takes x a).1
 
+-- Returns responder `y` after it takes `a`.
 abbrev lends : ResponderRecord → Apdu → ResponderRecord
 lends y a = (responder_deliveries.takes y a).1
 
--- what the rows of both roles do to what was heard, and to what is issued meanwhile
+-- A record that takes a message has heard it, until a later one reopens it. While it takes messages, a responder
+-- issues nothing but an ILL-Answer unfilled.
 pub record RowsHear : Type 0 where
   pub requester_txn : (x : RequesterRecord) (a : Apdu) → (asks x a).txn ≡ x.txn
   pub requester_issues : (x : RequesterRecord) (a : Apdu) → (asks x a).issued ≡ x.issued
@@ -66,13 +68,15 @@ pub record RowsHear : Type 0 where
 -- ---- a side and its record
 
 -- A side of a requester takes APDUs as its record does.
-requester_taking : (x : RequesterRecord) (apdus : List Apdu) → takes_all (sides.Requester x) apdus ≡ sides.Requester (taking asks x apdus)
+requester_taking : (x : RequesterRecord) (apdus : List Apdu)
+    → takes_all (sides.Requester x) apdus ≡ sides.Requester (taking asks x apdus)
 unfolding takes_all taking
 requester_taking x [] = refl
 requester_taking x (a ∷ apdus) = requester_taking (asks x a) apdus
 
 -- A side of a responder takes APDUs as its record does.
-responder_taking : (y : ResponderRecord) (apdus : List Apdu) → takes_all (sides.Responder y) apdus ≡ sides.Responder (taking lends y apdus)
+responder_taking : (y : ResponderRecord) (apdus : List Apdu)
+    → takes_all (sides.Responder y) apdus ≡ sides.Responder (taking lends y apdus)
 unfolding takes_all taking
 responder_taking y [] = refl
 responder_taking y (a ∷ apdus) = responder_taking (lends y a) apdus
@@ -88,13 +92,15 @@ same_responder y z same = search rules
 -- ---- lists
 
 -- A test that all APDUs pass is passed by each.
-each : (p : Body → Bool) (apdus : List Apdu) (i : ℕ) (a : Apdu) → list_all (λ b. p b.body) apdus ≡ true → slice_get apdus i ≡ Some a → p a.body ≡ true
+each : (p : Body → Bool) (apdus : List Apdu) (i : ℕ) (a : Apdu) → list_all (λ b. p b.body) apdus ≡ true
+    → slice_get apdus i ≡ Some a → p a.body ≡ true
 each p [] i a all at = search rules
 each p (b ∷ apdus) zero a all at = let same : b ≡ a = search rules in subst (λ (c : Apdu). p c.body ≡ true) same (and_parts _ _ all).0
 each p (b ∷ apdus) (suc i) a all at = each p apdus i a (and_parts _ _ all).1 at
 
 -- No message says it if the list of APDUs does not.
-none_there : (says : Body → Bool) (apdus : List Apdu) (i : ℕ) (a : Apdu) → has says apdus ≡ false → slice_get apdus i ≡ Some a → says a.body ≡ false
+none_there : (says : Body → Bool) (apdus : List Apdu) (i : ℕ) (a : Apdu) → has says apdus ≡ false
+    → slice_get apdus i ≡ Some a → says a.body ≡ false
 none_there says apdus i a none at = go (says a.body) refl
   where
     go : (b : Bool) → says a.body ≡ b → b ≡ false
@@ -102,7 +108,8 @@ none_there says apdus i a none at = go (says a.body) refl
     go true e = let both : true ≡ false = sym (message_says says apdus (suc i) a at e) ∙ none in search rules
 
 -- No message but the first is an ILL-Request.
-first_alone : (apdus : List Apdu) (j : ℕ) (b : Apdu) → begins_with_request apdus ≡ true → slice_get apdus (suc j) ≡ Some b → is_ill_request b.body ≡ false
+first_alone : (apdus : List Apdu) (j : ℕ) (b : Apdu) → begins_with_request apdus ≡ true
+    → slice_get apdus (suc j) ≡ Some b → is_ill_request b.body ≡ false
 first_alone [] j b begins at = search rules
 first_alone (a ∷ apdus) j b begins at = none_there is_ill_request apdus j b (not-true _ (and_parts _ _ begins).1) at
 
@@ -111,19 +118,21 @@ has_front : (says : Body → Bool) (front apdus : List Apdu) → IsPrefix front 
 has_front says front apdus is there =
     ap (has says) is.1 ∙ (list_any-append (λ (a : Apdu). says a.body) front is.0 ∙ ap (λ (b : Bool). b || has says is.0) there)
 
--- ---- what reopens what
+-- ---- messages that reopen others
 
 -- No APDU but an ILL-Request reopens another one at a responder.
 only_request : (first second : Body) → is_ill_request first ≡ false → records.reopens first second ≡ false
 only_request (types.IllRequest expiry item) second is = search rules
 only_request first second is = refl
 
--- the first APDU grants a date, and the second one is an Overdue for it
+-- The first APDU grants a date, and the second is an Overdue for it.
 abbrev GrantsOverdue : Body → Body → Type 0
 GrantsOverdue first second = (c : ℕ) × (due day : Date) × (grant_of first ≡ Some (grant c due)) × (second ≡ types.Overdue day) × (is_same_day day due ≡ true)
 
 -- A plain APDU is reopened only as a Recall by a Shipped, or as an Overdue by its grant.
-plain_reopens : (first second : Body) → names_conditions second ≡ false → (is_shipped first ≡ true → is_recall second ≡ true → ⊥) → (GrantsOverdue first second → ⊥) → notices.reopens first second ≡ false
+plain_reopens : (first second : Body) → names_conditions second ≡ false
+    → (is_shipped first ≡ true → is_recall second ≡ true → ⊥) → (GrantsOverdue first second → ⊥)
+    → notices.reopens first second ≡ false
 plain_reopens (types.CancelReply c false) (types.IllAnswer results.Conditional) plain order dates = search rules
 plain_reopens (types.CancelReply c false) second plain order dates = search rules
 plain_reopens (types.Shipped due) types.Recall plain order dates = absurd (order refl refl)
@@ -133,7 +142,7 @@ plain_reopens (types.RenewAnswer c (Some due)) (types.Overdue day) plain order d
 plain_reopens (types.RenewAnswer c (Some due)) second plain order dates = search rules
 plain_reopens first second plain order dates = search rules
 
--- ---- the responder, while it takes what the requester has issued
+-- ---- the responder, while it takes all messages of the requester
 
 module _ (rows : RowsHear) where
   -- A responder that takes APDUs keeps all that it has issued.
@@ -180,11 +189,11 @@ module _ (rows : RowsHear) where
   -- ---- both
 
   module _ (txn : Qualifiers) (x : RequesterRecord) (y : ResponderRecord) (heard told told_after : List (Option Apdu)) where
-    -- the responder, which has taken all messages of the requester
+    -- Returns the responder after it takes all messages of the requester.
     abbrev lender_new : ResponderRecord
     lender_new = taking lends y x.issued
 
-    -- the requester, which has then taken all messages of the responder
+    -- Returns the requester after it takes all messages that the responder has issued then.
     abbrev borrower_new : RequesterRecord
     borrower_new = taking asks x lender_new.issued
 
@@ -247,12 +256,12 @@ module _ (rows : RowsHear) where
           go false false true a b c is = apart lender_new.state (inr (inr (sym lender_after.ends.shipped ∙ message_says is_shipped lender_new.issued at.0 at.1 at.2 c))) undecided
           go false false false a b c is = search rules
 
-      -- An undecided responder has a number left.
+      -- If the responder could answer before it took the messages, and is still undecided, it has a number left.
       number_left : (has is_end y.issued ≡ true) ⊎ (length y.issued < 255) → is_among records.undecided lender_new.state ≡ true → length lender_new.issued < 255
       number_left (inl ended) undecided = absurd (ended_decides (has_front is_end y.issued lender_new.issued (responder_grows y x.issued) ended) undecided)
       number_left (inr left) undecided = subst (λ l. length l < 255) (sym (issues_nothing y x.issued undecided)) left
 
-      -- Each record has heard what the other has issued.
+      -- If the responder could answer before the round, each record has heard all that the other has issued.
       pub have_heard : (has is_end y.issued ≡ true) ⊎ (length y.issued < 255) → HaveHeard borrower_new lender_new
       have_heard can = record { requester = plain_heard; last = last_heard; responder = all_heard; can_answer = number_left can }
         where
@@ -291,7 +300,7 @@ module _ (rows : RowsHear) where
   responder_few txn (sides.Responder y) told stands = stands.few
   responder_few txn (sides.Requester x) told stands = absurd stands
 
-  -- Two sides are in step if each has taken all messages of the other.
+  -- If each side has taken all messages of the other, and the responder could answer, the two are in step.
   sides_in_step : (txn : Qualifiers) (requester responder requester_after responder_after : Side) (heard told heard_after told_after : List (Option Apdu)) → RequesterSideStands txn requester heard
       → ResponderSideStands txn responder told → RequesterSideStands txn requester_after heard_after → ResponderSideStands txn responder_after told_after → AreIssued heard_after (issued_of responder_after)
       → AreIssued told_after (issued_of requester_after) → CanAnswer responder → responder_after ≡ takes_all responder (issued_of requester) → requester_after ≡ takes_all requester (issued_of responder_after)

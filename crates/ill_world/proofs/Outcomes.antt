@@ -1,4 +1,4 @@
--- What may be seen of an event.
+-- Only some outcomes can come of an event.
 use Rattle.std.proofs.Common.{rules, ◌≡◌, ℕ, zero, suc, Bool, true, false, cond, not, List, [], ◌∷◌, Option, Some, None, Result, Ok, Err, refl, subst}
 use Rattle.std.specs.List.{list_all}
 use Rattle.std.proofs.lemmas.Bool.{and_parts}
@@ -43,20 +43,23 @@ use Rattle.ill_world.specs.Invariant.{RequesterSideStands, ResponderSideStands, 
 
 -- ---- rows
 
--- it is no refusal, or one that may be seen
+-- Returns true unless the result is a refusal that cannot be an outcome.
 abbrev is_seen : {V : Type 0} → Result V Refusal → Bool
 is_seen (Ok v) = true
 is_seen (Err refusal) = can_refuse refusal
 
+-- The line of a wish has no refusal but one that can be an outcome.
 wish_line : (x : RequesterRecord) (wish : Wish) → is_seen (requester_actions.line_of x wish) ≡ true
 wish_line x (wishes.Request expiry item) = search rules
 wish_line x wish = search rules
 
+-- The line of a deed has no refusal but one that can be an outcome.
 deed_line : (y : ResponderRecord) (deed : Deed) (today : Date) → is_seen (responder_actions.line_of y deed today) ≡ true
 deed_line y (deeds.RenewAnswer None) today = search rules
 deed_line y (deeds.RenewAnswer (Some d)) today = search rules
 deed_line y deed today = search rules
 
+-- The next number has no refusal but one that can be an outcome.
 number_seen : (apdus : List Apdu) → is_seen (next_number apdus) ≡ true
 number_seen apdus = search rules
 
@@ -72,6 +75,7 @@ deed_done y (Ok line) (Ok number) first second = refl
 
 -- ---- messages
 
+-- A requester has no refusal of a message but one that can be an outcome.
 requester_answer : (x : RequesterRecord) (a : Apdu) (body : Body) → is_seen (requester_deliveries.take_message x a body).0 ≡ true
 requester_answer x a (types.IllAnswer results.Conditional) = search rules
 requester_answer x a (types.IllAnswer answer) = search rules
@@ -79,23 +83,28 @@ requester_answer x a (types.RenewAnswer c None) = search rules
 requester_answer x a (types.RenewAnswer c (Some d)) = search rules
 requester_answer x a body = search rules
 
-no_answer : (y : ResponderRecord) (number : Result ℕ Refusal) → is_seen number ≡ true → is_seen (responder_deliveries.answers_no y number).0 ≡ true
+-- If the refusal of the number can be an outcome, so can that of the answer to a Conditional-Reply no.
+no_answer : (y : ResponderRecord) (number : Result ℕ Refusal) → is_seen number ≡ true
+    → is_seen (responder_deliveries.answers_no y number).0 ≡ true
 no_answer y (Ok number) seen = refl
 no_answer y (Err refusal) seen = seen
 
-yes_answer : (waits held named : Bool) (y new : ResponderRecord) → is_seen (cond waits (taken new) (cond held (repeat y) (cond named (stale y) (conflict y.state y)))).0 ≡ true
+-- The answer to a Conditional-Reply yes can be an outcome.
+yes_answer : (waits held named : Bool) (y new : ResponderRecord)
+    → is_seen (cond waits (taken new) (cond held (repeat y) (cond named (stale y) (conflict y.state y)))).0 ≡ true
 yes_answer true held named y new = refl
 yes_answer false true named y new = refl
 yes_answer false false true y new = refl
 yes_answer false false false y new = refl
 
+-- A responder has no refusal of a message but one that can be an outcome.
 responder_answer : (y : ResponderRecord) (a : Apdu) (body : Body) → is_seen (responder_deliveries.take_message y a body).0 ≡ true
 responder_answer y a (types.ConditionalReply c true) =
     yes_answer (is_the c (outstanding_number y)) (is_the c y.accepted) (was names_conditions y.issued c) y (record y { state = InProcess; accepted = Some c })
 responder_answer y a (types.ConditionalReply c false) = search (rules, no_answer y (next_number y.issued) (number_seen y.issued))
 responder_answer y a body = search rules
 
--- a message of the other role is refused only if it is of another transaction
+-- If `answer` can be an outcome, so can the answer to a message of the other role.
 not_own : {R : Type 0} (same own : Bool) (old : R) (answer : Result Taking Refusal × R) → own ≡ false → is_seen answer.0 ≡ true
     → is_seen (unless_refused (cond same (cond own (Some WrongRole) None) (Some OtherTransaction)) old answer).0 ≡ true
 not_own true true old answer others seen = search rules
@@ -104,70 +113,92 @@ not_own false own old answer others seen = refl
 
 -- ---- sides
 
-done_seen : {R : Type 0} (make : R → Side) (result : Result R Refusal) → is_seen result ≡ true → is_seen (done_by make result) ≡ true
+-- If the refusal of a record can be an outcome, so can that of its side.
+done_seen : {R : Type 0} (make : R → Side) (result : Result R Refusal) → is_seen result ≡ true
+    → is_seen (done_by make result) ≡ true
 done_seen make (Ok new) seen = refl
 done_seen make (Err refusal) seen = seen
 
-wish_seen : (txn : Qualifiers) (side : Side) (told : List (Option Apdu)) (wish : Wish) → RequesterSideStands txn side told → is_seen (acts side (actions.Wish wish)) ≡ true
+-- A requester's side that stands has no refusal of a wish but one that can be an outcome.
+wish_seen : (txn : Qualifiers) (side : Side) (told : List (Option Apdu)) (wish : Wish)
+    → RequesterSideStands txn side told → is_seen (acts side (actions.Wish wish)) ≡ true
 wish_seen txn (sides.Requester x) told wish stands = done_seen sides.Requester (requester_actions.acts x wish) (wish_done x _ _ (wish_line x wish) (number_seen x.issued))
 wish_seen txn (sides.Responder y) told wish stands = absurd stands
 
-deed_seen : (txn : Qualifiers) (side : Side) (told : List (Option Apdu)) (deed : Deed) (today : Date) → ResponderSideStands txn side told → is_seen (acts side (actions.Deed deed today)) ≡ true
+-- A responder's side that stands has no refusal of a deed but one that can be an outcome.
+deed_seen : (txn : Qualifiers) (side : Side) (told : List (Option Apdu)) (deed : Deed) (today : Date)
+    → ResponderSideStands txn side told → is_seen (acts side (actions.Deed deed today)) ≡ true
 deed_seen txn (sides.Responder y) told deed today stands = done_seen sides.Responder (responder_actions.acts y deed today) (deed_done y _ _ (deed_line y deed today) (number_seen y.issued))
 deed_seen txn (sides.Requester x) told deed today stands = absurd stands
 
--- each message passes a test that all pass
-message_passes : (test : Apdu → Bool) (apdus : List Apdu) (n : ℕ) (a : Apdu) → message apdus n ≡ Some a → list_all test apdus ≡ true → test a ≡ true
+-- If all APDUs of a list pass a test, each message passes it.
+message_passes : (test : Apdu → Bool) (apdus : List Apdu) (n : ℕ) (a : Apdu) → message apdus n ≡ Some a
+    → list_all test apdus ≡ true → test a ≡ true
 message_passes test apdus zero a at all = search rules
 message_passes test [] (suc n) a at all = search rules
 message_passes test (b ∷ apdus) (suc zero) a at all = let same : b ≡ a = search rules in subst (λ x. test x ≡ true) same (and_parts (test b) (list_all test apdus) all).0
 message_passes test (b ∷ apdus) (suc (suc n)) a at all = message_passes test apdus (suc n) a at (and_parts (test b) (list_all test apdus) all).1
 
+-- If `not b` is true, b is false.
 opposite : (b : Bool) → not b ≡ true → b ≡ false
 opposite false is = refl
 opposite true is = search rules
 
+-- If b is true, `not b` is false.
 negated : (b : Bool) → b ≡ true → not b ≡ false
 negated true is = refl
 negated false is = search rules
 
--- what a responder has issued is none of a requester's types, and the other way round
-pub responders_own : (txn : Qualifiers) (side : Side) (told : List (Option Apdu)) (n : ℕ) (a : Apdu) → ResponderSideStands txn side told → message (issued_of side) n ≡ Some a → is_requesters a.body ≡ false
+-- Each message that a responder's side that stands has issued is of no type of a requester.
+pub responders_own : (txn : Qualifiers) (side : Side) (told : List (Option Apdu)) (n : ℕ) (a : Apdu)
+    → ResponderSideStands txn side told → message (issued_of side) n ≡ Some a → is_requesters a.body ≡ false
 responders_own txn (sides.Responder y) told n a stands at = opposite (is_requesters a.body) (message_passes (λ a. not (is_requesters a.body)) y.issued n a at stands.rules.role)
 responders_own txn (sides.Requester x) told n a stands at = absurd stands
 
-pub requesters_own : (txn : Qualifiers) (side : Side) (told : List (Option Apdu)) (n : ℕ) (a : Apdu) → RequesterSideStands txn side told → message (issued_of side) n ≡ Some a → is_requesters a.body ≡ true
+-- Each message that a requester's side that stands has issued is of a requester's type.
+pub requesters_own : (txn : Qualifiers) (side : Side) (told : List (Option Apdu)) (n : ℕ) (a : Apdu)
+    → RequesterSideStands txn side told → message (issued_of side) n ≡ Some a → is_requesters a.body ≡ true
 requesters_own txn (sides.Requester x) told n a stands at = message_passes (λ a. is_requesters a.body) x.issued n a at stands.rules.role
 requesters_own txn (sides.Responder y) told n a stands at = absurd stands
 
-asking_seen : (txn : Qualifiers) (side : Side) (told : List (Option Apdu)) (a : Apdu) → RequesterSideStands txn side told → is_requesters a.body ≡ false → is_seen (takes side a).0 ≡ true
+-- The answer of a requester's side that stands to a responder's message can be an outcome.
+asking_seen : (txn : Qualifiers) (side : Side) (told : List (Option Apdu)) (a : Apdu)
+    → RequesterSideStands txn side told → is_requesters a.body ≡ false → is_seen (takes side a).0 ≡ true
 asking_seen txn (sides.Requester x) told a stands others = not_own (is_same_txn a.txn x.txn) (is_requesters a.body) x _ others (requester_answer x a a.body)
 asking_seen txn (sides.Responder y) told a stands others = absurd stands
 
-asked_seen : (txn : Qualifiers) (side : Side) (told : List (Option Apdu)) (a : Apdu) → ResponderSideStands txn side told → is_requesters a.body ≡ true → is_seen (takes side a).0 ≡ true
+-- The answer of a responder's side that stands to a requester's message can be an outcome.
+asked_seen : (txn : Qualifiers) (side : Side) (told : List (Option Apdu)) (a : Apdu)
+    → ResponderSideStands txn side told → is_requesters a.body ≡ true → is_seen (takes side a).0 ≡ true
 asked_seen txn (sides.Responder y) told a stands others =
     not_own (is_same_txn a.txn y.txn) (not (is_requesters a.body)) y _ (negated (is_requesters a.body) others) (responder_answer y a a.body)
 asked_seen txn (sides.Requester x) told a stands others = absurd stands
 
 -- ---- events
 
+-- If the refusal of a decision can be an outcome, the outcome of the decision can be seen.
 decision_seen : (p : Party) (result : Result Side Refusal) → is_seen result ≡ true → can_be_seen (decides p result).0 ≡ true
 decision_seen p (Ok new) seen = refl
 decision_seen p (Err refusal) seen = seen
 
+-- If the refusal of a message can be an outcome, the outcome of its delivery can be seen.
 answer_seen : (answer : Result Taking Refusal) → is_seen answer ≡ true → can_be_seen (answer_to answer) ≡ true
 answer_seen (Ok did) seen = refl
 answer_seen (Err refusal) seen = seen
 
+-- The outcome of a Send can be seen.
 send_seen : (p : Party) (n : ℕ) (found : Option Apdu) (released : Bool) → can_be_seen (sends p n found released).0 ≡ true
 send_seen p n None released = refl
 send_seen p n (Some a) true = refl
 send_seen p n (Some a) false = refl
 
-one_of_two : (b : Bool) (first second : Outcome) → can_be_seen first ≡ true → can_be_seen second ≡ true → can_be_seen (cond b first second) ≡ true
+-- If two outcomes can be seen, so can either.
+one_of_two : (b : Bool) (first second : Outcome) → can_be_seen first ≡ true → can_be_seen second ≡ true
+    → can_be_seen (cond b first second) ≡ true
 one_of_two true first second this that = this
 one_of_two false first second this that = that
 
+-- The outcome of noise can be seen.
 noise_seen : (p : Party) (found : Result (Apdu × List ℕ) DerFault) → can_be_seen (hears p found) ≡ true
 noise_seen p (Ok (a, [])) = one_of_two (is_same_txn a.txn (txn_of p.live)) Forged (Refused OtherTransaction) refl refl
 noise_seen p (Ok (a, byte ∷ rest)) = refl

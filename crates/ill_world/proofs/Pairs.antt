@@ -47,7 +47,7 @@ pub record HaveHeard (x : RequesterRecord) (y : ResponderRecord) : Type 0 where
 
 -- ---- Bools
 
--- Two Bools are alike if each follows from the other.
+-- Two Bools are equal if each implies the other.
 alike : (a b : Bool) → (a ≡ true → b ≡ true) → (b ≡ true → a ≡ true) → a ≡ b
 alike true b there back = sym (there refl)
 alike false true there back = back refl
@@ -57,69 +57,81 @@ alike false false there back = refl
 implied : (a b : Bool) → implies a b ≡ true → a ≡ true → b ≡ true
 implied a b implies_it is = search rules
 
--- ---- what it is to have heard a message
+-- ---- a message that was heard
 
 -- A responder that has heard the ILL-Request is not in IDLE.
-request_heard : (y : ResponderRecord) (n : ℕ) (body : Body) → is_ill_request body ≡ true → records.has_heard y n body ≡ true → is_among (states.Idle ∷ []) y.state ≡ false
+request_heard : (y : ResponderRecord) (n : ℕ) (body : Body) → is_ill_request body ≡ true
+    → records.has_heard y n body ≡ true → is_among (states.Idle ∷ []) y.state ≡ false
 request_heard y n (types.IllRequest expiry item) is heard = not-true _ heard
 request_heard y n body is heard = search rules
 
 -- A requester that has heard that the item is not supplied is in no undecided state.
-end_heard : (x : RequesterRecord) (n : ℕ) (body : Body) → is_unsupplied body ≡ true → notices.has_heard x n body ≡ true → is_among undecided x.state ≡ false
+end_heard : (x : RequesterRecord) (n : ℕ) (body : Body) → is_unsupplied body ≡ true
+    → notices.has_heard x n body ≡ true → is_among undecided x.state ≡ false
 end_heard x n (types.IllAnswer answer) is heard = search rules
 end_heard x n types.Expired is heard = not-true _ heard
 end_heard x n body is heard = search rules
 
 -- A requester that has heard a Shipped is in no undecided state.
-shipped_heard : (x : RequesterRecord) (n : ℕ) (body : Body) → is_shipped body ≡ true → notices.has_heard x n body ≡ true → is_among undecided x.state ≡ false
+shipped_heard : (x : RequesterRecord) (n : ℕ) (body : Body) → is_shipped body ≡ true
+    → notices.has_heard x n body ≡ true → is_among undecided x.state ≡ false
 shipped_heard x n (types.Shipped due) is heard = not-true _ heard
 shipped_heard x n body is heard = search rules
 
 -- An undecided responder that has heard a Cancel has taken that one or a later one.
-cancel_heard : (y : ResponderRecord) (n : ℕ) (body : Body) → is_cancel body ≡ true → records.has_heard y n body ≡ true → is_among records.undecided y.state ≡ true → is_at_most n y.last_cancel ≡ true
+cancel_heard : (y : ResponderRecord) (n : ℕ) (body : Body) → is_cancel body ≡ true → records.has_heard y n body ≡ true
+    → is_among records.undecided y.state ≡ true → is_at_most n y.last_cancel ≡ true
 cancel_heard y n types.Cancel is heard is_open = implied _ _ heard is_open
 cancel_heard y n body is heard is_open = search rules
 
 -- A responder in SHIPPED or OVERDUE that has heard a Renew has taken that one or a later one.
-renew_heard : (y : ResponderRecord) (n : ℕ) (body : Body) → is_renew body ≡ true → records.has_heard y n body ≡ true → is_among (states.Shipped ∷ states.Overdue ∷ []) y.state ≡ true
+renew_heard : (y : ResponderRecord) (n : ℕ) (body : Body) → is_renew body ≡ true → records.has_heard y n body ≡ true
+    → is_among (states.Shipped ∷ states.Overdue ∷ []) y.state ≡ true
     → is_at_most n y.last_renew ≡ true
 renew_heard y n (types.Renew wished) is heard here = implied _ _ heard here
 renew_heard y n body is heard here = search rules
 
 -- A responder that has heard a Returned is in no lent state.
-returned_heard : (y : ResponderRecord) (n : ℕ) (body : Body) → is_returned body ≡ true → records.has_heard y n body ≡ true → is_among records.lent y.state ≡ false
+returned_heard : (y : ResponderRecord) (n : ℕ) (body : Body) → is_returned body ≡ true
+    → records.has_heard y n body ≡ true → is_among records.lent y.state ≡ false
 returned_heard y n types.Returned is heard = not-true _ heard
 returned_heard y n body is heard = search rules
 
 -- A responder in SHIPPED or later that has heard a Received has the received mark.
-received_heard : (y : ResponderRecord) (n : ℕ) (body : Body) → is_received body ≡ true → records.has_heard y n body ≡ true → is_among shipped_states y.state ≡ true → y.received ≡ true
+received_heard : (y : ResponderRecord) (n : ℕ) (body : Body) → is_received body ≡ true
+    → records.has_heard y n body ≡ true → is_among shipped_states y.state ≡ true → y.received ≡ true
 received_heard y n types.Received is heard shipped = implied _ _ heard shipped
 received_heard y n body is heard shipped = search rules
 
 -- An undecided responder that has heard a Conditional-Reply no has no number left.
-no_heard : (y : ResponderRecord) (n : ℕ) (body : Body) → declines body ≡ true → records.has_heard y n body ≡ true → is_among records.undecided y.state ≡ true → nat_lt (length y.issued) 255 ≡ false
+no_heard : (y : ResponderRecord) (n : ℕ) (body : Body) → declines body ≡ true → records.has_heard y n body ≡ true
+    → is_among records.undecided y.state ≡ true → nat_lt (length y.issued) 255 ≡ false
 no_heard y n (types.ConditionalReply c false) is heard is_open = not-true _ (implied _ _ heard is_open)
 no_heard y n (types.ConditionalReply c true) is heard is_open = search rules
 no_heard y n body is heard is_open = search rules
 
 -- A responder that has heard a Conditional-Reply yes does not wait for an answer to those conditions.
-yes_heard : (y : ResponderRecord) (n c : ℕ) (body : Body) → accepts body ≡ Some c → records.has_heard y n body ≡ true → is_the c (outstanding_number y) ≡ false
+yes_heard : (y : ResponderRecord) (n c : ℕ) (body : Body) → accepts body ≡ Some c → records.has_heard y n body ≡ true
+    → is_the c (outstanding_number y) ≡ false
 yes_heard y n c (types.ConditionalReply k true) is heard = let same : k ≡ c = search rules in subst (λ i. is_the i (outstanding_number y) ≡ false) same (not-true _ heard)
 yes_heard y n c (types.ConditionalReply k false) is heard = search rules
 yes_heard y n c body is heard = search rules
 
 -- A requester that has heard a Recall is in no lent state.
-recall_heard : (x : RequesterRecord) (n : ℕ) (body : Body) → is_recall body ≡ true → notices.has_heard x n body ≡ true → is_among lent x.state ≡ false
+recall_heard : (x : RequesterRecord) (n : ℕ) (body : Body) → is_recall body ≡ true → notices.has_heard x n body ≡ true
+    → is_among lent x.state ≡ false
 recall_heard x n types.Recall is heard = not-true _ heard
 recall_heard x n body is heard = search rules
 
 -- A requester in RETURNED that has heard a Checked-In has the checked-in mark.
-checked_in_heard : (x : RequesterRecord) (n : ℕ) (body : Body) → is_checked_in body ≡ true → notices.has_heard x n body ≡ true → is_among (states.Returned ∷ []) x.state ≡ true → x.checked_in ≡ true
+checked_in_heard : (x : RequesterRecord) (n : ℕ) (body : Body) → is_checked_in body ≡ true
+    → notices.has_heard x n body ≡ true → is_among (states.Returned ∷ []) x.state ≡ true → x.checked_in ≡ true
 checked_in_heard x n types.CheckedIn is heard back = implied _ _ heard back
 checked_in_heard x n body is heard back = search rules
 
 -- A requester that has heard an answer to a Cancel does not wait for it.
-cancel_reply_heard : (x : RequesterRecord) (n c : ℕ) (body : Body) → answered_number MayCancel body ≡ Some c → notices.has_heard x n body ≡ true → awaits_cancel x c ≡ false
+cancel_reply_heard : (x : RequesterRecord) (n c : ℕ) (body : Body) → answered_number MayCancel body ≡ Some c
+    → notices.has_heard x n body ≡ true → awaits_cancel x c ≡ false
 cancel_reply_heard x n c (types.CancelReply k is_yes) is heard = let same : k ≡ c = search rules in subst (λ i. awaits_cancel x i ≡ false) same (not-true _ heard)
 cancel_reply_heard x n c body is heard = search rules
 
@@ -140,7 +152,7 @@ record StatesFit (s t : State) : Type 0 where
   overdue : is_among (states.NotReceivedOverdue ∷ states.Overdue ∷ states.RenewOverdue ∷ []) s ≡ is_among (states.Overdue ∷ states.RenewOverdue ∷ []) t
   conditions : is_among (states.Conditional ∷ []) t ≡ true → is_among (states.Conditional ∷ []) s ≡ true
 
--- ---- what a message is not
+-- ---- kinds of messages
 
 -- A message that the item is not supplied names no conditions.
 unsupplied_is_plain : (body : Body) → is_unsupplied body ≡ true → names_conditions body ≡ false
@@ -169,7 +181,8 @@ cancel_reply_is_plain (types.CancelReply k is_yes) c is = refl
 cancel_reply_is_plain body c is = search rules
 
 -- An answer to a Renew is a Renew-Answer.
-renew_answer : (body : Body) (c : ℕ) → answered_number MayRenew body ≡ Some c → (granted : Option Date) × (body ≡ types.RenewAnswer c granted)
+renew_answer : (body : Body) (c : ℕ) → answered_number MayRenew body ≡ Some c
+    → (granted : Option Date) × (body ≡ types.RenewAnswer c granted)
 renew_answer (types.RenewAnswer k granted) c is = let same : k ≡ c = search rules in (granted, ap (λ i. types.RenewAnswer i granted) same)
 renew_answer body c is = search rules
 
@@ -189,28 +202,33 @@ attests_named n c (types.IllAnswer results.Conditional) attests = attests
 attests_named n c body attests = search rules
 
 -- A message that attests that a Renew was answered is an answer to it.
-attests_answered : (n renew : ℕ) (day : Date) (body : Body) → notices.Attests n body (notices.Answered renew day) → answered_number MayRenew body ≡ Some renew
+attests_answered : (n renew : ℕ) (day : Date) (body : Body) → notices.Attests n body (notices.Answered renew day)
+    → answered_number MayRenew body ≡ Some renew
 attests_answered n renew day (types.RenewAnswer c granted) attests = ap Some attests.0
 attests_answered n renew day body attests = search rules
 
 -- A message that attests a date granted before a Renew grants it, and answers a lower number.
-attests_grant : (n renew : ℕ) (due : Date) (body : Body) → 0 < renew → notices.Attests n body (notices.GrantedBefore renew due) → (c : ℕ) × (grant_of body ≡ Some (grant c due)) × (c < renew)
+attests_grant : (n renew : ℕ) (due : Date) (body : Body) → 0 < renew
+    → notices.Attests n body (notices.GrantedBefore renew due)
+    → (c : ℕ) × (grant_of body ≡ Some (grant c due)) × (c < renew)
 attests_grant n renew due (types.Shipped d) some attests = (0, ap (λ e. Some (grant 0 e)) attests, some)
 attests_grant n renew due (types.RenewAnswer c (Some d)) some attests = (c, ap (λ e. Some (grant c e)) attests.0, attests.1)
 attests_grant n renew due (types.RenewAnswer c None) some attests = absurd attests
 attests_grant n renew due body some attests = search rules
 
--- ---- one state, of what it is not
+-- ---- one state, and the states that it is not
 
 -- A requester with an open Cancel for which it does not wait is in CANCELLED.
-cancelled_left : (s : State) (the : Bool) → (is_among (states.CancelPending ∷ states.Cancelled ∷ []) s && the) ≡ true → (is_among (states.CancelPending ∷ []) s && the) ≡ false → is_among (states.Cancelled ∷ []) s ≡ true
+cancelled_left : (s : State) (the : Bool) → (is_among (states.CancelPending ∷ states.Cancelled ∷ []) s && the) ≡ true
+    → (is_among (states.CancelPending ∷ []) s && the) ≡ false → is_among (states.Cancelled ∷ []) s ≡ true
 cancelled_left states.CancelPending true may waits = search rules
 cancelled_left states.CancelPending false may waits = search rules
 cancelled_left states.Cancelled the may waits = refl
 cancelled_left s the may waits = search rules
 
 -- A state with an open Cancel that is not CANCELLED is CANCEL-PENDING.
-waits_left : (s : State) → is_among (states.CancelPending ∷ states.Cancelled ∷ []) s ≡ true → is_among (states.Cancelled ∷ []) s ≡ false → is_among (states.CancelPending ∷ []) s ≡ true
+waits_left : (s : State) → is_among (states.CancelPending ∷ states.Cancelled ∷ []) s ≡ true
+    → is_among (states.Cancelled ∷ []) s ≡ false → is_among (states.CancelPending ∷ []) s ≡ true
 waits_left states.CancelPending may cancelled = refl
 waits_left s may cancelled = search rules
 
@@ -220,12 +238,14 @@ out : (t : State) → is_among shipped_states t ≡ true
 out t is = search rules
 
 -- A requester in none of IDLE, CANCELLED, NOT-SUPPLIED and the undecided states is in SHIPPED or later.
-later_left : (s : State) → is_among (states.InProcess ∷ states.CheckedIn ∷ []) s ≡ false → is_among (states.Idle ∷ []) s ≡ false → is_among (states.Cancelled ∷ []) s ≡ false
+later_left : (s : State) → is_among (states.InProcess ∷ states.CheckedIn ∷ []) s ≡ false
+    → is_among (states.Idle ∷ []) s ≡ false → is_among (states.Cancelled ∷ []) s ≡ false
     → is_among (states.NotSupplied ∷ []) s ≡ false → is_among undecided s ≡ false → is_among later s ≡ true
 later_left s role idle cancelled unsupplied decided = search rules
 
 -- A requester in no undecided state, and in none of IDLE, CANCELLED, SHIPPED or later, is in NOT-SUPPLIED.
-unsupplied_left : (s : State) → is_among (states.InProcess ∷ states.CheckedIn ∷ []) s ≡ false → is_among (states.Idle ∷ []) s ≡ false → is_among (states.Cancelled ∷ []) s ≡ false
+unsupplied_left : (s : State) → is_among (states.InProcess ∷ states.CheckedIn ∷ []) s ≡ false
+    → is_among (states.Idle ∷ []) s ≡ false → is_among (states.Cancelled ∷ []) s ≡ false
     → is_among later s ≡ false → is_among undecided s ≡ false → is_among (states.NotSupplied ∷ []) s ≡ true
 unsupplied_left states.NotSupplied role idle cancelled shipped decided = refl
 unsupplied_left s role idle cancelled shipped decided = search rules
@@ -244,8 +264,10 @@ waiting states.CancelPending is = (refl, refl, refl, refl, refl, refl)
 waiting s is = search rules
 
 -- A responder that has begun, not ended, not shipped and is not undecided is in CANCEL-PENDING.
-cancel_left : (t : State) → is_among (states.Pending ∷ states.Received ∷ states.NotReceivedOverdue ∷ []) t ≡ false → is_among (states.Idle ∷ []) t ≡ false → is_among (states.Cancelled ∷ []) t ≡ false
-    → is_among (states.NotSupplied ∷ []) t ≡ false → is_among shipped_states t ≡ false → is_among records.undecided t ≡ false → is_among (states.CancelPending ∷ []) t ≡ true
+cancel_left : (t : State) → is_among (states.Pending ∷ states.Received ∷ states.NotReceivedOverdue ∷ []) t ≡ false
+    → is_among (states.Idle ∷ []) t ≡ false → is_among (states.Cancelled ∷ []) t ≡ false
+    → is_among (states.NotSupplied ∷ []) t ≡ false → is_among shipped_states t ≡ false
+    → is_among records.undecided t ≡ false → is_among (states.CancelPending ∷ []) t ≡ true
 cancel_left states.CancelPending role idle cancelled unsupplied shipped decided = refl
 cancel_left t role idle cancelled unsupplied shipped decided = search rules
 
@@ -255,14 +277,17 @@ open_answers states.CancelPending is = search rules
 open_answers t is = search rules
 
 -- A responder in SHIPPED or OVERDUE has left no Renew unanswered.
-settled_answers : (t : State) → is_among (states.Shipped ∷ states.Overdue ∷ []) t ≡ true → is_among (records.unanswered MayRenew) t ≡ false
+settled_answers : (t : State) → is_among (states.Shipped ∷ states.Overdue ∷ []) t ≡ true
+    → is_among (records.unanswered MayRenew) t ≡ false
 settled_answers states.Shipped is = refl
 settled_answers states.Overdue is = refl
 settled_answers t is = search rules
 
 -- A responder that has shipped, and is in none of SHIPPED, OVERDUE, RECALL, RETURNED, CHECKED-IN, has a waiting Renew.
-renew_left : (t : State) → is_among shipped_states t ≡ true → is_among (states.Recall ∷ []) t ≡ false → is_among (states.Returned ∷ states.CheckedIn ∷ []) t ≡ false
-    → is_among (states.Shipped ∷ states.Overdue ∷ []) t ≡ false → is_among (states.RenewPending ∷ states.RenewOverdue ∷ []) t ≡ true
+renew_left : (t : State) → is_among shipped_states t ≡ true → is_among (states.Recall ∷ []) t ≡ false
+    → is_among (states.Returned ∷ states.CheckedIn ∷ []) t ≡ false
+    → is_among (states.Shipped ∷ states.Overdue ∷ []) t ≡ false
+    → is_among (states.RenewPending ∷ states.RenewOverdue ∷ []) t ≡ true
 renew_left states.RenewPending shipped recalled returned settled = refl
 renew_left states.RenewOverdue shipped recalled returned settled = refl
 renew_left t shipped recalled returned settled = search rules
@@ -276,7 +301,8 @@ renewing states.RenewOverdue is = (refl, refl, refl, refl, refl, refl)
 renewing s is = search rules
 
 -- A responder that has shipped, and is in no lent state, is in RETURNED or CHECKED-IN.
-returned_left : (t : State) → is_among shipped_states t ≡ true → is_among records.lent t ≡ false → is_among (states.Returned ∷ states.CheckedIn ∷ []) t ≡ true
+returned_left : (t : State) → is_among shipped_states t ≡ true → is_among records.lent t ≡ false
+    → is_among (states.Returned ∷ states.CheckedIn ∷ []) t ≡ true
 returned_left states.Returned shipped home = refl
 returned_left states.CheckedIn shipped home = refl
 returned_left t shipped home = search rules
@@ -293,12 +319,14 @@ recalled_is_out states.Recall is = (refl, refl, refl, refl, refl)
 recalled_is_out s is = search rules
 
 -- A responder in RECALL, RETURNED or CHECKED-IN, and in none of the last two, is in RECALL.
-recall_left : (t : State) → is_among (states.Recall ∷ states.Returned ∷ states.CheckedIn ∷ []) t ≡ true → is_among (states.Returned ∷ states.CheckedIn ∷ []) t ≡ false → is_among (states.Recall ∷ []) t ≡ true
+recall_left : (t : State) → is_among (states.Recall ∷ states.Returned ∷ states.CheckedIn ∷ []) t ≡ true
+    → is_among (states.Returned ∷ states.CheckedIn ∷ []) t ≡ false → is_among (states.Recall ∷ []) t ≡ true
 recall_left states.Recall may returned = refl
 recall_left t may returned = search rules
 
 -- A requester in SHIPPED or later, in no lent state and not in RETURNED, is in RECALL.
-recall_at : (s : State) → is_among later s ≡ true → is_among (states.Returned ∷ []) s ≡ false → is_among lent s ≡ false → is_among (states.Recall ∷ []) s ≡ true
+recall_at : (s : State) → is_among later s ≡ true → is_among (states.Returned ∷ []) s ≡ false
+    → is_among lent s ≡ false → is_among (states.Recall ∷ []) s ≡ true
 recall_at states.Recall shipped returned home = refl
 recall_at s shipped returned home = search rules
 
@@ -310,14 +338,17 @@ conditional states.Conditional is = (refl, refl, refl, refl, refl)
 conditional t is = search rules
 
 -- A requester in no other state of a requester is in CONDITIONAL.
-conditional_left : (s : State) → is_among (states.InProcess ∷ states.CheckedIn ∷ []) s ≡ false → is_among (states.Idle ∷ []) s ≡ false → is_among (states.Cancelled ∷ []) s ≡ false
-    → is_among (states.NotSupplied ∷ []) s ≡ false → is_among (states.CancelPending ∷ []) s ≡ false → is_among later s ≡ false → is_among (states.Pending ∷ []) s ≡ false
+conditional_left : (s : State) → is_among (states.InProcess ∷ states.CheckedIn ∷ []) s ≡ false
+    → is_among (states.Idle ∷ []) s ≡ false → is_among (states.Cancelled ∷ []) s ≡ false
+    → is_among (states.NotSupplied ∷ []) s ≡ false → is_among (states.CancelPending ∷ []) s ≡ false
+    → is_among later s ≡ false → is_among (states.Pending ∷ []) s ≡ false
     → is_among (states.Conditional ∷ []) s ≡ true
 conditional_left states.Conditional role idle cancelled unsupplied waits shipped pending = refl
 conditional_left s role idle cancelled unsupplied waits shipped pending = search rules
 
 -- A requester in CONDITIONAL faces an undecided responder.
-open_left : (s t : State) → is_among (states.Conditional ∷ []) s ≡ true → is_among (faced_in s) t ≡ true → is_among records.undecided t ≡ true
+open_left : (s t : State) → is_among (states.Conditional ∷ []) s ≡ true → is_among (faced_in s) t ≡ true
+    → is_among records.undecided t ≡ true
 open_left states.Conditional states.Conditional is faced = refl
 open_left states.Conditional states.InProcess is faced = refl
 open_left states.Conditional t is faced = search rules
@@ -346,17 +377,20 @@ not_below n None is below = search rules
 not_below n (Some m) is below = search rules
 
 -- A state that is not NOT-SUPPLIED, and not SHIPPED or later, is none of these.
-neither : (s : State) → is_among (states.NotSupplied ∷ []) s ≡ false → is_among later s ≡ false → is_among (states.NotSupplied ∷ later) s ≡ false
+neither : (s : State) → is_among (states.NotSupplied ∷ []) s ≡ false → is_among later s ≡ false
+    → is_among (states.NotSupplied ∷ later) s ≡ false
 neither states.NotSupplied unsupplied shipped = search rules
 neither s unsupplied shipped = shipped
 
 -- A state that is neither RECALL nor RETURNED is none of the two.
-either_gone : (s : State) → is_among (states.Recall ∷ []) s ≡ false → is_among (states.Returned ∷ []) s ≡ false → is_among (states.Recall ∷ states.Returned ∷ []) s ≡ false
+either_gone : (s : State) → is_among (states.Recall ∷ []) s ≡ false → is_among (states.Returned ∷ []) s ≡ false
+    → is_among (states.Recall ∷ states.Returned ∷ []) s ≡ false
 either_gone states.Recall recalled returned = search rules
 either_gone s recalled returned = returned
 
 -- A responder in CHECKED-IN is in RETURNED or CHECKED-IN.
-home_is_back : (t : State) → is_among (states.CheckedIn ∷ []) t ≡ true → is_among (states.Returned ∷ states.CheckedIn ∷ []) t ≡ true
+home_is_back : (t : State) → is_among (states.CheckedIn ∷ []) t ≡ true
+    → is_among (states.Returned ∷ states.CheckedIn ∷ []) t ≡ true
 home_is_back states.CheckedIn is = refl
 home_is_back t is = search rules
 
@@ -365,7 +399,8 @@ second_false : (a b : Bool) → (a && b) ≡ false → a ≡ true → b ≡ fals
 second_false a b none is = search rules
 
 -- A list that ends with conditions has a last message, and that names them.
-last_names : (apdus : List Apdu) → was names_conditions apdus (length apdus) ≡ true → (a : Apdu) × (message apdus (length apdus) ≡ Some a) × (names_conditions a.body ≡ true)
+last_names : (apdus : List Apdu) → was names_conditions apdus (length apdus) ≡ true
+    → (a : Apdu) × (message apdus (length apdus) ≡ Some a) × (names_conditions a.body ≡ true)
 last_names apdus is = go (message apdus (length apdus)) refl is
   where
     go : (found : Option Apdu) → message apdus (length apdus) ≡ found → is_there names_conditions found ≡ true → (a : Apdu) × (message apdus (length apdus) ≡ Some a) × (names_conditions a.body ≡ true)
@@ -373,7 +408,8 @@ last_names apdus is = go (message apdus (length apdus)) refl is
     go (Some a) e is = (a, e, is)
 
 -- A requester in PENDING that has heard conditions has accepted these or later ones.
-conditions_heard : (x : RequesterRecord) (n : ℕ) (body : Body) → names_conditions body ≡ true → notices.has_heard x n body ≡ true → is_among (states.Pending ∷ []) x.state ≡ true
+conditions_heard : (x : RequesterRecord) (n : ℕ) (body : Body) → names_conditions body ≡ true
+    → notices.has_heard x n body ≡ true → is_among (states.Pending ∷ []) x.state ≡ true
     → is_at_most n (accepted_number x) ≡ true
 conditions_heard x n (types.IllAnswer results.Conditional) is heard pending = implied _ _ heard pending
 conditions_heard x n body is heard pending = search rules
@@ -384,7 +420,8 @@ message_within apdus zero a at = search rules
 message_within apdus (suc i) a at = omega (arith, slice_get_within apdus i a at)
 
 -- The conditions that wait in CONDITIONAL have the number of the last message.
-waits_outstanding : (y : ResponderRecord) (n : ℕ) {a : Apdu} → is_among (states.Conditional ∷ []) y.state ≡ true → n ≡ length y.issued → message y.issued (length y.issued) ≡ Some a
+waits_outstanding : (y : ResponderRecord) (n : ℕ) {a : Apdu} → is_among (states.Conditional ∷ []) y.state ≡ true
+    → n ≡ length y.issued → message y.issued (length y.issued) ≡ Some a
     → is_the n (outstanding_number y) ≡ true
 waits_outstanding y n is same at = search rules
 
@@ -394,35 +431,41 @@ fits_face s t fit = search rules
 
 -- ---- due dates
 
--- Two days of which neither is before the other are the same.
+-- Two days of which neither is before the other are equal.
 same_date : (d e : Date) → is_before d e ≡ false → is_before e d ≡ false → d ≡ e
 same_date d e first other = search rules
 
 -- A message that grants a date is a Shipped or an answer to a Renew.
-grant_kind : (body : Body) (due : Date) → grant_in body ≡ Some due → (body ≡ types.Shipped due) ⊎ ((c : ℕ) × (body ≡ types.RenewAnswer c (Some due)))
+grant_kind : (body : Body) (due : Date) → grant_in body ≡ Some due
+    → (body ≡ types.Shipped due) ⊎ ((c : ℕ) × (body ≡ types.RenewAnswer c (Some due)))
 grant_kind (types.Shipped d) due is = inl (ap types.Shipped (same_Some d due is))
 grant_kind (types.RenewAnswer c (Some d)) due is = inr (c, ap (λ e. types.RenewAnswer c (Some e)) (same_Some d due is))
 grant_kind (types.RenewAnswer c None) due is = search rules
 grant_kind body due is = search rules
 
 -- A responder that has granted a date has issued a Shipped.
-grants_shipped : (apdus : List Apdu) (n : ℕ) (a : Apdu) (due : Date) → ships_first apdus ≡ true → message apdus n ≡ Some a → grant_in a.body ≡ Some due → has is_shipped apdus ≡ true
+grants_shipped : (apdus : List Apdu) (n : ℕ) (a : Apdu) (due : Date) → ships_first apdus ≡ true
+    → message apdus n ≡ Some a → grant_in a.body ≡ Some due → has is_shipped apdus ≡ true
 grants_shipped apdus n a due first at is = elim (grant_kind a.body due is) [
   | inl shipped ↦ message_says is_shipped apdus n a at (ap is_shipped shipped)
   | inr renewal ↦ ships_before apdus first (message_says is_renewal apdus n a at (ap is_renewal renewal.1))
 ]
 
 -- A message that answers a Renew is among the answers.
-is_among_answers : (apdus : List Apdu) (n : ℕ) (a : Apdu) (c : ℕ) → message apdus n ≡ Some a → answered_number MayRenew a.body ≡ Some c → list_any (λ m. m == c) (filter_map (λ b. answered_number MayRenew b.body) apdus) ≡ true
+is_among_answers : (apdus : List Apdu) (n : ℕ) (a : Apdu) (c : ℕ) → message apdus n ≡ Some a
+    → answered_number MayRenew a.body ≡ Some c
+    → list_any (λ m. m == c) (filter_map (λ b. answered_number MayRenew b.body) apdus) ≡ true
 is_among_answers apdus zero a c at answers = search rules
 is_among_answers apdus (suc i) a c at answers = found_among (λ b. answered_number MayRenew b.body) apdus i a c at answers
 
 -- A Renew-Answer that attests that nothing after a date was granted grants no later one.
-attests_not_after : (n c : ℕ) (due granted : Date) (body : Body) → body ≡ types.RenewAnswer c (Some granted) → notices.Attests n body (notices.Answered c due) → is_before due granted ≡ false
+attests_not_after : (n c : ℕ) (due granted : Date) (body : Body) → body ≡ types.RenewAnswer c (Some granted)
+    → notices.Attests n body (notices.Answered c due) → is_before due granted ≡ false
 attests_not_after n c due granted body is attests = (subst (λ b. notices.Attests n b (notices.Answered c due)) is attests).1
 
 -- A message that attests that a due date has passed is an Overdue for it.
-attests_overdue : (n : ℕ) (due : Date) (body : Body) → notices.Attests n body (notices.PastDue due) → is_overdue_of due body ≡ true
+attests_overdue : (n : ℕ) (due : Date) (body : Body) → notices.Attests n body (notices.PastDue due)
+    → is_overdue_of due body ≡ true
 attests_overdue n due (types.Overdue day) attests = subst (λ d. is_same_day day d ≡ true) attests (same_itself day)
 attests_overdue n due body attests = search rules
 
@@ -431,7 +474,8 @@ first_false : (a b : Bool) → (a && b) ≡ false → b ≡ true → a ≡ false
 first_false a b none is = search rules
 
 -- A requester that has heard an Overdue for its due date is not in time.
-overdue_heard : (x : RequesterRecord) (n : ℕ) (due : Date) (body : Body) → is_overdue_of due body ≡ true → x.due ≡ Some due → notices.has_heard x n body ≡ true → is_among in_time x.state ≡ false
+overdue_heard : (x : RequesterRecord) (n : ℕ) (due : Date) (body : Body) → is_overdue_of due body ≡ true
+    → x.due ≡ Some due → notices.has_heard x n body ≡ true → is_among in_time x.state ≡ false
 overdue_heard x n due (types.Overdue day) is its heard = first_false _ _ (not-true _ heard) (subst (λ o. is_due_on day o ≡ true) (sym its) is)
 overdue_heard x n due body is its heard = search rules
 
@@ -456,14 +500,17 @@ late_is_out states.RenewOverdue is = (refl, refl, refl)
 late_is_out t is = search rules
 
 -- A responder in OVERDUE or later, and in none of RECALL, RETURNED, CHECKED-IN, is overdue.
-overdue_left : (t : State) → is_among (states.Overdue ∷ states.RenewOverdue ∷ states.Recall ∷ states.Returned ∷ states.CheckedIn ∷ []) t ≡ true → is_among (states.Recall ∷ []) t ≡ false
+overdue_left : (t : State)
+    → is_among (states.Overdue ∷ states.RenewOverdue ∷ states.Recall ∷ states.Returned ∷ states.CheckedIn ∷ []) t ≡ true
+    → is_among (states.Recall ∷ []) t ≡ false
     → is_among (states.Returned ∷ states.CheckedIn ∷ []) t ≡ false → is_among (states.Overdue ∷ states.RenewOverdue ∷ []) t ≡ true
 overdue_left states.Overdue may recalled returned = refl
 overdue_left states.RenewOverdue may recalled returned = refl
 overdue_left t may recalled returned = search rules
 
 -- A requester in SHIPPED or later, not in time, and in neither RECALL nor RETURNED, is overdue.
-overdue_at : (s : State) → is_among later s ≡ true → is_among (states.Recall ∷ []) s ≡ false → is_among (states.Returned ∷ []) s ≡ false → is_among in_time s ≡ false
+overdue_at : (s : State) → is_among later s ≡ true → is_among (states.Recall ∷ []) s ≡ false
+    → is_among (states.Returned ∷ []) s ≡ false → is_among in_time s ≡ false
     → is_among (states.NotReceivedOverdue ∷ states.Overdue ∷ states.RenewOverdue ∷ []) s ≡ true
 overdue_at states.NotReceivedOverdue shipped recalled returned late = refl
 overdue_at states.Overdue shipped recalled returned late = refl

@@ -1,4 +1,4 @@
--- What an event of desks is, of one transaction.
+-- Each event of desks is an event of one transaction, or leaves its projection.
 use Rattle.std.proofs.Common.{rules, ◌≡◌, ◌⊎◌, inl, inr, ℕ, nat_le, nat_lt, length, Bool, true, false, cond, if◌then◌else◌, List, Option, Some, None, Result, Ok, Err, refl, ap, sym, subst, ◌∙◌}
 use Rattle.std.specs.Prelude.{option_map}
 use Rattle.ill_values.specs.TxnId.{Qualifiers}
@@ -35,12 +35,14 @@ use Rattle.ill_world.proofs.Changes.{Quiet, quiet}
 
 -- ---- one transaction of a desk
 
--- before anything has happened
+-- The projection of two desks that hold nothing is the first world.
 pub first_project : (txn : Qualifiers) → project txn first_desks ≡ first_world txn
 unfolding side_with
 first_project txn = refl
 
-found_either : {X : Type 0} (same : Bool) (instead new : X) (found : Option X) → found_or instead (cond same (Some new) found) ≡ cond same new (found_or instead found)
+-- The value of an option that is `new` or `found` is `new`, or that of `found`.
+found_either : {X : Type 0} (same : Bool) (instead new : X) (found : Option X)
+    → found_or instead (cond same (Some new) found) ≡ cond same new (found_or instead found)
 found_either true instead new found = refl
 found_either false instead new found = refl
 
@@ -50,31 +52,38 @@ held_after txn live new =
     ap (found_or (idle_held live.role txn)) (found_put txn_held txn new live.held)
     ∙ found_either (is_same_txn txn (txn_held new)) (idle_held live.role txn) new (found_by txn_held txn live.held)
 
-sent_either : (same : Bool) (instead new : Sending) (found : Option Sending) → (found_or instead (cond same (Some new) found)).sent ≡ cond same new.sent (found_or instead found).sent
+-- The messages of an option that is `new` or `found` are those of `new`, or those of `found`.
+sent_either : (same : Bool) (instead new : Sending) (found : Option Sending)
+    → (found_or instead (cond same (Some new) found)).sent ≡ cond same new.sent (found_or instead found).sent
 sent_either true instead new found = refl
 sent_either false instead new found = refl
 
--- once a message was sent
-sent_after : (txn of : Qualifiers) (all : List Sending) (n : ℕ) (a : Apdu) → sent_for txn (with_sent_for of all n a) ≡ cond (is_same_txn txn of) (with_sent (sent_for of all) n a) (sent_for txn all)
+-- After `a` is sent in `of`, this transaction has it as message n, and each other one its old messages.
+sent_after : (txn of : Qualifiers) (all : List Sending) (n : ℕ) (a : Apdu)
+    → sent_for txn (with_sent_for of all n a) ≡ cond (is_same_txn txn of) (with_sent (sent_for of all) n a) (sent_for txn all)
 sent_after txn of all n a =
     let new : Sending = record { txn = of; sent = with_sent (sent_for of all) n a } in
     ap (λ found. (found_or {X = Sending} (record { txn = txn; sent = nothing_sent }) found).sent) (found_put txn_sent txn new all)
     ∙ sent_either (is_same_txn txn of) (record { txn = txn; sent = nothing_sent }) new (found_by txn_sent txn all)
 
+-- An idle entry is an idle side with all its messages released.
 whole_idle : (role : Who) (txn : Qualifiers) → idle_held role txn ≡ whole (idle_side role txn)
 whole_idle who.Requester txn = refl
 whole_idle who.Responder txn = refl
 
-whole_found : (role : Who) (txn : Qualifiers) (found : Option Side) → found_or (idle_held role txn) (option_map whole found) ≡ whole (found_or (idle_side role txn) found)
+-- An entry made of the side found, or an idle entry, is made of the side found or an idle side.
+whole_found : (role : Who) (txn : Qualifiers) (found : Option Side)
+    → found_or (idle_held role txn) (option_map whole found) ≡ whole (found_or (idle_side role txn) found)
 whole_found role txn (Some side) = refl
 whole_found role txn None = whole_idle role txn
 
--- all of what has landed may be sent
+-- After a restart the entry of `txn` is the landed side of `txn`, with all its messages released.
 whole_for : (txn : Qualifiers) (all : SidesOf) → held_for txn (whole_of all) ≡ whole (side_for txn all)
 unfolding side_with
 whole_for txn all =
     ap (found_or (idle_held all.role txn)) (found_mapped txn_of txn_held whole (λ side. refl) txn all.sides) ∙ whole_found all.role txn (found_by txn_of txn all.sides)
 
+-- An idle side of `txn` is of the transaction `txn`.
 pub idle_txn : (role : Who) (txn : Qualifiers) → txn_of (idle_side role txn) ≡ txn
 idle_txn who.Requester txn = refl
 idle_txn who.Responder txn = refl
@@ -102,13 +111,16 @@ shows p txn = record {
 
 -- ---- an event of one transaction
 
--- what is seen of an event that names a transaction, in whichever transaction it is looked for
+-- After an event that names `of`, outcome and party are as expected of `txn` if it is `of`. Otherwise the party stays
+-- as it was.
 abbrev Seen : (Qualifiers → Outcome × Party) → Qualifiers → DeskParty → Qualifiers → DeskOutcome × DeskParty → Type 0
 Seen expected of p txn after = IsSeenAs (if_reached after.0 (is_same_txn txn of)) (expected txn) (party_for txn p) after.0 (party_for txn after.1)
 
--- an event of a transaction happens to its party, and leaves the others
-single : (expected : Qualifiers → Outcome × Party) (of : Qualifiers) (p new : DeskParty) (outcome : Outcome) → expected of ≡ (outcome, party_for of new)
-    → ((txn : Qualifiers) → is_same_txn txn of ≡ false → party_for txn new ≡ party_for txn p) → (txn : Qualifiers) → Seen expected of p txn (Plain outcome, new)
+-- An event is seen as expected in all transactions, if `of` has the expected party, and each other its old one.
+single : (expected : Qualifiers → Outcome × Party) (of : Qualifiers) (p new : DeskParty) (outcome : Outcome)
+    → expected of ≡ (outcome, party_for of new)
+    → ((txn : Qualifiers) → is_same_txn txn of ≡ false → party_for txn new ≡ party_for txn p) → (txn : Qualifiers)
+    → Seen expected of p txn (Plain outcome, new)
 single expected of p new outcome here there txn = go (is_same_txn txn of) refl
   where
     go : (same : Bool) → is_same_txn txn of ≡ same → IsSeenAs same (expected txn) (party_for txn p) (Plain outcome) (party_for txn new)
@@ -117,15 +129,17 @@ single expected of p new outcome here there txn = go (is_same_txn txn of) refl
         (ap (λ (r : Outcome × Party). Plain r.0) (sym is), ap (λ (r : Outcome × Party). r.1) (sym is))
     go false e = there txn e
 
--- one that leaves the desk as it is
-nothing_done : (expected : Qualifiers → Outcome × Party) (of : Qualifiers) (p : DeskParty) (outcome : Outcome) → expected of ≡ (outcome, party_for of p) → (txn : Qualifiers) → Seen expected of p txn (Plain outcome, p)
+-- An event that leaves the desk, and is expected to leave the party of `of`, is seen as expected in all.
+nothing_done : (expected : Qualifiers → Outcome × Party) (of : Qualifiers) (p : DeskParty) (outcome : Outcome)
+    → expected of ≡ (outcome, party_for of p) → (txn : Qualifiers) → Seen expected of p txn (Plain outcome, p)
 nothing_done expected of p outcome here = single expected of p p outcome here (λ txn another. refl)
 
 abbrev next_held : DeskEntry → Side → DeskEntry
 next_held held new = record { side = new; released = held.released }
 
--- one that leads the side of the transaction on
-goes_on : (expected : Qualifiers → Outcome × Party) (of : Qualifiers) (p : DeskParty) (new : Side) (outcome : Outcome) → txn_of new ≡ of
+-- If a desk puts the side `new` for `of`, as expected, the event is seen as expected in all transactions.
+goes_on : (expected : Qualifiers → Outcome × Party) (of : Qualifiers) (p : DeskParty) (new : Side) (outcome : Outcome)
+    → txn_of new ≡ of
     → expected of ≡ (outcome, record (party_for of p) { live = new }) → (txn : Qualifiers)
     → Seen expected of p txn (Plain outcome, record p { live = with_held p.live (next_held (held_for of p.live) new) })
 goes_on expected of p new outcome is here =
@@ -138,13 +152,15 @@ goes_on expected of p new outcome is here =
     (here ∙ ap (λ (q : Party). (outcome, q)) (sym (shows of ∙ ap (λ b. record (party_for of p) { live = (cond b next (held_for of p.live)).side; released = (cond b next (held_for of p.live)).released }) (at of true (same_self of)))))
     (λ txn another. shows txn ∙ ap (λ b. record (party_for txn p) { live = (cond b next (held_for txn p.live)).side; released = (cond b next (held_for txn p.live)).released }) (at txn false another))
 
--- ---- what is reached
+-- ---- reaching a side
 
--- it is not reached, which is no event
+-- The fault is NoSuchTransaction or DeskFull.
 abbrev IsNotReached : DeskFault → Type 0
 IsNotReached fault = (fault ≡ faults.NoSuchTransaction) ⊎ (fault ≡ faults.DeskFull)
 
-not_reached : (expected : Qualifiers → Outcome × Party) (of : Qualifiers) (p : DeskParty) (fault : DeskFault) → IsNotReached fault → (txn : Qualifiers) → Seen expected of p txn (fault_seen fault, p)
+-- An event that has such a fault, and leaves the desk, is seen as expected in all transactions.
+not_reached : (expected : Qualifiers → Outcome × Party) (of : Qualifiers) (p : DeskParty) (fault : DeskFault)
+    → IsNotReached fault → (txn : Qualifiers) → Seen expected of p txn (fault_seen fault, p)
 not_reached expected of p fault (inl is) txn = subst (λ f. Seen expected of p txn (fault_seen f, p)) (sym is) refl
 not_reached expected of p fault (inr is) txn = subst (λ f. Seen expected of p txn (fault_seen f, p)) (sym is) refl
 
@@ -160,10 +176,13 @@ reaches false has_room idle None = inl refl
 
 -- ---- decisions
 
+-- Returns the expected outcome and party of a transaction after an action.
 abbrev decided : DeskParty → Action → Qualifiers → Outcome × Party
 decided p action txn = decides (party_for txn p) (acts (party_for txn p).live action)
 
-decides_held : RowsGrow → (p : DeskParty) (of : Qualifiers) (action : Action) (result : Result Side Refusal) → acts (held_for of p.live).side action ≡ result → (txn : Qualifiers)
+-- An action at the entry held for `of` is seen as expected in all transactions.
+decides_held : RowsGrow → (p : DeskParty) (of : Qualifiers) (action : Action) (result : Result Side Refusal)
+    → acts (held_for of p.live).side action ≡ result → (txn : Qualifiers)
     → Seen (decided p action) of p txn (desk_decides p (acted_at p.live (held_for of p.live) result))
 decides_held grows p of action (Ok new) e txn =
     goes_on (decided p action) of p new Done (row_txn grows (held_for of p.live).side new (acted action e) ∙ held_txn of p.live) (ap (decides (party_for of p)) e) txn
@@ -176,7 +195,9 @@ decides_reached grows p of action (Ok held) is txn =
     (decides_held grows p of action (acts (held_for of p.live).side action) refl txn)
 decides_reached grows p of action (Err fault) is txn = not_reached (decided p action) of p fault is txn
 
-desk_decides_seen : RowsGrow → (p : DeskParty) (of : Qualifiers) (action : Action) → is_same_role p.live.role (role_for action) ≡ true → (txn : Qualifiers)
+-- An action of the desk's own role is seen as expected in all transactions.
+desk_decides_seen : RowsGrow → (p : DeskParty) (of : Qualifiers) (action : Action)
+    → is_same_role p.live.role (role_for action) ≡ true → (txn : Qualifiers)
     → Seen (decided p action) of p txn (desk_decides p (desk_acts p.live of action))
 desk_decides_seen grows p of action may txn =
     let found = reached p.live of (begins action) in
@@ -185,9 +206,11 @@ desk_decides_seen grows p of action may txn =
 
 -- ---- messages that come
 
+-- Returns the expected outcome and party of a transaction after message n is delivered in it.
 abbrev received : DeskParty → List Sending → ℕ → Qualifiers → Outcome × Party
 received p told n txn = receives (party_for txn p) (sent_message (sent_for txn told) n)
 
+-- A side that refuses a message stays as it was.
 taken_by : Quiet → (side new : Side) (a : Apdu) (refusal : Refusal) → takes side a ≡ (Err refusal, new) → new ≡ side
 taken_by rows side new a refusal e =
     elim (quiet rows side a) [
@@ -199,9 +222,11 @@ module _ (grows : RowsGrow) (rows : Quiet) (p : DeskParty) (told : List Sending)
   abbrev desk_took : Result Taking DeskFault × DeskContents → DeskOutcome × DeskParty
   desk_took result = (taking_seen result.0, record p { live = result.1 })
 
+  -- The party of the transaction of `a` has the expected outcome and side after it receives `a`.
   here : (answer : Result Taking Refusal) (new : Side) → takes (held_for a.txn p.live).side a ≡ (answer, new) → received p told n a.txn ≡ (answer_to answer, record (party_for a.txn p) { live = new })
   here answer new e = ap (receives (party_for a.txn p)) was ∙ ap (λ (r : Result Taking Refusal × Side). (answer_to r.0, record (party_for a.txn p) { live = r.1 })) e
 
+  -- A message that the held side takes is seen as expected in all transactions.
   takes_held : (answer : Result Taking Refusal) (new : Side) → takes (held_for a.txn p.live).side a ≡ (answer, new) → (txn : Qualifiers)
       → Seen (received p told n) a.txn p txn (desk_took (took_at p.live (held_for a.txn p.live) (answer, new)))
   takes_held (Ok taking) new e txn =
@@ -216,7 +241,7 @@ module _ (grows : RowsGrow) (rows : Quiet) (p : DeskParty) (told : List Sending)
       subst (λ h. Seen (received p told n) a.txn p txn (desk_took (took_at p.live h (takes h.side a)))) (sym is) (takes_held (takes side a).0 (takes side a).1 refl txn)
   takes_found (Err fault) is txn = not_reached (received p told n) a.txn p fault is txn
 
-  -- a side refuses what its own role issues, as the desk does
+  -- A message is seen as expected in all transactions, if the side refuses what its own role issues.
   desk_takes_seen : (own : Bool) → is_own p.live.role a.body ≡ own → (own ≡ true → takes (held_for a.txn p.live).side a ≡ (Err WrongRole, (held_for a.txn p.live).side)) → (txn : Qualifiers)
       → Seen (received p told n) a.txn p txn (desk_receives p (Some a))
   desk_takes_seen own e refused txn =
@@ -231,11 +256,15 @@ module _ (grows : RowsGrow) (rows : Quiet) (p : DeskParty) (told : List Sending)
 
 -- ---- messages that are sent
 
+-- Returns the expected outcome and party of a transaction after a Send of message n.
 abbrev sent_by : DeskParty → ℕ → Qualifiers → Outcome × Party
 sent_by p n txn = sends (party_for txn p) n (message (issued_of (party_for txn p).live) n) (nat_le n (party_for txn p).released)
 
-sends_held : (p : DeskParty) (of : Qualifiers) (n : ℕ) (issued : Option Apdu) (released : Bool) → message (issued_of (held_for of p.live).side) n ≡ issued → nat_le n (held_for of p.live).released ≡ released
-    → (txn : Qualifiers) → let after = sends_by p (λ a. record p { sent = with_sent_for of p.sent n a }) issued released in Seen (sent_by p n) of p txn (Plain after.0, after.1)
+-- A Send at the entry held for `of` is seen as expected in all transactions.
+sends_held : (p : DeskParty) (of : Qualifiers) (n : ℕ) (issued : Option Apdu) (released : Bool)
+    → message (issued_of (held_for of p.live).side) n ≡ issued → nat_le n (held_for of p.live).released ≡ released
+    → (txn : Qualifiers)
+    → let after = sends_by p (λ a. record p { sent = with_sent_for of p.sent n a }) issued released in Seen (sent_by p n) of p txn (Plain after.0, after.1)
 sends_held p of n None released is may txn = nothing_done (sent_by p n) of p NoSuchMessage (ap (λ o. sends (party_for of p) n o (nat_le n (held_for of p.live).released)) is) txn
 sends_held p of n (Some a) false is may txn =
     nothing_done (sent_by p n) of p NotSaved (ap (λ o. sends (party_for of p) n o (nat_le n (held_for of p.live).released)) is ∙ ap (sends (party_for of p) n (Some a)) may) txn
@@ -256,33 +285,38 @@ desk_sends_seen p of n (Some held) e txn =
 
 -- ---- events of a whole desk
 
+-- After a desk saves, it shows the party that has saved.
 saves_seen : (p : DeskParty) (txn : Qualifiers) → party_for txn (desk_saves p) ≡ saves (party_for txn p)
 saves_seen p txn =
     ap (λ (h : DeskEntry). record (party_for txn p) { live = h.side; landed = side_for txn (sides_held p.live); released = h.released }) (whole_for txn (sides_held p.live))
     ∙ ap (λ side. record (party_for txn p) { live = side; landed = side; released = length (issued_of side) }) (side_of_held txn p.live)
 
+-- After a save of a desk fails, it shows the party whose save has failed.
 fault_of_save : (p : DeskParty) (txn : Qualifiers) (landed : Bool) → party_for txn (desk_fails_to_save p landed) ≡ fails_to_save (party_for txn p) landed
 fault_of_save p txn true = ap (λ side. record (party_for txn p) { landed = side }) (side_of_held txn p.live)
 fault_of_save p txn false = refl
 
+-- After a desk restarts, it shows the party that has restarted.
 restarts_seen : (p : DeskParty) (txn : Qualifiers) → party_for txn (desk_restarts p) ≡ restarts (party_for txn p)
 restarts_seen p txn = ap (λ (h : DeskEntry). record (party_for txn p) { live = h.side; released = h.released }) (whole_for txn p.landed)
 
 -- ---- every event
 
+-- Outcome and party of `txn` are as expected after an event, or the party stays as it was.
 abbrev pub PartySeen : Qualifiers → DeskParty → List Sending → DeskEvent → Type 0
 PartySeen txn p told event =
     let after = desk_happens_to p told event in
     IsSeenAs (if_reached after.0 (concerns txn event)) (happens_to (party_for txn p) (sent_for txn told) (plain event)) (party_for txn p) after.0 (party_for txn after.1)
 
--- What a desk keeps to: its role, also in each transaction, and that what it is told in a transaction is of it.
+-- A desk keeps to its role, with all its sides. A message that it is told in a transaction is of this transaction.
 pub record KeepsTo (role : Who) (p : DeskParty) (told : List Sending) : Type 0 where
   pub role_is : p.live.role ≡ role
   pub role_held : (txn : Qualifiers) → role_of (held_for txn p.live).side ≡ role
   pub told_of : (txn : Qualifiers) (n : ℕ) (a : Apdu) → sent_message (sent_for txn told) n ≡ Some a → txn ≡ a.txn
 
--- what a side's own role issues it refuses
-own_refused : (side : Side) (a : Apdu) → txn_of side ≡ a.txn → is_own (role_of side) a.body ≡ true → takes side a ≡ (Err WrongRole, side)
+-- A side refuses an APDU of its transaction that its own role issues.
+own_refused : (side : Side) (a : Apdu) → txn_of side ≡ a.txn → is_own (role_of side) a.body ≡ true
+    → takes side a ≡ (Err WrongRole, side)
 own_refused (sides.Requester x) a is own =
     let same : is_same_txn a.txn x.txn ≡ true = ap (is_same_txn a.txn) is ∙ same_self a.txn in
     rw (same, own) refl
@@ -290,7 +324,10 @@ own_refused (sides.Responder y) a is own =
     let same : is_same_txn a.txn y.txn ≡ true = ap (is_same_txn a.txn) is ∙ same_self a.txn in
     rw (same, own) refl
 
-delivers_seen : RowsGrow → Quiet → (role : Who) (p : DeskParty) (told : List Sending) → KeepsTo role p told → (to : Who) (of : Qualifiers) (n : ℕ) (found : Option Apdu) → sent_message (sent_for of told) n ≡ found → (txn : Qualifiers)
+-- A delivery at a desk that keeps to its role is seen as expected in all transactions.
+delivers_seen : RowsGrow → Quiet → (role : Who) (p : DeskParty) (told : List Sending) → KeepsTo role p told
+    → (to : Who) (of : Qualifiers) (n : ℕ) (found : Option Apdu) → sent_message (sent_for of told) n ≡ found
+    → (txn : Qualifiers)
     → Seen (received p told n) of p txn (desk_receives p found)
 delivers_seen grows rows role p told keeps to of n None e txn = nothing_done (received p told n) of p NotSent (ap (receives (party_for of p)) e) txn
 delivers_seen grows rows role p told keeps to of n (Some a) e txn =
@@ -298,14 +335,18 @@ delivers_seen grows rows role p told keeps to of n (Some a) e txn =
     (desk_takes_seen grows rows p told n a (subst (λ t. sent_message (sent_for t told) n ≡ Some a) (keeps.told_of of n a e) e) (is_own p.live.role a.body) refl
     (λ own. own_refused (held_for a.txn p.live).side a (held_txn a.txn p.live) (ap (λ r. is_own r a.body) (keeps.role_held a.txn ∙ sym keeps.role_is) ∙ own)) txn)
 
+-- `is_same_role` holds of a role and itself.
 same_role : (role : Who) → is_same_role role role ≡ true
 same_role who.Requester = refl
 same_role who.Responder = refl
 
+-- A desk of the role `role` may act in this role.
 pub may_act : (p : DeskParty) (role : Who) → p.live.role ≡ role → is_same_role p.live.role role ≡ true
 may_act p role is = ap (λ r. is_same_role r role) is ∙ same_role role
 
-pub party_seen : RowsGrow → Quiet → (p : DeskParty) (told : List Sending) (event : DeskEvent) → KeepsTo (who_of (plain event)) p told → (txn : Qualifiers) → PartySeen txn p told event
+-- Each event at a desk that keeps to its role is seen as expected in all transactions.
+pub party_seen : RowsGrow → Quiet → (p : DeskParty) (told : List Sending) (event : DeskEvent)
+    → KeepsTo (who_of (plain event)) p told → (txn : Qualifiers) → PartySeen txn p told event
 party_seen grows rows p told (events.Wish of wish) keeps txn = desk_decides_seen grows p of (actions.Wish wish) (may_act p who.Requester keeps.role_is) txn
 party_seen grows rows p told (events.Deed of deed today) keeps txn = desk_decides_seen grows p of (actions.Deed deed today) (may_act p who.Responder keeps.role_is) txn
 party_seen grows rows p told (events.Save role) keeps txn = (refl, saves_seen p txn)

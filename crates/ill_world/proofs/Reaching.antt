@@ -1,4 +1,4 @@
--- When an event of desks reaches a side.
+-- The events of desks that reach a side.
 use Rattle.std.proofs.Common.{◌≡◌, ℕ, nat_lt, length, Bool, true, false, not, if◌then◌else◌, Option, Some, None, Result, Ok, Err, refl, sym, ap, ◌∙◌, subst}
 use Rattle.ill_values.specs.TxnId.{Qualifiers}
 use Rattle.ill_values.specs.declared.apdu.Apdu.{Apdu}
@@ -38,7 +38,10 @@ decided_plainly : (p : DeskParty) (held : DeskEntry) (result : Result Side Refus
 decided_plainly p held (Ok new) = tt
 decided_plainly p held (Err refusal) = tt
 
-decides_reaches : (p : DeskParty) (txn : Qualifiers) (action : Action) → is_same_role p.live.role (role_for action) ≡ true → ReachesAt (begins action) p txn (desk_decides p (desk_acts p.live txn action)).0
+-- An action of the desk's role reaches a side that is held, or one that it begins.
+decides_reaches : (p : DeskParty) (txn : Qualifiers) (action : Action)
+    → is_same_role p.live.role (role_for action) ≡ true
+    → ReachesAt (begins action) p txn (desk_decides p (desk_acts p.live txn action)).0
 decides_reaches p txn action may =
     subst (λ b. ReachesAt (begins action) p txn (desk_decides p (if b then acts_reached p.live action (reached p.live txn (begins action)) else Err (faults.Core WrongRole))).0) (sym may)
     (reach (λ found. (desk_decides p (acts_reached p.live action found)).0) (λ held. decided_plainly p held (acts held.side action)) (λ fault. refl) (begins action) (nat_lt (length p.live.held) most_sides)
@@ -52,20 +55,26 @@ took_plainly : (live : DeskContents) (held : DeskEntry) (answer : Result _ Refus
 took_plainly live held (Ok _) new = tt
 took_plainly live held (Err refusal) new = tt
 
-takes_reaches : (p : DeskParty) (a : Apdu) → is_own p.live.role a.body ≡ false → ReachesAt (is_ill_request a.body) p a.txn (desk_receives p (Some a)).0
+-- A message of the other role reaches a side that is held, or one that it begins.
+takes_reaches : (p : DeskParty) (a : Apdu) → is_own p.live.role a.body ≡ false
+    → ReachesAt (is_ill_request a.body) p a.txn (desk_receives p (Some a)).0
 takes_reaches p a others =
     subst (λ b. ReachesAt (is_ill_request a.body) p a.txn (taking_seen (if b then (Err (faults.Core WrongRole), p.live) else takes_reached p.live a (reached p.live a.txn (is_ill_request a.body))).0)) (sym others)
     (reach (λ found. taking_seen (takes_reached p.live a found).0) (λ held. took_plainly p.live held (takes held.side a).0 (takes held.side a).1) (λ fault. refl) (is_ill_request a.body)
     (nat_lt (length p.live.held) most_sides) (idle_held p.live.role a.txn) (found_by txn_held a.txn p.live.held))
 
--- what the other desk has sent is none of this one's types
-sent_by_other : (w : DeskParties) (role : Who) → DesksStand w → (txn : Qualifiers) (n : ℕ) (a : Apdu) → sent_message (sent_for txn (party w (other role)).sent) n ≡ Some a → is_own role a.body ≡ false
+-- A message that the other desk has sent is of no type of this one's role.
+sent_by_other : (w : DeskParties) (role : Who) → DesksStand w → (txn : Qualifiers) (n : ℕ) (a : Apdu)
+    → sent_message (sent_for txn (party w (other role)).sent) n ≡ Some a → is_own role a.body ≡ false
 sent_by_other w who.Requester stands txn n a sent =
     let responder = (stands.each txn).responder in responders_own txn _ _ n a responder.landed (responder.saved.landed n a sent)
 sent_by_other w who.Responder stands txn n a sent =
     let requester = (stands.each txn).requester in ap not (requesters_own txn _ _ n a requester.landed (requester.saved.landed n a sent))
 
-delivers_reaches : (w : DeskParties) (role : Who) → DesksStand w → (txn : Qualifiers) (n : ℕ) (a : Apdu) (found : Option Apdu) → found ≡ Some a → sent_message (sent_for txn (party w (other role)).sent) n ≡ Some a
+-- A delivery of a message that was sent reaches a side that is held, or one that it begins.
+delivers_reaches : (w : DeskParties) (role : Who) → DesksStand w
+    → (txn : Qualifiers) (n : ℕ) (a : Apdu) (found : Option Apdu) → found ≡ Some a
+    → sent_message (sent_for txn (party w (other role)).sent) n ≡ Some a
     → ReachesAt (is_ill_request a.body) (party w role) txn (desk_receives (party w role) found).0
 delivers_reaches w role stands txn n a found is sent =
     let keeps = keeps_to w role stands in
@@ -73,6 +82,7 @@ delivers_reaches w role stands txn n a found is sent =
     (subst (λ t. ReachesAt (is_ill_request a.body) (party w role) t (desk_receives (party w role) (Some a)).0) (sym (keeps.told_of txn n a sent))
     (takes_reaches (party w role) a (ap (λ r. is_own r a.body) keeps.role_is ∙ sent_by_other w role stands txn n a sent)))
 
+-- `ReachesSide` holds of each event at two desks that stand.
 pub reaches_side : (w : DeskParties) (event : DeskEvent) → DesksStand w → ReachesSide w event
 reaches_side w (events.Wish txn wish) stands = decides_reaches w.requester txn (actions.Wish wish) (may_act w.requester who.Requester stands.requester.0)
 reaches_side w (events.Deed txn deed today) stands = decides_reaches w.responder txn (actions.Deed deed today) (may_act w.responder who.Responder stands.responder.0)

@@ -18,39 +18,46 @@ use Rattle.ill_world.specs.Round.{passes_on, half_of, round_of, Performs}
 use Rattle.ill_world.proofs.Runs.{run_both}
 use Rattle.ill_world.proofs.Sendings.{places_kept}
 
--- a side that takes these APDUs, one after another
+-- Returns a side after it takes `apdus`, one after another.
 unfoldable pub takes_all : Side → List Apdu → Side
 takes_all side [] = side
 takes_all side (a ∷ apdus) = takes_all (takes side a).1 apdus
 
 -- ---- one message
 
--- What was put at a place of a list stands there.
-put_here : (slots : List (Option Apdu)) (i : ℕ) (a : Apdu) → i < length slots → option_flatten (slice_get (slice_set slots i (Some a)) i) ≡ Some a
+-- After `a` is put at a place of a list, it stands there.
+put_here : (slots : List (Option Apdu)) (i : ℕ) (a : Apdu) → i < length slots
+    → option_flatten (slice_get (slice_set slots i (Some a)) i) ≡ Some a
 put_here [] i a within = absurd (omega (arith, within))
 put_here (slot ∷ slots) zero a within = refl
 put_here (slot ∷ slots) (suc i) a within = put_here slots i a (omega (arith, within))
 
+-- In a list of `front`, `a` and more, `a` stands at the place that is the length of `front`.
 at_front : (front more : List Apdu) (a : Apdu) → slice_get (front ++ a ∷ more) (length front) ≡ Some a
 at_front [] more a = refl
 at_front (b ∷ front) more a = at_front front more a
 
-sent_is : (p : Party) (n : ℕ) (a : Apdu) (found : Option Apdu) (released : Bool) → found ≡ Some a → released ≡ true → (sends p n found released).1 ≡ record p { sent = with_sent p.sent n a }
+-- If message n is issued as `a`, and released, a Send of n adds `a` to the messages sent.
+sent_is : (p : Party) (n : ℕ) (a : Apdu) (found : Option Apdu) (released : Bool) → found ≡ Some a → released ≡ true
+    → (sends p n found released).1 ≡ record p { sent = with_sent p.sent n a }
 sent_is p n a (Some b) true is free = let same : b ≡ a = search rules in ap (λ c. record p { sent = with_sent p.sent n c }) same
 sent_is p n a (Some b) false is free = search rules
 sent_is p n a None released is free = search rules
 
-taken_is : (q : Party) (a : Apdu) (found : Option Apdu) → found ≡ Some a → (receives q found).1 ≡ record q { live = (takes q.live a).1 }
+-- If a message was found as `a`, the party receives it: its live side takes `a`.
+taken_is : (q : Party) (a : Apdu) (found : Option Apdu) → found ≡ Some a
+    → (receives q found).1 ≡ record q { live = (takes q.live a).1 }
 taken_is q a (Some b) is = let same : b ≡ a = search rules in ap (λ c. record q { live = (takes q.live c).1 }) same
 taken_is q a None is = search rules
 
--- the world after message n, which is a, was sent by a party and delivered to the other
+-- Returns the world after one party has sent `a` as message n, and it was delivered to the other.
 abbrev passed : Parties → Who → ℕ → Apdu → Parties
 passed w who.Requester n a = record { requester = record w.requester { sent = with_sent w.requester.sent n a }; responder = record w.responder { live = (takes w.responder.live a).1 } }
 passed w who.Responder n a = record { requester = record w.requester { live = (takes w.requester.live a).1 }; responder = record w.responder { sent = with_sent w.responder.sent n a } }
 
--- A message that is sent and delivered is taken.
-passes : (of : Who) (w : Parties) (n : ℕ) (a : Apdu) → message (issued_of (party w of).live) n ≡ Some a → nat_le n (party w of).released ≡ true → sent_message (with_sent (party w of).sent n a) n ≡ Some a
+-- If a party may send `a` as message n, its Send and its Deliver lead to `passed`.
+passes : (of : Who) (w : Parties) (n : ℕ) (a : Apdu) → message (issued_of (party w of).live) n ≡ Some a
+    → nat_le n (party w of).released ≡ true → sent_message (with_sent (party w of).sent n a) n ≡ Some a
     → (happens (happens w (events.Send of n)).1 (events.Deliver (other of) n)).1 ≡ passed w of n a
 passes who.Requester w n a at free there =
     let p = w.requester in
@@ -67,28 +74,34 @@ passes who.Responder w n a at free there =
 
 -- ---- all messages of a party
 
--- A party has issued these, and may send them all.
+-- A party has issued `apdus`, which are 255 at most, and all are released.
 record MaySend (p : Party) (apdus : List Apdu) : Type 0 where
   issued : issued_of p.live ≡ apdus
   released : length apdus ≤ p.released
   few : length apdus ≤ 255
   places : length p.sent ≡ 255
 
--- The party that passed its messages on is as it was, and the other one has taken them.
+-- The live side of `of` is as before, and that of the other party has taken all `apdus`.
 pub record HasPassed (of : Who) (old new : Parties) (apdus : List Apdu) : Type 0 where
   pub live : (party new of).live ≡ (party old of).live
   pub taken : (party new (other of)).live ≡ takes_all (party old (other of)).live apdus
 
-may_still : (of : Who) (w : Parties) (n : ℕ) (a : Apdu) (apdus : List Apdu) → MaySend (party w of) apdus → MaySend (party (passed w of n a) of) apdus
+-- After message n was passed, a party may send what it might send before.
+may_still : (of : Who) (w : Parties) (n : ℕ) (a : Apdu) (apdus : List Apdu) → MaySend (party w of) apdus
+    → MaySend (party (passed w of n a) of) apdus
 may_still who.Requester w n a apdus may = record { issued = may.issued; released = may.released; few = may.few; places = places_kept w.requester.sent n a ∙ may.places }
 may_still who.Responder w n a apdus may = record { issued = may.issued; released = may.released; few = may.few; places = places_kept w.responder.sent n a ∙ may.places }
 
-passed_on : (of : Who) (w new : Parties) (n : ℕ) (a : Apdu) (apdus : List Apdu) → HasPassed of (passed w of n a) new apdus → HasPassed of w new (a ∷ apdus)
+-- If `a` and then `apdus` were passed, all of `a ∷ apdus` were passed.
+passed_on : (of : Who) (w new : Parties) (n : ℕ) (a : Apdu) (apdus : List Apdu)
+    → HasPassed of (passed w of n a) new apdus → HasPassed of w new (a ∷ apdus)
 unfolding takes_all
 passed_on who.Requester w new n a apdus has = record { live = has.live; taken = has.taken }
 passed_on who.Responder w new n a apdus has = record { live = has.live; taken = has.taken }
 
-pass_all : (of : Who) (w : Parties) (n : ℕ) (front rest : List Apdu) → n ≡ length front + 1 → MaySend (party w of) (front ++ rest) → HasPassed of w (run_of w (passes_on of n (length rest))) rest
+-- If a party may send `front ++ rest`, the events of `passes_on` from the end of `front` on pass `rest`.
+pass_all : (of : Who) (w : Parties) (n : ℕ) (front rest : List Apdu) → n ≡ length front + 1
+    → MaySend (party w of) (front ++ rest) → HasPassed of w (run_of w (passes_on of n (length rest))) rest
 unfolding passes_on run_by takes_all
 pass_all of w n front [] is may = record { live = refl; taken = refl }
 pass_all of w n front (a ∷ rest) is may =
@@ -110,7 +123,8 @@ may_after : (p : Party) → length (issued_of p.live) ≤ 255 → length p.sent 
 may_after p few places = record { issued = refl; released = omega arith; few = few; places = places }
 
 -- In a half of a round the other party takes all messages of this one.
-pub half_passes : (of : Who) (w : Parties) → length (issued_of (party w of).live) ≤ 255 → length (party w of).sent ≡ 255 → HasPassed of w (run_of w (half_of of w)) (issued_of (party w of).live)
+pub half_passes : (of : Who) (w : Parties) → length (issued_of (party w of).live) ≤ 255
+    → length (party w of).sent ≡ 255 → HasPassed of w (run_of w (half_of of w)) (issued_of (party w of).live)
 unfolding run_by
 half_passes who.Requester w few places =
     let p = w.requester in
@@ -121,13 +135,15 @@ half_passes who.Responder w few places =
     let has = pass_all who.Responder (record w { responder = saves p }) 1 [] (issued_of p.live) refl (may_after p few places) in
     record { live = has.live; taken = has.taken }
 
--- What a round does to both: the responder takes all messages of the requester, and the requester then takes all
--- messages of the responder.
+-- After a round the responder has taken all messages of the requester, and then the requester all of the responder.
 pub record Rounds (w new : Parties) : Type 0 where
   pub responder : new.responder.live ≡ takes_all w.responder.live (issued_of w.requester.live)
   pub requester : new.requester.live ≡ takes_all w.requester.live (issued_of new.responder.live)
 
-pub round_passes : (w : Parties) → let between = run_of w (half_of who.Requester w) in length (issued_of w.requester.live) ≤ 255 → length w.requester.sent ≡ 255 → length (issued_of between.responder.live) ≤ 255
+-- A round does so, if each party has issued 255 messages at most when it saves.
+pub round_passes : (w : Parties)
+    → let between = run_of w (half_of who.Requester w) in length (issued_of w.requester.live) ≤ 255
+    → length w.requester.sent ≡ 255 → length (issued_of between.responder.live) ≤ 255
     → length between.responder.sent ≡ 255 → Rounds w (run_of w (round_of w))
 round_passes w few places few_more places_more =
     let between : Parties = run_of w (half_of who.Requester w) in
@@ -142,9 +158,11 @@ round_passes w few places few_more places_more =
 
 -- ---- the events of a half as a list that grows
 
--- The events of a message are added, and those of the messages that are left are one message fewer.
-pub passes_grow : (of partner : Who) (n number size left : ℕ) (before sent delivered all : List Event) → partner ≡ other of → number ≡ n → size ≡ suc left → sent ≡ before ++ events.Send of number ∷ []
-    → delivered ≡ sent ++ events.Deliver partner number ∷ [] → before ++ passes_on of n size ≡ all → delivered ++ passes_on of (n + 1) left ≡ all
+-- After the two events of message n are added, those of one message fewer are left.
+pub passes_grow : (of partner : Who) (n number size left : ℕ) (before sent delivered all : List Event)
+    → partner ≡ other of → number ≡ n → size ≡ suc left → sent ≡ before ++ events.Send of number ∷ []
+    → delivered ≡ sent ++ events.Deliver partner number ∷ [] → before ++ passes_on of n size ≡ all
+    → delivered ++ passes_on of (n + 1) left ≡ all
 unfolding passes_on
 passes_grow of partner n number size left before sent delivered all is_other is_n is_size is_sent is_delivered is_all =
     let rest = passes_on of (n + 1) left in
@@ -168,14 +186,14 @@ module _ {W E O M : Type 0} (happening : W → E → O × W) where
   performs_front events first old new (Ok done) failed front is = search rules
   performs_front events first old new (Err memory) failed front is = (first, front, is)
 
-  -- Events that are performed behind others are performed together with these.
+  -- If `first` has led to a world, and `second` was performed from there, both joined were performed.
   pub performs_both : (first second : List E) (old between new : W) (result : Result (Unit {0}) M) → between ≡ run_by happening old first → Performs (run_by happening) second between result new
       → Performs (run_by happening) (first ++ second) old result new
   performs_both first second old between new (Ok done) led performs = performs ∙ ap (λ w. run_by happening w second) led ∙ sym (run_both happening old first second)
   performs_both first second old between new (Err memory) led (some, front, is) =
       (first ++ some, (front.0, ap (λ l. first ++ l) front.1 ∙ sym (append_assoc first some front.0)), is ∙ ap (λ w. run_by happening w some) led ∙ sym (run_both happening old first some))
 
-  -- A fact of the world that events lead to holds after they were performed.
+  -- A fact of the world to which events lead holds after they were performed, if memory did not run out.
   pub performed : (P : W → Type 0) (events : List E) (old new : W) (result : Result (Unit {0}) M) → Performs (run_by happening) events old result new → P (run_by happening old events) → OnOk result (P new)
   performed P events old new (Ok done) performs there = subst P (sym performs) there
   performed P events old new (Err memory) performs there = tt

@@ -1,4 +1,4 @@
--- What a script says, line by line, whatever its lines say.
+-- The reading of a script, line by line, for any meaning of its lines.
 use Rattle.std.proofs.Common.{arith, ◌≡◌, ℕ, ◌+◌, ◌<◌, ◌≤◌, Bool, true, false, ◌&&◌, nat_le, if◌then◌else◌, cond, ◌==◌, List, [], ◌∷◌, ◌++◌, length, Some, refl, sym, ap, ◌∙◌, length-append}
 use Rattle.std.specs.List.{onto_first}
 use Rattle.std.proofs.lemmas.Bool.{le-leb, lt-leb}
@@ -8,24 +8,29 @@ use Rattle.ill_world.specs.Play.{Play, Said, says_nothing, is_within, line_at, t
 use Rattle.ill_world.specs.Simulating.{has_lf}
 use Rattle.ill_world.proofs.Texts.{line_first, line_alone, some_line, line_begins}
 
--- only a bad line, with this number
+-- Returns a reading without events, and with line n as the bad one.
 abbrev pub only_bad : {E : Type 0} → ℕ → Said E
 only_bad n = record { events = []; bad = Some n }
 
 -- ---- within the limits
 
+-- If m is at most n, `nat_le` is true of them.
 le_true : (m n : ℕ) → m ≤ n → nat_le m n ≡ true
 le_true m n le = le-leb m n le
 
+-- If n is less than m, `nat_le` is false of m and n.
 le_false : (m n : ℕ) → n < m → nat_le m n ≡ false
 le_false m n less = lt-leb m n less
 
+-- If a and b are true, so is `a && b`.
 both_true : (a b : Bool) → a ≡ true → b ≡ true → (a && b) ≡ true
 both_true a b one two = ap (λ (x : Bool). x && b) one ∙ two
 
+-- A line that is neither too long nor too late is within the limits.
 pub within : (n : ℕ) (bytes : List ℕ) → n ≤ 100000 → length bytes ≤ 1024 → is_within n bytes ≡ true
 within n bytes few short = both_true (nat_le n 100000) (nat_le (length bytes) 1024) (le_true n 100000 few) (le_true (length bytes) 1024 short)
 
+-- A line of more than 1,024 bytes is beyond the limits.
 too_long : (n : ℕ) (bytes : List ℕ) → 1025 ≤ length bytes → is_within n bytes ≡ false
 too_long n bytes long = go (nat_le n 100000) (nat_le (length bytes) 1024) (le_false (length bytes) 1024 (omega (arith, long)))
   where
@@ -33,33 +38,39 @@ too_long n bytes long = go (nat_le n 100000) (nat_le (length bytes) 1024) (le_fa
     go true b none = none
     go false b none = refl
 
+-- A line after line 100,000 is beyond the limits.
 too_many : (n : ℕ) (bytes : List ℕ) → 100001 ≤ n → is_within n bytes ≡ false
 too_many n bytes many = ap (λ (a : Bool). a && nat_le (length bytes) 1024) (le_false n 100000 (omega (arith, many)))
 
--- where a reader failed they are none
-pub breaks_nothing : {E C : Type 0} → (c : C) (n : ℕ) (bytes : List ℕ) → is_within n bytes ≡ true → ◌≡◌ {A = Said E} (breaks_off c n bytes) says_nothing
+-- Bytes within the limits, after which a reader failed, say nothing.
+pub breaks_nothing : {E C : Type 0} → (c : C) (n : ℕ) (bytes : List ℕ) → is_within n bytes ≡ true
+    → ◌≡◌ {A = Said E} (breaks_off c n bytes) says_nothing
 breaks_nothing c n [] is = refl
 breaks_nothing {E = E} c n (byte ∷ bytes) is = ap (λ (b : Bool). if b then says_nothing {E = E} else only_bad n) is
 
 module _ {W E C : Type 0} (play : Play W E C) where
+  -- The meaning of a line within the limits is that of its bytes.
   pub line_within : (c : C) (n : ℕ) (bytes : List ℕ) → n ≤ 100000 → length bytes ≤ 1024 → line_at play c n bytes ≡ play.says c bytes
   line_within c n bytes few short = ap (λ (b : Bool). if b then play.says c bytes else (lines.Bad, c)) (within n bytes few short)
 
+  -- A line beyond the limits is bad, and carries its value on.
   line_bad : (c : C) (n : ℕ) (bytes : List ℕ) → is_within n bytes ≡ false → line_at play c n bytes ≡ (lines.Bad, c)
   line_bad c n bytes out = ap (λ (b : Bool). if b then play.says c bytes else (lines.Bad, c)) out
 
   -- ---- lines
 
+  -- The reading of two lines or more is that of the first, and then that of the others.
   says_first : (end : C → ℕ → List ℕ → Said E) (c : C) (n : ℕ) (first second : List ℕ) (more : List (List ℕ))
       → says_from play end c n (first ∷ second ∷ more) ≡ then_says (line_at play c n first).0 n (says_from play end (line_at play c n first).1 (n + 1) (second ∷ more))
   unfolding says_from
   says_first end c n first second more = refl
 
+  -- The reading of the last line is that of `end`.
   says_last : (end : C → ℕ → List ℕ → Said E) (c : C) (n : ℕ) (rest : List ℕ) → says_from play end c n (rest ∷ []) ≡ end c n rest
   unfolding says_from
   says_last end c n rest = refl
 
-  -- what a line says that an LF closes, and then what the rest says
+  -- The reading of a line that an LF closes is that of the line, and then that of the rest.
   pub says_line : (end : C → ℕ → List ℕ → Said E) (c : C) (n : ℕ) (bytes rest : List ℕ) → has_lf bytes ≡ false
       → says_on play end c n (bytes ++ 10 ∷ rest) ≡ then_says (line_at play c n bytes).0 n (says_on play end (line_at play c n bytes).1 (n + 1) rest)
   says_line end c n bytes rest none =
@@ -68,32 +79,33 @@ module _ {W E C : Type 0} (play : Play W E C) where
       ap (says_from play end c n) (line_first bytes rest none ∙ ap (λ parts. bytes ∷ parts) some.2) ∙ says_first end c n bytes some.0 some.1
       ∙ ap (λ parts. then_says line.0 n (says_from play end line.1 (n + 1) parts)) (sym some.2)
 
-  -- what bytes say that no LF closes
+  -- The reading of bytes that no LF closes is that of `end`.
   pub says_rest : (end : C → ℕ → List ℕ → Said E) (c : C) (n : ℕ) (bytes : List ℕ) → has_lf bytes ≡ false → says_on play end c n bytes ≡ end c n bytes
   says_rest end c n bytes none = ap (says_from play end c n) (line_alone bytes none) ∙ says_last end c n bytes
 
-  -- at the end they are a line
+  -- At the end of a text, bytes that are not empty are a line.
   pub ends_line : (c : C) (n : ℕ) (bytes : List ℕ) → 1 ≤ length bytes → ends play c n bytes ≡ then_says (line_at play c n bytes).0 n says_nothing
   ends_line c n [] some = absurd (omega (arith, some))
   ends_line c n (byte ∷ bytes) some = refl
 
   -- ---- beyond the limits
 
+  -- At the end of a text, bytes beyond the limits are a bad line.
   bad_ends : (c : C) (n : ℕ) (bytes : List ℕ) → 1 ≤ length bytes → is_within n bytes ≡ false → ends play c n bytes ≡ only_bad n
   bad_ends c n bytes some out = ends_line c n bytes some ∙ ap (λ (line : ScriptLine E × C). then_says line.0 n says_nothing) (line_bad c n bytes out)
 
-  -- a bad line, and whatever follows
+  -- A first line beyond the limits is the bad one, if lines follow.
   bad_first : (c : C) (n : ℕ) (first second : List ℕ) (more : List (List ℕ)) → is_within n first ≡ false → says_from play (ends play) c n (first ∷ second ∷ more) ≡ only_bad n
   bad_first c n first second more out =
       says_first (ends play) c n first second more
       ∙ ap (λ (line : ScriptLine E × C). then_says line.0 n (says_from play (ends play) line.1 (n + 1) (second ∷ more))) (line_bad c n first out)
 
-  -- the first line is a bad one
+  -- A first line beyond the limits, which is not empty, is the bad one.
   first_bad : (c : C) (n : ℕ) (first : List ℕ) (more : List (List ℕ)) → is_within n first ≡ false → 1 ≤ length first → says_from play (ends play) c n (first ∷ more) ≡ only_bad n
   first_bad c n first [] out some = says_last (ends play) c n first ∙ bad_ends c n first some out
   first_bad c n first (second ∷ more) out some = bad_first c n first second more out
 
-  -- a line of too many bytes, however it goes on
+  -- Bytes without LF that are too long for a line are a bad line, with anything after them.
   pub says_too_long : (c : C) (n : ℕ) (bytes rest : List ℕ) → has_lf bytes ≡ false → 1025 ≤ length bytes → says_on play (ends play) c n (bytes ++ rest) ≡ only_bad n
   says_too_long c n bytes rest none long =
       let some = some_line rest in
@@ -101,7 +113,7 @@ module _ {W E C : Type 0} (play : Play W E C) where
       ap (says_from play (ends play) c n) (line_begins bytes rest some.0 some.1 none some.2)
       ∙ first_bad c n (bytes ++ some.0) some.1 (too_long n (bytes ++ some.0) longer) (omega (arith, longer))
 
-  -- more lines than there may be
+  -- Bytes after line 100,000 are a bad line.
   pub says_too_many : (c : C) (n byte : ℕ) (text : List ℕ) → 100001 ≤ n → says_on play (ends play) c n (byte ∷ text) ≡ only_bad n
   says_too_many c n byte text many = go (byte == 10) (some_line text)
     where

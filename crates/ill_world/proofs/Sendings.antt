@@ -1,4 +1,4 @@
--- What a party has sent, issued and saved.
+-- The messages that a party has issued, saved and sent.
 use Rattle.std.proofs.Common.{rules, arith, ◌≡◌, ◌⊎◌, inl, inr, ℕ, zero, suc, ◌+◌, ◌≤◌, Bool, true, false, nat_le, List, [], ◌∷◌, ◌++◌, length, Option, Some, None, refl, sym, ap, ◌∙◌, subst, append_assoc, append-nil, length-append}
 use Rattle.std.specs.Prelude.{slice_get}
 use Rattle.std.specs.List.{slice_set}
@@ -13,22 +13,26 @@ use Rattle.ill_world.specs.Invariant.{SendsSaved}
 
 -- ---- lists
 
--- what stands in a list after a value was put there: that value, or what stood there before
-put_there : (slots : List (Option Apdu)) (i j : ℕ) (a b : Apdu) → option_flatten (slice_get (slice_set slots i (Some a)) j) ≡ Some b → ((j ≡ i) × (b ≡ a)) ⊎ (option_flatten (slice_get slots j) ≡ Some b)
+-- A message at place j, after `a` was put at place i, is `a` at place i, or stood there before.
+put_there : (slots : List (Option Apdu)) (i j : ℕ) (a b : Apdu)
+    → option_flatten (slice_get (slice_set slots i (Some a)) j) ≡ Some b
+    → ((j ≡ i) × (b ≡ a)) ⊎ (option_flatten (slice_get slots j) ≡ Some b)
 put_there [] i j a b e = inr e
 put_there (slot ∷ slots) zero zero a b e = inl (refl, search rules)
 put_there (slot ∷ slots) zero (suc j) a b e = inr e
 put_there (slot ∷ slots) (suc i) zero a b e = inr e
 put_there (slot ∷ slots) (suc i) (suc j) a b e = elim (put_there slots i j a b e) [ inl here ↦ inl (ap suc here.0, here.1) | inr before ↦ inr before ]
 
--- what stood there stays, where the same is put there
-still_there : (slots : List (Option Apdu)) (i j : ℕ) (a b : Apdu) → option_flatten (slice_get slots j) ≡ Some b → (j ≡ i → a ≡ b) → option_flatten (slice_get (slice_set slots i (Some a)) j) ≡ Some b
+-- Message b stays at place j after `a` is put at place i, if `a` is b when i is j.
+still_there : (slots : List (Option Apdu)) (i j : ℕ) (a b : Apdu) → option_flatten (slice_get slots j) ≡ Some b
+    → (j ≡ i → a ≡ b) → option_flatten (slice_get (slice_set slots i (Some a)) j) ≡ Some b
 still_there [] i j a b e same = e
 still_there (slot ∷ slots) zero zero a b e same = ap Some (same refl)
 still_there (slot ∷ slots) zero (suc j) a b e same = e
 still_there (slot ∷ slots) (suc i) zero a b e same = e
 still_there (slot ∷ slots) (suc i) (suc j) a b e same = still_there slots i j a b e (λ at. same (ap suc at))
 
+-- A list keeps its length when a place is set.
 set_length : (slots : List (Option Apdu)) (i : ℕ) (o : Option Apdu) → length (slice_set slots i o) ≡ length slots
 set_length [] i o = refl
 set_length (slot ∷ slots) zero o = refl
@@ -39,12 +43,15 @@ pub places_kept : (sent : List (Option Apdu)) (n : ℕ) (a : Apdu) → length (w
 places_kept sent zero a = refl
 places_kept sent (suc n) a = set_length sent n (Some a)
 
+-- An APDU at a place of `front` stands at this place of a longer list.
 get_front : (front more : List Apdu) (i : ℕ) (a : Apdu) → slice_get front i ≡ Some a → slice_get (front ++ more) i ≡ Some a
 get_front [] more i a e = search rules
 get_front (b ∷ front) more zero a e = e
 get_front (b ∷ front) more (suc i) a e = get_front front more i a e
 
-get_within : (front more : List Apdu) (i : ℕ) (a : Apdu) → i + 1 ≤ length front → slice_get (front ++ more) i ≡ Some a → slice_get front i ≡ Some a
+-- An APDU at a place within `front` of a longer list stands at this place of `front`.
+get_within : (front more : List Apdu) (i : ℕ) (a : Apdu) → i + 1 ≤ length front → slice_get (front ++ more) i ≡ Some a
+    → slice_get front i ≡ Some a
 get_within [] more i a less e = absurd (omega (arith, less))
 get_within (b ∷ front) more zero a less e = e
 get_within (b ∷ front) more (suc i) a less e = get_within front more i a (omega (arith, less)) e
@@ -68,6 +75,7 @@ front_of_itself a = ([], sym (append-nil a))
 front_is_shorter : (a b : List Apdu) → IsPrefix a b → length a ≤ length b
 front_is_shorter a b is = omega (arith, ap length is.1, length-append a is.0)
 
+-- Two options that are equal have equal APDUs.
 some_is : (a b : Apdu) → ◌≡◌ {A = Option Apdu} (Some a) (Some b) → a ≡ b
 some_is a b e = search rules
 
@@ -81,6 +89,7 @@ live_grows p new grows saved = record {
   places = saved.places;
 }
 
+-- A party still sends only what it has saved, after it saves.
 pub saved_now : (p : Party) → SendsSaved p → SendsSaved (saves p)
 saved_now p saved = record {
   landed = λ n a e. front_message (issued_of p.landed) (issued_of p.live) n a saved.front (saved.landed n a e);
@@ -89,6 +98,7 @@ saved_now p saved = record {
   places = saved.places;
 }
 
+-- A party still sends only what it has saved, after a save that fails.
 pub saved_by_fault : (p : Party) (landed : Bool) → SendsSaved p → SendsSaved (fails_to_save p landed)
 saved_by_fault p true saved = record {
   landed = λ n a e. front_message (issued_of p.landed) (issued_of p.live) n a saved.front (saved.landed n a e);
@@ -98,24 +108,32 @@ saved_by_fault p true saved = record {
 }
 saved_by_fault p false saved = saved
 
+-- A party still sends only what it has saved, after a restart.
 pub saved_at_restart : (p : Party) → SendsSaved p → SendsSaved (restarts p)
 saved_at_restart p saved = record { landed = saved.landed; front = front_of_itself (issued_of p.landed); released = omega arith; places = saved.places }
 
--- the message that is sent has landed
-sent_landed : (p : Party) (n : ℕ) (a : Apdu) → SendsSaved p → message (issued_of p.live) n ≡ Some a → nat_le n p.released ≡ true → message (issued_of p.landed) n ≡ Some a
+-- A message that is issued and released has landed.
+sent_landed : (p : Party) (n : ℕ) (a : Apdu) → SendsSaved p → message (issued_of p.live) n ≡ Some a
+    → nat_le n p.released ≡ true → message (issued_of p.landed) n ≡ Some a
 sent_landed p n a saved is released = within_front (issued_of p.landed) (issued_of p.live) n a saved.front (omega (arith, leb-true n p.released released, saved.released)) is
 
-sent_with : (sent : List (Option Apdu)) (n m : ℕ) (a b : Apdu) → sent_message (with_sent sent n a) m ≡ Some b → ((m ≡ n) × (b ≡ a)) ⊎ (sent_message sent m ≡ Some b)
+-- A message among those sent, after `a` was sent as message n, is `a` as message n, or was sent before.
+sent_with : (sent : List (Option Apdu)) (n m : ℕ) (a b : Apdu) → sent_message (with_sent sent n a) m ≡ Some b
+    → ((m ≡ n) × (b ≡ a)) ⊎ (sent_message sent m ≡ Some b)
 sent_with sent zero m a b e = inr e
 sent_with sent (suc n) zero a b e = inr e
 sent_with sent (suc n) (suc m) a b e = elim (put_there sent n m a b e) [ inl here ↦ inl (ap suc here.0, here.1) | inr before ↦ inr before ]
 
-sent_still : (sent : List (Option Apdu)) (n m : ℕ) (a b : Apdu) → sent_message sent m ≡ Some b → (m ≡ n → a ≡ b) → sent_message (with_sent sent n a) m ≡ Some b
+-- Message b stays sent under m after `a` is sent as message n, if `a` is b when n is m.
+sent_still : (sent : List (Option Apdu)) (n m : ℕ) (a b : Apdu) → sent_message sent m ≡ Some b → (m ≡ n → a ≡ b)
+    → sent_message (with_sent sent n a) m ≡ Some b
 sent_still sent zero m a b e same = e
 sent_still sent (suc n) zero a b e same = search rules
 sent_still sent (suc n) (suc m) a b e same = still_there sent n m a b e (λ at. same (ap suc at))
 
-pub saved_by_send : (p : Party) (n : ℕ) (found : Option Apdu) (released : Bool) → message (issued_of p.live) n ≡ found → nat_le n p.released ≡ released → SendsSaved p → SendsSaved (sends p n found released).1
+-- A party still sends only what it has saved, after a Send.
+pub saved_by_send : (p : Party) (n : ℕ) (found : Option Apdu) (released : Bool) → message (issued_of p.live) n ≡ found
+    → nat_le n p.released ≡ released → SendsSaved p → SendsSaved (sends p n found released).1
 saved_by_send p n None released is e saved = saved
 saved_by_send p n (Some a) false is e saved = saved
 saved_by_send p n (Some a) true is e saved = record {
@@ -129,8 +147,9 @@ saved_by_send p n (Some a) true is e saved = record {
   places = places_kept p.sent n a ∙ saved.places;
 }
 
--- what was sent stays sent, at its number
-pub sent_stays : (p : Party) (n : ℕ) (found : Option Apdu) (released : Bool) → message (issued_of p.live) n ≡ found → nat_le n p.released ≡ released → SendsSaved p → (m : ℕ) (b : Apdu) → sent_message p.sent m ≡ Some b
+-- A message that was sent stays sent, under its number, after a Send.
+pub sent_stays : (p : Party) (n : ℕ) (found : Option Apdu) (released : Bool) → message (issued_of p.live) n ≡ found
+    → nat_le n p.released ≡ released → SendsSaved p → (m : ℕ) (b : Apdu) → sent_message p.sent m ≡ Some b
     → sent_message (sends p n found released).1.sent m ≡ Some b
 sent_stays p n None released is e saved m b was = was
 sent_stays p n (Some a) false is e saved m b was = was

@@ -31,19 +31,19 @@ use Rattle.ill_world.proofs.Shelves.{BothLack, lack_elsewhere, group_in_order}
 -- ---- events that have their home at a group
 
 module _ (group : List ℕ) where
-  -- All these events have their home at the group with which they are said.
+  -- Each of the events has its home at the group with which it is said.
   abbrev pub AllAt : List DeskEvent → Type 0
   AllAt [] = Unit {0}
   AllAt (event ∷ more) = (group_of group event ≡ group) × AllAt more
 
-  -- The events of the group are all of them.
+  -- If all events have their home at the group, they are the events of the group.
   pub all_at : (all : List DeskEvent) → AllAt all → events_at group (said_in group all) ≡ all
   all_at [] at = refl
   all_at (event ∷ more) at =
       let others = events_at group (said_in group more) in
       ap (λ b. if b then event ∷ others else others) ((bytes_eq-Decides group (group_of group event)).1 (sym at.0)) ∙ ap (λ l. event ∷ l) (all_at more at.1)
 
-  -- Two lists of such events make one.
+  -- If two lists of events have their home at the group, so has the list of both.
   both_at : (first second : List DeskEvent) → AllAt first → AllAt second → AllAt (first ++ second)
   both_at [] second at second_at = second_at
   both_at (event ∷ first) second at second_at = (at.0, both_at first second at.1 second_at)
@@ -66,17 +66,17 @@ module _ (group : List ℕ) where
 
   -- ---- sides of a group
 
-  -- All these sides are of transactions of the group.
+  -- Each of the sides is of a transaction of the group.
   abbrev AllOf : List Side → Type 0
   AllOf [] = Unit {0}
   AllOf (side ∷ more) = ((txn_of side).group ≡ group) × AllOf more
 
-  -- Their messages are passed on in the group.
+  -- The events that pass on the messages of sides of the group have their home there.
   passes_at : (role : Who) (all : List Side) → AllOf all → AllAt (flat_map (passes_side role) all)
   passes_at role [] of = tt
   passes_at role (side ∷ more) of = both_at (passes_side role side) (flat_map (passes_side role) more) (txn_at (txn_of side) (passes_on role 1 (length (issued_of side))) of.0) (passes_at role more of.1)
 
-  -- Those of them that want sending are of the group.
+  -- If sides are of the group, so are those of them that want sending.
   wanted_of : (wants : Side → Bool) (all : List Side) → AllOf all → AllOf (filter wants all)
   wanted_of wants [] of = tt
   wanted_of wants (side ∷ more) of = go (wants side) (wanted_of wants more of.1)
@@ -111,7 +111,7 @@ module _ (group : List ℕ) where
   half_at wants who.Responder w lack =
       let all = (sides_held w.responder.live).sides in (refl, passes_at who.Responder (filter wants all) (wanted_of wants all (held_of w.responder.live.held (λ txn apart. (lack txn apart).1.0))))
 
-  -- The events of a night of the desks of the group are all its events.
+  -- All events of a night of the desks of a group, said with the group, have their home there.
   pub night_at : RowsGrow → EachStands → DesksStand first_desks → (all : List ShelfEvent)
       → let night = desk_night_of (desks_run first_desks (events_at group all)) in events_at group (said_in group night) ≡ night
   night_at grows after first all =

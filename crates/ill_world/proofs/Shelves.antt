@@ -43,7 +43,8 @@ whole_home e none = whole_group e.group e.event none
 -- ---- the events of a group
 
 -- The events of a group come in the order of those of the shelves.
-pub group_in_order : (group : List ℕ) (before after : List ShelfEvent) → events_at group (before ++ after) ≡ events_at group before ++ events_at group after
+pub group_in_order : (group : List ℕ) (before after : List ShelfEvent)
+    → events_at group (before ++ after) ≡ events_at group before ++ events_at group after
 group_in_order group [] after = refl
 group_in_order group (e ∷ before) after = joined (bytes_eq group (home e)) e.event (events_at group before) (events_at group after) (events_at group (before ++ after)) (group_in_order group before after)
 
@@ -57,7 +58,8 @@ one_on w group at event more true same = ap (λ g. desks_run (desks_happen (w g)
 one_on w group at event more false same = refl
 
 -- The desks of a group after events are two desks after the events of the group.
-pub shelves_run_at : (w : Shelves) (group : List ℕ) (all : List ShelfEvent) → shelves_run w all group ≡ desks_run (w group) (events_at group all)
+pub shelves_run_at : (w : Shelves) (group : List ℕ) (all : List ShelfEvent)
+    → shelves_run w all group ≡ desks_run (w group) (events_at group all)
 unfolding run_by
 shelves_run_at w group [] = refl
 shelves_run_at w group (e ∷ more) =
@@ -73,13 +75,15 @@ Lacks txn p = (is_one_of txn (live_txns p) ≡ false) × (is_one_of txn (landed_
 abbrev pub BothLack : Qualifiers → DeskParties → Type 0
 BothLack txn w = Lacks txn w.requester × Lacks txn w.responder
 
--- the transactions that are not this one
+-- `of` is another transaction than `txn`.
 abbrev IsOther : Qualifiers → Qualifiers → Type 0
 IsOther txn of = is_same_txn txn of ≡ false
 
 -- A desk that lacks a transaction lacks it after what begins only others.
-lacks_still : (txn : Qualifiers) (live landed new_live new_landed : List Qualifiers) → Leads (IsOther txn) live landed new_live new_landed
-    → (is_one_of txn live ≡ false) × (is_one_of txn landed ≡ false) → (is_one_of txn new_live ≡ false) × (is_one_of txn new_landed ≡ false)
+lacks_still : (txn : Qualifiers) (live landed new_live new_landed : List Qualifiers)
+    → Leads (IsOther txn) live landed new_live new_landed
+    → (is_one_of txn live ≡ false) × (is_one_of txn landed ≡ false)
+    → (is_one_of txn new_live ≡ false) × (is_one_of txn new_landed ≡ false)
 lacks_still txn live landed new_live new_landed (stays is there) lacks = (ap (is_one_of txn) is ∙ lacks.0, ap (is_one_of txn) there ∙ lacks.1)
 lacks_still txn live landed new_live new_landed (begun of none room may is there) lacks = (ap (is_one_of txn) is ∙ has_not txn of live lacks.0 may, ap (is_one_of txn) there ∙ lacks.1)
 lacks_still txn live landed new_live new_landed (lands is there) lacks = (ap (is_one_of txn) is ∙ lacks.0, ap (is_one_of txn) there ∙ lacks.0)
@@ -94,14 +98,17 @@ NamesOther txn (events.Deliver role of n) = IsOther txn of
 NamesOther txn whole = Unit {0}
 
 -- An event that names another transaction begins only others: a message is of the transaction in which it was sent.
-permits_other : (txn : Qualifiers) (told : List Sending) (event : DeskEvent) → ((of : Qualifiers) (n : ℕ) (a : Apdu) → sent_message (sent_for of told) n ≡ Some a → of ≡ a.txn) → NamesOther txn event
+permits_other : (txn : Qualifiers) (told : List Sending) (event : DeskEvent)
+    → ((of : Qualifiers) (n : ℕ) (a : Apdu) → sent_message (sent_for of told) n ≡ Some a → of ≡ a.txn)
+    → NamesOther txn event
     → Permits (IsOther txn) told event
 permits_other txn told (events.Wish of wish) told_of names = names
 permits_other txn told (events.Deliver role of n) told_of names = λ a sent. subst (IsOther txn) (told_of of n a sent) names
 permits_other txn told event told_of names = tt
 
 -- Two desks that lack a transaction lack it after an event of another.
-lack_at : RowsGrow → (txn : Qualifiers) (w : DeskParties) (event : DeskEvent) → DesksStand w → NamesOther txn event → BothLack txn w → (role : Who)
+lack_at : RowsGrow → (txn : Qualifiers) (w : DeskParties) (event : DeskEvent) → DesksStand w → NamesOther txn event
+    → BothLack txn w → (role : Who)
     → BothLack txn (happens_at w role (λ p partner. desk_happens_to p partner.sent event)).1
 lack_at grows txn w event stands names lack who.Requester =
     let new = (desk_happens_to w.requester w.responder.sent event).1 in (
@@ -125,7 +132,8 @@ other_txn txn of group apart is = go (is_same_txn txn of) refl
     go false same = refl
 
 -- An event at the desks of a group names no transaction of another group.
-names_other : (txn : Qualifiers) (said group : List ℕ) (event : DeskEvent) → (txn.group ≡ group → ⊥) → group_of said event ≡ group → NamesOther txn event
+names_other : (txn : Qualifiers) (said group : List ℕ) (event : DeskEvent) → (txn.group ≡ group → ⊥)
+    → group_of said event ≡ group → NamesOther txn event
 names_other txn said group (events.Wish of wish) apart is = other_txn txn of group apart is
 names_other txn said group (events.Deed of deed today) apart is = other_txn txn of group apart is
 names_other txn said group (events.Send role of n) apart is = other_txn txn of group apart is
@@ -133,7 +141,9 @@ names_other txn said group (events.Deliver role of n) apart is = other_txn txn o
 names_other txn said group event apart is = tt
 
 -- A fact that desks keep at each event of a group holds after all its events.
-kept_at : (P : DeskParties → Type 0) → (group : List ℕ) → ((w : DeskParties) (e : ShelfEvent) → home e ≡ group → P w → P (desks_happen w e.event).1) → (w : DeskParties) (all : List ShelfEvent) → P w
+kept_at : (P : DeskParties → Type 0) → (group : List ℕ)
+    → ((w : DeskParties) (e : ShelfEvent) → home e ≡ group → P w → P (desks_happen w e.event).1)
+    → (w : DeskParties) (all : List ShelfEvent) → P w
     → P (desks_run w (events_at group all))
 unfolding run_by
 kept_at P group keeps w [] holds = holds
@@ -148,7 +158,9 @@ abbrev pub StandWithout : Qualifiers → DeskParties → Type 0
 StandWithout txn w = DesksStand w × BothLack txn w
 
 -- The desks of a group lack each transaction of another group.
-pub lack_elsewhere : RowsGrow → EachStands → DesksStand first_desks → (txn : Qualifiers) (group : List ℕ) (all : List ShelfEvent) → (txn.group ≡ group → ⊥) → StandWithout txn (desks_run first_desks (events_at group all))
+pub lack_elsewhere : RowsGrow → EachStands → DesksStand first_desks
+    → (txn : Qualifiers) (group : List ℕ) (all : List ShelfEvent) → (txn.group ≡ group → ⊥)
+    → StandWithout txn (desks_run first_desks (events_at group all))
 lack_elsewhere grows after first txn group all apart =
     kept_at (StandWithout txn) group
     (λ w e is holds. (after w e.event holds.0, lack_at grows txn w e.event holds.0 (names_other txn e.group group e.event apart is) holds.1 (who_of (plain e.event)))) first_desks all (first, ((refl, refl), (refl, refl)))
@@ -162,12 +174,14 @@ none_held txn p lacks = go (found_by txn_held txn p.live.held) (has_found txn_he
     go None is = refl
 
 -- Two desks that lack a transaction hold no side of it.
-neither_holds : (txn : Qualifiers) (w : DeskParties) (role : Who) → BothLack txn w → found_by txn_held txn (party w role).live.held ≡ None
+neither_holds : (txn : Qualifiers) (w : DeskParties) (role : Who) → BothLack txn w
+    → found_by txn_held txn (party w role).live.held ≡ None
 neither_holds txn w who.Requester lack = none_held txn w.requester lack.0
 neither_holds txn w who.Responder lack = none_held txn w.responder lack.1
 
 -- The desks of a group hold no transaction of another group.
-pub none_elsewhere : RowsGrow → EachStands → DesksStand first_desks → (txn : Qualifiers) (group : List ℕ) (all : List ShelfEvent) (role : Who) → (txn.group ≡ group → ⊥)
+pub none_elsewhere : RowsGrow → EachStands → DesksStand first_desks
+    → (txn : Qualifiers) (group : List ℕ) (all : List ShelfEvent) (role : Who) → (txn.group ≡ group → ⊥)
     → found_by txn_held txn (party (shelves_run first_shelves all group) role).live.held ≡ None
 none_elsewhere grows after first txn group all role apart =
     neither_holds txn (shelves_run first_shelves all group) role (subst (BothLack txn) (sym (shelves_run_at first_shelves group all)) (lack_elsewhere grows after first txn group all apart).1)
@@ -175,7 +189,8 @@ none_elsewhere grows after first txn group all role apart =
 -- ---- sides of a transaction of another group
 
 -- An event of a whole desk leaves idle sides as they are.
-whole_idle : (txn : Qualifiers) (event : DeskEvent) → NamesOther txn event → concerns txn event ≡ true → (happens (first_world txn) (plain event)).1 ≡ first_world txn
+whole_idle : (txn : Qualifiers) (event : DeskEvent) → NamesOther txn event → concerns txn event ≡ true
+    → (happens (first_world txn) (plain event)).1 ≡ first_world txn
 whole_idle txn (events.Wish of wish) names is = absurd (true≢false (sym is ∙ names))
 whole_idle txn (events.Deed of deed today) names is = absurd (true≢false (sym is ∙ names))
 whole_idle txn (events.Save who.Requester) names is = refl
@@ -191,7 +206,8 @@ whole_idle txn (events.Restart who.Requester) names is = refl
 whole_idle txn (events.Restart who.Responder) names is = refl
 
 -- Idle sides stay idle at an event, if it is expected to leave them so.
-seen_idle : (own : Bool) (expected : Outcome × Parties) (old new idle : Parties) (outcome : DeskOutcome) → IsSeenAs (if_reached outcome own) expected old outcome new → (own ≡ true → expected.1 ≡ idle) → old ≡ idle
+seen_idle : (own : Bool) (expected : Outcome × Parties) (old new idle : Parties) (outcome : DeskOutcome)
+    → IsSeenAs (if_reached outcome own) expected old outcome new → (own ≡ true → expected.1 ≡ idle) → old ≡ idle
     → new ≡ idle
 seen_idle true expected old new idle (Plain outcome) seen stay is = seen.1 ∙ stay refl
 seen_idle false expected old new idle (Plain outcome) seen stay is = seen ∙ is
@@ -203,13 +219,15 @@ abbrev StandIdle : Qualifiers → DeskParties → Type 0
 StandIdle txn w = DesksStand w × (project txn w ≡ first_world txn)
 
 -- Such two desks show idle sides after an event of another transaction.
-idle_on : EachProjects → (txn : Qualifiers) (w : DeskParties) (event : DeskEvent) → NamesOther txn event → StandIdle txn w → project txn (desks_happen w event).1 ≡ first_world txn
+idle_on : EachProjects → (txn : Qualifiers) (w : DeskParties) (event : DeskEvent) → NamesOther txn event
+    → StandIdle txn w → project txn (desks_happen w event).1 ≡ first_world txn
 idle_on projects txn w event names holds =
     seen_idle (concerns txn event) (happens (project txn w) (plain event)) (project txn w) (project txn (desks_happen w event).1) (first_world txn) (desks_happen w event).0 (projects txn w event holds.0)
     (λ own. ap (λ v. (happens v (plain event)).1) holds.1 ∙ whole_idle txn event names own) holds.1
 
 -- The desks of a group show idle sides of each transaction of another group.
-pub idle_elsewhere : EachProjects → EachStands → DesksStand first_desks → (txn : Qualifiers) (group : List ℕ) (all : List ShelfEvent) → (txn.group ≡ group → ⊥)
+pub idle_elsewhere : EachProjects → EachStands → DesksStand first_desks
+    → (txn : Qualifiers) (group : List ℕ) (all : List ShelfEvent) → (txn.group ≡ group → ⊥)
     → project txn (shelves_run first_shelves all group) ≡ first_world txn
 idle_elsewhere projects after first txn group all apart =
     let shown = kept_at (StandIdle txn) group

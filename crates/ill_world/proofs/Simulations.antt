@@ -1,4 +1,4 @@
--- The trace of a run; and a simulation that goes on behind a line.
+-- The trace of a run, and a simulation that goes on after a line.
 use Rattle.std.proofs.Common.{arith, ◌≡◌, ℕ, ◌+◌, true, List, [], ◌∷◌, ◌++◌, length, Option, Some, Result, Ok, Err, refl, sym, ap, ◌∙◌, subst, append_assoc, append-nil, length-append}
 use Rattle.std.specs.Io.KnownBytes.{Consumes, Appends}
 use Rattle.std.proofs.KnownBytes.{Consumes-trans, Appends-trans}
@@ -19,24 +19,26 @@ use Rattle.ill_world.proofs.Scripts.{says_line}
 -- ---- the trace of a play
 
 module _ {W E C : Type 0} (play : Play W E C) where
+  -- The trace of no events is empty.
   pub trace_of_none : (n : ℕ) (w : W) → trace_from play n w [] ≡ []
   unfolding trace_from
   trace_of_none n w = refl
 
+  -- The trace of events is the text of the first, and then the trace of the others.
   pub trace_next : (n : ℕ) (w : W) (event : E) (events : List E) → trace_from play n w (event ∷ events) ≡ play.text n w event ++ trace_from play (n + 1) (play.next w event) events
   unfolding trace_from
   trace_next n w event events = refl
 
-  -- the trace of one event
+  -- The trace of one event is its text.
   pub trace_of_one : (n : ℕ) (w : W) (event : E) → trace_from play n w (event ∷ []) ≡ play.text n w event
   trace_of_one n w event =
       trace_next n w event [] ∙ ap (λ t. play.text n w event ++ t) (trace_of_none (n + 1) (play.next w event)) ∙ append-nil (play.text n w event)
 
--- ---- the trace of a run, which leads where its events do one after another
+-- ---- the trace of a run, one event after another
 
 module _ {W E C : Type 0} (play : Play W E C) (run : W → List E → W) (none : (w : W) → run w [] ≡ w)
     (next : (w : W) (event : E) (events : List E) → run w (event ∷ events) ≡ run (play.next w event) events) where
-  -- the trace goes on behind these events
+  -- The trace goes on after these events.
   pub trace_more : (n : ℕ) (w : W) (events more : List E) → trace_from play n w (events ++ more) ≡ trace_from play n w events ++ trace_from play (n + length events) (run w events) more
   trace_more n w [] more =
       ap (λ m. trace_from play m w more) (omega arith) ∙ ap (λ v. trace_from play (n + 0) v more) (sym (none w))
@@ -52,12 +54,13 @@ module _ {W E C : Type 0} (play : Play W E C) (run : W → List E → W) (none :
       ∙ ap (λ m. trace_from play n w (event ∷ events) ++ trace_from play m (run after events) more) count
       ∙ ap (λ v. trace_from play n w (event ∷ events) ++ trace_from play (n + length (event ∷ events)) v more) (sym (next w event events))
 
+  -- Running events and one more is running the events, and then that one.
   pub run_more : (w : W) (events : List E) (event : E) → run w (events ++ event ∷ []) ≡ play.next (run w events) event
   run_more w [] event = next w event [] ∙ none (play.next w event) ∙ ap (λ v. play.next v event) (sym (none w))
   run_more w (first ∷ events) event =
       next w first (events ++ event ∷ []) ∙ run_more (play.next w first) events event ∙ ap (λ v. play.next v event) (sym (next w first events))
 
-  -- one event more adds its text
+  -- One event more adds its text.
   pub trace_line : (n : ℕ) (w : W) (events : List E) (event : E) → trace_from play n w (events ++ event ∷ []) ≡ trace_from play n w events ++ play.text (n + length events) (run w events) event
   trace_line n w events event =
       trace_more n w events (event ∷ []) ∙ ap (λ t. trace_from play n w events ++ t) (trace_of_one play (n + length events) (run w events) event)
@@ -67,15 +70,19 @@ module _ {W E C : Type 0} (play : Play W E C) (run : W → List E → W) (none :
 
 -- ---- the trace of two sides
 
+-- Running events is running all but the first from the world after the first.
 run_of_next : (w : Parties) (event : Event) (events : List Event) → run_of w (event ∷ events) ≡ run_of (happens w event).1 events
 unfolding run_by
 run_of_next w event events = refl
 
+-- Running no events leaves the world.
 run_of_none : (w : Parties) → run_of w [] ≡ w
 unfolding run_by
 run_of_none w = refl
 
-pub sides_line : (txn : Qualifiers) (events : List Event) (event : Event) → trace_of txn (events ++ event ∷ []) ≡ trace_of txn events ++ line_behind txn events event
+-- One event more adds its line to the trace.
+pub sides_line : (txn : Qualifiers) (events : List Event) (event : Event)
+    → trace_of txn (events ++ event ∷ []) ≡ trace_of txn events ++ line_behind txn events event
 sides_line txn events event =
     let first = first_world txn in
     let after = run_of first events in
@@ -88,17 +95,20 @@ sides_line txn events event =
 pub sides_front : (txn : Qualifiers) (events more : List Event) → IsPrefix (trace_of txn events) (trace_of txn (events ++ more))
 sides_front txn events more = trace_front two_sides run_of run_of_none run_of_next 1 (first_world txn) events more
 
--- ---- events, and the rest behind them
+-- ---- events, and the rest after them
 
+-- Returns a reading with `events` before its own.
 abbrev pub with_events : {E : Type 0} → List E → Said E → Said E
 with_events events more = record { events = events ++ more.events; bad = more.bad }
 
--- What is answered of the rest of a text is answered of the whole, where the front says these events and
--- this was shown of them.
-answers_on : {E : Type 0} → (whole broken rest rest_broken : List ℕ → Said E) (trace trace_on : List E → List ℕ) (count next_count : ℕ) (front shown : List ℕ) (events : List E)
-    → ((text : List ℕ) → whole (front ++ text) ≡ with_events events (rest text)) → ((text : List ℕ) → broken (front ++ text) ≡ with_events events (rest_broken text))
+-- If `front` says `events`, and `shown` shows them, an answer that fits the rest of a text fits the whole.
+answers_on : {E : Type 0}
+    → (whole broken rest rest_broken : List ℕ → Said E) (trace trace_on : List E → List ℕ) (count next_count : ℕ) (front shown : List ℕ) (events : List E)
+    → ((text : List ℕ) → whole (front ++ text) ≡ with_events events (rest text))
+    → ((text : List ℕ) → broken (front ++ text) ≡ with_events events (rest_broken text))
     → ((more : List E) → trace (events ++ more) ≡ shown ++ trace_on more) → next_count ≡ count + length events
-    → (result : Result ℕ SimFault) (text : List ℕ) (left : Option (List ℕ)) (written : List ℕ) → Answers rest rest_broken trace_on next_count result text left written
+    → (result : Result ℕ SimFault) (text : List ℕ) (left : Option (List ℕ)) (written : List ℕ)
+    → Answers rest rest_broken trace_on next_count result text left written
     → Answers whole broken trace count result (front ++ text) left (shown ++ written)
 answers_on whole broken rest rest_broken trace trace_on count next_count front shown events says breaks shows counts (Ok total) text left written answers =
     let es = (rest text).events in
@@ -134,9 +144,10 @@ answers_on whole broken rest rest_broken trace trace_on count next_count front s
       ap (λ t. shown ++ t) told.2 ∙ sym (shows told.0),
     )
 
--- ---- a line, and the rest behind it
+-- ---- a line, and the rest after it
 
 module _ {W E C : Type 0} (play : Play W E C) where
+  -- If `front` was read, and its events were shown, performing the rest of the script performs the whole.
   plays_behind : (c kept : C) (n m : ℕ) (w next : W) (count next_count : ℕ) (front shown : List ℕ) (events : List E) (old middle new before between after : Option (List ℕ)) (result : Result ℕ SimFault)
       → ((end : C → ℕ → List ℕ → Said E) (text : List ℕ) → says_on play end c n (front ++ text) ≡ with_events events (says_on play end kept m text))
       → ((more : List E) → trace_from play (count + 1) w (events ++ more) ≡ shown ++ trace_from play (next_count + 1) next more) → next_count ≡ count + length events
@@ -174,7 +185,7 @@ module _ {W E C : Type 0} (play : Play W E C) where
       (omega (arith, done.1)) read done.2 rest
   line_first c kept n w next count next_count bytes lines.Bad old middle new before between after result is e leaves read done rest = absurd done
 
-  -- a line was performed, and then the rest of the script
+  -- If a step has performed line n, and then the rest was performed, the script was performed from line n on.
   pub goes_on : (c kept : C) (n : ℕ) (w next : W) (count next_count : ℕ) (old middle new before between after : Option (List ℕ)) (result : Result ℕ SimFault)
       → StepsLine play c n w count old middle before between (Ok true) kept next next_count → Plays play kept (n + 1) next next_count middle new between after result → Plays play c n w count old new before after result
   goes_on c kept n w next count next_count old middle new before between after result step rest =

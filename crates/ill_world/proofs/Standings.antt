@@ -1,4 +1,4 @@
--- What one record keeps.
+-- The invariant holds of the first world, and each event keeps it.
 use Rattle.std.proofs.Common.{rules, arith, ◌≡◌, replicate, ℕ, zero, suc, Bool, true, false, ◌||◌, ◌==◌, List, [], ◌∷◌, Option, Some, None, is_some, Result, Ok, Err, refl, subst, inl}
 use Rattle.std.specs.Prelude.{slice_get}
 use Rattle.std.specs.Option.{option_flatten}
@@ -41,16 +41,19 @@ use Rattle.ill_core.specs.declared.state.State.TheVariants.{Idle, CancelPending,
 use Rattle.ill_core.specs.State.{is_among, place_of}
 use Rattle.ill_core.specs.Rules.{implies}
 
--- a Cancel that waits is there
-pub cancel_is_there : (state : State) (there : Bool) → implies (is_among (CancelPending ∷ Cancelled ∷ []) state) there ≡ true → implies (is_among (CancelPending ∷ []) state) there ≡ true
+-- If a Cancel is there in CANCEL-PENDING and in CANCELLED, it is there in CANCEL-PENDING.
+pub cancel_is_there : (state : State) (there : Bool)
+    → implies (is_among (CancelPending ∷ Cancelled ∷ []) state) there ≡ true
+    → implies (is_among (CancelPending ∷ []) state) there ≡ true
 cancel_is_there state there = go (place_of CancelPending == place_of state) (place_of Cancelled == place_of state) there
   where
     go : (waits done there : Bool) → implies (waits || (done || false)) there ≡ true → implies (waits || false) there ≡ true
     go true done there rule = rule
     go false done there rule = refl
 
--- A question that waits is there.
-pub question_is_there : (y : ResponderRecord) → ResponderRules y → (question : Question) → implies (responder.waits question y.state) (is_some (responder.last_asked question y)) ≡ true
+-- If a question waits at a responder that keeps its rules, the responder was asked it.
+pub question_is_there : (y : ResponderRecord) → ResponderRules y → (question : Question)
+    → implies (responder.waits question y.state) (is_some (responder.last_asked question y)) ≡ true
 question_is_there y rules MayCancel = cancel_is_there y.state (is_some y.last_cancel) rules.parts.cancel
 question_is_there y rules MayRenew = rules.parts.renew
 
@@ -71,6 +74,7 @@ responder_shows_nothing txn (responder.CancelAsked cancel) shows = search rules
 responder_shows_nothing txn responder.Arrived shows = search rules
 responder_shows_nothing txn responder.SentBack shows = search rules
 
+-- The idle record of a requester reflects no notice.
 requester_reflects_nothing : (txn : Qualifiers) (notice : Notice) → Reflects (requester_of txn Idle None false None []) notice → ⊥
 requester_reflects_nothing txn Recalled reflects = search rules
 requester_reflects_nothing txn (Named conditions) reflects = search rules
@@ -79,27 +83,36 @@ requester_reflects_nothing txn (Answered (suc renew) day) reflects = search rule
 requester_reflects_nothing txn (GrantedBefore renew due) reflects = search rules
 requester_reflects_nothing txn (PastDue due) reflects = search rules
 
-responder_was_asked_nothing : (txn : Qualifiers) (question : Question) (number : ℕ) → WasAsked question (responder_of txn Idle None None None false None []) number → ⊥
+-- An idle responder was asked no question.
+responder_was_asked_nothing : (txn : Qualifiers) (question : Question) (number : ℕ)
+    → WasAsked question (responder_of txn Idle None None None false None []) number → ⊥
 responder_was_asked_nothing txn MayCancel number was = search rules
 responder_was_asked_nothing txn MayRenew number was = search rules
 
-responder_answered_nothing : (txn : Qualifiers) (question : Question) → HasAnsweredLast question (responder_of txn Idle None None None false None [])
+-- An idle responder has no last question that it has not answered.
+responder_answered_nothing : (txn : Qualifiers) (question : Question)
+    → HasAnsweredLast question (responder_of txn Idle None None None false None [])
 responder_answered_nothing txn MayCancel number last left = search rules
 responder_answered_nothing txn MayRenew number last left = search rules
 
+-- An empty list has no message.
 issued_nothing : (n : ℕ) (a : Apdu) → message [] n ≡ Some a → ⊥
 issued_nothing zero a at = search rules
 issued_nothing (suc n) a at = search rules
 
+-- The idle record of a requester keeps the rules of its role.
 requester_rules : (txn : Qualifiers) → RequesterRules (requester_of txn Idle None false None [])
 unfolding are_numbered
 requester_rules txn = search rules
 
+-- The idle record of a responder keeps the rules of its role.
 responder_rules : (txn : Qualifiers) → ResponderRules (responder_of txn Idle None None None false None [])
 unfolding are_numbered rise_from ships_first
 responder_rules txn = search rules
 
-requester_first : (txn : Qualifiers) (sent : List (Option Apdu)) → RequesterStands txn (requester_of txn Idle None false None []) sent
+-- The idle record of a requester stands, by any messages in `sent`.
+requester_first : (txn : Qualifiers) (sent : List (Option Apdu))
+    → RequesterStands txn (requester_of txn Idle None false None []) sent
 unfolding are_distinct
 requester_first txn sent = record {
   same_txn = refl;
@@ -110,7 +123,9 @@ requester_first txn sent = record {
   few = omega arith;
 }
 
-responder_first : (txn : Qualifiers) (sent : List (Option Apdu)) → ResponderStands txn (responder_of txn Idle None None None false None []) sent
+-- The idle record of a responder stands, by any messages in `sent`.
+responder_first : (txn : Qualifiers) (sent : List (Option Apdu))
+    → ResponderStands txn (responder_of txn Idle None None None false None []) sent
 unfolding are_distinct
 responder_first txn sent = record {
   same_txn = refl;
@@ -135,37 +150,50 @@ responder_first txn sent = record {
 
 -- ---- the rows of either role
 
+-- A wish that is done leads a requester's record that stands to one that stands.
 abbrev pub RequesterActs : Type 0
 RequesterActs = (txn : Qualifiers) (x new : RequesterRecord) (wish : Wish) (sent : List (Option Apdu)) → requester_actions.acts x wish ≡ Ok new → RequesterStands txn x sent → RequesterStands txn new sent
 
+-- If a requester's record stands, it stands after it takes a message that was sent.
 abbrev pub RequesterTakes : Type 0
 RequesterTakes = (txn : Qualifiers) (x : RequesterRecord) (a : Apdu) (sent : List (Option Apdu)) → WasSent sent a → RequesterStands txn x sent
     → RequesterStands txn (requester_deliveries.takes x a).1 sent
 
+-- A deed that is done leads a responder's record that stands to one that stands.
 abbrev pub ResponderActs : Type 0
 ResponderActs = (txn : Qualifiers) (y new : ResponderRecord) (deed : Deed) (today : Date) (sent : List (Option Apdu)) → responder_actions.acts y deed today ≡ Ok new → ResponderStands txn y sent
     → ResponderStands txn new sent
 
+-- If a responder's record stands, it stands after it takes a message that was sent.
 abbrev pub ResponderTakes : Type 0
 ResponderTakes = (txn : Qualifiers) (y : ResponderRecord) (a : Apdu) (sent : List (Option Apdu)) → WasSent sent a → ResponderStands txn y sent
     → ResponderStands txn (responder_deliveries.takes y a).1 sent
 
-done_is : {R : Type 0} (make : R → Side) (result : Result R Refusal) (new : Side) → done_by make result ≡ Ok new → (made : R) × (result ≡ Ok made) × (make made ≡ new)
+-- If `done_by make` gives a side, `result` gives a record from which `make` makes it.
+done_is : {R : Type 0} (make : R → Side) (result : Result R Refusal) (new : Side) → done_by make result ≡ Ok new
+    → (made : R) × (result ≡ Ok made) × (make made ≡ new)
 done_is make (Ok made) new e = (made, refl, search rules)
 done_is make (Err refusal) new e = search rules
 
-requester_acts : RequesterActs → (txn : Qualifiers) (old new : Side) (action : Action) (told : List (Option Apdu)) → acts old action ≡ Ok new → RequesterSideStands txn old told → RequesterSideStands txn new told
+-- By `RequesterActs`, an action that is done leads a requester's side that stands to one that stands.
+requester_acts : RequesterActs → (txn : Qualifiers) (old new : Side) (action : Action) (told : List (Option Apdu))
+    → acts old action ≡ Ok new → RequesterSideStands txn old told → RequesterSideStands txn new told
 requester_acts law txn (sides.Requester x) new (actions.Wish wish) told e stands =
     let is = done_is sides.Requester (requester_actions.acts x wish) new e in
     subst (λ side. RequesterSideStands txn side told) is.2 (law txn x is.0 wish told is.1 stands)
 requester_acts law txn (sides.Requester x) new (actions.Deed deed today) told e stands = search rules
 requester_acts law txn (sides.Responder y) new action told e stands = absurd stands
 
-requester_takes : RequesterTakes → (txn : Qualifiers) (old : Side) (a : Apdu) (told : List (Option Apdu)) → WasSent told a → RequesterSideStands txn old told → RequesterSideStands txn (takes old a).1 told
+-- By `RequesterTakes`, a requester's side that stands does so after it takes a message from `told`.
+requester_takes : RequesterTakes → (txn : Qualifiers) (old : Side) (a : Apdu) (told : List (Option Apdu))
+    → WasSent told a → RequesterSideStands txn old told → RequesterSideStands txn (takes old a).1 told
 requester_takes law txn (sides.Requester x) a told was stands = law txn x a told was stands
 requester_takes law txn (sides.Responder y) a told was stands = absurd stands
 
-requester_more : (txn : Qualifiers) (side : Side) (told more : List (Option Apdu)) → ((a : Apdu) → WasSent told a → WasSent more a) → RequesterSideStands txn side told → RequesterSideStands txn side more
+-- A requester's side that stands by `told` stands by `more`, if each message of `told` is in `more`.
+requester_more : (txn : Qualifiers) (side : Side) (told more : List (Option Apdu))
+    → ((a : Apdu) → WasSent told a → WasSent more a) → RequesterSideStands txn side told
+    → RequesterSideStands txn side more
 requester_more txn (sides.Requester x) told more stays stands = record {
   same_txn = stands.same_txn;
   rules = stands.rules;
@@ -176,18 +204,25 @@ requester_more txn (sides.Requester x) told more stays stands = record {
 }
 requester_more txn (sides.Responder y) told more stays stands = absurd stands
 
-responder_acts : ResponderActs → (txn : Qualifiers) (old new : Side) (action : Action) (told : List (Option Apdu)) → acts old action ≡ Ok new → ResponderSideStands txn old told → ResponderSideStands txn new told
+-- By `ResponderActs`, an action that is done leads a responder's side that stands to one that stands.
+responder_acts : ResponderActs → (txn : Qualifiers) (old new : Side) (action : Action) (told : List (Option Apdu))
+    → acts old action ≡ Ok new → ResponderSideStands txn old told → ResponderSideStands txn new told
 responder_acts law txn (sides.Responder y) new (actions.Deed deed today) told e stands =
     let is = done_is sides.Responder (responder_actions.acts y deed today) new e in
     subst (λ side. ResponderSideStands txn side told) is.2 (law txn y is.0 deed today told is.1 stands)
 responder_acts law txn (sides.Responder y) new (actions.Wish wish) told e stands = search rules
 responder_acts law txn (sides.Requester x) new action told e stands = absurd stands
 
-responder_takes : ResponderTakes → (txn : Qualifiers) (old : Side) (a : Apdu) (told : List (Option Apdu)) → WasSent told a → ResponderSideStands txn old told → ResponderSideStands txn (takes old a).1 told
+-- By `ResponderTakes`, a responder's side that stands does so after it takes a message from `told`.
+responder_takes : ResponderTakes → (txn : Qualifiers) (old : Side) (a : Apdu) (told : List (Option Apdu))
+    → WasSent told a → ResponderSideStands txn old told → ResponderSideStands txn (takes old a).1 told
 responder_takes law txn (sides.Responder y) a told was stands = law txn y a told was stands
 responder_takes law txn (sides.Requester x) a told was stands = absurd stands
 
-responder_more : (txn : Qualifiers) (side : Side) (told more : List (Option Apdu)) → ((a : Apdu) → WasSent told a → WasSent more a) → ResponderSideStands txn side told → ResponderSideStands txn side more
+-- A responder's side that stands by `told` stands by `more`, if each message of `told` is in `more`.
+responder_more : (txn : Qualifiers) (side : Side) (told more : List (Option Apdu))
+    → ((a : Apdu) → WasSent told a → WasSent more a) → ResponderSideStands txn side told
+    → ResponderSideStands txn side more
 responder_more txn (sides.Responder y) told more stays stands = record {
   same_txn = stands.same_txn;
   rules = stands.rules;
@@ -206,24 +241,30 @@ responder_more txn (sides.Responder y) told more stays stands = record {
 }
 responder_more txn (sides.Requester x) told more stays stands = absurd stands
 
+-- If `RequesterActs` and `RequesterTakes` hold, rows and further messages keep `RequesterSideStands`.
 pub requester_keeps : RequesterActs → RequesterTakes → (txn : Qualifiers) → Keeps (RequesterSideStands txn)
 requester_keeps acted took txn = record { acts = requester_acts acted txn; more = requester_more txn; takes = requester_takes took txn }
 
+-- If `ResponderActs` and `ResponderTakes` hold, rows and further messages keep `ResponderSideStands`.
 pub responder_keeps : ResponderActs → ResponderTakes → (txn : Qualifiers) → Keeps (ResponderSideStands txn)
 responder_keeps acted took txn = record { acts = responder_acts acted txn; more = responder_more txn; takes = responder_takes took txn }
 
 -- ---- a world
 
+-- A list of empty places has no message.
 none_there : (size i : ℕ) (a : Apdu) → option_flatten (slice_get (replicate size None) i) ≡ Some a → ⊥
 none_there zero i a e = search rules
 none_there (suc size) zero a e = search rules
 none_there (suc size) (suc i) a e = none_there size i a e
 
+-- A party that has sent nothing has not sent message n.
 pub none_sent : (n : ℕ) (a : Apdu) → sent_message (replicate 255 None) n ≡ Some a → ⊥
 none_sent zero a e = search rules
 none_sent (suc n) a e = none_there 255 n a e
 
-first_stands : (K : Side → List (Option Apdu) → Type 0) (idle : Side) (told : List (Option Apdu)) → K idle told → PartyStands K (first_party idle) told
+-- A first party stands, if `K` holds of its idle side with the messages in `told`.
+first_stands : (K : Side → List (Option Apdu) → Type 0) (idle : Side) (told : List (Option Apdu)) → K idle told
+    → PartyStands K (first_party idle) told
 first_stands K idle told stands = record {
   saved = record {
     landed = λ n a e. absurd (none_sent n a e);

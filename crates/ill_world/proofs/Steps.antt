@@ -15,16 +15,18 @@ use Rattle.ill_world.specs.Simulating.{IsLine, ReadsLine, PerformsLine, StepsLin
 use Rattle.ill_world.proofs.Scripts.{within, line_within, says_line, says_rest, ends_line, breaks_nothing, says_too_long, says_too_many, only_bad}
 use Rattle.ill_world.proofs.Simulations.{trace_of_none, trace_next, trace_of_one}
 
+-- If a reader is at the end and has `more` left, `more` is empty.
 nothing_left : (left : Option (List ℕ)) (more : List ℕ) → IsAtEnd left → left ≡ Some more → more ≡ []
 nothing_left left more at_end e = subst IsAtEnd e at_end
 
 module _ {W E C : Type 0} (play : Play W E C) where
-  -- ---- what was read says
+  -- ---- the text that was read
 
-  -- What was read, with whatever follows, begins with this line.
+  -- The text, with whatever bytes the reader has left, has `bytes` as line n, and then a rest.
   abbrev pub Begins : C → ℕ → List ℕ → List ℕ → Option (List ℕ) → Type 0
   Begins c n bytes text left = (more : List ℕ) → left ≡ Some more → (rest : Said E) × (says_on play (ends play) c n (text ++ more) ≡ then_says (line_at play c n bytes).0 n rest)
 
+  -- A text of `bytes` and an LF has `bytes` as line n.
   pub begins_closed : (c : C) (n : ℕ) (bytes : List ℕ) (left : Option (List ℕ)) → IsLine bytes → Begins c n bytes (bytes ++ 10 ∷ []) left
   begins_closed c n bytes left is =
       λ more e. (
@@ -32,6 +34,7 @@ module _ {W E C : Type 0} (play : Play W E C) where
         ap (says_on play (ends play) c n) (append_assoc bytes (10 ∷ []) more) ∙ says_line play (ends play) c n bytes more is.0,
       )
 
+  -- A text of `bytes` at the end of the reader has `bytes` as line n, if there are any.
   pub begins_last : (c : C) (n : ℕ) (bytes : List ℕ) (left : Option (List ℕ)) → IsLine bytes → 1 ≤ length bytes → IsAtEnd left → Begins c n bytes bytes left
   begins_last c n bytes left is some at_end =
       λ more e.
@@ -40,14 +43,15 @@ module _ {W E C : Type 0} (play : Play W E C) where
 
   -- ---- a line that failed
 
-  -- what is answered and written of the rest of a script
+  -- The result and `trace` fit the rest of a script, from line n on.
   abbrev pub AnswersFrom : C → ℕ → W → ℕ → Result ℕ SimFault → List ℕ → Option (List ℕ) → List ℕ → Type 0
   AnswersFrom c n w count result text left trace = Answers (says_on play (ends play) c n) (says_on play breaks_off c n) (trace_from play (count + 1) w) count result text left trace
 
-  -- What was written of the line and what it means, of the rest of the script.
+  -- A trace was written, from `before` to `after`, that fits the rest of a script that ends with `fault`.
   abbrev pub Fails : C → ℕ → W → ℕ → SimFault → List ℕ → Option (List ℕ) → Option (List ℕ) → Option (List ℕ) → Type 0
   Fails c n w count fault text left before after = (trace : List ℕ) × Appends before after trace × AnswersFrom c n w count (Err fault) text left trace
 
+  -- Nothing written fits the rest of a script that ends for want of memory.
   no_memory : (c : C) (n : ℕ) (w : W) (count : ℕ) (text : List ℕ) (left before after : Option (List ℕ)) → Appends before after [] → Fails c n w count OutOfMemory text left before after
   no_memory c n w count text left before after nothing = ([], nothing, λ more e. ([], ((says_on play (ends play) c n (text ++ more)).events, refl), sym (trace_of_none play (count + 1) w)))
 
@@ -89,7 +93,7 @@ module _ {W E C : Type 0} (play : Play W E C) where
   line_fails c n w next count next_count bytes text left before after lines.Skipped Read is begins fails = absurd fails
   line_fails c n w next count next_count bytes text left before after lines.Skipped Write is begins fails = absurd fails
 
-  -- what a line says is what the play makes of it, within the limits
+  -- If a line within the limits was performed by its meaning, it was performed as line n.
   pub performs_at : (c : C) (n : ℕ) (w next : W) (count next_count : ℕ) (bytes : List ℕ) (before after : Option (List ℕ)) (result : Result (Unit {0}) SimFault) → n ≤ 100000 → IsLine bytes
       → PerformsLine play (play.says c bytes).0 n w count before after result next next_count → PerformsLine play (line_at play c n bytes).0 n w count before after result next next_count
   performs_at c n w next count next_count bytes before after result few is performs =
@@ -97,12 +101,13 @@ module _ {W E C : Type 0} (play : Play W E C) where
 
   -- ---- the answers of a step
 
+  -- If the rest of a script ends with a fault, so does a step of the simulation.
   pub passes_on : (c kept : C) (n : ℕ) (w next : W) (count next_count : ℕ) (old new before after : Option (List ℕ)) (result : Result Bool SimFault) (fault : SimFault)
       → IsErrAnd result (λ f. f ≡ fault) → Plays play c n w count old new before after (Err fault) → StepsLine play c n w count old new before after result kept next next_count
   passes_on c kept n w next count next_count old new before after (Ok more) fault is plays = absurd is
   passes_on c kept n w next count next_count old new before after (Err f) fault is plays = subst (λ f. Plays play c n w count old new before after (Err f)) (sym is) plays
 
-  -- the next line could not be read
+  -- If line n cannot be read for a fault, the rest of the script ends with this fault.
   pub not_read : (c : C) (n : ℕ) (w : W) (count : ℕ) (old new before : Option (List ℕ)) (bytes : List ℕ) (fault : SimFault) → n ≤ 100000 → ReadsLine old new bytes (Err fault)
       → Plays play c n w count old new before before (Err fault)
   not_read c n w count old new before bytes Read few read =
@@ -114,7 +119,7 @@ module _ {W E C : Type 0} (play : Play W E C) where
   not_read c n w count old new before bytes (Script m) few read = absurd read
   not_read c n w count old new before bytes Write few read = absurd read
 
-  -- a line failed that was read whole
+  -- If a line was read whole, and performing it ends with a fault, the script ends with it.
   pub line_stops : (c : C) (n : ℕ) (w next : W) (count next_count : ℕ) (old new before after : Option (List ℕ)) (bytes text : List ℕ) (fault : SimFault) → n ≤ 100000 → IsLine bytes
       → Consumes old new text → Begins c n bytes text new → PerformsLine play (play.says c bytes).0 n w count before after (Err fault) next next_count → Plays play c n w count old new before after (Err fault)
   line_stops c n w next count next_count old new before after bytes text fault few is read begins fails =
@@ -122,7 +127,7 @@ module _ {W E C : Type 0} (play : Play W E C) where
       line_fails c n w next count next_count bytes text new before after (line_at play c n bytes).0 fault refl begins (performs_at c n w next count next_count bytes before after (Err fault) few is fails) in
       (text, told.0, read, told.1, told.2)
 
-  -- nothing follows the last LF
+  -- If nothing follows the last LF, the rest of the script ends well, with no more events.
   pub nothing_follows : (c : C) (n : ℕ) (w : W) (count : ℕ) (old new before : Option (List ℕ)) (bytes : List ℕ) → length bytes ≡ 0 → Consumes old new bytes → IsAtEnd new
       → Plays play c n w count old new before before (Ok count)
   unfolding says_from
@@ -159,13 +164,14 @@ module _ {W E C : Type 0} (play : Play W E C) where
   )
   last_performed c n w next count next_count old new before after bytes lines.Bad read at_end said done = absurd done
 
+  -- If the last bytes are a line within the limits, and were performed, the rest of the script ends well.
   pub ended_with_line : (c : C) (n : ℕ) (w next : W) (count next_count : ℕ) (old new before after : Option (List ℕ)) (bytes : List ℕ) → n ≤ 100000 → IsLine bytes → 1 ≤ length bytes
       → Consumes old new bytes → IsAtEnd new → PerformsLine play (play.says c bytes).0 n w count before after (Ok tt) next next_count → Plays play c n w count old new before after (Ok next_count)
   ended_with_line c n w next count next_count old new before after bytes few is some read at_end done =
       last_performed c n w next count next_count old new before after bytes (line_at play c n bytes).0 read at_end (says_rest play (ends play) c n bytes is.0 ∙ ends_line play c n bytes some)
       (performs_at c n w next count next_count bytes before after (Ok tt) few is done)
 
-  -- a line had too many bytes
+  -- If line n is too long, the rest of the script ends with line n as a bad one.
   pub too_long_stops : (c : C) (n : ℕ) (w : W) (count : ℕ) (old new before : Option (List ℕ)) (bytes : List ℕ) → ReadsLine old new bytes (Ok found.TooLong)
       → Plays play c n w count old new before before (Err (Script n))
   too_long_stops c n w count old new before bytes read = (
@@ -180,10 +186,12 @@ module _ {W E C : Type 0} (play : Play W E C) where
 
   -- ---- the end
 
+  -- If bytes follow line 100,000, line 100,001 is bad.
   too_many_follow : (c : C) (text : List ℕ) → 1 ≤ length text → says_on play (ends play) c 100001 text ≡ only_bad 100001
   too_many_follow c [] some = absurd (omega (arith, some))
   too_many_follow c (byte ∷ text) some = says_too_many play c 100001 byte text (omega arith)
 
+  -- After line 100,000 the rest of the script ends as the look for its end.
   end_found : (c : C) (w : W) (count : ℕ) (old new before : Option (List ℕ)) (result : Result ℕ SimFault) → FindsEnd count old new result → Plays play c 100001 w count old new before before result
   unfolding says_from
   end_found c w count old new before (Ok total) finds = ([], [], finds.1, Appends-nil before, (finds.2, refl, sym (trace_of_none play (count + 1) w), omega (arith, finds.0)))
@@ -200,37 +208,44 @@ module _ {W E C : Type 0} (play : Play W E C) where
   end_found c w count old new before (Err Write) finds = absurd finds
   end_found c w count old new before (Err OutOfMemory) finds = absurd finds
 
-  -- the end was looked for behind as many lines as there may be
+  -- If line n is line 100,001, the rest of the script ends as the look for its end.
   pub finds_end : (c : C) (n : ℕ) (w : W) (count : ℕ) (old new before : Option (List ℕ)) (result : Result ℕ SimFault) → n ≡ 100001 → FindsEnd count old new result
       → Plays play c n w count old new before before result
   finds_end c n w count old new before result all finds = subst (λ m. Plays play c m w count old new before before result) (sym all) (end_found c w count old new before result finds)
 
-  -- memory ran out before the first line
+  -- If memory runs out before line 1, the script ends for want of memory, with nothing read or written.
   pub not_begun : (c : C) (w : W) (old before : Option (List ℕ)) (result : Result ℕ SimFault) → IsErrAnd result (λ f. f ≡ OutOfMemory) → Plays play c 1 w 0 old old before before result
   not_begun c w old before (Ok count) failed = absurd failed
   not_begun c w old before (Err fault) failed =
       let fails = no_memory c 1 w 0 [] old before before (Appends-nil before) in
       subst (λ f. Plays play c 1 w 0 old old before before (Err f)) (sym failed) ([], fails.0, Consumes-nil old, fails.1, fails.2)
 
--- ---- what was read ahead
+-- ---- bytes that were read ahead
 
-read_of_all : (text ahead rest : List ℕ) (P : List ℕ → Type 0) → OfAll text (Some (ahead ++ rest)) P → OfAll (text ++ ahead) (Some rest) P
+-- If `P` holds of `text` and all bytes that are left, it does so with those ahead counted as read.
+read_of_all : (text ahead rest : List ℕ) (P : List ℕ → Type 0) → OfAll text (Some (ahead ++ rest)) P
+    → OfAll (text ++ ahead) (Some rest) P
 read_of_all text ahead rest P of_all = λ more e. subst P (sym (append_assoc text ahead more)) (of_all (ahead ++ more) (ap (λ left. prepend_known ahead left) e))
 
+-- If two lists joined are empty, both are empty.
 none_ahead : (ahead rest : List ℕ) → ahead ++ rest ≡ [] → (ahead ≡ []) × (rest ≡ [])
 none_ahead [] rest none = (refl, none)
 none_ahead (byte ∷ ahead) rest none = search rules
 
-consumes_ahead : (old : Option (List ℕ)) (text ahead rest : List ℕ) → Consumes (prepend_known [] old) (Some (ahead ++ rest)) text → Consumes old (Some rest) (text ++ ahead)
+-- If a reader consumes `text` and leaves `ahead` and `rest`, it consumes `text` and `ahead` and leaves `rest`.
+consumes_ahead : (old : Option (List ℕ)) (text ahead rest : List ℕ)
+    → Consumes (prepend_known [] old) (Some (ahead ++ rest)) text → Consumes old (Some rest) (text ++ ahead)
 consumes_ahead None text ahead rest read = tt
 consumes_ahead (Some bytes) text ahead rest read = read ∙ sym (append_assoc text ahead rest)
 
 module _ {E : Type 0} (whole broken : List ℕ → Said E) (trace_of : List E → List ℕ) (before : ℕ) where
+  -- If nothing is ahead, an answer that fits `text` fits `text` with the bytes ahead.
   read_whole : (text ahead rest trace : List ℕ) (result : Result ℕ SimFault) → ahead ≡ [] → Answers whole broken trace_of before result text (Some rest) trace
       → Answers whole broken trace_of before result (text ++ ahead) (Some rest) trace
   read_whole text ahead rest trace result none answers =
       subst (λ t. Answers whole broken trace_of before result t (Some rest) trace) (sym (ap (λ l. text ++ l) none ∙ append-nil text)) answers
 
+  -- An answer that fits with bytes left ahead fits with these counted as read. A failed reader has left none.
   answers_of_all : (text ahead rest trace : List ℕ) (result : Result ℕ SimFault) → IsUsedUp ahead result → Answers whole broken trace_of before result text (Some (ahead ++ rest)) trace
       → Answers whole broken trace_of before result (text ++ ahead) (Some rest) trace
   answers_of_all text ahead rest trace (Ok count) used answers =
@@ -242,6 +257,7 @@ module _ {E : Type 0} (whole broken : List ℕ → Said E) (trace_of : List E �
       read_of_all text ahead rest (λ t. (events : List E) × IsPrefix events (whole t).events × (trace ≡ trace_of events)) answers
 
 module _ {W E C : Type 0} (play : Play W E C) where
+  -- If a script was performed with bytes left ahead, it was performed with these counted as read.
   all_read : (c : C) (n : ℕ) (w : W) (count : ℕ) (ahead : List ℕ) (old new before after : Option (List ℕ)) (result : Result ℕ SimFault) → IsUsedUp ahead result
       → Plays play c n w count (prepend_known [] old) (prepend_known ahead new) before after result → Plays play c n w count old new before after result
   all_read c n w count ahead None None before after result used plays = plays
@@ -251,7 +267,7 @@ module _ {W E C : Type 0} (play : Play W E C) where
       let trace = plays.1 in
       (text ++ ahead, trace, consumes_ahead old text ahead rest plays.2, plays.3, answers_of_all (says_on play (ends play) c n) (says_on play breaks_off c n) (trace_from play (count + 1) w) count text ahead rest trace result used plays.4)
 
-  -- Nothing was ahead, and what is ahead now was read too.
+  -- If nothing was ahead at first, a script was performed on the reader, the bytes ahead counted as read.
   pub counts_as_read : (c : C) (n : ℕ) (w : W) (count : ℕ) (first ahead : List ℕ) (old new before after : Option (List ℕ)) (result : Result ℕ SimFault) → first ≡ [] → IsUsedUp ahead result
       → Plays play c n w count (prepend_known first old) (prepend_known ahead new) before after result → Plays play c n w count old new before after result
   counts_as_read c n w count first ahead old new before after result none used plays =

@@ -7,13 +7,15 @@ use Rattle.ill_world.specs.Simulating.{has_lf, lf_place, TakesPart}
 
 -- ---- the first LF
 
--- Where the first LF stands, if there is one, of bytes from this place on, and what stands behind it.
+-- `bytes` have their first LF at this place, counted from `from`, and the rest follows it. Or they have no LF.
 abbrev FirstLf : List ℕ → List ℕ → ℕ → Option ℕ → Type 0
 FirstLf bytes rest from None = has_lf bytes ≡ false
 FirstLf bytes rest from (Some at) =
     (k : ℕ) × (at ≡ from + k) × (k < length bytes) × (has_lf (take k bytes) ≡ false) × (bytes ++ rest ≡ take k bytes ++ 10 ∷ drop (suc k) (bytes ++ rest))
 
-lf_stands : (bytes rest : List ℕ) (from : ℕ) (place : Option ℕ) → position_from (λ b. b == 10) from bytes ≡ place → FirstLf bytes rest from place
+-- `FirstLf` holds of the place that `position_from` finds.
+lf_stands : (bytes rest : List ℕ) (from : ℕ) (place : Option ℕ) → position_from (λ b. b == 10) from bytes ≡ place
+    → FirstLf bytes rest from place
 lf_stands [] rest from None is = refl
 lf_stands [] rest from (Some at) is = search rules
 lf_stands (byte ∷ bytes) rest from place is = go (byte == 10) place refl is (lf_stands bytes rest (from + 1))
@@ -34,7 +36,9 @@ lf_stands (byte ∷ bytes) rest from place is = go (byte == 10) place refl is (l
           ap (λ l. byte ∷ l) stands.4,
         )
 
-first_lf : (bytes rest : List ℕ) (at : ℕ) → lf_place bytes ≡ Some at → (at < length bytes) × (has_lf (take at bytes) ≡ false) × (bytes ++ rest ≡ take at bytes ++ 10 ∷ drop (at + 1) (bytes ++ rest))
+-- The place of the first LF is within `bytes`, no LF stands before it, and the rest follows it.
+first_lf : (bytes rest : List ℕ) (at : ℕ) → lf_place bytes ≡ Some at
+    → (at < length bytes) × (has_lf (take at bytes) ≡ false) × (bytes ++ rest ≡ take at bytes ++ 10 ∷ drop (at + 1) (bytes ++ rest))
 first_lf bytes rest at is =
     let stands = lf_stands bytes rest 0 (Some at) is in
     let k = stands.0 in
@@ -42,6 +46,7 @@ first_lf bytes rest at is =
     subst (λ (n : ℕ). (n < length bytes) × (has_lf (take n bytes) ≡ false) × (bytes ++ rest ≡ take n bytes ++ 10 ∷ drop (n + 1) (bytes ++ rest))) same
     (stands.2, stands.3, subst (λ (n : ℕ). bytes ++ rest ≡ take k bytes ++ 10 ∷ drop n (bytes ++ rest)) (sym (add-one k)) stands.4)
 
+-- If there is no place of an LF, `bytes` have no LF.
 no_lf : (bytes : List ℕ) → lf_place bytes ≡ None → has_lf bytes ≡ false
 no_lf bytes is = lf_stands bytes [] 0 None is
 
@@ -59,17 +64,20 @@ takes_line before ahead front line most at few within is line_is ahead_is =
     let size : length (front ++ bytes) ≤ 1024 = omega (arith, length-append front bytes, length-take at part, length-take most before, first.0, few, within) in
     (bytes, parts ∙ ap (λ l. bytes ++ 10 ∷ l) (sym ahead_is), first.1, line_is, subst (λ l. length l ≤ 1024) (sym line_is) size)
 
--- more bytes than a line may have
-pub takes_too_long : (before ahead front line : List ℕ) (most : ℕ) → length front ≤ 1024 → most ≡ min (length before) (1024 - length front + 1) → 1024 - length front < most
+-- If no LF is within the limit, and more bytes are ahead, the line is too long.
+pub takes_too_long : (before ahead front line : List ℕ) (most : ℕ) → length front ≤ 1024
+    → most ≡ min (length before) (1024 - length front + 1) → 1024 - length front < most
     → lf_place (take most before) ≡ None → ahead ≡ drop most before → TakesPart before ahead front line (Ok (Some found.TooLong))
 takes_too_long before ahead front line most few most_is long is ahead_is =
     let bytes = take most before in
     let size : length (front ++ bytes) ≡ 1025 = omega (arith, length-append front bytes, length-take most before, few, most_is, long) in
     (bytes, sym (take-append-drop most before) ∙ ap (λ l. bytes ++ l) (sym ahead_is), no_lf bytes is, size)
 
--- all, of a line that goes on
-pub takes_all : (before ahead front line : List ℕ) (most : ℕ) → length front ≤ 1024 → most ≡ min (length before) (1024 - length front + 1) → most ≤ 1024 - length front
-    → lf_place (take most before) ≡ None → line ≡ front ++ take most before → ahead ≡ drop most before → TakesPart before ahead front line (Ok None)
+-- If the bytes ahead are within the limit, and have no LF, all of them join the line.
+pub takes_all : (before ahead front line : List ℕ) (most : ℕ) → length front ≤ 1024
+    → most ≡ min (length before) (1024 - length front + 1) → most ≤ 1024 - length front
+    → lf_place (take most before) ≡ None → line ≡ front ++ take most before → ahead ≡ drop most before
+    → TakesPart before ahead front line (Ok None)
 takes_all before ahead front line most few most_is short is line_is ahead_is =
     let all : length before ≤ most = omega (arith, most_is, short) in
     let same : take most before ≡ before = take_all most before all in
@@ -79,14 +87,16 @@ takes_all before ahead front line most few most_is short is line_is ahead_is =
 
 -- ---- the lines of a text
 
+-- If `a || b` is false, so are a and b.
 neither : (a b : Bool) → (a || b) ≡ false → (a ≡ false) × (b ≡ false)
 neither false b none = (refl, none)
 neither true b none = search rules
 
+-- If a list has no LF, neither its first byte nor the rest has one.
 no_lf_first : (byte : ℕ) (bytes : List ℕ) → has_lf (byte ∷ bytes) ≡ false → ((byte == 10) ≡ false) × (has_lf bytes ≡ false)
 no_lf_first byte bytes none = neither (byte == 10) (has_lf bytes) none
 
--- a line stands before what its LF closes
+-- Bytes without LF, before an LF, are the first line, and the lines of the rest follow.
 pub line_first : (bytes rest : List ℕ) → has_lf bytes ≡ false → lines_in (bytes ++ 10 ∷ rest) ≡ bytes ∷ lines_in rest
 line_first [] rest none = refl
 line_first (byte ∷ bytes) rest none =
@@ -94,14 +104,14 @@ line_first (byte ∷ bytes) rest none =
     ap (λ (b : Bool). cond b ([] ∷ lines_in (bytes ++ 10 ∷ rest)) (onto_first byte (lines_in (bytes ++ 10 ∷ rest)))) first.0
     ∙ ap (onto_first byte) (line_first bytes rest first.1)
 
--- bytes without LF are one line
+-- Bytes without LF are one line.
 pub line_alone : (bytes : List ℕ) → has_lf bytes ≡ false → lines_in bytes ≡ bytes ∷ []
 line_alone [] none = refl
 line_alone (byte ∷ bytes) none =
     let first = no_lf_first byte bytes none in
     ap (λ (b : Bool). cond b ([] ∷ lines_in bytes) (onto_first byte (lines_in bytes))) first.0 ∙ ap (onto_first byte) (line_alone bytes first.1)
 
--- a text has at least one line, which may be empty
+-- A text has at least one line, which may be empty.
 pub some_line : (text : List ℕ) → (first : List ℕ) × (more : List (List ℕ)) × (lines_in text ≡ first ∷ more)
 some_line [] = ([], [], refl)
 some_line (byte ∷ text) = begun byte (byte == 10) (lines_in text) (some_line text)
@@ -111,8 +121,9 @@ some_line (byte ∷ text) = begun byte (byte == 10) (lines_in text) (some_line t
     begun byte true parts some = ([], parts, refl)
     begun byte false parts some = (byte ∷ some.0, some.1, ap (onto_first byte) some.2)
 
--- bytes without LF stand at the front of the first line
-pub line_begins : (bytes rest first : List ℕ) (more : List (List ℕ)) → has_lf bytes ≡ false → lines_in rest ≡ first ∷ more → lines_in (bytes ++ rest) ≡ (bytes ++ first) ∷ more
+-- Bytes without LF before a text begin its first line.
+pub line_begins : (bytes rest first : List ℕ) (more : List (List ℕ)) → has_lf bytes ≡ false
+    → lines_in rest ≡ first ∷ more → lines_in (bytes ++ rest) ≡ (bytes ++ first) ∷ more
 line_begins [] rest first more none e = e
 line_begins (byte ∷ bytes) rest first more none e =
     let neither = no_lf_first byte bytes none in

@@ -1,4 +1,4 @@
--- What stands once in a list of APDUs.
+-- The facts that hold of one APDU of a list at most.
 use Rattle.std.proofs.Common.{rules, arith, ◌≡◌, ℕ, zero, suc, ◌+◌, ◌≤◌, Bool, true, false, not, ◌||◌, ◌==◌, cond, List, [], ◌∷◌, Option, Some, None, if◌then◌else◌, refl, sym, ap, ◌∙◌, subst}
 use Rattle.std.specs.Prelude.{slice_get}
 use Rattle.std.specs.List.{list_any, filter_map, cons_option, last_or, count_by}
@@ -14,8 +14,10 @@ use Rattle.ill_world.specs.Agreement.{AnswersOnce}
 
 -- ---- numbers
 
--- the n-th APDU is of the transaction and has its number
-pub at_number : (txn : Qualifiers) (first : ℕ) (apdus : List Apdu) (i : ℕ) (a : Apdu) → are_numbered txn first apdus ≡ true → slice_get apdus i ≡ Some a → (is_same_txn a.txn txn ≡ true) × (a.number ≡ first + i)
+-- In a numbered list, the APDU at place i is of `txn`, and has the number `first + i`.
+pub at_number : (txn : Qualifiers) (first : ℕ) (apdus : List Apdu) (i : ℕ) (a : Apdu)
+    → are_numbered txn first apdus ≡ true → slice_get apdus i ≡ Some a
+    → (is_same_txn a.txn txn ≡ true) × (a.number ≡ first + i)
 unfolding are_numbered
 at_number txn first [] i a numbered e = search rules
 at_number txn first (b ∷ apdus) zero a numbered e =
@@ -26,34 +28,44 @@ at_number txn first (b ∷ apdus) (suc i) a numbered e =
     let rest : (is_same_txn a.txn txn ≡ true) × (a.number ≡ first + 1 + i) = at_number txn (first + 1) apdus i a (and_parts _ _ numbered).1 e in
     (rest.0, omega (arith, rest.1))
 
-pub message_number : (txn : Qualifiers) (apdus : List Apdu) (n : ℕ) (a : Apdu) → are_numbered txn 1 apdus ≡ true → message apdus n ≡ Some a → (is_same_txn a.txn txn ≡ true) × (a.number ≡ n)
+-- In a numbered list, message n is of `txn`, and has the number n.
+pub message_number : (txn : Qualifiers) (apdus : List Apdu) (n : ℕ) (a : Apdu) → are_numbered txn 1 apdus ≡ true
+    → message apdus n ≡ Some a → (is_same_txn a.txn txn ≡ true) × (a.number ≡ n)
 message_number txn apdus zero a numbered e = search rules
 message_number txn apdus (suc i) a numbered e = let at = at_number txn 1 apdus i a numbered e in (at.0, omega (arith, at.1))
 
 -- ---- answers
 
-found_tail : (o : Option ℕ) (ks : List ℕ) (k : ℕ) → list_any (λ m. m == k) ks ≡ true → list_any (λ m. m == k) (cons_option o ks) ≡ true
+-- A number that is in a list is in it with one more option before it.
+found_tail : (o : Option ℕ) (ks : List ℕ) (k : ℕ) → list_any (λ m. m == k) ks ≡ true
+    → list_any (λ m. m == k) (cons_option o ks) ≡ true
 found_tail None ks k is = is
 found_tail (Some m) ks k is = or_right (m == k) _ is
 
+-- A number that an option has is in the list with this option before it.
 found_head : (o : Option ℕ) (ks : List ℕ) (k : ℕ) → o ≡ Some k → list_any (λ m. m == k) (cons_option o ks) ≡ true
 found_head o ks k is = subst (λ x. list_any (λ m. m == k) (cons_option x ks) ≡ true) (sym is) (ap (λ (r : Bool). r || list_any (λ m. m == k) ks) (eq-eqb k k refl))
 
+-- Two options that are equal have equal APDUs.
 pub same_apdu : (a b : Apdu) → ◌≡◌ {A = Option Apdu} (Some a) (Some b) → a ≡ b
 same_apdu a b e = search rules
 
--- what f finds in an APDU is among all that it finds
-pub found_among : (f : Apdu → Option ℕ) (apdus : List Apdu) (i : ℕ) (a : Apdu) (k : ℕ) → slice_get apdus i ≡ Some a → f a ≡ Some k → list_any (λ m. m == k) (filter_map f apdus) ≡ true
+-- A number that `f` finds in an APDU of the list is one of all that it finds.
+pub found_among : (f : Apdu → Option ℕ) (apdus : List Apdu) (i : ℕ) (a : Apdu) (k : ℕ) → slice_get apdus i ≡ Some a
+    → f a ≡ Some k → list_any (λ m. m == k) (filter_map f apdus) ≡ true
 found_among f [] i a k e is = search rules
 found_among f (b ∷ apdus) zero a k e is = found_head (f b) (filter_map f apdus) k (ap f (same_apdu b a e) ∙ is)
 found_among f (b ∷ apdus) (suc i) a k e is = found_tail (f b) (filter_map f apdus) k (found_among f apdus i a k e is)
 
+-- If a list with an option before it is distinct, so is the list.
 rest_distinct : (o : Option ℕ) (ks : List ℕ) → are_distinct (cons_option o ks) ≡ true → are_distinct ks ≡ true
 unfolding are_distinct
 rest_distinct None ks distinct = distinct
 rest_distinct (Some m) ks distinct = (and_parts _ _ distinct).1
 
-not_twice : (o : Option ℕ) (ks : List ℕ) (k : ℕ) → o ≡ Some k → are_distinct (cons_option o ks) ≡ true → list_any (λ m. m == k) ks ≡ true → ⊥
+-- If a list with k before it is distinct, k is not in the list.
+not_twice : (o : Option ℕ) (ks : List ℕ) (k : ℕ) → o ≡ Some k → are_distinct (cons_option o ks) ≡ true
+    → list_any (λ m. m == k) ks ≡ true → ⊥
 unfolding are_distinct
 not_twice None ks k is distinct twice = search rules
 not_twice (Some m) ks k is distinct twice =
@@ -63,8 +75,10 @@ not_twice (Some m) ks k is distinct twice =
     let no : not true ≡ true = ap not (sym also) ∙ once in
     search rules
 
--- no two of them answer the same
-distinct_places : (f : Apdu → Option ℕ) (apdus : List Apdu) (i j k : ℕ) (a b : Apdu) → are_distinct (filter_map f apdus) ≡ true → slice_get apdus i ≡ Some a → slice_get apdus j ≡ Some b → f a ≡ Some k
+-- If the numbers that `f` finds are distinct, it finds no number at two places.
+distinct_places : (f : Apdu → Option ℕ) (apdus : List Apdu) (i j k : ℕ) (a b : Apdu)
+    → are_distinct (filter_map f apdus) ≡ true → slice_get apdus i ≡ Some a → slice_get apdus j ≡ Some b
+    → f a ≡ Some k
     → f b ≡ Some k → i ≡ j
 distinct_places f [] i j k a b distinct at_i at_j is_a is_b = search rules
 distinct_places f (c ∷ apdus) zero zero k a b distinct at_i at_j is_a is_b = refl
@@ -75,41 +89,54 @@ distinct_places f (c ∷ apdus) (suc i) zero k a b distinct at_i at_j is_a is_b 
 distinct_places f (c ∷ apdus) (suc i) (suc j) k a b distinct at_i at_j is_a is_b =
     ap suc (distinct_places f apdus i j k a b (rest_distinct (f c) (filter_map f apdus) distinct) at_i at_j is_a is_b)
 
-pub answers_once : (answered : Body → Option ℕ) (apdus : List Apdu) → are_distinct (filter_map (λ a. answered a.body) apdus) ≡ true → AnswersOnce answered (message apdus)
+-- If the numbers answered are distinct, no two messages of the list answer one.
+pub answers_once : (answered : Body → Option ℕ) (apdus : List Apdu)
+    → are_distinct (filter_map (λ a. answered a.body) apdus) ≡ true → AnswersOnce answered (message apdus)
 answers_once answered apdus distinct zero n k a b at_m at_n is_a is_b = search rules
 answers_once answered apdus distinct (suc m) zero k a b at_m at_n is_a is_b = search rules
 answers_once answered apdus distinct (suc m) (suc n) k a b at_m at_n is_a is_b = ap suc (distinct_places (λ x. answered x.body) apdus m n k a b distinct at_m at_n is_a is_b)
 
 -- ---- the end
 
-none_go : (ends : Bool) (n : ℕ) (rest : List ℕ) (count : ℕ) → (cond ends 1 0) + count ≡ 0 → (count ≡ 0 → rest ≡ []) → cons_option (if ends then Some n else None) rest ≡ []
+-- If no end is counted, no number of an end is found.
+none_go : (ends : Bool) (n : ℕ) (rest : List ℕ) (count : ℕ) → (cond ends 1 0) + count ≡ 0 → (count ≡ 0 → rest ≡ [])
+    → cons_option (if ends then Some n else None) rest ≡ []
 none_go true n rest count none more = absurd (omega (arith, none))
 none_go false n rest count none more = more (omega (arith, none))
 
+-- Returns the count of the APDUs that end the request.
 abbrev ends_in : List Apdu → ℕ
 ends_in apdus = count_by (λ a. is_end a.body) apdus
 
+-- The count of ends of a list is that of its first APDU and that of the others.
 count_first : (a : Apdu) (apdus : List Apdu) → ends_in (a ∷ apdus) ≡ (cond (is_end a.body) 1 0) + ends_in apdus
 count_first a apdus = sum_by-cons (λ (x : Apdu). cond (is_end x.body) 1 0) a apdus
 
+-- A list without an end has no number of an end.
 none_found : (apdus : List Apdu) → ends_in apdus ≡ 0 → filter_map number_of_end apdus ≡ []
 none_found [] none = refl
 none_found (a ∷ apdus) none = none_go (is_end a.body) a.number (filter_map number_of_end apdus) (ends_in apdus) (sym (count_first a apdus) ∙ none) (none_found apdus)
 
-head_go : (ends : Bool) (n : ℕ) (rest : List ℕ) (o : Option ℕ) → ends ≡ true → rest ≡ [] → last_or o (cons_option (if ends then Some n else None) rest) ≡ Some n
+-- If the first APDU ends the request, and no other, its number is the last found.
+head_go : (ends : Bool) (n : ℕ) (rest : List ℕ) (o : Option ℕ) → ends ≡ true → rest ≡ []
+    → last_or o (cons_option (if ends then Some n else None) rest) ≡ Some n
 head_go true n rest o is none = ap (last_or (Some n)) none
 head_go false n rest o is none = search rules
 
-tail_go : (ends : Bool) (n m : ℕ) (rest : List ℕ) (o : Option ℕ) → ((o : Option ℕ) → last_or o rest ≡ Some m) → last_or o (cons_option (if ends then Some n else None) rest) ≡ Some m
+-- The last number found in the rest of a list is the last found in the whole.
+tail_go : (ends : Bool) (n m : ℕ) (rest : List ℕ) (o : Option ℕ) → ((o : Option ℕ) → last_or o rest ≡ Some m)
+    → last_or o (cons_option (if ends then Some n else None) rest) ≡ Some m
 tail_go true n m rest o last = last (Some n)
 tail_go false n m rest o last = last o
 
+-- If the first APDU ends the request, and one does at most, no other does.
 one_more_end : (ends : Bool) (count : ℕ) → ends ≡ true → (cond ends 1 0) + count ≤ 1 → count ≡ 0
 one_more_end true count is most = omega (arith, most)
 one_more_end false count is most = search rules
 
--- the last end is the only one
-one_last : (apdus : List Apdu) (i : ℕ) (a : Apdu) (o : Option ℕ) → ends_in apdus ≤ 1 → slice_get apdus i ≡ Some a → is_end a.body ≡ true → last_or o (filter_map number_of_end apdus) ≡ Some a.number
+-- In a list with one end at most, the number of an APDU that ends the request is the last found.
+one_last : (apdus : List Apdu) (i : ℕ) (a : Apdu) (o : Option ℕ) → ends_in apdus ≤ 1 → slice_get apdus i ≡ Some a
+    → is_end a.body ≡ true → last_or o (filter_map number_of_end apdus) ≡ Some a.number
 one_last [] i a o most e is = search rules
 one_last (b ∷ apdus) zero a o most e is =
     let same : b ≡ a = same_apdu b a e in
@@ -119,7 +146,9 @@ one_last (b ∷ apdus) zero a o most e is =
 one_last (b ∷ apdus) (suc i) a o most e is =
     tail_go (is_end b.body) b.number a.number (filter_map number_of_end apdus) o (λ p. one_last apdus i a p (omega (arith, most, count_first b apdus)) e is)
 
-pub one_end : (txn : Qualifiers) (apdus : List Apdu) (n : ℕ) (a : Apdu) → are_numbered txn 1 apdus ≡ true → ends_in apdus ≤ 1 → message apdus n ≡ Some a → is_end a.body ≡ true
+-- In a numbered list with one end at most, a message n that ends the request has the last number found.
+pub one_end : (txn : Qualifiers) (apdus : List Apdu) (n : ℕ) (a : Apdu) → are_numbered txn 1 apdus ≡ true
+    → ends_in apdus ≤ 1 → message apdus n ≡ Some a → is_end a.body ≡ true
     → last_of number_of_end apdus ≡ Some n
 one_end txn apdus zero a numbered most e is = search rules
 one_end txn apdus (suc i) a numbered most e is = one_last apdus i a None most e is ∙ ap Some (message_number txn apdus (suc i) a numbered e).1

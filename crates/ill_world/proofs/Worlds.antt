@@ -13,11 +13,15 @@ use Rattle.ill_world.specs.PartyView.{GivesOutcome}
 use Rattle.ill_world.specs.Invariant.{Invariant}
 use Rattle.ill_world.specs.Agreement.{KeepsDates}
 
-first_side : (role : Who) (txn t : Qualifiers) (side : Side) (p : Party) → t ≡ txn → side ≡ idle_side role t → p ≡ first_party side → p ≡ party (first_world txn) role
+-- A party that is a first party of an idle side of `txn` is that of the first world.
+first_side : (role : Who) (txn t : Qualifiers) (side : Side) (p : Party) → t ≡ txn → side ≡ idle_side role t
+    → p ≡ first_party side → p ≡ party (first_world txn) role
 first_side who.Requester txn t side p copied idle new = new ∙ ap first_party (idle ∙ ap (idle_side who.Requester) copied)
 first_side who.Responder txn t side p copied idle new = new ∙ ap first_party (idle ∙ ap (idle_side who.Responder) copied)
 
-pub first_is : (txn t u : Qualifiers) (x y : Side) (p q : Party) → t ≡ txn → u ≡ txn → x ≡ idle_side who.Requester t → y ≡ idle_side who.Responder u
+-- Two first parties of the idle sides of `txn` are its first world.
+pub first_is : (txn t u : Qualifiers) (x y : Side) (p q : Party) → t ≡ txn → u ≡ txn → x ≡ idle_side who.Requester t
+    → y ≡ idle_side who.Responder u
     → p ≡ first_party x → q ≡ first_party y → ◌≡◌ {A = Parties} (record { requester = p; responder = q }) (first_world txn)
 first_is txn t u x y p q copied again idle_x idle_y new_x new_y =
     ap (λ p. record { requester = p; responder = q }) (first_side who.Requester txn t x p copied idle_x new_x)
@@ -25,11 +29,12 @@ first_is txn t u x y p q copied again idle_x idle_y new_x new_y =
 
 -- ---- one event of the world, by one of a party
 
+-- Two of which one is replaced by itself stay as they are.
 stays_whole : {P : Type 0} (w : TwoOf P) (of : Who) → with_party w of (party w of) ≡ w
 stays_whole w who.Requester = refl
 stays_whole w who.Responder = refl
 
--- what one of two gives, both give
+-- If a call gives the expected outcome and party, it gives the expected outcome and world.
 pub both_give : {M O P : Type 0} (happening : P → P → O × P) (w : TwoOf P) (at of : Who) (result : Result O M) (new : P) → at ≡ of
     → GivesOutcome (happening (party w of) (party w (other of))) (party w of) result new → GivesOutcome (happens_at w at happening) w result (with_party w of new)
 both_give {O = O} {P = P} happening w at of (Ok outcome) new is gives = ap (λ o. happens_at w o happening) is ∙ ap (λ (after : O × P). (after.0, with_party w of after.1)) gives
@@ -48,6 +53,7 @@ pub still_stands : {M : Type 0} → (txn : Qualifiers) (w new : Parties) (event 
     → GivesOutcome (happens w event) w result new → Invariant txn w → Invariant txn new
 still_stands txn w new event result after gives stands = given_keeps (Invariant txn) (happens w event) w new result gives stands (after w event stands)
 
+-- A world that stays as it is keeps the requester's due dates.
 pub same_dates : (w : Parties) (event : Event) → KeepsDates w event w
 same_dates w (events.Restart who.Requester) = (tt, inr (inl refl))
 same_dates w event = (inr (inl refl), inr (inl refl))

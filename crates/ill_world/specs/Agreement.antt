@@ -1,4 +1,4 @@
--- What both sides may rely on in every world of every run (this profile's own).
+-- The promises on which both sides may rely in every world of every run (this profile's own).
 use Rattle.std.specs.Prelude.{◌≡◌, ◌⊎◌, ℕ, true, false, List, [], ◌∷◌, Option, Some, take}
 use Rattle.ill_values.specs.Day.{Date}
 use Rattle.ill_values.specs.declared.apdu.Apdu.{Apdu}
@@ -29,23 +29,23 @@ use Rattle.ill_world.specs.Safety.{OfBoth}
 
 -- ---- one answer, and one end
 
--- No two of the APDUs at these numbers answer the same number.
+-- No two APDUs at different numbers answer one number.
 abbrev pub AnswersOnce : (Body → Option ℕ) → (ℕ → Option Apdu) → Type 0
 AnswersOnce answered at =
     (m n k : ℕ) (a b : Apdu) → at m ≡ Some a → at n ≡ Some b →
     answered a.body ≡ Some k → answered b.body ≡ Some k → m ≡ n
 
--- in memory, and among what was sent
+-- No two APDUs in memory answer one number, and no two that were sent.
 abbrev pub AnswersOnceBoth : (Body → Option ℕ) → Party → Type 0
 AnswersOnceBoth answered p = AnswersOnce answered (message (issued_of p.live)) × AnswersOnce answered (sent_message p.sent)
 
--- Each conditions are replied to once, and each Cancel and each Renew is answered once.
+-- No conditions have two replies, and no Cancel and no Renew has two answers: in memory, and among the sent.
 pub record EachAnsweredOnce (w : Parties) : Type 0 where
   pub conditions : AnswersOnceBoth replied_number w.requester
   pub cancels : AnswersOnceBoth (answered_number MayCancel) w.responder
   pub renewals : AnswersOnceBoth (answered_number MayRenew) w.responder
 
--- An APDU that ends the request is the only one; its number is the one that the responder gives.
+-- If message n of `side` ends the request, it is the last that does. So no two do.
 abbrev pub EndsOnce : Side → Type 0
 EndsOnce side =
     (n : ℕ) (a : Apdu) → message (issued_of side) n ≡ Some a → is_end a.body ≡ true →
@@ -53,24 +53,24 @@ EndsOnce side =
 
 -- ---- a requester and the responder that it faces
 
--- a fact on the two records
+-- The first side is a requester's, the second a responder's, and `P` holds of their records.
 abbrev pub Facing : (RequesterRecord → ResponderRecord → Type 0) → Side → Side → Type 0
 Facing P (sides.Requester x) (sides.Responder y) = P x y
 Facing P requester responder = ⊥
 
--- The conditions that a responder holds as accepted were accepted by a message that the requester has
--- sent, and has in memory.
+-- If a responder has conditions c as accepted, the requester has sent a Conditional-Reply yes to c. It has this
+-- message in memory.
 abbrev pub AcceptedBy : Parties → Side → Type 0
 AcceptedBy w (sides.Responder y) =
     (c : ℕ) → y.accepted ≡ Some c → (n : ℕ) × (a : Apdu) × (sent_message w.requester.sent n ≡ Some a)
     × (message (issued_of w.requester.live) n ≡ Some a) × (accepts a.body ≡ Some c)
 AcceptedBy w (sides.Requester x) = ⊥
 
--- The requester's due date is not later than the responder's.
+-- If the requester has a due date, the responder has one, and no earlier one.
 abbrev pub IsNotLater : RequesterRecord → ResponderRecord → Type 0
 IsNotLater x y = (d : Date) → x.due ≡ Some d → (e : Date) × (due_of y ≡ Some e) × (is_before e d ≡ false)
 
--- What either record says of the other side is so.
+-- Either record is right on the other side: on a return, a cancellation, a receipt and a check-in.
 pub record SaysTrue (x : RequesterRecord) (y : ResponderRecord) : Type 0 where
   pub returned : is_among (states.Returned ∷ states.CheckedIn ∷ []) y.state ≡ true → x.state ≡ states.Returned
   pub cancelled : y.state ≡ states.Cancelled →
@@ -80,6 +80,8 @@ pub record SaysTrue (x : RequesterRecord) (y : ResponderRecord) : Type 0 where
 
 -- ---- worlds
 
+-- The sides of `w` agree: each question has one answer and the request one end, at most. Acceptances were given, and
+-- the dates and the records of both fit.
 pub record Agrees (w : Parties) : Type 0 where
   pub answered : EachAnsweredOnce w
   pub ended : EndsOnce w.responder.live × EndsOnce w.responder.landed
@@ -87,36 +89,37 @@ pub record Agrees (w : Parties) : Type 0 where
   pub dates : OfBoth (Facing IsNotLater) w
   pub says : OfBoth (Facing SaysTrue) w
 
--- Both sides agree in every world that these events lead through, from this world on.
+-- The sides agree in each world to which a prefix of `events` leads from `w`.
 abbrev pub IsAgreeingRun : Parties → List Event → Type 0
 IsAgreeingRun w events = (n : ℕ) → Agrees (run_of w (take n events))
 
 -- ---- events
 
--- At every event but its restart the requester's due date stays or rises, once it is there; what has
--- landed of it does so at every event.
+-- The requester's live due date stays or rises, if there was one, unless the requester restarts.
 abbrev pub KeepsLiveDate : Event → Party → Party → Type 0
 KeepsLiveDate (Restart Requester) old new = Unit {0}
 KeepsLiveDate event old new = KeepsDue (due_date_of old.live) (due_date_of new.live)
 
+-- The requester's landed due date stays or rises, if there was one. So does the live one, unless the requester
+-- restarts.
 abbrev pub KeepsDates : Parties → Event → Parties → Type 0
 KeepsDates old event new =
     KeepsLiveDate event old.requester new.requester
     × KeepsDue (due_date_of old.requester.landed) (due_date_of new.requester.landed)
 
--- the states that the end of a request leads a requester to
+-- Returns the states to which an APDU that ends the request leads a requester.
 abbrev pub settled_by : Body → List State
 settled_by (types.Shipped due) = requester.later
 settled_by (types.CancelReply c is_yes) = states.Cancelled ∷ []
 settled_by other = states.NotSupplied ∷ []
 
--- A message was taken, or was before, and the side is in one of these states.
+-- The outcome is Taken or a Repeat, and the side is in one of the states `among`.
 abbrev pub Settles : List State → Outcome → Side → Type 0
 Settles among outcome side =
     ((outcome ≡ Answered Taken) ⊎ (outcome ≡ Answered Repeat)) × (is_among among (state_of side) ≡ true)
 
--- One arrival of the end of the request, once it was sent, leads the requester to its outcome; and one
--- of a Returned leads the responder to RETURNED, or the item is checked in.
+-- A delivery of a sent end of the request leads the requester to its outcome. One of a sent Returned leaves the
+-- responder in RETURNED or CHECKED-IN.
 abbrev pub Arrives : Parties → Event → Type 0
 Arrives w (Deliver Requester n) =
     (a : Apdu) → sent_message w.responder.sent n ≡ Some a → is_end a.body ≡ true →

@@ -1,5 +1,5 @@
--- Which events of two desks are those of a transaction, and events of desks that no run may have, each by what is
--- wrong in it. The laws have that the definitions on two desks take the first, and exclude the others.
+-- The events of two desks that are of a transaction, and those that no run may have, each by its fault. By the laws
+-- the definitions on two desks take the first, and exclude the others.
 use Rattle.std.specs.Prelude.{◌≡◌, ◌⊎◌, ℕ, true, List, [], ◌∷◌, Some}
 use Rattle.ill_values.specs.Day.{Date}
 use Rattle.ill_values.specs.TxnId.{Qualifiers}
@@ -24,7 +24,7 @@ use Rattle.ill_world.specs.BadWorlds.{IsUnheeded}
 
 -- ---- the events of a transaction
 
--- an event names this transaction
+-- The event names `txn`.
 abbrev pub Names : Qualifiers → DeskEvent → Type 0
 Names txn (Wish named wish) = named ≡ txn
 Names txn (Deed named deed today) = named ≡ txn
@@ -32,24 +32,24 @@ Names txn (Send who named n) = named ≡ txn
 Names txn (Deliver who named n) = named ≡ txn
 Names txn other = ⊥
 
--- a desk does not do it, since it does not hold the transaction
+-- The outcome is NoSuchTransaction or DeskFull.
 abbrev pub IsNotReached : DeskOutcome → Type 0
 IsNotReached outcome = (outcome ≡ NoSuchTransaction) ⊎ (outcome ≡ DeskFull)
 
--- An event names a transaction that its desk holds, and is not reached.
+-- The event names a transaction that its desk holds, and its outcome is NoSuchTransaction or DeskFull.
 abbrev pub MissesHeld : DeskParties → DeskEvent → Type 0
 MissesHeld w event =
     (txn : Qualifiers) × (held : DeskEntry) × Names txn event
     × (found_by txn_held txn (party w (who_of (plain event))).live.held ≡ Some held)
     × IsNotReached (desks_happen w event).0
 
--- A desk does not do an event, and what the desks show of a transaction has changed.
+-- The outcome is NoSuchTransaction or DeskFull, and the projection has changed.
 abbrev pub ChangesUnreached : DeskOutcome → Parties → Parties → Type 0
 ChangesUnreached outcome old new = IsNotReached outcome × (new ≡ old → ⊥)
 
 -- ---- deliveries
 
--- The end of a request is to lead the requester to one of these states.
+-- The APDU ends the request, and has to lead the requester to one of these states.
 pub data EndsIn : Body → List State → Type 0 where
   shipped : (due : Date) → EndsIn (bodies.Shipped due) later
   cancelled : (c : ℕ) → EndsIn (bodies.CancelReply c true) (states.Cancelled ∷ [])
@@ -57,13 +57,12 @@ pub data EndsIn : Body → List State → Type 0 where
   refused : (answer : AnswerResult) → is_final answer ≡ true →
       EndsIn (bodies.IllAnswer answer) (states.NotSupplied ∷ [])
 
--- the delivery of a message does not reach its transaction, or is unheeded there
+-- The delivery does not reach its transaction, or is unheeded there.
 abbrev pub IsUnheededAt : List State → DeskOutcome → Side → Type 0
 IsUnheededAt among (Plain outcome) side = IsUnheeded among outcome side
 IsUnheededAt among other side = Unit {0}
 
--- A message that was sent in a transaction arrives in vain: one that ends the request at the requester's desk, or a
--- Returned at the responder's.
+-- A message sent in a transaction arrives in vain: an end at the requester's desk, or a Returned at the responder's.
 pub data ArrivesInVainAt (w : DeskParties) : DeskEvent → Type 0 where
   end_in_vain : (txn : Qualifiers) (n : ℕ) (a : Apdu) (among : List State) →
       sent_message (sent_for txn w.responder.sent) n ≡ Some a → EndsIn a.body among →

@@ -1,5 +1,5 @@
--- Wrong answers on whether a loan is over, whether a side wants sending and whether a requester asks, and records
--- that are not at rest, each by what is wrong in it. The laws have that the definitions of a night exclude them.
+-- Wrong answers of `is_over`, `wants_sending` and `asks`, and records that are not at rest, each by its fault. By the
+-- laws the definitions of a night exclude them.
 use Rattle.std.specs.Prelude.{◌≡◌, Bool, true, false, [], ◌∷◌}
 use Rattle.ill_core.specs.declared.state.State.TheVariants as states
 use Rattle.ill_core.specs.State.{is_among}
@@ -12,7 +12,7 @@ use Rattle.ill_saved.specs.Side.{issued_of, state_of, verbs_of}
 use Rattle.ill_world.specs.Round.{facing_in}
 use Rattle.ill_world.specs.Night.{is_over}
 
--- It is said wrongly whether the loan of a side is over.
+-- The Bool is a wrong answer to whether the loan of a side is over.
 pub data MisjudgesEnd : Side → Bool → Type 0 where
   -- the request has ended without an item, or the item was checked in, and the loan is not said to be over
   ended : (side : Side) →
@@ -30,7 +30,7 @@ pub data MisjudgesEnd : Side → Bool → Type 0 where
   -- the side may act
   may_act : (side : Side) → (verbs_of side ≡ [] → ⊥) → MisjudgesEnd side true
 
--- It is said wrongly whether a side wants sending that was asked, or was not.
+-- The Bool is a wrong answer to whether a side wants sending.
 pub data MisjudgesSending (was_asked : Bool) : Side → Bool → Type 0 where
   -- the loan is over for the requester, and it sends
   over_requester_sends : (x : RequesterRecord) → is_over (sides.Requester x) ≡ true →
@@ -43,7 +43,7 @@ pub data MisjudgesSending (was_asked : Bool) : Side → Bool → Type 0 where
   -- the loan is not over for the side, and it is silent
   open_is_silent : (side : Side) → is_over side ≡ false → MisjudgesSending was_asked side false
 
--- It is said wrongly whether a requester asks.
+-- The Bool is a wrong answer to whether a requester asks.
 pub data MisjudgesAsking : Side → Bool → Type 0 where
   -- it is silent, or has issued nothing, and it asks
   over_asks : (side : Side) → is_over side ≡ true → MisjudgesAsking side true

@@ -1,6 +1,5 @@
--- Worlds that no run may lead to, and events that no world may have, each by what is wrong in it. The laws have
--- that no such world is safe, or that the sides do not agree in it, and that no such event keeps what is promised of
--- events.
+-- Worlds that no run may lead to, and events that no world may have, each by its fault. By the laws such a world is
+-- not safe, or its sides do not agree. No such event keeps the promises on events.
 use Rattle.std.specs.Prelude.{◌≡◌, ◌⊎◌, ℕ, Bool, true, false, List, [], ◌∷◌, Option, Some}
 use Rattle.ill_values.specs.Day.{Date}
 use Rattle.ill_values.specs.declared.apdu.Apdu.{Apdu}
@@ -26,22 +25,22 @@ use Rattle.ill_world.specs.declared.event.Outcome.{Outcome}
 use Rattle.ill_world.specs.declared.event.Outcome.TheVariants.{Answered}
 use Rattle.ill_world.specs.World.{Party, Parties, happens, sent_message}
 
--- a record of a party: the one in memory, or the one that has landed
+-- `side` is the live or the landed side of `p`.
 abbrev pub Has : Party → Side → Type 0
 Has p side = (p.live ≡ side) ⊎ (p.landed ≡ side)
 
--- none of the messages says this
+-- `says` holds of the body of no message.
 abbrev pub NoneSays : (ℕ → Option Apdu) → (Body → Type 0) → Type 0
 NoneSays at says = (n : ℕ) (a : Apdu) → at n ≡ Some a → says a.body → ⊥
 
--- two of the messages, at different numbers, say this and that
+-- `this` and `that` hold of the bodies of two messages with different numbers.
 abbrev pub TwoSay : (ℕ → Option Apdu) → (Body → Type 0) → (Body → Type 0) → Type 0
 TwoSay at this that =
     (m n : ℕ) × (a b : Apdu) × (at m ≡ Some a) × (at n ≡ Some b) × (m ≡ n → ⊥) × this a.body × that b.body
 
 -- ---- safety
 
--- A requester's record, and a responder's that contradicts it.
+-- The responder's record contradicts the requester's.
 pub data Contradicts (requester responder : Side) : Type 0 where
   -- one has given the request up, and the other has not
   not_supplied : state_of requester ≡ states.NotSupplied →
@@ -62,7 +61,7 @@ pub data IsUnsafe (w : Parties) : Type 0 where
 
 -- ---- agreement
 
--- A requester's record and a responder's of which one says what is not so.
+-- One of the two records is wrong on the other side.
 pub data Misleads (x : RequesterRecord) (y : ResponderRecord) : Type 0 where
   -- the due date is after each that the responder has
   due_later : (due : Date) → x.due ≡ Some due →
@@ -74,11 +73,11 @@ pub data Misleads (x : RequesterRecord) (y : ResponderRecord) : Type 0 where
   not_received : y.received ≡ true → has is_received x.issued ≡ false → Misleads x y
   not_checked_in : x.checked_in ≡ true → (y.state ≡ states.CheckedIn → ⊥) → Misleads x y
 
--- the messages of a party: those that it has in memory, or those that it has sent
+-- `at` gives the messages that `p` has in memory, or those that it has sent.
 abbrev pub HasMessages : Party → (ℕ → Option Apdu) → Type 0
 HasMessages p at = (at ≡ message (issued_of p.live)) ⊎ (at ≡ sent_message p.sent)
 
--- The sides do not agree.
+-- The sides of `w` do not agree.
 pub data Disagrees (w : Parties) : Type 0 where
   conditions_twice : (at : ℕ → Option Apdu) (k : ℕ) (said again : Bool) → HasMessages w.requester at →
       TwoSay at (λ body. body ≡ ConditionalReply k said) (λ body. body ≡ ConditionalReply k again) → Disagrees w
@@ -98,25 +97,24 @@ pub data Disagrees (w : Parties) : Type 0 where
 
 -- ---- events
 
--- a due date was there, and now there is none or an earlier one
+-- There was a due date, and now there is none or an earlier one.
 abbrev pub IsTakenBack : Option Date → Option Date → Type 0
 IsTakenBack old new =
     (due : Date) × (old ≡ Some due) × ((now : Date) → new ≡ Some now → is_before now due ≡ true)
 
--- The requester's due date is taken back: in memory by another event than its restart, or in what has landed.
+-- The requester's due date is taken back: in memory by an event other than its restart, or in its landed record.
 pub data TakesBack (old : Parties) (event : Event) (new : Parties) : Type 0 where
   in_memory : (event ≡ Restart Requester → ⊥) →
       IsTakenBack (due_date_of old.requester.live) (due_date_of new.requester.live) → TakesBack old event new
   in_store : IsTakenBack (due_date_of old.requester.landed) (due_date_of new.requester.landed) →
       TakesBack old event new
 
--- the delivery of a message is seen as neither taken nor a repeat, or it leads to none of these states
+-- The outcome is neither Taken nor a Repeat, or the side is in none of the states `among`.
 abbrev pub IsUnheeded : List State → Outcome → Side → Type 0
 IsUnheeded among outcome side =
     ((outcome ≡ Answered Taken → ⊥) × (outcome ≡ Answered Repeat → ⊥)) ⊎ (is_among among (state_of side) ≡ false)
 
--- A message that was sent arrives in vain: one that ends the request at the requester, or a Returned at the
--- responder.
+-- A sent message arrives in vain: an end of the request at the requester, or a Returned at the responder.
 pub data ArrivesInVain (w : Parties) : Event → Type 0 where
   shipped_in_vain : (n : ℕ) (a : Apdu) (due : Date) → sent_message w.responder.sent n ≡ Some a →
       a.body ≡ Shipped due →

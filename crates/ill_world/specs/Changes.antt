@@ -1,4 +1,4 @@
--- What an event may change, and what may be seen of it (this profile's own).
+-- The changes that an event may make, and the outcomes that it may have (this profile's own).
 use Rattle.std.specs.Prelude.{◌≡◌, ℕ, Bool, true, false, Some}
 use Rattle.ill_values.specs.declared.apdu.Apdu.{Apdu}
 use Rattle.ill_core.specs.declared.refusal.Refusal.{Refusal}
@@ -9,17 +9,17 @@ use Rattle.ill_world.specs.declared.event.Outcome.{Outcome}
 use Rattle.ill_world.specs.declared.event.Outcome.TheVariants.{Done, Saved, Faulted, Sent, Answered, Refused, Restarted}
 use Rattle.ill_world.specs.World.{Party, Parties, party, sent_message}
 
--- nothing of a party has changed but what has landed
+-- At most the landed side of a party has changed.
 pub record OnlyLands (old new : Party) : Type 0 where
   pub live : new.live ≡ old.live
   pub released : new.released ≡ old.released
   pub sent : new.sent ≡ old.sent
 
+-- At most the landed sides of the two parties have changed.
 abbrev pub OnlyLandedChanges : Parties → Parties → Type 0
 OnlyLandedChanges old new = OnlyLands old.requester new.requester × OnlyLands old.responder new.responder
 
--- What may have changed, by what is seen of an event: anything, or with a save that failed what has
--- landed, or nothing.
+-- The outcome allows the change from `old` to `new`. A failed save allows what `Landed` says.
 abbrev pub MayChange : {P : Type 0} → (P → P → Type 0) → Outcome → P → P → Type 0
 MayChange Landed Done old new = Unit {0}
 MayChange Landed Saved old new = Unit {0}
@@ -29,18 +29,19 @@ MayChange Landed (Answered Taken) old new = Unit {0}
 MayChange Landed Faulted old new = Landed old new
 MayChange Landed other old new = new ≡ old
 
--- what either party had sent it has sent still, with the same number
+-- Each message that either party had sent is sent still, under its number.
 abbrev pub KeepsSent : Parties → Parties → Type 0
 KeepsSent old new =
     (who : Who) (n : ℕ) (a : Apdu) → sent_message (party old who).sent n ≡ Some a →
     sent_message (party new who).sent n ≡ Some a
 
--- Every refusal but those of a wrong role and of want of memory may be seen, and every other outcome.
+-- Returns true if a refusal can be an outcome: any but WrongRole and OutOfMemory.
 abbrev pub can_refuse : Refusal → Bool
 can_refuse WrongRole = false
 can_refuse OutOfMemory = false
 can_refuse other = true
 
+-- Returns true if an event can have this outcome: any but the refusals WrongRole and OutOfMemory.
 abbrev pub can_be_seen : Outcome → Bool
 can_be_seen (Refused refusal) = can_refuse refusal
 can_be_seen other = true

@@ -1,4 +1,4 @@
--- What an event of desks may change, and when it reaches a side (this profile's own).
+-- The changes that an event of desks may make, and when it reaches a side (this profile's own).
 use Rattle.std.specs.Prelude.{◌≡◌, nat_lt, Bool, true, false, length, Option, Some, None}
 use Rattle.ill_values.specs.TxnId.{Qualifiers}
 use Rattle.ill_values.specs.declared.apdu.Apdu.{Apdu}
@@ -23,7 +23,7 @@ pub record ProjectsTo (p : DeskParty) (txn : Qualifiers) (shown : Party) : Type 
   pub landed : (side : Side) → side_with txn p.landed.sides ≡ Some side → shown.landed ≡ side
   pub sent : (sending : Sending) → found_by txn_sent txn p.sent ≡ Some sending → shown.sent ≡ sending.sent
 
--- what is seen is what is seen of an event in one transaction
+-- The outcome is one of an event in one transaction.
 abbrev pub IsPlain : DeskOutcome → Type 0
 IsPlain (Plain outcome) = Unit {0}
 IsPlain other = ⊥
@@ -36,12 +36,12 @@ Reaches true true None outcome = IsPlain outcome
 Reaches true false None outcome = outcome ≡ DeskFull
 Reaches false has_room None outcome = outcome ≡ NoSuchTransaction
 
--- at a desk, which holds 1,000 sides at most
+-- The event reaches a side of `txn` at desk `p`, which holds 1,000 sides at most.
 abbrev pub ReachesAt : Bool → DeskParty → Qualifiers → DeskOutcome → Type 0
 ReachesAt may_begin p txn outcome =
     Reaches may_begin (nat_lt (length p.live.held) 1000) (found_by txn_held txn p.live.held) outcome
 
--- A Request begins a transaction, and so does an ILL-Request that was sent; nothing else does.
+-- The event reaches a side. Only a Request, and an ILL-Request that was sent, may begin one.
 abbrev pub ReachesSide : DeskParties → DeskEvent → Type 0
 ReachesSide w (Wish txn wish) =
     ReachesAt (begins (actions.Wish wish)) w.requester txn (desks_happen w (Wish txn wish)).0
@@ -52,7 +52,7 @@ ReachesSide w (Deliver who txn n) =
     ReachesAt (is_ill_request a.body) (party w who) txn (desks_happen w (Deliver who txn n)).0
 ReachesSide w event = IsPlain (desks_happen w event).0
 
--- What may have changed of a transaction, by what is seen at a desk: nothing, where it is not reached.
+-- The outcome allows the change of the projection. An event that is not reached changes nothing.
 abbrev pub DeskMayChange : DeskOutcome → Parties → Parties → Type 0
 DeskMayChange (Plain outcome) old new = MayChange OnlyLandedChanges outcome old new
 DeskMayChange other old new = new ≡ old

@@ -10,43 +10,44 @@ use Rattle.ill_world.specs.Desks.{DeskParty, DeskParties}
 
 -- ---- lists of transactions
 
--- a transaction is one of these
+-- Returns true if `txn` is one of `txns`.
 abbrev pub is_one_of : Qualifiers → List Qualifiers → Bool
 is_one_of txn txns = list_any (is_same_txn txn) txns
 
--- Each of the first ones is one of the second ones.
+-- Each transaction of `these` is one of `those`.
 abbrev pub AreAmong : List Qualifiers → List Qualifiers → Type 0
 AreAmong these those = (txn : Qualifiers) → is_one_of txn these ≡ true → is_one_of txn those ≡ true
 
--- no two of them are the same
+-- No transaction stands twice in the list.
 abbrev pub AreApart : List Qualifiers → Type 0
 AreApart [] = Unit {0}
 AreApart (txn ∷ txns) = (is_one_of txn txns ≡ false) × AreApart txns
 
 -- ---- the transactions of a desk
 
--- those of the sides that it holds
+-- Returns the transactions of the sides that a desk holds.
 abbrev pub live_txns : DeskParty → List Qualifiers
 live_txns p = map txn_held p.live.held
 
--- those of the sides that have landed
+-- Returns the transactions of the sides of a desk that have landed.
 abbrev pub landed_txns : DeskParty → List Qualifiers
 landed_txns p = map txn_of p.landed.sides
 
--- No two transactions of the requester's desk are the same, and it has 1,000 at most.
+-- No transaction stands twice in `txns`, which are 1,000 at most.
 abbrev pub AreFew : List Qualifiers → Type 0
 AreFew txns = AreApart txns × (length txns ≤ 1000)
 
--- No two transactions of the responder's desk are the same, and the requester's has each, held and landed.
+-- No transaction stands twice in `txns`. Each is one of `live`, and one of `landed`.
 abbrev pub AreKnown : List Qualifiers → List Qualifiers → List Qualifiers → Type 0
 AreKnown live landed txns = AreApart txns × AreAmong txns live × AreAmong txns landed
 
--- The requester's desk has few transactions, and has all of the responder's: held and landed, on either side.
+-- Both lists of the requester's desk, live and landed, have 1,000 transactions at most. Each has all of the
+-- responder's two lists. No list has one twice.
 abbrev pub Counts : List Qualifiers → List Qualifiers → List Qualifiers → List Qualifiers → Type 0
 Counts live landed others others_landed =
     AreFew live × AreFew landed × AreKnown live landed others × AreKnown live landed others_landed
 
--- so do two desks
+-- `Counts` holds of the live and the landed transactions of two desks.
 abbrev pub DesksCount : DeskParties → Type 0
 DesksCount w =
     Counts (live_txns w.requester) (landed_txns w.requester) (live_txns w.responder) (landed_txns w.responder)

@@ -11,19 +11,19 @@ use Rattle.ill_world.specs.Desks.{DeskParties, desks_run}
 use Rattle.ill_world.specs.DeskRound.{saves_and_passes}
 use Rattle.ill_world.specs.Night.{wants_sending, asks}
 
--- A desk saves, and all messages of those sides that it holds and that want sending are passed on.
+-- Returns the save of desk `who`, and then events that pass on all messages of those sides that `wants` selects.
 abbrev pub desk_half_if : (Side → Bool) → Who → DeskParties → List DeskEvent
 desk_half_if wants who w = saves_and_passes who (filter wants (sides_held (party w who).live).sides)
 
--- The requester's desk asks in the transaction of a side.
+-- Returns true if the requester's desk asks in the transaction of `side`.
 abbrev pub is_asked_by : DeskParties → Side → Bool
 is_asked_by w side = asks (held_for (txn_of side) w.requester.live).side
 
--- the half of the requester's desk
+-- Returns the half of the requester's desk in a night.
 abbrev pub desk_asking_half : DeskParties → List DeskEvent
 desk_asking_half w = desk_half_if (wants_sending false) Requester w
 
--- the half of the requester's desk, and then that of the responder's
+-- Returns the half of the requester's desk in a night, and then that of the responder's.
 abbrev pub desk_night_of : DeskParties → List DeskEvent
 desk_night_of w =
     desk_asking_half w

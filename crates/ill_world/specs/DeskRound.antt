@@ -12,18 +12,18 @@ use Rattle.ill_world.specs.Desks.{DeskParties, desks_run}
 use Rattle.ill_world.specs.DeskScript.{in_txn}
 use Rattle.ill_world.specs.Round.{passes_on}
 
--- All messages of a side are passed on, in its transaction.
+-- Returns a Send and a Deliver for each message of `side`, in its transaction.
 abbrev pub passes_side : Who → Side → List DeskEvent
 passes_side who side = map (in_txn (txn_of side)) (passes_on who 1 (length (issued_of side)))
 
--- A desk saves, and the messages of these sides are passed on, one side after another.
+-- Returns the save of desk `who`, and then events that pass on the messages of `sides`, side after side.
 abbrev pub saves_and_passes : Who → List Side → List DeskEvent
 saves_and_passes who sides = Save who ∷ flat_map (passes_side who) sides
 
--- A desk saves, and all messages of all sides that it holds are passed on.
+-- Returns the save of desk `who`, and then events that pass on all messages of all sides that it holds.
 abbrev pub desk_half_of : Who → DeskParties → List DeskEvent
 desk_half_of who w = saves_and_passes who (sides_held (party w who).live).sides
 
--- the half of the requester's desk, and then that of the responder's
+-- Returns the half of the requester's desk, and then that of the responder's.
 abbrev pub desk_round_of : DeskParties → List DeskEvent
 desk_round_of w = desk_half_of Requester w ++ desk_half_of Responder (desks_run w (desk_half_of Requester w))

@@ -1,4 +1,4 @@
--- What holds of two desks in every run: of each transaction what holds of a world of two parties (this profile's own).
+-- The promises of two desks in every run (this profile's own): in each transaction, those of a world of two parties.
 use Rattle.std.specs.Prelude.{◌≡◌, ℕ, true, List, ◌∷◌, [], Some, take}
 use Rattle.ill_values.specs.TxnId.{Qualifiers}
 use Rattle.ill_values.specs.declared.apdu.Apdu.{Apdu}
@@ -22,12 +22,11 @@ use Rattle.ill_world.specs.Invariant.{Invariant}
 
 -- ---- why
 
--- a desk is of this role, in memory and as it has landed
+-- The desk is of `role`, in memory and as it has landed.
 abbrev pub IsDeskOf : Who → DeskParty → Type 0
 IsDeskOf role p = (p.live.role ≡ role) × (p.landed.role ≡ role)
 
--- Each desk is of its role and has no transaction twice, the requester's has each of the responder's, and 1,000 at
--- most; and what both show of each transaction stands.
+-- Each desk is of its role, and `DesksCount` holds. The projection of each transaction keeps the invariant.
 pub record DesksStand (w : DeskParties) : Type 0 where
   pub requester : IsDeskOf Requester w.requester
   pub responder : IsDeskOf Responder w.responder
@@ -36,30 +35,30 @@ pub record DesksStand (w : DeskParties) : Type 0 where
 
 -- ---- runs
 
--- What two desks that hold nothing at first show of each transaction after these events is the world after the
--- events of this transaction.
+-- After `events`, from two desks on that hold nothing, each transaction's projection is the world after its own
+-- events.
 abbrev pub IsRunOfEach : List DeskEvent → Type 0
 IsRunOfEach events =
     (txn : Qualifiers) →
     project txn (desks_run first_desks events) ≡ run_of (first_world txn) (events_for txn first_desks events)
 
--- In every world that these events lead through, what the desks show of each transaction is safe.
+-- The projection of each transaction is safe after each prefix of `events`, from `w` on.
 abbrev pub IsSafeDeskRun : DeskParties → List DeskEvent → Type 0
 IsSafeDeskRun w events = (txn : Qualifiers) (n : ℕ) → Safe (project txn (desks_run w (take n events)))
 
--- In every such world both sides of each transaction agree.
+-- Both sides of each transaction agree after each prefix of `events`, from `w` on.
 abbrev pub IsAgreeingDeskRun : DeskParties → List DeskEvent → Type 0
 IsAgreeingDeskRun w events = (txn : Qualifiers) (n : ℕ) → Agrees (project txn (desks_run w (take n events)))
 
 -- ---- events
 
--- The message has reached its transaction, was taken or was before, and the side is in one of these states.
+-- The message reaches its transaction, and is Taken or a Repeat. The side is in one of the states `among`.
 abbrev pub SettlesAt : List State → DeskOutcome → Side → Type 0
 SettlesAt among (Plain outcome) side = Settles among outcome side
 SettlesAt among other side = ⊥
 
--- One arrival of the end of a request, once it was sent in its transaction, leads the requester's side of it to its
--- outcome; and one of a Returned leads the responder's to RETURNED, or the item is checked in.
+-- A delivery of a sent end of a request leads the requester's side to its outcome. One of a sent Returned leaves the
+-- responder's in RETURNED or CHECKED-IN.
 abbrev pub ArrivesAt : DeskParties → DeskEvent → Type 0
 ArrivesAt w (Deliver Requester txn n) =
     let after = desks_happen w (Deliver Requester txn n) in

@@ -1,5 +1,5 @@
--- What a line of a script of two desks says: what one of two sides does, or which transaction the lines behind it
--- are in (this profile's own).
+-- The meaning of a line of a script of two desks (this profile's own). It is an event at one of two sides, or the
+-- transaction of the lines after it.
 use Rattle.std.specs.Prelude.{◌≡◌, ℕ, bytes_eq, codes, if◌then◌else◌, List, [], ◌∷◌, Option, Some, None, Result, Ok, Err}
 use Rattle.ill_values.specs.declared.fault.TextFault.{TextFault}
 use Rattle.ill_values.specs.TxnId.{Qualifiers, txn_id_of}
@@ -15,34 +15,34 @@ use Rattle.ill_world.specs.Script.{is_remark, line_of, words_of}
 
 -- ---- one line
 
--- from here on the transaction with these qualifiers, if they are some
+-- Returns a line that puts `txn` in use, or a bad line if the qualifiers have a fault.
 abbrev pub use_of : Result Qualifiers TextFault → DeskLine
 use_of (Ok txn) = Use txn
 use_of (Err fault) = Plain lines.Bad
 
--- what the words behind the first one say, which are two qualifiers
+-- Returns the meaning of the words after `use`: two qualifiers, or else a bad line.
 abbrev pub use_line : List (List ℕ) → DeskLine
 use_line (group ∷ transaction ∷ []) = use_of (txn_id_of group transaction)
 use_line words = Plain lines.Bad
 
--- what the words of a line say
+-- Returns the meaning of the words of a line.
 abbrev pub desk_line_of : List (List ℕ) → DeskLine
 desk_line_of [] = Plain lines.Skipped
 desk_line_of (first ∷ words) =
     if bytes_eq first (codes "use") then use_line words else Plain (line_of (first ∷ words))
 
--- what a line says, which is nothing where it is a remark
+-- Returns the meaning of a line. A remark is skipped.
 unfoldable pub desk_meaning : List ℕ → DeskLine
 desk_meaning line = if is_remark line then Plain lines.Skipped else desk_line_of (words_of line)
 
 -- ---- the transaction in use
 
--- an event, and the transaction that was in use: a trace shows both sides of it
+-- An event, and the transaction in use, of which a trace shows both sides.
 pub record EventIn : Type 0 where
   pub txn : Qualifiers
   pub event : DeskEvent
 
--- the same event at two desks, in a transaction
+-- Returns an event of `txn` as an event of two desks.
 abbrev pub in_txn : Qualifiers → Event → DeskEvent
 in_txn txn (events.Wish wish) = Wish txn wish
 in_txn txn (events.Deed deed today) = Deed txn deed today
@@ -53,7 +53,7 @@ in_txn txn (events.Deliver who n) = Deliver who txn n
 in_txn txn (events.Noise who bytes) = Noise who bytes
 in_txn txn (events.Restart who) = Restart who
 
--- an event is one of this transaction, or of a whole desk, or other bytes
+-- The event names `txn`, or names no transaction.
 abbrev pub IsInTxn : Qualifiers → DeskEvent → Type 0
 IsInTxn txn (Wish named wish) = named ≡ txn
 IsInTxn txn (Deed named deed today) = named ≡ txn

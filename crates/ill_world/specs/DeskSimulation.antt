@@ -8,7 +8,7 @@ use Rattle.ill_world.specs.DeskScript.{EventIn, desk_meaning, says_in}
 use Rattle.ill_world.specs.Trace.{desk_line}
 use Rattle.ill_world.specs.Play.{Play, Said, ends, says_on, trace_from, Plays}
 
--- Two desks: each line says what it means in the transaction in use, which is carried from line to line.
+-- The play of two desks. Each line says its meaning in the transaction in use, which is carried from line to line.
 abbrev pub two_desks : Play DeskParties EventIn (Option Qualifiers)
 two_desks = record {
   says = λ in_use bytes. says_in in_use (desk_meaning bytes);
@@ -16,28 +16,27 @@ two_desks = record {
   text = λ number w e. desk_line number e.txn (desks_happen w e.event).0 (desks_happen w e.event).1;
 }
 
--- what a whole text says, at first in no transaction
+-- Returns the reading of a whole text. At first no transaction is in use.
 abbrev pub desk_script : List ℕ → Said EventIn
 desk_script text = says_on two_desks (ends two_desks) None 1 text
 
--- the trace of events from two desks on that hold nothing
+-- Returns the trace of `events`, from two desks on that hold nothing.
 abbrev pub desk_trace_of : List EventIn → List ℕ
 desk_trace_of events = trace_from two_desks 1 first_desks events
 
--- the events alone
+-- Returns the events alone, without the transactions in use.
 abbrev pub desk_events : List EventIn → List DeskEvent
 desk_events events = map (λ e. e.event) events
 
--- The line that a trace shows of an event behind others: its number, what is seen of it at the desks after those,
--- and how both sides of its transaction stand after it.
+-- Returns the line of `event` in a trace, after `events`. It has its number, its outcome, and both sides of its
+-- transaction after it.
 abbrev pub desk_line_behind : List EventIn → EventIn → List ℕ
 desk_line_behind events event =
     desk_line (length events + 1) event.txn
     (desks_happen (desks_run first_desks (desk_events events)) event.event).0
     (desks_run first_desks (desk_events (events ++ event ∷ [])))
 
--- A simulation, from what the reader had left to what it has left, and from what the writer held to
--- what it holds.
+-- A simulation has this result. The reader went from `old` to `new`, and the writer from `before` to `after`.
 abbrev pub SimulatesDesks : Option (List ℕ) → Option (List ℕ) → Option (List ℕ) → Option (List ℕ) →
     Result ℕ SimFault → Type 0
 SimulatesDesks old new before after result = Plays two_desks None 1 first_desks 0 old new before after result

@@ -1,4 +1,4 @@
--- How the model of two desks sees what a desk has in memory and in its store, and what it has sent.
+-- The view that the model of two desks has of a desk's memory, store and sent messages.
 use Rattle.std.specs.Prelude.{◌≡◌, List, map, Option, Some, None, Result, Ok, Err}
 use Rattle.std.specs.Map.{set_value}
 use Rattle.ill_values.specs.TxnId.{Qualifiers}
@@ -14,13 +14,13 @@ use Rattle.ill_world.specs.declared.event.DeskOutcome.{DeskOutcome}
 use Rattle.ill_world.specs.PartyView.{read_or}
 use Rattle.ill_world.specs.Desks.{Sending, DeskParty, fault_seen}
 
--- ---- what was sent
+-- ---- sent messages
 
--- what was sent in each transaction, by the entries of a map
+-- Returns the messages sent in each transaction, from the entries of a map.
 abbrev pub sendings_of : List (Qualifiers × List (Option Apdu)) → List Sending
 sendings_of entries = map (λ e. record { txn = e.0; sent = e.1 }) entries
 
--- Where something was sent in a transaction, it becomes what this makes of it; else nothing changes.
+-- If something was sent in `txn`, its entry becomes `next` of it. Else `a` comes back, and nothing changes.
 abbrev pub BecomesAmong : Qualifiers → (List (Option Apdu) → List (Option Apdu)) → List (Qualifiers × List (Option Apdu)) →
     Option (List (Option Apdu)) → Option Apdu → Apdu → List (Qualifiers × List (Option Apdu)) → Type 0
 BecomesAmong txn next old None back a new = (back ≡ Some a) × (new ≡ old)
@@ -28,15 +28,15 @@ BecomesAmong txn next old (Some sent) back a new = (back ≡ None) × (new ≡ s
 
 -- ---- desks
 
--- the sides that have landed in the store of a desk
+-- Returns the sides that have landed in the store of `desk`.
 abbrev pub landed_at : ManyOf MemoryStoreState → SidesOf
 landed_at desk = read_or (sides_held desk.live) (landed_sides desk.store.landed desk.live.role)
 
--- the party that a desk and the messages sent from it stand for
+-- Returns the desk of the model for which `desk` and the messages `sent` from it stand.
 abbrev pub desk_party_of : ManyOf MemoryStoreState → List Sending → DeskParty
 desk_party_of desk sent = record { live = desk.live; landed = landed_at desk; sent = sent }
 
--- Between two events the next call of the store works, and what has landed are sides of the desk's role.
+-- Between two events the next call of the store works. The landed sides have the desk's role.
 pub record IsReadyDesk (desk : ManyOf MemoryStoreState) : Type 0 where
   pub works : desk.store.next ≡ Works
   pub landed : landed_sides desk.store.landed desk.live.role ≡ Ok (landed_at desk)
@@ -44,7 +44,7 @@ pub record IsReadyDesk (desk : ManyOf MemoryStoreState) : Type 0 where
 
 -- ---- answers
 
--- The faults of an action, or of a message that is exactly one APDU.
+-- The fault is one of an action, or of a message that is exactly one APDU.
 abbrev pub CanBeSeen : DeskFault → Type 0
 CanBeSeen (faults.Core refusal) = Unit {0}
 CanBeSeen faults.DeskFull = Unit {0}
@@ -52,7 +52,7 @@ CanBeSeen faults.NoSuchTransaction = Unit {0}
 CanBeSeen faults.OutOfMemory = Unit {0}
 CanBeSeen other = ⊥
 
--- what is seen of a fault of an action or a message, but for want of memory
+-- The result is the outcome of a fault of an action or a message. If memory runs out, there is none.
 abbrev pub FaultSeen : {M : Type 0} → DeskFault → Result DeskOutcome M → Type 0
 FaultSeen faults.OutOfMemory (Err memory) = Unit {0}
 FaultSeen faults.OutOfMemory (Ok outcome) = ⊥

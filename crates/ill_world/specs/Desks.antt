@@ -1,5 +1,5 @@
--- The model of two desks: each holds sides of many transactions, what has landed of them, and what it has sent in
--- each (this profile's own). Of one transaction a desk shows a party of the two-party model.
+-- The model of two desks (this profile's own). Each holds sides of many transactions, has landed sides, and has sent
+-- messages in each. Of one transaction a desk shows a party of the two-party model.
 use Rattle.std.specs.Prelude.{◌≡◌, ℕ, nat_le, Bool, true, false, if◌then◌else◌, List, [], ◌∷◌, Option, Some, None, Result, Ok, Err}
 use Rattle.ill_values.specs.declared.apdu.Apdu.{Apdu}
 use Rattle.ill_values.specs.TxnId.{Qualifiers}
@@ -27,22 +27,22 @@ use Rattle.ill_world.specs.World.{Party, TwoOf, Parties, nothing_sent, sent_mess
 
 -- ---- the desks
 
--- what was sent in a transaction: by number the messages, the n-th being message n
+-- The messages sent in `txn`: message n stands at place n - 1, if it was sent.
 pub record Sending : Type 0 where
   pub txn : Qualifiers
   pub sent : List (Option Apdu)
 
--- A desk: what it holds in memory; the sides that have landed; and what it has sent, in each transaction in which
--- it has sent anything.
+-- A desk: its contents in memory, the sides that have landed, and the messages that it has sent, by transaction.
 pub record DeskParty : Type 0 where
   pub live : DeskContents
   pub landed : SidesOf
   pub sent : List Sending
 
+-- A world of two desks.
 abbrev pub DeskParties : Type 0
 DeskParties = TwoOf DeskParty
 
--- a desk that holds nothing yet
+-- Returns a desk in `role` that holds nothing, and has landed and sent nothing.
 abbrev pub first_desk : Who → DeskParty
 first_desk role = record {
   live = record { role = role; held = [] };
@@ -50,23 +50,25 @@ first_desk role = record {
   sent = [];
 }
 
+-- The two desks that hold nothing yet.
 abbrev pub first_desks : DeskParties
 first_desks = record { requester = first_desk Requester; responder = first_desk Responder }
 
+-- Returns the transaction in which these messages were sent.
 abbrev pub txn_sent : Sending → Qualifiers
 txn_sent sending = sending.txn
 
--- what was sent in this transaction
+-- Returns the messages sent in `txn`. They are none if `all` has no entry for it.
 abbrev pub sent_for : Qualifiers → List Sending → List (Option Apdu)
 sent_for txn all = (found_or (record { txn = txn; sent = nothing_sent }) (found_by txn_sent txn all)).sent
 
--- the same, and message n of this transaction
+-- Returns `all` with `a` as message n of `txn`.
 abbrev pub with_sent_for : Qualifiers → List Sending → ℕ → Apdu → List Sending
 with_sent_for txn all n a = put_by txn_sent (record { txn = txn; sent = with_sent (sent_for txn all) n a }) all
 
 -- ---- one event
 
--- The same event of one transaction: of the one that it names, or of each.
+-- Returns an event of desks as one of a transaction: of the one that it names, or of each.
 abbrev pub plain : DeskEvent → Event
 plain (Wish txn wish) = events.Wish wish
 plain (Deed txn deed today) = events.Deed deed today
@@ -77,7 +79,7 @@ plain (Deliver who txn n) = events.Deliver who n
 plain (Noise who bytes) = events.Noise who bytes
 plain (Restart who) = events.Restart who
 
--- what is seen of a fault of an action or a message; there are no others than these three
+-- Returns the outcome of a fault of an action or a message: a refusal, DeskFull or NoSuchTransaction.
 abbrev pub fault_seen : DeskFault → DeskOutcome
 fault_seen (faults.Core refusal) = Plain (Refused refusal)
 fault_seen faults.DeskFull = DeskFull
@@ -105,11 +107,12 @@ desk_sends p txn n (Some held) =
     (message (issued_of held.side) n) (nat_le n held.released) in
     (Plain after.0, after.1)
 
+-- Returns the outcome of a delivered message, by its answer or its fault.
 abbrev pub taking_seen : Result Taking DeskFault → DeskOutcome
 taking_seen (Ok taking) = Plain (Answered taking)
 taking_seen (Err fault) = fault_seen fault
 
--- a message of the other desk
+-- Returns the outcome and the desk after it takes `a`, a message of the other desk.
 abbrev pub desk_takes_message : DeskParty → Apdu → DeskOutcome × DeskParty
 desk_takes_message p a = (taking_seen (desk_takes p.live a).0, record p { live = (desk_takes p.live a).1 })
 
@@ -118,8 +121,8 @@ abbrev pub desk_receives : DeskParty → Option Apdu → DeskOutcome × DeskPart
 desk_receives p None = (Plain NotSent, p)
 desk_receives p (Some a) = desk_takes_message p a
 
--- What other bytes are, by what stands at their front. They change nothing: nobody forges an APDU, of whichever
--- transaction.
+-- Returns the outcome of noise, by the APDU with which its bytes begin. Noise changes nothing: nobody forges an APDU
+-- of any transaction.
 abbrev pub desk_hears : Result (Apdu × List ℕ) DerFault → Outcome
 desk_hears (Ok (a, [])) = Forged
 desk_hears (Ok (a, byte ∷ rest)) = Garbled
@@ -129,7 +132,7 @@ desk_hears (Err fault) = Garbled
 abbrev pub desk_restarts : DeskParty → DeskParty
 desk_restarts p = record p { live = whole_of p.landed }
 
--- What is seen of an event, and the desk after it to which it happens. The other desk has sent these messages.
+-- Returns the outcome of an event, and desk `p` after it. `sent` has the messages of the other desk.
 abbrev pub desk_happens_to : DeskParty → List Sending → DeskEvent → DeskOutcome × DeskParty
 desk_happens_to p sent (Wish txn wish) = desk_decides p (desk_acts p.live txn (actions.Wish wish))
 desk_happens_to p sent (Deed txn deed today) = desk_decides p (desk_acts p.live txn (actions.Deed deed today))
@@ -140,17 +143,17 @@ desk_happens_to p sent (Deliver who txn n) = desk_receives p (sent_message (sent
 desk_happens_to p sent (Noise who bytes) = (Plain (desk_hears (apdu_at bytes)), p)
 desk_happens_to p sent (Restart who) = (Plain Restarted, desk_restarts p)
 
--- What is seen of an event, and the desks after it.
+-- Returns the outcome of `event`, and both desks after it.
 abbrev pub desks_happen : DeskParties → DeskEvent → DeskOutcome × DeskParties
 desks_happen w event = happens_at w (who_of (plain event)) (λ p partner. desk_happens_to p partner.sent event)
 
--- the desks after events
+-- Returns the desks after `events`, from `w` on.
 abbrev pub desks_run : DeskParties → List DeskEvent → DeskParties
 desks_run w events = run_by desks_happen w events
 
 -- ---- one transaction
 
--- what a desk shows of a transaction: a side that is not held is idle, and nothing was sent by it
+-- Returns the party of `txn` that desk `p` shows. A side that is not held, or has not landed, is idle.
 abbrev pub party_for : Qualifiers → DeskParty → Party
 party_for txn p = record {
   live = (held_for txn p.live).side;
@@ -159,11 +162,11 @@ party_for txn p = record {
   sent = sent_for txn p.sent;
 }
 
--- what two desks show of a transaction
+-- Returns the projection of two desks: the world of `txn` that they show.
 abbrev pub project : Qualifiers → DeskParties → Parties
 project txn w = record { requester = party_for txn w.requester; responder = party_for txn w.responder }
 
--- Whether an event may be one of a transaction: it names it, or is one of a whole desk. Noise is none of any.
+-- Returns true if an event names `txn`, or is a save, failed save or restart of a whole desk.
 abbrev pub concerns : Qualifiers → DeskEvent → Bool
 concerns txn (Wish named wish) = is_same_txn txn named
 concerns txn (Deed named deed today) = is_same_txn txn named
@@ -174,29 +177,29 @@ concerns txn (Deliver who named n) = is_same_txn txn named
 concerns txn (Noise who bytes) = false
 concerns txn (Restart who) = true
 
--- What a desk does not do, since it does not hold the transaction, is no event.
+-- Returns `may_be` if an event reaches its transaction, and else false.
 abbrev pub if_reached : DeskOutcome → Bool → Bool
 if_reached (Plain outcome) may_be = may_be
 if_reached other may_be = false
 
--- an event of desks is one of this transaction
+-- Returns true if an event of desks is one of `txn`: it concerns `txn`, and reaches it.
 abbrev pub is_event_of : Qualifiers → DeskParties → DeskEvent → Bool
 is_event_of txn w event = if_reached (desks_happen w event).0 (concerns txn event)
 
--- the events of a transaction, among those of desks
+-- Returns the events of `txn` among events of desks, in their order.
 unfoldable pub events_for : Qualifiers → DeskParties → List DeskEvent → List Event
 events_for txn w [] = []
 events_for txn w (event ∷ events) =
     let others = events_for txn (desks_happen w event).1 events in
     if is_event_of txn w event then plain event ∷ others else others
 
--- What is seen at a desk, and what it shows of a transaction then: as expected of an event of the transaction;
--- of another, nothing changes.
+-- If the Bool is true, outcome and projection are as expected of an event of the transaction. Else the projection
+-- stays as it was.
 abbrev pub IsSeenAs : {P : Type 0} → Bool → Outcome × P → P → DeskOutcome → P → Type 0
 IsSeenAs true expected old outcome new = (outcome ≡ Plain expected.0) × (new ≡ expected.1)
 IsSeenAs false expected old outcome new = new ≡ old
 
--- An event of desks is one event of a transaction, with the same outcome, or changes nothing of it.
+-- An event of desks is one event of `txn`, with its outcome, or leaves the projection of `txn`.
 abbrev pub Projects : Qualifiers → DeskParties → DeskEvent → Type 0
 Projects txn w event =
     let after = desks_happen w event in

@@ -1,5 +1,5 @@
--- Why every world is safe: what each record keeps by itself and with what the other side has sent. No
--- part of it joins the two sides' records.
+-- The invariant by which every world is safe. Each record keeps its own rules, and shows only what messages of the
+-- other side tell. No part of it joins the two sides' records.
 use Rattle.std.specs.Prelude.{◌≡◌, ℕ, ◌≤◌, true, List, length, Option, Some}
 use Rattle.ill_values.specs.TxnId.{Qualifiers}
 use Rattle.ill_values.specs.declared.apdu.Apdu.{Apdu}
@@ -19,22 +19,23 @@ use Rattle.ill_saved.specs.declared.side.Side.TheVariants as sides
 use Rattle.ill_saved.specs.Side.{issued_of, due_date_of, IsPrefix}
 use Rattle.ill_world.specs.World.{Party, Parties, sent_message}
 
--- ---- one record, and what the other side has sent
+-- ---- one record, and the messages of the other side
 
--- an APDU was sent
+-- `sent` has `a` under some number.
 abbrev pub WasSent : List (Option Apdu) → Apdu → Type 0
 WasSent sent a = (n : ℕ) × (sent_message sent n ≡ Some a)
 
--- Whatever a requester's record shows to have come, a message tells that the responder has sent.
+-- For each fact that a requester's record claims, the responder has sent a message that is evidence of it.
 abbrev pub RequesterKnows : RequesterRecord → List (Option Apdu) → Type 0
 RequesterKnows x sent =
     (fact : requester.Fact) → requester.Claims x fact → (a : Apdu) × WasSent sent a × requester.IsEvidence a.body fact
 
+-- For each fact that a responder's record claims, the requester has sent a message that is evidence of it.
 abbrev pub ResponderKnows : ResponderRecord → List (Option Apdu) → Type 0
 ResponderKnows y sent =
     (fact : responder.Fact) → responder.Claims y fact → (a : Apdu) × WasSent sent a × responder.IsEvidence a.number a.body fact
 
--- Whatever a requester's record reflects, a message attests that the responder has sent.
+-- For each notice that a requester's record reflects, the responder has sent a message that attests it.
 abbrev pub RequesterNotes : RequesterRecord → List (Option Apdu) → Type 0
 RequesterNotes x sent =
     (notice : Notice) → Reflects x notice → (a : Apdu) × WasSent sent a × Attests a.number a.body notice
@@ -45,7 +46,8 @@ ResponderHeard y sent =
     (question : Question) (number : ℕ) → WasAsked question y number →
     (a : Apdu) × WasSent sent a × (asks question a.body ≡ true) × (a.number ≡ number)
 
--- A requester's record keeps its rules, answers conditions once, and shows what was sent to it.
+-- A requester's record is of `txn`, keeps its rules, and replies to no conditions twice. The messages in `sent` tell
+-- what it shows.
 pub record RequesterStands (txn : Qualifiers) (x : RequesterRecord) (sent : List (Option Apdu)) : Type 0 where
   pub same_txn : x.txn ≡ txn
   pub rules : RequesterRules x
@@ -54,8 +56,8 @@ pub record RequesterStands (txn : Qualifiers) (x : RequesterRecord) (sent : List
   pub notices : RequesterNotes x sent
   pub few : length x.issued ≤ 255
 
--- A responder's record keeps its rules, ends the request once, answers each question once and in order, and
--- shows what was sent to it.
+-- A responder's record is of `txn`, keeps its rules, ends the request once at most, and answers in order. The messages
+-- in `sent` tell what it shows.
 pub record ResponderStands (txn : Qualifiers) (y : ResponderRecord) (sent : List (Option Apdu)) : Type 0 where
   pub same_txn : y.txn ≡ txn
   pub rules : ResponderRules y
@@ -72,26 +74,27 @@ pub record ResponderStands (txn : Qualifiers) (y : ResponderRecord) (sent : List
   pub grants_first : GrantsBeforeOverdue y.issued
   pub few : length y.issued ≤ 255
 
--- a side of the requester, and one of the responder
+-- The side is a requester's, and its record stands by the messages in `sent`.
 abbrev pub RequesterSideStands : Qualifiers → Side → List (Option Apdu) → Type 0
 RequesterSideStands txn (sides.Requester x) sent = RequesterStands txn x sent
 RequesterSideStands txn (sides.Responder y) sent = ⊥
 
+-- The side is a responder's, and its record stands by the messages in `sent`.
 abbrev pub ResponderSideStands : Qualifiers → Side → List (Option Apdu) → Type 0
 ResponderSideStands txn (sides.Requester x) sent = ⊥
 ResponderSideStands txn (sides.Responder y) sent = ResponderStands txn y sent
 
--- ---- a party and what it has sent
+-- ---- a party, and the messages that it has sent
 
--- Each message that was sent has landed; what has landed is the front of what is issued; and only
--- what has landed is released. There is a place for each number.
+-- Each sent message has landed, and only landed messages are released. The landed list is a prefix of the live one.
+-- There is a place for each number.
 pub record SendsSaved (p : Party) : Type 0 where
   pub landed : (n : ℕ) (a : Apdu) → sent_message p.sent n ≡ Some a → message (issued_of p.landed) n ≡ Some a
   pub front : IsPrefix (issued_of p.landed) (issued_of p.live)
   pub released : p.released ≤ length (issued_of p.landed)
   pub places : length p.sent ≡ 255
 
--- A party sends only what it has saved, and each of its records stands by what the other has sent.
+-- A party sends only what it has saved. `K` holds of its live and its landed side with the messages in `told`.
 pub record PartyStands (K : Side → List (Option Apdu) → Type 0) (p : Party) (told : List (Option Apdu)) : Type 0 where
   pub saved : SendsSaved p
   pub live : K p.live told

@@ -1,5 +1,5 @@
--- A night, and what holds after it (this profile's own): a round in which a side is silent if its loan is over, unless
--- it is a responder that was asked.
+-- A night, and the facts after it (this profile's own): a round in which a side is silent if its loan is over. A
+-- responder that was asked is not silent.
 use Rattle.std.specs.Prelude.{◌≡◌, ◌⊎◌, Bool, true, false, not, ◌&&◌, ◌||◌, List, [], ◌∷◌, ◌++◌}
 use Rattle.ill_core.specs.declared.turn.Turn.{Turn}
 use Rattle.ill_core.specs.declared.turn.Turn.TheVariants.{Over, Mine, Theirs}
@@ -18,40 +18,40 @@ use Rattle.ill_world.specs.World.{Parties, run_of}
 use Rattle.ill_world.specs.Agreement.{Facing}
 use Rattle.ill_world.specs.Round.{half_of, faced_in, AreInStep}
 
--- ---- who sends
+-- ---- the sides that send
 
--- nobody's turn
+-- Returns true if the turn is nobody's.
 abbrev pub is_nobodys : Turn → Bool
 is_nobodys Over = true
 is_nobodys Mine = false
 is_nobodys Theirs = false
 
--- Nobody acts in the loan any more, as far as this side knows.
+-- Returns true if nobody acts in the loan any more, as far as `side` knows.
 abbrev pub is_over : Side → Bool
 is_over side = is_nobodys (turn_of side)
 
--- A side wants sending unless its loan is over. A responder wants it then too if it was asked: a message of the loan
--- came in this night.
+-- Returns true if the loan is not over for the side. It is true too for a responder that was asked: a message of the
+-- loan came in this night.
 abbrev pub wants_sending : Bool → Side → Bool
 wants_sending was_asked (sides.Requester x) = not (is_over (sides.Requester x))
 wants_sending was_asked (sides.Responder y) = not (is_over (sides.Responder y)) || was_asked
 
--- A requester asks if it wants sending, and has issued anything.
+-- Returns true if the requester wants sending, and has issued a message.
 abbrev pub asks : Side → Bool
 asks requester = wants_sending false requester && not (is_none (issued_of requester))
 
 -- ---- the events of a night
 
--- a party's half of a round if it wants sending, or else its save alone
+-- Returns the half of a round of `who` if the Bool is true, or else its save alone.
 abbrev pub half_if : Bool → Who → Parties → List Event
 half_if true who w = half_of who w
 half_if false who w = Save who ∷ []
 
--- the requester's half of a night
+-- Returns the requester's half of a night.
 abbrev pub asking_half : Parties → List Event
 asking_half w = half_if (wants_sending false w.requester.live) Requester w
 
--- the requester's half, and then the responder's, which was asked if a message came in the first
+-- Returns the requester's half of a night, and then the responder's. The responder was asked if the requester asks.
 abbrev pub night_of : Parties → List Event
 night_of w =
     let between = run_of w (asking_half w) in

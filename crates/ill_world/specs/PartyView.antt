@@ -1,4 +1,4 @@
--- How the two-party model sees what a party has in memory and in its store.
+-- The view that the two-party model has of a party's memory and store.
 use Rattle.std.specs.Prelude.{◌≡◌, ℕ, Bool, false, List, [], ◌∷◌, Option, Result, Ok, Err}
 use Rattle.ill_values.specs.declared.apdu.Apdu.{Apdu}
 use Rattle.ill_values.specs.TxnId.{Qualifiers}
@@ -15,16 +15,16 @@ use Rattle.ill_world.specs.World.{Party}
 
 -- ---- messages
 
--- the APDU that bytes are which are none
+-- The APDU that stands for bytes that are none.
 abbrev no_apdu : Apdu
 no_apdu = record { txn = record { group = []; transaction = [] }; number = 0; body = Cancel }
 
--- the APDU at the front of bytes
+-- Returns the APDU with which bytes begin, or else `no_apdu`.
 abbrev pub apdu_of : Result (Apdu × List ℕ) DerFault → Apdu
 apdu_of (Ok (a, rest)) = a
 apdu_of (Err fault) = no_apdu
 
--- whether bytes are an APDU of a transaction, by what stands at their front
+-- Returns true if bytes are exactly one APDU, and it is of `txn`.
 abbrev pub is_of : Qualifiers → Result (Apdu × List ℕ) DerFault → Bool
 is_of txn (Ok (a, [])) = is_same_txn a.txn txn
 is_of txn (Ok (a, byte ∷ rest)) = false
@@ -32,21 +32,21 @@ is_of txn (Err fault) = false
 
 -- ---- parties
 
--- what was read; it was where the store is honest
+-- Returns the value that was read, or `live` if there was a fault. An honest store gives no fault.
 abbrev pub read_or : {V : Type 0} → V → Result V RecordFault → V
 read_or live (Ok landed) = landed
 read_or live (Err fault) = live
 
--- the side that has landed in the store of a desk
+-- Returns the side that has landed in the store of `desk`.
 abbrev pub landed_of : DeskOf MemoryStoreState → Side
 landed_of desk = read_or desk.live (landed_side desk.store.landed desk.live)
 
--- the party that a desk and the messages sent from it stand for
+-- Returns the party for which `desk` and the messages `sent` from it stand.
 abbrev pub party_of : DeskOf MemoryStoreState → List (Option Apdu) → Party
 party_of desk sent = record { live = desk.live; landed = landed_of desk; released = desk.released; sent = sent }
 
--- Between two events the next call of the store works, and what has landed is a side of the same
--- role and transaction.
+-- Between two events the next call of the store works. The landed side has the role and the transaction of the live
+-- one.
 pub record IsReady (desk : DeskOf MemoryStoreState) : Type 0 where
   pub works : desk.store.next ≡ Works
   pub landed : landed_side desk.store.landed desk.live ≡ Ok (landed_of desk)

@@ -1,4 +1,4 @@
--- A script and its trace, whatever its lines say and whoever performs them (this profile's own).
+-- A script and its trace, for any language of lines and any world (this profile's own).
 use Rattle.std.specs.Prelude.{◌≡◌, ℕ, ◌+◌, Bool, ◌&&◌, ◌==◌, nat_le, List, [], ◌∷◌, ◌++◌, length, Option, Some, None, Result, Ok, Err, if◌then◌else◌}
 use Rattle.std.specs.List.{slice_split}
 use Rattle.std.specs.Io.KnownBytes.{Consumes, Appends, IsAtEnd}
@@ -8,24 +8,25 @@ use Rattle.ill_world.specs.declared.script.ScriptLine.TheVariants as lines
 use Rattle.ill_world.specs.declared.fault.SimFault.{SimFault}
 use Rattle.ill_world.specs.declared.fault.SimFault.TheVariants.{Script, Read, Write, OutOfMemory}
 
--- A play: what a line says with what is carried to it, and what is carried on from it; the world after an
--- event; and the text that shows the event with this number in a world.
+-- A play: `says` gives the meaning of a line, and carries a value from line to line. `next` gives the world after an
+-- event, and `text` shows an event with its number and the world before it.
 pub record Play (W E C : Type 0) : Type 0 where
   pub says : C → List ℕ → ScriptLine E × C
   pub next : W → E → W
   pub text : ℕ → W → E → List ℕ
 
--- ---- what a script says
+-- ---- the reading of a script
 
--- its events before the first bad line, and the number of that line, if there is one
+-- The events of a script before its first bad line, and the number of that line, if there is one.
 pub record Said (E : Type 0) : Type 0 where
   pub events : List E
   pub bad : Option ℕ
 
+-- The reading of a text without events and without a bad line.
 abbrev pub says_nothing : {E : Type 0} → Said E
 says_nothing = record { events = []; bad = None }
 
--- a line may have at most 1,024 bytes, and there may be at most 100,000 lines
+-- Returns true if n is at most 100,000, and `bytes` are at most 1,024.
 abbrev pub is_within : ℕ → List ℕ → Bool
 is_within n bytes = nat_le n 100000 && nat_le (length bytes) 1024
 
@@ -39,18 +40,18 @@ then_says lines.Skipped n more = more
 then_says (lines.Event event) n more = record { events = event ∷ more.events; bad = more.bad }
 then_says lines.Bad n more = record { events = []; bad = Some n }
 
--- At the end of a text what follows its last LF is line n, unless it is empty.
+-- Reads the bytes after the last LF at the end of a text: they are line n, unless they are empty.
 abbrev pub ends : {W E C : Type 0} → Play W E C → C → ℕ → List ℕ → Said E
 ends play c n [] = says_nothing
 ends play c n (byte ∷ bytes) = then_says (line_at play c n (byte ∷ bytes)).0 n says_nothing
 
--- Where a reader fails, it is no line, but it may be a bad one already.
+-- Reads the bytes after the last LF when the reader fails: no line, or a bad one if they are beyond the limits.
 abbrev pub breaks_off : {E C : Type 0} → C → ℕ → List ℕ → Said E
 breaks_off c n [] = says_nothing
 breaks_off c n (byte ∷ bytes) =
     if is_within n (byte ∷ bytes) then says_nothing else record { events = []; bad = Some n }
 
--- lines from line n on; the last is what follows the last LF
+-- Reads lines from line n on. `end` reads the last, which follows the last LF.
 unfoldable pub says_from : {W E C : Type 0} → Play W E C → (C → ℕ → List ℕ → Said E) → C → ℕ →
     List (List ℕ) → Said E
 says_from play end c n [] = says_nothing
@@ -58,16 +59,17 @@ says_from play end c n (rest ∷ []) = end c n rest
 says_from play end c n (first ∷ second ∷ more) =
     then_says (line_at play c n first).0 n (says_from play end (line_at play c n first).1 (n + 1) (second ∷ more))
 
+-- Returns the parts of `text` between its LFs.
 abbrev pub lines_in : List ℕ → List (List ℕ)
 lines_in text = slice_split (λ byte. byte == 10) text
 
--- what a text says from line n on
+-- Reads `text` from line n on. `end` reads the bytes after the last LF.
 abbrev pub says_on : {W E C : Type 0} → Play W E C → (C → ℕ → List ℕ → Said E) → C → ℕ → List ℕ → Said E
 says_on play end c n text = says_from play end c n (lines_in text)
 
 -- ---- the trace of a run
 
--- a text for each event, from this number on
+-- Returns the text of each of `events`, from number n and world `w` on.
 unfoldable pub trace_from : {W E C : Type 0} → Play W E C → ℕ → W → List E → List ℕ
 trace_from play n w [] = []
 trace_from play n w (event ∷ events) = play.text n w event ++ trace_from play (n + 1) (play.next w event) events
@@ -78,8 +80,8 @@ trace_from play n w (event ∷ events) = play.text n w event ++ trace_from play 
 abbrev pub OfAll : List ℕ → Option (List ℕ) → (List ℕ → Type 0) → Type 0
 OfAll text left P = (more : List ℕ) → left ≡ Some more → P (text ++ more)
 
--- What was answered and written, of the text that was read and of what the reader has left: by what a whole
--- text says, what one says that breaks off, the trace of events, and how many had happened before.
+-- The result and `trace` fit the `text` that was read and the bytes `left` in the reader. `whole` reads a whole text,
+-- and `broken` one that breaks off; `count` events had happened before.
 abbrev pub Answers : {E : Type 0} → (List ℕ → Said E) → (List ℕ → Said E) → (List E → List ℕ) → ℕ →
     Result ℕ SimFault → List ℕ → Option (List ℕ) → List ℕ → Type 0
 Answers whole broken trace_of count (Ok total) text left trace =
@@ -94,8 +96,8 @@ Answers whole broken trace_of count (Err Write) text left trace =
 Answers {E = E} whole broken trace_of count (Err OutOfMemory) text left trace =
     OfAll text left (λ t. (events : List E) × IsPrefix events (whole t).events × (trace ≡ trace_of events))
 
--- A script was performed from line n on, behind so many events, from what the reader had left to what it
--- has left, and from what the writer held to what it holds.
+-- A script was performed from line n on, after `count` events. The reader went from `old` to `new`, and the writer
+-- from `before` to `after`.
 abbrev pub Plays : {W E C : Type 0} → Play W E C → C → ℕ → W → ℕ → Option (List ℕ) → Option (List ℕ) →
     Option (List ℕ) → Option (List ℕ) → Result ℕ SimFault → Type 0
 Plays play c n w count old new before after result =

@@ -1,5 +1,5 @@
--- A round, and what holds after it (this profile's own): all messages of the requester reach the responder, and
--- then all messages of the responder reach the requester, each side's in order.
+-- A round, and the facts after it (this profile's own). All messages of the requester reach the responder, and then
+-- all of the responder reach the requester, in order.
 use Rattle.std.specs.Prelude.{◌≡◌, ◌⊎◌, ℕ, zero, suc, ◌+◌, ◌<◌, true, false, List, [], ◌∷◌, ◌++◌, length, Result, Ok, Err}
 use Rattle.ill_core.specs.declared.state.State.{State}
 use Rattle.ill_core.specs.declared.state.State.TheVariants as states
@@ -19,28 +19,28 @@ use Rattle.ill_world.specs.Agreement.{Facing}
 
 -- ---- the events of a round
 
--- So many messages, from this number on, are sent and delivered, one after another.
+-- Returns a Send and a Deliver for each of `count` messages of `who`, from `number` on, one after another.
 unfoldable pub passes_on : Who → ℕ → ℕ → List Event
 passes_on who number zero = []
 passes_on who number (suc count) =
     Send who number ∷ Deliver (other who) number ∷ passes_on who (number + 1) count
 
--- A party saves, and all its messages are passed on.
+-- Returns a half of a round: `who` saves, and all its messages are passed on.
 abbrev pub half_of : Who → Parties → List Event
 half_of who w = Save who ∷ passes_on who 1 (length (issued_of (party w who).live))
 
--- the requester's half, and then the responder's
+-- Returns the requester's half of a round, and then the responder's.
 abbrev pub round_of : Parties → List Event
 round_of w = half_of Requester w ++ half_of Responder (run_of w (half_of Requester w))
 
--- Events were performed, one after another, that lead on by a run; or memory ran out, and only the first of them were.
+-- The world is the one after `events`, from `old` on. If memory ran out, it is the one after a prefix of them.
 abbrev pub Performs : {W E M : Type 0} → (W → List E → W) → List E → W → Result (Unit {0}) M → W → Type 0
 Performs run events old (Ok done) new = new ≡ run old events
 Performs {E = E} run events old (Err memory) new = (first : List E) × IsPrefix first events × (new ≡ run old first)
 
 -- ---- the two records after it
 
--- the states of a responder that a requester in this state faces
+-- Returns the states of a responder that a requester in this state may face.
 abbrev pub faced_in : State → List State
 faced_in states.Idle = states.Idle ∷ []
 faced_in states.Pending = states.InProcess ∷ []
@@ -58,9 +58,8 @@ faced_in states.Recall = states.Recall ∷ []
 faced_in states.Returned = states.Returned ∷ states.CheckedIn ∷ []
 faced_in other = []
 
--- The two are in step: their states face each other, no conditions stand that were declined, either side knows of
--- the other whether the item was received, and whether it was checked in, and the due dates are equal, unless the
--- item was recalled or returned.
+-- The records are in step: their states face each other, no declined conditions stand, and receipt and check-in are
+-- known. The due dates are equal, unless the item was recalled or returned.
 pub record InStep (x : RequesterRecord) (y : ResponderRecord) : Type 0 where
   pub faced : is_among (faced_in x.state) y.state ≡ true
   pub undeclined : is_declined x ≡ false
@@ -76,9 +75,9 @@ AreInStep w = Facing InStep w.requester.live w.responder.live
 abbrev pub CanAnswer : Side → Type 0
 CanAnswer side = (has is_end (issued_of side) ≡ true) ⊎ (length (issued_of side) < 255)
 
--- ---- two records that are not in step, each by what is wrong in it
+-- ---- two records that are not in step
 
--- the states of a requester that a responder in this state may face
+-- Returns the states of a requester that a responder in this state may face.
 abbrev pub facing_in : State → List State
 facing_in states.Idle = states.Idle ∷ []
 facing_in states.InProcess = states.Pending ∷ states.Conditional ∷ []
@@ -95,6 +94,7 @@ facing_in states.Returned = states.Returned ∷ []
 facing_in states.CheckedIn = states.Returned ∷ []
 facing_in other = []
 
+-- The two records are not in step. Each case has one reason.
 pub data OutOfStep (x : RequesterRecord) (y : ResponderRecord) : Type 0 where
   unfaced : is_among (facing_in y.state) x.state ≡ false → OutOfStep x y
   -- the conditions were declined, and the request goes on

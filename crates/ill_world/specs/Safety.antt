@@ -1,5 +1,5 @@
--- What holds in every world of every run (this profile's own): no side acts on what the other's
--- record contradicts.
+-- Safety, which holds in every world of every run: no side acts on what the other's record contradicts (this profile's
+-- own).
 use Rattle.std.specs.Prelude.{◌≡◌, ℕ, true, List, Some, take}
 use Rattle.ill_values.specs.Day.{Date}
 use Rattle.ill_values.specs.declared.apdu.Apdu.{Apdu}
@@ -15,7 +15,7 @@ use Rattle.ill_world.specs.World.{Parties, run_of}
 
 -- ---- a requester's side, and the responder's that it faces
 
--- A requester in CANCELLED faces a responder in CANCELLED, and one in NOT-SUPPLIED one in NOT-SUPPLIED.
+-- A requester in CANCELLED faces a responder in CANCELLED. One in NOT-SUPPLIED faces one in NOT-SUPPLIED.
 abbrev pub EndsAlike : Side → Side → Type 0
 EndsAlike requester responder =
     (state_of requester ≡ Cancelled → state_of responder ≡ Cancelled)
@@ -26,7 +26,7 @@ abbrev pub WasShipped : Side → Side → Type 0
 WasShipped requester responder =
     is_among later (state_of requester) ≡ true → has is_shipped (issued_of responder) ≡ true
 
--- one of the APDUs is a Shipped or a Renew-Answer yes with this date
+-- One of `apdus` is a Shipped or a Renew-Answer yes with the date `due`.
 abbrev pub Grants : List Apdu → Date → Type 0
 Grants apdus due = (n : ℕ) × (a : Apdu) × (message apdus n ≡ Some a) × (grant_in a.body ≡ Some due)
 
@@ -37,19 +37,19 @@ WasGranted requester responder =
 
 -- ---- worlds
 
--- It holds of the requester as it is in memory and as it has landed, with the responder as it is in
--- memory and as it has landed.
+-- `P` holds of the requester's live and landed side, each with the responder's live and landed side.
 pub record OfBoth (P : Side → Side → Type 0) (w : Parties) : Type 0 where
   pub live : P w.requester.live w.responder.live
   pub live_landed : P w.requester.live w.responder.landed
   pub landed_live : P w.requester.landed w.responder.live
   pub landed : P w.requester.landed w.responder.landed
 
+-- A world is safe: `EndsAlike`, `WasShipped` and `WasGranted` hold of all four pairs of sides.
 pub record Safe (w : Parties) : Type 0 where
   pub ends : OfBoth EndsAlike w
   pub shipped : OfBoth WasShipped w
   pub granted : OfBoth WasGranted w
 
--- Every world is safe that these events lead through, from this world on.
+-- Each world to which a prefix of `events` leads from `w` is safe.
 abbrev pub IsSafeRun : Parties → List Event → Type 0
 IsSafeRun w events = (n : ℕ) → Safe (run_of w (take n events))

@@ -1,4 +1,4 @@
--- What a line of a script says (this profile's own).
+-- The meaning of a line of a script (this profile's own).
 use Rattle.std.specs.Prelude.{ℕ, Bool, false, not, ◌==◌, if◌then◌else◌, List, [], ◌∷◌, length, bytes_eq, codes, Option, Some, None, option_map}
 use Rattle.std.specs.List.{slice_split, filter}
 use Rattle.ill_saved.specs.declared.role.Role.{Role as Who}
@@ -8,11 +8,11 @@ use Rattle.ill_world.specs.declared.script.ScriptLine.{ScriptLine}
 use Rattle.ill_world.specs.declared.script.ScriptLine.TheVariants as lines
 use Rattle.ill_world.specs.Words.{◌>>=◌, named, who_named, landed_named, day_of, number_of, bytes_of, wish_of, deed_of}
 
--- the words of a line: what stands between its spaces, without the empty runs
+-- Returns the words of a line: the parts between its spaces that are not empty.
 unfoldable pub words_of : List ℕ → List (List ℕ)
 words_of line = filter (λ word. not (length word == 0)) (slice_split (λ byte. byte == 0x20) line)
 
--- what the words behind the responder say: a day, and a deed
+-- Returns the event that the words after `responder` say: a day, and a deed.
 abbrev pub deed_event : List (List ℕ) → Option Event
 deed_event [] = None
 deed_event (today ∷ words) = do
@@ -20,11 +20,11 @@ deed_event (today ∷ words) = do
   deed ← deed_of None words
   Some (Deed deed day)
 
--- what happens to a side, by the verb
+-- Returns the event at `who` that the verb says alone.
 abbrev pub bare_event : List ℕ → Who → Option Event
 bare_event verb who = named ((codes "save", Save who) ∷ (codes "restart", Restart who) ∷ []) verb
 
--- what happens to a side, by the verb and the word behind the side
+-- Returns the event at `who` that the verb and the word after the side say.
 abbrev pub event_with : List ℕ → List ℕ → Who → Option Event
 event_with verb word who =
     if bytes_eq verb (codes "save-fault") then option_map (SaveFault who) (landed_named word)
@@ -33,13 +33,13 @@ event_with verb word who =
     else if bytes_eq verb (codes "noise") then option_map (Noise who) (bytes_of word)
     else None
 
--- what a verb and the words behind it say, the first of them naming a side
+-- Returns the event that a verb and the words after it say, of which the first names a side.
 abbrev pub side_event : List ℕ → List (List ℕ) → Option Event
 side_event verb (side ∷ []) = who_named side >>= bare_event verb
 side_event verb (side ∷ word ∷ []) = who_named side >>= event_with verb word
 side_event verb words = None
 
--- the event that words say
+-- Returns the event that `words` say, if they say one.
 unfoldable pub event_of : List (List ℕ) → Option Event
 event_of [] = None
 event_of (first ∷ words) =
@@ -56,7 +56,7 @@ abbrev pub line_of : List (List ℕ) → ScriptLine Event
 line_of [] = lines.Skipped
 line_of (word ∷ words) = line_with (event_of (word ∷ words))
 
--- whether a line is a remark: its very first byte is the number sign
+-- Returns true if a line is a remark: its first byte is the number sign.
 abbrev pub is_remark : List ℕ → Bool
 is_remark [] = false
 is_remark (byte ∷ bytes) = byte == 0x23

@@ -12,27 +12,26 @@ use Rattle.ill_world.specs.Agreement.{Agrees}
 
 -- ---- the shelves
 
--- at each group its two desks, one of each library
+-- Two shelves: at each group two desks, one of each library.
 abbrev pub Shelves : Type 0
 Shelves = List ℕ → DeskParties
 
--- A group that was never used has desks that hold nothing yet.
+-- The first shelves: the desks at each group hold nothing.
 abbrev pub first_shelves : Shelves
 first_shelves = λ group. first_desks
 
--- the shelves, with these desks at this group
+-- Returns the shelves `w` with `desks` at the group `at`.
 abbrev pub with_desks : Shelves → List ℕ → DeskParties → Shelves
 with_desks w at desks = λ group. if bytes_eq group at then desks else w group
 
 -- ---- one event
 
--- An event of desks, said with a group. When a machine restarts, all its desks do: that is a list of restarts, one for
--- each group.
+-- An event of desks, said with a group. A restart of a machine is a list of restarts, one for each group.
 pub record ShelfEvent : Type 0 where
   pub group : List ℕ
   pub event : DeskEvent
 
--- The group of the transaction that an event names. An event of a whole desk is of the group that is said with it.
+-- Returns the group of the transaction that an event names. An event of a whole desk is of the group `said`.
 abbrev pub group_of : List ℕ → DeskEvent → List ℕ
 group_of said (Wish txn wish) = txn.group
 group_of said (Deed txn deed today) = txn.group
@@ -40,15 +39,15 @@ group_of said (Send who txn n) = txn.group
 group_of said (Deliver who txn n) = txn.group
 group_of said whole = said
 
--- the group at whose desks an event happens: so a transaction has one home
+-- Returns the group at whose desks an event happens. So a transaction has one home.
 abbrev pub home : ShelfEvent → List ℕ
 home e = group_of e.group e.event
 
--- events of desks, each said with this group
+-- Returns `events`, each said with `group`.
 abbrev pub said_in : List ℕ → List DeskEvent → List ShelfEvent
 said_in group events = map (λ event. record { group = group; event = event }) events
 
--- The outcome of an event, and the shelves after it: the desks at its home change, and no others.
+-- Returns the outcome of an event, and the shelves after it. Only the desks at its home change.
 abbrev pub shelves_happen : Shelves → ShelfEvent → DeskOutcome × Shelves
 shelves_happen w e =
     let after = desks_happen (w (home e)) e.event in
@@ -56,22 +55,22 @@ shelves_happen w e =
 
 -- ---- runs
 
--- the shelves after events
+-- Returns the shelves after `events`, from `w` on.
 abbrev pub shelves_run : Shelves → List ShelfEvent → Shelves
 shelves_run w events = run_by shelves_happen w events
 
--- the events of the desks of a group, in their order: those that have their home there
+-- Returns the events that have their home at `group`, in their order.
 abbrev pub events_at : List ℕ → List ShelfEvent → List DeskEvent
 events_at group [] = []
 events_at group (e ∷ events) =
     let others = events_at group events in
     if bytes_eq group (home e) then e.event ∷ others else others
 
--- Each transaction is safe at the desks of its group, in every world that these events lead through.
+-- Each transaction is safe at the desks of its group, after each prefix of `events` from `w` on.
 abbrev pub IsSafeShelfRun : Shelves → List ShelfEvent → Type 0
 IsSafeShelfRun w events = (txn : Qualifiers) (n : ℕ) → Safe (project txn (shelves_run w (take n events) txn.group))
 
--- Both sides of each transaction agree there, in every such world.
+-- Both sides of each transaction agree at the desks of its group, after each prefix of `events` from `w` on.
 abbrev pub IsAgreeingShelfRun : Shelves → List ShelfEvent → Type 0
 IsAgreeingShelfRun w events =
     (txn : Qualifiers) (n : ℕ) → Agrees (project txn (shelves_run w (take n events) txn.group))

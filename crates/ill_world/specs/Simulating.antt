@@ -15,7 +15,7 @@ use Rattle.ill_world.specs.Play.{Play, line_at, Plays}
 
 -- ---- reading ahead
 
--- A reader was read where nothing was ahead: something is ahead now, or the text has ended.
+-- A read ahead loses no byte of the text. It answers true if bytes are ahead now, and false at the end of the text.
 abbrev pub Fills : List ℕ → List ℕ → Option (List ℕ) → Option (List ℕ) → Result Bool SimFault → Type 0
 Fills before ahead old new (Ok true) =
     Consumes (prepend_known before old) (prepend_known ahead new) [] × (1 ≤ length ahead)
@@ -24,7 +24,7 @@ Fills before ahead old new (Ok false) =
 Fills before ahead old new (Err fault) =
     (fault ≡ Read) × Consumes (prepend_known before old) (prepend_known ahead new) [] × (ahead ≡ [])
 
--- where the reader failed, all that was read ahead is used
+-- If the reader failed, no bytes are left ahead.
 abbrev pub IsUsedUp : {X : Type 0} → List ℕ → Result X SimFault → Type 0
 IsUsedUp ahead (Ok done) = Unit {0}
 IsUsedUp ahead (Err Read) = ahead ≡ []
@@ -32,20 +32,20 @@ IsUsedUp ahead (Err other) = Unit {0}
 
 -- ---- reading one line
 
--- there is an LF among the bytes
+-- Returns true if `bytes` have an LF.
 abbrev pub has_lf : List ℕ → Bool
 has_lf bytes = list_any (λ byte. byte == 10) bytes
 
--- the place of the first LF
+-- Returns the place of the first LF, if there is one.
 abbrev pub lf_place : List ℕ → Option ℕ
 lf_place bytes = position_from (λ byte. byte == 10) 0 bytes
 
--- these bytes have no LF, and a line may have so many
+-- `bytes` have no LF, and are at most 1,024.
 abbrev pub IsLine : List ℕ → Type 0
 IsLine bytes = (has_lf bytes ≡ false) × (length bytes ≤ 1024)
 
--- What is ahead was taken behind the front of a line: up to its LF, which is dropped; more bytes than a
--- line may have; all, of a line that goes on; or none, for want of memory.
+-- Bytes of `before` join `front`, the begin of a line: up to an LF, beyond the limit, or all. If memory runs out, none
+-- are taken.
 abbrev pub TakesPart : List ℕ → List ℕ → List ℕ → List ℕ → Result (Option Found) AllocError → Type 0
 TakesPart before ahead front line (Ok (Some found.ScriptLine)) =
     (bytes : List ℕ) × (before ≡ bytes ++ 10 ∷ ahead) × (has_lf bytes ≡ false)
@@ -58,8 +58,8 @@ TakesPart before ahead front line (Ok None) =
     (ahead ≡ []) × (has_lf before ≡ false) × (line ≡ front ++ before) × (length line ≤ 1024)
 TakesPart before ahead front line (Err fault) = ahead ≡ before
 
--- What was found, and read: a line and its LF; what follows the last LF; more bytes than a line may
--- have; a line that a reader or want of memory cut off.
+-- A line was read: with its LF, to the end of the text, or beyond the limit. A failing reader or want of memory cuts
+-- it off.
 abbrev pub ReadsLine : Option (List ℕ) → Option (List ℕ) → List ℕ → Result Found SimFault → Type 0
 ReadsLine old new bytes (Ok found.ScriptLine) = IsLine bytes × Consumes old new (bytes ++ 10 ∷ [])
 ReadsLine old new bytes (Ok found.Rest) = IsLine bytes × Consumes old new bytes × IsAtEnd new
@@ -104,7 +104,7 @@ PerformsLine play says n w count before after result new new_count = ⊥
 
 -- ---- the rest of a script
 
--- Line n was performed, and more may follow; or the simulation has ended with it.
+-- Line n was performed, and more may follow. Otherwise the simulation has ended with it.
 abbrev pub StepsLine : {W E C : Type 0} → Play W E C → C → ℕ → W → ℕ → Option (List ℕ) → Option (List ℕ) →
     Option (List ℕ) → Option (List ℕ) → Result Bool SimFault → C → W → ℕ → Type 0
 StepsLine play c n w count old new before after (Ok true) carried next next_count =
@@ -116,12 +116,12 @@ StepsLine play c n w count old new before after (Ok false) carried next next_cou
 StepsLine play c n w count old new before after (Err fault) carried next next_count =
     Plays play c n w count old new before after (Err fault)
 
--- a byte is left, if that is known
+-- A byte is left, if the bytes left are known.
 abbrev pub IsBeforeEnd : Option (List ℕ) → Type 0
 IsBeforeEnd None = Unit {0}
 IsBeforeEnd (Some bytes) = 1 ≤ length bytes
 
--- The end was looked for behind as many lines as there may be.
+-- After the last line allowed, the reader is at the end of the text, has a byte more, or fails.
 abbrev pub FindsEnd : ℕ → Option (List ℕ) → Option (List ℕ) → Result ℕ SimFault → Type 0
 FindsEnd count old new (Ok total) = (total ≡ count) × Consumes old new [] × IsAtEnd new
 FindsEnd count old new (Err (Script n)) = (n ≡ 100001) × Consumes old new [] × IsBeforeEnd new

@@ -8,7 +8,7 @@ use Rattle.ill_world.specs.Script.{meaning}
 use Rattle.ill_world.specs.Trace.{line}
 use Rattle.ill_world.specs.Play.{Play, Said, ends, breaks_off, says_on, trace_from, Plays}
 
--- Two sides: each line says what it means, and nothing is carried from line to line.
+-- The play of two sides: each line says its meaning, and nothing is carried from line to line.
 abbrev pub two_sides : Play Parties Event (Unit {0})
 two_sides = record {
   says = λ none bytes. (meaning bytes, none);
@@ -16,27 +16,25 @@ two_sides = record {
   text = λ number w event. line number (happens w event).0 (happens w event).1;
 }
 
--- what a whole text says
+-- Returns the reading of a whole text.
 abbrev pub script : List ℕ → Said Event
 script text = says_on two_sides (ends two_sides) tt 1 text
 
--- what a text says that was read until the reader failed
+-- Returns the reading of a text after which the reader failed.
 abbrev pub script_read : List ℕ → Said Event
 script_read text = says_on two_sides breaks_off tt 1 text
 
--- the trace of events from two idle sides on
+-- Returns the trace of `events`, from two idle sides of `txn` on.
 abbrev pub trace_of : Qualifiers → List Event → List ℕ
 trace_of txn events = trace_from two_sides 1 (first_world txn) events
 
--- The line that a trace shows of an event behind others: its number, what is seen of it in the world after
--- those, and the world after it.
+-- Returns the line of `event` in a trace, after `events`: its number, its outcome, and the world after it.
 abbrev pub line_behind : Qualifiers → List Event → Event → List ℕ
 line_behind txn events event =
     line (length events + 1) (happens (run_of (first_world txn) events) event).0
     (run_of (first_world txn) (events ++ event ∷ []))
 
--- A simulation, from what the reader had left to what it has left, and from what the writer held to
--- what it holds.
+-- A simulation has this result. The reader went from `old` to `new`, and the writer from `before` to `after`.
 abbrev pub Simulates : Qualifiers → Option (List ℕ) → Option (List ℕ) → Option (List ℕ) →
     Option (List ℕ) → Result ℕ SimFault → Type 0
 Simulates txn old new before after result =

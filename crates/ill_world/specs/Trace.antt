@@ -1,5 +1,4 @@
--- The trace of a run: a line for each event, with what is seen of it and how both sides stand after it
--- (this profile's own).
+-- The trace of a run (this profile's own): a line for each event, with its outcome and both sides after it.
 use Rattle.std.specs.Prelude.{ℕ, List, ◌++◌, length, Option, Some, None, codes}
 use Rattle.std.specs.Fmt.{decimal}
 use Rattle.ill_values.specs.Day.{Date, date_text}
@@ -20,14 +19,14 @@ use Rattle.ill_saved.specs.Many.{held_for}
 use Rattle.ill_world.specs.World.{Party, Parties}
 use Rattle.ill_world.specs.Desks.{DeskParty, DeskParties}
 
--- what a message did, in a word
+-- Returns the word of the answer to a message.
 abbrev pub taking_word : Taking → List ℕ
 taking_word Taken = codes "taken"
 taking_word Repeat = codes "repeat"
 taking_word Stale = codes "stale"
 taking_word (Conflict state) = codes "conflict"
 
--- why an action or a message was refused, in a word
+-- Returns the word of a refusal.
 abbrev pub refusal_word : Refusal → List ℕ
 refusal_word refusals.OtherTransaction = codes "other-transaction"
 refusal_word refusals.WrongRole = codes "wrong-role"
@@ -39,7 +38,7 @@ refusal_word refusals.NotExpired = codes "not-expired"
 refusal_word refusals.NumbersUsed = codes "numbers-used"
 refusal_word refusals.OutOfMemory = codes "memory"
 
--- what is seen of an event, in a word
+-- Returns the word of an outcome.
 abbrev pub outcome_word : Outcome → List ℕ
 outcome_word Done = codes "done"
 outcome_word Saved = codes "saved"
@@ -54,18 +53,18 @@ outcome_word Garbled = codes "garbled"
 outcome_word Forged = codes "forged"
 outcome_word Restarted = codes "restarted"
 
--- what is seen of an event at a desk of many transactions, in a word
+-- Returns the word of an outcome at a desk.
 abbrev pub desk_outcome_word : DeskOutcome → List ℕ
 desk_outcome_word (Plain outcome) = outcome_word outcome
 desk_outcome_word NoSuchTransaction = codes "no-such-transaction"
 desk_outcome_word DeskFull = codes "desk-full"
 
--- a due date, or a dash where there is none
+-- Returns the text of a due date, or a dash if there is none.
 abbrev pub due_text : Option Date → List ℕ
 due_text None = codes "-"
 due_text (Some d) = date_text d
 
--- what is shown of a side of which so many messages are released
+-- Returns the parts of `side` that a trace shows. `released` counts its released messages.
 abbrev pub shown_of : Side → ℕ → Shown
 shown_of side released = record {
   state = state_of side;
@@ -74,43 +73,44 @@ shown_of side released = record {
   issued = length (issued_of side);
 }
 
+-- Returns the parts of a party that a trace shows.
 abbrev pub party_shown : Party → Shown
 party_shown p = shown_of p.live p.released
 
--- its state, its due date, and how many of its messages are released and issued
+-- Returns the text of a side: its state, its due date, and the counts of its released and its issued messages.
 unfoldable pub shown_text : Shown → List ℕ
 shown_text shown =
     state_name shown.state ++ codes " " ++ due_text shown.due ++ codes " "
     ++ decimal shown.released ++ codes "/" ++ decimal shown.issued
 
--- how a side stands
+-- Returns the text that a trace shows of `side`. `released` counts its released messages.
 abbrev pub side_text : Side → ℕ → List ℕ
 side_text side released = shown_text (shown_of side released)
 
--- the number of an event, and what is seen of it, in a word
+-- Returns the text of the number of an event, and of the word of its outcome.
 abbrev pub event_text : ℕ → List ℕ → List ℕ
 event_text number word = decimal number ++ codes " " ++ word
 
--- how both sides stand
+-- Returns the text of both sides.
 abbrev pub sides_text : Shown → Shown → List ℕ
 sides_text requester responder =
     codes " requester " ++ shown_text requester ++ codes " responder " ++ shown_text responder
 
--- the line with this number: what was seen, in a word, and how both sides stand
+-- Returns the line with this number, the word of an outcome, and both sides.
 abbrev pub line_of : ℕ → List ℕ → Shown → Shown → List ℕ
 line_of number word requester responder =
     event_text number word ++ sides_text requester responder ++ codes "\n"
 
--- the line of the event with this number
+-- Returns the line of the event with this number, by its outcome and the world after it.
 unfoldable pub line : ℕ → Outcome → Parties → List ℕ
 line number outcome after =
     line_of number (outcome_word outcome) (party_shown after.requester) (party_shown after.responder)
 
--- what is shown of a transaction at a desk: of an idle side, where it is not held
+-- Returns the parts of the side of `txn` that a trace shows. A side that is not held is idle.
 abbrev pub desk_shown : Qualifiers → DeskParty → Shown
 desk_shown txn p = shown_of (held_for txn p.live).side (held_for txn p.live).released
 
--- the line of the event with this number, with how both sides of a transaction stand
+-- Returns the line of the event with this number, and both sides of `txn` after it.
 unfoldable pub desk_line : ℕ → Qualifiers → DeskOutcome → DeskParties → List ℕ
 desk_line number txn outcome after =
     line_of number (desk_outcome_word outcome) (desk_shown txn after.requester) (desk_shown txn after.responder)

@@ -1,5 +1,4 @@
--- The words of a script and of a command line: what one word may stand for, and what the words of a
--- requester's wish and of a responder's deed say (this profile's own).
+-- The words of a script and of a command line (this profile's own): the meaning of one word, of a wish, and of a deed.
 use Rattle.std.specs.Prelude.{ℕ, ◌+◌, ◌-◌, ◌*◌, ◌&&◌, fold, nat_le, Bool, true, false, if◌then◌else◌, ◌==◌, List, [], ◌∷◌, ◌++◌, length, flat_map, bytes_eq, codes, Option, Some, None, option_map}
 use Rattle.std.specs.List.{list_all}
 use Rattle.std.specs.Result.{result_ok}
@@ -15,94 +14,96 @@ use Rattle.ill_core.specs.declared.responder.Deed.TheVariants.{Answer, CancelRep
 use Rattle.ill_saved.specs.declared.role.Role.{Role as Who}
 use Rattle.ill_saved.specs.declared.role.Role.TheVariants.{Requester, Responder}
 
--- one step after another, as long as each gives a value
 infixl 10 ◌>>=◌
+-- Returns `next` of a value, or none if there is no value.
 abbrev pub ◌>>=◌ : {A B : Type 0} → Option A → (A → Option B) → Option B
 Some value >>= next = next value
 None >>= next = None
 
 -- ---- one word
 
--- the value beside a word in a table
+-- Returns the value beside `word` in a table, if `word` stands there.
 abbrev pub named : {A : Type 0} → List (List ℕ × A) → List ℕ → Option A
 named [] word = None
 named ((name, value) ∷ more) word = if bytes_eq word name then Some value else named more word
 
+-- Returns true for `yes`, and false for `no`.
 abbrev pub yes_of : List ℕ → Option Bool
 yes_of = named ((codes "yes", true) ∷ (codes "no", false) ∷ [])
 
+-- Returns the role that a word names.
 abbrev pub who_named : List ℕ → Option Who
 who_named = named ((codes "requester", Requester) ∷ (codes "responder", Responder) ∷ [])
 
--- whether a save that fails has landed nevertheless: the store has the new record, or the old one
+-- Returns true for `new` and false for `old`: the record that the store has after a failed save.
 abbrev pub landed_named : List ℕ → Option Bool
 landed_named = named ((codes "new", true) ∷ (codes "old", false) ∷ [])
 
--- a day as eight digits
+-- Returns the day of eight digits.
 abbrev pub day_of : List ℕ → Option Date
 day_of word = result_ok (read_date word)
 
--- one to so many decimal digits
+-- Returns true if `word` is one to `most` decimal digits.
 abbrev pub is_numeral : ℕ → List ℕ → Bool
 is_numeral most word = nat_le 1 (length word) && nat_le (length word) most && list_all is_ascii_digit word
 
--- the number that decimal digits stand for
+-- Returns the number for which decimal digits stand.
 abbrev pub decimal_value : List ℕ → ℕ
 decimal_value digits = fold (λ n digit. 10 * n + (digit - 0x30)) 0 digits
 
--- the day so many days after one, the days as one to five decimal digits
+-- Returns the day that lies one to five decimal `digits` of days after `from`.
 abbrev pub days_after : Date → List ℕ → Option Date
 days_after from digits =
     if is_numeral 5 digits then result_ok (day_after (decimal_value digits) from) else None
 
--- the day that something is due: a day, or a plus sign and days, where they may be counted from a day
+-- Returns the due day of a word: a day or, if `from` is given, a plus sign and days after it.
 abbrev pub due_of : Option Date → List ℕ → Option Date
 due_of None word = day_of word
 due_of (Some from) [] = day_of []
 due_of (Some from) (byte ∷ digits) = if byte == 0x2B then days_after from digits else day_of (byte ∷ digits)
 
--- a day, or the word for none
+-- Returns the day of a word, or no day for `none`.
 abbrev pub optional_day_of : List ℕ → Option (Option Date)
 optional_day_of word = if bytes_eq word (codes "none") then Some None else option_map Some (day_of word)
 
--- a number of a message
+-- Returns true if a message may have the number n: 1 to 255.
 abbrev pub is_number : ℕ → Bool
 is_number n = nat_le 1 n && nat_le n 255
 
--- the number of a message: one to three digits, with zeros before it or not
+-- Returns the number of a message: one to three digits, with or without leading zeros.
 abbrev pub number_of : List ℕ → Option ℕ
 number_of word = if is_numeral 3 word && is_number (decimal_value word) then Some (decimal_value word) else None
 
--- bytes as hexadecimal digits, two for each, or the word for none
+-- Returns the bytes for which hexadecimal digits stand, two for each. The word `none` stands for no bytes.
 abbrev pub bytes_of : List ℕ → Option (List ℕ)
 bytes_of word = if bytes_eq word (codes "none") then Some [] else result_ok (decode_of word)
 
 -- ---- a requester's wish
 
--- a wish of one word
+-- Returns the wish of one word.
 abbrev pub bare_wish_of : List ℕ → Option Wish
 bare_wish_of =
     named ((codes "cancel", Cancel) ∷ (codes "receive", Receive) ∷ (codes "return", Return) ∷ [])
 
--- a wish of a word and what it is about
+-- Returns the wish that a verb and one more word say.
 abbrev pub wish_with : List ℕ → List ℕ → Option Wish
 wish_with verb word =
     if bytes_eq verb (codes "reply") then option_map Reply (yes_of word)
     else if bytes_eq verb (codes "renew") then option_map Renew (optional_day_of word)
     else None
 
--- words with a space between each and the next
+-- Returns the words joined by spaces.
 abbrev pub spaced : List ℕ → List (List ℕ) → List ℕ
 spaced first more = first ++ flat_map (λ word. 0x20 ∷ word) more
 
--- a request until a day, or without an end, for the item of this text
+-- Returns a Request for the item of `text`, until the day `expiry` or without an end.
 abbrev pub request_of : List ℕ → List ℕ → Option Wish
 request_of expiry text = do
   day ← optional_day_of expiry
   item ← result_ok (item_of text)
   Some (Request day item)
 
--- the wish that words say
+-- Returns the wish that words say, if they say one.
 unfoldable pub wish_of : List (List ℕ) → Option Wish
 wish_of [] = None
 wish_of (verb ∷ []) = bare_wish_of verb
@@ -112,7 +113,7 @@ wish_of (verb ∷ expiry ∷ first ∷ more) =
 
 -- ---- a responder's deed
 
--- a deed of one word
+-- Returns the deed of one word.
 abbrev pub bare_deed_of : List ℕ → Option Deed
 bare_deed_of = named (
     (codes "overdue", Overdue)
@@ -121,11 +122,11 @@ bare_deed_of = named (
     ∷ (codes "expire", Expire)
     ∷ [])
 
--- a renewal is refused without a date
+-- Returns a Renew-Answer no for the word `no`.
 abbrev pub refusal_of : List ℕ → Option Deed
 refusal_of = named ((codes "no", RenewAnswer None) ∷ [])
 
--- a deed of a word and what it is about
+-- Returns the deed that a verb and one more word say. A due day may be counted from `from`.
 unfoldable pub deed_with : Option Date → List ℕ → List ℕ → Option Deed
 deed_with from verb word =
     if bytes_eq verb (codes "answer") then option_map Answer (result_named word)
@@ -134,14 +135,14 @@ deed_with from verb word =
     else if bytes_eq verb (codes "renew-answer") then refusal_of word
     else None
 
--- a renewal is granted by two words and the new due date
+-- Returns a Renew-Answer yes until the day `due`, if the first two words say so.
 unfoldable pub grant_with : Option Date → List ℕ → List ℕ → List ℕ → Option Deed
 grant_with from verb word due =
     if bytes_eq verb (codes "renew-answer") && bytes_eq word (codes "yes")
     then option_map (λ day. RenewAnswer (Some day)) (due_of from due)
     else None
 
--- the deed that words say; due days may be counted from a day, if there is one
+-- Returns the deed that words say, if they say one. A due day may be counted from `from`.
 unfoldable pub deed_of : Option Date → List (List ℕ) → Option Deed
 deed_of from (verb ∷ []) = bare_deed_of verb
 deed_of from (verb ∷ word ∷ []) = deed_with from verb word

@@ -23,64 +23,66 @@ use Rattle.ill_world.specs.declared.event.Outcome.TheVariants.{Done, Saved, Faul
 
 -- ---- the world
 
--- A party: its side as it is in memory; its side as it has landed, which is idle where nothing has;
--- how many of its messages are released; and by number the messages that it has sent, the n-th being
--- message n.
+-- A party: its side in memory, the landed one (idle if nothing has landed), and the count of released messages. `sent`
+-- has message n at place n - 1, if it was sent.
 pub record Party : Type 0 where
   pub live : Side
   pub landed : Side
   pub released : ℕ
   pub sent : List (Option Apdu)
 
--- the two of a loan, each named by its role
+-- A value for the requester of a loan, and one for its responder.
 pub record TwoOf (P : Type 0) : Type 0 where
   pub requester : P
   pub responder : P
 
+-- A world: the two parties of a transaction.
 abbrev pub Parties : Type 0
 Parties = TwoOf Party
 
--- a place for each number, and no message in it
+-- The messages of a party that has sent none: 255 empty places.
 abbrev pub nothing_sent : List (Option Apdu)
 nothing_sent = replicate 255 None
 
--- a party that has done nothing yet
+-- Returns a party with `idle` as its live and landed side, which has released and sent nothing.
 abbrev pub first_party : Side → Party
 first_party idle = record { live = idle; landed = idle; released = 0; sent = nothing_sent }
 
--- the two idle sides of a transaction
+-- Returns the world in which both parties of `txn` are idle.
 abbrev pub first_world : Qualifiers → Parties
 first_world txn = record {
   requester = first_party (idle_side Requester txn);
   responder = first_party (idle_side Responder txn);
 }
 
+-- Returns the one of the two in `w` that has the given role.
 abbrev pub party : {P : Type 0} → TwoOf P → Who → P
 party w Requester = w.requester
 party w Responder = w.responder
 
+-- Returns `w` with `p` in the given role.
 abbrev pub with_party : {P : Type 0} → TwoOf P → Who → P → TwoOf P
 with_party w Requester p = record w { requester = p }
 with_party w Responder p = record w { responder = p }
 
--- message n of a party, if it has sent it
+-- Returns message n, if it was sent. No message has the number 0.
 abbrev pub sent_message : List (Option Apdu) → ℕ → Option Apdu
 sent_message sent zero = None
 sent_message sent (suc n) = option_flatten (slice_get sent n)
 
--- the messages that were sent, and message n
+-- Returns `sent` with `a` as message n. The number 0 changes nothing.
 abbrev pub with_sent : List (Option Apdu) → ℕ → Apdu → List (Option Apdu)
 with_sent sent zero a = sent
 with_sent sent (suc n) a = slice_set sent n (Some a)
 
 -- ---- one event
 
--- a decision of the library
+-- Returns the outcome and the party after a decision of its library: a new live side, or a refusal.
 abbrev pub decides : Party → Result Side Refusal → Outcome × Party
 decides p (Ok new) = (Done, record p { live = new })
 decides p (Err refusal) = (Refused refusal, p)
 
--- A save lands the live record, and releases all its messages.
+-- A save lands the live side, and releases all its messages.
 abbrev pub saves : Party → Party
 saves p = record p { landed = p.live; released = length (issued_of p.live) }
 
@@ -89,21 +91,22 @@ abbrev pub fails_to_save : Party → Bool → Party
 fails_to_save p true = record p { landed = p.live }
 fails_to_save p false = p
 
--- A message that was issued may be sent once it is released.
+-- Returns the outcome of a Send, and the party after it. A message is sent if it is issued and released.
 abbrev pub sends_by : {P : Type 0} → P → (Apdu → P) → Option Apdu → Bool → Outcome × P
 sends_by p sending None is_released = (NoSuchMessage, p)
 sends_by p sending (Some a) false = (NotSaved, p)
 sends_by p sending (Some a) true = (Sent, sending a)
 
+-- Returns the outcome of a Send of message n, and the party after it. The message joins `p.sent` if it is sent.
 abbrev pub sends : Party → ℕ → Option Apdu → Bool → Outcome × Party
 sends p n issued is_released = sends_by p (λ a. record p { sent = with_sent p.sent n a }) issued is_released
 
--- what is seen of a message that was delivered
+-- Returns the outcome of a delivered message.
 abbrev pub answer_to : Result Taking Refusal → Outcome
 answer_to (Ok taking) = Answered taking
 answer_to (Err refusal) = Refused refusal
 
--- a message of the other party
+-- Returns the outcome and the party after its live side takes `a`, a message of the other party.
 abbrev pub takes_message : Party → Apdu → Outcome × Party
 takes_message p a = (answer_to (takes p.live a).0, record p { live = (takes p.live a).1 })
 
@@ -112,19 +115,18 @@ abbrev pub receives : Party → Option Apdu → Outcome × Party
 receives p None = (NotSent, p)
 receives p (Some a) = takes_message p a
 
--- What other bytes are, by what stands at their front. They change nothing: nobody forges an APDU of
--- the transaction, and one of another is refused.
+-- Returns the outcome of noise, by the APDU with which its bytes begin. Noise changes nothing: nobody forges an APDU
+-- of the transaction, and one of another is refused.
 abbrev pub hears : Party → Result (Apdu × List ℕ) DerFault → Outcome
 hears p (Ok (a, [])) = if is_same_txn a.txn (txn_of p.live) then Forged else Refused OtherTransaction
 hears p (Ok (a, byte ∷ rest)) = Garbled
 hears p (Err fault) = Garbled
 
--- A restart takes the record that has landed, and releases all its messages.
+-- A restart takes the landed side into memory, and releases all its messages.
 abbrev pub restarts : Party → Party
 restarts p = record p { live = p.landed; released = length (issued_of p.landed) }
 
--- What is seen of an event, and the party after it to whom it happens. The other party has sent
--- these messages.
+-- Returns the outcome of an event, and party `p` after it. `sent` has the messages of the other party.
 abbrev pub happens_to : Party → List (Option Apdu) → Event → Outcome × Party
 happens_to p sent (Wish wish) = decides p (acts p.live (actions.Wish wish))
 happens_to p sent (Deed deed today) = decides p (acts p.live (actions.Deed deed today))
@@ -135,7 +137,7 @@ happens_to p sent (Deliver who n) = receives p (sent_message sent n)
 happens_to p sent (Noise who bytes) = (hears p (apdu_at bytes), p)
 happens_to p sent (Restart who) = (Restarted, restarts p)
 
--- to whom an event happens
+-- Returns the role of the party to which an event happens.
 abbrev pub who_of : Event → Who
 who_of (Wish wish) = Requester
 who_of (Deed deed today) = Responder
@@ -146,24 +148,24 @@ who_of (Deliver who n) = who
 who_of (Noise who bytes) = who
 who_of (Restart who) = who
 
--- What is seen of what happens to one of the two, and both after it: the other one, on which it may
--- depend, stays as it is.
+-- Returns the outcome of `happening` at the one in role `who`, and both after it. The other one, which `happening`
+-- takes too, stays as it is.
 abbrev pub happens_at : {P O : Type 0} → TwoOf P → Who → (P → P → O × P) → O × TwoOf P
 happens_at w who happening =
     let after = happening (party w who) (party w (other who)) in
     (after.0, with_party w who after.1)
 
--- What is seen of an event, and the world after it.
+-- Returns the outcome of `event`, and the world after it.
 abbrev pub happens : Parties → Event → Outcome × Parties
 happens w event = happens_at w (who_of event) (λ p partner. happens_to p partner.sent event)
 
 -- ---- a run: one event after another
 
--- the world after events, each of which leads on as it happens
+-- Returns the world after events, one after another by `happening`.
 unfoldable pub run_by : {W E O : Type 0} → (W → E → O × W) → W → List E → W
 run_by happening w [] = w
 run_by happening w (event ∷ events) = run_by happening (happening w event).1 events
 
--- the world after events
+-- Returns the world after `events`, from `w` on.
 abbrev pub run_of : Parties → List Event → Parties
 run_of w events = run_by happens w events

@@ -10,7 +10,7 @@ use std::marker::Model;
 /// The most bytes that are read at a time.
 const PIECE: usize = 4_096;
 
-/// What was read of a text and not used yet: the rest of a piece. Contracts see it as these bytes.
+/// The bytes of a text that were read and not used yet: the rest of a piece. Contracts see it as these bytes.
 #[derive(Drop)]
 pub struct Ahead {
     piece: [u8; PIECE],
@@ -27,7 +27,7 @@ impl Model for Ahead {
 }
 
 impl Ahead {
-    /// Nothing is ahead.
+    /// Returns it with nothing ahead.
     pub fn new() -> Ahead
         ensures { result ≡ [] }
     {
@@ -38,14 +38,14 @@ impl Ahead {
         }
     }
 
-    /// The bytes.
+    /// Returns the bytes.
     pub fn bytes(&self) -> &[u8]
         ensures { result.now ≡ self.now }
     {
         &self.piece[self.start..self.end]
     }
 
-    /// Drops so many of the first bytes.
+    /// Drops the first `count` bytes.
     pub fn skip(&mut self, count: usize)
         requires { count ≤ length self.old }
         ensures { self.new ≡ drop count self.old }
@@ -53,8 +53,7 @@ impl Ahead {
         self.start += count;
     }
 
-    /// Reads a piece, where nothing is ahead, and answers whether anything is then: if not, the text has
-    /// ended.
+    /// Reads a piece if nothing is ahead. Returns true if bytes are ahead then, and false if the text has ended.
     pub fn fill<R: Read>(&mut self, reader: &mut R) -> Result<bool, SimFault>
         ensures { Fills self.old self.new (R.remaining reader.old) (R.remaining reader.new) result }
     {

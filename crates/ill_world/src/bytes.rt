@@ -7,7 +7,7 @@ ghost use Rattle.std.proofs.Common.{rules};
 
 use std::marker::Model;
 
-/// Any bytes, as they may reach a side. Two of them are equal where their bytes are.
+/// Any bytes, as they may reach a side. Two of them are equal if their bytes are.
 #[derive(Debug, Drop)]
 pub struct Bytes {
     items: Vec<u8>,
@@ -34,21 +34,21 @@ impl Eq for Bytes {
 }
 
 impl Bytes {
-    /// These bytes. It takes no memory.
+    /// Returns the value with these bytes. Allocates nothing.
     pub fn new(items: Vec<u8>) -> Bytes
         ensures { result ≡ items.items }
     {
         Bytes { items }
     }
 
-    /// The bytes, as a slice.
+    /// Returns the bytes as a slice.
     pub fn as_slice(&self) -> &[u8]
         ensures { result.now ≡ self.now }
     {
         &self.items
     }
 
-    /// The bytes, as the vector that they were made from. It takes no memory.
+    /// Returns the bytes as the vector from which they were made. Allocates nothing.
     pub fn into_vec(self) -> Vec<u8>
         ensures { result.items ≡ self }
     {

@@ -1,4 +1,4 @@
-//! What holds of two desks of many transactions, as contracts of functions that do nothing.
+//! The laws of two desks of many transactions, as contracts of functions that do nothing.
 
 ghost use Rattle.std.specs.Prelude.{◌≡◌, ◌++◌, ℕ, Bool, List, [], ◌∷◌, Option, Some, None, Err};
 ghost use Rattle.ill_values.specs.TxnId.{Qualifiers};
@@ -36,14 +36,13 @@ ghost use Rattle.ill_world.specs.DeskSafety.{ArrivesAt, DesksStand, IsRunOfEach,
 
 use crate::laws;
 
-/// Two desks show of a transaction what they hold of it, what has landed and what was sent.
+/// The projection of two desks has all that they hold of a transaction, that has landed and that was sent.
 pub fn desks_show_what_they_hold()
     ensures { (txn : Qualifiers) (w : DeskParties) → ProjectsTo w.requester txn (project txn w).requester
         × ProjectsTo w.responder txn (project txn w).responder }
 {}
 
-/// Where two desks stand, an event is one event of a transaction, with the same outcome, or changes
-/// nothing of it.
+/// If two desks stand, an event is one event of a transaction, with its outcome there, or leaves the projection.
 pub fn desk_events_are_events()
     ensures { (txn : Qualifiers) (w : DeskParties) (event : DeskEvent) → DesksStand w →
         Projects txn w event }
@@ -65,8 +64,7 @@ pub fn desks_stand()
     ill_core::laws::responder_is_quiet();
 }
 
-/// What two desks show of a transaction after any events is the world after the events of this
-/// transaction.
+/// The projection of two desks after any events is the world after the events of this transaction.
 pub fn desk_runs_are_runs()
     ensures { (events : List DeskEvent) → IsRunOfEach events }
 {
@@ -90,7 +88,7 @@ pub fn every_desk_run_agrees()
     laws::every_world_agrees();
 }
 
-/// Where two desks stand, an event keeps or raises the requester's due date in each transaction.
+/// If two desks stand, an event keeps or raises the requester's due date in each transaction.
 pub fn due_dates_stay_at_desks()
     ensures { (txn : Qualifiers) (w : DeskParties) (event : DeskEvent) → DesksStand w →
         KeepsDates (project txn w) (plain event) (project txn (desks_happen w event).1) }
@@ -99,15 +97,14 @@ pub fn due_dates_stay_at_desks()
     laws::due_dates_stay();
 }
 
-/// Where two desks stand, an event that names a transaction reaches the side that is held, or one that
-/// it begins: a Request of the requester does, and an ILL-Request at the responder, where the desk holds
+/// If two desks stand, an event that names a transaction reaches the side that is held, or one that it begins. A
+/// Request of the requester begins one, and an ILL-Request at the responder does. Either needs a desk that holds
 /// fewer than 1,000.
 pub fn desks_reach_what_they_hold()
     ensures { (w : DeskParties) (event : DeskEvent) → DesksStand w → ReachesSide w event }
 {}
 
-/// Where two desks stand, one arrival of the end of a request, or of a Returned, is enough: its
-/// transaction is held.
+/// If two desks stand, one arrival of the end of a request, or of a Returned, is enough: its transaction is held.
 pub fn one_arrival_at_a_desk_is_enough()
     ensures { (w : DeskParties) (event : DeskEvent) → DesksStand w → ArrivesAt w event }
 {
@@ -116,8 +113,8 @@ pub fn one_arrival_at_a_desk_is_enough()
     laws::one_arrival_is_enough();
 }
 
-/// Where two desks stand, only `Done`, `Saved`, `Sent`, `Restarted`, `Answered(Taken)` and `Faulted`
-/// change what they show of a transaction, and `Faulted` only what has landed.
+/// If two desks stand, only `Done`, `Saved`, `Sent`, `Restarted`, `Answered(Taken)` and `Faulted` change the
+/// projection of a transaction. `Faulted` changes only the landed side.
 pub fn few_desk_outcomes_change()
     ensures { (txn : Qualifiers) (w : DeskParties) (event : DeskEvent) → DesksStand w →
         let after = desks_happen w event in
@@ -127,7 +124,7 @@ pub fn few_desk_outcomes_change()
     laws::few_outcomes_change();
 }
 
-/// Where two desks stand, what was sent in a transaction stays sent, with its number, at every event.
+/// If two desks stand, a message that was sent in a transaction stays sent, under its number, at every event.
 pub fn sent_stays_sent_at_desks()
     ensures { (txn : Qualifiers) (w : DeskParties) (event : DeskEvent) → DesksStand w →
         KeepsSent (project txn w) (project txn (desks_happen w event).1) }
@@ -136,8 +133,8 @@ pub fn sent_stays_sent_at_desks()
     laws::sent_stays_sent();
 }
 
-/// A run of two desks is safe, and both sides of each transaction agree in it, only where that is so of each
-/// world on the way. One event more leads a transaction on by the events that it has of it.
+/// A run of two desks is safe only if each world on the way is. Both sides of each transaction agree in it only if
+/// they do in each of these worlds. One event more leads a transaction on by the events that it has of it.
 pub fn desk_runs_have_each_world()
     ensures safe { (w : DeskParties) (before after : List DeskEvent) (txn : Qualifiers) →
         IsSafeDeskRun w (before ++ after) → Safe (project txn (desks_run w before)) }
@@ -149,8 +146,8 @@ pub fn desk_runs_have_each_world()
         project txn (desks_happen w event).1 ≡ run_of (project txn w) (events_for txn w (event ∷ [])) }
 {}
 
-/// A transaction has events of the desks in their order. It has each that happens to a whole desk, and each
-/// that names it and reaches it; and none that names another or is not reached, and no noise.
+/// A transaction has events of the desks in their order. It has each that happens to a whole desk, and each that
+/// names it and reaches it. It has none that names another or is not reached, and no noise.
 pub fn transactions_have_their_events()
     ensures order { (txn : Qualifiers) (w : DeskParties) (before after : List DeskEvent) →
         events_for txn w (before ++ after)
@@ -169,8 +166,8 @@ pub fn transactions_have_their_events()
         events_for txn w (Noise who bytes ∷ []) ≡ [] }
 {}
 
-/// No event of two desks misses a transaction that its desk holds, or changes a transaction that it does not
-/// reach. Where one arrival is enough, no message arrives in vain that ends a request, and no Returned.
+/// No event of two desks misses a transaction that its desk holds, or changes a transaction that it does not reach.
+/// If one arrival is enough, neither an end of a request nor a Returned arrives in vain.
 pub fn no_bad_desk_event_passes()
     ensures reaches { (w : DeskParties) (event : DeskEvent) → MissesHeld w event → ReachesSide w event → ⊥ }
     ensures changes { (outcome : DeskOutcome) (old new : Parties) →
@@ -179,8 +176,8 @@ pub fn no_bad_desk_event_passes()
         ArrivesInVainAt w event → ArrivesAt w event → ⊥ }
 {}
 
-/// No simulation of two desks has written bytes that leave the trace of the script, where the writer failed.
-/// Where memory ran out, none has written bytes that are the trace of no first events of the script.
+/// If the writer fails, a simulation of two desks has not written bytes that leave the trace of the script. If
+/// memory runs out, it has written the trace of a prefix of the events, and nothing else.
 pub fn no_bad_desk_trace_is_written()
     ensures write { (text left written : List ℕ) →
         Leaves written (desk_trace_of (desk_script text).events) →
@@ -190,8 +187,8 @@ pub fn no_bad_desk_trace_is_written()
         SimulatesDesks (Some text) (Some left) (Some []) (Some written) (Err OutOfMemory) → ⊥ }
 {}
 
-/// Where two desks stand, the delivery of a message is never `DeskFull`, and so in no run; and a delivery to the
-/// requester's is `NotSent` in each transaction that it does not hold.
+/// If two desks stand, the delivery of a message is never `DeskFull`, and so in no run. A delivery to the
+/// requester's desk is `NotSent` in each transaction that it does not hold.
 pub fn deliveries_find_room()
     ensures room { (w : DeskParties) (who : Who) (txn : Qualifiers) (n : ℕ) → DesksStand w →
         (desks_happen w (Deliver who txn n)).0 ≡ DeskFull → ⊥ }
@@ -205,8 +202,9 @@ pub fn deliveries_find_room()
     desks_reach_what_they_hold();
 }
 
-/// A round of two desks is a round of both sides in each transaction. After it both sides are in step in each in which
-/// the responder can answer a Conditional-Reply no: where two desks stand, and so after any events of a run.
+/// A round of two desks is a round of both sides in each transaction. After it both sides are in step in each in
+/// which the responder can answer a Conditional-Reply no. That holds if two desks stand, and so after any events of
+/// a run.
 pub fn one_desk_round_is_enough()
     ensures each { (txn : Qualifiers) (w : DeskParties) → DesksStand w →
         project txn (desks_run w (desk_round_of w)) ≡ run_of (project txn w) (round_of (project txn w)) }
@@ -221,8 +219,9 @@ pub fn one_desk_round_is_enough()
     laws::one_round_is_enough();
 }
 
-/// A night of two desks is a night of both sides in each transaction. After it both sides are in step or at rest in each
-/// in which the responder can answer a Conditional-Reply no: where two desks stand, and so after any events of a run.
+/// A night of two desks is a night of both sides in each transaction. After it both sides are in step or at rest in
+/// each in which the responder can answer a Conditional-Reply no. That holds if two desks stand, and so after any
+/// events of a run.
 pub fn one_desk_night_is_enough()
     ensures each { (txn : Qualifiers) (w : DeskParties) → DesksStand w →
         project txn (desks_run w (desk_night_of w)) ≡ run_of (project txn w) (night_of (project txn w)) }
@@ -237,9 +236,9 @@ pub fn one_desk_night_is_enough()
     laws::one_night_is_enough();
 }
 
-/// A line of a script of two desks that is no `use` leaves the transaction in use as it was. Its event is
-/// what a script of two sides says, in the transaction in use, if it is one of a transaction; and before
-/// the first `use` there is none.
+/// A line of a script of two desks that is no `use` leaves the transaction in use as it was. Its event is that of a
+/// script of two sides. If this is an event of one transaction, it names the one in use. Before the first `use`
+/// there is no event.
 pub fn events_are_in_the_transaction_in_use()
     ensures stays { (in_use : Option Qualifiers) (line : ScriptLine Event) →
         (says_in in_use (desk_lines.Plain line)).1 ≡ in_use }
@@ -248,9 +247,9 @@ pub fn events_are_in_the_transaction_in_use()
     ensures none { (event : Event) → (says_in None (desk_lines.Plain (lines.Event event))).0 ≡ lines.Bad }
 {}
 
-/// A trace of two desks is empty at first; each event adds a line, with its number, what is seen of it at
-/// the desks after those before it, and how both sides of its transaction stand after it; and no later
-/// event changes what the trace begins with. So line n shows the desks after the first n events.
+/// A trace of two desks is empty at first. Each event adds a line: its number, its outcome at the desks before it,
+/// and both sides of its transaction after it. No later event changes the trace so far. So line n shows the desks
+/// after the first n events.
 pub fn desk_traces_show_runs()
     ensures first { desk_trace_of [] ≡ [] }
     ensures next { (events : List EventIn) (event : EventIn) →

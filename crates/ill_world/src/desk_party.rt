@@ -1,4 +1,4 @@
-//! One of two desks, with its store and what it has sent.
+//! One of two desks, with its store and the messages that it has sent.
 
 ghost use Rattle.std.specs.Prelude.{◌≡◌, option_map, IfOk};
 ghost use Rattle.ill_der.specs.ShortForm.{apdu_at};
@@ -21,7 +21,7 @@ use ill_values::{Number, OutOfMemory, TxnId};
 use std::alloc::Global;
 use std::marker::Model;
 
-/// One of two desks, and what it has sent.
+/// One of two desks, and the messages that it has sent.
 #[derive(Drop)]
 pub struct DeskParty {
     desk: Desk<MemoryStore>,
@@ -37,7 +37,7 @@ impl Model for DeskParty {
 }
 
 impl DeskParty {
-    /// A desk of this role that holds nothing. Nothing is saved, and nothing was sent.
+    /// Returns a desk of this role that holds nothing. Nothing is saved, and nothing was sent.
     pub fn new(alloc: Global, role: Who) -> Result<DeskParty, OutOfMemory>
         ensures { IfOk result (λ party. party ≡ desks.first_desk role) }
     {
@@ -51,7 +51,7 @@ impl DeskParty {
         }
     }
 
-    /// Does what the library decides in a transaction.
+    /// Performs a decision of the library in a transaction.
     pub fn act(
         &mut self,
         alloc: Global,
@@ -111,7 +111,7 @@ impl DeskParty {
         }
     }
 
-    /// Begins again from what has landed.
+    /// Begins again from the record that has landed.
     pub fn restart(&mut self, alloc: Global) -> Result<DeskOutcome, OutOfMemory>
         ensures { GivesOutcome (desk_outcomes.Plain outcomes.Restarted, desks.desk_restarts self.old)
             self.old result self.new }
@@ -123,7 +123,7 @@ impl DeskParty {
         }
     }
 
-    /// Sends the message of this transaction with this number.
+    /// Sends the message of `txn` with this number.
     pub fn send(
         &mut self,
         alloc: Global,
@@ -146,7 +146,7 @@ impl DeskParty {
         }
     }
 
-    /// The message with this number, if it was sent in this transaction.
+    /// Returns the message that was sent in `txn` under `number`, if there is one.
     pub fn sent(&self, txn: &TxnId, number: Number) -> Option<&Message>
         ensures { option_map (λ m. m.now) result
             ≡ model.sent_message (desks.sent_for txn.now self.now.sent) number }
@@ -154,21 +154,21 @@ impl DeskParty {
         self.sent.get(txn, number)
     }
 
-    /// The sides that are held, as they are in memory.
+    /// Returns the sides that are held in memory.
     pub fn sides(&self) -> &Sides
         ensures { result.now ≡ sides_held self.now.live }
     {
         self.desk.sides()
     }
 
-    /// How many messages of this transaction are released.
+    /// Returns the count of the released messages of `txn`.
     pub fn released(&self, txn: &TxnId) -> u8
         ensures { result ≡ (held_for txn.now self.now.live).released }
     {
         self.desk.released(txn)
     }
 
-    /// What a trace shows of the side of this transaction, which is idle where it is not held.
+    /// Returns the parts of the side of `txn` that a trace shows. A side that is not held is idle.
     pub fn shown(&self, txn: &TxnId) -> Shown
         ensures { result ≡ desk_shown txn.now self.now }
     {
@@ -176,7 +176,7 @@ impl DeskParty {
     }
 }
 
-/// What other bytes are. An APDU would be forged, of whichever transaction.
+/// Returns the outcome of other bytes. An APDU would be forged, in any transaction.
 pub fn heard(alloc: Global, bytes: &[u8]) -> Result<Outcome, OutOfMemory>
     ensures { IfOk result (λ outcome. outcome ≡ desks.desk_hears (apdu_at bytes.now)) }
 {
@@ -191,7 +191,7 @@ pub fn heard(alloc: Global, bytes: &[u8]) -> Result<Outcome, OutOfMemory>
     }
 }
 
-/// What is seen of a fault of an action or a message.
+/// Returns the outcome of a fault of an action or a message.
 fn seen(fault: DeskFault) -> Result<DeskOutcome, OutOfMemory>
     requires { CanBeSeen fault }
     ensures { FaultSeen fault result }

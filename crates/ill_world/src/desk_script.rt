@@ -9,10 +9,10 @@ use crate::words::is;
 use ill_values::{OutOfMemory, TextFault, TxnId};
 use std::alloc::Global;
 
-/// What a line of a script of two desks says.
+/// The meaning of a line of a script of two desks.
 #[derive(Drop)]
 pub(crate) enum DeskLine {
-    /// That the lines behind it are in this transaction.
+    /// The lines after it are in this transaction.
     Use(TxnId),
     /// What a line of a script of two sides says.
     Plain(ScriptLine<Event>),
@@ -33,7 +33,7 @@ pub(crate) fn read_desk_line(alloc: Global, line: &[u8]) -> Result<DeskLine, Out
     read_desk_words(alloc, &words)
 }
 
-/// What the words of a line say that is no remark.
+/// Returns the meaning of the words of a line that is no remark.
 fn read_desk_words(alloc: Global, words: &[&[u8]]) -> Result<DeskLine, OutOfMemory>
     ensures { IfOk result (λ read. read ≡ desk_line_of (map (λ word. word.now) words.now)) }
 {
@@ -43,7 +43,7 @@ fn read_desk_words(alloc: Global, words: &[&[u8]]) -> Result<DeskLine, OutOfMemo
     }
 }
 
-/// The transaction that the words behind `use` name.
+/// Returns the line that puts the transaction in use that the words after `use` name.
 fn read_use(alloc: Global, words: &[&[u8]]) -> Result<DeskLine, OutOfMemory>
     ensures { IfOk result (λ read. read ≡ use_line (map (λ word. word.now) words.now)) }
 {

@@ -1,4 +1,4 @@
-//! What a desk has sent.
+//! The messages that a desk has sent.
 
 ghost use Rattle.std.specs.Prelude.{◌≡◌, ◌++◌, ◌∷◌, [], List, None, option_map, OnOk, OnErr};
 ghost use Rattle.indexmap.specs.IndexMap.{get};
@@ -15,7 +15,7 @@ use indexmap::IndexMap;
 use std::alloc::Global;
 use std::marker::Model;
 
-/// What a desk has sent, in each transaction in which it has sent anything.
+/// The messages that a desk has sent, in each transaction in which it has sent any.
 #[derive(Drop)]
 pub struct DeskSent {
     map: IndexMap<TxnId, Sent>,
@@ -28,7 +28,7 @@ impl Model for DeskSent {
 }
 
 impl DeskSent {
-    /// Nothing was sent. It takes no memory.
+    /// Returns the messages of a desk that has sent none. Allocates nothing.
     pub fn nothing(alloc: Global) -> DeskSent
         ensures { result ≡ [] }
     {
@@ -37,7 +37,7 @@ impl DeskSent {
         }
     }
 
-    /// This message was sent in this transaction, with this number. If memory runs out, nothing has changed.
+    /// Adds `message` as sent in `txn` under `number`. If memory runs out, nothing has changed.
     pub fn put(
         &mut self,
         alloc: Global,
@@ -58,7 +58,7 @@ impl DeskSent {
         }
     }
 
-    /// The message with this number, if it was sent in this transaction.
+    /// Returns the message that was sent in `txn` under `number`, if there is one.
     pub fn get(&self, txn: &TxnId, number: Number) -> Option<&Message>
         ensures { option_map (λ message. message.now) result
             ≡ sent_message (sent_for txn.now self.now) number }
@@ -70,7 +70,7 @@ impl DeskSent {
     }
 }
 
-/// This message was sent, where there is a transaction for it; else it is handed back.
+/// Adds `message` to those of `txn`, if the map has any. Otherwise it hands the message back.
 fn put_among(
     map: &mut IndexMap<TxnId, Sent>,
     txn: &TxnId,
@@ -89,8 +89,7 @@ fn put_among(
     }
 }
 
-/// Puts a value behind those of the map, under a key that it has not. If memory runs out, the map is as it
-/// was.
+/// Adds `value` at the end of the map, under a key that the map lacks. If memory runs out, the map stays as it was.
 fn insert_new<V: Drop>(
     map: &mut IndexMap<TxnId, V>,
     key: TxnId,

@@ -20,14 +20,14 @@ use ill_values::{OutOfMemory, TxnId};
 use std::alloc::Global;
 use std::io::{Read, Write};
 
-/// Performs a script of two desks from desks on that hold nothing, and writes a line for each event,
-/// with both sides of the transaction in use after it. It answers the number of events.
+/// Performs a script of two desks, from desks on that hold nothing. For each event it writes a line, with both
+/// sides of the transaction in use after it. Returns the count of events.
 ///
-/// A line `use GROUP TRANSACTION` is no event: the lines behind it are in this transaction. Before the
-/// first of them every event is a bad line. Else it reads, writes and stops as `simulate` does.
+/// A line `use GROUP TRANSACTION` is no event: the lines after it are in this transaction. Before the first of them
+/// every event is a bad line. Else it reads, writes and stops as `simulate` does.
 ///
-/// Whatever the script says, in each transaction the desks are the world of two sides after its events,
-/// each world that a line shows is safe, and both sides agree, as `run_desks` says.
+/// Whatever the script says, in each transaction the desks are the world of two sides after its events. Each world
+/// that a line shows is safe, and both sides agree, as `run_desks` says.
 pub fn simulate_desks<R: Read, W: Write>(
     alloc: Global,
     reader: &mut R,
@@ -80,8 +80,7 @@ impl Performer for DeskWorld {
 }
 
 impl DeskWorld {
-    /// Performs an event, in this transaction where it is one of a transaction, and adds its line of the
-    /// trace.
+    /// Performs an event, and appends its line of the trace. An event of one transaction is one of `txn`.
     fn perform_in(
         &mut self,
         alloc: Global,

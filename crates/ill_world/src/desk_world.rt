@@ -1,4 +1,4 @@
-//! Two desks of many transactions, with what they have sent.
+//! Two desks of many transactions, with the messages that they have sent.
 
 ghost use Rattle.std.specs.Prelude.{◌≡◌, ◌++◌, ℕ, take, IfOk, OnOk};
 ghost use Rattle.ill_values.specs.TxnId.{Qualifiers};
@@ -23,7 +23,7 @@ use ill_values::{OutOfMemory, TxnId};
 use std::alloc::Global;
 use std::marker::Model;
 
-/// The two desks of two libraries, with their stores and what they have sent.
+/// The two desks of two libraries, with their stores and the messages that they have sent.
 #[derive(Drop)]
 pub struct DeskWorld {
     requester: DeskParty,
@@ -39,7 +39,7 @@ impl Model for DeskWorld {
 }
 
 impl DeskWorld {
-    /// Two desks that hold nothing: nothing is saved, and nothing was sent.
+    /// Returns two desks that hold nothing. Nothing is saved, and nothing was sent.
     pub fn new(alloc: Global) -> Result<DeskWorld, OutOfMemory>
         ensures { IfOk result (λ world. world ≡ model.first_desks) }
     {
@@ -50,12 +50,12 @@ impl DeskWorld {
         })
     }
 
-    /// Performs an event, and answers what is seen of it. If memory runs out, nothing has changed.
+    /// Performs an event, and returns its outcome. If memory runs out, nothing has changed.
     ///
-    /// In each transaction it is one event of `World`, with the same outcome, or changes nothing. At every
-    /// event but its restart the requester's due date in each, once it is there, stays or rises. One
-    /// `Deliver` of the message that ended a request leads the requester's side to its outcome, and one of a
-    /// Returned the responder's to RETURNED, or the item is checked in.
+    /// In each transaction it is one event of `World`, with its outcome there, or changes nothing. At every event
+    /// but its restart the requester's due date in each, once it is there, stays or rises. One `Deliver` of the
+    /// message that ended a request leads the requester's side to its outcome. One of a Returned leads the
+    /// responder's to RETURNED, or the item is checked in.
     pub fn step(&mut self, alloc: Global, event: &DeskEvent) -> Result<DeskOutcome, OutOfMemory>
         ensures gives { GivesOutcome (model.desks_happen self.old event.now) self.old result self.new }
         ensures projects { (txn : Qualifiers) → Projects txn self.old event.now }
@@ -70,11 +70,11 @@ impl DeskWorld {
         happen(&mut self.requester, &mut self.responder, alloc, event)
     }
 
-    /// Performs a round: saves the requester's desk, and sends and delivers all messages of each side that it holds, in
-    /// order; then those of the responder's desk. If memory runs out, only the first events of the round have happened.
+    /// Performs a round. It saves the requester's desk, and sends and delivers all messages of each side that it
+    /// holds, in order. Then it does so for the responder's desk. If memory runs out, only a prefix of the events
+    /// of the round has happened.
     ///
-    /// Then both sides of each transaction are in step, in which before the round the responder has ended the request,
-    /// or has a number left.
+    /// Both sides of a transaction are then in step, if its responder had ended the request, or had a number left.
     pub fn exchange(&mut self, alloc: Global) -> Result<(), OutOfMemory>
         ensures performs { Performs model.desks_run (desk_round_of self.old) self.old result self.new }
         ensures in_step { OnOk result ((txn : Qualifiers) →
@@ -86,7 +86,8 @@ impl DeskWorld {
         self.pass_on(alloc, Who::Responder)
     }
 
-    /// Performs half of a round: saves a desk, and sends and delivers all messages of each side that it holds, in order.
+    /// Performs half of a round: saves a desk, and sends and delivers all messages of each side that it holds, in
+    /// order.
     fn pass_on(&mut self, alloc: Global, who: Who) -> Result<(), OutOfMemory>
         ensures { Performs model.desks_run (desk_half_of who self.old) self.old result self.new }
     {
@@ -94,7 +95,7 @@ impl DeskWorld {
         self.perform_all(alloc, &events)
     }
 
-    /// Performs these events, one after another. If memory runs out, only the first of them have happened.
+    /// Performs `events`, one after another. If memory runs out, only a prefix of them has happened.
     fn perform_all(&mut self, alloc: Global, events: &[DeskEvent]) -> Result<(), OutOfMemory>
         ensures { Performs model.desks_run events.now self.old result self.new }
     {
@@ -104,21 +105,21 @@ impl DeskWorld {
         Ok(())
     }
 
-    /// The sides that the requester's desk holds, as they are in memory.
+    /// Returns the sides that the requester's desk holds in memory.
     pub fn requester(&self) -> &Sides
         ensures { result.now ≡ sides_held self.now.requester.live }
     {
         self.requester.sides()
     }
 
-    /// The sides that the responder's desk holds, as they are in memory.
+    /// Returns the sides that the responder's desk holds in memory.
     pub fn responder(&self) -> &Sides
         ensures { result.now ≡ sides_held self.now.responder.live }
     {
         self.responder.sides()
     }
 
-    /// The sides that a desk holds, as they are in memory.
+    /// Returns the sides that a desk holds in memory.
     fn sides(&self, who: Who) -> &Sides
         ensures { result.now ≡ sides_held (party self.now who).live }
     {
@@ -128,8 +129,8 @@ impl DeskWorld {
         }
     }
 
-    /// How many messages of a transaction are released at a desk: those with numbers up to this one may be
-    /// sent, and none where it is not held.
+    /// Returns the count of the released messages of `txn` at a desk: those with numbers up to it may be sent. If
+    /// the side is not held, no message is released.
     pub fn released(&self, who: Who, txn: &TxnId) -> u8
         ensures { result ≡ (held_for txn.now (party self.now who).live).released }
     {
@@ -139,7 +140,7 @@ impl DeskWorld {
         }
     }
 
-    /// Adds the line of a trace that shows a transaction at both desks after an event with this number.
+    /// Appends the line of a trace that shows a transaction at both desks after an event with this number.
     #[tactic(auto, unfolding(crate::specs::Trace::desk_line))]
     pub(crate) fn push_line(
         &self,
@@ -156,7 +157,7 @@ impl DeskWorld {
     }
 }
 
-/// The two desks after these events, from desks on that hold nothing.
+/// Returns the two desks after `events`, from desks on that hold nothing.
 ///
 /// In each transaction they are the world of two sides after its events. Every world on the way is safe in
 /// each, and both sides of each agree, as `run` says of one.
@@ -176,7 +177,8 @@ pub fn run_desks(alloc: Global, events: &[DeskEvent]) -> Result<DeskWorld, OutOf
     Ok(world)
 }
 
-/// The events of half of a round: a desk is saved, and all messages of each of these sides are sent and delivered.
+/// Returns the events of half of a round: a desk is saved, and all messages of each of these sides are sent and
+/// delivered.
 fn half_of_desk_round(alloc: Global, who: Who, sides: &Sides) -> Result<Vec<DeskEvent>, OutOfMemory>
     ensures { IfOk result (λ events. events.items ≡ saves_and_passes who sides.now.sides) }
 {
@@ -191,7 +193,7 @@ fn half_of_desk_round(alloc: Global, who: Who, sides: &Sides) -> Result<Vec<Desk
     Ok(events)
 }
 
-/// Adds the events by which all messages of a side are sent and delivered, one after another.
+/// Appends the events by which all messages of a side are sent and delivered, one after another.
 fn push_passes(
     events: &mut Vec<DeskEvent>,
     alloc: Global,
@@ -225,7 +227,7 @@ fn happen(
     }
 }
 
-/// Performs an event of a desk. The other one has sent what it may deliver.
+/// Performs an event of a desk. The other one has sent the messages that it may deliver.
 fn perform(
     party: &mut DeskParty,
     other: &DeskParty,

@@ -1,4 +1,4 @@
-//! What may happen to two sides, and what is seen of it.
+//! The events that may happen to two sides, and their outcomes.
 
 ghost use Rattle.std.specs.Prelude.{◌≡◌, IfOk};
 ghost use Rattle.ill_world.specs.World.{who_of};
@@ -11,23 +11,23 @@ use ill_core::{Deed, Refusal, Taking, Wish};
 use ill_values::{Day, Number, OutOfMemory, TxnId};
 use std::alloc::Global;
 
-/// To whom an event happens: each side is named by its role.
+/// The role that names the side to which an event happens.
 pub use ill_saved::Role as Who;
 
-/// What may happen to one of the two sides.
+/// An event that may happen to one of the two sides.
 #[derive(Debug, PartialEq, Eq, Drop)]
 pub enum Event {
-    /// The requester's library decides this.
+    /// The requester's library makes this decision.
     Wish(Wish),
-    /// The responder's library decides this, on this day.
+    /// The responder's library makes this decision, on this day.
     Deed(Deed, Day),
     /// The side is saved.
     Save(Who),
     /// A save fails.
     SaveFault {
-        /// Whose save it is.
+        /// The side whose save it is.
         who: Who,
-        /// Whether the new record has landed nevertheless.
+        /// True if the new record has landed nevertheless.
         landed: bool,
     },
     /// The side sends its message with this number.
@@ -41,7 +41,7 @@ pub enum Event {
 }
 
 impl Event {
-    /// The side that it happens to.
+    /// Returns the side to which it happens.
     pub fn who(&self) -> Who
         ensures { result ≡ who_of self.now }
     {
@@ -57,7 +57,7 @@ impl Event {
         }
     }
 
-    /// The same event at two desks, in this transaction where it is one of a transaction.
+    /// Returns the event at two desks. It names `txn` if it is an event of one transaction.
     pub(crate) fn in_txn(self, alloc: Global, txn: &TxnId) -> Result<DeskEvent, OutOfMemory>
         ensures { IfOk result (λ event. event ≡ in_txn txn.now self) }
     {
@@ -74,21 +74,21 @@ impl Event {
     }
 }
 
-/// What may happen to one of two desks of many transactions. What happens in one of these names it, and
-/// what happens to a whole desk happens in each.
+/// An event that may happen to one of two desks of many transactions. An event of one transaction names it. One of
+/// a whole desk happens in each.
 #[derive(Debug, PartialEq, Eq, Drop)]
 pub enum DeskEvent {
-    /// The requester's library decides this.
+    /// The requester's library makes this decision.
     Wish(TxnId, Wish),
-    /// The responder's library decides this, on this day.
+    /// The responder's library makes this decision, on this day.
     Deed(TxnId, Deed, Day),
     /// The desk is saved.
     Save(Who),
     /// A save fails.
     SaveFault {
-        /// Whose save it is.
+        /// The desk whose save it is.
         who: Who,
-        /// Whether the new record has landed nevertheless.
+        /// True if the new record has landed nevertheless.
         landed: bool,
     },
     /// The desk sends its message with this number.
@@ -102,7 +102,7 @@ pub enum DeskEvent {
 }
 
 impl DeskEvent {
-    /// The desk that it happens to.
+    /// Returns the desk to which it happens.
     pub fn who(&self) -> Who
         ensures { result ≡ who_of (plain self.now) }
     {
@@ -119,8 +119,8 @@ impl DeskEvent {
     }
 }
 
-/// What is seen of an event. Those from `Refused` on to `Forged` change nothing, and neither does
-/// `Answered` with another taking than `Taken`.
+/// The outcome of an event. Those from `Refused` on to `Forged` change nothing. Neither does `Answered` with
+/// another taking than `Taken`.
 #[derive(Clone, Copy, Debug, PartialEq, Eq, Hash)]
 pub enum Outcome {
     /// The action was done.
@@ -131,7 +131,7 @@ pub enum Outcome {
     Faulted,
     /// The message was sent.
     Sent,
-    /// The message was delivered, and this is what it did.
+    /// The message was delivered, and had this effect.
     Answered(Taking),
     /// The action or the message was refused.
     Refused(Refusal),
@@ -150,7 +150,7 @@ pub enum Outcome {
 }
 
 impl Outcome {
-    /// What is seen, in a word, as `done` or `not-now`.
+    /// Returns the outcome in a word, as `done` or `not-now`.
     pub fn word(self) -> &'static str
         ensures { result.now ≡ outcome_word self }
     {
@@ -171,10 +171,10 @@ impl Outcome {
     }
 }
 
-/// What is seen of an event at a desk of many transactions. The two further ones change nothing.
+/// The outcome of an event at a desk of many transactions. The last two change nothing.
 #[derive(Clone, Copy, Debug, PartialEq, Eq, Hash)]
 pub enum DeskOutcome {
-    /// What is seen of the same event in one transaction.
+    /// The outcome of the event in one transaction.
     Plain(Outcome),
     /// The desk holds no side of the transaction, and the event begins none.
     NoSuchTransaction,
@@ -183,7 +183,7 @@ pub enum DeskOutcome {
 }
 
 impl DeskOutcome {
-    /// What is seen, in a word.
+    /// Returns the outcome in a word.
     pub fn word(self) -> &'static str
         ensures { result.now ≡ desk_outcome_word self }
     {

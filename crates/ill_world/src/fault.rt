@@ -1,4 +1,4 @@
-//! Why a simulation stopped.
+//! The reasons for which a simulation stops.
 
 ghost use Rattle.std.specs.Prelude.{◌≡◌};
 ghost use Rattle.ill_world.specs.declared.fault.SimFault.TheVariants.{OutOfMemory};
@@ -6,7 +6,7 @@ ghost use Rattle.ill_world.specs.declared.fault.SimFault.TheVariants.{OutOfMemor
 use std::alloc::{AllocError, AllocFailed};
 use thiserror::Error;
 
-/// Why a simulation stopped. What was written before stays written.
+/// The reason for which a simulation stopped. Text that was written before stays written.
 #[derive(Clone, Copy, Debug, PartialEq, Eq, Hash, Error)]
 pub enum SimFault {
     /// The line of the script with this number, from 1 on, is bad.

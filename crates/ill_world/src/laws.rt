@@ -1,4 +1,4 @@
-//! What holds of every world, as contracts of functions that do nothing.
+//! The laws of every world, as contracts of functions that do nothing.
 
 ghost use Rattle.std.specs.Prelude.{◌≡◌, ◌↔◌, ◌⊎◌, ◌++◌, ◌∷◌, ℕ, Bool, List, [], Option, Some, Ok, Err, true, false};
 ghost use Rattle.ill_values.specs.Day.{Date};
@@ -88,23 +88,22 @@ pub fn world_stands()
     ill_core::laws::requester_keeps_due();
 }
 
-/// Where the world stands, a requester in CANCELLED or NOT-SUPPLIED faces a responder in the same
-/// state.
+/// If the world stands, a requester in CANCELLED or NOT-SUPPLIED faces a responder in this state.
 pub fn ends_alike()
     ensures { (txn : Qualifiers) (w : Parties) → Invariant txn w → OfBoth EndsAlike w }
 {}
 
-/// Where the world stands, a requester in SHIPPED or later faces a responder that has shipped.
+/// If the world stands, a requester in SHIPPED or later faces a responder that has shipped.
 pub fn was_shipped()
     ensures { (txn : Qualifiers) (w : Parties) → Invariant txn w → OfBoth WasShipped w }
 {}
 
-/// Where the world stands, a requester's due date is one that the responder has granted.
+/// If the world stands, a requester's due date is one that the responder has granted.
 pub fn was_granted()
     ensures { (txn : Qualifiers) (w : Parties) → Invariant txn w → OfBoth WasGranted w }
 {}
 
-/// Where the world stands, both sides agree.
+/// If the world stands, both sides agree.
 pub fn sides_agree()
     ensures { (txn : Qualifiers) (w : Parties) → Invariant txn w → Agrees w }
 {}
@@ -141,7 +140,7 @@ pub fn every_run_agrees()
     every_world_agrees();
 }
 
-/// Where the world stands, one arrival of the end of a request, or of a Returned, is enough.
+/// If the world stands, one arrival of the end of a request, or of a Returned, is enough.
 pub fn one_arrival_is_enough()
     ensures { (txn : Qualifiers) (w : Parties) (event : Event) → Invariant txn w → Arrives w event }
 {
@@ -149,8 +148,8 @@ pub fn one_arrival_is_enough()
     ill_core::laws::responder_follows();
 }
 
-/// After a round both sides are in step, if the responder can answer a Conditional-Reply no: where the world stands,
-/// and so after any events of a run.
+/// After a round both sides are in step, if the responder can answer a Conditional-Reply no. That holds if the
+/// world stands, and so after any events of a run.
 pub fn one_round_is_enough()
     ensures stands { (txn : Qualifiers) (w : Parties) → Invariant txn w → CanAnswer w.responder.live →
         AreInStep (run_of w (round_of w)) }
@@ -169,8 +168,8 @@ pub fn one_round_is_enough()
     ill_core::laws::responder_has_heard();
 }
 
-/// A round that leaves out the last message of a side does not bring every two sides in step that a
-/// run leads to: of either side there is a world, and there a whole round does.
+/// A round without the last message of a side does not always bring both sides in step. For either side a run leads
+/// to a world in which it does not, and a whole round does.
 #[tactic(auto, using(crate::proofs::BadRounds::cut_leaves_apart, crate::proofs::BadRounds::whole_brings_in_step))]
 pub fn no_round_may_be_cut_short()
     ensures cut { (who : Who) →
@@ -179,13 +178,14 @@ pub fn no_round_may_be_cut_short()
         AreInStep (run_of (last_unheard who) (round_of (last_unheard who))) }
 {}
 
-/// No two records are in step whose states do not face each other, or of which one does not know what the other does.
+/// Two records are not in step if their states do not face each other. They are not if one does not know what the
+/// other does.
 pub fn no_pair_out_of_step_is_in_step()
     ensures { (x : RequesterRecord) (y : ResponderRecord) → OutOfStep x y → InStep x y → ⊥ }
 {}
 
-/// Two records in step both say that it is over, or neither does, and then one has the turn and a verb. Both have the
-/// turn only while conditions stand that were withdrawn.
+/// Two records in step both say that the loan is over, or neither does. If neither does, one has the turn and a
+/// verb. Both have the turn only while conditions stand that were withdrawn.
 pub fn one_of_two_in_step_acts()
     ensures over { (x : RequesterRecord) (y : ResponderRecord) → InStep x y →
         (requester_turn x ≡ Over) ↔ (responder_turn y ≡ Over) }
@@ -200,15 +200,15 @@ pub fn one_of_two_in_step_acts()
     ill_core::laws::turns_have_verbs();
 }
 
-/// Where the world stands, both sides are at rest if the loan is over for the requester: it is over for the responder
-/// too, and their states face each other.
+/// If the world stands, and the loan is over for the requester, both sides are at rest. It is over for the
+/// responder too, and their states face each other.
 pub fn requester_is_over_last()
     ensures { (txn : Qualifiers) (w : Parties) → Invariant txn w → is_over w.requester.live ≡ true →
         AreAtRest w }
 {}
 
-/// Where the world stands, a night is a round while the loan is not over for the requester. Then both sides save, and
-/// nothing is sent.
+/// If the world stands, a night is a round while the loan is not over for the requester. Otherwise both sides save,
+/// and nothing is sent.
 pub fn nights_are_rounds()
     ensures open { (txn : Qualifiers) (w : Parties) → Invariant txn w → is_over w.requester.live ≡ false →
         night_of w ≡ round_of w }
@@ -219,8 +219,8 @@ pub fn nights_are_rounds()
     requester_is_over_last();
 }
 
-/// After a night both sides are in step or at rest, if the responder can answer a Conditional-Reply no: where the world
-/// stands, and so after any events of a run.
+/// After a night both sides are in step or at rest, if the responder can answer a Conditional-Reply no. That holds
+/// if the world stands, and so after any events of a run.
 pub fn one_night_is_enough()
     ensures stands { (txn : Qualifiers) (w : Parties) → Invariant txn w → CanAnswer w.responder.live →
         AreInStepOrAtRest (run_of w (night_of w)) }
@@ -233,9 +233,8 @@ pub fn one_night_is_enough()
     nights_are_rounds();
 }
 
-/// No wrong answer is given on whether a loan is over for a side, on whether a side wants sending, or on whether a
-/// requester asks. No two records are at rest if the loan is not over for one of them, or if their states do not face
-/// each other.
+/// The answers of `is_over`, `wants_sending` and `asks` are right. Two records are not at rest if the loan is open
+/// for one, or if their states do not face each other.
 pub fn no_bad_night_passes()
     ensures over { (side : Side) → MisjudgesEnd side (is_over side) → ⊥ }
     ensures sends { (was_asked : Bool) (side : Side) →
@@ -244,7 +243,7 @@ pub fn no_bad_night_passes()
     ensures rest { (x : RequesterRecord) (y : ResponderRecord) → Restless x y → AtRest x y → ⊥ }
 {}
 
-/// Where the world stands, an event keeps or raises the requester's due date.
+/// If the world stands, an event keeps or raises the requester's due date.
 pub fn due_dates_stay()
     ensures { (txn : Qualifiers) (w : Parties) (event : Event) → Invariant txn w →
         KeepsDates w event (happens w event).1 }
@@ -257,22 +256,22 @@ pub fn no_unsafe_world_is_safe()
     ensures { (w : Parties) → IsUnsafe w → Safe w → ⊥ }
 {}
 
-/// The sides agree in no world in which a question was answered twice, the request has ended twice, no
-/// yes was given to what is held as accepted, or a record says what is not so.
+/// The sides do not agree in a world with two answers to a question, or two ends of the request. Nor do they if
+/// accepted conditions have no yes, or a record is wrong on the other side.
 pub fn no_disagreeing_world_agrees()
     ensures { (w : Parties) → Disagrees w → Agrees w → ⊥ }
 {}
 
-/// No event keeps the requester's due date that takes it back, and where one arrival is enough no message
-/// arrives in vain that ends the request, and no Returned.
+/// No event that takes the requester's due date back keeps it. If one arrival is enough, neither an end of the
+/// request nor a Returned arrives in vain.
 pub fn no_bad_event_passes()
     ensures dates { (old new : Parties) (event : Event) →
         TakesBack old event new → KeepsDates old event new → ⊥ }
     ensures arrives { (w : Parties) (event : Event) → ArrivesInVain w event → Arrives w event → ⊥ }
 {}
 
-/// A run is safe, and both sides agree in it, only where that is so of each world on the way: of the
-/// world after any of the first events.
+/// A run is safe only if each world on the way is: the world after any prefix of its events. Both sides agree in it
+/// only if they do in each of these worlds.
 pub fn runs_have_each_world()
     ensures safe { (w : Parties) (before after : List Event) →
         IsSafeRun w (before ++ after) → Safe (run_of w before) }
@@ -280,9 +279,8 @@ pub fn runs_have_each_world()
         IsAgreeingRun w (before ++ after) → Agrees (run_of w before) }
 {}
 
-/// A trace is empty at first; each event adds a line, with its number, what is seen of it in the world
-/// after those before it, and the world after it; and no later event changes what the trace begins with.
-/// So line n shows the world after the first n events.
+/// A trace is empty at first. Each event adds a line: its number, its outcome in the world before it, and the world
+/// after it. No later event changes the trace so far. So line n shows the world after the first n events.
 pub fn traces_show_runs()
     ensures first { (txn : Qualifiers) → trace_of txn [] ≡ [] }
     ensures next { (txn : Qualifiers) (events : List Event) (event : Event) →
@@ -291,8 +289,8 @@ pub fn traces_show_runs()
         IsPrefix (trace_of txn events) (trace_of txn (events ++ more)) }
 {}
 
-/// No simulation has written bytes that leave the trace of the script, where the writer failed. Where memory
-/// ran out, none has written bytes that are the trace of no first events of the script.
+/// If the writer fails, a simulation has not written bytes that leave the trace of the script. If memory runs out,
+/// it has written the trace of a prefix of the events, and nothing else.
 pub fn no_bad_trace_is_written()
     ensures write { (txn : Qualifiers) (text left written : List ℕ) →
         Leaves written (trace_of txn (script text).events) →
@@ -302,8 +300,8 @@ pub fn no_bad_trace_is_written()
         Simulates txn (Some text) (Some left) (Some []) (Some written) (Err OutOfMemory) → ⊥ }
 {}
 
-/// Only `Done`, `Saved`, `Sent`, `Restarted`, `Answered(Taken)` and `Faulted` change the world, and
-/// `Faulted` only what has landed.
+/// Only `Done`, `Saved`, `Sent`, `Restarted`, `Answered(Taken)` and `Faulted` change the world. `Faulted` changes
+/// only the landed side.
 pub fn few_outcomes_change()
     ensures { (w : Parties) (event : Event) →
         MayChange OnlyLandedChanges (happens w event).0 w (happens w event).1 }
@@ -312,8 +310,8 @@ pub fn few_outcomes_change()
     ill_core::laws::responder_is_quiet();
 }
 
-/// What was sent stays sent, with its number: where the world stands, at every event, and so for as long
-/// as a run goes on.
+/// A message that was sent stays sent, under its number: at every event if the world stands, and so throughout a
+/// run.
 pub fn sent_stays_sent()
     ensures event { (txn : Qualifiers) (w : Parties) (event : Event) → Invariant txn w →
         KeepsSent w (happens w event).1 }
@@ -323,7 +321,7 @@ pub fn sent_stays_sent()
     world_stands();
 }
 
-/// In no run anything is refused as of a wrong role, or for want of memory.
+/// No run has a refusal for a wrong role, or for want of memory.
 pub fn few_outcomes_are_seen()
     ensures { (txn : Qualifiers) (events : List Event) (event : Event) →
         can_be_seen (happens (run_of (first_world txn) events) event).0 ≡ true }

@@ -1,5 +1,5 @@
-//! Two sides of an interlibrary loan in one world: what happens to them event by event, as a value, a
-//! list of events or a script says.
+//! Two sides of an interlibrary loan in one world. Events happen to them, as a value, a list of events or a script
+//! says.
 #![tactic(auto)]
 
 mod ahead;

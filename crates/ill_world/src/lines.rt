@@ -12,10 +12,10 @@ use std::io::Read;
 /// The most bytes of a line, without its LF.
 const MAX_LINE: usize = 1024;
 
-/// What closes a line.
+/// The byte that closes a line.
 const LF: u8 = b'\n';
 
-/// What was found where a line may begin.
+/// The kind of the bytes that were read for a line.
 #[derive(Clone, Copy)]
 pub enum Found {
     /// A line, and its LF.
@@ -26,8 +26,8 @@ pub enum Found {
     TooLong,
 }
 
-/// Reads one line into the buffer, without its LF. It reads on only where nothing is ahead, and looks at
-/// one byte behind the most that a line may have, and no further.
+/// Reads one line into `line`, without its LF. It reads on only if nothing is ahead. It looks at one byte beyond
+/// the most that a line may have, and no further.
 pub fn next_line<R: Read>(
     reader: &mut R,
     ahead: &mut Ahead,
@@ -46,8 +46,8 @@ pub fn next_line<R: Read>(
     Ok(Found::Rest)
 }
 
-/// Takes what is ahead of the line that begins so: up to its LF, which is dropped, or all of it. It
-/// answers what was found, if the line has ended.
+/// Takes bytes that are ahead, after the bytes of `line`: up to the LF, which is dropped, or all of them. If the
+/// line has ended, it returns the kind of the line.
 fn take_part(ahead: &mut Ahead, line: &mut Vec<u8>) -> Result<Option<Found>, OutOfMemory>
     requires { length line.old.items ≤ 1024 }
     ensures { TakesPart ahead.old ahead.new line.old.items line.new.items result }
@@ -74,7 +74,7 @@ fn take_part(ahead: &mut Ahead, line: &mut Vec<u8>) -> Result<Option<Found>, Out
     }
 }
 
-/// The place of the first LF.
+/// Returns the place of the first LF.
 fn find_lf(bytes: &[u8]) -> Option<usize>
     ensures place { result ≡ lf_place bytes.now }
     ensures within { IfSome result (λ at. at < length bytes.now) }

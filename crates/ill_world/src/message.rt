@@ -24,7 +24,7 @@ impl Model for Message {
 }
 
 impl Message {
-    /// The message with these bytes.
+    /// Returns the message with these bytes.
     pub fn new(bytes: Vec<u8>) -> Message
         requires spelled { (a : Apdu) × IsApdu a × (bytes.items ≡ spelling a) }
         ensures { (a : Apdu) → IsApdu a → bytes.items ≡ spelling a → result ≡ a }
@@ -33,7 +33,7 @@ impl Message {
         Message { bytes }
     }
 
-    /// The bytes of the message.
+    /// Returns the bytes of the message.
     pub fn bytes(&self) -> &[u8]
         ensures { apdu_at result.now ≡ Ok (self.now, []) }
     {

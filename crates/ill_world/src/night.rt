@@ -1,4 +1,4 @@
-//! Who sends messages in a night.
+//! The sides that send messages in a night.
 
 ghost use Rattle.std.specs.Prelude.{◌≡◌};
 ghost use Rattle.ill_world.specs.Night.{is_over, wants_sending};
@@ -6,7 +6,7 @@ ghost use Rattle.ill_world.specs.Night.{is_over, wants_sending};
 use ill_core::Turn;
 use ill_saved::Side;
 
-/// Tells if nobody acts in the loan any more, as far as this side knows.
+/// Returns true if nobody acts in the loan any more, as far as this side knows.
 pub fn is_over(side: &Side) -> bool
     ensures { result ≡ is_over side.now }
 {
@@ -16,8 +16,8 @@ pub fn is_over(side: &Side) -> bool
     }
 }
 
-/// Tells if a side wants to send its messages in a night: it does unless its loan is over. A responder wants it then too
-/// if it was asked, so if a message of the loan came in this night.
+/// Returns true if `side` wants to send its messages in a night: it does unless its loan is over. A responder wants
+/// it then too if it `was_asked`: a message of the loan came in this night.
 pub fn wants_sending(side: &Side, was_asked: bool) -> bool
     ensures { result ≡ wants_sending was_asked side.now }
 {

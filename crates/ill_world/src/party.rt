@@ -1,4 +1,4 @@
-//! One of the two sides, with its store and what it has sent.
+//! One of the two sides, with its store and the messages that it has sent.
 
 ghost use Rattle.std.specs.Prelude.{◌≡◌, false, nat_le, option_map, IfOk};
 ghost use Rattle.ill_der.specs.ShortForm.{apdu_at};
@@ -19,7 +19,7 @@ use ill_values::{Number, OutOfMemory};
 use std::alloc::Global;
 use std::marker::Model;
 
-/// One of the two sides: its desk, and what it has sent.
+/// One of the two sides: its desk, and the messages that it has sent.
 #[derive(Debug, Drop)]
 pub struct Party {
     desk: Desk1<MemoryStore>,
@@ -35,7 +35,7 @@ impl Model for Party {
 }
 
 impl Party {
-    /// The party of a side that begins. Nothing is saved, and nothing was sent.
+    /// Returns the party of a side that begins. Nothing is saved, and nothing was sent.
     pub fn new(alloc: Global, first: Side) -> Result<Party, OutOfMemory>
         requires idle { first ≡ idle_of first }
         ensures { IfOk result (λ party. party ≡ model.first_party first) }
@@ -48,7 +48,7 @@ impl Party {
         }
     }
 
-    /// Does what the library decides.
+    /// Performs a decision of the library.
     pub fn act(&mut self, alloc: Global, action: &Action) -> Result<Outcome, OutOfMemory>
         ensures { GivesOutcome (model.decides self.old (acts self.old.live action.now))
             self.old result self.new }
@@ -108,7 +108,7 @@ impl Party {
         }
     }
 
-    /// Begins again from what has landed.
+    /// Begins again from the record that has landed.
     pub fn restart(&mut self, alloc: Global) -> Result<Outcome, OutOfMemory>
         ensures { GivesOutcome (outcomes.Restarted, model.restarts self.old)
             self.old result self.new }
@@ -137,7 +137,7 @@ impl Party {
         }
     }
 
-    /// Is handed other bytes. An APDU of the transaction would be forged, and is not handed on.
+    /// Takes other bytes. An APDU of the transaction would be forged, and is not handed on.
     pub fn hear(&mut self, alloc: Global, bytes: &[u8]) -> Result<Outcome, OutOfMemory>
         ensures { GivesOutcome (model.hears self.old (apdu_at bytes.now), self.old)
             self.old result self.new }
@@ -148,7 +148,7 @@ impl Party {
         self.refuse(alloc, bytes)
     }
 
-    /// Whether the bytes are an APDU of this transaction.
+    /// Returns true if `bytes` are an APDU of this transaction.
     fn is_forged(&self, alloc: Global, bytes: &[u8]) -> Result<bool, OutOfMemory>
         ensures { IfOk result (λ forged. forged ≡ is_of (txn_of self.now.live) (apdu_at bytes.now)) }
     {
@@ -159,7 +159,7 @@ impl Party {
         }
     }
 
-    /// Is handed bytes that are no APDU of this transaction.
+    /// Hands on bytes that are no APDU of this transaction.
     fn refuse(&mut self, alloc: Global, bytes: &[u8]) -> Result<Outcome, OutOfMemory>
         requires other { is_of (txn_of self.old.live) (apdu_at bytes.now) ≡ false }
         ensures { GivesOutcome (model.hears self.old (apdu_at bytes.now), self.old)
@@ -173,28 +173,28 @@ impl Party {
         }
     }
 
-    /// The message with this number, if it was sent.
+    /// Returns the message that was sent under `number`, if there is one.
     pub fn sent(&self, number: Number) -> Option<&Message>
         ensures { option_map (λ m. m.now) result ≡ model.sent_message self.now.sent number }
     {
         self.sent.get(number)
     }
 
-    /// The side, as it is in memory.
+    /// Returns the side in memory.
     pub fn side(&self) -> &Side
         ensures { result.now ≡ self.now.live }
     {
         self.desk.side()
     }
 
-    /// How many messages of the side are released.
+    /// Returns the count of the released messages of the side.
     pub fn released(&self) -> u8
         ensures { result ≡ self.now.released }
     {
         self.desk.released()
     }
 
-    /// What a trace shows of the side.
+    /// Returns the parts of the side that a trace shows.
     pub fn shown(&self) -> Shown
         ensures { result ≡ party_shown self.now }
     {

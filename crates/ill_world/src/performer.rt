@@ -1,4 +1,4 @@
-//! Who performs the lines of a script.
+//! The types that perform the lines of a script.
 
 ghost use Rattle.ill_world.specs.Play.{Play};
 ghost use Rattle.ill_world.specs.Simulating.{TellsLine};
@@ -6,7 +6,7 @@ ghost use Rattle.ill_world.specs.Simulating.{TellsLine};
 use ill_values::OutOfMemory;
 use std::alloc::Global;
 
-/// What came of a line of a script.
+/// The effect of a line of a script.
 #[derive(Clone, Copy)]
 pub(crate) enum Told {
     /// Nothing has happened.
@@ -19,16 +19,16 @@ pub(crate) enum Told {
 
 /// Performs the lines of a script, one after another.
 pub(crate) trait Performer: Drop {
-    /// What is carried from line to line.
+    /// The value that is carried from line to line.
     type Carried: Drop;
 
-    /// What happens.
+    /// The type of the events.
     ghost Event: { Type 0 };
 
-    /// What lines say, what their events do, and what is shown of them.
+    /// The meaning of lines, the worlds to which events lead, and the texts that show them.
     ghost play: { Play Self Self.Event Self.Carried };
 
-    /// Performs a line, and adds the text of its event, which would have this number.
+    /// Performs a line, and appends the text of its event, which would have this number.
     fn perform_line(
         &mut self,
         alloc: Global,

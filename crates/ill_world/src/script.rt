@@ -1,4 +1,4 @@
-//! The lines of a script, which say what happens to the two sides.
+//! The lines of a script, which say the events at two sides.
 
 mod events;
 
@@ -10,14 +10,14 @@ use crate::script::events::event;
 use ill_values::OutOfMemory;
 use std::alloc::Global;
 
-/// What a line of a script says.
+/// The meaning of a line of a script.
 #[derive(Drop)]
 pub(crate) enum ScriptLine<E> {
     /// Nothing that happens.
     Skipped,
-    /// That this happens.
+    /// The line says this event.
     Event(E),
-    /// Something that no script may say.
+    /// The line says something that no script may say.
     Bad,
 }
 
@@ -65,7 +65,7 @@ pub(crate) fn read_words(alloc: Global, words: &[&[u8]]) -> Result<ScriptLine<Ev
     }
 }
 
-/// The words of a line: its runs of bytes other than spaces.
+/// Returns the words of a line: its runs of bytes other than spaces.
 pub(crate) fn split_words(alloc: Global, line: &[u8]) -> Result<Vec<&[u8]>, OutOfMemory>
     ensures { IfOk result (λ words. map (λ word. word.now) words.items ≡ words_of line.now) }
 {

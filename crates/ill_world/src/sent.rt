@@ -1,4 +1,4 @@
-//! What a side has sent.
+//! The messages that a side has sent.
 
 ghost use Rattle.std.specs.Prelude.{◌≡◌, List, Option, length, option_map, IfOk};
 ghost use Rattle.ill_values.specs.declared.apdu.Apdu.{Apdu};
@@ -9,10 +9,10 @@ use ill_values::{Number, OutOfMemory};
 use std::alloc::Global;
 use std::marker::Model;
 
-/// How many messages a side may send: one for each number.
+/// The most messages that a side may send: one for each number.
 const MESSAGES: usize = 255;
 
-/// What a side has sent: a place for each number, and there the message that was sent with it.
+/// The messages that a side has sent: a place for each number, with the message that was sent under it.
 #[derive(Debug, Drop)]
 pub struct Sent {
     places: Vec<Option<Message>>,
@@ -27,7 +27,7 @@ impl Model for Sent {
 }
 
 impl Sent {
-    /// Nothing was sent.
+    /// Returns the messages of a side that has sent none.
     pub fn nothing(alloc: Global) -> Result<Sent, OutOfMemory>
         ensures { IfOk result (λ sent. sent ≡ nothing_sent) }
     {
@@ -38,14 +38,14 @@ impl Sent {
         Ok(Sent { places })
     }
 
-    /// This message was sent, with this number.
+    /// Adds `message` as sent under `number`.
     pub fn put(&mut self, number: Number, message: Message)
         ensures { self.new ≡ with_sent self.old number message }
     {
         self.places[usize::from(number.get()) - 1] = Some(message);
     }
 
-    /// The message with this number, if it was sent.
+    /// Returns the message that was sent under `number`, if there is one.
     pub fn get(&self, number: Number) -> Option<&Message>
         ensures { option_map (λ message. message.now) result ≡ sent_message self.now number }
     {

@@ -25,17 +25,15 @@ use std::io::{Read, Write};
 /// The most lines of a script.
 const MAX_LINES: u32 = 100_000;
 
-/// Performs a script from two idle sides on, and writes a line for each event, with both sides after
-/// it. It answers the number of events. It reads at most 4,096 bytes at a time, and only where it has no
-/// whole line.
+/// Performs a script from two idle sides on, and writes a line for each event, with both sides after it. Returns
+/// the count of events. It reads at most 4,096 bytes at a time, and only if it has no whole line.
 ///
-/// At a bad line, and where the reader fails, the lines of all events before are written. If memory
-/// runs out, those of some of the first events are, and if the writer fails, a front of that text.
+/// At a bad line, and if the reader fails, the lines of all events before are written. If memory runs out, the
+/// lines of a prefix of the events are. If the writer fails, a prefix of the trace is.
 ///
-/// Whatever the script says, each world that a line shows is safe: a requester in CANCELLED or
-/// NOT-SUPPLIED faces a responder in the same state, one in SHIPPED or later faces one that has
-/// shipped, and its due date is one that this responder has granted; in memory and in the stores
-/// alike. And both sides agree, as `run` says.
+/// Whatever the script says, each world that a line shows is safe, in memory and in the stores alike. A requester
+/// in CANCELLED or NOT-SUPPLIED faces a responder in this state. One in SHIPPED or later faces one that has
+/// shipped, and its due date is one that this responder has granted. And both sides agree, as `run` says.
 pub fn simulate<R: Read, W: Write>(
     alloc: Global,
     txn: &TxnId,
@@ -83,15 +81,15 @@ impl Performer for World {
 /// A simulation in the midst of a script.
 #[derive(Drop)]
 pub(crate) struct Simulation<T: Performer> {
-    /// Who performs the lines.
+    /// The performer of the lines.
     performer: T,
-    /// What is carried to the next line.
+    /// The value that is carried to the next line.
     carried: T::Carried,
-    /// How many events have happened.
+    /// The count of the events that have happened.
     count: u32,
     /// The line of the script that was read last.
     line: Vec<u8>,
-    /// What was read of the script behind that line.
+    /// The bytes that were read of the script after that line.
     ahead: Ahead,
     /// The text of the line that was performed last.
     shown: Vec<u8>,
@@ -137,7 +135,7 @@ impl<T: Performer> Simulation<T> {
         self.end(reader)
     }
 
-    /// Performs the next line, which has this number, and answers whether another may follow.
+    /// Performs the next line, which has this number. Returns true if another may follow.
     fn step<R: Read, W: Write>(
         &mut self,
         alloc: Global,

@@ -1,4 +1,4 @@
-//! The lines of a trace, which show what is seen of each event and how both sides stand after it.
+//! The lines of a trace, which show the outcome of each event and both sides after it.
 
 ghost use Rattle.std.specs.Prelude.{◌≡◌, ◌++◌, OnOk, OnErr};
 ghost use Rattle.ill_values.specs.TxnId.{Qualifiers};
@@ -13,8 +13,8 @@ use ill_saved::{Side, Sides};
 use ill_values::{Day, OutOfMemory, TxnId};
 use itoa::{Buffer, Integer};
 
-/// What a trace shows of a side: its state, its due date, and how many of its messages are released and
-/// issued.
+/// The parts of a side that a trace shows: its state, its due date, and the counts of its released and its issued
+/// messages.
 #[derive(Clone, Copy)]
 pub(crate) struct Shown {
     state: State,
@@ -24,7 +24,7 @@ pub(crate) struct Shown {
 }
 
 impl Shown {
-    /// What is shown of a side of which so many messages are released.
+    /// Returns the parts of `side`. `released` counts its released messages.
     pub(crate) fn of(side: &Side, released: u8) -> Shown
         ensures { result ≡ shown_of side.now released }
     {
@@ -36,8 +36,8 @@ impl Shown {
         }
     }
 
-    /// What is shown of the side of this transaction among these, of which so many messages are released.
-    /// One that is not held is shown as an idle one.
+    /// Returns the parts of the side of `txn` among `sides`. `released` counts its released messages. A side that
+    /// is not held is shown as an idle one.
     pub(crate) fn held(sides: &Sides, txn: &TxnId, released: u8) -> Shown
         ensures { result ≡ shown_of (side_for txn.now sides.now) released }
     {
@@ -47,7 +47,7 @@ impl Shown {
         }
     }
 
-    /// What is shown of an idle side, of either role and whichever transaction.
+    /// Returns the parts of an idle side, of either role and in any transaction.
     fn idle(released: u8) -> Shown
         ensures { (role : Role) (txn : Qualifiers) → result ≡ shown_of (idle_side role txn) released }
     {
@@ -60,9 +60,9 @@ impl Shown {
     }
 }
 
-/// Adds the line of the event with this number, counted from 1: its number, what is seen of it, and for
-/// each side the state, the due date, and how many of its messages are released and issued, as
-/// `3 saved requester PENDING - 1/1 responder IDLE - 0/0` with an LF behind it.
+/// Appends the line of event `number`, counted from 1, with an LF after it. It has the number, `word`, and for each
+/// side the state, the due date, and the counts of its released and its issued messages: `3 saved requester PENDING
+/// - 1/1 responder IDLE - 0/0`.
 pub(crate) fn push_line(
     lines: &mut Vec<u8>,
     number: u32,
@@ -79,7 +79,7 @@ pub(crate) fn push_line(
     Ok(())
 }
 
-/// Adds the number of an event and what is seen of it, as `12 saved`.
+/// Appends the number of an event and the word of its outcome, as `12 saved`.
 fn push_event(lines: &mut Vec<u8>, number: u32, word: &str) -> Result<(), OutOfMemory>
     ensures { OnOk result (lines.new.items ≡ lines.old.items ++ event_text number word.now) }
 {
@@ -89,7 +89,7 @@ fn push_event(lines: &mut Vec<u8>, number: u32, word: &str) -> Result<(), OutOfM
     Ok(())
 }
 
-/// Adds how both sides stand.
+/// Appends the text of both sides.
 fn push_sides(lines: &mut Vec<u8>, requester: Shown, responder: Shown) -> Result<(), OutOfMemory>
     ensures { OnOk result (lines.new.items ≡ lines.old.items ++ sides_text requester responder) }
 {
@@ -100,9 +100,9 @@ fn push_sides(lines: &mut Vec<u8>, requester: Shown, responder: Shown) -> Result
     Ok(())
 }
 
-/// Adds how a side stands: its state, its due date or a dash, and how many of its messages are
-/// released and issued, as `SHIPPED 20250315 2/3`. If memory runs out, the lines stay, and a front of
-/// that may stand behind them, but never all of it.
+/// Appends the text of a side, as `SHIPPED 20250315 2/3`: its state, its due date or a dash, and the counts of its
+/// released and its issued messages. If memory runs out, `lines` keeps its content, and may end with a proper
+/// prefix of the text.
 pub fn push_side(lines: &mut Vec<u8>, side: &Side, released: u8) -> Result<(), OutOfMemory>
     ensures text { OnOk result (lines.new.items ≡ lines.old.items ++ side_text side.now released) }
     ensures front { OnErr result (AddsFront lines.old.items lines.new.items
@@ -111,8 +111,8 @@ pub fn push_side(lines: &mut Vec<u8>, side: &Side, released: u8) -> Result<(), O
     push_shown(lines, Shown::of(side, released))
 }
 
-/// Adds how the side of this transaction among these stands, which is idle where it is not held. If
-/// memory runs out, it leaves what `push_side` leaves.
+/// Appends the text of the side of `txn` among `sides`, which is idle if it is not held. If memory runs out,
+/// `lines` is left as `push_side` leaves it.
 pub fn push_held(
     lines: &mut Vec<u8>,
     sides: &Sides,
@@ -127,7 +127,7 @@ pub fn push_held(
     push_shown(lines, Shown::held(sides, txn, released))
 }
 
-/// Adds what is shown of a side.
+/// Appends the text of these parts of a side.
 #[tactic(auto, unfolding(crate::specs::Trace::shown_text))]
 fn push_shown(lines: &mut Vec<u8>, shown: Shown) -> Result<(), OutOfMemory>
     ensures text { OnOk result (lines.new.items ≡ lines.old.items ++ shown_text shown) }
@@ -142,7 +142,7 @@ fn push_shown(lines: &mut Vec<u8>, shown: Shown) -> Result<(), OutOfMemory>
     push_number(lines, shown.issued)
 }
 
-/// Adds a due date as eight digits, or a dash where there is none.
+/// Appends a due date as eight digits, or a dash if there is none.
 fn push_due(lines: &mut Vec<u8>, due: Option<Day>) -> Result<(), OutOfMemory>
     ensures text { OnOk result (lines.new.items ≡ lines.old.items ++ due_text due) }
     ensures front { OnErr result (AddsFront lines.old.items lines.new.items (due_text due)) }
@@ -154,7 +154,7 @@ fn push_due(lines: &mut Vec<u8>, due: Option<Day>) -> Result<(), OutOfMemory>
     Ok(())
 }
 
-/// Adds a number in decimal.
+/// Appends a number in decimal.
 fn push_number<I: Integer>(lines: &mut Vec<u8>, number: I) -> Result<(), OutOfMemory>
     ensures text { OnOk result (lines.new.items ≡ lines.old.items ++ I.text number) }
     ensures front { OnErr result (AddsFront lines.old.items lines.new.items (I.text number)) }

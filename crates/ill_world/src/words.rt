@@ -1,4 +1,4 @@
-//! What words stand for, in a script and on a command line.
+//! The meaning of words, in a script and on a command line.
 //!
 //! A day is eight digits, YYYYMMDD, of a day in the years 1900 to 9999, as `20250315`.
 
@@ -24,14 +24,14 @@ const NUMBER_DIGITS: usize = 3;
 /// The most decimal digits of a number of days.
 const DAYS_DIGITS: usize = 5;
 
-/// Whether a word is this one.
+/// Returns true if `word` is `name`.
 pub(crate) fn is(word: &[u8], name: &str) -> bool
     ensures { result ≡ bytes_eq word.now name.now }
 {
     word == name.as_bytes()
 }
 
-/// Yes or no, if the word is either.
+/// Returns true for `yes` and false for `no`, if the word is either.
 pub(crate) fn yes(word: &[u8]) -> Option<bool>
     ensures { result ≡ yes_of word.now }
 {
@@ -44,7 +44,7 @@ pub(crate) fn yes(word: &[u8]) -> Option<bool>
     }
 }
 
-/// The side that the word names, if it names one: `requester` or `responder`.
+/// Returns the side that the word names, if it names one: `requester` or `responder`.
 pub fn who(word: &[u8]) -> Option<Who>
     ensures { result ≡ who_named word.now }
 {
@@ -57,8 +57,8 @@ pub fn who(word: &[u8]) -> Option<Who>
     }
 }
 
-/// Whether a save that fails has landed nevertheless, if the word says so: the store has the `new`
-/// record, or the `old` one.
+/// Returns true for `new` and false for `old`, if the word is either: the record that the store has after a failed
+/// save.
 pub(crate) fn landed(word: &[u8]) -> Option<bool>
     ensures { result ≡ landed_named word.now }
 {
@@ -71,15 +71,15 @@ pub(crate) fn landed(word: &[u8]) -> Option<bool>
     }
 }
 
-/// The day that the word spells as eight digits, if it spells one.
+/// Returns the day that the word spells as eight digits, if it spells one.
 pub(crate) fn day(word: &[u8]) -> Option<Day>
     ensures { result ≡ day_of word.now }
 {
     Day::read(word).ok()
 }
 
-/// The day on which something is due, if the word says one: a day, or, where days may be counted from
-/// one, `+` and one to five decimal digits for so many days after it.
+/// Returns the day on which something is due, if the word says one. It is a day or, if `from` is given, `+` and one
+/// to five decimal digits of days after it.
 pub(crate) fn due(word: &[u8], from: Option<Day>) -> Option<Day>
     ensures { result ≡ due_of from word.now }
 {
@@ -89,7 +89,7 @@ pub(crate) fn due(word: &[u8], from: Option<Day>) -> Option<Day>
     }
 }
 
-/// The day so many days after this one, if digits say how many and the calendar goes so far.
+/// Returns the day that lies one to five `digits` of days after `from`, if the calendar goes so far.
 fn days_after(from: Day, digits: &[u8]) -> Option<Day>
     ensures { result ≡ days_after from digits.now }
 {
@@ -100,7 +100,7 @@ fn days_after(from: Day, digits: &[u8]) -> Option<Day>
     }
 }
 
-/// A day or none, if the word spells a day or is `none`.
+/// Returns a day or none, if the word spells a day or is `none`.
 pub(crate) fn optional_day(word: &[u8]) -> Option<Option<Day>>
     ensures { result ≡ optional_day_of word.now }
 {
@@ -111,8 +111,8 @@ pub(crate) fn optional_day(word: &[u8]) -> Option<Option<Day>>
     }
 }
 
-/// The number that one to three decimal digits stand for, if it is one of a message, 1 to 255. Zeros
-/// may stand before it.
+/// Returns the number for which one to three decimal digits stand, if a message may have it: 1 to 255. Zeros may
+/// stand before it.
 pub fn number(word: &[u8]) -> Option<Number>
     ensures { result ≡ number_of word.now }
 {
@@ -123,7 +123,7 @@ pub fn number(word: &[u8]) -> Option<Number>
     }
 }
 
-/// Whether a word is one to so many decimal digits.
+/// Returns true if `word` is one to `most` decimal digits.
 fn is_numeral(word: &[u8], most: usize) -> bool
     ensures value { result ≡ is_numeral most word.now }
     ensures few { OnTrue result (length word.now ≤ most) }
@@ -141,7 +141,7 @@ fn is_digits(word: &[u8]) -> bool
     word.iter().all(|byte| byte.is_ascii_digit())
 }
 
-/// The number that decimal digits stand for.
+/// Returns the number for which decimal digits stand.
 fn decimal(digits: &[u8]) -> u32
     requires few { length digits.now ≤ 5 }
     requires digits { EachIndex digits.now (λ k. IsInRange 48 57 (slice_index digits.now k)) }
@@ -154,8 +154,8 @@ fn decimal(digits: &[u8]) -> u32
     value
 }
 
-/// The bytes that the word spells as hexadecimal digits of either case, two for each byte, if it
-/// does; `none` stands for no bytes.
+/// Returns the bytes that the word spells as hexadecimal digits of either case, two for each byte, if it does. The
+/// word `none` stands for no bytes.
 pub(crate) fn bytes(alloc: Global, word: &[u8]) -> Result<Option<Bytes>, OutOfMemory>
     ensures { IfOk result (λ bytes. bytes ≡ bytes_of word.now) }
 {

@@ -1,4 +1,4 @@
-//! Two sides, with what they have sent.
+//! Two sides, with the messages that they have sent.
 
 ghost use Rattle.std.specs.Prelude.{◌≡◌, ◌++◌, ◌∷◌, IfOk, OnOk};
 ghost use Rattle.ill_values.specs.TxnId.{Qualifiers};
@@ -22,7 +22,7 @@ use ill_values::{Number, OutOfMemory, TxnId};
 use std::alloc::Global;
 use std::marker::Model;
 
-/// Two sides of one transaction, each with its store, and what either has sent.
+/// Two sides of one transaction, each with its store, and the messages that each has sent.
 ///
 /// It begins with two sides that have done nothing, and changes by events.
 #[derive(Debug, Drop)]
@@ -41,7 +41,7 @@ impl Model for World {
 }
 
 impl World {
-    /// Two idle sides of this transaction. Nothing has landed, and nothing was sent.
+    /// Returns two idle sides of `txn`. Nothing has landed, and nothing was sent.
     pub fn new(alloc: Global, txn: &TxnId) -> Result<World, OutOfMemory>
         ensures { IfOk result (λ world. world ≡ model.first_world txn.now) }
     {
@@ -54,13 +54,12 @@ impl World {
         })
     }
 
-    /// Performs an event, and answers what is seen of it. If memory runs out, nothing has changed.
+    /// Performs an event, and returns its outcome. If memory runs out, nothing has changed.
     ///
-    /// Only `Done`, `Saved`, `Sent`, `Restarted`, `Answered(Taken)` and `Faulted` change the world,
-    /// and `Faulted` only what has landed. At every event but its restart the requester's due date,
-    /// once it is there, stays or rises. One `Deliver` of the message that ended the request leads
-    /// the requester to its outcome, and one of a Returned the responder to RETURNED, or the item is
-    /// checked in.
+    /// Only `Done`, `Saved`, `Sent`, `Restarted`, `Answered(Taken)` and `Faulted` change the world. `Faulted`
+    /// changes only the landed side. At every event but its restart the requester's due date, once it is there,
+    /// stays or rises. One `Deliver` of the message that ended the request leads the requester to its outcome. One
+    /// of a Returned leads the responder to RETURNED, or the item is checked in.
     pub fn step(&mut self, alloc: Global, event: &Event) -> Result<Outcome, OutOfMemory>
         ensures gives { GivesOutcome (model.happens self.old event.now) self.old result self.new }
         ensures dates { KeepsDates self.old event.now self.new }
@@ -75,10 +74,10 @@ impl World {
         }
     }
 
-    /// Performs a round: saves the requester's side, and sends and delivers all its messages in order; then those of
-    /// the responder. If memory runs out, only the first events of the round have happened.
+    /// Performs a round. It saves the requester's side, and sends and delivers all its messages in order. Then it
+    /// does so for the responder's side. If memory runs out, only a prefix of the events of the round has happened.
     ///
-    /// Then both sides are in step, if before the round the responder has ended the request, or has a number left.
+    /// Then both sides are in step, if the responder had ended the request before, or had a number left.
     pub fn exchange(&mut self, alloc: Global) -> Result<(), OutOfMemory>
         ensures performs { Performs model.run_of (round_of self.old) self.old result self.new }
         ensures in_step { OnOk result (CanAnswer self.old.responder.live → AreInStep self.new) }
@@ -100,7 +99,7 @@ impl World {
         self.perform_all(alloc, &half_of_round(alloc, who, count)?)
     }
 
-    /// Performs these events, one after another. If memory runs out, only the first of them have happened.
+    /// Performs `events`, one after another. If memory runs out, only a prefix of them has happened.
     fn perform_all(&mut self, alloc: Global, events: &[Event]) -> Result<(), OutOfMemory>
         ensures { Performs model.run_of events.now self.old result self.new }
     {
@@ -110,7 +109,7 @@ impl World {
         Ok(())
     }
 
-    /// The requester, as it is in memory.
+    /// Returns the requester in memory.
     pub fn requester(&self) -> &Requester
         ensures { self.now.requester.live ≡ sides.Requester result.now }
     {
@@ -120,7 +119,7 @@ impl World {
         }
     }
 
-    /// The responder, as it is in memory.
+    /// Returns the responder in memory.
     pub fn responder(&self) -> &Responder
         ensures { self.now.responder.live ≡ sides.Responder result.now }
     {
@@ -130,7 +129,7 @@ impl World {
         }
     }
 
-    /// Adds the line of a trace that shows this world after an event with this number.
+    /// Appends the line of a trace that shows this world after an event with this number.
     #[tactic(auto, unfolding(crate::specs::Trace::line))]
     pub(crate) fn push_line(
         &self,
@@ -144,7 +143,7 @@ impl World {
         push_line(text, number, outcome.word(), requester, responder)
     }
 
-    /// How many messages of a side are released: those with numbers up to this one may be sent.
+    /// Returns the count of a side's released messages: those with numbers up to it may be sent.
     pub fn released(&self, who: Who) -> u8
         ensures { result ≡ (model.party self.now who).released }
     {
@@ -155,13 +154,12 @@ impl World {
     }
 }
 
-/// The world after these events, from two idle sides of the transaction on.
+/// Returns the world after `events`, from two idle sides of `txn` on.
 ///
-/// Every world on the way is safe: a requester in CANCELLED or NOT-SUPPLIED faces a responder in the
-/// same state, one in SHIPPED or later faces one that has shipped, and its due date is one that this
-/// responder has granted; in memory and in the stores alike. And both sides agree: each question is
-/// answered once, the request ends once, the requester's due date is not after the responder's, and
-/// what either says of the other is so.
+/// Every world on the way is safe, in memory and in the stores alike. A requester in CANCELLED or NOT-SUPPLIED
+/// faces a responder in this state. One in SHIPPED or later faces one that has shipped, and its due date is one
+/// that this responder has granted. And both sides agree: each question has one answer, and the request one end, at
+/// most. The requester's due date is not after the responder's, and each record is right on the other side.
 pub fn run(alloc: Global, txn: &TxnId, events: &[Event]) -> Result<World, OutOfMemory>
     ensures runs { IfOk result (λ world. world ≡
         model.run_of (model.first_world txn.now) events.now) }
@@ -177,7 +175,7 @@ pub fn run(alloc: Global, txn: &TxnId, events: &[Event]) -> Result<World, OutOfM
     Ok(world)
 }
 
-/// The events of half of a round: a side is saved, and each of its `count` messages is sent and delivered.
+/// Returns the events of half of a round: a side is saved, and each of its `count` messages is sent and delivered.
 fn half_of_round(alloc: Global, who: Who, count: u8) -> Result<Vec<Event>, OutOfMemory>
     ensures { IfOk result (λ events. events.items ≡ Save who ∷ passes_on who 1 count) }
 {
@@ -187,7 +185,7 @@ fn half_of_round(alloc: Global, who: Who, count: u8) -> Result<Vec<Event>, OutOf
     Ok(events)
 }
 
-/// The events by which the first `count` messages of a side are sent and delivered, one after another.
+/// Returns the events by which the first `count` messages of a side are sent and delivered, one after another.
 pub(crate) fn passes_on(alloc: Global, who: Who, count: u8) -> Result<Vec<Event>, OutOfMemory>
     ensures { IfOk result (λ events. events.items ≡ passes_on who 1 count) }
 {
@@ -202,7 +200,7 @@ pub(crate) fn passes_on(alloc: Global, who: Who, count: u8) -> Result<Vec<Event>
     Ok(events)
 }
 
-/// Performs an event of a party. The other one has sent what it may deliver.
+/// Performs an event of a party. The other one has sent the messages that it may deliver.
 fn perform(
     party: &mut Party,
     other: &Party,
@@ -227,7 +225,7 @@ fn perform(
     }
 }
 
-/// The same wish, on its own memory.
+/// Returns an equal wish, on its own memory.
 pub(crate) fn copy(alloc: Global, wish: &Wish) -> Result<Wish, OutOfMemory>
     ensures { IfOk result (λ copy. copy ≡ wish.now) }
 {

@@ -1,4 +1,4 @@
-//! What the words of a line say.
+//! The meaning of the words of a line.
 
 ghost use Rattle.std.specs.Prelude.{◌≡◌, map, IfOk};
 ghost use Rattle.ill_world.specs.Script.{event_of, deed_event, side_event, bare_event, event_with};
@@ -8,7 +8,7 @@ use crate::words::{bytes, day, deed, is, landed, number, who, wish};
 use ill_values::OutOfMemory;
 use std::alloc::Global;
 
-/// The event that the words say, if they say one.
+/// Returns the event that the words say, if they say one.
 #[tactic(auto, unfolding(crate::specs::Script::event_of))]
 pub(super) fn event(alloc: Global, words: &[&[u8]]) -> Result<Option<Event>, OutOfMemory>
     ensures { IfOk result (λ event. event ≡ event_of (map (λ word. word.now) words.now)) }
@@ -27,7 +27,7 @@ pub(super) fn event(alloc: Global, words: &[&[u8]]) -> Result<Option<Event>, Out
     }
 }
 
-/// The deed and its day that the words behind `responder` say, if they say them.
+/// Returns the deed and its day that the words after `responder` say, if they say them.
 fn deed_on_day(words: &[&[u8]]) -> Option<Event>
     ensures { result ≡ deed_event (map (λ word. word.now) words.now) }
 {
@@ -40,7 +40,7 @@ fn deed_on_day(words: &[&[u8]]) -> Option<Event>
     }
 }
 
-/// What the words behind the verb say, of which the first names a side.
+/// Returns the event that the words after the verb say, if they say one. The first of them names a side.
 fn side_event(alloc: Global, verb: &[u8], words: &[&[u8]]) -> Result<Option<Event>, OutOfMemory>
     ensures { IfOk result (λ event. event
         ≡ side_event verb.now (map (λ word. word.now) words.now)) }

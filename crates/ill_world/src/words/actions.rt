@@ -1,4 +1,4 @@
-//! What the words of a library's decision say: a requester's wish, or a responder's deed.
+//! The meaning of the words of a library's decision: a requester's wish, or a responder's deed.
 
 ghost use Rattle.std.specs.Prelude.{◌≡◌, map, IfOk};
 ghost use Rattle.ill_world.specs.Words.{bare_wish_of, wish_with, request_of, spaced, wish_of, bare_deed_of, refusal_of, deed_with, grant_with, deed_of};
@@ -8,7 +8,7 @@ use ill_core::{Deed, Wish};
 use ill_values::{AnswerResult, Day, Item, OutOfMemory, TextFault};
 use std::alloc::Global;
 
-/// The wish that the words say, if they say one:
+/// Returns the wish that the words say, if they say one:
 ///
 /// | Words | Wish |
 /// |---|---|
@@ -65,7 +65,7 @@ fn wish_with_word(verb: &[u8], word: &[u8]) -> Option<Wish>
     }
 }
 
-/// The request for the item that the words from the first on name.
+/// Returns the request for the item that the words from the first on name.
 fn request(
     alloc: Global,
     expiry: &[u8],
@@ -86,7 +86,7 @@ fn request(
     }
 }
 
-/// The words with a space between each and the next.
+/// Returns the words with a space between each and the next.
 fn joined(alloc: Global, first: &[u8], more: &[&[u8]]) -> Result<Vec<u8>, OutOfMemory>
     ensures { IfOk result (λ text. text.items
         ≡ spaced first.now (map (λ word. word.now) more.now)) }
@@ -99,7 +99,7 @@ fn joined(alloc: Global, first: &[u8], more: &[&[u8]]) -> Result<Vec<u8>, OutOfM
     Ok(text)
 }
 
-/// The deed that the words say, if they say one:
+/// Returns the deed that the words say, if they say one:
 ///
 /// | Words | Deed |
 /// |---|---|
@@ -110,8 +110,8 @@ fn joined(alloc: Global, first: &[u8], more: &[&[u8]]) -> Result<Vec<u8>, OutOfM
 /// | `renew-answer no` | `RenewAnswer` that refuses |
 /// | `overdue`, `recall`, `check-in` or `expire` | the deed of that name |
 ///
-/// RESULT is the name of an `AnswerResult`, such as `hold-placed`. DUE is a day or, where days
-/// may be counted `from` one, `+` and one to five decimal digits for so many days after it.
+/// RESULT is the name of an `AnswerResult`, such as `hold-placed`. DUE is a day or, if `from` is given, `+` and one
+/// to five decimal digits of days after it.
 #[tactic(auto, unfolding(crate::specs::Words::deed_of))]
 pub fn deed(words: &[&[u8]], from: Option<Day>) -> Option<Deed>
     ensures { result ≡ deed_of from (map (λ word. word.now) words.now) }
@@ -125,7 +125,7 @@ pub fn deed(words: &[&[u8]], from: Option<Day>) -> Option<Deed>
     }
 }
 
-/// The grant of a renewal, if the words say one.
+/// Returns the grant of a renewal, if the words say one.
 #[tactic(auto, unfolding(crate::specs::Words::grant_with))]
 fn grant(verb: &[u8], word: &[u8], day: &[u8], from: Option<Day>) -> Option<Deed>
     ensures { result ≡ grant_with from verb.now word.now day.now }

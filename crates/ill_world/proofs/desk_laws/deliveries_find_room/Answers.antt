@@ -1,3 +1,4 @@
+-- Answers the contract of `deliveries_find_room` (`src/desk_laws.rt`).
 use Rattle.ill_world.specs.Desks.{first_desks, desks_run}
 use Rattle.ill_world.proofs.Desks.{desks_stand_on}
 use Rattle.ill_world.proofs.DeskCounts.{finds_room, unheld_is_not_sent}

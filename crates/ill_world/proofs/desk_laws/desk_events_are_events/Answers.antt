@@ -1,3 +1,4 @@
+-- Answers the contract of `desk_events_are_events` (`src/desk_laws.rt`).
 use Rattle.ill_world.proofs.Desks.{desk_projects}
 use Rattle.ill_world.proofs.desk_laws.desk_events_are_events.Goals as goal
 

@@ -1,3 +1,4 @@
+-- Answers the contract of `desk_runs_are_runs` (`src/desk_laws.rt`).
 use Rattle.ill_world.proofs.Desks.{first_run_projects}
 use Rattle.ill_world.proofs.desk_laws.desk_runs_are_runs.Goals as goal
 

@@ -1,3 +1,4 @@
+-- Answers the contract of `desk_runs_have_each_world` (`src/desk_laws.rt`).
 use Rattle.ill_world.specs.Desks.{desks_happen, project}
 use Rattle.ill_world.specs.Safety.{Safe}
 use Rattle.ill_world.specs.Agreement.{Agrees}

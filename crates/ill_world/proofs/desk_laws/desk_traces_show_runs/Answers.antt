@@ -1,3 +1,4 @@
+-- Answers the contract of `desk_traces_show_runs` (`src/desk_laws.rt`).
 use Rattle.ill_world.specs.Desks.{first_desks}
 use Rattle.ill_world.specs.DeskSimulation.{two_desks}
 use Rattle.ill_world.proofs.Simulations.{trace_of_none}

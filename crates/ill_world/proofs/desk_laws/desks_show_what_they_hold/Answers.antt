@@ -1,3 +1,4 @@
+-- Answers the contract of `desks_show_what_they_hold` (`src/desk_laws.rt`).
 use Rattle.ill_world.proofs.Projections.{shows}
 use Rattle.ill_world.proofs.desk_laws.desks_show_what_they_hold.Goals as goal
 

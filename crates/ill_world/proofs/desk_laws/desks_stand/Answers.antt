@@ -1,3 +1,4 @@
+-- Answers the contract of `desks_stand` (`src/desk_laws.rt`).
 use Rattle.std.proofs.Common.{refl}
 use Rattle.ill_world.specs.World.{who_of}
 use Rattle.ill_world.specs.Desks.{plain}

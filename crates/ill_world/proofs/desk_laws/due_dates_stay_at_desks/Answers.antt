@@ -1,3 +1,4 @@
+-- Answers the contract of `due_dates_stay_at_desks` (`src/desk_laws.rt`).
 use Rattle.ill_world.proofs.Desks.{desk_dates}
 use Rattle.ill_world.proofs.desk_laws.due_dates_stay_at_desks.Goals as goal
 

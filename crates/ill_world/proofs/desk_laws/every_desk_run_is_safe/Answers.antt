@@ -1,3 +1,4 @@
+-- Answers the contract of `every_desk_run_is_safe` (`src/desk_laws.rt`).
 use Rattle.std.proofs.Common.{sym, subst, take}
 use Rattle.ill_world.specs.Desks.{first_desks, events_for}
 use Rattle.ill_world.specs.Safety.{Safe}

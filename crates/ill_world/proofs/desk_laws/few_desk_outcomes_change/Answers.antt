@@ -1,3 +1,4 @@
+-- Answers the contract of `few_desk_outcomes_change` (`src/desk_laws.rt`).
 use Rattle.ill_world.proofs.Desks.{desk_changes}
 use Rattle.ill_world.proofs.desk_laws.few_desk_outcomes_change.Goals as goal
 

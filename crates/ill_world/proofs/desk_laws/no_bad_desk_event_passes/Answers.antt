@@ -1,3 +1,4 @@
+-- Answers the contract of `no_bad_desk_event_passes` (`src/desk_laws.rt`).
 use Rattle.ill_world.proofs.BadDesks.{none_missed, none_changed, none_in_vain_at}
 use Rattle.ill_world.proofs.desk_laws.no_bad_desk_event_passes.Goals as goal
 

@@ -1,3 +1,4 @@
+-- Answers the contract of `no_bad_desk_trace_is_written` (`src/desk_laws.rt`).
 use Rattle.std.proofs.Common.{None}
 use Rattle.ill_world.specs.Desks.{first_desks}
 use Rattle.ill_world.specs.DeskSimulation.{two_desks}

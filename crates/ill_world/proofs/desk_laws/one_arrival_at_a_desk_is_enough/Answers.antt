@@ -1,3 +1,4 @@
+-- Answers the contract of `one_arrival_at_a_desk_is_enough` (`src/desk_laws.rt`).
 use Rattle.ill_world.proofs.DeskArrivals.{arrives_at}
 use Rattle.ill_world.proofs.desk_laws.one_arrival_at_a_desk_is_enough.Goals as goal
 

@@ -1,3 +1,4 @@
+-- Answers the contract of `one_desk_round_is_enough` (`src/desk_laws.rt`).
 use Rattle.std.proofs.Common.{sym, subst}
 use Rattle.ill_world.specs.Desks.{project, desks_run, first_desks}
 use Rattle.ill_world.specs.Round.{AreInStep}

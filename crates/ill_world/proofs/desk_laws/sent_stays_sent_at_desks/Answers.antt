@@ -1,3 +1,4 @@
+-- Answers the contract of `sent_stays_sent_at_desks` (`src/desk_laws.rt`).
 use Rattle.ill_world.proofs.Desks.{desk_keeps_sent}
 use Rattle.ill_world.proofs.desk_laws.sent_stays_sent_at_desks.Goals as goal
 

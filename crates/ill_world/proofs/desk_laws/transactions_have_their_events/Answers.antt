@@ -1,3 +1,4 @@
+-- Answers the contract of `transactions_have_their_events` (`src/desk_laws.rt`).
 use Rattle.ill_world.proofs.BadDesks.{events_in_order, whole_events, named_event, other_event, unreached_event, noise_event}
 use Rattle.ill_world.proofs.desk_laws.transactions_have_their_events.Goals as goal
 

@@ -1,3 +1,4 @@
+-- Answers the contract of `heard` (`src/desk_party.rt`).
 use Rattle.std.proofs.Common.{rules}
 use Rattle.ill_der.specs.ShortForm.{apdu_at}
 use Rattle.ill_world.proofs.DeskParties.{heard_as}

@@ -1,3 +1,4 @@
+-- Answers the contract of `insert_new` (`src/desk_sent.rt`).
 use Rattle.std.proofs.Common.{◌∙◌}
 use Rattle.indexmap.proofs.CallerLemmas.{insert_entry-new}
 use Rattle.ill_core.specs.Issued.{is_same_txn}

@@ -1,3 +1,4 @@
+-- Answers the contract of `simulate_desks` (`src/desk_simulation.rt`).
 use Rattle.ill_world.specs.DeskSimulation.{two_desks}
 use Rattle.ill_world.proofs.Steps.{not_begun}
 use Rattle.ill_world.proofs.desk_simulation.simulate_desks.Goals as goal

@@ -1,3 +1,4 @@
+-- Answers the contract of `half_of_desk_round` (`src/desk_world.rt`).
 use Rattle.std.proofs.Common.{rules, ◌≡◌, Some}
 use Rattle.std.specs.List.{slice_get}
 use Rattle.ill_world.specs.declared.event.DeskEvent.TheVariants.{Save}

@@ -1,3 +1,4 @@
+-- Answers the contract of `happen` (`src/desk_world.rt`).
 use Rattle.std.proofs.Common.{sym, ◌∙◌}
 use Rattle.ill_saved.specs.declared.role.Role.TheVariants as who
 use Rattle.ill_world.specs.World.{who_of}

@@ -1,10 +1,11 @@
+-- The loop invariant of `push_passes` (`src/desk_world.rt`).
 use Rattle.std.proofs.Common.{◌≡◌, ◌++◌, map}
 use Rattle.ill_saved.specs.Side.{txn_of}
 use Rattle.ill_world.specs.DeskScript.{in_txn}
 use Rattle.ill_world.specs.DeskRound.{passes_side}
 use Rattle.ill_world.proofs.desk_world.push_passes.Given as goal
 
--- the events so far, and those of the messages that are left, are those of all
+-- The events so far, and those that are left, are the old events and those of the side.
 abbrev pub invariant-loop-event : goal.invariant-loop-event
 invariant-loop-event l =
     l.events.items ++ map (in_txn (txn_of l.fn.side)) l.event-iterator.rest.items ≡ l.fn.events.items ++ passes_side l.fn.who l.fn.side

@@ -1,3 +1,4 @@
+-- Answers the contract of `run_desks` (`src/desk_world.rt`).
 use Rattle.std.proofs.Common.{arith, ap, sym, ◌∙◌}
 use Rattle.ill_world.specs.Desks.{desks_happen, desks_run}
 use Rattle.ill_world.proofs.Runs.{run_on, run_ended}

@@ -1,7 +1,8 @@
+-- The loop invariant of `run_desks` (`src/desk_world.rt`).
 use Rattle.std.proofs.Common.{◌≡◌, drop}
 use Rattle.ill_world.specs.Desks.{first_desks, desks_run}
 use Rattle.ill_world.proofs.desk_world.run_desks.Given as goal
 
--- the events that are left lead to the desks that all lead to
+-- The events that are left lead to the desks to which all events lead.
 abbrev pub invariant-loop-event : goal.invariant-loop-event
 invariant-loop-event l = desks_run l.world (drop l.event-index l.fn.events) ≡ desks_run first_desks l.fn.events

@@ -1,3 +1,4 @@
+-- Answers the contract of `due_dates_stay` (`src/laws.rt`).
 use Rattle.ill_world.proofs.DueDates.{dates_kept}
 use Rattle.ill_world.proofs.laws.due_dates_stay.Goals as goal
 

@@ -1,3 +1,4 @@
+-- Answers the contract of `every_run_is_safe` (`src/laws.rt`).
 use Rattle.std.proofs.Common.{take}
 use Rattle.ill_world.proofs.laws.every_run_is_safe.Goals as goal
 

@@ -1,3 +1,4 @@
+-- Answers the contract of `every_world_agrees` (`src/laws.rt`).
 use Rattle.ill_world.specs.World.{first_world, run_of}
 use Rattle.ill_world.proofs.Runs.{run_stands}
 use Rattle.ill_world.proofs.laws.every_world_agrees.Goals as goal

@@ -1,3 +1,4 @@
+-- Answers the contract of `few_outcomes_change` (`src/laws.rt`).
 use Rattle.ill_world.proofs.Changes.{world_changes}
 use Rattle.ill_world.proofs.laws.few_outcomes_change.Goals as goal
 

@@ -1,3 +1,4 @@
+-- Answers the contract of `nights_are_rounds` (`src/laws.rt`).
 use Rattle.ill_world.proofs.Nights.{night_is_round, night_is_saves}
 use Rattle.ill_world.proofs.laws.nights_are_rounds.Goals as goal
 

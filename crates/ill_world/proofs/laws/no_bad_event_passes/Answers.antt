@@ -1,3 +1,4 @@
+-- Answers the contract of `no_bad_event_passes` (`src/laws.rt`).
 use Rattle.ill_world.proofs.BadWorlds.{no_date_taken_back, none_in_vain}
 use Rattle.ill_world.proofs.laws.no_bad_event_passes.Goals as goal
 

@@ -1,3 +1,4 @@
+-- Answers the contract of `no_bad_trace_is_written` (`src/laws.rt`).
 use Rattle.ill_world.specs.World.{first_world}
 use Rattle.ill_world.specs.Simulation.{two_sides}
 use Rattle.ill_world.proofs.BadTraces.{none_leaves, some_front}

@@ -1,3 +1,4 @@
+-- Answers the contract of `one_arrival_is_enough` (`src/laws.rt`).
 use Rattle.ill_world.proofs.Arrivals.{arrives}
 use Rattle.ill_world.proofs.laws.one_arrival_is_enough.Goals as goal
 

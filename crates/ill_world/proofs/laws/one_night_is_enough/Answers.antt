@@ -1,3 +1,4 @@
+-- Answers the contract of `one_night_is_enough` (`src/laws.rt`).
 use Rattle.ill_world.specs.World.{first_world}
 use Rattle.ill_world.proofs.Nights.{one_night}
 use Rattle.ill_world.proofs.Runs.{run_stands}

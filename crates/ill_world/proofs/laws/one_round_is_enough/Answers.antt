@@ -1,3 +1,4 @@
+-- Answers the contract of `one_round_is_enough` (`src/laws.rt`).
 use Rattle.ill_world.specs.World.{first_world}
 use Rattle.ill_world.proofs.OneRound.{RowsHear, one_round}
 use Rattle.ill_world.proofs.Runs.{run_stands}

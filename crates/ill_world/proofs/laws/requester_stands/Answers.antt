@@ -1,3 +1,4 @@
+-- Answers the contract of `requester_stands` (`src/laws.rt`).
 use Rattle.std.proofs.Common.{◌≤◌, ◌∙◌, inl, inr, length, subst, sym}
 use Rattle.ill_world.proofs.laws.requester_stands.Goals as goal
 

@@ -1,3 +1,4 @@
+-- Answers the contract of `responder_stands` (`src/laws.rt`).
 use Rattle.std.proofs.Common.{◌∙◌, inl, inr}
 use Rattle.ill_core.specs.ResponderFacts.{MayCancel, MayRenew}
 use Rattle.ill_world.proofs.Standings.{cancel_is_there, question_is_there}

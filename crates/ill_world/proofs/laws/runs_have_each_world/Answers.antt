@@ -1,3 +1,4 @@
+-- Answers the contract of `runs_have_each_world` (`src/laws.rt`).
 use Rattle.ill_world.specs.World.{happens}
 use Rattle.ill_world.specs.Safety.{Safe}
 use Rattle.ill_world.specs.Agreement.{Agrees}

@@ -1,3 +1,4 @@
+-- Answers the contract of `sent_stays_sent` (`src/laws.rt`).
 use Rattle.ill_world.specs.World.{first_world}
 use Rattle.ill_world.proofs.Changes.{event_keeps_sent, run_keeps_sent}
 use Rattle.ill_world.proofs.laws.sent_stays_sent.Goals as goal

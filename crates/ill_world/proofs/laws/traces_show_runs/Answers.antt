@@ -1,3 +1,4 @@
+-- Answers the contract of `traces_show_runs` (`src/laws.rt`).
 use Rattle.ill_world.specs.World.{first_world}
 use Rattle.ill_world.specs.Simulation.{two_sides}
 use Rattle.ill_world.proofs.Simulations.{trace_of_none, sides_line, sides_front}

@@ -1,3 +1,4 @@
+-- Answers the contract of `world_stands` (`src/laws.rt`).
 use Rattle.ill_world.proofs.Standings.{requester_keeps, responder_keeps, world_first, world_after}
 use Rattle.ill_world.proofs.laws.world_stands.Goals as goal
 

@@ -1,14 +1,15 @@
+-- The loop invariant of `next_line` (`src/lines.rt`).
 use Rattle.std.proofs.Common.{◌-◌, length}
 use Rattle.std.specs.Io.KnownBytes.{Consumes, prepend_known}
 use Rattle.ill_world.specs.Simulating.{IsLine}
 use Rattle.ill_world.proofs.lines.next_line.Given as goal
 
--- what was read is the front of a line
+-- The bytes that were read are a prefix of a line.
 abbrev pub invariant-loop-ahead : goal.invariant-loop-ahead
 invariant-loop-ahead g l =
     IsLine l.line.items
     × Consumes (prepend_known l.initial.ahead (g.R.Read.remaining l.initial.reader)) (prepend_known l.ahead (g.R.Read.remaining l.reader)) l.line.items
 
--- how many bytes may still come
+-- The count of the bytes that may still come falls.
 abbrev pub decreases-loop-ahead : goal.decreases-loop-ahead
 decreases-loop-ahead g l = 1025 - length l.line.items

@@ -1,3 +1,4 @@
+-- Answers the contract of `take_part` (`src/lines.rt`).
 use Rattle.std.proofs.Common.{arith, rules}
 use Rattle.ill_world.proofs.Texts.{takes_line, takes_too_long, takes_all}
 use Rattle.ill_world.proofs.lines.take_part.Goals as goal

@@ -1,3 +1,4 @@
+-- Answers the contract of `split_words` (`src/script.rt`).
 use Rattle.std.proofs.Common.{rules, not, ◌==◌, List, ℕ, length, ap, ◌∙◌}
 use Rattle.std.specs.Slice.Iter.{split_rest, split_done, split_callee}
 use Rattle.std.proofs.lemmas.Iterator.Consumers.{map_from_collect, YieldsList-from_filter}

@@ -1,3 +1,4 @@
+-- Answers the contract of `a_night_of_a_group_is_enough` (`src/shelf_laws.rt`).
 use Rattle.std.proofs.Common.{◌≡◌, sym, ap, subst, ◌∙◌}
 use Rattle.ill_world.specs.Desks.{project, desks_run}
 use Rattle.ill_world.specs.Round.{CanAnswer}

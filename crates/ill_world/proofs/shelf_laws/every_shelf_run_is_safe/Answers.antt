@@ -1,3 +1,4 @@
+-- Answers the contract of `every_shelf_run_is_safe` (`src/shelf_laws.rt`).
 use Rattle.std.proofs.Common.{[], ◌++◌, sym, subst, take}
 use Rattle.ill_world.specs.Desks.{first_desks, project}
 use Rattle.ill_world.specs.Shelves.{events_at}

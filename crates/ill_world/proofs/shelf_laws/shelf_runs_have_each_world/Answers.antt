@@ -1,3 +1,4 @@
+-- Answers the contract of `shelf_runs_have_each_world` (`src/shelf_laws.rt`).
 use Rattle.ill_world.specs.Desks.{project}
 use Rattle.ill_world.specs.Safety.{Safe}
 use Rattle.ill_world.specs.Agreement.{Agrees}

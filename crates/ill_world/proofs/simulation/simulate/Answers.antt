@@ -1,3 +1,4 @@
+-- Answers the contract of `simulate` (`src/simulation.rt`).
 use Rattle.ill_world.specs.Simulation.{two_sides}
 use Rattle.ill_world.proofs.Steps.{not_begun}
 use Rattle.ill_world.proofs.simulation.simulate.Goals as goal

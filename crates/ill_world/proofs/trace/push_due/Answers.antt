@@ -1,3 +1,4 @@
+-- Answers the contract of `push_due` (`src/trace.rt`).
 use Rattle.std.proofs.Common.{rules, ◌≡◌, ◌<◌, Some, length, sym, subst}
 use Rattle.ill_values.specs.Day.{date_text}
 use Rattle.ill_der.specs.Adding.{AddsFront}

@@ -1,3 +1,4 @@
+-- Answers the contract of `push_shown` (`src/trace.rt`).
 use Rattle.std.proofs.Common.{rules, ◌≡◌, ℕ, ◌<◌, List, ◌++◌, ◌∷◌, [], codes, length, ap, ◌∙◌, arith, append_assoc, length-append}
 use Rattle.std.specs.Fmt.{decimal}
 use Rattle.ill_core.specs.State.{state_name}
@@ -7,49 +8,57 @@ use Rattle.ill_world.specs.Trace.{due_text, shown_text}
 use Rattle.ill_der.proofs.AddingLemmas.{adds_nothing, adds_first, adds_second, adds_last, at_err}
 use Rattle.ill_world.proofs.trace.push_shown.Goals as goal
 
--- what is shown, up to each of its parts
+-- Returns the text of a side up to the space after its state.
 abbrev to_space : Shown → List ℕ
 to_space shown = state_name shown.state ++ codes " "
 
+-- Returns the text of a side up to its due date.
 abbrev to_due : Shown → List ℕ
 to_due shown = to_space shown ++ due_text shown.due
 
+-- Returns the text of a side up to the space after its due date.
 abbrev to_gap : Shown → List ℕ
 to_gap shown = to_due shown ++ codes " "
 
+-- Returns the text of a side up to the count of its released messages.
 abbrev to_released : Shown → List ℕ
 to_released shown = to_gap shown ++ decimal shown.released
 
+-- Returns the text of a side up to the stroke.
 abbrev to_stroke : Shown → List ℕ
 to_stroke shown = to_released shown ++ codes "/"
 
 module _ (shown : Shown) (old new : List ℕ) where
-  -- a front of what stands up to a part is a front of all
+  -- A prefix of the text up to the stroke is a prefix of all.
   stroke_all : AddsFront old new (to_stroke shown) → AddsFront old new (shown_text shown)
   unfolding shown_text
   stroke_all is = adds_first old new (to_stroke shown) (decimal shown.issued) is
 
+  -- A prefix of the text up to the released count is a prefix of all.
   released_all : AddsFront old new (to_released shown) → AddsFront old new (shown_text shown)
   released_all is = stroke_all (adds_first old new (to_released shown) (codes "/") is)
 
+  -- A prefix of the text up to the space after the due date is a prefix of all.
   gap_all : AddsFront old new (to_gap shown) → AddsFront old new (shown_text shown)
   gap_all is = released_all (adds_first old new (to_gap shown) (decimal shown.released) is)
 
+  -- A prefix of the text up to the due date is a prefix of all.
   due_all : AddsFront old new (to_due shown) → AddsFront old new (shown_text shown)
   due_all is = gap_all (adds_first old new (to_due shown) (codes " ") is)
 
+  -- A prefix of the text up to the space after the state is a prefix of all.
   space_all : AddsFront old new (to_space shown) → AddsFront old new (shown_text shown)
   space_all is = due_all (adds_first old new (to_space shown) (due_text shown.due) is)
 
--- one more part was added
+-- If `old` and `text` were there, and `part` was added, `old` and `text ++ part` are there.
 one_more : (old middle next text part : List ℕ) → middle ≡ old ++ text → next ≡ middle ++ part → next ≡ old ++ (text ++ part)
 one_more old middle next text part before more = more ∙ ap (λ (x : List ℕ). x ++ part) before ∙ append_assoc old text part
 
--- a byte was not added
+-- If `text` was added and the byte after it was not, a prefix of both was added.
 no_byte : (old middle new text : List ℕ) (byte : ℕ) → middle ≡ old ++ text → new ≡ middle → AddsFront old new (text ++ byte ∷ [])
 no_byte old middle new text byte before stays = adds_second old middle new text (byte ∷ []) before (adds_nothing middle new (byte ∷ []) stays (omega arith))
 
--- a text with a byte in it is not empty
+-- A text with a byte after it is not empty.
 some_there : (text : List ℕ) (byte : ℕ) → 0 < length (text ++ byte ∷ [])
 some_there text byte = omega (arith, length-append text (byte ∷ []))
 

@@ -1,8 +1,9 @@
+-- The loop invariant of `decimal` (`src/words.rt`).
 use Rattle.std.proofs.Common.{◌≡◌, ◌<◌, ◌^◌, take}
 use Rattle.ill_world.specs.Words.{decimal_value}
 use Rattle.ill_world.proofs.words.decimal.Given as goal
 
--- the value is that of the digits so far
+-- The value is that of the digits so far, and has no more digits than these.
 abbrev pub invariant-loop-digit : goal.invariant-loop-digit
 invariant-loop-digit l =
     record { below : l.value < 10 ^ l.digit-index; value : l.value ≡ decimal_value (take l.digit-index l.digits) }

@@ -1,3 +1,4 @@
+-- Answers the contract of `passes_on` (`src/world.rt`).
 use Rattle.std.proofs.Common.{arith, ◌+◌, ◌-◌, ◌∙◌}
 use Rattle.ill_world.proofs.Rounds.{passes_grow, passes_none}
 use Rattle.ill_world.proofs.world.passes_on.Goals as goal

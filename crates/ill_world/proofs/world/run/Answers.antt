@@ -1,3 +1,4 @@
+-- Answers the contract of `run` (`src/world.rt`).
 use Rattle.std.proofs.Common.{arith, ap, sym, ◌∙◌}
 use Rattle.ill_world.specs.World.{happens, run_of}
 use Rattle.ill_world.proofs.Runs.{run_on, run_ended}

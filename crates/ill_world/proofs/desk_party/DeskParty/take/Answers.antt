@@ -1,3 +1,4 @@
+-- Answers the contract of `DeskParty::take` (`src/desk_party.rt`).
 use Rattle.std.proofs.Common.{rules, [], Ok, subst}
 use Rattle.ill_saved.specs.Many.{ManyTakes}
 use Rattle.ill_world.proofs.DeskParties.{takes_one, takes_role, take_faults}

@@ -1,3 +1,4 @@
+-- Answers the contract of `DeskSent::get` (`src/desk_sent.rt`).
 use Rattle.std.proofs.Common.{rules, ◌≡◌, Some, None, sym, ap, ◌∙◌}
 use Rattle.std.specs.Map.{lookup}
 use Rattle.ill_core.specs.Issued.{is_same_txn}

@@ -1,3 +1,4 @@
+-- Answers the contract of `DeskWorld::exchange` (`src/desk_world.rt`).
 use Rattle.std.proofs.Common.{◌++◌, subst}
 use Rattle.ill_values.specs.TxnId.{Qualifiers}
 use Rattle.ill_saved.specs.declared.role.Role.TheVariants.{Requester, Responder}

@@ -1,3 +1,4 @@
+-- Answers the contract of `DeskWorld::pass_on` (`src/desk_world.rt`).
 use Rattle.std.proofs.Common.{[], refl}
 use Rattle.ill_world.specs.World.{run_by}
 use Rattle.ill_world.specs.Desks.{desks_happen}

@@ -1,3 +1,4 @@
+-- Answers the contract of `DeskWorld::perform_all` (`src/desk_world.rt`).
 use Rattle.std.proofs.Common.{arith, sym, ap, ◌∙◌, drop, take, refl}
 use Rattle.std.proofs.Math.ListN.{take-append-drop}
 use Rattle.ill_world.specs.World.{run_by}

@@ -1,3 +1,4 @@
+-- Answers the contract of `Message::new` (`src/message.rt`).
 use Rattle.ill_world.proofs.Messages.{apdu_is, is_whole}
 use Rattle.ill_world.proofs.message.Message.new.Goals as goal
 

@@ -1,3 +1,4 @@
+-- Answers the contract of `Party::is_forged` (`src/party.rt`).
 use Rattle.std.proofs.Common.{rules}
 use Rattle.ill_saved.specs.Side.{txn_of}
 use Rattle.ill_der.specs.ShortForm.{apdu_at}

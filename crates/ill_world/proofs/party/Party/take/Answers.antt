@@ -1,3 +1,4 @@
+-- Answers the contract of `Party::take` (`src/party.rt`).
 use Rattle.std.proofs.Common.{rules}
 use Rattle.ill_world.proofs.Parties.{takes_one, taken_idle}
 use Rattle.ill_world.proofs.party.Party.take.Goals as goal

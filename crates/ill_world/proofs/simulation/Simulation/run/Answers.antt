@@ -1,3 +1,4 @@
+-- Answers the contract of `Simulation::run` (`src/simulation.rt`).
 use Rattle.std.proofs.Common.{arith, ◌+◌, ℕ, Bool, Ok, Err, subst}
 use Rattle.std.specs.Io.KnownBytes.{prepend_known}
 use Rattle.ill_world.specs.Play.{Plays}

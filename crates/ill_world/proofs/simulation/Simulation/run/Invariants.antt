@@ -1,10 +1,11 @@
+-- The loop invariant of `Simulation::run` (`src/simulation.rt`).
 use Rattle.std.proofs.Common.{◌+◌, ◌≤◌, ℕ, List, Option, Result}
 use Rattle.std.specs.Io.KnownBytes.{prepend_known}
 use Rattle.ill_world.specs.declared.fault.SimFault.{SimFault}
 use Rattle.ill_world.specs.Play.{Plays}
 use Rattle.ill_world.proofs.simulation.Simulation.run.Given as goal
 
--- whatever comes of the rest of the script comes of the whole
+-- If performing the rest of the script gives a result, performing the whole gives it.
 abbrev pub invariant-loop-before : goal.invariant-loop-before
 invariant-loop-before g l =
     ((left after : Option (List ℕ)) (result : Result ℕ SimFault)

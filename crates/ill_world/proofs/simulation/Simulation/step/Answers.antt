@@ -1,3 +1,4 @@
+-- Answers the contract of `Simulation::step` (`src/simulation.rt`).
 use Rattle.std.proofs.Common.{arith, ◌≡◌, ◌≤◌, length, Ok, sym, subst}
 use Rattle.std.specs.Io.KnownBytes.{prepend_known}
 use Rattle.ill_world.specs.declared.lines.Found.TheVariants as found

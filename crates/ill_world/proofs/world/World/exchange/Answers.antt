@@ -1,3 +1,4 @@
+-- Answers the contract of `World::exchange` (`src/world.rt`).
 use Rattle.std.proofs.Common.{◌++◌, subst}
 use Rattle.ill_saved.specs.declared.role.Role.TheVariants.{Requester, Responder}
 use Rattle.ill_world.specs.World.{Parties, happens, run_of}

@@ -1,3 +1,4 @@
+-- Answers the contract of `World::new` (`src/world.rt`).
 use Rattle.std.proofs.Common.{sym, subst}
 use Rattle.ill_world.specs.Invariant.{Invariant}
 use Rattle.ill_world.proofs.Worlds.{first_is}

@@ -1,3 +1,4 @@
+-- Answers the contract of `World::pass_on` (`src/world.rt`).
 use Rattle.std.proofs.Common.{[], refl}
 use Rattle.ill_world.specs.World.{happens, run_by}
 use Rattle.ill_world.specs.Round.{half_of}

@@ -1,3 +1,4 @@
+-- Answers the contract of `World::perform_all` (`src/world.rt`).
 use Rattle.std.proofs.Common.{arith, sym, ap, ◌∙◌, drop, take, refl}
 use Rattle.std.proofs.Math.ListN.{take-append-drop}
 use Rattle.ill_world.specs.World.{happens, run_by}

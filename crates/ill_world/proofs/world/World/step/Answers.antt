@@ -1,3 +1,4 @@
+-- Answers the contract of `World::step` (`src/world.rt`).
 use Rattle.std.proofs.Common.{sym, ◌∙◌, subst}
 use Rattle.ill_saved.specs.declared.role.Role.TheVariants as who
 use Rattle.ill_world.specs.World.{Parties, happens}

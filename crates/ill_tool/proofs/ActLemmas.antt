@@ -1,4 +1,4 @@
--- Acting, from what the calls below answer.
+-- The command `act` from the results of its calls.
 use Rattle.std.proofs.Common.{◌≡◌, inl, inr, ℕ, Bool, List, [], Option, Some, None, Result, Ok, Err, refl, sym, subst}
 use Rattle.std.specs.Prelude.{IsErrAnd}
 use Rattle.std.proofs.KnownBytes.{Appends-nil}
@@ -10,11 +10,12 @@ use Rattle.ill_tool.specs.Performing.{HeldAndLanded}
 use Rattle.ill_tool.specs.Act.{RunsAct}
 
 module _ {L K : Type 0} (keeping : Keeping L K) (key : K) where
-  -- memory ran out for the words
+  -- If memory ran out for the words, the command has the fault `OutOfMemory`, and nothing changed.
   words_unread : (named : Option Action) (now : HeldAndLanded L) (before : Option (List ℕ)) → RunsAct keeping key named now before before (Err OutOfMemory) now
   words_unread None now before = (inr refl, refl, Appends-nil before)
   words_unread (Some action) now before = (Err OutOfMemory, [], inl (tt, refl), Appends-nil before, (refl, refl))
 
+  -- If the result is the fault `OutOfMemory` alone, the command has it, and nothing changed.
   pub no_words : (named : Option Action) (now : HeldAndLanded L) (before : Option (List ℕ)) (result : Result Bool ToolFault) → IsErrAnd result (λ fault. fault ≡ OutOfMemory)
       → RunsAct keeping key named now before before result now
   no_words named now before (Ok fine) failed = absurd failed

@@ -1,4 +1,4 @@
--- The deeds that a day asks for, loan after loan.
+-- The deeds that a day asks for, loan by loan.
 use Rattle.std.proofs.Common.{◌≡◌, ℕ, zero, suc, ◌++◌, List, [], ◌∷◌, drop, Option, Some, None, refl}
 use Rattle.std.specs.Prelude.{slice_get}
 use Rattle.std.specs.Option.{option_to_list}
@@ -8,12 +8,14 @@ use Rattle.ill_saved.specs.declared.side.Side.{Side}
 use Rattle.ill_tool.specs.declared.dates.Dates.{Dates}
 use Rattle.ill_tool.specs.Dates.{all_due, due_at, due_in}
 
+-- An optional item before a list is the list of that item, and then the list.
 one_before : {X : Type 0} (found : Option X) (more : List X) → cons_option found more ≡ option_to_list found ++ more
 one_before (Some item) more = refl
 one_before None more = refl
 
--- The deeds of the loans from a place on are that of the one there, and those of the others.
-pub one_further : (which : Dates) (today : Date) (sides : List Side) (place : ℕ) → all_due which today (drop place sides) ≡ option_to_list (due_at which today (slice_get sides place)) ++ all_due which today (drop (suc place) sides)
+-- The deeds of the loans from `place` on are that of the loan there, and those of the others.
+pub one_further : (which : Dates) (today : Date) (sides : List Side) (place : ℕ)
+    → all_due which today (drop place sides) ≡ option_to_list (due_at which today (slice_get sides place)) ++ all_due which today (drop (suc place) sides)
 one_further which today [] zero = refl
 one_further which today [] (suc place) = refl
 one_further which today (side ∷ sides) zero = one_before (due_in which today side) (filter_map (due_in which today) sides)

@@ -1,4 +1,4 @@
--- Desks that are listed one behind another.
+-- Desks that are listed one after another.
 use Rattle.std.proofs.Common.{arith, ◌≡◌, ℕ, zero, suc, ◌+◌, ◌<◌, ◌++◌, Bool, true, false, List, [], ◌∷◌, length, map, take, get_or, Option, Ok, refl, ap, sym, subst, ◌∙◌, inl, inr, append_assoc, add-one}
 use Rattle.std.specs.Prelude.{◌==◌}
 use Rattle.std.specs.List.{flat_map, join_by}
@@ -14,17 +14,17 @@ use Rattle.ill_tool.specs.declared.form.Form.TheVariants.{Lines, Json}
 use Rattle.ill_tool.specs.Listing.{between, listed_desk, listed_desks}
 use Rattle.ill_tool.specs.Commands.{are_several, ListsDesk}
 
--- a list has no item
+-- Returns true if a list has no item.
 abbrev is_nothing : {X : Type 0} → List X → Bool
 is_nothing [] = true
 is_nothing (item ∷ items) = false
 
--- What stands before a desk that is not the first stands between any two.
+-- Before the first desk stands no text.
 lead : (form : Form) → between form true ≡ []
 lead Lines = refl
 lead Json = refl
 
--- One text more is joined behind the others.
+-- A join with one text more is the join, the text between two if one is before, and it.
 joined_more : {X : Type 0} (form : Form) (text : X → List ℕ) (done : List X) (one : X)
     → join_by text (between form false) (done ++ one ∷ []) ≡ join_by text (between form false) done ++ (between form (is_nothing done) ++ text one)
 joined_more form text [] one = append-nil (text one) ∙ ap (λ lead. lead ++ text one) (sym (lead form))
@@ -33,11 +33,11 @@ joined_more {X} form text (first ∷ done) one =
     ap (λ more. text first ++ more) (flat_map-append behind done (one ∷ []) ∙ ap (λ more. flat_map behind done ++ more) (append-nil (behind one)))
     ∙ sym (append_assoc (text first) (flat_map behind done) (behind one))
 
--- A place behind another is not the first.
+-- A place after another one is not the first.
 not_first : (place : ℕ) → (suc place == 0) ≡ false
 not_first place = grind arith
 
--- The desk that is listed at a place is the first where no desk stands before it.
+-- If the desks before `place` are listed, none is listed exactly if `place` is the first.
 pub first_listed : {X : Type 0} (files : List (List ℕ)) (desks : List (List ℕ × X)) (place : ℕ) → place < length files
     → map (λ (desk : List ℕ × X). desk.0) desks ≡ take place files → is_nothing desks ≡ (place == 0)
 first_listed [] desks place within is = absurd (omega (arith, within))
@@ -46,11 +46,12 @@ first_listed (file ∷ files) [] (suc place) within is = absurd cc
 first_listed (file ∷ files) (desk ∷ desks) zero within is = absurd cc
 first_listed (file ∷ files) (desk ∷ desks) (suc place) within is = sym (not_first place)
 
--- With the desk at a place, one more of the desks in these files is listed.
+-- If the desks before `place` are listed, and then the one there, one more of `files` is listed.
 pub one_more : (form : Form) (wanted : Wanted) (files : List (List ℕ)) (desks : List (List ℕ × List Side)) (place : ℕ) (file : List ℕ) (is_headed is_first : Bool)
     (before middle after : Option (List ℕ)) (done : Unit {0})
     → place < length files → file ≡ get_or files place file → is_headed ≡ are_several files → is_first ≡ (place == 0)
-    → map (λ (desk : List ℕ × List Side). desk.0) desks ≡ take place files → Appends before middle (listed_desks form (are_several files) wanted desks)
+    → map (λ (desk : List ℕ × List Side). desk.0) desks ≡ take place files
+    → Appends before middle (listed_desks form (are_several files) wanted desks)
     → ListsDesk form wanted is_first is_headed file middle after (Ok done)
     → (desks : List (List ℕ × List Side)) × (map (λ (desk : List ℕ × List Side). desk.0) desks ≡ take (place + 1) files) × Appends before after (listed_desks form (are_several files) wanted desks)
 one_more form wanted files desks place file is_headed is_first before middle after done within at headed first listed so_far (inl shut) = absurd shut.0

@@ -1,10 +1,10 @@
--- What stands at the front of a text that is written.
+-- The first character of a text that is written.
 use Rattle.std.proofs.Common.{◌≡◌, ℕ, Bool, true, false, ◌++◌, List, [], ◌∷◌, if◌then◌else◌, sym, ap, subst, ◌∙◌}
 use Rattle.std.proofs.lemmas.List.{append-nil}
 use Rattle.ill_tool.specs.declared.escape.Escaping.{Escaping}
 use Rattle.ill_tool.specs.Escape.{byte_text, escape, written, number_of_two, number_of_three, two_act, three_act}
 
--- Two bytes that act are written as an escape.
+-- If two bytes act, they are written as an escape.
 pub two_escape : (escaping : Escaping) (first second : ℕ) (rest : List ℕ) → two_act first second ≡ true
     → written escaping (first ∷ second ∷ rest) ≡ escape escaping (number_of_two first second) ++ written escaping rest
 unfolding written
@@ -18,7 +18,7 @@ two_escape escaping first second (third ∷ rest) acts =
     else byte_text escaping first ++ written escaping (second ∷ third ∷ rest)))
     acts
 
--- Three bytes are written as they are by themselves, if the first two do not act.
+-- If two bytes do not act, the first three decide how the text is written.
 three_left : (escaping : Escaping) (first second third : ℕ) (rest : List ℕ) → two_act first second ≡ false
     → written escaping (first ∷ second ∷ third ∷ rest) ≡ (if three_act first second third then escape escaping (number_of_three first second third) ++ written escaping rest else byte_text escaping first ++ written escaping (second ∷ third ∷ rest))
 unfolding written
@@ -29,36 +29,40 @@ three_left escaping first second third rest pass =
     else byte_text escaping first ++ written escaping (second ∷ third ∷ rest)))
     pass
 
--- Three bytes that act are written as an escape.
-pub three_escape : (escaping : Escaping) (first second third : ℕ) (rest : List ℕ) → two_act first second ≡ false → three_act first second third ≡ true
+-- If three bytes act, and the first two do not, they are written as an escape.
+pub three_escape : (escaping : Escaping) (first second third : ℕ) (rest : List ℕ) → two_act first second ≡ false
+    → three_act first second third ≡ true
     → written escaping (first ∷ second ∷ third ∷ rest) ≡ escape escaping (number_of_three first second third) ++ written escaping rest
 three_escape escaping first second third rest pass acts =
     three_left escaping first second third rest pass
     ∙ ap (λ (act : Bool). if act then escape escaping (number_of_three first second third) ++ written escaping rest else byte_text escaping first ++ written escaping (second ∷ third ∷ rest)) acts
 
--- A byte is written by itself, if neither two bytes nor three act.
-pub first_stays : (escaping : Escaping) (first second third : ℕ) (rest : List ℕ) → two_act first second ≡ false → three_act first second third ≡ false
+-- If neither two bytes nor three act, the first is written by itself.
+pub first_stays : (escaping : Escaping) (first second third : ℕ) (rest : List ℕ) → two_act first second ≡ false
+    → three_act first second third ≡ false
     → written escaping (first ∷ second ∷ third ∷ rest) ≡ byte_text escaping first ++ written escaping (second ∷ third ∷ rest)
 first_stays escaping first second third rest pass passes =
     three_left escaping first second third rest pass
     ∙ ap (λ (act : Bool). if act then escape escaping (number_of_three first second third) ++ written escaping rest else byte_text escaping first ++ written escaping (second ∷ third ∷ rest)) passes
 
 -- The last byte of a text is written by itself.
-pub last_stays : (escaping : Escaping) (first : ℕ) (behind : List ℕ) → behind ≡ [] → written escaping (first ∷ behind) ≡ byte_text escaping first ++ written escaping behind
+pub last_stays : (escaping : Escaping) (first : ℕ) (behind : List ℕ) → behind ≡ []
+    → written escaping (first ∷ behind) ≡ byte_text escaping first ++ written escaping behind
 unfolding written
 last_stays escaping first behind none =
     subst (λ (behind : List ℕ). written escaping (first ∷ behind) ≡ byte_text escaping first ++ written escaping behind) (sym none)
     (sym (append-nil (byte_text escaping first)))
 
--- A byte is written by itself, if it does not act with the only one behind it.
-pub first_of_two_stays : (escaping : Escaping) (first second : ℕ) (behind rest : List ℕ) → behind ≡ second ∷ rest → rest ≡ [] → two_act first second ≡ false
+-- If two bytes end a text and do not act, the first is written by itself.
+pub first_of_two_stays : (escaping : Escaping) (first second : ℕ) (behind rest : List ℕ) → behind ≡ second ∷ rest
+    → rest ≡ [] → two_act first second ≡ false
     → written escaping (first ∷ behind) ≡ byte_text escaping first ++ written escaping behind
 unfolding written
 first_of_two_stays escaping first second behind rest is none pass =
     let both = ap (λ (act : Bool). if act then escape escaping (number_of_two first second) else byte_text escaping first ++ byte_text escaping second) pass in
     subst (λ (behind : List ℕ). written escaping (first ∷ behind) ≡ byte_text escaping first ++ written escaping behind) (ap (λ (rest : List ℕ). second ∷ rest) (sym none) ∙ sym is) both
 
--- A text is all there, if nothing is left to write.
+-- If no byte is left to write, the text that was written is all of it.
 pub none_left : (escaping : Escaping) (shown all rest : List ℕ) → shown ++ written escaping rest ≡ all → rest ≡ [] → shown ≡ all
 unfolding written
 none_left escaping shown all rest left none = sym (append-nil shown) ∙ subst (λ (rest : List ℕ). shown ++ written escaping rest ≡ all) none left

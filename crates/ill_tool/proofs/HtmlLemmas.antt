@@ -1,4 +1,4 @@
--- By no byte of a text of a person an element or an attribute begins or ends.
+-- No byte of a text of a person begins or ends an element or an attribute.
 use Rattle.std.proofs.Common.{◌≡◌, ℕ, Bool, true, false, ◌==◌, List, [], ◌∷◌, if◌then◌else◌, refl, ap, ◌∙◌}
 use Rattle.std.specs.Prelude.{codes, ◌&&◌}
 use Rattle.std.specs.List.{list_all}
@@ -6,7 +6,8 @@ use Rattle.std.proofs.lemmas.List.Folds.{list_all-append}
 use Rattle.ill_tool.specs.Html.{html_byte, html_escaped, is_inert}
 
 -- Each name is inert, and so is a byte that is none of the four.
-either_inert : (byte : ℕ) (amp less more quote mark : Bool) → (byte == 0x3C) ≡ less → (byte == 0x3E) ≡ more → (byte == 0x22) ≡ quote → (byte == 0x27) ≡ mark
+either_inert : (byte : ℕ) (amp less more quote mark : Bool) → (byte == 0x3C) ≡ less → (byte == 0x3E) ≡ more
+    → (byte == 0x22) ≡ quote → (byte == 0x27) ≡ mark
     → list_all is_inert (if amp then codes "&amp;" else (if less then codes "&lt;" else (if more then codes "&gt;" else (if quote then codes "&quot;" else (if mark then codes "&#39;" else byte ∷ []))))) ≡ true
 either_inert byte true less more quote mark e1 e2 e3 e4 = refl
 either_inert byte false true more quote mark e1 e2 e3 e4 = refl
@@ -15,7 +16,7 @@ either_inert byte false false false true mark e1 e2 e3 e4 = refl
 either_inert byte false false false false true e1 e2 e3 e4 = refl
 either_inert byte false false false false false e1 e2 e3 e4 = simp (e1, e2, e3, e4) refl
 
--- What stands for a byte is inert.
+-- The text of a byte is inert.
 byte_inert : (byte : ℕ) → list_all is_inert (html_byte byte) ≡ true
 byte_inert byte = either_inert byte (byte == 0x26) (byte == 0x3C) (byte == 0x3E) (byte == 0x22) (byte == 0x27) refl refl refl refl
 

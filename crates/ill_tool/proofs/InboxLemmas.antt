@@ -14,26 +14,30 @@ use Rattle.ill_tool.specs.Performing.{HeldAndLanded}
 use Rattle.ill_tool.specs.declared.fault.ToolFault.{ToolFault}
 use Rattle.ill_tool.specs.Inbox.{EndedWell, RunsInbox, Sorting, answered_with, concluded, inbox_text, one_message, tally_line, tally_of}
 
--- an APDU with further bytes behind it is no message
+-- An APDU with further bytes after it is no message.
 behind_message : (a : Apdu) (rest : List ℕ) → 1 ≤ length rest → one_message (Ok (a, rest)) ≡ Err Trailing
 behind_message a [] some = absurd (omega (arith, some))
 behind_message a (byte ∷ rest) some = refl
 
--- Bytes of which an APDU at the front does not have all are no message.
-pub trailing_unfit : (bytes : List ℕ) (read : Result (Apdu × List ℕ) DerFault) (found : Apdu × ℕ) → found.1 + 1 ≤ length bytes → Views bytes read (Ok found) → Err Trailing ≡ one_message read
+-- If an APDU is shorter than the bytes that it begins, the bytes are no message.
+pub trailing_unfit : (bytes : List ℕ) (read : Result (Apdu × List ℕ) DerFault) (found : Apdu × ℕ)
+    → found.1 + 1 ≤ length bytes → Views bytes read (Ok found) → Err Trailing ≡ one_message read
 trailing_unfit bytes read found less viewed =
     sym (ap one_message viewed.1 ∙ behind_message found.0 (drop found.1 bytes) (omega (arith, length-drop found.1 bytes, less)))
 
--- Sorted mails with the line of their counts behind what is told are those that are concluded.
-pub concluded_is : {L : Type 0} (waiting : ℕ) (sorted end : Sorting L) (verdicts : List Verdict) (tally : Tally) (told : List ℕ) → sorted ≡ end → verdicts ≡ sorted.verdicts → tally ≡ tally_of verdicts → told ≡ sorted.told ++ tally_line tally waiting
+-- Sorted mails, with the line of their counts after their lines, are the concluded ones.
+pub concluded_is : {L : Type 0} (waiting : ℕ) (sorted end : Sorting L) (verdicts : List Verdict) (tally : Tally) (told : List ℕ)
+    → sorted ≡ end → verdicts ≡ sorted.verdicts → tally ≡ tally_of verdicts
+    → told ≡ sorted.told ++ tally_line tally waiting
     → record { live = sorted.live; verdicts = sorted.verdicts; told = told; kept = sorted.kept } ≡ concluded waiting end
 concluded_is waiting sorted end verdicts tally told is all counted text =
     let whole : told ≡ inbox_text sorted waiting = text ∙ ap (λ tally. sorted.told ++ tally_line tally waiting) (counted ∙ ap tally_of all) in
     ap (λ told. record { live = sorted.live; verdicts = sorted.verdicts; told = told; kept = sorted.kept }) whole ∙ ap (concluded waiting) is
 
--- A run that answers verdicts has ended well.
+-- If a run over `mails` returns verdicts, it has ended well.
 pub ended_if_ok : {X : Type 0} (items : X → List Verdict) (mails : List Mail) (waiting : ℕ) (kept_before kept_after before after : Option (List ℕ)) (old new : HeldAndLanded DeskContents) (result : Result X ToolFault)
-    → RunsInbox many_sides mails waiting kept_before kept_after before after old (answered_with items result) new → IfOk result (λ verdicts. EndedWell mails (items verdicts) new)
+    → RunsInbox many_sides mails waiting kept_before kept_after before after old (answered_with items result) new
+    → IfOk result (λ verdicts. EndedWell mails (items verdicts) new)
 unfolding EndedWell
 ended_if_ok items mails waiting kept_before kept_after before after old new (Ok verdicts) runs = (waiting, kept_before, kept_after, before, after, old, runs)
 ended_if_ok items mails waiting kept_before kept_after before after old new (Err fault) runs = tt

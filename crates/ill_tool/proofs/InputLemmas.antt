@@ -1,4 +1,4 @@
--- Reading one piece after another, and handling the APDUs in them.
+-- The reading of one piece after another, and the handling of the APDUs in them.
 use Rattle.std.proofs.Common.{◌≡◌, inl, inr, ◌⊎◌, ℕ, Bool, if◌then◌else◌, ◌+◌, ◌*◌, ◌-◌, ◌<◌, ◌≤◌, List, [], ◌∷◌, ◌++◌, length, Option, Some, None, Result, Ok, Err, refl, sym, ap, subst, ◌∙◌, arith, append_assoc}
 use Rattle.std.specs.List.{AllByRecursion}
 use Rattle.std.specs.Io.KnownBytes.{Consumes, Keeps, IsAtEnd}
@@ -21,14 +21,17 @@ use Rattle.ill_tool.specs.Input.{spellings, Ends, ReadsInput, answer_at_end, Cou
 
 -- ---- APDUs handled one after another
 
--- handling, as it is seen from elsewhere
-pub handled_as : {S T F : Type 0} (handles : Handles S F) (seen : Handles T F) (view : S → T) → ((s t : S) (apdu : Apdu) (r : Result (Unit {0}) F) → handles s apdu r t → seen (view s) apdu r (view t))
+-- APDUs that were handled by `handles` are handled by `seen` on the views, if each step is.
+pub handled_as : {S T F : Type 0} (handles : Handles S F) (seen : Handles T F) (view : S → T)
+    → ((s t : S) (apdu : Apdu) (r : Result (Unit {0}) F) → handles s apdu r t → seen (view s) apdu r (view t))
     → (before after : S) (apdus : List Apdu) → Handled handles before apdus after → Handled seen (view before) apdus (view after)
 handled_as handles seen view as_seen before after [] is = ap view is
 handled_as handles seen view as_seen before after (apdu ∷ apdus) is =
     (view is.0, as_seen before is.0 apdu (Ok tt) is.1, handled_as handles seen view as_seen is.0 after apdus is.2)
 
-ends_as : {S T : Type 0} (handles : Handles S ToolFault) (seen : Handles T ToolFault) (view : S → T) → ((s t : S) (apdu : Apdu) (r : Result (Unit {0}) ToolFault) → handles s apdu r t → seen (view s) apdu r (view t))
+-- An end by `handles` is an end by `seen` on the views, if each step is.
+ends_as : {S T : Type 0} (handles : Handles S ToolFault) (seen : Handles T ToolFault) (view : S → T)
+    → ((s t : S) (apdu : Apdu) (r : Result (Unit {0}) ToolFault) → handles s apdu r t → seen (view s) apdu r (view t))
     → (result : Result ℕ ToolFault) (count : ℕ) (bytes : List ℕ) (ahead : List ℕ) (left : Option (List ℕ)) (before after : S)
     → Ends handles result count bytes ahead left before after → Ends seen result count bytes ahead left (view before) (view after)
 ends_as handles seen view as_seen (Ok n) count bytes ahead left before after is = (is.0, is.1, is.2, ap view is.3)
@@ -37,8 +40,11 @@ ends_as handles seen view as_seen (Err fault) count bytes ahead left before afte
   | inr fails ↦ inr (fails.0, fails.1, fails.2, fails.3, as_seen before after fails.0 (Err fault) fails.4)
 ]
 
-pub reads_as : {S T : Type 0} (handles : Handles S ToolFault) (seen : Handles T ToolFault) (view : S → T) → ((s t : S) (apdu : Apdu) (r : Result (Unit {0}) ToolFault) → handles s apdu r t → seen (view s) apdu r (view t))
-    → (old new : Option (List ℕ)) (before after : S) (result : Result ℕ ToolFault) → ReadsInput handles old new before result after → ReadsInput seen old new (view before) result (view after)
+-- An input that was read by `handles` is read by `seen` on the views, if each step is.
+pub reads_as : {S T : Type 0} (handles : Handles S ToolFault) (seen : Handles T ToolFault) (view : S → T)
+    → ((s t : S) (apdu : Apdu) (r : Result (Unit {0}) ToolFault) → handles s apdu r t → seen (view s) apdu r (view t))
+    → (old new : Option (List ℕ)) (before after : S) (result : Result ℕ ToolFault)
+    → ReadsInput handles old new before result after → ReadsInput seen old new (view before) result (view after)
 reads_as handles seen view as_seen old new before after result is = (
   is.0,
   is.1,
@@ -54,25 +60,34 @@ reads_as handles seen view as_seen old new before after result is = (
   },
 )
 
-fails_as : {S T F : Type 0} (handles : Handles S F) (seen : Handles T F) (view : S → T) → ((s t : S) (apdu : Apdu) (r : Result (Unit {0}) F) → handles s apdu r t → seen (view s) apdu r (view t))
-    → (old : DeskEntry) (piece : List ℕ) (before after : S) (fault : F) → FailsAt handles old piece before fault after → FailsAt seen old piece (view before) fault (view after)
+-- A failure by `handles` is a failure by `seen` on the views, if each step is.
+fails_as : {S T F : Type 0} (handles : Handles S F) (seen : Handles T F) (view : S → T)
+    → ((s t : S) (apdu : Apdu) (r : Result (Unit {0}) F) → handles s apdu r t → seen (view s) apdu r (view t))
+    → (old : DeskEntry) (piece : List ℕ) (before after : S) (fault : F) → FailsAt handles old piece before fault after
+    → FailsAt seen old piece (view before) fault (view after)
 fails_as handles seen view as_seen (Ok held) piece before after fault is =
     (is.0, is.1, is.2, view is.3, is.4, handled_as handles seen view as_seen before is.3 is.0 is.5, as_seen is.3 after is.1 (Err fault) is.6)
 fails_as handles seen view as_seen (Err closed) piece before after fault is = absurd is
 
-pub each_as : {S T F : Type 0} (handles : Handles S F) (seen : Handles T F) (view : S → T) → ((s t : S) (apdu : Apdu) (r : Result (Unit {0}) F) → handles s apdu r t → seen (view s) apdu r (view t))
-    → (old : DeskEntry) (piece : List ℕ) (before : S) (result : Result (Option DerFault) F) (new : DeskEntry) (after : S) → HandlesEach handles old piece before result new after
+-- A piece that was handled by `handles` is handled by `seen` on the views, if each step is.
+pub each_as : {S T F : Type 0} (handles : Handles S F) (seen : Handles T F) (view : S → T)
+    → ((s t : S) (apdu : Apdu) (r : Result (Unit {0}) F) → handles s apdu r t → seen (view s) apdu r (view t))
+    → (old : DeskEntry) (piece : List ℕ) (before : S) (result : Result (Option DerFault) F) (new : DeskEntry) (after : S)
+    → HandlesEach handles old piece before result new after
     → HandlesEach seen old piece (view before) result new (view after)
 each_as handles seen view as_seen old piece before (Ok fault) new after is = (is.0, (is.1.0, is.1.1, handled_as handles seen view as_seen before after is.1.0 is.1.2))
 each_as handles seen view as_seen old piece before (Err fault) new after is = (is.0, fails_as handles seen view as_seen old piece before after fault is.1)
 
-handled_join : {S F : Type 0} (handles : Handles S F) (before middle after : S) (front more : List Apdu) → Handled handles before front middle → Handled handles middle more after
+-- APDUs handled to a state, and more handled from it, are handled together.
+handled_join : {S F : Type 0} (handles : Handles S F) (before middle after : S) (front more : List Apdu)
+    → Handled handles before front middle → Handled handles middle more after
     → Handled handles before (front ++ more) after
 handled_join handles before middle after [] more first second = subst (λ s. Handled handles s more after) first second
 handled_join handles before middle after (apdu ∷ front) more first second = (first.0, first.1, handled_join handles first.0 middle after front more first.2 second)
 
--- handling with the number of APDUs
-counted_on : {S : Type 0} (handles : Handles S ToolFault) (before after : ℕ × S) (apdus : List Apdu) → before.0 ≤ 100000 → Handled (CountsOn handles) before apdus after
+-- APDUs that were handled and counted raise the count by their number, to 100,000 at most, and are handled.
+counted_on : {S : Type 0} (handles : Handles S ToolFault) (before after : ℕ × S) (apdus : List Apdu)
+    → before.0 ≤ 100000 → Handled (CountsOn handles) before apdus after
     → (after.0 ≡ before.0 + length apdus) × (after.0 ≤ 100000) × Handled handles before.1 apdus after.1
 counted_on handles before after [] few is =
     let same : after.0 ≡ before.0 = ap (λ s. s.0) is in
@@ -82,11 +97,13 @@ counted_on handles before after (apdu ∷ apdus) few is =
     let on = counted_on handles is.0 after apdus (omega (arith, one.0, one.1)) is.2 in
     (omega (arith, one.1, on.0), on.1, (is.0.1, one.2, on.2))
 
--- a piece was pushed, and its APDUs were counted and handled
-abbrev pub HandlesCounted : {H C : Type 0} → Handles (H × C) ToolFault → DeskEntry → List ℕ → Counted H × C → Result (Option DerFault) ToolFault → DeskEntry → Counted H × C → Type 0
+-- A piece was pushed, and its APDUs were counted and handled.
+abbrev pub HandlesCounted : {H C : Type 0} → Handles (H × C) ToolFault → DeskEntry → List ℕ → Counted H × C
+    → Result (Option DerFault) ToolFault → DeskEntry → Counted H × C → Type 0
 HandlesCounted handles old piece before result new after =
     HandlesEach (λ s apdu r t. CountsOn handles (s.0.count, (s.0.handler, s.1)) apdu r (t.0.count, (t.0.handler, t.1))) old piece before result new after
 
+-- A piece handled with a counted handler is handled on the pairs of count and state.
 each_counted : {H C : Type 0} (handles : Handles (H × C) ToolFault) (old feed : DeskEntry) (piece : List ℕ) (before : Counted H × C) (result : Result (Option DerFault) ToolFault) (new : DeskEntry) (after : Counted H × C)
     → feed ≡ old → HandlesCounted handles feed piece before result new after
     → HandlesEach (CountsOn handles) old piece (before.0.count, (before.0.handler, before.1)) result new (after.0.count, (after.0.handler, after.1))
@@ -97,21 +114,26 @@ each_counted {H = H} {C = C} handles old feed piece before result new after same
 
 -- ---- lists of APDUs
 
-all_join : (front more : List Apdu) → AllByRecursion IsApdu front → AllByRecursion IsApdu more → AllByRecursion IsApdu (front ++ more)
+-- If all of two lists are APDUs, so are all of their join.
+all_join : (front more : List Apdu) → AllByRecursion IsApdu front → AllByRecursion IsApdu more
+    → AllByRecursion IsApdu (front ++ more)
 all_join [] more all others = others
 all_join (apdu ∷ front) more all others = (all.0, all_join front more all.1 others)
 
--- the last of some APDUs
-last_of : (apdus : List Apdu) (apdu : Apdu) → AllByRecursion IsApdu (apdus ++ apdu ∷ []) → AllByRecursion IsApdu apdus × IsApdu apdu
+-- If all of a list and one more are APDUs, so are all of the list, and the last.
+last_of : (apdus : List Apdu) (apdu : Apdu) → AllByRecursion IsApdu (apdus ++ apdu ∷ [])
+    → AllByRecursion IsApdu apdus × IsApdu apdu
 last_of [] apdu all = (tt, all.0)
 last_of (first ∷ apdus) apdu all = (let others = last_of apdus apdu all.1 in ((all.0, others.0), others.1))
 
-spelled_join : (front more : List Apdu) (rest : List ℕ) → spellings front ++ (spellings more ++ rest) ≡ spellings (front ++ more) ++ rest
+-- The encodings of two lists, one after the other, are those of their join.
+spelled_join : (front more : List Apdu) (rest : List ℕ)
+    → spellings front ++ (spellings more ++ rest) ≡ spellings (front ++ more) ++ rest
 spelled_join front more rest = sym (append_assoc (spellings front) (spellings more) rest) ∙ ap (λ (x : List ℕ). x ++ rest) (sym (flat_map-append spelling front more))
 
 -- ---- the APDUs so far
 
--- The APDUs whose spellings were read have been handled, and these bytes behind them are held.
+-- The APDUs whose encodings were read have been handled, and the bytes `held` after them are held.
 pub record SoFar {S : Type 0} (handles : Handles S ToolFault) (old now : Option (List ℕ)) (before : S) (count : ℕ) (feed : DeskEntry) (after : S) (apdus : List Apdu) (held : List ℕ) : Type 0 where
   pub spelled : AllByRecursion IsApdu apdus
   pub counted : length apdus ≡ count
@@ -121,71 +143,86 @@ pub record SoFar {S : Type 0} (handles : Handles S ToolFault) (old now : Option 
   pub opened : feed ≡ Ok held
   pub unfinished : IsUnfinished held
 
+-- Some APDUs have been read and handled so far, and some bytes are held.
 abbrev pub ReadSoFar : {S : Type 0} → Handles S ToolFault → Option (List ℕ) → Option (List ℕ) → S → ℕ → DeskEntry → S → Type 0
 ReadSoFar handles old now before count feed after = (apdus : List Apdu) × (held : List ℕ) × SoFar handles old now before count feed after apdus held
 
-pub none_read : {S : Type 0} (handles : Handles S ToolFault) (old : Option (List ℕ)) (before : S) (count : ℕ) (feed : DeskEntry) → count ≡ 0 → feed ≡ Ok [] → ReadSoFar handles old old before count feed before
+-- At the beginning no APDU is read, and no byte is held.
+pub none_read : {S : Type 0} (handles : Handles S ToolFault) (old : Option (List ℕ)) (before : S) (count : ℕ) (feed : DeskEntry)
+    → count ≡ 0 → feed ≡ Ok [] → ReadSoFar handles old old before count feed before
 unfolding apdu_at outer_at header_at
 none_read handles old before count feed none empty =
     ([], [], record { spelled = tt; counted = sym none; few = omega (arith, none); read = Consumes-nil old; handled = refl; opened = empty; unfinished = refl })
 
--- bytes that are short are few
+-- If the decoder finds bytes short, it names their number, which is at most 358.
 abbrev pub ShortLaw : Type 0
 ShortLaw = (bytes : List ℕ) (n : ℕ) → apdu_at bytes ≡ Err (Short n) → (n ≡ length bytes) × (n ≤ 358)
 
+-- If the held bytes are unfinished, they are at most 358.
 few_held : ShortLaw → (held : List ℕ) → IsUnfinished held → length held ≤ 358
 few_held law held is = (law held (length held) is).1
 
--- a piece was read behind what is held
-piece_read : (old now new : Option (List ℕ)) (apdus : List Apdu) (held piece : List ℕ) → Consumes old now (spellings apdus ++ held) → Consumes now new piece
+-- A piece that is read after the held bytes extends the bytes that were read.
+piece_read : (old now new : Option (List ℕ)) (apdus : List Apdu) (held piece : List ℕ)
+    → Consumes old now (spellings apdus ++ held) → Consumes now new piece
     → Consumes old new (spellings apdus ++ (held ++ piece))
 piece_read old now new apdus held piece read more =
     subst (Consumes old new) (append_assoc (spellings apdus) held piece) (Consumes-trans old now new (spellings apdus ++ held) piece read more)
 
--- APDUs begin with what is held, and a rest is behind them
-apdus_read : (old now new : Option (List ℕ)) (apdus more : List Apdu) (held piece rest : List ℕ) → Consumes old now (spellings apdus ++ held) → Consumes now new piece → Begins (held ++ piece) more rest
+-- If the held bytes and a piece are APDUs and a rest, those APDUs and the rest were read.
+apdus_read : (old now new : Option (List ℕ)) (apdus more : List Apdu) (held piece rest : List ℕ)
+    → Consumes old now (spellings apdus ++ held) → Consumes now new piece → Begins (held ++ piece) more rest
     → Consumes old new (spellings (apdus ++ more) ++ rest)
 apdus_read old now new apdus more held piece rest read piece_is begins =
     subst (Consumes old new) (ap (λ (x : List ℕ). spellings apdus ++ x) begins.parts ∙ spelled_join apdus more rest) (piece_read old now new apdus held piece read piece_is)
 
--- ---- one piece further
+-- ---- one piece more
 
--- how many bytes may still come, at most
+-- Returns the number of bytes that may still come, at most.
 abbrev pub room : ℕ → DeskEntry → ℕ
 room count (Ok held) = 35900359 - (count * 359 + length held)
 room count (Err fault) = 0
 
--- what a feed holds after a push that did not close it
+-- A feed that a push did not close holds bytes.
 still_open : (new : DeskEntry) → None ≡ fault_of new → (held : List ℕ) × (new ≡ Ok held)
 still_open (Ok held) e = (held, refl)
 still_open (Err fault) e = absurd cc
 
-more_room : (n k size more left m : ℕ) → ((k ≡ 0) × (left ≡ size + more)) ⊎ (0 < k) → m ≡ n + k → m ≤ 100000 → size ≤ 358 → left ≤ 358 → 0 < more
+-- If the held bytes grow, or the count of APDUs does, the room falls.
+more_room : (n k size more left m : ℕ) → ((k ≡ 0) × (left ≡ size + more)) ⊎ (0 < k) → m ≡ n + k → m ≤ 100000
+    → size ≤ 358 → left ≤ 358 → 0 < more
     → 35900359 - (m * 359 + left) < 35900359 - (n * 359 + size)
 more_room n k size more left m grown is few held rest some = elim grown [
   | inl none ↦ omega (arith, is, few, held, rest, none.0, none.1, some)
   | inr handed ↦ omega (arith, is, few, held, rest, handed, some)
 ]
 
--- a piece makes what is held longer, or ends an APDU
-longer_or_handed : (more : List Apdu) (held piece rest : List ℕ) → held ++ piece ≡ spellings more ++ rest → ((length more ≡ 0) × (length rest ≡ length held + length piece)) ⊎ (0 < length more)
+-- A piece makes the held bytes longer, or completes an APDU.
+longer_or_handed : (more : List Apdu) (held piece rest : List ℕ) → held ++ piece ≡ spellings more ++ rest
+    → ((length more ≡ 0) × (length rest ≡ length held + length piece)) ⊎ (0 < length more)
 longer_or_handed [] held piece rest e = inl (refl, omega (arith, ap length e, length-append held piece))
 longer_or_handed (apdu ∷ more) held piece rest e = inr (omega arith)
 
--- a rest is no longer than what is held and the piece
-rest_within : (held piece text rest : List ℕ) → held ++ piece ≡ text ++ rest → length text + length rest ≡ length held + length piece
+-- A text and a rest are as long as the held bytes and the piece that they are.
+rest_within : (held piece text rest : List ℕ) → held ++ piece ≡ text ++ rest
+    → length text + length rest ≡ length held + length piece
 rest_within held piece text rest e = omega (arith, ap length e, length-append held piece, length-append text rest)
 
-room_falls : ShortLaw → (count m : ℕ) (feed next : DeskEntry) (held now piece : List ℕ) (more : List Apdu) → feed ≡ Ok held → next ≡ Ok now → held ++ piece ≡ spellings more ++ now
-    → m ≡ count + length more → m ≤ 100000 → IsUnfinished held → IsUnfinished now → 0 < length piece → room m next < room count feed
+-- A piece that is not empty makes the room fall.
+room_falls : ShortLaw → (count m : ℕ) (feed next : DeskEntry) (held now piece : List ℕ) (more : List Apdu)
+    → feed ≡ Ok held → next ≡ Ok now → held ++ piece ≡ spellings more ++ now
+    → m ≡ count + length more → m ≤ 100000 → IsUnfinished held → IsUnfinished now → 0 < length piece
+    → room m next < room count feed
 room_falls law count m feed next held now piece more was is parts counted few unfinished still some =
     subst (λ (f : DeskEntry). room m next < room count f) (sym was)
     (subst (λ (f : DeskEntry). room m f < room count (Ok held)) (sym is)
     (more_room count (length more) (length held) (length piece) (length now) m (longer_or_handed more held piece now parts) counted few (few_held law held unfinished) (few_held law now still) some))
 
--- a piece was pushed, and the feed is open
-pub one_piece_more : {H C : Type 0} (handles : Handles (H × C) ToolFault) → ShortLaw → (old now new : Option (List ℕ)) (before : H × C) (middle after : Counted H × C) (feed next : DeskEntry) (piece : List ℕ)
-    → ReadSoFar handles old now before middle.0.count feed (middle.0.handler, middle.1) → Consumes now new piece → 0 < length piece → (closed : Option DerFault) → closed ≡ None
+-- If a piece was pushed and the feed stayed open, the APDUs so far grow, and the room falls.
+pub one_piece_more : {H C : Type 0} (handles : Handles (H × C) ToolFault) → ShortLaw
+    → (old now new : Option (List ℕ)) (before : H × C) (middle after : Counted H × C) (feed next : DeskEntry) (piece : List ℕ)
+    → ReadSoFar handles old now before middle.0.count feed (middle.0.handler, middle.1) → Consumes now new piece
+    → 0 < length piece → (closed : Option DerFault) → closed ≡ None
     → HandlesCounted handles feed piece middle (Ok closed) next after
     → ReadSoFar handles old new before after.0.count next (after.0.handler, after.1) × (room after.0.count next < room middle.0.count feed)
 one_piece_more {H = H} {C = C} handles law old now new before middle after feed next piece so_far read some closed none each =
@@ -217,11 +254,13 @@ one_piece_more {H = H} {C = C} handles law old now new before middle after feed 
       room_falls law middle.0.count after.0.count feed next held rest piece more is.opened opened begins.parts on.0 on.1 is.unfinished leaves.1 some,
     )
 
--- ---- how the input ends
+-- ---- the end of an input
 
--- the reader gave no more, or failed
-ends_held : {S : Type 0} (handles : Handles S ToolFault) → ShortLaw → (old new : Option (List ℕ)) (before after : S) (count : ℕ) (feed : DeskEntry) (result : Result ℕ ToolFault) (apdus : List Apdu) (held : List ℕ)
-    → SoFar handles old new before count feed after apdus held → Ends handles result count held [] new after after → ReadsInput handles old new before result after
+-- If the input ends with the held bytes, it was read to that end.
+ends_held : {S : Type 0} (handles : Handles S ToolFault) → ShortLaw
+    → (old new : Option (List ℕ)) (before after : S) (count : ℕ) (feed : DeskEntry) (result : Result ℕ ToolFault) (apdus : List Apdu) (held : List ℕ)
+    → SoFar handles old new before count feed after apdus held → Ends handles result count held [] new after after
+    → ReadsInput handles old new before result after
 ends_held handles law old new before after count feed result apdus held is ended = (
   apdus,
   held,
@@ -237,7 +276,9 @@ ends_held handles law old new before after count feed result apdus held is ended
   },
 )
 
-at_end : {S : Type 0} (handles : Handles S ToolFault) (count : ℕ) (held : List ℕ) (left : Option (List ℕ)) (after : S) → IsUnfinished held → IsAtEnd left
+-- At the end of the reader the held bytes decide the end of the input: none is well, others are short.
+at_end : {S : Type 0} (handles : Handles S ToolFault) (count : ℕ) (held : List ℕ) (left : Option (List ℕ)) (after : S)
+    → IsUnfinished held → IsAtEnd left
     → Ends handles (answer_at_end (end_of (Ok held)) count) count held [] left after after
 at_end handles count [] left after unfinished end = (refl, refl, (refl, end), refl)
 at_end handles count (byte ∷ held) left after unfinished end =
@@ -245,7 +286,10 @@ at_end handles count (byte ∷ held) left after unfinished end =
     subst (λ (empty : Bool). Ends handles (answer_at_end (if empty then Ok tt else Err (Short n)) count) count (byte ∷ held) [] left after after) (sym (eqb-suc-zero (length held)))
     (inl ((unfinished, (refl, end)), refl))
 
-pub ends_at_end : {S : Type 0} (handles : Handles S ToolFault) → ShortLaw → (old new : Option (List ℕ)) (before after : S) (count : ℕ) (feed : DeskEntry) → ReadSoFar handles old new before count feed after → IsAtEnd new
+-- If the reader is at its end, the input was read with the answer at its end.
+pub ends_at_end : {S : Type 0} (handles : Handles S ToolFault) → ShortLaw
+    → (old new : Option (List ℕ)) (before after : S) (count : ℕ) (feed : DeskEntry)
+    → ReadSoFar handles old new before count feed after → IsAtEnd new
     → ReadsInput handles old new before (answer_at_end (end_of feed) count) after
 ends_at_end handles law old new before after count feed so_far end =
     let held = so_far.1 in
@@ -253,8 +297,9 @@ ends_at_end handles law old new before after count feed so_far end =
     ends_held handles law old new before after count feed (answer_at_end (end_of feed) count) so_far.0 held is
     (subst (λ (f : DeskEntry). Ends handles (answer_at_end (end_of f) count) count held [] new after after) (sym is.opened) (at_end handles count held new after is.unfinished end))
 
--- nothing more was read
-pub read_nothing : {S : Type 0} (handles : Handles S ToolFault) (old now new : Option (List ℕ)) (before after : S) (count : ℕ) (feed : DeskEntry) → ReadSoFar handles old now before count feed after
+-- If no byte more was read, the APDUs so far stay.
+pub read_nothing : {S : Type 0} (handles : Handles S ToolFault) (old now new : Option (List ℕ)) (before after : S) (count : ℕ) (feed : DeskEntry)
+    → ReadSoFar handles old now before count feed after
     → Consumes now new [] → ReadSoFar handles old new before count feed after
 read_nothing handles old now new before after count feed so_far read =
     let apdus = so_far.0 in
@@ -273,20 +318,25 @@ read_nothing handles old now new before after count feed so_far read =
       },
     )
 
+-- A reader that keeps its input consumes nothing.
 kept_nothing : (now new : Option (List ℕ)) → Keeps now new → Consumes now new []
 kept_nothing now new keeps = Consumes-kept now now new [] (Consumes-nil now) keeps
 
-pub ends_unread : {S : Type 0} (handles : Handles S ToolFault) → ShortLaw → (old now new : Option (List ℕ)) (before after : S) (count : ℕ) (feed : DeskEntry) → ReadSoFar handles old now before count feed after
+-- If the reader failed, the input was read up to its fault.
+pub ends_unread : {S : Type 0} (handles : Handles S ToolFault) → ShortLaw
+    → (old now new : Option (List ℕ)) (before after : S) (count : ℕ) (feed : DeskEntry)
+    → ReadSoFar handles old now before count feed after
     → Keeps now new → ReadsInput handles old new before (Err Read) after
 ends_unread handles law old now new before after count feed so_far keeps =
     let still = read_nothing handles old now new before after count feed so_far (kept_nothing now new keeps) in
     ends_held handles law old new before after count feed (Err Read) still.0 still.1 still.2 (inl ((still.2.unfinished, refl), refl))
 
--- what a feed is that a push closed
+-- A feed that a push closed with `fault` is that fault.
 closed_by : (new : DeskEntry) (fault : DerFault) → Some fault ≡ fault_of new → new ≡ Err fault
 closed_by (Ok held) fault e = absurd cc
 closed_by (Err closed) fault e = (let is : fault ≡ closed = cc in ap (λ (f : DerFault). Err f) (sym is))
 
+-- A fault that is not short meets each condition on short ones.
 not_short : (fault : DerFault) (P : Type 0) → IfShort fault ⊥ → IfShort fault P
 not_short (Short at) P none = absurd none
 not_short (Tag at) P none = tt
@@ -294,10 +344,13 @@ not_short (Length at) P none = tt
 not_short (Field at) P none = tt
 not_short OutOfMemory P none = tt
 
--- a piece was pushed, and its bytes closed the feed
-pub ends_closed : {H C : Type 0} (handles : Handles (H × C) ToolFault) → ShortLaw → (old now new : Option (List ℕ)) (before : H × C) (middle after : Counted H × C) (feed next : DeskEntry) (piece : List ℕ) (fault : DerFault)
-    → ReadSoFar handles old now before middle.0.count feed (middle.0.handler, middle.1) → Consumes now new piece → length piece ≤ 4096 → (closed : Option DerFault) → closed ≡ Some fault
-    → HandlesCounted handles feed piece middle (Ok closed) next after → ReadsInput handles old new before (Err (Der fault)) (after.0.handler, after.1)
+-- If the bytes of a piece closed the feed, the input was read up to the fault of these bytes.
+pub ends_closed : {H C : Type 0} (handles : Handles (H × C) ToolFault) → ShortLaw
+    → (old now new : Option (List ℕ)) (before : H × C) (middle after : Counted H × C) (feed next : DeskEntry) (piece : List ℕ) (fault : DerFault)
+    → ReadSoFar handles old now before middle.0.count feed (middle.0.handler, middle.1) → Consumes now new piece
+    → length piece ≤ 4096 → (closed : Option DerFault) → closed ≡ Some fault
+    → HandlesCounted handles feed piece middle (Ok closed) next after
+    → ReadsInput handles old new before (Err (Der fault)) (after.0.handler, after.1)
 ends_closed {H = H} {C = C} handles law old now new before middle after feed next piece fault so_far read small closed is_some each =
     let apdus = so_far.0 in
     let held = so_far.1 in
@@ -323,9 +376,11 @@ ends_closed {H = H} {C = C} handles law old now new before middle after feed nex
       },
     )
 
--- the APDU in hand is one too many, or handling it failed
-ends_in_hand : {S : Type 0} (handles : Handles S ToolFault) (state after : ℕ × S) (apdu : Apdu) (fault : ToolFault) (count : ℕ) (ahead : List ℕ) (left : Option (List ℕ)) → IsApdu apdu → count ≡ state.0
-    → state.0 ≤ 100000 → CountsOn handles state apdu (Err fault) after → Ends handles (Err fault) count (spelling apdu) ahead left state.1 after.1
+-- If the APDU in hand is one too many, or its handling failed, the input ends there.
+ends_in_hand : {S : Type 0} (handles : Handles S ToolFault) (state after : ℕ × S) (apdu : Apdu) (fault : ToolFault) (count : ℕ) (ahead : List ℕ) (left : Option (List ℕ))
+    → IsApdu apdu → count ≡ state.0
+    → state.0 ≤ 100000 → CountsOn handles state apdu (Err fault) after
+    → Ends handles (Err fault) count (spelling apdu) ahead left state.1 after.1
 ends_in_hand handles state after apdu fault count ahead left is counted few on = elim on [
   | inl many ↦
       subst (λ (f : ToolFault). Ends handles (Err f) count (spelling apdu) ahead left state.1 after.1) (sym many.1)
@@ -333,10 +388,13 @@ ends_in_hand handles state after apdu fault count ahead left is counted few on =
   | inr fails ↦ inr (apdu, is, refl, omega (arith, fails.0, counted), fails.1)
 ]
 
--- a piece was pushed, and one of its APDUs is one too many, or handling it failed
-pub ends_failing : {H C : Type 0} (handles : Handles (H × C) ToolFault) → ShortLaw → (old now new : Option (List ℕ)) (before : H × C) (middle after : Counted H × C) (feed next : DeskEntry) (piece : List ℕ) (fault : ToolFault)
-    → ReadSoFar handles old now before middle.0.count feed (middle.0.handler, middle.1) → Consumes now new piece → length piece ≤ 4096
-    → HandlesCounted handles feed piece middle (Err fault) next after → ReadsInput handles old new before (Err fault) (after.0.handler, after.1)
+-- If an APDU of a piece is one too many, or its handling failed, the input ends there.
+pub ends_failing : {H C : Type 0} (handles : Handles (H × C) ToolFault) → ShortLaw
+    → (old now new : Option (List ℕ)) (before : H × C) (middle after : Counted H × C) (feed next : DeskEntry) (piece : List ℕ) (fault : ToolFault)
+    → ReadSoFar handles old now before middle.0.count feed (middle.0.handler, middle.1) → Consumes now new piece
+    → length piece ≤ 4096
+    → HandlesCounted handles feed piece middle (Err fault) next after
+    → ReadsInput handles old new before (Err fault) (after.0.handler, after.1)
 ends_failing {H = H} {C = C} handles law old now new before middle after feed next piece fault so_far read small each =
     let apdus = so_far.0 in
     let held = so_far.1 in

@@ -1,10 +1,11 @@
--- Texts with a comma between each and the next, one after another.
+-- Texts with a comma between two, one after another.
 use Rattle.std.proofs.Common.{◌≡◌, ℕ, ◌+◌, ◌≤◌, length, drop, List, [], ◌∷◌, ◌++◌, map, codes, refl, ap, sym, ◌∙◌, append_assoc, append-nil}
 use Rattle.std.proofs.lemmas.List.{at_drop_all}
 use Rattle.ill_tool.specs.Json.{joined}
 
--- With the text of one item more, the texts of the others are left, behind a comma.
-pub one_joined : {X : Type 0} (text : X → List ℕ) (before shown : List ℕ) (items : List X) (place : ℕ) (item : X) → drop place items ≡ item ∷ drop (place + 1) items
+-- With the text of one item more, the texts of the others are left, after a comma.
+pub one_joined : {X : Type 0} (text : X → List ℕ) (before shown : List ℕ) (items : List X) (place : ℕ) (item : X)
+    → drop place items ≡ item ∷ drop (place + 1) items
     → ((shown ++ before) ++ text item) ++ joined text (codes ",") (drop (place + 1) items) ≡ shown ++ joined text before (drop place items)
 unfolding joined
 one_joined text before shown items place item there =
@@ -13,29 +14,33 @@ one_joined text before shown items place item there =
     ∙ append_assoc shown (before ++ text item) left
     ∙ ap (λ items. shown ++ joined text before items) (sym there)
 
--- No text is left behind the last item.
-pub all_joined : {X : Type 0} (text : X → List ℕ) (before shown : List ℕ) (items : List X) (place : ℕ) → length items ≤ place → shown ++ joined text before (drop place items) ≡ shown
+-- No text is left after the last item.
+pub all_joined : {X : Type 0} (text : X → List ℕ) (before shown : List ℕ) (items : List X) (place : ℕ)
+    → length items ≤ place → shown ++ joined text before (drop place items) ≡ shown
 unfolding joined
 all_joined text before shown items place all = ap (λ left. shown ++ left) (at_drop_all (joined text before) items place all) ∙ append-nil shown
 
--- The texts of what a function gives are those of what it is given.
-pub joined_map : {X Y : Type 0} (text : Y → List ℕ) (f : X → Y) (before : List ℕ) (items : List X) → joined (λ item. text (f item)) before items ≡ joined text before (map f items)
+-- The join of the texts of items under `f` is the join of the texts of the mapped items.
+pub joined_map : {X Y : Type 0} (text : Y → List ℕ) (f : X → Y) (before : List ℕ) (items : List X)
+    → joined (λ item. text (f item)) before items ≡ joined text before (map f items)
 unfolding joined
 joined_map text f before [] = refl
 joined_map text f before (item ∷ items) = ap (λ left. before ++ text (f item) ++ left) (joined_map text f (codes ",") items)
 
 -- ---- further items
 
--- The texts of further items stand behind those of items that stand behind a comma.
-joined_more : {X : Type 0} (text : X → List ℕ) (items more : List X) → joined text (codes ",") (items ++ more) ≡ joined text (codes ",") items ++ joined text (codes ",") more
+-- After a comma, the texts of further items follow those of the items before.
+joined_more : {X : Type 0} (text : X → List ℕ) (items more : List X)
+    → joined text (codes ",") (items ++ more) ≡ joined text (codes ",") items ++ joined text (codes ",") more
 unfolding joined
 joined_more text [] more = refl
 joined_more text (item ∷ items) more =
     let this = codes "," ++ text item in
     ap (λ left. this ++ left) (joined_more text items more) ∙ sym (append_assoc this (joined text (codes ",") items) (joined text (codes ",") more))
 
--- The texts of further items stand behind those of the first ones.
-pub joined_further : {X : Type 0} (text : X → List ℕ) (before old shown : List ℕ) (first : X) (items more : List X) → shown ≡ old ++ joined text before (first ∷ items)
+-- The texts of further items follow those of the first ones.
+pub joined_further : {X : Type 0} (text : X → List ℕ) (before old shown : List ℕ) (first : X) (items more : List X)
+    → shown ≡ old ++ joined text before (first ∷ items)
     → shown ++ joined text (codes ",") more ≡ old ++ joined text before ((first ∷ items) ++ more)
 unfolding joined
 joined_further text before old shown first items more so_far =

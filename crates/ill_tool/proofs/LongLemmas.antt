@@ -4,8 +4,9 @@ use Rattle.std.proofs.Math.ListN.{drop_of_length-le}
 use Rattle.std.proofs.lemmas.List.{append-nil, at_drop_more}
 use Rattle.ill_tool.specs.LongLines.{indent, indented_on}
 
--- Behind a further byte, with what stands before it, stands what is left behind that byte.
-pub one_byte_further : (text : List ℕ) (place : ℕ) (begins : Bool) (shown set shown_further : List ℕ) → place < length text → set ≡ shown ++ indent begins → shown_further ≡ set ++ slice_index_or text place 0 ∷ []
+-- With one byte more, and the spaces before it, the text after that byte is left.
+pub one_byte_further : (text : List ℕ) (place : ℕ) (begins : Bool) (shown set shown_further : List ℕ)
+    → place < length text → set ≡ shown ++ indent begins → shown_further ≡ set ++ slice_index_or text place 0 ∷ []
     → shown_further ++ indented_on (slice_index_or text place 0 == 10) (drop (place + 1) text) ≡ shown ++ indented_on begins (drop place text)
 unfolding indented_on
 one_byte_further text place begins shown set shown_further lt is_set is_further =
@@ -16,8 +17,9 @@ one_byte_further text place begins shown set shown_further lt is_set is_further 
     ∙ append_assoc shown (indent begins) (byte ∷ left)
     ∙ ap (λ (bytes : List ℕ). shown ++ bytes) (sym (at_drop_more (indented_on begins) text place 0 lt))
 
--- Nothing is left behind the last byte.
-pub none_further : (text : List ℕ) (place : ℕ) (begins : Bool) (shown : List ℕ) → length text ≤ place → shown ≡ shown ++ indented_on begins (drop place text)
+-- No text is left after the last byte.
+pub none_further : (text : List ℕ) (place : ℕ) (begins : Bool) (shown : List ℕ) → length text ≤ place
+    → shown ≡ shown ++ indented_on begins (drop place text)
 unfolding indented_on
 none_further text place begins shown past =
     sym (append-nil shown) ∙ ap (λ (left : List ℕ). shown ++ indented_on begins left) (sym (drop_of_length-le text past))

@@ -1,4 +1,4 @@
--- Beginning, from what the calls below answer.
+-- The beginning of a keeper, from the results of its calls.
 use Rattle.std.proofs.Common.{rules, ◌≡◌, ◌⊎◌, ℕ, List, Option, Some, None, Result, Ok, Err, inl, inr, refl, ◌∙◌}
 use Rattle.ill_saved.specs.declared.fault.DeskFault.TheVariants.{Store}
 use Rattle.ill_saved.specs.declared.store.StoreFault.TheVariants.{Failed}
@@ -14,8 +14,9 @@ use Rattle.ill_tool.specs.declared.fault.ToolFault.{ToolFault}
 use Rattle.ill_tool.specs.declared.fault.ToolFault.TheVariants.{Desk, Write, OutOfMemory}
 use Rattle.ill_tool.specs.New.{LandsFirst, BeginsOver}
 
--- a spent plan is spent by a further call, or it is as it was
-pub still_spent : (old between new : Option NextCall) → between ≡ spent old → (new ≡ between) ⊎ (new ≡ spent between) → new ≡ spent old
+-- If a call leaves a spent plan, or spends it once more, the plan is spent.
+pub still_spent : (old between new : Option NextCall) → between ≡ spent old → (new ≡ between) ⊎ (new ≡ spent between)
+    → new ≡ spent old
 still_spent None between new e (inl is) = is ∙ e
 still_spent None None new e (inr is) = is
 still_spent None (Some plan) new e (inr is) = search rules
@@ -23,8 +24,9 @@ still_spent (Some plan) between new e (inl is) = is ∙ e
 still_spent (Some plan) None new e (inr is) = search rules
 still_spent (Some plan) (Some next) new e (inr is) = is
 
--- a side was saved where nothing had landed, once the plan was spent that allowed to load
-pub begun_over : (bytes : List ℕ) (plan : Option NextCall) (answer : Result (Unit {0}) ToolFault) (new : Option (List ℕ)) → Allows {X = Unit {0}} plan (Ok tt)
+-- If the plan allowed to load, a first save over no record is a beginning over that store.
+pub begun_over : (bytes : List ℕ) (plan : Option NextCall) (answer : Result (Unit {0}) ToolFault) (new : Option (List ℕ))
+    → Allows {X = Unit {0}} plan (Ok tt)
     → LandsFirst (spent plan) bytes answer None new → BeginsOver bytes plan None answer new
 begun_over bytes plan (Ok done) new allows lands = (lands, allows)
 begun_over bytes plan (Err Write) new allows lands = (lands, allows)
@@ -33,7 +35,7 @@ begun_over bytes (Some plan) (Err (Desk (Store Failed))) new allows lands = absu
 begun_over bytes plan (Err OutOfMemory) new allows lands = lands
 begun_over bytes plan (Err other) new allows lands = absurd lands
 
--- an idle side has issued nothing
+-- An idle side has issued nothing, so `whole` and `alone` give one entry.
 pub nothing_issued : (role : Role) (txn : Qualifiers) → whole (idle_side role txn) ≡ alone (idle_side role txn)
 nothing_issued Requester txn = refl
 nothing_issued Responder txn = refl

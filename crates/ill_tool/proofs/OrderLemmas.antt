@@ -1,4 +1,4 @@
--- What a stable sort makes of items is what `ordered` says.
+-- A stable sort gives the items as `ordered` has them.
 use Rattle.std.proofs.Common.{◌≡◌, ℕ, suc, ◌+◌, Bool, true, false, cond, List, [], ◌∷◌, map, refl, ap, sym, ◌∙◌, true≢false, arith}
 use Rattle.std.specs.Prelude.{not, ◌||◌, filter, slice_index_or}
 use Rattle.std.specs.Cmp.{IsStrictWeakOrder}
@@ -7,70 +7,76 @@ use Rattle.std.specs.List.Sorted.{IsSortedBy, IsStableBy, ties}
 use Rattle.std.proofs.lemmas.Bool.{or_parts, or_from, and_parts, and_from, not-true}
 use Rattle.ill_tool.specs.Waiting.{placed, ordered}
 
--- Items whose places go by a function are placed as what it makes of them.
+-- One step of `placed_mapped`: the placing past `first`, or before it, commutes with the map.
 placed_one : {X Y : Type 0} (f : X → Y) (lt : Y → Y → Bool) (item first : X) (others : List X) (is_first : Bool)
     → map f (placed (λ (a b : X). lt (f a) (f b)) item others) ≡ placed lt (f item) (map f others)
     → map f (cond is_first (first ∷ placed (λ (a b : X). lt (f a) (f b)) item others) (item ∷ first ∷ others)) ≡ cond is_first (f first ∷ placed lt (f item) (map f others)) (f item ∷ f first ∷ map f others)
 placed_one f lt item first others true further = ap (λ behind. f first ∷ behind) further
 placed_one f lt item first others false further = refl
 
-placed_mapped : {X Y : Type 0} (f : X → Y) (lt : Y → Y → Bool) (item : X) (items : List X) → map f (placed (λ (a b : X). lt (f a) (f b)) item items) ≡ placed lt (f item) (map f items)
+-- If items are placed by a function `f`, their images are placed by the order of images.
+placed_mapped : {X Y : Type 0} (f : X → Y) (lt : Y → Y → Bool) (item : X) (items : List X)
+    → map f (placed (λ (a b : X). lt (f a) (f b)) item items) ≡ placed lt (f item) (map f items)
 placed_mapped f lt item [] = refl
 placed_mapped f lt item (first ∷ others) = placed_one f lt item first others (lt (f first) (f item)) (placed_mapped f lt item others)
 
--- Items whose order goes by a function are ordered as what it makes of them.
-pub ordered_mapped : {X Y : Type 0} (f : X → Y) (lt : Y → Y → Bool) (items : List X) → map f (ordered (λ (a b : X). lt (f a) (f b)) items) ≡ ordered lt (map f items)
+-- If items are ordered by a function `f`, their images are ordered by the order of images.
+pub ordered_mapped : {X Y : Type 0} (f : X → Y) (lt : Y → Y → Bool) (items : List X)
+    → map f (ordered (λ (a b : X). lt (f a) (f b)) items) ≡ ordered lt (map f items)
 ordered_mapped f lt [] = refl
 ordered_mapped f lt (item ∷ items) =
     placed_mapped f lt item (ordered (λ a b. lt (f a) (f b)) items) ∙ ap (placed lt (f item)) (ordered_mapped f lt items)
 
 module _ {X : Type 0} (lt : X → X → Bool) (o : IsStrictWeakOrder lt) where
-  -- no item comes before one that stands before it
+  -- No item of a list comes before one that stands ahead of it.
   abbrev IsInOrder : List X → Type 0
   IsInOrder [] = Unit {0}
   IsInOrder (x ∷ xs) = (list_any (λ y. lt y x) xs ≡ false) × IsInOrder xs
 
-  -- What comes before no item before which another does not come, does not come before that one.
+  -- If `y` does not come before `x`, and none of `ys` before `y`, none of `ys` comes before `x`.
   none_before : (x y : X) (ys : List X) → lt y x ≡ false → list_any (λ z. lt z y) ys ≡ false → list_any (λ z. lt z x) ys ≡ false
   none_before x y [] behind none = refl
   none_before x y (z ∷ zs) behind none =
       let parts = or_parts (lt z y) (list_any (λ z. lt z y) zs) none in
       or_from (lt z x) (list_any (λ z. lt z x) zs) (o.chain z y x parts.0 behind) (none_before x y zs behind parts.1)
 
-  -- No placed item passes a test that it and the others do not pass.
+  -- One step of `none_placed`: with `x` past `y` or before it, no item passes the test.
   none_of_two : (test : X → Bool) (x y : X) (ys : List X) (is_first : Bool) → test x ≡ false → (test y || list_any test ys) ≡ false → list_any test (placed lt x ys) ≡ false
       → list_any test (cond is_first (y ∷ placed lt x ys) (x ∷ y ∷ ys)) ≡ false
   none_of_two test x y ys true not_x not_others not_placed = or_from (test y) (list_any test (placed lt x ys)) (or_parts (test y) (list_any test ys) not_others).0 not_placed
   none_of_two test x y ys false not_x not_others not_placed = or_from (test x) (test y || list_any test ys) not_x not_others
 
+  -- If neither `x` nor the others pass a test, none of the list with `x` placed passes it.
   none_placed : (test : X → Bool) (x : X) (ys : List X) → test x ≡ false → list_any test ys ≡ false → list_any test (placed lt x ys) ≡ false
   none_placed test x [] not_x not_others = or_from (test x) false not_x refl
   none_placed test x (y ∷ ys) not_x not_others =
       none_of_two test x y ys (lt y x) not_x not_others (none_placed test x ys not_x (or_parts (test y) (list_any test ys) not_others).1)
 
-  -- Placed among items in order, an item is in order.
+  -- One step of `placed_in_order`: placed past `y` or before it, an item is in order.
   placed_one_in_order : (x y : X) (ys : List X) (is_first : Bool) → lt y x ≡ is_first → IsInOrder (y ∷ ys) → IsInOrder (placed lt x ys) → IsInOrder (cond is_first (y ∷ placed lt x ys) (x ∷ y ∷ ys))
   placed_one_in_order x y ys true is (none, others) further = (none_placed (λ z. lt z y) x ys (o.one_way y x is) none, further)
   placed_one_in_order x y ys false is (none, others) further = (or_from (lt y x) (list_any (λ z. lt z x) ys) is (none_before x y ys is none), (none, others))
 
+  -- If items are in order, they are with `x` placed among them.
   placed_in_order : (x : X) (ys : List X) → IsInOrder ys → IsInOrder (placed lt x ys)
   placed_in_order x [] in_order = (refl, tt)
   placed_in_order x (y ∷ ys) in_order = placed_one_in_order x y ys (lt y x) refl in_order (placed_in_order x ys in_order.1)
 
+  -- Ordered items are in order.
   ordered_in_order : (xs : List X) → IsInOrder (ordered lt xs)
   ordered_in_order [] = tt
   ordered_in_order (x ∷ xs) = placed_in_order x (ordered lt xs) (ordered_in_order xs)
 
-  -- ---- those that tie
+  -- ---- the items that tie
 
-  -- Of two items one of which comes before the other, not both tie with a third.
+  -- If `y` comes before `x`, not both tie with a third item `w`.
   not_both : (w x y : X) → lt y x ≡ true → ties lt w y ≡ true → ties lt w x ≡ true → ⊥
   not_both w x y is tie_y tie_x =
       let from_w = not-true _ (and_parts (not (lt w x)) (not (lt x w)) tie_x).0 in
       let to_w = not-true _ (and_parts (not (lt w y)) (not (lt y w)) tie_y).1 in
       true≢false (sym is ∙ o.chain y w x to_w from_w)
 
-  -- What is kept of two items is the same in either order, if not both are kept.
+  -- If not both of two items are kept, the kept part of them does not depend on their order.
   kept_alike : (x y : X) (behind : List X) (keeps_x keeps_y : Bool) → (keeps_y ≡ true → keeps_x ≡ true → ⊥)
       → cond keeps_y (y ∷ cond keeps_x (x ∷ behind) behind) (cond keeps_x (x ∷ behind) behind) ≡ cond keeps_x (x ∷ cond keeps_y (y ∷ behind) behind) (cond keeps_y (y ∷ behind) behind)
   kept_alike x y behind true true never = absurd (never refl refl)
@@ -78,7 +84,7 @@ module _ {X : Type 0} (lt : X → X → Bool) (o : IsStrictWeakOrder lt) where
   kept_alike x y behind false true never = refl
   kept_alike x y behind false false never = refl
 
-  -- Where an item is placed, those that tie stand as they stood.
+  -- One step of `placed_stable`: placed past `y` or before it, an item leaves those that tie in their order.
   placed_one_stable : (w x y : X) (ys : List X) (is_first : Bool) → lt y x ≡ is_first → filter (ties lt w) (placed lt x ys) ≡ filter (ties lt w) (x ∷ ys)
       → filter (ties lt w) (cond is_first (y ∷ placed lt x ys) (x ∷ y ∷ ys)) ≡ filter (ties lt w) (x ∷ y ∷ ys)
   placed_one_stable w x y ys true is further =
@@ -86,47 +92,53 @@ module _ {X : Type 0} (lt : X → X → Bool) (o : IsStrictWeakOrder lt) where
       ∙ kept_alike x y (filter (ties lt w) ys) (ties lt w x) (ties lt w y) (not_both w x y is)
   placed_one_stable w x y ys false is further = refl
 
+  -- A placed item leaves the items that tie with any `w` in their order.
   placed_stable : (w x : X) (ys : List X) → filter (ties lt w) (placed lt x ys) ≡ filter (ties lt w) (x ∷ ys)
   placed_stable w x [] = refl
   placed_stable w x (y ∷ ys) = placed_one_stable w x y ys (lt y x) refl (placed_stable w x ys)
 
+  -- Ordered items have those that tie with any `w` in their old order.
   ordered_stable : (w : X) (xs : List X) → filter (ties lt w) (ordered lt xs) ≡ filter (ties lt w) xs
   ordered_stable w [] = refl
   ordered_stable w (x ∷ xs) = placed_stable w x (ordered lt xs) ∙ ap (λ behind. cond (ties lt w x) (x ∷ behind) behind) (ordered_stable w xs)
 
   -- ---- there is one such order
 
-  -- An item does not come before itself, and ties with itself.
+  -- One step of `not_self`: an item does not come before itself, whatever `is_before` says.
   never_before_itself : (x : X) (is_before : Bool) → lt x x ≡ is_before → lt x x ≡ false
   never_before_itself x true is = o.one_way x x is
   never_before_itself x false is = is
 
+  -- No item comes before itself.
   not_self : (x : X) → lt x x ≡ false
   not_self x = never_before_itself x (lt x x) refl
 
+  -- Two items of which none comes before the other tie.
   both_tie : (x y : X) → lt x y ≡ false → lt y x ≡ false → ties lt x y ≡ true
   both_tie x y e f = and_from (not (lt x y)) (not (lt y x)) (ap not e) (ap not f)
 
+  -- An item ties with itself.
   tie_self : (x : X) → ties lt x x ≡ true
   tie_self x = both_tie x x (not_self x) (not_self x)
 
-  -- The first item that is kept of a list passes no test that none of the list passes.
+  -- One step of `first_kept`: the first kept item is `x`, or the first of the others.
   first_of : (keeps test : X → Bool) (y x : X) (rest xs : List X) (is_kept : Bool) → cond is_kept (x ∷ filter keeps xs) (filter keeps xs) ≡ y ∷ rest → test x ≡ false
       → (filter keeps xs ≡ y ∷ rest → test y ≡ false) → test y ≡ false
   first_of keeps test y x rest xs true is not_x others = let same : x ≡ y = cc in ap test (sym same) ∙ not_x
   first_of keeps test y x rest xs false is not_x others = others is
 
+  -- If no item of a list passes a test, the first that is kept does not pass it.
   first_kept : (keeps test : X → Bool) (y : X) (rest xs : List X) → filter keeps xs ≡ y ∷ rest → list_any test xs ≡ false → test y ≡ false
   first_kept keeps test y rest [] is none = cc
   first_kept keeps test y rest (x ∷ xs) is none =
       let parts = or_parts (test x) (list_any test xs) none in
       first_of keeps test y x rest xs (keeps x) is parts.0 (λ is. first_kept keeps test y rest xs is parts.1)
 
-  -- An item that is kept stands first of those that are.
+  -- A kept item at the head of a list is the first of the kept ones.
   stands_first : (keeps : X → Bool) (x : X) (xs : List X) → keeps x ≡ true → filter keeps (x ∷ xs) ≡ x ∷ filter keeps xs
   stands_first keeps x xs kept = ap (λ (is_kept : Bool). cond is_kept (x ∷ filter keeps xs) (filter keeps xs)) kept
 
-  -- What is kept behind an item is the same, if all that is kept is.
+  -- If the kept parts of two lists with one head are equal, the kept parts of their tails are.
   behind_first : (x : X) (ys zs : List X) (is_kept : Bool) → cond is_kept (x ∷ ys) ys ≡ cond is_kept (x ∷ zs) zs → ys ≡ zs
   behind_first x ys zs true same = cc
   behind_first x ys zs false same = same
@@ -146,7 +158,7 @@ module _ {X : Type 0} (lt : X → X → Bool) (o : IsStrictWeakOrder lt) where
       let behind = alike ys zs y_order.1 z_order.1 (λ w. behind_first y (filter (ties lt w) ys) (filter (ties lt w) zs) (ties lt w y) (same w ∙ ap (λ (x : X). filter (ties lt w) (x ∷ zs)) (sym is))) in
       ap (λ (x : X). x ∷ ys) is ∙ ap (λ (rest : List X). z ∷ rest) behind
 
-  -- What is sorted is in order.
+  -- Sorted items are in order.
   in_order_from_sorted : (xs : List X) → IsSortedBy lt xs → IsInOrder xs
   in_order_from_sorted [] sorted = tt
   in_order_from_sorted (x ∷ []) sorted = (refl, tt)
@@ -155,6 +167,6 @@ module _ {X : Type 0} (lt : X → X → Bool) (o : IsStrictWeakOrder lt) where
       let others = in_order_from_sorted (y ∷ ys) (λ k d from within. let further : suc (k + 1) ≡ suc k + 1 = omega arith in ap (λ (n : ℕ). lt (slice_index_or (x ∷ y ∷ ys) n d) (slice_index_or (y ∷ ys) k d)) further ∙ sorted (suc k) d (omega arith) (omega arith)) in
       (or_from (lt y x) (list_any (λ z. lt z x) ys) next (none_before x y ys next others.0), others)
 
-  -- What a stable sort makes of items is they in order.
+  -- A list that is sorted, and stable for `xs`, is `xs` in order.
   pub sorted_is_ordered : (xs ys : List X) → IsSortedBy lt ys → IsStableBy lt xs ys → ys ≡ ordered lt xs
   sorted_is_ordered xs ys sorted stable = alike ys (ordered lt xs) (in_order_from_sorted ys sorted) (ordered_in_order xs) (λ w. stable w ∙ sym (ordered_stable w xs))

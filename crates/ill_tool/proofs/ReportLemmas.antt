@@ -1,4 +1,4 @@
--- What a page tells of desks, one behind another.
+-- The parts of desks on a page, one after another.
 use Rattle.std.proofs.Common.{◌≡◌, ℕ, List, [], ◌∷◌, ◌++◌, ap, sym, ◌∙◌, append_assoc}
 use Rattle.std.specs.List.{flat_map}
 use Rattle.std.proofs.lemmas.List.{append-nil}
@@ -8,16 +8,18 @@ use Rattle.ill_saved.specs.declared.side.Side.{Side}
 use Rattle.ill_tool.specs.declared.report_parts.TheConstants.{END}
 use Rattle.ill_tool.specs.Report.{AddsDesks, desk_text, page_head, report_page}
 
--- Behind a page nothing stands that was not added.
+-- A page that stays has the parts of no desks added.
 pub no_desks : (today : Date) (before : List ℕ) → AddsDesks today before before
 no_desks today before = ([], sym (append-nil before))
 
--- What is told of one desk is what is told of some.
-pub one_desk : (today : Date) (before after file : List ℕ) (sides : List Side) → after ≡ before ++ desk_text today (file, sides) → AddsDesks today before after
+-- A page with the part of one desk after it has the parts of some added.
+pub one_desk : (today : Date) (before after file : List ℕ) (sides : List Side)
+    → after ≡ before ++ desk_text today (file, sides) → AddsDesks today before after
 one_desk today before after file sides added = ((file, sides) ∷ [], added ∙ ap (λ text. before ++ text) (sym (append-nil (desk_text today (file, sides)))))
 
--- Behind what is told of some desks, what is told of others is what is told of all.
-pub further_desks : (today : Date) (before between after : List ℕ) → AddsDesks today before between → AddsDesks today between after → AddsDesks today before after
+-- If a page has the parts of some desks added, and then of others, it has those of all.
+pub further_desks : (today : Date) (before between after : List ℕ) → AddsDesks today before between
+    → AddsDesks today between after → AddsDesks today before after
 further_desks today before between after (some, first) (others, then) = (
   some ++ others,
   then ∙ ap (λ text. text ++ flat_map (desk_text today) others) first
@@ -25,11 +27,13 @@ further_desks today before between after (some, first) (others, then) = (
       ∙ ap (λ text. before ++ text) (sym (flat_map-append (desk_text today) some others)),
 )
 
--- A page with what is told of some desks is their page, once it ends.
-pub whole_page : (today : Date) (page : List ℕ) → AddsDesks today (page_head today) page → (desks : List (List ℕ × List Side)) × (page ++ END.now ≡ report_page today desks)
+-- A head with the parts of some desks is their page, once it ends.
+pub whole_page : (today : Date) (page : List ℕ) → AddsDesks today (page_head today) page
+    → (desks : List (List ℕ × List Side)) × (page ++ END.now ≡ report_page today desks)
 whole_page today page (desks, told) = (desks, ap (λ text. text ++ END.now) told)
 
--- Three texts that are added are added as one.
-pub three_added : (before first second third one two three : List ℕ) → first ≡ before ++ one → second ≡ first ++ two → third ≡ second ++ three → third ≡ before ++ (one ++ (two ++ three))
+-- Three texts that are added one by one are added as one.
+pub three_added : (before first second third one two three : List ℕ) → first ≡ before ++ one → second ≡ first ++ two
+    → third ≡ second ++ three → third ≡ before ++ (one ++ (two ++ three))
 three_added before first second third one two three e f g =
     g ∙ ap (λ text. text ++ three) (f ∙ ap (λ text. text ++ two) e) ∙ append_assoc (before ++ one) two three ∙ append_assoc before one (two ++ three)

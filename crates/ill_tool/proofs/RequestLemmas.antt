@@ -1,4 +1,4 @@
--- What was found in the words of a command line.
+-- The arguments that were found in the words of a command line.
 use Rattle.std.proofs.Common.{rules, ◌≡◌, ℕ, Bool, true, List, Option, Some, None, Result, sym, ap, subst, ◌∙◌}
 use Rattle.std.specs.Prelude.{is_none, Box, option_map}
 use Rattle.std.specs.Box.{box_value}
@@ -23,47 +23,54 @@ use Rattle.ill_tool.specs.Asked.{IsRefusal, text_of, texts_of, day_in, day_said,
 use Rattle.ill_core.specs.State.{state_named}
 use Rattle.ill_core.specs.declared.state.State.{State}
 
--- the text of an argument is the first value of what it is called
-pub text_said : (m : ArgMatches) (id : List ℕ) (argument : Argument) (said : Option (List ℕ)) → id ≡ id_of argument → said ≡ first_value (found_of m) id
+-- The text of an argument is the first value under its name.
+pub text_said : (m : ArgMatches) (id : List ℕ) (argument : Argument) (said : Option (List ℕ)) → id ≡ id_of argument
+    → said ≡ first_value (found_of m) id
     → text_of argument (rows_of (found_of m)) ≡ said
 text_said m id argument said named is =
     ap (λ (id : List ℕ). first_of id (rows_of (found_of m))) (sym named) ∙ sym (first_value-rows (found_of m) id) ∙ sym is
 
--- an argument that has no value may be refused
-pub none_said : (m : ArgMatches) (id : List ℕ) (argument : Argument) (refusal : Refusal) → id ≡ id_of argument → None ≡ first_value (found_of m) id → IsRefusal true refusal
+-- An argument without a value may be refused.
+pub none_said : (m : ArgMatches) (id : List ℕ) (argument : Argument) (refusal : Refusal) → id ≡ id_of argument
+    → None ≡ first_value (found_of m) id → IsRefusal true refusal
     → IsRefusal (is_none (text_of argument (rows_of (found_of m)))) refusal
 none_said m id argument refusal named is right =
     subst (λ (nothing : Bool). IsRefusal nothing refusal) (sym (ap is_none (text_said m id argument None named is))) right
 
--- the day is read from the text of its argument
-pub day_read : (m : ArgMatches) (id word bytes : List ℕ) (argument : Argument) (read : Result Date DayFault) → id ≡ id_of argument → Some word ≡ first_value (found_of m) id → bytes ≡ word
+-- The day is read from the text of its argument.
+pub day_read : (m : ArgMatches) (id word bytes : List ℕ) (argument : Argument) (read : Result Date DayFault)
+    → id ≡ id_of argument → Some word ≡ first_value (found_of m) id → bytes ≡ word
     → read ≡ read_date bytes → day_in argument (rows_of (found_of m)) ≡ option_map Some (result_ok read)
 day_read m id word bytes argument read named is same reads =
     ap day_said (text_said m id argument (Some word) named is)
     ∙ ap (λ (read : Result Date DayFault). option_map Some (result_ok read)) (sym (reads ∙ ap read_date same))
 
--- the state is read from the text of its argument
-pub state_read : (m : ArgMatches) (id word bytes : List ℕ) (read : Option State) → id ≡ id_of InState → Some word ≡ first_value (found_of m) id → bytes ≡ word
+-- The state is read from the text of its argument.
+pub state_read : (m : ArgMatches) (id word bytes : List ℕ) (read : Option State) → id ≡ id_of InState
+    → Some word ≡ first_value (found_of m) id → bytes ≡ word
     → read ≡ state_named bytes → state_in (rows_of (found_of m)) ≡ option_map Some read
 state_read m id word bytes read named is same reads =
     ap state_said (text_said m id InState (Some word) named is)
     ∙ ap (λ (read : Option State). option_map Some read) (sym (reads ∙ ap state_named same))
 
--- the texts of an argument are all values of what it is called
-pub texts_said : (m : ArgMatches) (id : List ℕ) (argument : Argument) (said : Option (List (List ℕ))) → id ≡ id_of argument → said ≡ option_map raw_values (matched_of (found_of m) id)
+-- The texts of an argument are all values under its name.
+pub texts_said : (m : ArgMatches) (id : List ℕ) (argument : Argument) (said : Option (List (List ℕ)))
+    → id ≡ id_of argument → said ≡ option_map raw_values (matched_of (found_of m) id)
     → texts_of argument (rows_of (found_of m)) ≡ said
 texts_said m id argument said named is =
     ap (λ (id : List ℕ). all_of id (rows_of (found_of m))) (sym named) ∙ sym (raw_values-rows (found_of m) id) ∙ sym is
 
--- texts that were not found may be refused
-pub no_texts_said : (m : ArgMatches) (id : List ℕ) (argument : Argument) (refusal : Refusal) → id ≡ id_of argument → None ≡ option_map raw_values (matched_of (found_of m) id) → IsRefusal true refusal
+-- Texts that were not found may be refused.
+pub no_texts_said : (m : ArgMatches) (id : List ℕ) (argument : Argument) (refusal : Refusal) → id ≡ id_of argument
+    → None ≡ option_map raw_values (matched_of (found_of m) id) → IsRefusal true refusal
     → IsRefusal (is_none (texts_of argument (rows_of (found_of m)))) refusal
 no_texts_said m id argument refusal named is right =
     subst (λ (nothing : Bool). IsRefusal nothing refusal) (sym (ap is_none (texts_said m id argument None named is))) right
 
--- the subcommand that a parse met, by its name and by its rows
+-- The subcommand that a parse met has its name and its rows.
 pub met_with : (m : ArgMatches) (word : List ℕ) (rows : List Row) → Some word ≡ subcommand_name_of m
-    → Some rows ≡ option_map (λ (said : Text × List Row). said.1) (subcommand_rows_of m) → subcommand_rows_of m ≡ Some (word, rows)
+    → Some rows ≡ option_map (λ (said : Text × List Row). said.1) (subcommand_rows_of m)
+    → subcommand_rows_of m ≡ Some (word, rows)
 met_with m word rows named has = go (out-ArgMatches m).subcommand named has
   where
     go : {Z : Type 0} (sub : Option (Box SubCommand Z)) → Some word ≡ option_map (λ b. (out-SubCommand (box_value b)).name.now) sub
@@ -71,22 +78,26 @@ met_with m word rows named has = go (out-ArgMatches m).subcommand named has
     go None named has = cc
     go (Some sub) named has = cc
 
--- What is refused for one argument is refused for all.
-pub refused_on : {A B : Type 0} (said : Option A) (next : A → Option B) (refusal : Refusal) → IsRefusal (is_none said) refusal → IsRefusal (is_none (said >>= next)) refusal
+-- A refusal for one argument is a refusal for all.
+pub refused_on : {A B : Type 0} (said : Option A) (next : A → Option B) (refusal : Refusal)
+    → IsRefusal (is_none said) refusal → IsRefusal (is_none (said >>= next)) refusal
 refused_on None next refusal right = right
 refused_on (Some value) next (Usage error) right = search rules
 refused_on (Some value) next (Fault Arguments) right = search rules
 refused_on (Some value) next (Fault OutOfMemory) right = right
 refused_on (Some value) next (Fault other) right = search rules
 
--- The same behind an argument that is not refused.
-pub refused_behind : {A B C : Type 0} (first : Option A) (value : A) (second : Option B) (next : A → B → Option C) (refusal : Refusal) → first ≡ Some value
+-- A refusal for the argument after one that was read is a refusal for all.
+pub refused_behind : {A B C : Type 0} (first : Option A) (value : A) (second : Option B) (next : A → B → Option C) (refusal : Refusal)
+    → first ≡ Some value
     → IsRefusal (is_none second) refusal → IsRefusal (is_none (first >>= λ value. second >>= next value)) refusal
 refused_behind {A} first value second next refusal is right =
     subst (λ (first : Option A). IsRefusal (is_none (first >>= λ value. second >>= next value)) refusal) (sym is) (refused_on second (next value) refusal right)
 
--- The same behind two.
-pub refused_third : {A B C D : Type 0} (first : Option A) (a : A) (second : Option B) (b : B) (third : Option C) (next : A → B → C → Option D) (refusal : Refusal) → first ≡ Some a
-    → second ≡ Some b → IsRefusal (is_none third) refusal → IsRefusal (is_none (first >>= λ a. second >>= λ b. third >>= next a b)) refusal
+-- A refusal for the argument after two that were read is a refusal for all.
+pub refused_third : {A B C D : Type 0} (first : Option A) (a : A) (second : Option B) (b : B) (third : Option C) (next : A → B → C → Option D) (refusal : Refusal)
+    → first ≡ Some a
+    → second ≡ Some b → IsRefusal (is_none third) refusal
+    → IsRefusal (is_none (first >>= λ a. second >>= λ b. third >>= next a b)) refusal
 refused_third {A} first a second b third next refusal is also right =
     subst (λ (first : Option A). IsRefusal (is_none (first >>= λ a. second >>= λ b. third >>= next a b)) refusal) (sym is) (refused_behind second b third (next a) refusal also right)

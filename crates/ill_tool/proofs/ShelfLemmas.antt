@@ -1,4 +1,4 @@
--- Desks of a shelf that are visited one behind another, and their names.
+-- Desks of a shelf that are visited one after another, and their names.
 use Rattle.std.proofs.Common.{arith, ◌≡◌, ℕ, ◌+◌, ◌<◌, ◌++◌, Bool, true, false, List, [], ◌∷◌, All, length, map, fold, take, get_or, Option, Result, Ok, Err, refl, ap, sym, ◌∙◌, add-one}
 use Rattle.std.specs.List.{list_all}
 use Rattle.std.proofs.Math.Seq.{take-suc}
@@ -17,20 +17,20 @@ use Rattle.ill_tool.specs.Input.{ReadsInput}
 use Rattle.ill_tool.proofs.InputLemmas.{reads_as}
 use Rattle.ill_tool.specs.Shelf.{ShelfTaking, Follow, Headed, Stop, VisitsAll, desk_name, graver, gravest, takes_home}
 
--- A visit follows the visits before it.
+-- A visit from the last output follows the visits before it.
 follow_more : (before between : Option (List ℕ)) (stops : List Stop) (stop : Stop)
     → Follow before stops between → stop.before ≡ between → Follow before (stops ++ stop ∷ []) stop.after
 unfolding Follow
 follow_more before between [] stop is begins = (begins ∙ is, refl)
 follow_more before between (first ∷ stops) stop follows begins = (follows.0, follow_more first.after between stops stop follows.1 begins)
 
--- One visit more makes the answer as grave as its own, if that is graver.
+-- With one visit more, the gravest answer is the graver of the one before and of its own.
 gravest_more : (stops : List Stop) (stop : Stop) → gravest (stops ++ stop ∷ []) ≡ graver (gravest stops) stop.answer
 gravest_more stops stop =
     let answer : Stop → Result Bool ToolFault = λ stop. stop.answer in
     ap (λ answers. fold graver (Ok true) answers) (map-append answer stops (stop ∷ [])) ∙ fold-append graver (Ok true) (map answer stops) (stop.answer ∷ [])
 
--- With the desk at a place, one more of the desks at these paths was visited.
+-- If the desks before `place` were visited, and then the one there, one more of `paths` was visited.
 pub one_more_visit : (is_headed : Bool) (Runs : Option (List ℕ) → Option (List ℕ) → Result Bool ToolFault → Type 0) (paths : List (List ℕ)) (place : ℕ) (path : List ℕ)
     (before between after : Option (List ℕ)) (answer next : Result Bool ToolFault)
     → place < length paths → path ≡ get_or paths place path → VisitsAll is_headed Runs (take place paths) before between answer
@@ -46,12 +46,13 @@ one_more_visit is_headed Runs paths place path before between after answer next 
     let graver_is = ap (λ answer. graver answer next) so_far.4 ∙ sym (gravest_more stops stop) in
     (stops ++ stop ∷ [], visited, follow_more before between stops stop so_far.2 refl, All-push (Headed is_headed Runs) stops stop so_far.3 headed, graver_is)
 
--- Before the first visit none was made.
-pub no_visit : (is_headed : Bool) (Runs : Option (List ℕ) → Option (List ℕ) → Result Bool ToolFault → Type 0) (before : Option (List ℕ)) → VisitsAll is_headed Runs [] before before (Ok true)
+-- Before the first visit no desk was visited.
+pub no_visit : (is_headed : Bool) (Runs : Option (List ℕ) → Option (List ℕ) → Result Bool ToolFault → Type 0) (before : Option (List ℕ))
+    → VisitsAll is_headed Runs [] before before (Ok true)
 unfolding Follow
 no_visit is_headed Runs before = ([], refl, refl, All-nil (Headed is_headed Runs), refl)
 
--- Nothing is graver than it was by what is well.
+-- An answer that all is well makes no answer graver.
 pub graver_well : (answer : Result Bool ToolFault) → answer ≡ graver answer (Ok true)
 graver_well (Ok true) = refl
 graver_well (Ok false) = refl
@@ -78,12 +79,14 @@ qualifier_bytes : (text : List ℕ) → IsQualifier text → All IsByte text
 qualifier_bytes text is k d within = printable_is_byte _ (AllPass-from_list_all is_printable text (qualifier_prints text is) k d within)
 
 -- Two groups whose desks have one name are one group.
-pub own_desk : (role : Role) (one other : List ℕ) → IsQualifier one → IsQualifier other → desk_name role one ≡ desk_name role other → one ≡ other
+pub own_desk : (role : Role) (one other : List ℕ) → IsQualifier one → IsQualifier other
+    → desk_name role one ≡ desk_name role other → one ≡ other
 own_desk role one other is_one is_other same =
     let encoded = append_cancel_right (percent_encode ESCAPED one) (percent_encode ESCAPED other) _ same in
     sym (round_trip ESCAPED one refl (qualifier_bytes one is_one)) ∙ ap percent_decode encoded ∙ round_trip ESCAPED other refl (qualifier_bytes other is_other)
 
--- An input is taken as it is seen in what a writer holds.
+-- An input that was taken on a handler is taken on the views of its states.
 pub taken_home : {S : Type 0} (view : S → ShelfTaking) (left rest : Option (List ℕ)) (before after : S) (count : Result ℕ ToolFault)
-    → ReadsInput (λ (s : S) apdu r (t : S). takes_home (view s) apdu r (view t)) left rest before count after → ReadsInput takes_home left rest (view before) count (view after)
+    → ReadsInput (λ (s : S) apdu r (t : S). takes_home (view s) apdu r (view t)) left rest before count after
+    → ReadsInput takes_home left rest (view before) count (view after)
 taken_home view left rest before after count is = reads_as (λ s apdu r t. takes_home (view s) apdu r (view t)) takes_home view (λ s t apdu r h. h) left rest before after count is

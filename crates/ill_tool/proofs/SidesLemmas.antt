@@ -1,4 +1,4 @@
--- Items of a list, one behind another.
+-- Items of a list, one after another.
 use Rattle.std.proofs.Common.{◌≡◌, ℕ, zero, suc, true, true≢false, ◌++◌, List, [], ◌∷◌, drop, Option, Some, None, refl, ap, sym, ◌∙◌}
 use Rattle.std.specs.Prelude.{slice_get, option_map, is_some}
 use Rattle.std.proofs.lemmas.Option.{slice_get-map}
@@ -10,15 +10,18 @@ use Rattle.ill_saved.proofs.Finding.{some_is}
 use Rattle.ill_tool.proofs.KeepingLemmas.{held_at_place}
 use Rattle.std.specs.Option.{option_to_list}
 
--- The items from a place on are the one there and those behind it.
-pub one_item : {X : Type 0} (items : List X) (place : ℕ) → option_to_list (slice_get items place) ++ drop (suc place) items ≡ drop place items
+-- The items from `place` on are the one there and those after it.
+pub one_item : {X : Type 0} (items : List X) (place : ℕ)
+    → option_to_list (slice_get items place) ++ drop (suc place) items ≡ drop place items
 one_item [] zero = refl
 one_item [] (suc place) = refl
 one_item (item ∷ items) zero = refl
 one_item (item ∷ items) (suc place) = one_item items place
 
--- The side at a place of a desk, with how many of its messages were saved, is what the desk holds there.
-held_so : (live : DeskContents) (place : ℕ) (side : Side) (released : ℕ) (found : Option DeskEntry) → are_apart (sides_held live).sides ≡ true → slice_get live.held place ≡ found → option_map (λ (held : DeskEntry). held.side) found ≡ Some side
+-- If the entry `found` at `place` has the side `side` and the number `released`, it is the entry of both.
+held_so : (live : DeskContents) (place : ℕ) (side : Side) (released : ℕ) (found : Option DeskEntry)
+    → are_apart (sides_held live).sides ≡ true → slice_get live.held place ≡ found
+    → option_map (λ (held : DeskEntry). held.side) found ≡ Some side
     → released ≡ (held_for (txn_of side) live).released → found ≡ Some (record { side = side; released = released })
 held_so live place side released (Some held) apart at e counted =
     let is : held.side ≡ side = some_is held.side side e in
@@ -27,15 +30,20 @@ held_so live place side released (Some held) apart at e counted =
     ap (λ s. Some (record { side = s; released = held.released })) is ∙ ap (λ n. Some (record { side = side; released = n })) many
 held_so live place side released None apart at e counted = absurd (true≢false (sym (ap is_some e)))
 
-pub held_there : (live : DeskContents) (place : ℕ) (side : Side) (released : ℕ) → are_apart (sides_held live).sides ≡ true → slice_get (sides_held live).sides place ≡ Some side
-    → released ≡ (held_for (txn_of side) live).released → slice_get live.held place ≡ Some (record { side = side; released = released })
+-- The side at `place` of a desk, with the number of its saved messages, is the entry there.
+pub held_there : (live : DeskContents) (place : ℕ) (side : Side) (released : ℕ)
+    → are_apart (sides_held live).sides ≡ true → slice_get (sides_held live).sides place ≡ Some side
+    → released ≡ (held_for (txn_of side) live).released
+    → slice_get live.held place ≡ Some (record { side = side; released = released })
 held_there live place side released apart at counted =
     held_so live place side released (slice_get live.held place) apart refl (sym (slice_get-map (λ (held : DeskEntry). held.side) live.held place) ∙ at) counted
 
--- If a desk has no side at a place, it holds nothing there.
+-- An entry without a side is none.
 none_so : (found : Option DeskEntry) → option_map (λ (held : DeskEntry). held.side) found ≡ None → found ≡ None
 none_so (Some held) e = absurd (true≢false (ap is_some e))
 none_so None e = refl
 
-pub none_there : (live : DeskContents) (place : ℕ) → slice_get (sides_held live).sides place ≡ None → slice_get live.held place ≡ None
+-- If a desk has no side at `place`, it has no entry there.
+pub none_there : (live : DeskContents) (place : ℕ) → slice_get (sides_held live).sides place ≡ None
+    → slice_get live.held place ≡ None
 none_there live place at = none_so (slice_get live.held place) (sym (slice_get-map (λ (held : DeskEntry). held.side) live.held place) ∙ at)

@@ -1,4 +1,4 @@
--- Performing a script, from what the calls below answer.
+-- The performance of a script, from the results of its calls.
 use Rattle.std.proofs.Common.{◌≡◌, ℕ, List, [], Option, Result, Ok, Err, refl, sym, ap, subst, ◌∙◌}
 use Rattle.std.specs.Prelude.{IsErrAnd}
 use Rattle.std.proofs.KnownBytes.{Consumes-nil, Appends-nil}
@@ -11,13 +11,14 @@ use Rattle.ill_world.specs.Simulation.{Simulates, script}
 use Rattle.ill_tool.specs.declared.fault.ToolFault.{ToolFault}
 use Rattle.ill_tool.specs.Simulate.{sim_fault, tool_answer, Performs, GivesId}
 
--- memory ran out before anything was read
+-- If memory ran out before anything was read, the simulation has that fault, and nothing was written.
 not_begun : (txn : Qualifiers) (old before : Option (List ℕ)) → Simulates txn old old before before (Err simulation.OutOfMemory)
 unfolding trace_from
 not_begun txn old before = ([], [], Consumes-nil old, Appends-nil before, λ more e. ([], ((script more).events, refl), refl))
 
--- there was no transaction id, or no memory for it
-pub no_id : (id : Result Qualifiers TextFault) (old before : Option (List ℕ)) (fault : ToolFault) (result : Result ℕ ToolFault) → GivesId id (Err fault)
+-- If there was no transaction id, or no memory for it, the command has that fault.
+pub no_id : (id : Result Qualifiers TextFault) (old before : Option (List ℕ)) (fault : ToolFault) (result : Result ℕ ToolFault)
+    → GivesId id (Err fault)
     → IsErrAnd result (λ (f : ToolFault). f ≡ fault) → Performs id old old before before result
 no_id id old before fault (Ok count) given failed = absurd failed
 no_id (Ok txn) old before fault (Err tool) given failed =
@@ -25,14 +26,16 @@ no_id (Ok txn) old before fault (Err tool) given failed =
     (Err simulation.OutOfMemory, not_begun txn old before, refl)
 no_id (Err text) old before fault (Err tool) given failed = (ap (λ (f : ToolFault). Err f) (failed ∙ given), Consumes-nil old, Appends-nil before)
 
--- the script was performed, to its end or up to a fault
-pub performed : (id : Result Qualifiers TextFault) (txn : Qualifiers) (old new before after : Option (List ℕ)) (simulated : Result ℕ SimFault) → GivesId id (Ok txn)
+-- If the script was performed, to its end or up to a fault, the command has its answer.
+pub performed : (id : Result Qualifiers TextFault) (txn : Qualifiers) (old new before after : Option (List ℕ)) (simulated : Result ℕ SimFault)
+    → GivesId id (Ok txn)
     → Simulates txn old new before after simulated → Performs id old new before after (tool_answer simulated)
 performed (Ok wanted) txn old new before after simulated given done = (simulated, subst (λ (t : Qualifiers). Simulates t old new before after simulated) given done, refl)
 performed (Err text) txn old new before after simulated given done = absurd given
 
--- it was performed up to this fault
-pub performed_until : (id : Result Qualifiers TextFault) (txn : Qualifiers) (old new before after : Option (List ℕ)) (fault : SimFault) (tool : ToolFault) → GivesId id (Ok txn)
+-- If the script was performed up to `fault`, the command has that fault.
+pub performed_until : (id : Result Qualifiers TextFault) (txn : Qualifiers) (old new before after : Option (List ℕ)) (fault : SimFault) (tool : ToolFault)
+    → GivesId id (Ok txn)
     → Simulates txn old new before after (Err fault) → tool ≡ sim_fault fault → Performs id old new before after (Err tool)
 performed_until id txn old new before after fault tool given done is =
     subst (λ (f : ToolFault). Performs id old new before after (Err f)) (sym is) (performed id txn old new before after (Err fault) given done)

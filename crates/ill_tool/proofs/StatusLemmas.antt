@@ -13,26 +13,32 @@ use Rattle.ill_tool.specs.Objects.{status_of_desk, status_text, text_of_one}
 use Rattle.ill_tool.specs.Status.{spaced_or_dash}
 use Rattle.ill_tool.proofs.KeepingLemmas.{held_at_place}
 
--- what is put before each text
-all_spaced : {X : Type 0} (text : X → List ℕ) (words : List X) → flat_map (λ word. 32 ∷ text word) words ≡ flat_map (λ word. 32 ∷ word) (map text words)
+-- Texts with a space before each are those of the mapped words with a space before each.
+all_spaced : {X : Type 0} (text : X → List ℕ) (words : List X)
+    → flat_map (λ word. 32 ∷ text word) words ≡ flat_map (λ word. 32 ∷ word) (map text words)
 all_spaced text [] = refl
 all_spaced text (word ∷ words) = ap (λ (more : List ℕ). (32 ∷ text word) ++ more) (all_spaced text words)
 
-pub joined_by_spaces : {X : Type 0} (text : X → List ℕ) (words : List X) → (length words == 0) ≡ false → join_by text (32 ∷ []) words ≡ spaced_or_dash (map text words)
+-- Words that are joined by spaces, if there are any, are their spaced text.
+pub joined_by_spaces : {X : Type 0} (text : X → List ℕ) (words : List X) → (length words == 0) ≡ false
+    → join_by text (32 ∷ []) words ≡ spaced_or_dash (map text words)
 joined_by_spaces text [] some = search some
 joined_by_spaces text (word ∷ words) some = ap (λ (more : List ℕ). text word ++ more) (all_spaced text words)
 
 -- ---- one side after another
 
--- The text of the sides from a place on is that of the one there, and of the others.
-pub one_further : (form : Form) (sides : List DeskEntry) (place : ℕ) → status_of_desk form (drop place sides) ≡ text_of_one form (slice_get sides place) ++ status_of_desk form (drop (suc place) sides)
+-- The text of the sides from `place` on is that of the one there, and of the others.
+pub one_further : (form : Form) (sides : List DeskEntry) (place : ℕ)
+    → status_of_desk form (drop place sides) ≡ text_of_one form (slice_get sides place) ++ status_of_desk form (drop (suc place) sides)
 one_further form [] zero = refl
 one_further form [] (suc place) = refl
 one_further form (held ∷ sides) zero = refl
 one_further form (held ∷ sides) (suc place) = one_further form sides place
 
--- The text of a side at a place is that by its transaction.
-lines_so : (form : Form) (live : DeskContents) (place : ℕ) (side : Side) (released : ℕ) (found : Option DeskEntry) → are_apart (sides_held live).sides ≡ true → slice_get live.held place ≡ found → option_map (λ (held : DeskEntry). held.side) found ≡ Some side
+-- If the entry `found` at `place` has the side `side` and the number `released`, its text is theirs.
+lines_so : (form : Form) (live : DeskContents) (place : ℕ) (side : Side) (released : ℕ) (found : Option DeskEntry)
+    → are_apart (sides_held live).sides ≡ true → slice_get live.held place ≡ found
+    → option_map (λ (held : DeskEntry). held.side) found ≡ Some side
     → released ≡ (held_for (txn_of side) live).released → status_text form side released ≡ text_of_one form found
 lines_so form live place side released (Some held) apart at e counted =
     let is : held.side ≡ side = some_is held.side side e in
@@ -40,14 +46,21 @@ lines_so form live place side released (Some held) apart at e counted =
     ap (status_text form side) (counted ∙ ap (λ (h : DeskEntry). h.released) there) ∙ ap (λ s. status_text form s held.released) (sym is)
 lines_so form live place side released None apart at e counted = absurd (true≢false (sym (ap is_some e)))
 
-no_lines_so : (form : Form) (found : Option DeskEntry) → option_map (λ (held : DeskEntry). held.side) found ≡ None → [] ≡ text_of_one form found
+-- An entry without a side has no text.
+no_lines_so : (form : Form) (found : Option DeskEntry) → option_map (λ (held : DeskEntry). held.side) found ≡ None
+    → [] ≡ text_of_one form found
 no_lines_so form (Some held) e = absurd (true≢false (ap is_some e))
 no_lines_so form None e = refl
 
-pub lines_there : (form : Form) (live : DeskContents) (place : ℕ) (side : Side) (released : ℕ) → are_apart (sides_held live).sides ≡ true → slice_get (sides_held live).sides place ≡ Some side
-    → released ≡ (held_for (txn_of side) live).released → status_text form side released ≡ text_of_one form (slice_get live.held place)
+-- The text of the side at `place`, with the number of its saved messages, is that of the entry there.
+pub lines_there : (form : Form) (live : DeskContents) (place : ℕ) (side : Side) (released : ℕ)
+    → are_apart (sides_held live).sides ≡ true → slice_get (sides_held live).sides place ≡ Some side
+    → released ≡ (held_for (txn_of side) live).released
+    → status_text form side released ≡ text_of_one form (slice_get live.held place)
 lines_there form live place side released apart at counted =
     lines_so form live place side released (slice_get live.held place) apart refl (sym (slice_get-map (λ (held : DeskEntry). held.side) live.held place) ∙ at) counted
 
-pub no_lines_there : (form : Form) (live : DeskContents) (place : ℕ) → slice_get (sides_held live).sides place ≡ None → [] ≡ text_of_one form (slice_get live.held place)
+-- If a desk has no side at `place`, no text is there.
+pub no_lines_there : (form : Form) (live : DeskContents) (place : ℕ) → slice_get (sides_held live).sides place ≡ None
+    → [] ≡ text_of_one form (slice_get live.held place)
 no_lines_there form live place at = no_lines_so form (slice_get live.held place) (sym (slice_get-map (λ (held : DeskEntry). held.side) live.held place) ∙ at)

@@ -1,4 +1,4 @@
--- Taking one APDU after another.
+-- The taking of one APDU after another.
 use Rattle.std.proofs.Common.{◌≡◌, inl, inr, ℕ, ◌≤◌, Bool, true, List, [], ◌∷◌, Option, Result, Ok, Err, refl, ap, subst, ◌∙◌, arith}
 use Rattle.ill_values.specs.declared.apdu.Apdu.{Apdu}
 use Rattle.ill_der.specs.Handling.{Handles, Handled}
@@ -15,26 +15,31 @@ use Rattle.ill_tool.specs.Telling.{Wording}
 use Rattle.ill_tool.specs.Take.{KeepsDesk, Progress, progress, takes_each, answer_of, RunsTaking}
 use Rattle.ill_tool.proofs.InputLemmas.{reads_as}
 
--- ---- what each message keeps, an input keeps
+-- ---- the properties that an input keeps, since each message does
 
+-- If a count has risen from `last` to `after`, it has risen from any number up to `last`.
 risen_from : (before last after : ℕ) → before ≤ last → HasRisen last after → HasRisen before after
 risen_from before last after le is = elim is [
   | inl lt ↦ inl (omega (arith, le, lt))
   | inr most ↦ inr most
 ]
 
-fails_from : (fault : ToolFault) (before last after : ℕ) → before ≤ last → ToolFailsCounted {X = Unit {0}} (Err fault) last after → ToolFailsCounted {X = ℕ} (Err fault) before after
+-- If a failure was counted from `last` on, it was counted from any number up to `last`.
+fails_from : (fault : ToolFault) (before last after : ℕ) → before ≤ last
+    → ToolFailsCounted {X = Unit {0}} (Err fault) last after → ToolFailsCounted {X = ℕ} (Err fault) before after
 fails_from (Desk (desks.Store stores.Failed)) before last after le is = risen_from before last after le is
 fails_from other before last after le is = tt
 
--- reading that stopped is no failure of a store
-unfailing : (fault : ToolFault) (count : ℕ) (bytes ahead : List ℕ) (left : Option (List ℕ)) (before after : ℕ) → StopsReading fault count bytes ahead left → ToolFailsCounted {X = ℕ} (Err fault) before after
+-- A fault that stopped the reading is no failure of a store.
+unfailing : (fault : ToolFault) (count : ℕ) (bytes ahead : List ℕ) (left : Option (List ℕ)) (before after : ℕ)
+    → StopsReading fault count bytes ahead left → ToolFailsCounted {X = ℕ} (Err fault) before after
 unfailing (Desk fault) count bytes ahead left before after stops = absurd stops
 unfailing other count bytes ahead left before after stops = tt
 
--- the desk that is lent, what keeps messages, and the count of the store's failures
+-- The lent keeper, the lent file, and the count of the store's failures.
 module _ {S N M : Type 0} (is_kept : Bool) (handles : Handles S ToolFault) (name : S → N) (came : S → M) (failures : S → ℕ)
     (keeps : (s t : S) (apdu : Apdu) (r : Result (Unit {0}) ToolFault) → handles s apdu r t → KeepsDesk is_kept r (name s) (name t) (came s) (came t) (failures s) (failures t)) where
+  -- APDUs that were handled keep the lent values, and the count of failures never falls.
   handled_keeps : (before after : S) (apdus : List Apdu) → Handled handles before apdus after → ((name after ≡ name before) × (came after ≡ came before)) × (failures before ≤ failures after)
   handled_keeps before after [] is = ((ap name is, ap came is), omega (arith, ap failures is))
   handled_keeps before after (apdu ∷ apdus) is =
@@ -42,6 +47,7 @@ module _ {S N M : Type 0} (is_kept : Bool) (handles : Handles S ToolFault) (name
       let on = handled_keeps is.0 after apdus is.2 in
       ((on.0.0 ∙ one.0.0, on.0.1 ∙ one.0.1), omega (arith, one.1.0, on.1))
 
+  -- An input keeps the lent values, and counts the failures of the store, if each message does.
   pub input_keeps : (old new : Option (List ℕ)) (before after : S) (result : Result ℕ ToolFault) → ReadsInput handles old new before result after
       → KeepsDesk is_kept result (name before) (name after) (came before) (came after) (failures before) (failures after)
   input_keeps old new before after (Ok n) is =
@@ -63,18 +69,20 @@ module _ {S N M : Type 0} (is_kept : Bool) (handles : Handles S ToolFault) (name
 
 -- ---- the command
 
--- an input whose messages are taken on a keeper that is lent, and kept where they are
+-- An input whose messages are taken on a lent keeper, and kept if messages are kept.
 module _ {T D A B C L N W : Type 0} {n m : ℕ} (is_kept : Bool) (told : Wording) (keeping : Keeping L N) (view : T → HeldAndLanded L) (failures : T → ℕ) (kept : D → Option (List ℕ))
     (contents : W → Option (List ℕ)) where
+  -- Returns the state of the command by the state of its handler.
   abbrev how_far : TakesEach T D n m A B C × W → Progress L
   how_far s = progress (view s.0.keeper.now) (kept s.0.came.now) (contents s.1) s.0.all_fine
 
-  -- what is done with each
+  -- A message is taken, and the lent values are kept.
   abbrev pub TakesOn : Handles (TakesEach T D n m A B C × W) ToolFault
   TakesOn s apdu r t =
       takes_each is_kept told keeping (how_far s) apdu r (how_far t)
       × KeepsDesk is_kept r s.0.keeper.ghost_name t.0.keeper.ghost_name s.0.came.ghost_name t.0.came.ghost_name (failures s.0.keeper.now) (failures t.0.keeper.now)
 
+  -- If an input was read by `TakesOn`, the command has taken it, and the lent values are kept.
   pub input_taken : (old new : Option (List ℕ)) (before after : TakesEach T D n m A B C × W) (result : Result ℕ ToolFault) → before.0.all_fine ≡ true → ReadsInput TakesOn old new before result after
       → RunsTaking is_kept told keeping old new (kept before.0.came.now) (kept after.0.came.now) (contents before.1) (contents after.1) (view before.0.keeper.now) (answer_of result after.0.all_fine)
       (view after.0.keeper.now)

@@ -1,4 +1,4 @@
--- What a stable sort by deadlines makes of loans.
+-- A stable sort by deadlines gives the loans with the most urgent first.
 use Rattle.std.proofs.Common.{arith, ◌≡◌, Bool, true, false, List, map, is_none, Option, Some, None, Bor, refl, ap, subst, ◌∙◌, is_lt}
 use Rattle.std.proofs.lemmas.Bool.Decides.{nat_tests}
 use Rattle.std.specs.Cmp.{IsStrictWeakOrder}
@@ -16,7 +16,7 @@ use Rattle.ill_tool.proofs.OrderLemmas.{ordered_mapped, sorted_is_ordered}
 before_one_way : (a b : Date) → is_before a b ≡ true → is_before b a ≡ false
 before_one_way a b first = grind (arith, nat_tests)
 
--- A day that does not come before another does not come before one before which that does not come.
+-- If `a` is not before `b`, and `b` is not before `c`, then `a` is not before `c`.
 before_chain : (a b c : Date) → is_before a b ≡ false → is_before b c ≡ false → is_before a c ≡ false
 before_chain a b c first second = grind (arith, nat_tests)
 
@@ -26,33 +26,35 @@ sooner_one_way None b first = cc
 sooner_one_way (Some a) None first = refl
 sooner_one_way (Some a) (Some b) first = before_one_way a b first
 
--- A deadline that does not come before another does not come before one before which that does not come.
+-- If deadline `a` is not before `b`, and `b` is not before `c`, then `a` is not before `c`.
 sooner_chain : (a b c : Option Date) → is_sooner a b ≡ false → is_sooner b c ≡ false → is_sooner a c ≡ false
 sooner_chain None b c first second = refl
 sooner_chain (Some a) None c first second = cc
 sooner_chain (Some a) (Some b) None first second = cc
 sooner_chain (Some a) (Some b) (Some c) first second = before_chain a b c first second
 
--- Loans are in an order by their deadlines.
+-- The deadlines of loans make a strict weak order.
 urgency_order : IsStrictWeakOrder (λ (side other : Bor Side). is_more_urgent side.now other.now)
 urgency_order = record {
   one_way = λ side other. sooner_one_way (deadline_of side.now) (deadline_of other.now);
   chain = λ side other third. sooner_chain (deadline_of side.now) (deadline_of other.now) (deadline_of third.now);
 }
 
--- the keys of deadlines are in order
+-- Returns true if the key of a deadline comes before that of another one.
 abbrev by_keys : (Date → Date → Ordering) → Option Date → Option Date → Bool
 by_keys cmp a b = is_lt (ordering_then (bool_cmp (is_none a) (is_none b)) (option_cmp cmp a b))
 
 -- The keys of deadlines are in the order of the deadlines.
-by_keys_is : (cmp : Date → Date → Ordering) → ((a b : Date) → is_lt (cmp a b) ≡ is_before a b) → (a b : Option Date) → by_keys cmp a b ≡ is_sooner a b
+by_keys_is : (cmp : Date → Date → Ordering) → ((a b : Date) → is_lt (cmp a b) ≡ is_before a b) → (a b : Option Date)
+    → by_keys cmp a b ≡ is_sooner a b
 by_keys_is cmp same None None = refl
 by_keys_is cmp same None (Some b) = refl
 by_keys_is cmp same (Some a) None = refl
 by_keys_is cmp same (Some a) (Some b) = same a b
 
--- What a stable sort by the keys of their deadlines makes of loans is they with the most urgent first.
-pub sorted_by_urgency : (cmp : Date → Date → Ordering) → ((a b : Date) → is_lt (cmp a b) ≡ is_before a b) → (sides sorted : List (Bor Side))
+-- Loans in a stable sort by the keys of their deadlines are those with the most urgent first.
+pub sorted_by_urgency : (cmp : Date → Date → Ordering) → ((a b : Date) → is_lt (cmp a b) ≡ is_before a b)
+    → (sides sorted : List (Bor Side))
     → IsSortedBy (λ (side other : Bor Side). by_keys cmp (deadline_of side.now) (deadline_of other.now)) sorted
     → IsStableBy (λ (side other : Bor Side). by_keys cmp (deadline_of side.now) (deadline_of other.now)) sides sorted
     → map (λ (side : Bor Side). side.now) sorted ≡ most_urgent_first (map (λ (side : Bor Side). side.now) sides)

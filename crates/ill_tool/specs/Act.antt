@@ -9,15 +9,16 @@ use Rattle.ill_tool.specs.Keeping.{Keeping}
 use Rattle.ill_tool.specs.Performing.{HeldAndLanded, acted, Performs}
 use Rattle.ill_tool.specs.Telling.{side_line, Reports}
 
--- What an action did: it was done and saved; it was refused, and nothing changed; it was done, and the
--- save failed; or memory ran out before it was done, or before it was saved.
+-- One action on the side `key` of `old` has this result and leads to `new`. It was done and saved. Or it was
+-- refused, and nothing changed. Or it was done, and the save failed. Or memory ran out before it was done or
+-- saved.
 abbrev pub ActsAndSaves : {L K : Type 0} → Keeping L K → K → HeldAndLanded L → Action → Result DeskOutcome ToolFault →
     HeldAndLanded L → Type 0
 ActsAndSaves keeping key old action result new =
     Performs keeping (Unit {0}) old (acted old.live (keeping.acts old.live key action)) result new
 
--- The command: its words name an action, which is performed and told; or they name none, and nothing
--- changes. Whether they do may not be known for want of memory.
+-- The command `act`. If the words name an action, it is performed, and its line written. If they name none,
+-- nothing changes. Without memory it may stay open which of both holds.
 abbrev pub RunsAct : {L K : Type 0} → Keeping L K → K → Option Action → HeldAndLanded L → Option (List ℕ) →
     Option (List ℕ) → Result Bool ToolFault → HeldAndLanded L → Type 0
 RunsAct keeping key (Some action) old before after result new =

@@ -1,4 +1,4 @@
--- What the words of a command line say that a side is to do (this profile's own).
+-- The actions that the words of a command line name for a side (this profile's own).
 use Rattle.std.specs.Prelude.{ℕ, Bool, ◌&&◌, not, ◌==◌, if◌then◌else◌, List, length, Option, None, Some, option_map}
 use Rattle.std.specs.List.{list_all, list_any}
 use Rattle.ill_values.specs.Day.{Date}
@@ -8,20 +8,20 @@ use Rattle.ill_saved.specs.declared.side.Action.{Action}
 use Rattle.ill_saved.specs.declared.side.Action.TheVariants.{Wish, Deed}
 use Rattle.ill_world.specs.Words.{wish_of, deed_of}
 
--- a word that a script may have too: not empty, and without a space
+-- Returns true if a script may have `word` too: it is not empty, and has no space.
 abbrev pub is_word : List ℕ → Bool
 is_word word = not (length word == 0) && not (list_any (λ byte. byte == 0x20) word)
 
--- a deed is done on a day, from which due days may be counted
+-- Returns the deed that `words` name on the day `today`, from which due days may be counted.
 abbrev pub deed_on : Option Date → List (List ℕ) → Option Action
 deed_on None words = None
 deed_on (Some today) words = option_map (λ deed. Deed deed today) (deed_of (Some today) words)
 
--- what words say to a side of this role, as they would behind the side in a script
+-- Returns the action that `words` name for this role, as they would after the side in a script.
 abbrev pub action_for : Role → Option Date → List (List ℕ) → Option Action
 action_for Requester today words = option_map Wish (wish_of words)
 action_for Responder today words = deed_on today words
 
--- the action that words name
+-- Returns the action that `words` name for a side of the role `role` on the day `today`.
 unfoldable pub action_named : Role → Option Date → List (List ℕ) → Option Action
 action_named role today words = if list_all is_word words then action_for role today words else None

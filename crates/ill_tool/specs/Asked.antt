@@ -1,4 +1,4 @@
--- What a command line asks for, by what it says behind the word of a command (this profile's own).
+-- The requests of command lines, by the words after the word of a command (this profile's own).
 use Rattle.std.specs.Prelude.{◌≡◌, ℕ, Bool, true, false, ◌||◌, if◌then◌else◌, List, map, codes, Option, None, Some, option_map, is_none, Result, Ok, Err, is_ok}
 use Rattle.std.specs.Result.{result_ok}
 use Rattle.std.specs.Str.{bytes_eq}
@@ -29,77 +29,79 @@ use Rattle.ill_core.specs.State.{state_named}
 
 -- ---- the arguments
 
--- the arguments that were found behind the word of a command
+-- The arguments that were found after the word of a command.
 abbrev pub Found : Type 0
 Found = List Row
 
--- the text of an argument
+-- Returns the text of `argument`, if it is there.
 abbrev pub text_of : Argument → Found → Option (List ℕ)
 text_of argument found = first_of (id_of argument) found
 
--- the role of a desk
+-- Returns the role of a desk.
 abbrev pub role_of : Found → Option Who
 role_of found = text_of Role found >>= who_named
 
--- the transaction of a loan, if an id can have both qualifiers
+-- Returns the transaction of a loan, if an id can have both qualifiers.
 abbrev pub loan_of : Found → Option Qualifiers
 loan_of found = do
   group ← text_of Group found
   transaction ← text_of Transaction found
   result_ok (txn_id_of group transaction)
 
--- a group, if an id can have it
+-- Returns `group`, if an id can have it.
 abbrev pub group_if : Bool → List ℕ → Option (List ℕ)
 group_if true group = Some group
 group_if false group = None
 
+-- Returns the group of an argument, if an id can have it.
 abbrev pub group_of : Found → Option (List ℕ)
 group_of found = text_of Group found >>= λ group. group_if (is_ok (qualifier_check group)) group
 
--- the texts of an argument that has one or more
+-- Returns the texts of an argument that has one or more.
 abbrev pub texts_of : Argument → Found → Option (List (List ℕ))
 texts_of argument found = all_of (id_of argument) found
 
--- a day, or none where none is said
+-- Returns the day that a word says: Some None if there is no word, and None if the word is no day.
 abbrev pub day_said : Option (List ℕ) → Option (Option Date)
 day_said None = Some None
 day_said (Some word) = option_map Some (day_of word)
 
--- a day, which may be left out
+-- Returns the day of `argument`, which may be left out.
 abbrev pub day_in : Argument → Found → Option (Option Date)
 day_in argument found = day_said (text_of argument found)
 
--- the day of a report
+-- Returns the day of a report.
 abbrev pub report_day_of : Found → Option Date
 report_day_of found = text_of ReportDay found >>= day_of
 
--- a state, or none where none is said
+-- Returns the state that a word says: Some None if there is no word, and None if the word is no state.
 abbrev pub state_said : Option (List ℕ) → Option (Option State)
 state_said None = Some None
 state_said (Some word) = option_map Some (state_named word)
 
--- a state, which may be left out
+-- Returns the state of the option, which may be left out.
 abbrev pub state_in : Found → Option (Option State)
 state_in found = state_said (text_of InState found)
 
--- the number of a message
+-- Returns the number of a message.
 abbrev pub number_of_message : Found → Option ℕ
 number_of_message found = text_of Number found >>= number_of
 
--- the text of a flag is `true`, as that of one that stands in the words
+-- Returns true if a flag has the text `true`, as one has that stands in the words.
 abbrev pub is_true : Option (List ℕ) → Bool
 is_true None = false
 is_true (Some text) = bytes_eq text (codes "true")
 
+-- Returns true if the flag `flag` stands in the words.
 abbrev pub is_set : Argument → Found → Bool
 is_set flag found = is_true (text_of flag found)
 
--- those whose turn it is that are listed: of both flags the narrower one holds
+-- Returns the turns of the loans that are listed. Of two flags the narrower one holds.
 abbrev pub which_of : Found → Which
 which_of found =
     if is_set Mine found then loans.Mine else (if is_set Open found then loans.Open else loans.All)
 
--- the loans that are listed: all that is said of them holds
+-- Returns the conditions on the loans that are listed. Each loan meets all of them.
 abbrev pub wanted_of : Found → Option Wanted
 wanted_of found = do
   today ← day_in OnDay found
@@ -107,34 +109,37 @@ wanted_of found = do
   state ← state_in found
   Some (record { which = which_of found; today = today; due_before = due_before; state = state })
 
--- the form in which a command writes
+-- Returns the form in which a command writes.
 abbrev pub form_of : Found → Form
 form_of found = if is_set Json found then forms.Json else forms.Lines
 
--- where an outbox sends, as flag and folder say: into the folder, or to the output
+-- Returns the outlet that flag and folder name: the folder, or None for the output. They must name one of
+-- both.
 abbrev pub outlet : Bool → Option (List ℕ) → Option (Option (List ℕ))
 outlet false (Some folder) = Some (Some folder)
 outlet true None = Some None
 outlet is_stream folder = None
 
+-- Returns the outlet that the words name.
 abbrev pub outlet_of : Found → Option (Option (List ℕ))
 outlet_of found = outlet (is_set Stream found) (text_of OutFolder found)
 
--- what a responder says of days that have passed
+-- Returns the deeds that the words ask of a responder.
 abbrev pub wanted_dates : Found → Dates
 wanted_dates found = record { overdue = is_set Overdue found; expire = is_set Expire found }
 
--- on a day, which has to be there if something is said
+-- Returns the day and the deeds, if there are deeds. Then the day must be there.
 abbrev pub dates_on : Dates → Option Date → Option (Option (Date × Dates))
 dates_on dates None = if dates.overdue || dates.expire then None else Some None
 dates_on dates (Some today) = if dates.overdue || dates.expire then Some (Some (today, dates)) else Some None
 
+-- Returns the day and the deeds that the words ask for, if there are deeds.
 abbrev pub dates_of : Found → Option (Option (Date × Dates))
 dates_of found = day_in NightDay found >>= dates_on (wanted_dates found)
 
 -- ---- the commands
 
--- what is asked for
+-- The request of a command line.
 pub data Asked : Type 0 where
   Show : (form : Form) → Asked
   Check : Asked
@@ -155,7 +160,7 @@ pub data Asked : Type 0 where
   Retire : (file group : List ℕ) → Asked
   Verify : (file : List ℕ) → Asked
 
--- what a request asks for
+-- Returns the request that `Request` holds.
 abbrev pub asked : Request → Asked
 asked (requests.Show form) = Show form
 asked requests.Check = Check
@@ -178,7 +183,7 @@ asked (requests.Report paths today) = Report (map (λ path. path.now) paths.item
 asked (requests.Retire file group) = Retire file.now group.now
 asked (requests.Verify file) = Verify file.now
 
--- what a command asks for with these arguments, if each is what it has to be
+-- Returns the request of a command with these arguments, if each is right.
 abbrev pub asked_of : Name → Found → Option Asked
 asked_of names.Show found = Some (Show (form_of found))
 asked_of names.Check found = Some Check
@@ -242,25 +247,25 @@ asked_of names.Verify found = do
   file ← text_of File found
   Some (Verify file)
 
--- what is asked for by a word and the arguments behind it
+-- Returns the request of the command `word` with these arguments.
 abbrev pub asked_by : List ℕ → Found → Option Asked
 asked_by word found = name_read word >>= λ name. asked_of name found
 
--- the same, if there is a word
+-- Returns the request of a word with its arguments, if there is a word.
 abbrev pub asked_in : Option (Text × Found) → Option Asked
 asked_in None = None
 asked_in (Some said) = asked_by said.0 said.1
 
--- ---- what comes of reading them
+-- ---- the reading of the words
 
--- A refusal is right: nothing is asked for, or memory ran out.
+-- A refusal is right: the words have no request (`is_nothing`), or memory ran out.
 abbrev pub IsRefusal : Bool → Refusal → Type 0
 IsRefusal is_nothing (Usage error) = is_nothing ≡ true
 IsRefusal is_nothing (Fault Arguments) = is_nothing ≡ true
 IsRefusal is_nothing (Fault OutOfMemory) = Unit {0}
 IsRefusal is_nothing (Fault other) = ⊥
 
--- The value that the arguments say was read; or they say none, or memory ran out for it.
+-- The value was read that the arguments say; or they say none, or memory ran out for it.
 abbrev pub ReadsValue : {A B : Type 0} → (B → A) → Option A → Result B Refusal → Type 0
 ReadsValue value said (Ok read) = said ≡ Some (value read)
 ReadsValue value said (Err refusal) = IsRefusal (is_none said) refusal

@@ -1,4 +1,4 @@
--- The words that a command line has for commands, and what `clap` calls their arguments.
+-- The words of commands in a command line, and the names that `clap` has for their arguments.
 use Rattle.std.specs.Prelude.{ℕ, List, [], ◌∷◌, codes, Option, find, bytes_eq}
 use Rattle.ill_tool.specs.declared.command_line.Name.{Name}
 use Rattle.ill_tool.specs.declared.command_line.Name.TheVariants.{New, Act, Take, Inbox, Outbox, Exchange, Send, Status, Loan, Report, Retire, Verify, Show, Check, Simulate, SimulateDesks}
@@ -6,7 +6,7 @@ use Rattle.ill_tool.specs.declared.command_line.Name.TheVariants as names
 use Rattle.ill_tool.specs.declared.command_line.Argument.{Argument}
 use Rattle.ill_tool.specs.declared.command_line.Argument.TheVariants.{NewFile, File, Folder, Role, Group, Transaction, Today, Words, Number, Long, Keep, Picture, Open, Mine, Json, Paths, OnDay, DueBefore, InState, ReportDay, OutFolder, Stream, In, Out, NightDay, Overdue, Expire, Copy, Beat, NewGroup}
 
--- the word of a command
+-- Returns the word of a command.
 abbrev pub word_of : Name → List ℕ
 word_of New = codes "new"
 word_of Act = codes "act"
@@ -26,13 +26,13 @@ word_of Check = codes "check"
 word_of Simulate = codes "simulate"
 word_of SimulateDesks = codes "simulate-desks"
 
--- the command that a word stands for
+-- Returns the command that `word` stands for.
 abbrev pub name_read : List ℕ → Option Name
 name_read word = find (λ name. bytes_eq (word_of name) word)
     (New ∷ Act ∷ names.List ∷ Loan ∷ Status ∷ Report ∷ Take ∷ Send ∷ Inbox ∷ Outbox ∷ Exchange ∷ Verify ∷ Show ∷ Check
     ∷ Simulate ∷ SimulateDesks ∷ Retire ∷ [])
 
--- what an argument is called
+-- Returns the name that `clap` has for an argument.
 abbrev pub id_of : Argument → List ℕ
 id_of NewFile = codes "FILE"
 id_of File = codes "FILE"

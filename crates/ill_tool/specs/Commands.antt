@@ -1,5 +1,5 @@
--- What each command does, by what is asked for. A desk is that which was loaded from a file: nothing is
--- known of what a file holds.
+-- The effect of each command, by its request. A desk is one that was loaded from a file: nothing is known of
+-- the content of a file.
 use Rattle.std.specs.Prelude.{◌≡◌, ◌⊎◌, ℕ, Bool, true, false, not, if◌then◌else◌, nat_lt, List, ◌++◌, length, map, codes, Option, None, Some, is_some, Result, Ok, Err, IsErrAnd}
 use Rattle.std.specs.Io.KnownBytes.{Appends}
 use Rattle.ill_values.specs.Day.{Date}
@@ -44,31 +44,31 @@ use Rattle.ill_tool.specs.Objects.{status_of_desk}
 use Rattle.ill_tool.specs.Asked.{Asked}
 use Rattle.ill_tool.specs.Asked as asks
 
--- all went well, unless there was a fault
+-- Returns true, unless there was a fault.
 abbrev pub all_well : {A : Type 0} → Result A ToolFault → Result Bool ToolFault
 all_well (Ok answer) = Ok true
 all_well (Err fault) = Err fault
 
--- all went well where an engine did, which answered one of these
+-- All went well if an engine did, which gave one of `Answers`.
 abbrev pub GoesWell : {A : Type 0} → (Result A ToolFault → Type 0) → Result Bool ToolFault → Type 0
 GoesWell {A} Answers result = (answer : Result A ToolFault) × Answers answer × (result ≡ all_well answer)
 
--- one of the faults with which a file is not opened, or its lock is not had
+-- One of the faults with which a file is not opened, or its lock is not taken.
 abbrev pub IsOpenFault : ToolFault → Type 0
 IsOpenFault (Desk fault) = Unit {0}
 IsOpenFault OutOfMemory = Unit {0}
 IsOpenFault other = ⊥
 
--- the file was not opened, or its lock was not had, and nothing was written
+-- The file was not opened, or its lock was not taken, and nothing was written.
 abbrev pub IsShut : {A : Type 0} → Option (List ℕ) → Option (List ℕ) → Result A ToolFault → Type 0
 IsShut before after result = IsErrAnd result IsOpenFault × (after ≡ before)
 
--- a desk was begun
+-- A desk was begun; or a file was shut.
 abbrev pub NewAtFile : Option (List ℕ) → Option (List ℕ) → Result Bool ToolFault → Type 0
 NewAtFile before after result =
     IsShut before after result ⊎ GoesWell (RunsNew (codes "done\n") before after) result
 
--- these words were performed in this transaction, on this day, at a desk
+-- The action of `words` was performed in `txn` at a desk, on the day `today`; or its file was shut.
 abbrev pub ActsAtFile : Qualifiers → Option Date → List (List ℕ) → Option (List ℕ) → Option (List ℕ) →
     Result Bool ToolFault → Type 0
 ActsAtFile txn today words before after result =
@@ -76,7 +76,8 @@ ActsAtFile txn today words before after result =
     ⊎ ((old : HeldAndLanded DeskContents) × (new : HeldAndLanded DeskContents)
     × RunsAct many_sides txn (action_named old.live.role today words) old before after result new)
 
--- the APDUs of the input were taken at a desk, and kept where that is asked for, and told in long words or short ones
+-- The APDUs of the input were taken at a desk. They were kept if `is_kept`, and told at length if `is_long`.
+-- Or its file was shut.
 abbrev pub TakesAtFile : Bool → Bool → Option (List ℕ) → Option (List ℕ) → Option (List ℕ) → Option (List ℕ) →
     Result Bool ToolFault → Type 0
 TakesAtFile is_kept is_long left rest before after result =
@@ -84,12 +85,13 @@ TakesAtFile is_kept is_long left rest before after result =
     ⊎ ((old : HeldAndLanded DeskContents) × (new : HeldAndLanded DeskContents)
     × RunsTaking is_kept (wording is_long) many_sides left rest None None before after old result new)
 
--- the mails of a night and their verdicts, and how many further mails wait
+-- The mails of a night and their verdicts, and the number of further mails that wait.
 pub record Night : Type 0 where
   pub verdicts : List Verdict
   pub mails : List Mail
   pub waiting : ℕ
 
+-- Returns the night that a run has taken.
 abbrev pub taken_of : Taken → Night
 taken_of taken = record {
   verdicts = taken.verdicts.items;
@@ -97,13 +99,15 @@ taken_of taken = record {
   waiting = taken.found.waiting;
 }
 
--- A run has ended with these verdicts, and their files were settled, or why they were not; or it has its fault.
+-- A run has ended with these verdicts, and the files of its mails were settled, or could not be. Or it has
+-- its fault.
 abbrev pub SettlesRun : List Mail → ℕ → Result (List Verdict) ToolFault → Result Night ToolFault → Type 0
 SettlesRun mails waiting (Ok verdicts) result =
     (result ≡ Ok (record { verdicts = verdicts; mails = mails; waiting = waiting })) ⊎ IsErrAnd result IsFileFault
 SettlesRun mails waiting (Err fault) result = result ≡ Err fault
 
--- The mails of a folder, with so many more waiting, were taken at a desk, and their files settled.
+-- The mails of a folder were taken at a desk, with a number of further ones, and their files settled. Or a
+-- file was shut.
 abbrev pub TakesMails : HeldAndLanded DeskContents → Option (List ℕ) → Option (List ℕ) →
     Result Night ToolFault → HeldAndLanded DeskContents → Type 0
 TakesMails old before after result new =
@@ -112,57 +116,59 @@ TakesMails old before after result new =
     × RunsInbox many_sides mails waiting None None before after old answer new
     × SettlesRun mails waiting answer result)
 
--- what a run comes to
+-- Returns the ending of a run.
 abbrev pub ending_of : Result Night ToolFault → Result Bool ToolFault
 ending_of (Ok night) = ending (tally_of night.verdicts) night.waiting
 ending_of (Err fault) = Err fault
 
--- the mails of a folder were taken at a desk
+-- The mails of a folder were taken at a desk; or a file was shut.
 abbrev pub InboxAtFile : Option (List ℕ) → Option (List ℕ) → Result Bool ToolFault → Type 0
 InboxAtFile before after result =
     IsShut before after result
     ⊎ ((old new : HeldAndLanded DeskContents) × (taken : Result Night ToolFault)
     × TakesMails old before after taken new × (result ≡ ending_of taken))
 
--- The messages that want sending were put into a folder, of which nothing is known, and their number was written.
+-- The messages that want sending were put into a folder, of which nothing is known, and their number was
+-- written. Or a file was shut.
 abbrev pub SendsTo : List DeskEntry → Option (List ℕ) → Option (List ℕ) → Result (Unit {0}) ToolFault → Type 0
 SendsTo held before after result =
     (IsErrAnd result IsOpenFault × (after ≡ before))
     ⊎ ((bytes : List ℕ) × (asking : List Apdu) × AreIn bytes asking
     × WritesText before after (sent_line (length (letters_of asking held))) result)
 
--- The messages that want sending were written, one behind another.
+-- The messages that want sending were written, one after another; or a file was shut.
 abbrev pub SendsOn : List DeskEntry → Option (List ℕ) → Option (List ℕ) → Result (Unit {0}) ToolFault → Type 0
 SendsOn held before after result =
     IsShut before after result ⊎ ((bytes : List ℕ) × StreamsOutbox bytes held before after result)
 
--- the messages of a desk left, into a folder or to the output
+-- The messages of a desk left: into a folder if the flag is set, else to the output.
 abbrev pub SendsFrom : Bool → List DeskEntry → Option (List ℕ) → Option (List ℕ) → Result (Unit {0}) ToolFault → Type 0
 SendsFrom true = SendsTo
 SendsFrom false = SendsOn
 
+-- The messages of a desk left, and all went well, or its file is shut.
 abbrev pub OutboxAtFile : Bool → Option (List ℕ) → Option (List ℕ) → Result Bool ToolFault → Type 0
 OutboxAtFile has_folder before after result =
     IsShut before after result ⊎ ((held : List DeskEntry) × GoesWell (SendsFrom has_folder held before after) result)
 
--- what the date says was said, and saved, if something of it is wanted
+-- The deeds of the day were performed, and saved, if a day is there.
 abbrev pub SaysDates : Option (Date × Dates) → Option (List ℕ) → Option (List ℕ) → HeldAndLanded DeskContents →
     Result (Unit {0}) ToolFault → HeldAndLanded DeskContents → Type 0
 SaysDates None before after old result new = (result ≡ Ok tt) × (after ≡ before) × (new ≡ old)
 SaysDates (Some (today, which)) before after old result new = RunsDates which today before after old result new
 
--- what a night comes to: mails stay, or something wants a person, or all is well
+-- Returns the ending of a night: a fault if mails stay, false if something wants a person, else true.
 abbrev pub night_ending : Role → Night → Result Bool ToolFault
 night_ending role night =
     if is_waiting (tally_of night.verdicts) night.waiting then Err Left
     else Ok (not (wants_person role (zip night.mails night.verdicts)))
 
--- The messages have left, and a night comes to this end, or its sign of life failed; or they have not left.
+-- The messages have left, and a night has this ending, or its sign of life failed. Or they have not left.
 abbrev pub Departs : Result Bool ToolFault → Result (Unit {0}) ToolFault → Result Bool ToolFault → Type 0
 Departs ending (Ok done) result = (result ≡ ending) ⊎ IsErrAnd result IsFileFault
 Departs ending (Err fault) result = result ≡ Err fault
 
--- A night goes on once its day was said: the desk is copied, and then what it holds leaves. If it cannot be copied
+-- A night after the deeds of its day: the desk is copied, and then its messages leave. If the copy fails,
 -- nothing leaves.
 abbrev pub SendsAll : Result Bool ToolFault → List DeskEntry → Option (List ℕ) → Option (List ℕ) →
     Result (Unit {0}) ToolFault → Result Bool ToolFault → Type 0
@@ -171,7 +177,8 @@ SendsAll ending held before after (Ok done) result =
     (IsErrAnd result IsFileFault × (after ≡ before))
     ⊎ ((sent : Result (Unit {0}) ToolFault) × SendsTo held before after sent × Departs ending sent result)
 
--- A night goes on once its mails were taken. If that failed, nothing else is done.
+-- A night after its mails were taken: the deeds of the day, and then the sending. If the mails could not be
+-- taken, nothing else is done.
 abbrev pub GoesOn : Option (Date × Dates) → Result Night ToolFault → Option (List ℕ) → Option (List ℕ) →
     HeldAndLanded DeskContents → Result Bool ToolFault → HeldAndLanded DeskContents → Type 0
 GoesOn dates (Err fault) before after old result new = (result ≡ Err fault) × (after ≡ before) × (new ≡ old)
@@ -179,31 +186,32 @@ GoesOn dates (Ok night) before after old result new =
     (between : Option (List ℕ)) × (said : Result (Unit {0}) ToolFault) × SaysDates dates before between old said new
     × SendsAll (night_ending new.live.role night) new.live.held between after said result
 
--- a night of a desk: its mails were taken, what the date says was said, and its messages left
+-- A night of a desk: its mails were taken, the deeds of the day were performed, and its messages left.
 abbrev pub ExchangesAt : Option (Date × Dates) → HeldAndLanded DeskContents → Option (List ℕ) → Option (List ℕ) →
     Result Bool ToolFault → HeldAndLanded DeskContents → Type 0
 ExchangesAt dates old before after result new =
     (met : HeldAndLanded DeskContents) × (between : Option (List ℕ)) × (taken : Result Night ToolFault)
     × TakesMails old before between taken met × GoesOn dates taken between after met result new
 
+-- A night of the desk in a file, or the file is shut.
 abbrev pub ExchangesAtFile : Option (Date × Dates) → Option (List ℕ) → Option (List ℕ) → Result Bool ToolFault → Type 0
 ExchangesAtFile dates before after result =
     IsShut before after result
     ⊎ ((old : HeldAndLanded DeskContents) × (new : HeldAndLanded DeskContents) × ExchangesAt dates old before after result new)
 
--- the message with this number was written, of this transaction at a desk
+-- The message `number` of `txn` at a desk was written; or a file was shut.
 abbrev pub SendsAtFile : Qualifiers → ℕ → Option (List ℕ) → Option (List ℕ) → Result Bool ToolFault → Type 0
 SendsAtFile txn number before after result =
     IsShut before after result
     ⊎ ((held : List DeskEntry) × GoesWell (RunsSend (found_by txn_held txn held) number before after) result)
 
--- what a desk holds was written in this form
+-- The sides of a desk were written in this form; or a file was shut.
 abbrev pub ShowsFile : Form → Option (List ℕ) → Option (List ℕ) → Result Bool ToolFault → Type 0
 ShowsFile form before after result =
     IsShut before after result
     ⊎ ((held : List DeskEntry) × GoesWell (WritesText before after (status_of_desk form held)) result)
 
--- the sides of a desk that are wanted were listed, as the first desk or behind another
+-- The wanted sides of a desk were listed. If `is_first`, no desk stands before it. Or its file was shut.
 abbrev pub ListsDesk : Form → Wanted → (is_first is_headed : Bool) → List ℕ → Option (List ℕ) → Option (List ℕ) →
     Result (Unit {0}) ToolFault → Type 0
 ListsDesk form wanted is_first is_headed path before after result =
@@ -211,11 +219,11 @@ ListsDesk form wanted is_first is_headed path before after result =
     ⊎ ((sides : List Side)
     × WritesText before after (between form is_first ++ listed_desk form is_headed wanted path sides) result)
 
--- several desks are listed
+-- Returns true if several desks are listed.
 abbrev pub are_several : List (List ℕ) → Bool
 are_several files = nat_lt 1 (length files)
 
--- The desks in these files were listed, one behind another; or some of them, and the next was not.
+-- The desks in these files were listed, one after another; or some of them, and the next was not.
 abbrev pub ListsDesks : Form → Wanted → List (List ℕ) → Option (List ℕ) → Option (List ℕ) →
     Result (Unit {0}) ToolFault → Type 0
 ListsDesks form wanted files before after (Ok done) =
@@ -226,33 +234,33 @@ ListsDesks form wanted files before after (Err fault) =
     × (path : List ℕ) × Appends before middle (listed_desks form (are_several files) wanted desks)
     × ListsDesk form wanted is_first is_headed path middle after (Err fault)
 
--- the desks at paths were listed: those in these files
+-- The desks at paths were listed: those in some files; or a file was shut.
 abbrev pub ListsPaths : Form → Wanted → Option (List ℕ) → Option (List ℕ) → Result Bool ToolFault → Type 0
 ListsPaths form wanted before after result =
     IsShut before after result
     ⊎ ((files : List (List ℕ)) × GoesWell (ListsDesks form wanted files before after) result)
 
--- this transaction at a desk was shown, or drawn, with the messages that came
+-- The transaction `txn` at a desk was shown, or drawn, with the messages that came; or a file was shut.
 abbrev pub LoanAtFile : Form → Bool → Qualifiers → Option (List ℕ) → Option (List ℕ) → Result Bool ToolFault → Type 0
 LoanAtFile form is_picture txn before after result =
     IsShut before after result
     ⊎ ((held : List DeskEntry) × (came : List ℕ)
     × GoesWell (RunsKeptLoan (drawn_or_shown form is_picture) (found_by txn_held txn held) came before after) result)
 
--- what the record in a file has was written, or the fault of what its store gave
+-- The lines of the record in a file were written, or the fault of its store returned; or the file was shut.
 abbrev pub VerifiesFile : Option (List ℕ) → Option (List ℕ) → Result Bool ToolFault → Type 0
 VerifiesFile before after result =
     IsShut before after result
     ⊎ ((loaded : Result (Option (List ℕ)) StoreFault) × GoesWell (VerifiesLoaded loaded before after) result)
 
--- a page of the desks at paths was written
+-- A page of the desks at paths was written; or a file was shut.
 abbrev pub ReportsPaths : Date → Option (List ℕ) → Option (List ℕ) → Result Bool ToolFault → Type 0
 ReportsPaths today before after result =
     IsShut before after result
     ⊎ ((desks : List (List ℕ × List Side)) × GoesWell (WritesText before after (report_page today desks)) result)
 
--- A command, from what the reader had left to what it has left, and from what the writer held to what it
--- holds. A group is retired on a shelf alone.
+-- A command, from the input `left` to `rest`, and from the output `before` to `after`. Only a shelf retires a
+-- group.
 abbrev pub Runs : Asked → Option (List ℕ) → Option (List ℕ) → Option (List ℕ) → Option (List ℕ) →
     Result Bool ToolFault → Type 0
 Runs (asks.Show form) left rest before after result = GoesWell (RunsShow form left rest before after) result

@@ -5,12 +5,12 @@ use Rattle.ill_saved.specs.declared.store.StoreFault.TheVariants.{Failed}
 use Rattle.ill_tool.specs.declared.fault.ToolFault.{ToolFault}
 use Rattle.ill_tool.specs.declared.fault.ToolFault.TheVariants.{Desk, OutOfMemory}
 
--- this record has landed, in a store of which that is known
+-- Returns the content of a store in which `bytes` have landed, if that content is known.
 abbrev pub lands : List ℕ → Option (Option (List ℕ)) → Option (Option (List ℕ))
 lands bytes old = option_map (λ _. Some bytes) old
 
--- What has landed in a store to which this record was copied. If that failed, the old record has landed or this one. If
--- memory ran out, the old one has.
+-- The content of a store after a copy of `bytes` to it. If the copy failed, the old record has landed or this
+-- one. If memory ran out, the old one has.
 abbrev pub Copies : List ℕ → Option (Option (List ℕ)) → Result (Unit {0}) ToolFault → Option (Option (List ℕ)) → Type 0
 Copies bytes old (Ok done) new = new ≡ lands bytes old
 Copies bytes old (Err (Desk (desks.Store Failed))) new = (new ≡ old) ⊎ (new ≡ lands bytes old)

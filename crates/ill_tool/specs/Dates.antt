@@ -1,5 +1,5 @@
--- The deeds that a day asks a responder for: it tells of the loans that are overdue, and ends the requests whose last
--- day is past (this profile's own).
+-- The deeds that a day asks a responder for: it tells of overdue loans, and ends requests whose last day is
+-- past (this profile's own).
 use Rattle.std.specs.Prelude.{ℕ, Bool, true, ◌&&◌, if◌then◌else◌, List, [], ◌∷◌, ◌++◌, fold, Option, None, Some, option_map, Result, Ok, Err}
 use Rattle.std.specs.List.{filter_map, flat_map}
 use Rattle.ill_values.specs.Day.{Date}
@@ -26,85 +26,86 @@ use Rattle.ill_tool.specs.Performing.{HeldAndLanded, has_any, Run, EndsRun}
 use Rattle.ill_tool.specs.Telling.{as_told, done_line}
 use Rattle.ill_tool.specs.Waiting.{is_sooner}
 
--- ---- which loans have which deed
+-- ---- the deed of a loan
 
--- the item is out, and its due date is before this day
+-- Returns true if the item is out, and its due date is before the day `today`.
 abbrev pub is_overdue : Date → State → Option Date → Bool
 is_overdue today state due = is_among (Shipped ∷ RenewPending ∷ []) state && is_sooner due (Some today)
 
--- the request may still expire, if it has a last day
+-- Returns true if a request in this state may still expire.
 abbrev pub may_expire : State → Bool
 may_expire state = is_among (InProcess ∷ Conditional ∷ []) state
 
--- the deed that a day asks for in a loan of a responder, in this state and with this due date
+-- Returns the deed that a day asks for in a responder's loan, by its state and its due date.
 abbrev pub deed_at : Dates → Date → State → Option Date → Option Deed
 deed_at which today state due =
     if which.overdue && is_overdue today state due then Some deeds.Overdue
     else if which.expire && may_expire state then Some deeds.Expire
     else None
 
--- the same in a loan of this role: a requester has no deeds
+-- Returns the deed that a day asks for in a loan of this role. A requester has no deeds.
 abbrev pub deed_of_role : Dates → Date → Role → State → Option Date → Option Deed
 deed_of_role which today Requester state due = None
 deed_of_role which today Responder state due = deed_at which today state due
 
--- the deed that a day asks for in a loan
+-- Returns the deed that a day asks for in the loan of `side`.
 abbrev pub deed_by_date : Dates → Date → Side → Option Deed
 deed_by_date which today side = deed_of_role which today (role_of side) (state_of side) (due_date_of side)
 
--- the same, with the transaction
+-- Returns the deed that a day asks for in the loan of `side`, with its transaction.
 abbrev pub due_in : Dates → Date → Side → Option Due
 due_in which today side =
     option_map (λ deed. record { txn = txn_of side; deed = deed }) (deed_by_date which today side)
 
--- the same in the loan at a place, if there is one
+-- Returns the deed that a day asks for in the loan at a place, if there is a loan.
 abbrev pub due_at : Dates → Date → Option Side → Option Due
 due_at which today None = None
 due_at which today (Some side) = due_in which today side
 
--- the deeds that a day asks for in all loans, in their order
+-- Returns the deeds that a day asks for in all loans, in their order.
 abbrev pub all_due : Dates → Date → List Side → List Due
 all_due which today sides = filter_map (due_in which today) sides
 
 -- ---- one deed after another
 
--- how far the deeds are: what is held, and those that were done
+-- The sides that are held after some deeds, and the deeds that were done.
 pub record Doing (L : Type 0) : Type 0 where
   pub live : L
   pub done : List Due
 
+-- Returns the record of these sides and deeds.
 abbrev pub doing : {L : Type 0} → L → List Due → Doing L
 doing live done = record { live = live; done = done }
 
--- A deed was done; or it was refused, and nothing changed.
+-- The state after a deed: it was done, or it was refused and nothing changed.
 abbrev pub after_act : {L : Type 0} → Due → Result L DeskFault → Doing L → Doing L
 after_act due (Ok live) old = doing live (old.done ++ due ∷ [])
 after_act due (Err fault) old = old
 
--- after a deed on this day
+-- The state after the deed `due` on the day `today`.
 abbrev pub after_deed : {L : Type 0} → Keeping L Qualifiers → Date → Doing L → Due → Doing L
 after_deed keeping today old due =
     after_act due (keeping.acts old.live due.txn (actions.Deed due.deed today)) old
 
--- after all deeds, in their order
+-- The state after all deeds `dues`, in their order.
 abbrev pub after_deeds : {L : Type 0} → Keeping L Qualifiers → Date → L → List Due → Doing L
 after_deeds keeping today live dues = fold (after_deed keeping today) (doing live []) dues
 
--- ---- what is told
+-- ---- the lines
 
--- the line of a deed that was done, with how its loan stands once all is saved
+-- Returns the line of a deed that was done, with how its loan stands once all is saved.
 abbrev pub deed_line : {L : Type 0} → Keeping L Qualifiers → L → Due → List ℕ
 deed_line keeping live due =
     word due.txn.group ++ (word due.txn.transaction ++ (word (verb_name (deed_verb due.deed))
     ++ done_line (as_told true (keeping.side_for due.txn live))))
 
--- the lines of all that were done
+-- Returns the lines of all deeds that were done.
 abbrev pub deed_lines : {L : Type 0} → Keeping L Qualifiers → L → List Due → List ℕ
 deed_lines keeping live done = flat_map (deed_line keeping live) done
 
 -- ---- the run
 
--- what the deeds come to
+-- Returns the run that the deeds make.
 abbrev pub deeds_run : {L : Type 0} → Keeping L Qualifiers → Doing L → Run L (Unit {0})
 deeds_run keeping end = record {
   live = end.live;
@@ -113,13 +114,13 @@ deeds_run keeping end = record {
   answer = tt;
 }
 
--- A run of deeds on a day, from what the writer held to what it holds, and from what was known to what is known.
+-- A run of the deeds `dues` on the day `today`, from output `before` to `after`, and from `old` to `new`.
 abbrev pub RunsDeeds : {L : Type 0} → Keeping L Qualifiers → Date → List Due → Option (List ℕ) → Option (List ℕ) →
     HeldAndLanded L → Result (Unit {0}) ToolFault → HeldAndLanded L → Type 0
 RunsDeeds keeping today dues before after old result new =
     EndsRun keeping (deeds_run keeping (after_deeds keeping today old.live dues)) before after old result new
 
--- The same at a desk, of all deeds that the day asks for.
+-- A run at a desk of all deeds that the day asks for.
 abbrev pub RunsDates : Dates → Date → Option (List ℕ) → Option (List ℕ) → HeldAndLanded DeskContents →
     Result (Unit {0}) ToolFault → HeldAndLanded DeskContents → Type 0
 RunsDates which today before after old result new =

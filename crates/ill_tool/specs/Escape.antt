@@ -1,69 +1,72 @@
--- A text of UTF-8 on which no terminal acts, for a screen or in JSON: a character that one may act on is written as
--- an escape, as `\u{202e}` or `\u202e`.
+-- A text of UTF-8 on which no terminal acts, for a screen or in JSON. Each character that one may act on is
+-- written as an escape, such as `\u{202e}` or `\u202e`.
 use Rattle.std.specs.Prelude.{◌≡◌, ◌≤◌, ℕ, ◌+◌, ◌-◌, ◌*◌, ◌/◌, ◌%◌, nat_lt, nat_le, Bool, false, ◌&&◌, ◌||◌, ◌==◌, if◌then◌else◌, List, [], ◌∷◌, ◌++◌, length, codes, Option, Some, None}
 use Rattle.std.specs.Fmt.{digits}
 use Rattle.ill_tool.specs.declared.escape.Escaping.{Escaping}
 use Rattle.ill_tool.specs.declared.escape.Escaping.TheVariants.{Screen, Json}
 
+-- Returns true if `number` lies between `first` and `last`.
 abbrev pub is_within : ℕ → ℕ → ℕ → Bool
 is_within first last number = nat_le first number && nat_le number last
 
--- A terminal may act on the control characters behind ASCII, U+0080 to U+009F, and on the marks that turn the
--- direction of a text.
+-- Returns true if a terminal may act on a character. It may on the controls U+0080 to U+009F, and on the
+-- marks that turn the direction of a text.
 abbrev pub is_acting : ℕ → Bool
 is_acting number =
     is_within 0x80 0x9F number || (number == 0x61C || (is_within 0x200E 0x200F number
     || (is_within 0x202A 0x202E number || is_within 0x2066 0x2069 number)))
 
--- the number of a character, by its two bytes or its three
+-- Returns the number of a character of two bytes.
 abbrev pub number_of_two : ℕ → ℕ → ℕ
 number_of_two first second = (first - 0xC0) * 64 + (second - 0x80)
 
+-- Returns the number of a character of three bytes.
 abbrev pub number_of_three : ℕ → ℕ → ℕ → ℕ
 number_of_three first second third =
     (first - 0xE0) * 4096 + ((second - 0x80) * 64 + (third - 0x80))
 
--- a byte behind the first of a character
+-- Returns true if a byte may follow the first byte of a character.
 abbrev pub goes_on : ℕ → Bool
 goes_on byte = is_within 0x80 0xBF byte
 
--- two bytes, or three, are a character that a terminal may act on
+-- Returns true if two bytes are a character that a terminal may act on.
 abbrev pub two_act : ℕ → ℕ → Bool
 two_act first second =
     is_within 0xC0 0xDF first && (goes_on second && is_acting (number_of_two first second))
 
+-- Returns true if three bytes are a character that a terminal may act on.
 abbrev pub three_act : ℕ → ℕ → ℕ → Bool
 three_act first second third =
     is_within 0xE0 0xEF first
     && (goes_on second && (goes_on third && is_acting (number_of_three first second third)))
 
--- a digit in hexadecimal
+-- Returns a digit in hexadecimal.
 abbrev pub hex : ℕ → List ℕ
 hex digit = digits 16 false digit
 
--- The escape of a character, by its number: for a screen its hexadecimal digits between braces, and in JSON
--- (RFC 8259, section 7) four of them.
+-- Returns the escape of a character, by its number. For a screen it has hexadecimal digits between braces,
+-- and in JSON (RFC 8259, section 7) four of them.
 abbrev pub escape : Escaping → ℕ → List ℕ
 escape Screen number = codes "\\u{" ++ digits 16 false number ++ codes "}"
 escape Json number =
     codes "\\u" ++ hex (number / 4096 % 16) ++ hex (number / 256 % 16) ++ hex (number / 16 % 16) ++ hex (number % 16)
 
--- In a string of JSON a quotation mark and a backslash stand behind a backslash.
+-- Returns true for a quotation mark and a backslash: in a string of JSON a backslash stands before them.
 abbrev pub is_marked : ℕ → Bool
 is_marked byte = (byte == 0x22) || (byte == 0x5C)
 
--- a control character of ASCII
+-- Returns true for a control character of ASCII.
 abbrev pub is_control : ℕ → Bool
 is_control byte = nat_lt byte 0x20 || (byte == 0x7F)
 
--- A byte that is none of a character behind ASCII on which a terminal may act. A control character of ASCII, which a
--- path may have, is written as an escape.
+-- Returns the text of a byte that begins no character on which a terminal may act. A control character of
+-- ASCII, which a path may have, is written as an escape.
 abbrev pub byte_text : Escaping → ℕ → List ℕ
 byte_text Screen byte = if is_control byte then escape Screen byte else byte ∷ []
 byte_text Json byte =
     if is_marked byte then 0x5C ∷ byte ∷ [] else (if is_control byte then escape Json byte else byte ∷ [])
 
--- The text, with an escape for each character that a terminal may act on, and all else by its bytes.
+-- Returns a text with an escape for each character that a terminal may act on. Other bytes stay.
 unfoldable pub written : Escaping → List ℕ → List ℕ
 written escaping (first ∷ second ∷ third ∷ rest) =
     if two_act first second
@@ -77,12 +80,12 @@ written escaping (first ∷ second ∷ []) =
 written escaping (first ∷ []) = byte_text escaping first
 written escaping [] = []
 
--- the text of an item or of a path for a screen: all else stays, byte for byte
+-- Returns the text of an item or of a path for a screen. Other bytes stay as they are.
 abbrev pub escaped : List ℕ → List ℕ
 escaped text = written Screen text
 
--- What is at the front of a text: a character that is written as an escape, by its number and the text behind
--- it, or else a byte.
+-- A text begins with a character that is escaped, given by its number and the text after it. Or it begins
+-- with a byte.
 abbrev pub IsFront : Escaping → ℕ → List ℕ → Option (ℕ × List ℕ) → Type 0
 IsFront escaping first behind (Some (number, rest)) =
     (written escaping (first ∷ behind) ≡ escape escaping number ++ written escaping rest)

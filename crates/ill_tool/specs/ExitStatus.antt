@@ -1,13 +1,13 @@
--- The exit status of a command: 0 where all went well; 1 where it was refused, or a message was refused or
--- in conflict; 2 after words, input or a record that are none; 3 where the machine could not do it, or where
--- mails are left. Want of memory is a fault of its own, and stands in no other.
+-- The exit status of a command. It is 0 if all went well. It is 1 if it was refused, or a message was refused
+-- or in conflict. It is 2 after words, input or a record that are none. It is 3 if the machine could not do
+-- it, or if mails are left. Lack of memory is a fault of its own, and stands in no other.
 use Rattle.std.specs.Prelude.{◌≡◌, ◌⊎◌, ℕ, Bool, true, false, Result, Ok, Err}
 use Rattle.ill_saved.specs.declared.fault.DeskFault.{DeskFault}
 use Rattle.ill_saved.specs.declared.fault.DeskFault.TheVariants as desks
 use Rattle.ill_tool.specs.declared.fault.ToolFault.{ToolFault}
 use Rattle.ill_tool.specs.declared.fault.ToolFault.TheVariants.{Arguments, Der, TooMany, Script, Desk, Left, Read, Write, OutOfMemory}
 
--- after a fault of a side or its record
+-- Returns the status after a fault of a side or its record.
 abbrev pub desk_status : DeskFault → ℕ
 desk_status (desks.Core refusal) = 1
 desk_status desks.NoSuchMessage = 1
@@ -22,7 +22,7 @@ desk_status (desks.Saved fault) = 2
 desk_status (desks.Store fault) = 3
 desk_status desks.OutOfMemory = 3
 
--- after a fault
+-- Returns the status after a fault.
 abbrev pub status_of : ToolFault → ℕ
 status_of Arguments = 2
 status_of (Der fault) = 2
@@ -34,12 +34,12 @@ status_of Read = 3
 status_of Write = 3
 status_of OutOfMemory = 3
 
--- after a command, which has answered whether all went well
+-- Returns the status after a command, by its answer if all went well.
 abbrev pub exit_status : Result Bool ToolFault → ℕ
 exit_status (Ok true) = 0
 exit_status (Ok false) = 1
 exit_status (Err fault) = status_of fault
 
--- what was done, or that the writer fails
+-- The answer `done`, or the fault that the writer fails.
 abbrev pub IsFlushed : Result Bool ToolFault → Result Bool ToolFault → Type 0
 IsFlushed done result = (result ≡ done) ⊎ (result ≡ Err Write)

@@ -1,5 +1,4 @@
--- The command `inbox`: the mails of a folder are taken one after another, and all that they change is saved at once
--- (this profile's own).
+-- The command `inbox`: it takes the mails of a folder one after another, and saves once (this profile's own).
 use Rattle.std.specs.Prelude.{◌≡◌, ℕ, nat_lt, Bool, true, false, not, ◌||◌, if◌then◌else◌, List, [], ◌∷◌, ◌++◌, length, fold, count_by, codes, Option, None, Some, option_map, Result, Ok, Err}
 use Rattle.std.specs.Fmt.{decimal}
 use Rattle.ill_values.specs.declared.apdu.Apdu.{Apdu}
@@ -36,20 +35,21 @@ use Rattle.ill_tool.specs.Telling.{as_told, long}
 
 -- ---- the message of a mail
 
--- the message that bytes are, by what stands at their front; or why no desk will ever take them
+-- Returns the message that bytes are, by the APDU that begins them, or the reason that no desk takes them.
 abbrev pub one_message : Result (Apdu × List ℕ) DerFault → Result Apdu Unfit
 one_message (Ok (a, [])) = Ok a
 one_message (Ok (a, byte ∷ rest)) = Err unfits.Trailing
 one_message (Err fault) = Err (unfits.NoMessage fault)
 
--- the same of a mail, in which a message has 359 bytes at most
+-- Returns the message of a mail, or the reason that no desk will ever take its bytes. A message has 359 bytes
+-- at most.
 abbrev pub message_in : List ℕ → Result Apdu Unfit
 message_in bytes = if nat_lt 359 (length bytes) then Err unfits.TooLong else one_message (apdu_at bytes)
 
--- ---- what becomes of it
+-- ---- the verdict of a mail
 
--- What becomes of a mail by what is seen of its message. A requester may have begun the loan by the next run. A message
--- that comes to a responder before its request comes again with that.
+-- Returns the verdict of a mail by the outcome of its message. A requester may have begun the loan by the
+-- next run. A message that comes to a responder before its request comes again with that.
 abbrev pub verdict_of : Role → DeskOutcome → Verdict
 verdict_of role (seen.Plain (outcomes.Refused refusal)) = Aside (unfits.Refused refusal)
 verdict_of Requester seen.NoSuchTransaction = Left delays.NoSuchTransaction
@@ -58,7 +58,7 @@ verdict_of role outcome = Done outcome
 
 -- ---- the words of it
 
--- the word of a fault of bytes
+-- Returns the word of a fault of bytes.
 abbrev pub der_word : DerFault → List ℕ
 der_word (ders.Short at) = codes "short"
 der_word (ders.Tag at) = codes "tag"
@@ -66,29 +66,29 @@ der_word (ders.Length at) = codes "length"
 der_word (ders.Field at) = codes "field"
 der_word ders.OutOfMemory = codes "memory"
 
--- the place of a fault of bytes, if it has one
+-- Returns the place of a fault of bytes, if it has one.
 abbrev pub place_text : Option ℕ → List ℕ
 place_text None = []
 place_text (Some at) = codes " at " ++ decimal at
 
--- why no desk will ever take a mail
+-- Returns the reason that no desk will ever take a mail.
 abbrev pub unfit_text : Unfit → List ℕ
 unfit_text (unfits.NoMessage fault) = der_word fault ++ place_text (place_of fault)
 unfit_text unfits.TooLong = codes "too-long"
 unfit_text unfits.Trailing = codes "trailing"
 unfit_text (unfits.Refused refusal) = desk_outcome_word (seen.Plain (outcomes.Refused refusal))
 
--- why a mail waits for the next run
+-- Returns the reason that a mail waits for the next run.
 abbrev pub delay_text : Delay → List ℕ
 delay_text delays.NotRead = codes "not-read"
 delay_text delays.NoSuchTransaction = desk_outcome_word seen.NoSuchTransaction
 delay_text delays.DeskFull = desk_outcome_word seen.DeskFull
 
--- the line of a mail that stays
+-- Returns the line of a mail that stays.
 abbrev pub stays_line : List ℕ → List ℕ → List ℕ → List ℕ
 stays_line name word reason = escaped name ++ (word ++ (reason ++ codes "\n"))
 
--- the line of a mail, by its name: none of one that is done
+-- Returns the line of the mail `name`. A mail that is done has none.
 abbrev pub verdict_line : List ℕ → Verdict → List ℕ
 verdict_line name (Done outcome) = []
 verdict_line name (Aside unfit) = stays_line name (codes " aside ") (unfit_text unfit)
@@ -96,13 +96,15 @@ verdict_line name (Left delay) = stays_line name (codes " left ") (delay_text de
 
 -- ---- one mail after another
 
--- how far the mails are: what is held, the verdicts, what is told of the mails, and what is kept of them
+-- The state after some mails: the sides that are held, the verdicts, the lines that were told, and the bytes
+-- that were kept.
 pub record Sorting (L : Type 0) : Type 0 where
   pub live : L
   pub verdicts : List Verdict
   pub told : List ℕ
   pub kept : List ℕ
 
+-- Returns the state of `sorted`, with the sides `live`.
 abbrev pub sorting_of : {L : Type 0} → L → Sorted → Sorting L
 sorting_of live sorted = record {
   live = live;
@@ -111,11 +113,11 @@ sorting_of live sorted = record {
   kept = sorted.kept.items;
 }
 
--- before the first mail
+-- Returns the state before the first mail.
 abbrev pub unsorted : {L : Type 0} → L → Sorting L
 unsorted live = record { live = live; verdicts = []; told = []; kept = [] }
 
--- a mail of this name has its verdict
+-- Returns the state in which the mail `name` has its verdict.
 abbrev pub settled : {L : Type 0} → List ℕ → Verdict → Sorting L → Sorting L
 settled name verdict old = record {
   live = old.live;
@@ -124,12 +126,12 @@ settled name verdict old = record {
   kept = old.kept;
 }
 
--- what is kept of a mail: its bytes, where its message was taken
+-- Returns the bytes that are kept of a mail: its own, if its message was taken.
 abbrev pub kept_bytes : DeskOutcome → List ℕ → List ℕ
 kept_bytes outcome bytes = if is_change outcome then bytes else []
 
--- A message has done this: it is told as `take --long` tells it, as the side stands once all is saved; and kept, where
--- it was taken.
+-- Returns the state after a message with this outcome. It is told as by `take --long`, with its side as it
+-- stands once all is saved. It is kept if it was taken.
 abbrev pub told_of : {L K : Type 0} → Keeping L K → List ℕ → Apdu → DeskOutcome → L → Sorting L → Sorting L
 told_of keeping bytes a outcome live old = record {
   live = live;
@@ -138,35 +140,35 @@ told_of keeping bytes a outcome live old = record {
   kept = old.kept ++ kept_bytes outcome bytes;
 }
 
--- A message was handed to its side, and did this. No side answers a fault that stands for no refusal.
+-- Returns the state after a message was handed to its side. No side returns a fault that is no refusal.
 abbrev pub after_hand : {L K : Type 0} → Keeping L K → List ℕ → List ℕ → Apdu → Result DeskOutcome ToolFault × L →
     Sorting L → Sorting L
 after_hand keeping name bytes a (Ok outcome, live) old =
     settled name (verdict_of (keeping.role live) outcome) (told_of keeping bytes a outcome live old)
 after_hand keeping name bytes a (Err fault, live) old = old
 
--- after the message of a mail, or a mail without one
+-- Returns the state after a mail with this message, or without one.
 abbrev pub after_message : {L K : Type 0} → Keeping L K → List ℕ → List ℕ → Result Apdu Unfit → Sorting L → Sorting L
 after_message keeping name bytes (Ok a) old = after_hand keeping name bytes a (handed keeping old.live a) old
 after_message keeping name bytes (Err unfit) old = settled name (Aside unfit) old
 
--- after the bytes of a mail, if they could be read
+-- Returns the state after a mail with these bytes, if they could be read.
 abbrev pub after_bytes : {L K : Type 0} → Keeping L K → List ℕ → Option (List ℕ) → Sorting L → Sorting L
 after_bytes keeping name None old = settled name (Left delays.NotRead) old
 after_bytes keeping name (Some bytes) old = after_message keeping name bytes (message_in bytes) old
 
--- after a mail
+-- Returns the state after one mail.
 abbrev pub after_mail : {L K : Type 0} → Keeping L K → Sorting L → Mail → Sorting L
 after_mail keeping old mail =
     after_bytes keeping mail.name.items (option_map (λ bytes. bytes.items) mail.bytes) old
 
--- after all mails, in their order
+-- Returns the state after all mails, in their order.
 abbrev pub after_mails : {L K : Type 0} → Keeping L K → L → List Mail → Sorting L
 after_mails keeping live mails = fold (after_mail keeping) (unsorted live) mails
 
 -- ---- counts
 
--- the heap on which a mail comes
+-- Returns the heap of a mail by its verdict.
 abbrev pub heap_of : Verdict → Heap
 heap_of (Done (seen.Plain (outcomes.Answered takings.Taken))) = heaps.Taken
 heap_of (Done (seen.Plain (outcomes.Answered takings.Repeat))) = heaps.Repeat
@@ -176,6 +178,7 @@ heap_of (Done outcome) = heaps.Unknown
 heap_of (Aside unfit) = heaps.Aside
 heap_of (Left delay) = heaps.Left
 
+-- Returns true if two heaps are one.
 abbrev pub is_heap : Heap → Heap → Bool
 is_heap heaps.Taken heaps.Taken = true
 is_heap heaps.Repeat heaps.Repeat = true
@@ -186,10 +189,11 @@ is_heap heaps.Aside heaps.Aside = true
 is_heap heaps.Left heaps.Left = true
 is_heap heap other = false
 
--- how many mails come on a heap
+-- Returns the number of mails on a heap.
 abbrev pub count_on : Heap → List Verdict → ℕ
 count_on heap verdicts = count_by (λ verdict. is_heap heap (heap_of verdict)) verdicts
 
+-- Returns the counts of the mails with these verdicts.
 abbrev pub tally_of : List Verdict → Tally
 tally_of verdicts = record {
   taken = count_on heaps.Taken verdicts;
@@ -201,20 +205,20 @@ tally_of verdicts = record {
   left = count_on heaps.Left verdicts;
 }
 
--- the counts of the mails that are done, whose files go
+-- Returns the counts of the mails that are done, whose files go.
 unfoldable pub done_text : Tally → List ℕ
 done_text tally =
     codes "taken " ++ decimal tally.taken ++ codes ", repeat " ++ decimal tally.repeat ++ codes ", stale "
     ++ decimal tally.stale ++ codes ", conflict " ++ decimal tally.conflict ++ codes ", unknown "
     ++ decimal tally.unknown
 
--- the counts of those that stay, and of those for which there was no room in this run
+-- Returns the counts of the mails that stay, and of those for which there was no room in this run.
 unfoldable pub staying_text : Tally → ℕ → List ℕ
 staying_text tally waiting =
     codes ", aside " ++ decimal tally.aside ++ codes ", left " ++ decimal tally.left ++ codes ", waiting "
     ++ decimal waiting ++ codes "\n"
 
--- the line of the counts
+-- Returns the line of the counts.
 abbrev pub tally_line : Tally → ℕ → List ℕ
 tally_line tally waiting = done_text tally ++ staying_text tally waiting
 
@@ -225,11 +229,11 @@ abbrev pub HandsOver : {L K : Type 0} → Keeping L K → L → Apdu → Result 
 HandsOver keeping old a (Ok outcome) new = handed keeping old a ≡ (Ok outcome, new)
 HandsOver keeping old a (Err fault) new = new ≡ old
 
--- all that is written
+-- Returns all lines of a run.
 abbrev pub inbox_text : {L : Type 0} → Sorting L → ℕ → List ℕ
 inbox_text end waiting = end.told ++ tally_line (tally_of end.verdicts) waiting
 
--- the same mails, with the line of their counts behind what is told
+-- Returns the state with the line of the counts after the lines of the mails.
 abbrev pub concluded : {L : Type 0} → ℕ → Sorting L → Sorting L
 concluded waiting end = record {
   live = end.live;
@@ -238,7 +242,7 @@ concluded waiting end = record {
   kept = end.kept;
 }
 
--- what the run comes to; of each message that was taken, its bytes are kept
+-- Returns the run that the mails make. The bytes of each message that was taken are kept.
 abbrev pub inbox_run : {L : Type 0} → Sorting L → ℕ → Run L (List Verdict)
 inbox_run end waiting = record {
   live = end.live;
@@ -247,36 +251,35 @@ inbox_run end waiting = record {
   answer = end.verdicts;
 }
 
--- what was answered, as the definitions have it
+-- Returns an answer, as the definitions have its value.
 abbrev pub answered_with : {X Y : Type 0} → (X → Y) → Result X ToolFault → Result Y ToolFault
 answered_with value (Ok answer) = Ok (value answer)
 answered_with value (Err fault) = Err fault
 
--- A run over mails, with so many more waiting, from what is kept to what is, from what the writer held to what it
--- holds, and from what was known to what is known. What was taken is kept before it is saved.
+-- A run over `mails`, with `waiting` further ones. It leads from the kept bytes, the output and the sides
+-- before to those after. The messages that were taken are kept before they are saved.
 abbrev pub RunsInbox : {L K : Type 0} → Keeping L K → List Mail → ℕ → Option (List ℕ) → Option (List ℕ) →
     Option (List ℕ) → Option (List ℕ) → HeldAndLanded L → Result (List Verdict) ToolFault → HeldAndLanded L → Type 0
 RunsInbox keeping mails waiting kept_before kept_after before after old result new =
     KeepsBefore (after_mails keeping old.live mails).kept result kept_before kept_after old new
     × EndsRun keeping (inbox_run (after_mails keeping old.live mails) waiting) before after old result new
 
--- A run over these mails, with these verdicts, has ended well at a desk of which this is known: all that they change is
--- saved.
+-- A run over `mails` with `verdicts` has ended well at a desk that is `new` now: all its changes are saved.
 unfoldable pub EndedWell : List Mail → List Verdict → HeldAndLanded DeskContents → Type 0
 EndedWell mails verdicts new =
     (waiting : ℕ) × (kept_before kept_after before after : Option (List ℕ)) × (old : HeldAndLanded DeskContents)
     × RunsInbox many_sides mails waiting kept_before kept_after before after old (Ok verdicts) new
 
--- ---- what is answered
+-- ---- the answer
 
--- something waits for the next run
+-- Returns true if a mail waits for the next run.
 abbrev pub is_waiting : Tally → ℕ → Bool
 is_waiting tally waiting = nat_lt 0 tally.left || nat_lt 0 waiting
 
--- nothing wants a person
+-- Returns true if nothing wants a person.
 abbrev pub is_quiet : Tally → Bool
 is_quiet tally = not (nat_lt 0 tally.conflict || nat_lt 0 tally.aside)
 
--- what a run answers in the end
+-- Returns the answer of a run in the end.
 abbrev pub ending : Tally → ℕ → Result Bool ToolFault
 ending tally waiting = if is_waiting tally waiting then Err faults.Left else Ok (is_quiet tally)

@@ -1,4 +1,4 @@
--- Reading all APDUs of an input, and what is done with each.
+-- The reading of all APDUs of an input, and the handling of each.
 use Rattle.std.specs.Prelude.{◌≡◌, ◌⊎◌, ℕ, ◌+◌, ◌<◌, ◌≤◌, List, [], ◌++◌, length, Option, Result, Ok, Err}
 use Rattle.std.specs.List.{flat_map, AllByRecursion}
 use Rattle.std.specs.Io.KnownBytes.{Consumes, IsAtEnd}
@@ -11,16 +11,16 @@ use Rattle.ill_der.specs.Handling.{Handles, Handled}
 use Rattle.ill_tool.specs.declared.fault.ToolFault.{ToolFault}
 use Rattle.ill_tool.specs.declared.fault.ToolFault.TheVariants.{Der, TooMany, Read}
 
--- the bytes of APDUs, one behind another
+-- Returns the bytes of APDUs, one after another.
 abbrev pub spellings : List Apdu → List ℕ
 spellings apdus = flat_map spelling apdus
 
--- nothing is left of the input: nothing was read ahead, and the reader is at its end
+-- Nothing is left of the input: nothing was read ahead, and the reader is at its end.
 abbrev pub IsOver : List ℕ → Option (List ℕ) → Type 0
 IsOver ahead left = (ahead ≡ []) × IsAtEnd left
 
--- What stopped the reading: of the number of APDUs, of the bytes that were read behind them, of those
--- that were read ahead, behind these, and of what the reader has left.
+-- The fault that stopped the reading. It holds of `count` APDUs, of `bytes` after them, of `ahead` after
+-- those, and of the input `left`.
 abbrev pub StopsReading : ToolFault → ℕ → List ℕ → List ℕ → Option (List ℕ) → Type 0
 StopsReading (Der fault) count bytes ahead left =
     (apdu_at bytes ≡ Err fault) × IfShort fault (IsOver ahead left)
@@ -28,14 +28,14 @@ StopsReading TooMany count bytes ahead left = (count ≡ 100000) × SpellsOne by
 StopsReading Read count bytes ahead left = IsUnfinished bytes × (ahead ≡ [])
 StopsReading other count bytes ahead left = ⊥
 
--- the bytes are an APDU, one of those that an input may have, and handling it failed
+-- The bytes are an APDU, one of those that an input may have, and the handling of it failed.
 abbrev pub FailsInHand : {S : Type 0} → Handles S ToolFault → ToolFault → ℕ → List ℕ → S → S → Type 0
 FailsInHand handles fault count bytes before after =
     (apdu : Apdu) × IsApdu apdu × (bytes ≡ spelling apdu) × (count < 100000)
     × handles before apdu (Err fault) after
 
--- How the input ended: at its end, with the number of APDUs; or the reading was stopped, and none was
--- in hand; or the handling of the one in hand failed.
+-- The end of an input. It ended with the number of APDUs. Or the reading was stopped, with no APDU in hand.
+-- Or the handling of the one in hand failed.
 abbrev pub Ends : {S : Type 0} → Handles S ToolFault → Result ℕ ToolFault → ℕ → List ℕ → List ℕ →
     Option (List ℕ) → S → S → Type 0
 Ends handles (Ok n) count bytes ahead left before after =
@@ -44,9 +44,9 @@ Ends handles (Err fault) count bytes ahead left before after =
     (StopsReading fault count bytes ahead left × (after ≡ before))
     ⊎ FailsInHand handles fault count bytes before after
 
--- What was read is the spellings of these APDUs, of which there are not too many, these bytes, which the
--- end is about, and what was read ahead, at which nothing looked: all in all less than an APDU and a piece
--- of 4,096 bytes. The APDUs were handled, one after another, up to a state in which the input ended.
+-- The bytes that were read are the encodings of `apdus`, which are not too many, then `bytes`, and `ahead`.
+-- The end tells of `bytes`, and `ahead` was not decoded. These two are less than an APDU and a piece of 4,096
+-- bytes. The APDUs were handled, one after another, up to the state `last` in which the input ended.
 pub record ReadsApdus {S : Type 0} (handles : Handles S ToolFault) (old new : Option (List ℕ)) (before : S)
     (result : Result ℕ ToolFault) (after : S) (apdus : List Apdu) (bytes ahead : List ℕ) (last : S) : Type 0 where
   pub spelled : AllByRecursion IsApdu apdus
@@ -56,23 +56,22 @@ pub record ReadsApdus {S : Type 0} (handles : Handles S ToolFault) (old new : Op
   pub handled : Handled handles before apdus last
   pub ended : Ends handles result (length apdus) bytes ahead new last after
 
--- An input was read and its APDUs were handled, from what the reader had left to what it has left, and
--- from a state to a state.
+-- An input was read from `old` to `new`, and its APDUs were handled from the state `before` to `after`.
 abbrev pub ReadsInput : {S : Type 0} → Handles S ToolFault → Option (List ℕ) → Option (List ℕ) → S →
     Result ℕ ToolFault → S → Type 0
 ReadsInput {S = S} handles old new before result after =
     (apdus : List Apdu) × (bytes : List ℕ) × (ahead : List ℕ) × (last : S)
     × ReadsApdus handles old new before result after apdus bytes ahead last
 
--- what is answered at the end of the input, where the bytes may end so, behind so many APDUs
+-- Returns the answer at the end of the input after `count` APDUs, by the answer of the feed.
 abbrev pub answer_at_end : Result (Unit {0}) DerFault → ℕ → Result ℕ ToolFault
 answer_at_end (Ok done) count = Ok count
 answer_at_end (Err fault) count = Err (Der fault)
 
--- ---- as many APDUs as an input may have
+-- ---- at most the APDUs that an input may have
 
--- An APDU was handled and counted; or it was one too many, and nothing was done; or handling failed.
--- A state is the number of APDUs before, and the state of the handler.
+-- An APDU was handled and counted; or it was one too many, and nothing was done; or the handling failed. A
+-- state is the number of APDUs before, and the state of the handler.
 abbrev pub CountsOn : {S : Type 0} → Handles S ToolFault → Handles (ℕ × S) ToolFault
 CountsOn handles old apdu (Ok done) new =
     (old.0 < 100000) × (new.0 ≡ old.0 + 1) × handles old.1 apdu (Ok done) new.1

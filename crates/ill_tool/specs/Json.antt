@@ -9,47 +9,54 @@ use Rattle.ill_tool.specs.Escape.{written}
 
 -- ---- the texts of values
 
--- a string
+-- Returns a string.
 abbrev pub quoted : List ℕ → List ℕ
 quoted text = codes "\"" ++ written escapings.Json text ++ codes "\""
 
+-- Returns true or false.
 abbrev pub flag : Bool → List ℕ
 flag true = codes "true"
 flag false = codes "false"
 
+-- Returns null.
 abbrev pub null : List ℕ
 null = codes "null"
 
--- the text of a value, or null where there is none
+-- Returns the text of a value, or null if there is none.
 abbrev pub optional : {A : Type 0} → (A → List ℕ) → Option A → List ℕ
 optional text None = null
 optional text (Some value) = text value
 
+-- Returns a day as a string.
 abbrev pub day : Date → List ℕ
 day d = quoted (iso_text d)
 
--- The texts of values, with a comma between each and the next, and this before the first.
+-- Returns the texts of values, with a comma between two, and `before` ahead of the first.
 unfoldable pub joined : {A : Type 0} → (A → List ℕ) → List ℕ → List A → List ℕ
 joined text before [] = []
 joined text before (value ∷ values) = before ++ text value ++ joined text (codes ",") values
 
+-- Returns an array of values.
 abbrev pub array : {A : Type 0} → (A → List ℕ) → List A → List ℕ
 array text values = codes "[" ++ joined text [] values ++ codes "]"
 
 -- ---- objects
 
--- a label, and the text of a value
+-- A label, and the text of a value.
 abbrev pub Field : Type 0
 Field = List ℕ × List ℕ
 
+-- Returns a field of an object.
 abbrev pub member : Field → List ℕ
 member field = quoted field.0 ++ codes ":" ++ field.1
 
+-- Returns an object of fields.
 abbrev pub object : List Field → List ℕ
 object fields = codes "{" ++ joined member [] fields ++ codes "}"
 
 -- ---- the values of the program
 
+-- Returns the text of a value of the program.
 abbrev pub value_text : Value → List ℕ
 value_text Missing = null
 value_text (Text text) = quoted text.now

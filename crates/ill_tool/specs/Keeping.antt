@@ -1,4 +1,4 @@
--- What keeps sides, one or many: what actions and messages do to it (this profile's own).
+-- The effects of actions and messages on sides, one or many (this profile's own).
 use Rattle.std.specs.Prelude.{ℕ, List, [], Option, None, Some, Result, Ok, Err}
 use Rattle.ill_values.specs.TxnId.{Qualifiers}
 use Rattle.ill_values.specs.declared.apdu.Apdu.{Apdu}
@@ -14,46 +14,48 @@ use Rattle.ill_saved.specs.Records.{record_spelling}
 use Rattle.ill_saved.specs.Records2.{sides_spelling}
 use Rattle.ill_saved.specs.Many.{DeskEntry, DeskContents, whole, held_for, found_by, txn_held, sides_held, whole_of, desk_acts, desk_takes}
 
--- What keeps sides: `L` is what is held, and `K` names one of its sides.
+-- The effects of the calls on sides: `L` is the type of those that are held, and `K` names one of them.
 pub record Keeping (L K : Type 0) : Type 0 where
   -- the role of all sides
   pub role : L → Role
-  -- what is held after an action, or why it is refused
+  -- the sides after an action, or the fault that refuses it
   pub acts : L → K → Action → Result L DeskFault
-  -- what a message does
+  -- the answer of a message, and the sides after it
   pub takes : L → Apdu → Result Taking DeskFault × L
-  -- the side that it is for
+  -- the name of the side that a message is for
   pub key_of : Apdu → K
   -- a side, if it is held
   pub found : K → L → Option DeskEntry
-  -- how it stands, held or not
+  -- a side, held or not
   pub side_for : K → L → DeskEntry
-  -- the side that is there from the beginning, if one is
+  -- the name of the side that is there from the beginning, if there is one
   pub first_key : Option K
-  -- what is held once all is saved
+  -- the sides once all is saved
   pub saves : L → L
-  -- the record of it
+  -- the record of the sides
   pub spelling : L → List ℕ
 
 -- ---- one side
 
--- a side of which no message may be sent
+-- Returns a side of which no message may be sent.
 abbrev pub alone : Side → DeskEntry
 alone side = record { side = side; released = 0 }
 
--- the same, with this side
+-- Returns `held` with the side `side`.
 abbrev pub with_side : DeskEntry → Side → DeskEntry
 with_side held side = record held { side = side }
 
+-- Returns the answer of an action on one side alone.
 abbrev pub one_acts : DeskEntry → Result Side Refusal → Result DeskEntry DeskFault
 one_acts held (Ok side) = Ok (with_side held side)
 one_acts held (Err refusal) = Err (Core refusal)
 
+-- Returns the answer of a message to one side alone.
 abbrev pub one_answers : Result Taking Refusal → Result Taking DeskFault
 one_answers (Ok taking) = Ok taking
 one_answers (Err refusal) = Err (Core refusal)
 
--- one side alone, which wants no name
+-- Returns the effects on one side alone, which has no name.
 abbrev pub one_side : Keeping DeskEntry (Unit {0})
 one_side = record {
   role = λ held. role_of held.side;
@@ -69,11 +71,11 @@ one_side = record {
 
 -- ---- many sides
 
--- a desk of this role that holds no side
+-- Returns a desk of this role that holds no side.
 abbrev pub no_sides : Role → DeskContents
 no_sides role = record { role = role; held = [] }
 
--- one side in each of many transactions
+-- Returns the effects on many sides, one in each transaction.
 abbrev pub many_sides : Keeping DeskContents Qualifiers
 many_sides = record {
   role = λ live. live.role;

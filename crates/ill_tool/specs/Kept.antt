@@ -19,39 +19,40 @@ use Rattle.ill_tool.specs.Loan.{loan_lines, marked_lines}
 use Rattle.ill_tool.specs.Objects.{object_line, loan_fields, came_fields}
 use Rattle.ill_tool.specs.Output.{WritesText}
 
--- ---- which messages
+-- ---- the messages that are kept
 
--- These messages stand one behind another in the bytes, up to the end or to what is no message.
+-- The messages `came` stand one after another in `bytes`, up to the end or a part that is none.
 abbrev pub AreIn : List ℕ → List Apdu → Type 0
 AreIn bytes came = (left : feeds.DeskEntry) × feeds.Feeds (Ok []) bytes came left
 
--- messages of the same bytes
+-- Returns true if two messages have equal bytes.
 abbrev pub is_same : Apdu → Apdu → Bool
 is_same a b = bytes_eq (spelling a) (spelling b)
 
+-- Returns true if a message of `kept` has the bytes of `a`.
 abbrev pub is_among : List Apdu → Apdu → Bool
 is_among kept a = list_any (λ b. is_same b a) kept
 
--- the messages so far, and this one, if it is of the transaction and not among them
+-- Returns `kept`, and `a` after it, if `a` is of the transaction `txn` and not among them.
 abbrev pub with_new : Qualifiers → List Apdu → Apdu → List Apdu
 with_new txn kept a = if is_same_txn a.txn txn && not (is_among kept a) then kept ++ a ∷ [] else kept
 
--- the messages of a transaction, in the order in which they came, each once
+-- Returns the messages of a transaction, in the order in which they came, each once.
 abbrev pub kept_of : Qualifiers → List Apdu → List Apdu
 kept_of txn came = fold (with_new txn) [] came
 
--- ---- what is shown
+-- ---- the texts
 
--- all lines of a loan, and behind them those of the messages that came
+-- Returns all lines of a loan, and after them those of the messages that came.
 abbrev pub kept_lines : DeskEntry → List Apdu → List ℕ
 kept_lines held kept = loan_lines held.side held.released ++ flat_map (marked_lines (codes "came") true) kept
 
--- a loan and the messages that came, in lines, or in an object
+-- Returns a loan and the messages that came, in lines, or in an object.
 abbrev pub kept_text : Form → DeskEntry → List Apdu → List ℕ
 kept_text Lines = kept_lines
 kept_text Json = λ held kept. object_line (loan_fields held.side held.released ++ came_fields kept)
 
--- The text of the messages was written that these bytes have; or memory ran out for them.
+-- The text of the messages in `bytes` was written; or memory ran out for them.
 abbrev pub WritesKept : (List Apdu → List ℕ) → Qualifiers → List ℕ → Option (List ℕ) → Option (List ℕ) →
     Result (Unit {0}) ToolFault → Type 0
 WritesKept text txn bytes before after (Err OutOfMemory) = Appends before after []

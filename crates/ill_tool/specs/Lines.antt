@@ -9,34 +9,39 @@ use Rattle.ill_values.specs.Results.{result_name}
 use Rattle.ill_values.specs.Types.{type_name}
 use Rattle.ill_tool.specs.Escape.{escaped}
 
--- a line: a label, a space, a value and a line feed
+-- Returns a line: a label, a space, a value and a line feed.
 unfoldable pub line : List ℕ → List ℕ → List ℕ
 line label value = label ++ 32 ∷ value ++ 10 ∷ []
 
+-- Returns the word of a reply.
 abbrev pub reply_word : Bool → List ℕ
 reply_word true = codes "yes"
 reply_word false = codes "no"
 
+-- Returns the line of a number.
 abbrev pub number_line : List ℕ → ℕ → List ℕ
 number_line label n = line label (decimal n)
 
+-- Returns the line of a date.
 abbrev pub date_line : Date → List ℕ
 date_line d = line (codes "date") (date_text d)
 
+-- Returns the line of a date, if there is one.
 abbrev pub optional_date_line : Option Date → List ℕ
 optional_date_line None = []
 optional_date_line (Some d) = date_line d
 
+-- Returns the lines of a reply: the number of the message that it answers, and yes or no.
 abbrev pub reply_lines : ℕ → Bool → List ℕ
 reply_lines answers is_yes =
     number_line (codes "answers") answers ++ line (codes "reply") (reply_word is_yes)
 
--- a renewal is granted by a date, and refused without one
+-- Returns the lines of a reply to a Renew. It grants by a date, and refuses without one.
 abbrev pub grant_lines : ℕ → Option Date → List ℕ
 grant_lines answers None = reply_lines answers false
 grant_lines answers (Some d) = reply_lines answers true ++ date_line d
 
--- the lines of the further fields
+-- Returns the lines of the further fields of a message.
 abbrev pub field_lines : Body → List ℕ
 field_lines (IllRequest expiry item) = optional_date_line expiry ++ line (codes "item") item
 field_lines (IllAnswer result) = line (codes "result") (result_name result)
@@ -53,28 +58,29 @@ field_lines (Renew wished) = optional_date_line wished
 field_lines (RenewAnswer answers granted) = grant_lines answers granted
 field_lines Expired = []
 
--- the lines of a transaction id
+-- Returns the lines of a transaction id.
 abbrev pub id_lines : List ℕ → List ℕ → List ℕ
 id_lines group transaction = line (codes "group") group ++ line (codes "transaction") transaction
 
--- the lines of what each APDU has: its type, its transaction and its number
+-- Returns the lines that each APDU has: its type, its transaction and its number.
 abbrev pub head_lines : Apdu → List ℕ
 head_lines apdu =
     line (codes "apdu") (type_name apdu.body)
     ++ (id_lines apdu.txn.group apdu.txn.transaction ++ number_line (codes "number") apdu.number)
 
--- the lines of an APDU
+-- Returns the lines of an APDU.
 unfoldable pub lines_of : Apdu → List ℕ
 lines_of apdu = head_lines apdu ++ field_lines apdu.body
 
--- the same for a screen: with its item escaped
+-- Returns the lines of the further fields for a screen, with the item escaped.
 abbrev pub shown_fields : Body → List ℕ
 shown_fields (IllRequest expiry item) = optional_date_line expiry ++ line (codes "item") (escaped item)
 shown_fields other = field_lines other
 
+-- Returns the lines of an APDU for a screen, with its item escaped.
 unfoldable pub shown_lines : Apdu → List ℕ
 shown_lines apdu = head_lines apdu ++ shown_fields apdu.body
 
--- the line of how many APDUs there are
+-- Returns the line of the number of APDUs.
 abbrev pub count_line : ℕ → List ℕ
 count_line n = line (decimal n) (codes "apdus")

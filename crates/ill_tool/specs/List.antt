@@ -24,66 +24,68 @@ use Rattle.ill_tool.specs.Escape.{escaped}
 use Rattle.ill_tool.specs.Loan.{turn_word, request_of}
 use Rattle.ill_tool.specs.Waiting.{is_turn, is_sooner, turn_on}
 
--- ---- which loans are listed
+-- ---- the loans that are listed
 
--- the turns whose loans are listed, in their order
+-- Returns the turns whose loans are listed, in their order.
 abbrev pub turns_of : Which → List Turn
 turns_of All = turns.Mine ∷ turns.Theirs ∷ turns.Over ∷ []
 turns_of Open = turns.Mine ∷ turns.Theirs ∷ []
 turns_of Mine = turns.Mine ∷ []
 
--- a loan is due before this day, if one is said
+-- Returns true if a loan is due before the day, if one is said.
 abbrev pub is_due_before : Option Date → Option Date → Bool
 is_due_before None due = true
 is_due_before (Some day) due = is_sooner due (Some day)
 
--- a loan is in this state, if one is said
+-- Returns true if a loan is in the wanted state, if one is said.
 abbrev pub is_in : Option State → State → Bool
 is_in None state = true
 is_in (Some wanted) state = is_among (wanted ∷ []) state
 
--- a loan is listed, where loans of its turn are
+-- Returns true if a loan is listed when the loans of its turn are.
 abbrev pub is_wanted : Wanted → Side → Bool
 is_wanted wanted side =
     is_due_before wanted.due_before (due_date_of side) && is_in wanted.state (state_of side)
 
--- ---- what is asked for
+-- ---- the item of a loan
 
--- the item of a message, if it is an ILL-Request
+-- Returns the item of a message, if it is an ILL-Request.
 abbrev pub item_in : Body → Option (List ℕ)
 item_in (IllRequest expiry item) = Some item
 item_in other = None
 
+-- Returns the item of a request, if there is one.
 abbrev pub item_asked : Option Apdu → Option (List ℕ)
 item_asked None = None
 item_asked (Some a) = item_in a.body
 
--- an item for a screen, or a dash where there is none
+-- Returns an item for a screen, or a dash if there is none.
 abbrev pub title_text : Option (List ℕ) → List ℕ
 title_text None = codes "-"
 title_text (Some item) = escaped item
 
 -- ---- the line of a loan
 
--- a text, and spaces behind it up to this width
+-- Returns a text, and spaces up to `width`.
 unfoldable pub padded : ℕ → List ℕ → List ℕ
 padded width text = text ++ replicate (width - length text) 32
 
--- a padded text, and two spaces before the next column
+-- Returns a padded text, and two spaces before the next column.
 abbrev pub cell : ℕ → List ℕ → List ℕ
 cell width text = padded width text ++ codes "  "
 
--- the length of the longest of what these sides have
+-- Returns the length of the longest `text` of these sides.
 abbrev pub widest : (Side → List ℕ) → List Side → ℕ
 widest text sides = fold (λ width side. max width (length (text side))) 0 sides
 
--- If the loans alone are listed that wait for this library, a column has what it may do now.
+-- Returns true if only the loans that wait for this library are listed. Then a column has the actions that it
+-- may take now.
 abbrev pub has_verbs : Which → Bool
 has_verbs All = false
 has_verbs Open = false
 has_verbs Mine = true
 
--- the columns for all sides of a desk, whichever are listed
+-- Returns the columns for all sides of a desk, listed or not.
 abbrev pub columns_of : Bool → List Side → Columns
 columns_of has_verbs sides = record {
   group = widest (λ side. (txn_of side).group) sides;
@@ -91,15 +93,16 @@ columns_of has_verbs sides = record {
   has_verbs = has_verbs;
 }
 
--- what `act` takes now, with a comma between each and the next
+-- Returns the actions that `act` takes now, with a comma between two.
 abbrev pub verbs_text : Side → List ℕ
 verbs_text side = join_by verb_name (codes ",") (verbs_of side)
 
+-- Returns the column of these actions, if it is there.
 abbrev pub verbs_cell : Bool → Side → List ℕ
 verbs_cell true side = cell 20 (verbs_text side)
 verbs_cell false side = []
 
--- the line of a side whose turn is this: its columns, and its title
+-- Returns the line of a side, whose turn is `turn`: its columns, and its title.
 unfoldable pub row : Columns → Turn → Side → List ℕ
 row columns turn side =
     cell 6 (turn_word turn) ++ cell 20 (state_name (state_of side))
@@ -107,22 +110,24 @@ row columns turn side =
     ++ cell columns.transaction (txn_of side).transaction ++ verbs_cell columns.has_verbs side
     ++ title_text (item_asked (request_of side)) ++ codes "\n"
 
--- ---- which loans have a line
+-- ---- the loans that have a line
 
+-- Returns true if a loan has the turn `turn`, on the day `today` if one is said.
 abbrev pub has_turn : Option Date → Turn → Side → Bool
 has_turn today turn side = is_turn turn (turn_on today side)
 
--- a loan is listed among those whose turn is this
+-- Returns true if a loan is listed among those of the turn `turn`.
 abbrev pub is_listed : Wanted → Turn → Side → Bool
 is_listed wanted turn side = has_turn wanted.today turn side && is_wanted wanted side
 
 -- ---- counts
 
+-- Returns the number of loans that have the turn `turn`.
 abbrev pub count_of : Option Date → Turn → List Side → ℕ
 count_of today turn sides = count_by (has_turn today turn) sides
 
--- how many loans there are, how many of them are not over, how many wait for this library, and for how many more
--- there is room
+-- Returns the numbers of loans: all, those that are not over, those that wait for this library, and those for
+-- which there is room.
 abbrev pub counts_of : Option Date → List Side → Counts
 counts_of today sides = record {
   loans = length sides;
@@ -131,7 +136,7 @@ counts_of today sides = record {
   room = most_sides - length sides;
 }
 
--- the line of counts
+-- Returns the line of counts.
 unfoldable pub counts_line : Counts → List ℕ
 counts_line counts =
     codes "loans " ++ decimal counts.loans ++ codes ", open " ++ decimal counts.open_loans

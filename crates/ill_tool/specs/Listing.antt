@@ -1,4 +1,4 @@
--- What `list` writes of desks, in lines or in objects.
+-- The texts that `list` writes of desks, in lines or in objects.
 use Rattle.std.specs.Prelude.{ℕ, Bool, true, false, List, [], ◌++◌, filter, Option, None, Some, option_map, codes}
 use Rattle.std.specs.List.{flat_map, join_by}
 use Rattle.std.specs.Fmt.{decimal}
@@ -17,69 +17,71 @@ use Rattle.ill_tool.specs.Objects.{row_object, counts_object}
 
 -- ---- one desk
 
--- the loans that are listed whose turn it is, in their order
+-- Returns the listed loans of the turn `turn`, in their order.
 abbrev pub rows_of : (Turn → Side → List ℕ) → Wanted → List Side → Turn → List ℕ
 rows_of text wanted sides turn = flat_map (text turn) (filter (is_listed wanted turn) sides)
 
--- The loans that are listed, in the order of the turns and of each turn in theirs, and behind them the counts of all.
+-- Returns the loans that are listed, in the order of the turns, and those of each turn in their order. After
+-- them come the counts of all.
 abbrev pub listed : (Turn → Side → List ℕ) → (Counts → List ℕ) → Wanted → List Side → List ℕ
 listed text counts_text wanted sides =
     flat_map (rows_of text wanted sides) (turns_of wanted.which) ++ counts_text (counts_of wanted.today sides)
 
--- a loan of this turn in a line, or in an object
+-- Returns a loan of this turn in a line, or in an object.
 abbrev pub row_text : Rows → Turn → Side → List ℕ
 row_text (rows.Lines columns) = row columns
 row_text (rows.Objects file) = row_object (option_map (λ path. path.now) file)
 
+-- Returns counts in a line, or in an object.
 abbrev pub counts_text : Rows → Counts → List ℕ
 counts_text (rows.Lines columns) = counts_line
 counts_text (rows.Objects file) = counts_object (option_map (λ path. path.now) file)
 
--- the lines of these loans
+-- Returns the lines of these loans.
 abbrev pub ordered_lines : Wanted → List Side → List ℕ
 ordered_lines wanted sides = listed (row (columns_of (has_verbs wanted.which) sides)) counts_line wanted sides
 
--- the lines of a desk, with the most urgent first of those whose turn it is
+-- Returns the lines of a desk. Of each turn the most urgent loans come first.
 abbrev pub list_lines : Wanted → List Side → List ℕ
 list_lines wanted sides = ordered_lines wanted (most_urgent_first sides)
 
--- the objects of a desk, in the order of the lines
+-- Returns the objects of a desk, in the order of the lines.
 abbrev pub list_objects : Option (List ℕ) → Wanted → List Side → List ℕ
 list_objects file wanted sides = listed (row_object file) (counts_object file) wanted (most_urgent_first sides)
 
 -- ---- several desks
 
--- the empty line before a desk in a list, behind another one
+-- Returns the empty line before a desk in a list, if another one is before it.
 abbrev pub gap : Bool → List ℕ
 gap true = []
 gap false = codes "\n"
 
--- the line of the path of a desk, if several are listed
+-- Returns the line of the path of a desk, if several are listed.
 abbrev pub heading : Bool → List ℕ → List ℕ
 heading false path = []
 heading true path = escaped path ++ codes ":\n"
 
--- the path of a desk, if several are listed
+-- Returns the path of a desk, if several are listed.
 abbrev pub file_told : Bool → List ℕ → Option (List ℕ)
 file_told false path = None
 file_told true path = Some path
 
--- a desk of this path among those that are listed
+-- Returns the text of a desk among those that are listed.
 abbrev pub listed_desk : Form → Bool → Wanted → List ℕ → List Side → List ℕ
 listed_desk Lines is_headed wanted path sides = heading is_headed path ++ list_lines wanted sides
 listed_desk Json is_headed wanted path sides = list_objects (file_told is_headed path) wanted sides
 
--- what stands before a desk behind another one: in lines an empty one
+-- Returns the text before a desk that follows another one: in lines an empty one.
 abbrev pub between : Form → Bool → List ℕ
 between Lines is_first = gap is_first
 between Json is_first = []
 
--- desks of these paths, one behind another
+-- Returns the texts of desks, one after another.
 abbrev pub listed_desks : Form → Bool → Wanted → List (List ℕ × List Side) → List ℕ
 listed_desks form is_headed wanted desks =
     join_by (λ desk. listed_desk form is_headed wanted desk.0 desk.1) (between form false) desks
 
--- the line that warns how much room a desk has left
+-- Returns the line that warns how much room a desk has left.
 abbrev pub room_line : List ℕ → ℕ → List ℕ
 room_line path room =
     codes "ill: " ++ escaped path ++ (codes " has room for " ++ (decimal room ++ codes " more loans\n"))

@@ -22,40 +22,41 @@ use Rattle.ill_tool.specs.Lines.{line, reply_word, shown_lines}
 use Rattle.ill_tool.specs.Status.{status_lines, spaced_or_dash}
 use Rattle.ill_tool.specs.Output.{WritesText}
 
--- who acts next
+-- Returns the word of the library that acts next.
 abbrev pub turn_word : Turn → List ℕ
 turn_word Over = codes "over"
 turn_word Mine = codes "mine"
 turn_word Theirs = codes "theirs"
 
--- the lines of who acts next, and of what the side may do now
+-- Returns the lines of the library that acts next, and of the actions that the side may take now.
 abbrev pub turn_lines : Side → List ℕ
 turn_lines side =
     line (codes "next") (turn_word (turn_of side))
     ++ line (codes "now") (spaced_or_dash (map verb_name (verbs_of side)))
 
--- the request of a loan: the first message of a requester, and the one that a responder keeps
+-- Returns the request of a loan: the first message of a requester, and the one that a responder keeps.
 abbrev pub request_of : Side → Option Apdu
 request_of (Requester x) = slice_get x.issued 0
 request_of (Responder y) = y.request
 
--- the lines of what a request asks for, and until when
+-- Returns the lines of the item and the expiry day of a request.
 abbrev pub item_lines : Body → List ℕ
 item_lines (IllRequest expiry item) =
     line (codes "item") (escaped item) ++ line (codes "expiry") (due_text expiry)
 item_lines other = []
 
+-- Returns the lines of a request, if there is one.
 abbrev pub request_lines : Option Apdu → List ℕ
 request_lines None = []
 request_lines (Some apdu) = item_lines apdu.body
 
--- the line of the number of a message, which is a dash where there is none
+-- Returns the line of the number of a message: a dash, if there is none.
 abbrev pub optional_number_line : List ℕ → Option ℕ → List ℕ
 optional_number_line label None = line label (codes "-")
 optional_number_line label (Some number) = line label (decimal number)
 
--- The lines of what a record tells of messages taken: of a requester the conditions that stand, of a
--- responder the conditions that were accepted last, and the last Cancel and the last Renew.
+-- Returns the lines of the messages that a side has taken. A requester's record has the conditions that
+-- stand. A responder's has the conditions that were accepted last, the last Cancel and the last Renew.
 abbrev pub taken_lines : Side → List ℕ
 taken_lines (Requester x) = optional_number_line (codes "held") x.held
 taken_lines (Responder y) =
@@ -63,21 +64,21 @@ taken_lines (Responder y) =
     ++ (optional_number_line (codes "last-cancel") y.last_cancel
     ++ optional_number_line (codes "last-renew") y.last_renew)
 
--- the lines of a side, before those of its messages
+-- Returns the lines of a side, before those of its messages.
 abbrev pub side_lines : Side → ℕ → List ℕ
 side_lines side released =
     status_lines side released
     ++ (turn_lines side ++ (request_lines (request_of side) ++ taken_lines side))
 
--- The lines of a message: an empty one, those of the message, and one that says whether something is so.
+-- Returns the lines of a message: an empty one, its own, and one that says yes or no.
 abbrev pub marked_lines : List ℕ → Bool → Apdu → List ℕ
 marked_lines label is_so apdu = codes "\n" ++ (shown_lines apdu ++ line label (reply_word is_so))
 
--- the lines of a message that was issued, and whether it may leave
+-- Returns the lines of a message that was issued, with one that tells if it may leave.
 abbrev pub message_lines : ℕ → Apdu → List ℕ
 message_lines released apdu = marked_lines (codes "leaves") (nat_le apdu.number released) apdu
 
--- the lines of a side, and of all messages that it has issued, in order
+-- Returns the lines of a side, and of all messages that it has issued, in order.
 unfoldable pub loan_lines : Side → ℕ → List ℕ
 loan_lines side released =
     side_lines side released ++ flat_map (message_lines released) (issued_of side)

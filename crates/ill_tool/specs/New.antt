@@ -12,16 +12,17 @@ use Rattle.ill_saved.specs.Store.{Allows, LandsAtFailure, StoreState, spent}
 use Rattle.ill_tool.specs.declared.fault.ToolFault.{ToolFault}
 use Rattle.ill_tool.specs.declared.fault.ToolFault.TheVariants.{Desk, Write, OutOfMemory}
 
--- The line of a beginning that was saved: that of the side, or the outcome alone where no side begins.
+-- Returns the line of a beginning that was saved: that of the side, or the outcome alone if no side begins.
 abbrev pub line_of_first : Option DeskEntry → List ℕ
 line_of_first (Some held) = done_line held
 line_of_first None = codes "done\n"
 
+-- Returns the line of the beginning of `live`.
 abbrev pub first_line : {L K : Type 0} → Keeping L K → L → List ℕ
 first_line keeping live = line_of_first (option_map (λ key. keeping.side_for key live) keeping.first_key)
 
--- What is answered and written of a beginning with this line: the line, once it is saved; a front of the line
--- where the writer failed; nothing where a record is there, the store failed or memory ran out.
+-- The output of a beginning with this line. It has the line, once the record is saved, or a prefix if the
+-- writer failed. It has nothing if a record is there, the store failed or memory ran out.
 abbrev pub RunsNew : List ℕ → Option (List ℕ) → Option (List ℕ) → Result (Unit {0}) ToolFault → Type 0
 RunsNew line before after (Ok done) = Appends before after line
 RunsNew line before after (Err Write) = (size : ℕ) × Appends before after (take size line)
@@ -30,8 +31,8 @@ RunsNew line before after (Err (Desk (Store fault))) = Appends before after []
 RunsNew line before after (Err OutOfMemory) = Appends before after []
 RunsNew line before after (Err other) = ⊥
 
--- What has landed in an honest store once this first record was saved, by the plan of the save and by
--- what had landed before: it, but for a fault of the store, or without memory to save it.
+-- The content of an honest store after the first save of `bytes`, by its plan and its old content. It is
+-- `bytes`, but for a fault of the store, or without memory to save them.
 abbrev pub LandsFirst : Option NextCall → List ℕ → Result (Unit {0}) ToolFault → Option (List ℕ) →
     Option (List ℕ) → Type 0
 LandsFirst plan bytes (Ok done) old new = new ≡ Some bytes
@@ -41,13 +42,13 @@ LandsFirst plan bytes (Err (Desk (Store Failed))) old new =
 LandsFirst plan bytes (Err OutOfMemory) old new = (new ≡ old) ⊎ (new ≡ Some bytes)
 LandsFirst plan bytes (Err other) old new = ⊥
 
--- nothing has landed, or this first record
+-- Nothing has landed, or the first record `bytes`.
 abbrev pub MayHaveLanded : List ℕ → Option (List ℕ) → Type 0
 MayHaveLanded bytes landed = (landed ≡ None) ⊎ (landed ≡ Some bytes)
 
--- What is answered over an honest store, by its plan and by what had landed there, and what has landed
--- then. Where a record is there, the answer is `Exists`, unless the store failed or memory ran out, and
--- the record stays. Where there is none, this first one has landed, or it may have, with such a fault.
+-- The answer over an honest store, by its plan and its old content, and its content then. If a record is
+-- there, it stays, and the answer is `Exists`, unless the store failed or memory ran out. If there is none,
+-- this first one has landed, or it may have, with such a fault.
 abbrev pub BeginsOver : List ℕ → Option NextCall → Option (List ℕ) → Result (Unit {0}) ToolFault →
     Option (List ℕ) → Type 0
 BeginsOver bytes plan None (Ok done) new = (new ≡ Some bytes) × Allows {X = Unit {0}} plan (Ok tt)

@@ -25,29 +25,32 @@ use Rattle.ill_tool.specs.Status.{status_lines, role_name, marks_of}
 use Rattle.ill_tool.specs.Loan.{turn_word, request_of}
 use Rattle.ill_tool.specs.List.{item_asked}
 
--- an object on a line of its own
+-- Returns an object on a line of its own.
 abbrev pub object_line : List Field → List ℕ
 object_line fields = object fields ++ codes "\n"
 
 -- ---- messages
 
--- what each APDU has: its type, its transaction and its number
+-- Returns the fields that each APDU has: its type, its transaction and its number.
 abbrev pub head_fields : Apdu → List Field
 head_fields a =
     (codes "apdu", quoted (type_name a.body)) ∷ (codes "group", quoted a.txn.group)
     ∷ (codes "transaction", quoted a.txn.transaction) ∷ (codes "number", decimal a.number) ∷ []
 
+-- Returns the field of a date.
 abbrev pub date_field : Date → Field
 date_field d = (codes "date", day d)
 
+-- Returns the fields of a reply: the number of the message that it answers, and the answer.
 abbrev pub reply_fields : ℕ → Bool → List Field
 reply_fields answers is_yes = (codes "answers", decimal answers) ∷ (codes "reply", flag is_yes) ∷ []
 
+-- Returns the field of a date, if there is one.
 abbrev pub optional_date_fields : Option Date → List Field
 optional_date_fields None = []
 optional_date_fields (Some d) = date_field d ∷ []
 
--- the further fields of an APDU
+-- Returns the further fields of an APDU.
 abbrev pub body_fields : Body → List Field
 body_fields (IllRequest expiry item) = optional_date_fields expiry ++ (codes "item", quoted item) ∷ []
 body_fields (IllAnswer result) = (codes "result", quoted (result_name result)) ∷ []
@@ -64,17 +67,18 @@ body_fields (Renew wished) = optional_date_fields wished
 body_fields (RenewAnswer answers granted) = reply_fields answers (is_some granted) ++ optional_date_fields granted
 body_fields Expired = []
 
+-- Returns all fields of an APDU.
 abbrev pub apdu_fields : Apdu → List Field
 apdu_fields a = head_fields a ++ body_fields a.body
 
--- an APDU as the lines of `show` have it, or as an object
+-- Returns an APDU in the lines of `show`, or as an object.
 abbrev pub apdu_text : Form → Apdu → List ℕ
 apdu_text Lines a = lines_of a
 apdu_text Json a = object_line (apdu_fields a)
 
 -- ---- sides
 
--- how a side stands, and these marks
+-- Returns the fields of how a side stands, with `marks`.
 abbrev pub standing_fields : Side → ℕ → List (List ℕ) → List Field
 standing_fields side released marks =
     (codes "role", quoted (role_name (role_of side))) ∷ (codes "group", quoted (txn_of side).group)
@@ -83,65 +87,70 @@ standing_fields side released marks =
     ∷ (codes "released", decimal released) ∷ (codes "issued", decimal (length (issued_of side)))
     ∷ (codes "marks", array quoted marks) ∷ []
 
+-- Returns the fields of how a side stands, with its marks.
 abbrev pub status_fields : Side → ℕ → List Field
 status_fields side released = standing_fields side released (marks_of side)
 
--- a side as the lines of `status` have it, or as an object
+-- Returns a side in the lines of `status`, or as an object.
 abbrev pub status_text : Form → Side → ℕ → List ℕ
 status_text Lines = status_lines
 status_text Json = λ side released. object_line (status_fields side released)
 
--- each side that is held, in their order
+-- Returns the text of a side that is held.
 abbrev pub held_text : Form → DeskEntry → List ℕ
 held_text form held = status_text form held.side held.released
 
+-- Returns the text of a side that is held, if there is one.
 abbrev pub text_of_one : Form → Option DeskEntry → List ℕ
 text_of_one form (Some held) = held_text form held
 text_of_one form None = []
 
+-- Returns the text of each side that is held, in their order.
 abbrev pub status_of_desk : Form → List DeskEntry → List ℕ
 status_of_desk form held = flat_map (held_text form) held
 
 -- ---- loans
 
--- the names of what the side may do now
+-- Returns the names of the actions that the side may take now.
 abbrev pub names_of : Side → List (List ℕ)
 names_of side = map verb_name (verbs_of side)
 
--- who acts next, by these names what the side may do now, and what is asked for, until when
+-- Returns the fields of the library that acts next, of the actions `names`, of the item and its expiry day.
 abbrev pub turn_fields : Side → List (List ℕ) → List Field
 turn_fields side names =
     (codes "next", quoted (turn_word (turn_of side))) ∷ (codes "now", array quoted names)
     ∷ (codes "item", optional quoted (item_asked (request_of side)))
     ∷ (codes "expiry", optional day (expiry_of (request_of side))) ∷ []
 
--- what the record tells of messages taken
+-- Returns the fields of the messages that a side has taken, as far as its record has their numbers.
 abbrev pub taken_fields : Side → List Field
 taken_fields (Requester x) = (codes "held", optional decimal x.held) ∷ []
 taken_fields (Responder y) =
     (codes "accepted", optional decimal y.accepted) ∷ (codes "last-cancel", optional decimal y.last_cancel)
     ∷ (codes "last-renew", optional decimal y.last_renew) ∷ []
 
--- If it is known how many messages are released, a message tells if it may leave.
+-- Returns the field that tells if a message may leave, if the number of released ones is known.
 abbrev pub leaves_fields : Option ℕ → Apdu → List Field
 leaves_fields None a = []
 leaves_fields (Some released) a = (codes "leaves", flag (nat_le a.number released)) ∷ []
 
+-- Returns the object of a message.
 abbrev pub message_object : Option ℕ → Apdu → List ℕ
 message_object released a = object (apdu_fields a ++ leaves_fields released a)
 
--- messages, in order
+-- Returns the field `label` of messages, in order.
 abbrev pub messages_fields : List ℕ → Option ℕ → List Apdu → List Field
 messages_fields label released apdus = (label, array (message_object released) apdus) ∷ []
 
--- the messages that were issued
+-- Returns the field of the messages that were issued.
 abbrev pub sent_fields : ℕ → List Apdu → List Field
 sent_fields released apdus = messages_fields (codes "messages") (Some released) apdus
 
--- the messages that came
+-- Returns the field of the messages that came.
 abbrev pub came_fields : List Apdu → List Field
 came_fields apdus = messages_fields (codes "came") None apdus
 
+-- Returns the fields of all that is known of a side.
 abbrev pub loan_fields : Side → ℕ → List Field
 loan_fields side released =
     status_fields side released ++ turn_fields side (names_of side) ++ taken_fields side
@@ -149,12 +158,12 @@ loan_fields side released =
 
 -- ---- lists
 
--- the path of a desk, if it is told
+-- Returns the field of the path of a desk, if it is told.
 abbrev pub file_fields : Option (List ℕ) → List Field
 file_fields None = []
 file_fields (Some path) = (codes "file", quoted path) ∷ []
 
--- a loan of this turn, and by these names what it may do now
+-- Returns the fields of a loan of this turn, with the actions `names`.
 abbrev pub row_fields : Turn → Side → List (List ℕ) → List Field
 row_fields turn side names =
     (codes "next", quoted (turn_word turn)) ∷ (codes "state", quoted (state_name (state_of side)))
@@ -162,14 +171,16 @@ row_fields turn side names =
     ∷ (codes "transaction", quoted (txn_of side).transaction) ∷ (codes "now", array quoted names)
     ∷ (codes "item", optional quoted (item_asked (request_of side))) ∷ []
 
+-- Returns the object of a loan of this turn.
 abbrev pub row_object : Option (List ℕ) → Turn → Side → List ℕ
 row_object file turn side = object_line (row_fields turn side (names_of side) ++ file_fields file)
 
--- the counts of a desk
+-- Returns the fields of the counts of a desk.
 abbrev pub counts_fields : Counts → List Field
 counts_fields counts =
     (codes "loans", decimal counts.loans) ∷ (codes "open", decimal counts.open_loans)
     ∷ (codes "mine", decimal counts.mine) ∷ (codes "room", decimal counts.room) ∷ []
 
+-- Returns the object of the counts of a desk.
 abbrev pub counts_object : Option (List ℕ) → Counts → List ℕ
 counts_object file counts = object_line (counts_fields counts ++ file_fields file)

@@ -1,4 +1,4 @@
--- The command `outbox`: which messages leave a desk in a night, and the names of their mails.
+-- The command `outbox`: the messages that leave a desk in a night, and the names of their mails.
 use Rattle.std.specs.Prelude.{◌≡◌, ◌⊎◌, ℕ, ◌+◌, ◌/◌, ◌%◌, Bool, false, if◌then◌else◌, List, [], ◌∷◌, ◌++◌, length, take, fold, map, codes, Option, None, Some, option_map, Result, Ok, Err}
 use Rattle.std.specs.List.{flat_map, list_any}
 use Rattle.std.specs.Fmt.{decimal}
@@ -29,102 +29,106 @@ use Rattle.ill_tool.specs.Kept.{AreIn}
 use Rattle.ill_tool.specs.Output.{WritesText}
 use Rattle.ill_tool.specs.Status.{role_name}
 
--- ---- who asks
+-- ---- the messages that ask
 
--- one of these messages is of this transaction
+-- Returns true if one of `asking` is of the transaction `txn`.
 abbrev pub is_asked : List Apdu → Qualifiers → Bool
 is_asked asking txn = list_any (λ a. is_same_txn a.txn txn) asking
 
--- ---- which messages leave
+-- ---- the messages that leave
 
--- a message, and the side that issued it
+-- A message, and the side that issued it.
 pub record Issue : Type 0 where
   pub side : Side
   pub apdu : Apdu
 
--- the messages of a side that were saved
+-- Returns the saved messages of a side.
 abbrev pub released_of : DeskEntry → List Apdu
 released_of held = take held.released (issued_of held.side)
 
--- messages of a side
+-- Returns the messages `apdus`, each with the side that issued it.
 abbrev pub issues_of : Side → List Apdu → List Issue
 issues_of side apdus = map (λ a. record { side = side; apdu = a }) apdus
 
--- All of them leave, in their order, if the side wants that.
+-- Returns the saved messages of a side, in their order, if it wants sending.
 abbrev pub leaving_side : List Apdu → DeskEntry → List Issue
 leaving_side asking held =
     if wants_sending (is_asked asking (txn_of held.side)) held.side
     then issues_of held.side (released_of held) else []
 
--- those of all sides, in the order in which these were begun
+-- Returns those of all sides, in the order in which these were begun.
 abbrev pub leaving_desk : List Apdu → List DeskEntry → List Issue
 leaving_desk asking held = flat_map (leaving_side asking) held
 
 -- ---- the mails
 
--- a mail that leaves: its name, and its bytes
+-- A mail that leaves: its name, and its bytes.
 pub record Letter : Type 0 where
   pub name : List ℕ
   pub bytes : List ℕ
 
--- a text and the end of its line
+-- Returns a text and the end of its line.
 abbrev pub line_of : List ℕ → List ℕ
 line_of text = text ++ codes "\n"
 
--- a text that tells the loan of a side from all others
+-- Returns a text that tells the loan of a side from all others.
 abbrev pub loan_text : Side → List ℕ
 loan_text side =
     line_of (role_name (role_of side)) ++ (line_of (txn_of side).group ++ line_of (txn_of side).transaction)
 
--- the first half of its digest, in hexadecimal
+-- Returns the first half of the digest of that text, in hexadecimal.
 abbrev pub loan_stem : Side → List ℕ
 loan_stem side = take 32 (encode_lower (sha256 (loan_text side)))
 
--- a number below 1,000 in three digits
+-- Returns a number below 1,000 in three digits.
 abbrev pub three_digits : ℕ → List ℕ
 three_digits n = (48 + n / 100) ∷ (48 + n / 10 % 10) ∷ (48 + n % 10) ∷ []
 
--- The name of a message is the same whenever it leaves. By their names mails stand in the order of their numbers,
--- those of one loan together.
+-- Returns the name of the mail of a message, which does not change from run to run. In the order of their
+-- names the mails of a loan stand together, by their numbers.
 abbrev pub mail_name : Side → ℕ → List ℕ
 mail_name side number = loan_stem side ++ (codes "-" ++ three_digits number)
 
+-- Returns the mail of a message.
 abbrev pub letter_of : Issue → Letter
 letter_of issue = record { name = mail_name issue.side issue.apdu.number; bytes = spelling issue.apdu }
 
--- the mails that leave a desk
+-- Returns the mails that leave a desk.
 abbrev pub letters_of : List Apdu → List DeskEntry → List Letter
 letters_of asking held = map letter_of (leaving_desk asking held)
 
--- what the program holds is this
+-- the values of the program
 
+-- Returns the model of a side that the program holds.
 abbrev pub held_of : HeldSide → DeskEntry
 held_of held = record { side = held.side.now; released = held.released }
 
+-- Returns the model of a message that leaves.
 abbrev pub issue_of : Leaving → Issue
 issue_of leaving = record { side = leaving.side.now; apdu = leaving.apdu.now }
 
--- ---- where they go
+-- ---- the outlets
 
--- a folder or a stream failed, or memory ran out for it
+-- A folder or a stream failed, or memory ran out for it.
 abbrev pub IsFileFault : ToolFault → Type 0
 IsFileFault fault = (fault ≡ Desk (Store Failed)) ⊎ (fault ≡ OutOfMemory)
 
--- what is there once a mail was put there, if that is known
+-- Returns the content of an outlet after one more mail, if it is known.
 abbrev pub after_one : {M : Type 0} → (M → Letter → M) → Option M → Letter → Option M
 after_one after there letter = option_map (λ there. after there letter) there
 
--- a mail was put there, or failed and was not
+-- A mail was put into an outlet, or failed and was not.
 abbrev pub PutsOne : {M : Type 0} → (M → Letter → M) → Letter → Option M → Option M → Result (Unit {0}) ToolFault →
     Type 0
 PutsOne after letter old new (Ok done) = new ≡ after_one after old letter
 PutsOne after letter old new (Err fault) = IsFileFault fault × (new ≡ old)
 
--- the same of mails, one after another
+-- Returns the content of an outlet after mails, one after another, if it is known.
 abbrev pub after_all : {M : Type 0} → (M → Letter → M) → List Letter → Option M → Option M
 after_all after letters there = fold (after_one after) there letters
 
--- All mails were put there, and are counted; or the first of them were, and the next failed, or memory ran out.
+-- All mails were put there, and are counted; or the first of them were, and the next failed, or memory ran
+-- out.
 abbrev pub PutsAll : {M : Type 0} → (M → Letter → M) → List Letter → Option M → Option M → Result ℕ ToolFault → Type 0
 PutsAll after letters old new (Ok count) = (count ≡ length letters) × (new ≡ after_all after letters old)
 PutsAll after letters old new (Err fault) =
@@ -132,8 +136,8 @@ PutsAll after letters old new (Err fault) =
 
 -- ---- the command
 
--- The messages of these sides that want sending were put there, as these bytes tell who asks; or memory ran out to
--- read them, and nothing was put there.
+-- The messages of these sides that want sending were put there, with `bytes` of the messages that ask. Or
+-- memory ran out to read those, and nothing was put there.
 abbrev pub RunsOutbox : {M : Type 0} → (M → Letter → M) → List ℕ → List DeskEntry → Option M → Option M →
     Result ℕ ToolFault → Type 0
 RunsOutbox after bytes held old new (Ok count) =
@@ -142,47 +146,49 @@ RunsOutbox after bytes held old new (Err fault) =
     ((fault ≡ OutOfMemory) × (new ≡ old))
     ⊎ ((asking : List Apdu) × AreIn bytes asking × PutsAll after (letters_of asking held) old new (Err fault))
 
--- the line that tells how many mails left
+-- Returns the line of the number of mails that left.
 abbrev pub sent_line : ℕ → List ℕ
 sent_line count = codes "sent " ++ decimal count ++ codes "\n"
 
--- the bytes of mails, one behind another
+-- Returns the bytes of mails, one after another.
 abbrev pub stream_of : List Letter → List ℕ
 stream_of letters = flat_map (λ letter. letter.bytes) letters
 
--- The messages of these sides that want sending were written, or a prefix of them; or memory ran out for them.
+-- The messages of these sides that want sending were written, or a prefix of them; or memory ran out for
+-- them.
 abbrev pub StreamsOutbox : List ℕ → List DeskEntry → Option (List ℕ) → Option (List ℕ) → Result (Unit {0}) ToolFault →
     Type 0
 StreamsOutbox bytes held before after (Err OutOfMemory) = Appends before after []
 StreamsOutbox bytes held before after result =
     (asking : List Apdu) × AreIn bytes asking × WritesText before after (stream_of (letters_of asking held)) result
 
--- ---- who asked, as an inbox tells
+-- ---- the messages that ask, by an inbox
 
--- a loan is held, and is over
+-- Returns true if a loan is held, and is over.
 abbrev pub is_held_over : Option Side → Bool
 is_held_over None = false
 is_held_over (Some side) = is_over side
 
--- The bytes of a mail ask at this desk, if its message is of a loan that is over.
+-- Returns the bytes of a mail, if its message is of a loan at this desk that is over.
 abbrev pub asks : DeskContents → List ℕ → Result Apdu Unfit → List ℕ
 asks live bytes (Ok a) = if is_held_over (side_with a.txn (sides_held live).sides) then bytes else []
 asks live bytes (Err unfit) = []
 
+-- Returns the bytes of a mail that could be read, if they ask.
 abbrev pub asks_in : DeskContents → Option (List ℕ) → List ℕ
 asks_in live None = []
 asks_in live (Some bytes) = asks live bytes (message_in bytes)
 
--- A mail asks only if the desk has done with it.
+-- Returns the bytes of a mail that ask. It asks only if the desk has done with it.
 abbrev pub asks_of : DeskContents → Mail → Verdict → List ℕ
 asks_of live mail (Done outcome) = asks_in live (option_map (λ bytes. bytes.items) mail.bytes)
 asks_of live mail verdict = []
 
--- the same of a mail and a verdict that may be there
+-- Returns the bytes that ask, if there are a mail and a verdict.
 abbrev pub asks_at : DeskContents → Option Mail → Option Verdict → List ℕ
 asks_at live (Some mail) (Some verdict) = asks_of live mail verdict
 asks_at live mail verdict = []
 
--- the bytes of all mails that ask, by their verdicts
+-- Returns the bytes of all mails that ask, by their verdicts.
 abbrev pub asked_by : DeskContents → List (Mail × Verdict) → List ℕ
 asked_by live mails = flat_map (λ mail. asks_of live mail.0 mail.1) mails

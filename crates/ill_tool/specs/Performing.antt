@@ -1,5 +1,5 @@
--- What came of an action or a message, or of many, whatever keeps the sides: what is seen of it, and what is saved
--- (this profile's own).
+-- The outcome of an action or a message, or of many, for any keeper of sides: the visible outcome, and the
+-- saved record (this profile's own).
 use Rattle.std.specs.Prelude.{◌≡◌, ◌⊎◌, ℕ, nat_lt, ◌≤◌, Bool, true, false, if◌then◌else◌, List, length, take, Option, None, Some, option_map, Result, Ok, Err}
 use Rattle.std.specs.Io.KnownBytes.{Appends}
 use Rattle.ill_values.specs.declared.apdu.Apdu.{Apdu}
@@ -18,9 +18,9 @@ use Rattle.ill_tool.specs.declared.fault.ToolFault.{ToolFault}
 use Rattle.ill_tool.specs.declared.fault.ToolFault.TheVariants.{Desk, Write, OutOfMemory}
 use Rattle.ill_tool.specs.Keeping.{Keeping}
 
--- ---- what is known
+-- ---- the known state
 
--- What is held, and what has landed in the store, of a store of which that is known.
+-- The sides that are held, and the content of the store, if it is known.
 pub record HeldAndLanded (L : Type 0) : Type 0 where
   pub live : L
   pub landed : Option (Option (List ℕ))
@@ -36,7 +36,7 @@ known store = known_if store.is_honest store.landed
 abbrev pub view_of : {L S : Type 0} → (S → StoreState) → L → S → HeldAndLanded L
 view_of state live store = record { live = live; landed = known (state store) }
 
--- the side of a desk of one
+-- Returns the side of a desk of one.
 abbrev pub the_one : {S : Type 0} → DeskOf S → DeskEntry
 the_one desk = record { side = desk.live; released = desk.released }
 
@@ -46,64 +46,64 @@ one_view state desk = view_of state (the_one desk) desk.store
 abbrev pub many_view : {S : Type 0} → (S → StoreState) → ManyOf S → HeldAndLanded DeskContents
 many_view state desk = view_of state desk.live desk.store
 
--- this is held, and not saved yet
+-- Returns the state in which `live` is held, and not saved yet.
 abbrev pub becomes : {L : Type 0} → HeldAndLanded L → L → HeldAndLanded L
 becomes old live = record old { live = live }
 
--- all is saved
+-- Returns the state in which all is saved.
 abbrev pub saved : {L K : Type 0} → Keeping L K → HeldAndLanded L → HeldAndLanded L
 saved keeping old = record {
   live = keeping.saves old.live;
   landed = option_map (λ _. Some (keeping.spelling old.live)) old.landed;
 }
 
--- A save has failed: what is held is as before, and the old record has landed or the new one.
+-- A save has failed: the sides that are held stay, and the old record has landed or the new one.
 abbrev pub IsFaulted : {L K : Type 0} → Keeping L K → HeldAndLanded L → HeldAndLanded L → Type 0
 IsFaulted keeping old new = (new ≡ old) ⊎ (new ≡ record old { landed = (saved keeping old).landed })
 
--- ---- what is seen
+-- ---- the visible outcome
 
--- the fault of a command whose desk has failed
+-- Returns the fault of a command whose desk has failed.
 abbrev pub desk_fault : DeskFault → ToolFault
 desk_fault desks.OutOfMemory = OutOfMemory
 desk_fault other = Desk other
 
--- what is seen of a refusal; no other fault is one
+-- Returns the visible outcome of a refusal. Other faults are none.
 abbrev pub refused : DeskFault → Result DeskOutcome ToolFault
 refused (desks.Core refusal) = Ok (Plain (outcomes.Refused refusal))
 refused desks.NoSuchTransaction = Ok NoSuchTransaction
 refused desks.DeskFull = Ok DeskFull
 refused fault = Err (desk_fault fault)
 
--- an action was done, or refused
+-- Returns the outcome of an action and the sides after it: it was done, or refused.
 abbrev pub acted : {L : Type 0} → L → Result L DeskFault → Result DeskOutcome ToolFault × L
 acted old (Ok new) = (Ok (Plain outcomes.Done), new)
 acted old (Err fault) = (refused fault, old)
 
--- what is seen of a message
+-- Returns the visible outcome of a message.
 abbrev pub answered : Result Taking DeskFault → Result DeskOutcome ToolFault
 answered (Ok taking) = Ok (Plain (outcomes.Answered taking))
 answered (Err fault) = refused fault
 
--- a message was handed to its side
+-- Returns the outcome of a message that was handed to its side, and the sides after it.
 abbrev pub handed : {L K : Type 0} → Keeping L K → L → Apdu → Result DeskOutcome ToolFault × L
 handed keeping live a = (answered (keeping.takes live a).0, (keeping.takes live a).1)
 
--- ---- what is done
+-- ---- the change
 
--- what is seen of a change, which is to be saved: an action was done, or a message was taken
+-- Returns true for a change, which is to be saved: an action was done, or a message was taken.
 abbrev pub is_change : DeskOutcome → Bool
 is_change (Plain outcomes.Done) = true
 is_change (Plain (outcomes.Answered Taken)) = true
 is_change outcome = false
 
+-- The result is a change.
 abbrev pub IsChange : Result DeskOutcome ToolFault → Type 0
 IsChange (Ok outcome) = is_change outcome ≡ true
 IsChange (Err fault) = ⊥
 
--- What came of an event of which this is seen and after which this is held: it happened, and was saved if it
--- was a change; it was one, and the save failed; or memory ran out for it, where it wants memory, or for the
--- save.
+-- The result of an event with this outcome and these sides. It happened, and was saved if it was a change. Or
+-- it was one, and the save failed. Or memory ran out for it, if it needs memory, or for the save.
 abbrev pub Performs : {L K : Type 0} → Keeping L K → Type 0 → HeldAndLanded L → Result DeskOutcome ToolFault × L →
     Result DeskOutcome ToolFault → HeldAndLanded L → Type 0
 Performs keeping WantsMemory old event (Ok outcome) new =
@@ -117,32 +117,34 @@ Performs keeping WantsMemory old event (Err other) new = ⊥
 
 -- ---- many changes, and one save
 
--- there is one at least
+-- Returns true if there is at least one.
 abbrev pub has_any : {X : Type 0} → List X → Bool
 has_any items = nat_lt 0 (length items)
 
 -- The changes are saved at once, if there are any; or that failed, or memory ran out for it.
-abbrev pub SavesOnce : {L K X : Type 0} → Keeping L K → List X → HeldAndLanded L → Result (Unit {0}) ToolFault → HeldAndLanded L → Type 0
+abbrev pub SavesOnce : {L K X : Type 0} → Keeping L K → List X → HeldAndLanded L → Result (Unit {0}) ToolFault
+    → HeldAndLanded L → Type 0
 SavesOnce keeping changes old (Ok done) new = new ≡ (if has_any changes then saved keeping old else old)
 SavesOnce keeping changes old (Err (Desk (desks.Store Failed))) new =
     (has_any changes ≡ true) × IsFaulted keeping old new
 SavesOnce keeping changes old (Err OutOfMemory) new = new ≡ old
 SavesOnce keeping changes old (Err other) new = ⊥
 
--- a run of changes: what is held after them, whether there are any, what is told of them, and what is answered
+-- A run of changes: the sides after them, a flag that there are any, the lines of them, and the answer.
 pub record Run (L A : Type 0) : Type 0 where
   pub live : L
   pub has_changed : Bool
   pub told : List ℕ
   pub answer : A
 
--- what is known after a run: all is saved, if anything has changed
+-- Returns the state after a run: all is saved, if anything has changed.
 abbrev pub after_run : {L K A : Type 0} → Keeping L K → HeldAndLanded L → Run L A → HeldAndLanded L
 after_run keeping old run =
     if run.has_changed then saved keeping (becomes old run.live) else becomes old run.live
 
--- How a run ends. Where all is well it is told. If the writer fails all is saved too. If the one save fails, the old
--- record has landed or that of all changes, and nothing is told. If memory runs out, nothing more has landed.
+-- The end of a run. If all is well its lines are written. If the writer fails all is saved too. If the one
+-- save fails, the old record has landed or that of all changes, and nothing is written. If memory runs out,
+-- nothing more has landed.
 abbrev pub EndsRun : {L K A : Type 0} → Keeping L K → Run L A → Option (List ℕ) → Option (List ℕ) → HeldAndLanded L →
     Result A ToolFault → HeldAndLanded L → Type 0
 EndsRun keeping run before after old (Ok answer) new =
@@ -156,11 +158,12 @@ EndsRun keeping run before after old (Err other) new = ⊥
 
 -- ---- failures of the store
 
+-- If the answer is a failure of the store, their count has risen, or can rise no more.
 abbrev pub ToolFailsCounted : {X : Type 0} → Result X ToolFault → ℕ → ℕ → Type 0
 ToolFailsCounted (Err (Desk (desks.Store Failed))) old new = HasRisen old new
 ToolFailsCounted answer old new = Unit {0}
 
--- The count of the store's failures never falls, and a command answers one only where it has risen, or
--- can rise no more.
+-- The count of the store's failures never falls. A command returns a failure only if it has risen, or can
+-- rise no more.
 abbrev pub CountsToolFailure : {X : Type 0} → Result X ToolFault → ℕ → ℕ → Type 0
 CountsToolFailure answer old new = (old ≤ new) × ToolFailsCounted answer old new

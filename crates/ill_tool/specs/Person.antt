@@ -1,4 +1,5 @@
--- Which mails of a night want a person: those that no loss, delay or repeat of mail explains, and those that stay.
+-- The mails of a night that want a person: those that no loss, delay or repeat of mail explains, and those
+-- that stay.
 use Rattle.std.specs.Prelude.{ℕ, Bool, true, false, List, Option, None, Some, is_some, option_map, Result, Ok, Err}
 use Rattle.std.specs.List.{list_any}
 use Rattle.ill_values.specs.declared.apdu.Apdu.{Apdu}
@@ -19,8 +20,8 @@ use Rattle.ill_tool.specs.declared.person.Matter.{Matter}
 use Rattle.ill_tool.specs.declared.person.Matter.TheVariants as matters
 use Rattle.ill_tool.specs.Inbox.{message_in}
 
--- A message whose conflict is never routine. What a requester is told of the item comes in its order, since all
--- messages are sent again, and so does what a responder is told of it.
+-- Returns true for a message whose conflict is never routine. Messages on the item come to a requester in
+-- their order, since all messages are sent again. So do those that come to a responder.
 abbrev pub is_never_in_conflict : Role → Body → Bool
 is_never_in_conflict Requester (bodies.Shipped due) = true
 is_never_in_conflict Requester (bodies.CancelReply answered is_yes) = true
@@ -31,29 +32,30 @@ is_never_in_conflict Responder bodies.Received = true
 is_never_in_conflict Responder bodies.Returned = true
 is_never_in_conflict role other = false
 
--- ---- what a person is told of
+-- ---- the matter of a mail
 
--- the conflict of a message wants a person, if it is never routine
+-- Returns the matter of a conflict, if it is never routine.
 abbrev pub conflict_matter : Bool → Option Matter
 conflict_matter true = Some matters.Conflict
 conflict_matter false = None
 
--- A message was in conflict.
+-- Returns the matter of a message that was in conflict.
 abbrev pub conflict_of : Role → Result Apdu Unfit → Option Matter
 conflict_of role (Ok a) = conflict_matter (is_never_in_conflict role a.body)
 conflict_of role (Err unfit) = None
 
+-- Returns the matter of a mail whose message was in conflict.
 abbrev pub conflict_in : Role → Option (List ℕ) → Option Matter
 conflict_in role None = None
 conflict_in role (Some bytes) = conflict_of role (message_in bytes)
 
--- why a mail stays
+-- Returns the matter of a mail that stays.
 abbrev pub delay_matter : Delay → Matter
 delay_matter delays.NotRead = matters.NotRead
 delay_matter delays.NoSuchTransaction = matters.NoSuchTransaction
 delay_matter delays.DeskFull = matters.DeskFull
 
--- what of a mail wants a person, if something does, by its verdict at a side of this role
+-- Returns the matter of a mail that wants a person, by its verdict at a side of the role `role`.
 abbrev pub matter_of : Role → Mail → Verdict → Option Matter
 matter_of role mail (Aside unfit) = Some matters.Aside
 matter_of role mail (Left delay) = Some (delay_matter delay)
@@ -61,6 +63,6 @@ matter_of role mail (Done (Plain (Answered (Conflict state)))) =
     conflict_in role (option_map (λ bytes. bytes.items) mail.bytes)
 matter_of role mail (Done outcome) = None
 
--- A night wants a person if one of its mails does.
+-- Returns true if a mail of a night wants a person.
 abbrev pub wants_person : Role → List (Mail × Verdict) → Bool
 wants_person role mails = list_any (λ mail. is_some (matter_of role mail.0 mail.1)) mails

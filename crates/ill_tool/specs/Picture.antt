@@ -21,53 +21,56 @@ use Rattle.ill_tool.specs.Kept.{is_among, kept_text}
 
 -- ---- texts
 
--- A byte that nobody takes for anything else: a letter, a digit, a space, a comma, a hyphen or a full stop of
--- ASCII, or one of a character behind ASCII.
+-- Returns true if a chart may have `byte` as it is. It is a letter or digit of ASCII, a space, a comma, a
+-- hyphen, a full stop, or beyond ASCII.
 abbrev pub is_plain : ℕ → Bool
 is_plain byte =
     is_within 97 122 byte || (is_within 65 90 byte || (is_within 48 57 byte || (byte == 32
     || (is_within 44 46 byte || nat_le 128 byte))))
 
--- A line feed begins a further line of the text of an arrow; any other byte that is not plain is spelled by its
--- number.
+-- Returns the text of a byte. A line feed begins a further line of the text of an arrow. Any other byte that
+-- is not plain is spelled by its number.
 abbrev pub drawn_byte : ℕ → List ℕ
 drawn_byte byte =
     if byte == 10 then codes "<br/>"
     else (if is_plain byte then byte ∷ [] else codes "#" ++ decimal byte ++ codes ";")
 
+-- Returns a text so that Mermaid takes no byte of it for its own.
 abbrev pub drawn : List ℕ → List ℕ
 drawn text = flat_map drawn_byte text
 
 -- ---- arrows
 
--- the number and the type of a message, and the lines of its further fields
+-- Returns the number and the type of a message, and the lines of its further fields.
 abbrev pub label_of : Apdu → List ℕ
 label_of apdu = decimal apdu.number ++ codes " " ++ type_name apdu.body ++ codes "\n" ++ shown_fields apdu.body
 
--- the same without the line feed at its end
+-- Returns a text without its last byte.
 abbrev pub without_last : List ℕ → List ℕ
 without_last text = take (length text - 1) text
 
--- from whom to whom a message goes
+-- Returns the text with the sender and the receiver of a message.
 abbrev pub way_of : Body → List ℕ
 way_of body = if is_requesters body then codes "  requester->>responder: " else codes "  responder->>requester: "
 
+-- Returns the arrow of a message.
 unfoldable pub arrow : Apdu → List ℕ
 arrow apdu = way_of apdu.body ++ drawn (without_last (label_of apdu)) ++ codes "\n"
 
+-- Returns the arrows of messages.
 abbrev pub arrows : List Apdu → List ℕ
 arrows apdus = flat_map arrow apdus
 
--- ---- in which order
+-- ---- the order of the messages
 
--- A message answers the number of another one.
+-- Returns true if a message answers the number `asked`.
 abbrev pub answers : Body → ℕ → Bool
 answers (ConditionalReply number is_yes) asked = number == asked
 answers (CancelReply number is_yes) asked = number == asked
 answers (RenewAnswer number granted) asked = number == asked
 answers other asked = false
 
--- A message of the other side is there before one of this type is issued.
+-- Returns true if a message of the other side is there before one of the type of `own` is issued.
 abbrev pub comes_before : Body → Body → Bool
 comes_before (IllRequest expiry item) own = true
 comes_before (Shipped due) Received = true
@@ -76,38 +79,42 @@ comes_before (Shipped due) Returned = true
 comes_before Returned CheckedIn = true
 comes_before their own = false
 
--- One of theirs stands before an own message, or answers it.
+-- Returns true if one of theirs stands before an own message, or answers it.
 abbrev pub is_linked : Link → Apdu → Apdu → Bool
 is_linked Before own their = comes_before their.body own.body || answers own.body their.number
 is_linked Behind own their = answers their.body own.number
 
--- how many of theirs there are up to the last one that is linked so
+-- The number of messages of theirs that were passed, and the number up to the last that is linked.
 pub record Reached : Type 0 where
   pub place : ℕ
   pub last : ℕ
 
+-- Returns the numbers after one more message of theirs.
 abbrev pub reach : Link → Apdu → Reached → Apdu → Reached
 reach link own far their = record {
   place = far.place + 1;
   last = if is_linked link own their then far.place + 1 else far.last;
 }
 
+-- Returns the number of messages of theirs up to the last that is linked.
 abbrev pub through : Link → Apdu → List Apdu → ℕ
 through link own theirs = (fold (reach link own) (record { place = 0; last = 0 }) theirs).last
 
--- the arrows so far, and the messages of theirs that are left
+-- The arrows so far, and the messages of theirs that are left.
 pub record Drawing : Type 0 where
   pub lines : List ℕ
   pub left : List Apdu
 
--- those of theirs that are linked so, and all before them
+-- Returns the messages of theirs up to the last that is linked.
 abbrev pub linked : Link → Apdu → List Apdu → List Apdu
 linked link own theirs = take (through link own theirs) theirs
 
+-- Returns the messages of theirs after the last that is linked.
 abbrev pub behind : Link → Apdu → List Apdu → List Apdu
 behind link own theirs = drop (through link own theirs) theirs
 
--- With an own message: before it those of theirs that stand before it, and behind it those that answer it.
+-- Returns the drawing after an own message. The messages of theirs that stand before it come first, and those
+-- that answer it come after it.
 abbrev pub with_own : Drawing → Apdu → Drawing
 with_own so_far own =
     let left = behind Before own so_far.left in
@@ -118,28 +125,33 @@ with_own so_far own =
 
 -- ---- the picture
 
--- The messages that came: of a responder its request too, which the record has.
+-- Returns the messages that came, with the request before them, if it is not among them.
 abbrev pub with_request : Option Apdu → List Apdu → List Apdu
 with_request None kept = kept
 with_request (Some request) kept = if is_among kept request then kept else request ∷ kept
 
+-- Returns the messages that came, and of a responder its request too, which the record has.
 abbrev pub theirs_of : Side → List Apdu → List Apdu
 theirs_of (Requester x) kept = kept
 theirs_of (Responder y) kept = with_request y.request kept
 
+-- Returns the first lines of a picture.
 abbrev pub opening : List ℕ
 opening = codes "sequenceDiagram\n  participant requester\n  participant responder\n"
 
+-- Returns the arrows so far, and those of the messages of theirs that are left.
 abbrev pub all_drawn : Drawing → List ℕ
 all_drawn drawing = drawing.lines ++ arrows drawing.left
 
+-- Returns the picture of the messages `own` and `theirs`.
 abbrev pub picture_of : List Apdu → List Apdu → List ℕ
 picture_of own theirs = all_drawn (fold with_own (record { lines = opening; left = theirs }) own)
 
+-- Returns the picture of a side and the messages that came to it.
 abbrev pub picture : DeskEntry → List Apdu → List ℕ
 picture held kept = picture_of (issued_of held.side) (theirs_of held.side kept)
 
--- what is written of a loan: an object, its picture, or its lines
+-- Returns the text of a loan: an object, its picture, or its lines.
 abbrev pub drawn_or_shown : Form → Bool → DeskEntry → List Apdu → List ℕ
 drawn_or_shown Json is_picture = kept_text Json
 drawn_or_shown Lines true = picture

@@ -11,7 +11,7 @@ use Rattle.ill_tool.specs.declared.fault.ToolFault.{ToolFault}
 use Rattle.ill_tool.specs.declared.fault.ToolFault.TheVariants.{Desk}
 use Rattle.ill_tool.specs.Output.{WritesText}
 
--- The message, if there is one with the number, and whether it may be sent: only then it is written.
+-- The message with the number is written, if there is one, and it may be sent.
 abbrev pub WritesMessage : Option Apdu → Bool → Option (List ℕ) → Option (List ℕ) →
     Result (Unit {0}) ToolFault → Type 0
 WritesMessage None is_released before after result =
@@ -19,7 +19,7 @@ WritesMessage None is_released before after result =
 WritesMessage (Some a) false before after result = (result ≡ Err (Desk NotSaved)) × Appends before after []
 WritesMessage (Some a) true before after result = WritesText before after (spelling a) result
 
--- The command: the message with this number of the side, if one is held.
+-- The command: the message `number` of the side, if one is held.
 abbrev pub RunsSend : Option DeskEntry → ℕ → Option (List ℕ) → Option (List ℕ) → Result (Unit {0}) ToolFault →
     Type 0
 RunsSend None number before after result =

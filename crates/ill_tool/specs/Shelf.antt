@@ -33,19 +33,20 @@ use Rattle.ill_tool.specs.Status.{role_name}
 
 -- ---- the names of desks
 
--- The name of the desk of a group: the group in percent-encoding, and behind a full stop the role.
+-- Returns the name of the desk of a group: the group in percent-encoding, a full stop, and the role.
 abbrev pub desk_name : Role → List ℕ → List ℕ
 desk_name role group = percent_encode ESCAPED group ++ (codes "." ++ role_name role)
 
--- The path of that desk, on the shelf in a folder.
+-- Returns the path of that desk, on the shelf in `folder`.
 abbrev pub desk_path : List ℕ → Role → List ℕ → List ℕ
 desk_path folder role group = folder ++ (codes "/" ++ desk_name role group)
 
 -- ---- mail
 
--- The way of a mail's message, by the role of the shelf, what the shelf has of its group, if it is an ILL-Request, and
--- if further desks may be made in this run. Mail makes a desk of a group of which the shelf has nothing, and only an
--- ILL-Request at a responder's does. No mail makes the desk anew of a group that is retired, or whose desk is lost.
+-- Returns the way of a mail's message. It depends on the role of the shelf, on the home of its group, on
+-- `is_request`, and on `has_room`: further desks may be made in this run. Mail makes a desk only of a group
+-- without a home, and only by an ILL-Request at a responder's shelf. No mail makes the desk of a retired
+-- group, or one that is lost.
 abbrev pub route_of : Role → Home → (is_request has_room : Bool) → Route
 route_of role homes.Desk is_request has_room = routes.Home
 route_of role homes.Retired is_request has_room = routes.Gone
@@ -56,59 +57,61 @@ route_of role homes.Nothing is_request has_room = routes.Stray
 
 -- ---- one desk after another
 
--- The graver of two answers: a fault before mails that are left, these before something that wants a person.
+-- Returns the graver of two answers: a fault before mails that are left, these before something that wants a
+-- person.
 abbrev pub graver : Result Bool ToolFault → Result Bool ToolFault → Result Bool ToolFault
 graver (Err Left) (Err fault) = Err fault
 graver (Err fault) other = Err fault
 graver (Ok is_well) (Err fault) = Err fault
 graver (Ok is_well) (Ok other) = Ok (is_well && other)
 
--- a visit to a desk: its path, what the writer held before and after it, and what it answered
+-- A visit to a desk: its path, the output before and after it, and its answer.
 pub record Stop : Type 0 where
   pub path : List ℕ
   pub before : Option (List ℕ)
   pub after : Option (List ℕ)
   pub answer : Result Bool ToolFault
 
--- The visits follow each other, from what the writer held to what it holds.
+-- The visits follow each other, from the output `before` to `after`.
 unfoldable pub Follow : Option (List ℕ) → List Stop → Option (List ℕ) → Type 0
 Follow before [] after = after ≡ before
 Follow before (stop ∷ stops) after = (stop.before ≡ before) × Follow stop.after stops after
 
--- what the visits come to together
+-- Returns the gravest answer of the visits.
 abbrev pub gravest : List Stop → Result Bool ToolFault
 gravest stops = fold graver (Ok true) (map (λ stop. stop.answer) stops)
 
--- A desk was visited behind the line of its path; or that line could not be written.
+-- A desk was visited after the line of its path; or that line could not be written.
 abbrev pub Behind : (Option (List ℕ) → Option (List ℕ) → Result Bool ToolFault → Type 0) → Result (Unit {0}) ToolFault →
     Option (List ℕ) → Option (List ℕ) → Result Bool ToolFault → Type 0
 Behind Runs (Ok done) between after answer = Runs between after answer
 Behind Runs (Err fault) between after answer = (answer ≡ Err fault) × (after ≡ between)
 
+-- The line of its path was written if `is_headed`, and then a desk was visited.
 abbrev pub Headed : Bool → (Option (List ℕ) → Option (List ℕ) → Result Bool ToolFault → Type 0) → Stop → Type 0
 Headed is_headed Runs stop =
     (between : Option (List ℕ)) × (told : Result (Unit {0}) ToolFault)
     × WritesText stop.before between (heading is_headed stop.path) told × Behind Runs told between stop.after stop.answer
 
--- a form in which a line of its path stands before each desk
+-- Returns true for the form in which a line of its path stands before each desk.
 abbrev pub is_lines : Form → Bool
 is_lines Lines = true
 is_lines form = false
 
--- the desks are told apart by a line of the path of each, unless bytes or objects are written
+-- Returns true if a line of the path stands before each desk: unless bytes or objects are written.
 abbrev pub is_headed : Visit → Bool
 is_headed (visits.Status form) = is_lines form
 is_headed (visits.Outbox folder) = is_some folder
 is_headed visit = true
 
--- what a visit does at a desk: what the command for one desk does
+-- A visit has the effect of the command for one desk.
 abbrev pub RunsVisit : Visit → Option (List ℕ) → Option (List ℕ) → Result Bool ToolFault → Type 0
 RunsVisit (visits.Status form) = ShowsFile form
 RunsVisit (visits.Inbox folder) = InboxAtFile
 RunsVisit (visits.Outbox folder) = OutboxAtFile (is_some folder)
 RunsVisit (visits.Exchange night) = ExchangesAtFile night.dates
 
--- The desks at these paths were visited, one after another; and this is the gravest of what they answered.
+-- The desks at `paths` were visited, one after another, and this is the gravest of their answers.
 abbrev pub VisitsAll : Bool → (Option (List ℕ) → Option (List ℕ) → Result Bool ToolFault → Type 0) → List (List ℕ) →
     Option (List ℕ) → Option (List ℕ) → Result Bool ToolFault → Type 0
 VisitsAll is_headed Runs paths before after answer =
@@ -121,7 +124,8 @@ IsFurther (Ok is_well) = is_well ≡ true
 IsFurther (Err Left) = Unit {0}
 IsFurther (Err fault) = IsFileFault fault
 
--- The desks of a shelf were visited. What it answers is graver yet if mails wait that have no desk, or a file failed.
+-- The desks of a shelf were visited. The answer is graver yet if mails wait that have no desk, or a file
+-- failed. Or the shelf was shut.
 abbrev pub VisitsShelf : Bool → (Option (List ℕ) → Option (List ℕ) → Result Bool ToolFault → Type 0) → Option (List ℕ) →
     Option (List ℕ) → Result Bool ToolFault → Type 0
 VisitsShelf is_headed Runs before after result =
@@ -131,33 +135,34 @@ VisitsShelf is_headed Runs before after result =
 
 -- ---- retired groups
 
--- all loans of a desk are over
+-- Returns true if all loans of a desk are over.
 abbrev pub are_all_over : List Side → Bool
 are_all_over sides = list_all is_over sides
 
--- the bytes of the file that marks a retired group
+-- Returns the bytes of the file that marks a retired group.
 abbrev pub retired_mark : List ℕ
 retired_mark = codes "retired\n"
 
--- The group of a desk is marked as retired, in a store of which this is known, if all loans of the desk are over. If
--- memory ran out before that was known, nothing is marked.
+-- If all loans of a desk are over, its group is marked in a store with the known content `old`. If memory ran
+-- out before that was known, nothing is marked.
 abbrev pub Retires : List Side → Option (Option (List ℕ)) → Result Bool ToolFault → Option (Option (List ℕ)) → Type 0
 Retires sides old (Ok true) new = (are_all_over sides ≡ true) × Copies retired_mark old (Ok tt) new
 Retires sides old (Ok false) new = (are_all_over sides ≡ false) × (new ≡ old)
 Retires sides old (Err OutOfMemory) new = new ≡ old
 Retires sides old (Err fault) new = (are_all_over sides ≡ true) × Copies retired_mark old (Err fault) new
 
--- the line of a group that is retired, or is not since a loan is not over
+-- Returns the line of a group that is retired, or of one with a loan that is not over.
 abbrev pub retired_line : Bool → List ℕ
 retired_line true = codes "done\n"
 retired_line false = codes "not-now\n"
 
--- what a line that was written answers
+-- Returns the answer of a command that has written its line, or could not.
 abbrev pub told_with : Bool → Result (Unit {0}) ToolFault → Result Bool ToolFault
 told_with is_well (Ok done) = Ok is_well
 told_with is_well (Err fault) = Err fault
 
--- A group was retired at a desk's file, or was before, or is not; and that was told.
+-- A group was retired at a desk's file, or was before, or is not, and its line was written. Or a file was
+-- shut.
 abbrev pub RetiresAtFile : Option (List ℕ) → Option (List ℕ) → Result Bool ToolFault → Type 0
 RetiresAtFile before after result =
     IsShut before after result
@@ -166,7 +171,8 @@ RetiresAtFile before after result =
 
 -- ---- an input
 
--- how far an input is: if messages are kept and told at length, if all went well, and what the writer holds
+-- The state of an input: flags that messages are kept, that they are told at length, and that all went well,
+-- and the output.
 pub record ShelfTaking : Type 0 where
   pub is_kept : Bool
   pub is_long : Bool
@@ -183,11 +189,11 @@ takes_home old a (Err fault) new =
     (rest : Option (List ℕ))
     × TakesAtFile old.is_kept old.is_long (Some (spelling a)) rest old.written new.written (Err fault)
 
--- before the first APDU
+-- Returns the state before the first APDU.
 abbrev pub shelf_taking : (is_kept is_long : Bool) → Option (List ℕ) → ShelfTaking
 shelf_taking is_kept is_long before = record { is_kept = is_kept; is_long = is_long; all_fine = true; written = before }
 
--- The APDUs of an input were taken, each at a desk.
+-- The APDUs of an input were taken, each at a desk; or the shelf was shut.
 abbrev pub TakesAtShelf : (is_kept is_long : Bool) → Option (List ℕ) → Option (List ℕ) → Option (List ℕ) →
     Option (List ℕ) → Result Bool ToolFault → Type 0
 TakesAtShelf is_kept is_long left rest before after result =
@@ -198,8 +204,8 @@ TakesAtShelf is_kept is_long left rest before after result =
 
 -- ---- the commands
 
--- A command on a shelf, from what the reader had left to what it has left, and from what the writer held to what it
--- holds. In a transaction it does at the desk of its group what the command for one desk does.
+-- A command on a shelf, from the input `left` to `rest`, and from the output `before` to `after`. In a
+-- transaction it has the effect of the command for one desk at the desk of its group.
 abbrev pub RunsShelf : Asked → Option (List ℕ) → Option (List ℕ) → Option (List ℕ) → Option (List ℕ) →
     Result Bool ToolFault → Type 0
 RunsShelf (asks.New folder role) left rest before after result = (rest ≡ left) × NewAtFile before after result

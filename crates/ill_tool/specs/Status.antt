@@ -14,33 +14,33 @@ use Rattle.ill_world.specs.Words.{spaced}
 use Rattle.ill_world.specs.Trace.{due_text}
 use Rattle.ill_tool.specs.Lines.{line, id_lines}
 
--- the name of a role
+-- Returns the name of a role.
 abbrev pub role_name : Role → List ℕ
 role_name roles.Requester = codes "requester"
 role_name roles.Responder = codes "responder"
 
--- a mark, if it holds
+-- Returns a mark, if it holds.
 abbrev pub mark : Bool → List ℕ → List (List ℕ)
 mark true word = word ∷ []
 mark false word = []
 
--- the marks of a side that hold
+-- Returns the marks of a side that hold.
 abbrev pub marks_of : Side → List (List ℕ)
 marks_of (Requester x) =
     mark (is_received_by x) (codes "received") ++ mark x.checked_in (codes "checked-in")
     ++ mark (is_declined x) (codes "declined")
 marks_of (Responder y) = mark y.received (codes "received")
 
--- words with one space between each and the next, or a dash where there are none
+-- Returns words with one space between two, or a dash if there are none.
 abbrev pub spaced_or_dash : List (List ℕ) → List ℕ
 spaced_or_dash [] = codes "-"
 spaced_or_dash (first ∷ more) = spaced first more
 
--- how many of the messages may be sent, and how many there are
+-- Returns the number of messages that may be sent, and that of all.
 abbrev pub counts_text : Side → ℕ → List ℕ
 counts_text side released = decimal released ++ codes "/" ++ decimal (length (issued_of side))
 
--- the lines of a side
+-- Returns the lines of a side.
 unfoldable pub status_lines : Side → ℕ → List ℕ
 status_lines side released =
     line (codes "role") (role_name (role_of side)) ++ id_lines (txn_of side).group (txn_of side).transaction
@@ -48,9 +48,10 @@ status_lines side released =
     ++ line (codes "messages") (counts_text side released)
     ++ line (codes "marks") (spaced_or_dash (marks_of side))
 
--- the lines of each side that is held, in their order
+-- Returns the lines of a side that is held.
 abbrev pub held_lines : DeskEntry → List ℕ
 held_lines held = status_lines held.side held.released
 
+-- Returns the lines of each side that is held, in their order.
 abbrev pub desk_lines : List DeskEntry → List ℕ
 desk_lines held = flat_map held_lines held

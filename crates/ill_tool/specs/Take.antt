@@ -1,4 +1,4 @@
--- The command `take`: each APDU of an input is handed to the side that it is for, and saved where it was taken.
+-- The command `take`: each APDU of an input is handed to the side that it is for, and saved if it was taken.
 use Rattle.std.specs.Prelude.{◌≡◌, ◌⊎◌, ℕ, ◌≤◌, Bool, true, false, ◌&&◌, List, [], take, Option, None, Result, Ok, Err}
 use Rattle.std.specs.Io.KnownBytes.{Appends}
 use Rattle.ill_values.specs.declared.apdu.Apdu.{Apdu}
@@ -17,29 +17,29 @@ use Rattle.ill_tool.specs.Telling.{is_fine, Wording, Reports}
 
 -- ---- one message
 
--- What a message did: it was handed to its side, and saved where it was taken; it was taken, and the
--- save failed; or memory ran out for it, where it takes memory, or for the save.
+-- The result of a message. It was handed to its side, and saved if it was taken. Or it was taken, and the
+-- save failed. Or memory ran out for it, if it takes memory, or for the save.
 abbrev pub TakesAndSaves : {L K : Type 0} → Keeping L K → HeldAndLanded L → Apdu → Result DeskOutcome ToolFault →
     HeldAndLanded L → Type 0
 TakesAndSaves keeping old a result new =
     Performs keeping (WantsMemory keeping old.live a) old (handed keeping old.live a) result new
 
--- ---- what is kept of it
+-- ---- the bytes that are kept
 
--- the bytes of a message, where it is kept
+-- Returns the bytes of a message, if it is kept.
 abbrev pub kept_text : Bool → Apdu → List ℕ
 kept_text true a = spelling a
 kept_text false a = []
 
--- A text was written and flushed; or a front of it was written, and that is a failure of the store; or memory ran
--- out for it.
+-- A text was written and flushed. Or a prefix of it was written, and that is a failure of the store. Or
+-- memory ran out for it.
 abbrev pub KeepsFront : List ℕ → Option (List ℕ) → Option (List ℕ) → Result (Unit {0}) ToolFault → Type 0
 KeepsFront text before after (Ok done) = Appends before after text
 KeepsFront text before after (Err (Desk (desks.Store Failed))) = (size : ℕ) × Appends before after (take size text)
 KeepsFront text before after (Err OutOfMemory) = Appends before after []
 KeepsFront text before after (Err other) = ⊥
 
--- A text is kept before more has landed: all of it is, or a front of it, and nothing more has landed.
+-- A text is kept before more has landed: all of it is, or a prefix of it, and nothing more has landed.
 abbrev pub KeepsBefore : {L X : Type 0} → List ℕ → Result X ToolFault → Option (List ℕ) → Option (List ℕ) →
     HeldAndLanded L → HeldAndLanded L → Type 0
 KeepsBefore text (Ok done) before after old new = Appends before after text
@@ -47,8 +47,8 @@ KeepsBefore text (Err fault) before after old new =
     Appends before after text
     ⊎ ((size : ℕ) × Appends before after (take size text) × (new.landed ≡ old.landed))
 
--- What is kept of a message: its bytes where it was taken, and else nothing. Where there was a fault, it was to be
--- taken, and was kept before that landed.
+-- The bytes of a message are kept if it was taken. If there was a fault, it was to be taken, and was kept
+-- before that landed.
 abbrev pub KeepsTaken : {L : Type 0} → Bool → Apdu → Result DeskOutcome ToolFault → Option (List ℕ) →
     Option (List ℕ) → HeldAndLanded L → HeldAndLanded L → Type 0
 KeepsTaken is_kept a (Ok outcome) before after old new =
@@ -56,32 +56,34 @@ KeepsTaken is_kept a (Ok outcome) before after old new =
 KeepsTaken is_kept a (Err fault) before after old new =
     KeepsBefore {X = Unit {0}} (kept_text is_kept a) (Err fault) before after old new
 
--- What was taken is saved, or the save failed, or memory ran out for it.
+-- The taken message is saved, or the save failed, or memory ran out for it.
 abbrev pub SavesTaken : {L K : Type 0} → Keeping L K → HeldAndLanded L → Result (Unit {0}) ToolFault → HeldAndLanded L → Type 0
 SavesTaken keeping old (Ok done) new = new ≡ saved keeping old
 SavesTaken keeping old (Err (Desk (desks.Store Failed))) new = IsFaulted keeping old new
 SavesTaken keeping old (Err OutOfMemory) new = new ≡ old
 SavesTaken keeping old (Err other) new = ⊥
 
--- The count of the store's failures never falls. Where nothing is kept, a failure is answered only where it has
+-- The count of the store's failures never falls. If nothing is kept, a failure is returned only if it has
 -- risen, or can rise no more.
 abbrev pub CountsTaking : {X : Type 0} → Bool → Result X ToolFault → ℕ → ℕ → Type 0
 CountsTaking is_kept answer old new = (old ≤ new) × (is_kept ≡ false → ToolFailsCounted answer old new)
 
 -- ---- the command
 
--- how far the command is: what is known, what is kept, what the writer holds, and whether all went well so far
+-- The state of the command: the known state of the desk, the kept bytes, the output, and a flag that all went
+-- well so far.
 pub record Progress (L : Type 0) : Type 0 where
   pub view : HeldAndLanded L
   pub came : Option (List ℕ)
   pub written : Option (List ℕ)
   pub fine : Bool
 
+-- Returns the state with these parts.
 abbrev pub progress : {L : Type 0} → HeldAndLanded L → Option (List ℕ) → Option (List ℕ) → Bool → Progress L
 progress view came written fine = record { view = view; came = came; written = written; fine = fine }
 
--- A message is taken: it was handed to its side, kept, saved where it was taken, and told; or memory ran out
--- to read it, and nothing changed; or it was performed as far as the fault let it, and told.
+-- A message is taken: it was handed to its side, kept, saved if it was taken, and told. Or memory ran out to
+-- read it, and nothing changed. Or it was performed as far as the fault let it, and told.
 abbrev pub takes_each : {L K : Type 0} → Bool → Wording → Keeping L K → Handles (Progress L) ToolFault
 takes_each is_kept told keeping old a (Ok done) new =
     (outcome : DeskOutcome) × TakesAndSaves keeping old.view a (Ok outcome) new.view
@@ -96,14 +98,13 @@ takes_each is_kept told keeping old a (Err fault) new =
     × Appends old.written new.written text
     × Reports (told a) performed (keeping.side_for (keeping.key_of a) new.view.live) text (Err fault))
 
--- what is answered, at the end of the input or before it
+-- Returns the answer, at the end of the input or before it.
 abbrev pub answer_of : Result ℕ ToolFault → Bool → Result Bool ToolFault
 answer_of (Ok count) fine = Ok fine
 answer_of (Err fault) fine = Err fault
 
--- Taking, told in these words, from what the reader had left to what it has left, from what is kept to what is,
--- from what the writer held to what it holds, and from what was known to what is known. At the end of the input it
--- is answered whether all went well.
+-- The command, in the words `told`. It leads from the input `old` to `new`, and changes the kept bytes, the
+-- output and the desk. At the end of the input it returns true if all went well.
 abbrev pub RunsTaking : {L K : Type 0} → Bool → Wording → Keeping L K → Option (List ℕ) → Option (List ℕ) →
     Option (List ℕ) → Option (List ℕ) → Option (List ℕ) → Option (List ℕ) → HeldAndLanded L → Result Bool ToolFault →
     HeldAndLanded L → Type 0
@@ -112,20 +113,20 @@ RunsTaking is_kept told keeping old new kept_before kept_after before after from
     × ReadsInput (takes_each is_kept told keeping) old new (progress from kept_before before true) ended
     (progress to kept_after after fine)
 
--- the same, where no message is kept
+-- The command if no message is kept.
 abbrev pub RunsTake : {L K : Type 0} → Wording → Keeping L K → Option (List ℕ) → Option (List ℕ) →
     Option (List ℕ) → Option (List ℕ) → HeldAndLanded L → Result Bool ToolFault → HeldAndLanded L → Type 0
 RunsTake told keeping old new before after from result to =
     RunsTaking false told keeping old new None None before after from result to
 
--- the same, where each is kept that was taken
+-- The command if each message that was taken is kept.
 abbrev pub RunsKeptTake : {L K : Type 0} → Wording → Keeping L K → Option (List ℕ) → Option (List ℕ) →
     Option (List ℕ) → Option (List ℕ) → Option (List ℕ) → Option (List ℕ) → HeldAndLanded L → Result Bool ToolFault →
     HeldAndLanded L → Type 0
 RunsKeptTake told keeping old new kept_before kept_after before after from result to =
     RunsTaking true told keeping old new kept_before kept_after before after from result to
 
--- what is lent is the same, and the failures of the store are counted
+-- The lent keeper and file are those of before, and the failures of the store are counted.
 abbrev pub KeepsDesk : {X N M : Type 0} → Bool → Result X ToolFault → N → N → M → M → ℕ → ℕ → Type 0
 KeepsDesk is_kept result old new old_came new_came before after =
     ((new ≡ old) × (new_came ≡ old_came)) × CountsTaking is_kept result before after

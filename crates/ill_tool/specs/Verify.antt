@@ -17,30 +17,32 @@ use Rattle.ill_tool.specs.Status.{role_name}
 use Rattle.ill_tool.specs.Performing.{desk_fault}
 use Rattle.ill_tool.specs.Output.{WritesText}
 
--- the version of a record that was read
+-- Returns the version of a record that was read.
 abbrev pub version_of : List ℕ → List ℕ
 version_of bytes = if is_version_1 bytes then codes "1" else codes "2"
 
--- how many messages all sides have issued together
+-- Returns the number of messages that all sides have issued together.
 abbrev pub issued_by_all : List Side → ℕ
 issued_by_all sides = sum_by (λ side. length (issued_of side)) sides
 
--- The lines of a record that has these bytes, and of the sides that it spells: its version, their role, how many
--- there are, how many messages they have issued, and for how many more sides there is room.
+-- Returns the lines of a record with these bytes and these sides. They are its version, its role, the number
+-- of its sides, and that of their messages. The last has the number of further sides for which there is room.
 unfoldable pub verify_lines : List ℕ → SidesOf → List ℕ
 verify_lines bytes all =
     line (codes "version") (version_of bytes) ++ (line (codes "role") (role_name all.role)
     ++ (number_line (codes "loans") (length all.sides) ++ (number_line (codes "messages") (issued_by_all all.sides)
     ++ number_line (codes "room") (most_sides - length all.sides))))
 
--- What is written of bytes that spell these sides; of others their fault is answered, and nothing is written.
+-- The lines of bytes with these sides are written. For other bytes their fault is returned, and nothing is
+-- written.
 abbrev pub Verifies : List ℕ → Result SidesOf RecordFault → Option (List ℕ) → Option (List ℕ) →
     Result (Unit {0}) ToolFault → Type 0
 Verifies bytes (Ok all) before after result = WritesText before after (verify_lines bytes all) result
 Verifies bytes (Err fault) before after (Err OutOfMemory) = Appends before after []
 Verifies bytes (Err fault) before after result = (result ≡ Err (Desk (Saved fault))) × Appends before after []
 
--- the same of what a store gave: bytes, nothing, or a fault
+-- The lines of the load of a store are written, if it gave bytes. If it gave nothing, or a fault, nothing is
+-- written.
 abbrev pub VerifiesLoaded : Result (Option (List ℕ)) StoreFault → Option (List ℕ) → Option (List ℕ) →
     Result (Unit {0}) ToolFault → Type 0
 VerifiesLoaded (Ok (Some bytes)) before after result = Verifies bytes (records_at bytes) before after result

@@ -17,12 +17,12 @@ use ill_world::{DeskOutcome, Outcome};
 use std::alloc::Global;
 use std::io::Write;
 
-/// Performs the action that the words name, saves it, and writes a line of what was done and how the
-/// side stands. It answers whether the action was done; a refused one changes and saves nothing.
+/// Performs the action that `words` name and saves it. Then it writes a line that tells the outcome and how the side
+/// stands. Returns true if the action was done. A refused action changes and saves nothing.
 ///
-/// A responder acts on a day, `today`; a requester's is not looked at. Words that name no action are
-/// `Arguments`. If the save fails, the action is done in memory, and its message may not be sent. If
-/// the writer fails, or memory runs out for the line, what was saved stays so.
+/// A responder acts on the day `today`; a requester needs none. If `words` name no action, the fault is `Arguments`. If
+/// the save fails, the action is done in memory, and its message may not be sent. If the writer fails, or memory runs
+/// out for the line, the saved record stays.
 pub fn run_act<S: Store, W: Write>(
     alloc: Global,
     desk: &mut Desk1<S>,
@@ -40,9 +40,9 @@ pub fn run_act<S: Store, W: Write>(
     act_on(alloc, desk, &(), today, words, writer)
 }
 
-/// The same, on the side of a transaction at a desk. Where it is not held and the action does not begin it,
-/// `no-such-transaction` is written, and where no more can be held, `desk-full`; both are refusals. The words are
-/// judged before the transaction is looked for.
+/// Performs the action that `words` name on the side of `txn` at `desk`, as `run_act` does. If the desk does not hold
+/// it and the action does not begin it, it writes `no-such-transaction`. If the desk has no room for it, it writes
+/// `desk-full`. Both are refusals. It reads `words` before it looks for the transaction.
 pub fn run_desk_act<S: Store, W: Write>(
     alloc: Global,
     desk: &mut Desk<S>,
@@ -61,7 +61,7 @@ pub fn run_desk_act<S: Store, W: Write>(
     act_on(alloc, desk, txn, today, words, writer)
 }
 
-/// The same, on a side of what keeps it.
+/// Performs the action that `words` name on the side `key` of `keeper`, saves it, and writes its line.
 fn act_on<K: Keeper, W: Write>(
     alloc: Global,
     keeper: &mut K,
@@ -87,7 +87,7 @@ fn act_on<K: Keeper, W: Write>(
     }
 }
 
-/// Performs an action and, if it was done, saves it.
+/// Performs `action` on the side `key`, and saves it if it was done.
 fn act_and_save<K: Keeper>(
     alloc: Global,
     keeper: &mut K,

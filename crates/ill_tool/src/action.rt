@@ -1,4 +1,4 @@
-//! What the words of a command line say that a side is to do.
+//! Reads the action of a side from the words of a command line.
 
 ghost use Rattle.std.specs.Prelude.{◌≡◌, map, IfOk};
 ghost use Rattle.std.specs.List.{list_all};
@@ -9,11 +9,11 @@ use ill_values::{Day, OutOfMemory};
 use ill_world::words::{deed, wish};
 use std::alloc::Global;
 
-/// The action that the words name, if they name one. They are the words of a wish or of a deed, by the
-/// role of the side, as a script has them behind the side, and none is empty or has a space.
+/// Returns the action that `words` name, if they name one. A requester's words name a wish, and a responder's a deed,
+/// as in the line of a script. No word may be empty or hold a space.
 ///
-/// A deed is done on a day, so without `today` no words name one. The day on which something is due
-/// may be said as `+` and one to five digits, for so many days after today.
+/// A deed is done on a day, so without `today` no words name one. A due day may also be `+` and one to five digits:
+/// that number of days after `today`.
 #[tactic(auto, unfolding(crate::specs::Actions::action_named))]
 pub fn action(
     alloc: Global,
@@ -32,7 +32,7 @@ pub fn action(
     }
 }
 
-/// The action that words name which a script may have too.
+/// Returns the action that `words` name for `role`, if a script may have them too.
 fn action_for(
     alloc: Global,
     role: Role,
@@ -48,7 +48,7 @@ fn action_for(
     }
 }
 
-/// The words as bytes.
+/// Returns `words` as bytes.
 fn slices<'a>(alloc: Global, words: &[&'a str]) -> Result<Vec<&'a [u8]>, OutOfMemory>
     ensures { IfOk result (λ slices. map (λ word. word.now) slices.items
         ≡ map (λ word. word.now) words.now) }
@@ -56,21 +56,21 @@ fn slices<'a>(alloc: Global, words: &[&'a str]) -> Result<Vec<&'a [u8]>, OutOfMe
     words.iter().map(|word| word.as_bytes()).collect(alloc)
 }
 
-/// Whether a script may have these words too.
+/// Tells if a script may have all of `words`.
 fn are_words(words: &[&str]) -> bool
     ensures { result ≡ list_all (λ word. is_word word.now) words.now }
 {
     words.iter().all(|word| is_word(word.as_bytes()))
 }
 
-/// Whether a word could stand in a script: it is not empty, and has no space.
+/// Tells if a script may have `word`: it is not empty, and has no space.
 fn is_word(word: &[u8]) -> bool
     ensures { result ≡ is_word word.now }
 {
     !word.is_empty() && !word.contains(&b' ')
 }
 
-/// The deed that the words say, if there is a day to do it on.
+/// Returns the deed that `words` name on the day `today`. Without a day there is none.
 fn deed_on(today: Option<Day>, words: &[&[u8]]) -> Option<Action>
     ensures { result ≡ deed_on today (map (λ word. word.now) words.now) }
 {

@@ -1,4 +1,4 @@
-//! Who asks: the messages that came in a night for loans that are over.
+//! The messages of a night's mails that came for loans that are over.
 
 ghost use Rattle.std.specs.Prelude.{◌≡◌, ◌++◌, Ok, slice_get, IfOk, OnOk};
 ghost use Rattle.std.specs.List.{zip};
@@ -13,8 +13,8 @@ use ill_values::{OutOfMemory, TxnId};
 use ill_world::is_over;
 use std::alloc::Global;
 
-/// The messages of mails, one behind another, that came for loans that are over, and with which the desk has done. A
-/// responder answers them in the next outbox.
+/// Returns the bytes of the messages of `mails` that came for loans that are over. The desk has done with each of them.
+/// They stand one after another. A responder answers them in the next outbox.
 pub fn asked_by<S: Store>(
     alloc: Global,
     desk: &Desk<S>,
@@ -30,7 +30,7 @@ pub fn asked_by<S: Store>(
     Ok(asked)
 }
 
-/// Adds the message of the mail at a place, if one is there and asks.
+/// Appends to `asked` the message of the mail at `place`, if there is one and it asks.
 fn push_asking_at<S: Store>(
     asked: &mut Vec<u8>,
     desk: &Desk<S>,
@@ -47,7 +47,7 @@ fn push_asking_at<S: Store>(
     }
 }
 
-/// Adds the message of a mail, if it asks.
+/// Appends to `asked` the message of `mail`, if it asks.
 fn push_asking<S: Store>(
     asked: &mut Vec<u8>,
     desk: &Desk<S>,
@@ -62,7 +62,7 @@ fn push_asking<S: Store>(
     }
 }
 
-/// Adds bytes, if they are a message that asks.
+/// Appends `bytes` to `asked`, if they are a message that asks.
 fn push_asking_bytes<S: Store>(
     asked: &mut Vec<u8>,
     desk: &Desk<S>,
@@ -80,7 +80,7 @@ fn push_asking_bytes<S: Store>(
     Ok(())
 }
 
-/// Tells if the loan of a transaction is among these, and is over.
+/// Tells if `sides` hold the loan of `txn`, and it is over.
 fn is_held_over(sides: &Sides, txn: &TxnId) -> bool
     ensures { result ≡ is_held_over (side_with txn.now sides.now.sides) }
 {

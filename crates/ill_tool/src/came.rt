@@ -1,5 +1,5 @@
-//! The file in which the messages that came are kept, beside that of a desk: a plain row of APDUs. Nothing is decided
-//! by it.
+//! The file that keeps the messages that came to a desk. It stands beside the desk's file, and is a row of APDUs. No
+//! command decides by it.
 
 ghost use Rattle.std.specs.Prelude.{IfErr};
 ghost use Rattle.ill_tool.specs.Commands.{IsOpenFault};
@@ -15,13 +15,13 @@ use std::os::unix::fs::{MetadataExt, OpenOptionsExt, lchown};
 use std::rt::Files;
 use std::{fs, io};
 
-/// The ending of its name, behind that of the desk's file.
+/// The ending of the name of this file, after the name of the desk's file.
 pub(crate) const CAME: &str = ".came";
 
 /// The fault of a message that cannot be kept.
 pub(crate) const STORE_FAILED: ToolFault = ToolFault::Desk(DeskFault::Store(StoreFault::Failed));
 
-/// The file, open. What is written stands behind what it has, and a flush waits until the disk has that.
+/// The open file. A write appends to it, and a flush waits until the disk has all of it.
 #[derive(Drop)]
 pub struct CameFile<F> {
     file: F,
@@ -49,8 +49,8 @@ impl<F: Write + OpenFile> Write for CameFile<F> {
     }
 }
 
-/// Opens the file beside that of a desk, and makes one if none is there. What a crash has left of a message at its
-/// end is cut off. Other bytes that are no message are a failure, and stay.
+/// Opens the file beside that of `desk`, and makes one if there is none. It cuts off the part of a message that a crash
+/// has left at the end. Other bytes that are no message are a failure, and stay.
 pub fn open_came<T: Files>(
     rt: &T,
     alloc: Global,
@@ -74,7 +74,7 @@ pub fn open_came<T: Files>(
     }
 }
 
-/// The bytes of the file beside that of a desk: none, if it is not there.
+/// Returns the bytes of the file beside that of `desk`: none, if there is no file.
 pub fn came_bytes<T: Files>(rt: &T, alloc: Global, desk: &str) -> Result<Vec<u8>, ToolFault>
     ensures { IfErr result IsOpenFault }
 {
@@ -82,13 +82,15 @@ pub fn came_bytes<T: Files>(rt: &T, alloc: Global, desk: &str) -> Result<Vec<u8>
     Ok(load(rt, alloc, path.as_str())?.unwrap_or(Vec::new(alloc)))
 }
 
+/// Returns the path of the file beside that of `desk`.
 fn path(alloc: Global, desk: &str) -> Result<String, OutOfMemory> {
     let mut path = String::from_str(alloc, desk)?;
     path.push_str(CAME)?;
     Ok(path)
 }
 
-/// Loads it as the record of a desk is loaded: the disk has its bytes, and its name, before they are given.
+/// Loads the file at `path` as a desk loads its record. So the disk has its bytes and its name before they are
+/// returned.
 fn load<T: Files>(rt: &T, alloc: Global, path: &str) -> Result<Option<Vec<u8>>, ToolFault>
     ensures { IfErr result IsOpenFault }
 {
@@ -99,8 +101,8 @@ fn load<T: Files>(rt: &T, alloc: Global, path: &str) -> Result<Option<Vec<u8>>, 
     }
 }
 
-/// Makes the file at a path. It is its owner's alone, unless it can be given the group of the desk's file: then it has
-/// the permissions of that file, and its owner too, as far as the system lets it.
+/// Makes the file at `path`. It gets the group of the file `desk`, the permissions of it, and its owner if the system
+/// allows that. If the group cannot be set, only the owner of the new file may read or write it.
 fn make<T: Files>(rt: &T, path: &str, desk: &str) -> io::Result<()> {
     let other = fs::symlink_metadata(rt, desk)?;
     let mut options = OpenOptions::new();
@@ -115,7 +117,7 @@ fn make<T: Files>(rt: &T, path: &str, desk: &str) -> io::Result<()> {
     Ok(())
 }
 
-/// How many bytes behind the last APDU are the front of one.
+/// Returns the number of bytes of an incomplete APDU at the end of `bytes`.
 fn torn(alloc: Global, bytes: &[u8]) -> Result<usize, ToolFault>
     ensures { IfErr result IsOpenFault }
 {
@@ -128,7 +130,7 @@ fn torn(alloc: Global, bytes: &[u8]) -> Result<usize, ToolFault>
     }
 }
 
-/// Opens the file at a path to append to its first so many bytes.
+/// Opens the file at `path` to append to its first `size` bytes.
 fn append<T: Files>(rt: &T, path: &str, size: usize) -> io::Result<T::File> {
     let size = size as u64;
     let mut options = OpenOptions::new();

@@ -10,10 +10,10 @@ use ill_der::{ApduView, Handler};
 use std::alloc::Global;
 use std::io::{Read, Write};
 
-/// Checks the whole input, then writes how many APDUs it has, and answers that number.
+/// Checks the whole input, then writes the number of its APDUs, and returns that number.
 ///
-/// If an APDU is faulty, there are too many or the reader fails, nothing is written; nor if memory runs
-/// out, which is wanted for the line alone. If the writer fails, a front of the line is.
+/// If an APDU is faulty, there are too many or the reader fails, nothing is written. Nothing is written either if
+/// memory runs out, which only the line needs. If the writer fails, it has a prefix of the line.
 pub fn run_check<R: Read, W: Write>(
     alloc: Global,
     reader: &mut R,
@@ -28,7 +28,7 @@ pub fn run_check<R: Read, W: Write>(
     }
 }
 
-/// Writes the line of a number of APDUs, and answers the number.
+/// Writes the line of `count` APDUs, and returns `count`.
 fn write_count<W: Write>(alloc: Global, writer: &mut W, count: u32) -> Result<u32, ToolFault>
     ensures { WritesCount (W.contents writer.old) (W.contents writer.new) count result }
 {

@@ -1,4 +1,4 @@
-//! The command line of `ill`: its commands and their arguments, and what `clap` is told of them.
+//! The command line of `ill`: its commands and their arguments, as `clap` has them.
 
 ghost use Rattle.std.specs.Prelude.{◌≡◌};
 ghost use Rattle.ill_tool.specs.CommandLine.{word_of, name_read, id_of};
@@ -29,11 +29,11 @@ pub enum Name {
     SimulateDesks,
 }
 
-/// The command whose own commands are about a shelf.
+/// The word before the commands on a shelf.
 pub const SHELF: &str = "shelf";
 
-/// All commands, in the order in which the help lists them: those for staff, those for the exchange with other
-/// libraries, those for whoever looks inside, and one for shelves alone. clap is told of these and of no others.
+/// All commands, in the order of the help. First come those for staff, then those for the exchange with other
+/// libraries. The last are those for anybody who looks inside, and one for shelves alone. clap has these and no others.
 const NAMES: [Name; 17] = [
     Name::New,
     Name::Act,
@@ -54,7 +54,7 @@ const NAMES: [Name; 17] = [
     Name::Retire,
 ];
 
-/// The commands about a shelf.
+/// The commands on a shelf.
 const SHELF_NAMES: [Name; 10] = [
     Name::New,
     Name::Act,
@@ -69,7 +69,7 @@ const SHELF_NAMES: [Name; 10] = [
 ];
 
 impl Name {
-    /// The word that stands for the command.
+    /// Returns the word that stands for the command.
     pub fn word<'a>(self) -> &'a str
         ensures { result.now ≡ word_of self }
     {
@@ -94,7 +94,7 @@ impl Name {
         }
     }
 
-    /// What it does, in a line.
+    /// Returns the line that tells its purpose.
     fn about<'a>(self) -> &'a str {
         match self {
             Name::New => "Begin a desk of one role, in a file",
@@ -117,7 +117,7 @@ impl Name {
         }
     }
 
-    /// What its help says.
+    /// Returns the text of its help.
     fn help<'a>(self) -> &'a str {
         match self {
             Name::New => help::NEW,
@@ -140,7 +140,7 @@ impl Name {
         }
     }
 
-    /// The example below its help.
+    /// Returns the example below its help.
     fn example<'a>(self) -> &'a str {
         match self {
             Name::New => help::NEW_EXAMPLE,
@@ -163,7 +163,7 @@ impl Name {
         }
     }
 
-    /// Its arguments, in their order.
+    /// Returns its arguments, in their order.
     pub fn arguments<'a>(self) -> &'a [Argument] {
         match self {
             Name::New => &[Argument::NewFile, Argument::Role],
@@ -224,7 +224,7 @@ impl Name {
         matches!(self, Name::Retire)
     }
 
-    /// What it does on a shelf, in a line.
+    /// Returns the line that tells its purpose on a shelf.
     fn about_shelf<'a>(self) -> &'a str {
         match self {
             Name::New => "Begin a shelf of one role, in a folder",
@@ -238,7 +238,7 @@ impl Name {
         }
     }
 
-    /// What its help says of a shelf.
+    /// Returns the text of its help on a shelf.
     fn help_on_shelf<'a>(self) -> &'a str {
         match self {
             Name::New => help::SHELF_NEW,
@@ -254,7 +254,7 @@ impl Name {
         }
     }
 
-    /// The command that a word stands for.
+    /// Returns the command that `word` stands for.
     pub fn read(word: &str) -> Option<Name>
         ensures { result ≡ name_read word.now }
     {
@@ -273,7 +273,7 @@ pub enum Argument {
     Folder,
     /// A folder into which mails are put, which may be left out.
     OutFolder,
-    /// Whether messages are written to the output in place of a folder.
+    /// Set if messages are written to the output in place of a folder.
     Stream,
     /// The folder of the mails that have come.
     In,
@@ -281,9 +281,9 @@ pub enum Argument {
     Out,
     /// The day of an exchange.
     NightDay,
-    /// Whether a responder tells of the loans that are overdue.
+    /// Set if a responder tells of the loans that are overdue.
     Overdue,
-    /// Whether a responder ends the requests whose last day is past.
+    /// Set if a responder ends the requests whose last day is past.
     Expire,
     /// The file of a copy.
     Copy,
@@ -298,21 +298,21 @@ pub enum Argument {
     Words,
     /// The number of a message.
     Number,
-    /// Whether `take` tells which message each was, and what it said.
+    /// Set if `take` tells each message at length, with its fields.
     Long,
-    /// Whether `take` keeps each message that was taken.
+    /// Set if `take` keeps each message that was taken.
     Keep,
-    /// Whether `loan` draws a loan.
+    /// Set if `loan` draws a loan.
     Picture,
-    /// Whether the loans that are over are left out.
+    /// Set if the loans that are over are left out.
     Open,
-    /// Whether the loans that wait for the other library are left out too.
+    /// Set if the loans that wait for the other library are left out too.
     Mine,
-    /// Whether objects of JSON are written.
+    /// Set if objects of JSON are written.
     Json,
     /// The paths of desks, or of folders of them.
     Paths,
-    /// The day on which it is found out which loans wait for this library.
+    /// The day on which loans past their deadlines wait for this library.
     OnDay,
     /// The day before which the loans are due that are listed.
     DueBefore,
@@ -320,12 +320,12 @@ pub enum Argument {
     InState,
     /// The day of a report.
     ReportDay,
-    /// Whether a shelf may begin the group of a loan.
+    /// Set if a shelf may begin the group of a loan.
     NewGroup,
 }
 
 impl Argument {
-    /// What clap calls it.
+    /// Returns the name that clap has for it.
     pub fn id<'a>(self) -> &'a str
         ensures { result.now ≡ id_of self }
     {
@@ -358,7 +358,7 @@ impl Argument {
         }
     }
 
-    /// What the help says of it.
+    /// Returns the line of the help on it.
     fn help<'a>(self) -> &'a str {
         match self {
             Argument::NewFile => "The file of the desk, which must not be there yet",
@@ -393,7 +393,7 @@ impl Argument {
         }
     }
 
-    /// How clap reads it. All but the options and the flags have to be there.
+    /// Returns the argument for clap. All but the options and the flags have to be there.
     fn arg<'a>(self, alloc: Global) -> Arg<'a> {
         let arg = Arg::new(alloc, self.id()).help(self.help());
         match self {
@@ -428,7 +428,7 @@ impl Argument {
 }
 
 impl Argument {
-    /// How clap reads it in a command about a shelf.
+    /// Returns the argument for clap in a command on a shelf.
     fn arg_on_shelf<'a>(self, alloc: Global) -> Arg<'a> {
         match self {
             Argument::NewFile | Argument::File => Arg::new(alloc, self.id())
@@ -444,12 +444,12 @@ impl Argument {
     }
 }
 
-/// An option with a value.
+/// Returns an option with a value.
 fn valued<'a>(arg: Arg<'a>, name: &'a str, value: &'a str) -> Arg<'a> {
     arg.long(name).value_name(value).allow_hyphen_values(true)
 }
 
-/// The command line of `ill`.
+/// Returns the command line of `ill`.
 pub fn command<'a>(alloc: Global) -> Result<Command<'a>, Error> {
     let mut command = Command::new(alloc, "ill")
         .about("Interlibrary loan by store-and-forward messages")
@@ -463,7 +463,7 @@ pub fn command<'a>(alloc: Global) -> Result<Command<'a>, Error> {
     Ok(command.subcommand(shelf(alloc)?)?)
 }
 
-/// The option by which a person is told more of a fault. It stands before the command.
+/// Returns the option that asks for more lines on a fault. It stands before the command.
 fn explain<'a>(alloc: Global) -> Arg<'a> {
     Arg::new(alloc, "explain")
         .long("explain")
@@ -471,7 +471,7 @@ fn explain<'a>(alloc: Global) -> Arg<'a> {
         .action(ArgAction::SetTrue)
 }
 
-/// The command line of a command.
+/// Returns the command line of the command `name`.
 fn subcommand<'a>(alloc: Global, name: Name) -> Result<Command<'a>, Error> {
     let mut command = Command::new(alloc, name.word())
         .about(name.about())
@@ -483,7 +483,7 @@ fn subcommand<'a>(alloc: Global, name: Name) -> Result<Command<'a>, Error> {
     Ok(command)
 }
 
-/// The command line of the commands about a shelf.
+/// Returns the command line of the commands on a shelf.
 fn shelf<'a>(alloc: Global) -> Result<Command<'a>, Error> {
     let mut command = Command::new(alloc, SHELF)
         .about("Keep a folder of desks, one for each group of loans")
@@ -496,7 +496,8 @@ fn shelf<'a>(alloc: Global) -> Result<Command<'a>, Error> {
     Ok(command)
 }
 
-/// The command line of a command about a shelf. In place of the file of a desk stands the folder of the shelf.
+/// Returns the command line of the command `name` on a shelf. The folder of the shelf stands in place of the file of a
+/// desk.
 fn shelf_subcommand<'a>(alloc: Global, name: Name) -> Result<Command<'a>, Error> {
     let mut command = Command::new(alloc, name.word())
         .about(name.about_shelf())

@@ -1,4 +1,4 @@
-//! A copy of all that a desk holds, in another store.
+//! Copies all that a desk holds to another store.
 
 ghost use Rattle.std.specs.Prelude.{◌≡◌, Ok, OnOk};
 ghost use Rattle.ill_saved.specs.Many.{sides_held};
@@ -10,10 +10,10 @@ use crate::fault::ToolFault;
 use ill_saved::{Desk, DeskFault, Store, encode_record2};
 use std::alloc::Global;
 
-/// Saves the record of all that a desk holds to another store. Nothing changes at the desk.
+/// Saves the record of all that `desk` holds to the store `copy`. Nothing changes at the desk.
 ///
-/// It is the record that `Desk::save` writes, also of what is not saved yet. A desk that starts from the copy holds
-/// these loans again.
+/// `Desk::save` would write this record: changes that are not saved yet are in it too. A desk that starts from the copy
+/// holds these loans again.
 pub fn run_desk_copy<S: Store, C: Store>(
     alloc: Global,
     desk: &Desk<S>,

@@ -18,7 +18,7 @@ use ill_values::{Day, OutOfMemory as NoMemory, TxnId};
 use std::alloc::Global;
 use std::io::Write;
 
-/// Which deeds a day asks for.
+/// The deeds that a day may ask for: each is set if it is wanted.
 #[derive(Clone, Copy, Debug, PartialEq, Eq, Hash)]
 pub struct Dates {
     /// A responder tells of the loans that are overdue.
@@ -27,20 +27,20 @@ pub struct Dates {
     pub expire: bool,
 }
 
-/// A deed that a day asks for, and the transaction in which it does.
+/// A deed that a day asks for, and the transaction of its loan.
 #[derive(Drop)]
 pub(crate) struct Due {
     pub txn: TxnId,
     pub deed: Deed,
 }
 
-/// Performs the deeds that a day asks for at a desk, in the order in which the loans were begun, and then saves the desk
-/// once, if any was done. Then it writes a line for each that was done, and flushes that: `GROUP TRANSACTION VERB done
-/// STATE DUE RELEASED/ISSUED`. A deed that is refused changes nothing, and is not told. At the desk of a requester
+/// Performs the deeds that the day `today` asks for at `desk`, in the order in which the loans were begun. If any was
+/// done, it then saves the desk once. For each that was done it writes a line, and it flushes them: `GROUP TRANSACTION
+/// VERB done STATE DUE RELEASED/ISSUED`. A refused deed changes nothing, and has no line. At the desk of a requester
 /// nothing is done.
 ///
-/// At every fault what has landed is what had landed before, or all that the deeds change; and unless the writer failed,
-/// nothing was written.
+/// At every fault the store has its old record, or the one with all deeds. Unless the writer failed, nothing was
+/// written.
 pub fn run_desk_dates<S: Store, W: Write>(
     alloc: Global,
     desk: &mut Desk<S>,
@@ -58,7 +58,7 @@ pub fn run_desk_dates<S: Store, W: Write>(
     }
 }
 
-/// The deeds that a day asks for in all loans, in their order.
+/// Returns the deeds that the day `today` asks for in all loans of `sides`, in their order.
 fn all_due(alloc: Global, sides: &Sides, today: Day, which: Dates) -> Result<Vec<Due>, NoMemory>
     ensures { IfOk result (λ dues. dues.items ≡ all_due which today sides.now.sides) }
 {
@@ -69,7 +69,7 @@ fn all_due(alloc: Global, sides: &Sides, today: Day, which: Dates) -> Result<Vec
     Ok(dues)
 }
 
-/// Adds the deed that a day asks for in the loan at this place, if there is one.
+/// Appends to `dues` the deed that the day asks for in the loan at `place`, if there is one.
 fn push_due_at(
     dues: &mut Vec<Due>,
     sides: &Sides,
@@ -86,7 +86,7 @@ fn push_due_at(
     }
 }
 
-/// Adds the deed that a day asks for in a loan, if it asks for one.
+/// Appends to `dues` the deed that the day asks for in the loan of `side`, if there is one.
 fn push_due(dues: &mut Vec<Due>, side: &Side, today: Day, which: Dates) -> Result<(), NoMemory>
     ensures { OnOk result (dues.new.items ≡ dues.old.items
         ++ option_to_list (due_in which today side.now)) }
@@ -98,7 +98,7 @@ fn push_due(dues: &mut Vec<Due>, side: &Side, today: Day, which: Dates) -> Resul
     Ok(())
 }
 
-/// The deed that a day asks for in a loan, if it asks for one. A requester has no deeds.
+/// Returns the deed that the day asks for in the loan of `side`, if there is one. A requester has no deeds.
 fn deed_by_date(which: Dates, today: Day, side: &Side) -> Option<Deed>
     ensures { result ≡ deed_by_date which today side.now }
 {
@@ -108,7 +108,7 @@ fn deed_by_date(which: Dates, today: Day, side: &Side) -> Option<Deed>
     }
 }
 
-/// The deed that a day asks for in a loan of a responder, if it asks for one.
+/// Returns the deed, if any, that the day asks for in a responder's loan in `state`, due on `due`.
 fn deed_at(which: Dates, today: Day, state: State, due: Option<Day>) -> Option<Deed>
     ensures { result ≡ deed_at which today state due }
 {
@@ -121,21 +121,21 @@ fn deed_at(which: Dates, today: Day, state: State, due: Option<Day>) -> Option<D
     None
 }
 
-/// Tells if the item is out, and its due date is before this day.
+/// Tells if the item is out, and its due date is before the day `today`.
 fn is_overdue(today: Day, state: State, due: Option<Day>) -> bool
     ensures { result ≡ is_overdue today state due }
 {
     matches!(state, State::Shipped | State::RenewPending) && is_sooner(due, Some(today))
 }
 
-/// Tells if a request may still expire, if it has a last day.
+/// Tells if a request in `state` may still expire.
 fn may_expire(state: State) -> bool
     ensures { result ≡ may_expire state }
 {
     matches!(state, State::InProcess | State::Conditional)
 }
 
-/// Performs deeds on a day, in their order, saves them at once, and tells of those that were done.
+/// Performs `dues` on the day `today`, in their order, saves once, and writes the lines of those that were done.
 fn run_deeds<K: Keeper<Key = TxnId>, W: Write>(
     alloc: Global,
     keeper: &mut K,
@@ -166,7 +166,7 @@ fn run_deeds<K: Keeper<Key = TxnId>, W: Write>(
     }
 }
 
-/// Performs deeds on a day, in their order, and answers those that were done.
+/// Performs `dues` on the day `today`, in their order, and returns those that were done.
 fn perform<'a, K: Keeper<Key = TxnId>>(
     alloc: Global,
     keeper: &mut K,
@@ -187,7 +187,7 @@ fn perform<'a, K: Keeper<Key = TxnId>>(
     Ok(done)
 }
 
-/// Performs a deed on a day, and adds it to those that were done, if it is not refused.
+/// Performs `due` on the day `today`, and appends it to `done` if it is not refused.
 fn perform_one<'a, K: Keeper<Key = TxnId>>(
     alloc: Global,
     keeper: &mut K,
@@ -207,7 +207,7 @@ fn perform_one<'a, K: Keeper<Key = TxnId>>(
     }
 }
 
-/// Saves all sides at once, if a deed was done.
+/// Saves all sides at once, if `done` has a deed.
 fn save_any<K: Keeper>(alloc: Global, keeper: &mut K, done: &[&Due]) -> Result<(), ToolFault>
     ensures saves { SavesOnce K.keeping (map (λ due. due.now) done.now)
         (view_of K.Kept.state (K.live keeper.old) (K.store keeper.old)) result
@@ -224,7 +224,7 @@ fn save_any<K: Keeper>(alloc: Global, keeper: &mut K, done: &[&Due]) -> Result<(
     }
 }
 
-/// The lines of the deeds that were done, with how each loan stands once all is saved.
+/// Returns the lines of the deeds of `done`, with how each loan stands once all is saved.
 fn deed_lines<K: Keeper<Key = TxnId>>(
     alloc: Global,
     keeper: &K,
@@ -240,7 +240,7 @@ fn deed_lines<K: Keeper<Key = TxnId>>(
     Ok(lines)
 }
 
-/// Adds the line of a deed that was done.
+/// Appends to `lines` the line of the deed `due`.
 fn push_deed_line<K: Keeper<Key = TxnId>>(
     lines: &mut Vec<u8>,
     keeper: &K,

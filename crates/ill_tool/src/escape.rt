@@ -6,7 +6,7 @@ ghost use Rattle.ill_tool.specs.declared.escape.Escaping.TheVariants as escaping
 
 use ill_values::OutOfMemory;
 
-/// What a text is written for.
+/// The place for which a text is written.
 #[derive(Clone, Copy)]
 pub(crate) enum Escaping {
     /// For a screen.
@@ -15,15 +15,15 @@ pub(crate) enum Escaping {
     Json,
 }
 
-/// Adds a text of UTF-8 for a screen, with an escape such as `\u{202e}` for each character that a terminal may act
-/// on: the control characters U+0080 to U+009F, and the marks that turn the direction of a text.
+/// Appends `item`, a text of UTF-8, for a screen. An escape such as `\u{202e}` replaces each character that a terminal
+/// may act on. These are the controls up to U+001F and from U+007F to U+009F, and the marks that turn a text.
 pub(crate) fn push_escaped(text: &mut Vec<u8>, item: &[u8]) -> Result<(), OutOfMemory>
     ensures { OnOk result (text.new.items ≡ text.old.items ++ escaped item.now) }
 {
     push_written(text, Escaping::Screen, item)
 }
 
-/// Adds a text of UTF-8, with an escape for each character that a terminal may act on.
+/// Appends `item`, a text of UTF-8, with an escape for each character that a terminal may act on.
 pub(crate) fn push_written(
     text: &mut Vec<u8>,
     escaping: Escaping,
@@ -38,7 +38,7 @@ pub(crate) fn push_written(
     Ok(())
 }
 
-/// Adds the character at the front, or its first byte, and answers what is behind it.
+/// Appends the first character, or its first byte, and returns the bytes after it.
 fn push_front<'a>(
     text: &mut Vec<u8>,
     escaping: Escaping,
@@ -61,7 +61,7 @@ fn push_front<'a>(
     }
 }
 
-/// The number of the character at the front and what is behind it, if a terminal may act on it.
+/// Returns the number of the first character and the bytes after it, if a terminal may act on it.
 #[tactic(auto, using(crate::proofs::EscapeLemmas::two_escape, crate::proofs::EscapeLemmas::three_escape, crate::proofs::EscapeLemmas::first_stays))]
 fn acting_front(_escaping: Escaping, first: u8, behind: &[u8]) -> Option<(u32, &[u8])>
     ensures { IsFront _escaping first behind.now (option_map (λ found. (found.0, found.1.now)) result) }
@@ -81,7 +81,7 @@ fn acting_front(_escaping: Escaping, first: u8, behind: &[u8]) -> Option<(u32, &
     None
 }
 
-/// Adds a byte that is none of a character that a terminal may act on.
+/// Appends a byte that is none of a character that a terminal may act on.
 fn push_byte(text: &mut Vec<u8>, escaping: Escaping, byte: u8) -> Result<(), OutOfMemory>
     ensures { OnOk result (text.new.items ≡ text.old.items ++ byte_text escaping byte) }
 {
@@ -91,7 +91,7 @@ fn push_byte(text: &mut Vec<u8>, escaping: Escaping, byte: u8) -> Result<(), Out
     }
 }
 
-/// Adds a byte to a text for a screen.
+/// Appends a byte to a text for a screen.
 fn push_screen_byte(text: &mut Vec<u8>, byte: u8) -> Result<(), OutOfMemory>
     ensures { OnOk result (text.new.items ≡ text.old.items ++ byte_text escapings.Screen byte) }
 {
@@ -102,7 +102,7 @@ fn push_screen_byte(text: &mut Vec<u8>, byte: u8) -> Result<(), OutOfMemory>
     Ok(())
 }
 
-/// Adds a byte to a string of JSON.
+/// Appends a byte to a string of JSON.
 fn push_json_byte(text: &mut Vec<u8>, byte: u8) -> Result<(), OutOfMemory>
     ensures { OnOk result (text.new.items ≡ text.old.items ++ byte_text escapings.Json byte) }
 {
@@ -115,7 +115,7 @@ fn push_json_byte(text: &mut Vec<u8>, byte: u8) -> Result<(), OutOfMemory>
     Ok(())
 }
 
-/// Adds the escape of a character, by its number.
+/// Appends the escape of a character, by its number.
 fn push_escape(text: &mut Vec<u8>, escaping: Escaping, number: u32) -> Result<(), OutOfMemory>
     ensures { OnOk result (text.new.items ≡ text.old.items ++ escape escaping number) }
 {
@@ -132,7 +132,7 @@ fn push_escape(text: &mut Vec<u8>, escaping: Escaping, number: u32) -> Result<()
     Ok(())
 }
 
-/// Tells if a byte stands behind a backslash in a string of JSON.
+/// Tells if a backslash stands before a byte in a string of JSON.
 fn is_marked(byte: u8) -> bool
     ensures { result ≡ is_marked byte }
 {
@@ -163,21 +163,21 @@ fn three_act(first: u8, second: u8, third: u8) -> bool
         && is_acting(number_of_three(first, second, third))
 }
 
-/// Tells if a byte stands behind the first of a character.
+/// Tells if a byte may follow the first byte of a character.
 fn goes_on(byte: u8) -> bool
     ensures { result ≡ goes_on byte }
 {
     matches!(byte, 0x80..=0xBF)
 }
 
-/// The number of a character of two bytes.
+/// Returns the number of a character of two bytes.
 fn number_of_two(first: u8, second: u8) -> u32
     ensures { result ≡ number_of_two first second }
 {
     u32::from(first.saturating_sub(0xC0)) * 64 + u32::from(second.saturating_sub(0x80))
 }
 
-/// The number of a character of three bytes.
+/// Returns the number of a character of three bytes.
 fn number_of_three(first: u8, second: u8, third: u8) -> u32
     ensures { result ≡ number_of_three first second third }
 {

@@ -1,5 +1,5 @@
-//! The commands that exchange the messages of a desk by folders of mail: `inbox`, `outbox` and `exchange`. Each holds the
-//! lock of the desk's file from before the load to its end.
+//! The commands that exchange the messages of a desk by folders of mail: `inbox`, `outbox` and `exchange`. Each holds
+//! the lock of the desk's file from before the load to its end.
 
 ghost use Rattle.std.specs.Prelude.{◌≡◌, Ok, is_some, IfErr};
 ghost use Rattle.ill_tool.specs.Commands.{Departs, ExchangesAt, ExchangesAtFile, GoesOn, InboxAtFile, IsOpenFault, OutboxAtFile, SaysDates, SendsAll, SendsFrom, SendsOn, SendsTo, SettlesRun, TakesMails, ending_of, night_ending, taken_of};
@@ -50,14 +50,14 @@ pub fn inbox<T: LockFiles, W: Write, E: Write>(
     release(end(taken), desk, lock)
 }
 
-/// The mails that a run has taken.
+/// The mails that a run has taken, and the verdict of each.
 #[derive(Drop)]
 struct Taken {
     found: Mails,
     verdicts: Vec<Verdict>,
 }
 
-/// Answers what a run comes to by its mails.
+/// Returns the ending of a run by the mails that it has `taken`.
 fn end(taken: Result<Taken, ToolFault>) -> Result<bool, ToolFault>
     ensures { result ≡ ending_of (answered_with taken_of taken) }
 {
@@ -67,7 +67,7 @@ fn end(taken: Result<Taken, ToolFault>) -> Result<bool, ToolFault>
     }
 }
 
-/// Takes the mails of a folder at a desk. Only when all that they change is saved, the files of mails go.
+/// Takes the mails of `incoming` at `desk`. The files of mails go only after the desk is saved.
 fn take_mails<T: Files, S: Store, W: Write, E: Write>(
     rt: &T,
     alloc: Global,
@@ -125,7 +125,7 @@ fn find_mails<T: Files, E: Write>(
     blame(alloc, found, incoming.folder, NOT_READ, errors)
 }
 
-/// What a person is told behind a path with which something is wrong.
+/// The texts that follow the path of a file or folder that has failed.
 pub(crate) const NO_BOX: &str = ".mail is no folder that its owner alone may enter";
 
 pub(crate) const NO_RUN: &str = ".mail cannot be written";
@@ -144,7 +144,7 @@ pub(crate) const NO_FOLDER: &str = " is no folder";
 
 const NO_BEAT: &str = " is not made anew";
 
-/// The folder of the mail of the desk in a file.
+/// Opens the folder of the mail of the desk in `file`.
 pub(crate) fn open_box<T: Files>(rt: &T, alloc: Global, file: &str) -> Result<MailBox, ToolFault>
     ensures { IfErr result IsOpenFault }
 {
@@ -154,7 +154,8 @@ pub(crate) fn open_box<T: Files>(rt: &T, alloc: Global, file: &str) -> Result<Ma
     }
 }
 
-/// Tells a person what wants one, keeps who asks, and settles the files of the mails of a run that has ended well.
+/// Settles the files of the mails of a run. Before that it keeps the messages that ask. If `place` asks for it, it
+/// first warns of each mail that wants a person.
 fn conclude<T: Files, S: Store, E: Write>(
     rt: &T,
     alloc: Global,
@@ -181,7 +182,7 @@ fn conclude<T: Files, S: Store, E: Write>(
     }
 }
 
-/// Keeps the messages that ask.
+/// Keeps `asked`, the messages that ask, in the folder of the mail.
 fn keep_asked<T: Files>(
     rt: &T,
     alloc: Global,
@@ -197,7 +198,7 @@ fn keep_asked<T: Files>(
     }
 }
 
-/// `ill outbox`: puts the messages of the loans that want sending into a folder, or writes them one behind another.
+/// `ill outbox`: puts the messages of the loans that want sending into a folder, or writes them one after another.
 pub fn outbox<T: LockFiles, W: Write, E: Write>(
     rt: &T,
     alloc: Global,
@@ -213,7 +214,7 @@ pub fn outbox<T: LockFiles, W: Write, E: Write>(
     release(all_well(sent), desk, lock)
 }
 
-/// Puts the messages of the loans that want sending into a folder, or writes them one behind another.
+/// Puts the messages of the loans that want sending into `folder`. Without one, it writes them one after another.
 fn send_from<T: Files, S: Store, W: Write, E: Write>(
     rt: &T,
     alloc: Global,
@@ -231,7 +232,7 @@ fn send_from<T: Files, S: Store, W: Write, E: Write>(
     }
 }
 
-/// Writes the messages of the loans that want sending, one behind another.
+/// Writes the messages of the loans that want sending, one after another.
 fn send_on<T: Files, S: Store, W: Write, E: Write>(
     rt: &T,
     alloc: Global,
@@ -246,7 +247,7 @@ fn send_on<T: Files, S: Store, W: Write, E: Write>(
     run_desk_outbox_stream(alloc, desk, &asking, writer)
 }
 
-/// Puts the messages of the loans that want sending into a folder, and writes how many they are.
+/// Puts the messages of the loans that want sending into `folder`, and writes their number.
 fn send_to<T: Files, S: Store, W: Write, E: Write>(
     rt: &T,
     alloc: Global,
@@ -266,7 +267,7 @@ fn send_to<T: Files, S: Store, W: Write, E: Write>(
     write_and_flush(writer, line.as_bytes())
 }
 
-/// The same, if the folder is there.
+/// Puts the messages of the loans that want sending into `folder`, as `send_to` does, if it is there.
 fn send_into<T: Files, S: Store, W: Write, E: Write>(
     rt: &T,
     alloc: Global,
@@ -282,7 +283,7 @@ fn send_into<T: Files, S: Store, W: Write, E: Write>(
     send_to(rt, alloc, file, desk, folder, writer, errors)
 }
 
-/// Hands an answer on. If it is a fault, a person is told which mail could not be put into its folder.
+/// Returns `sent`. If a mail could not be put into its folder, a line to `errors` names its path.
 fn blame_mail<T: Files, E: Write>(
     alloc: Global,
     sent: Result<usize, ToolFault>,
@@ -297,7 +298,7 @@ fn blame_mail<T: Files, E: Write>(
     }
 }
 
-/// The messages that ask at the desk in a file.
+/// Returns the messages that ask at the desk in `file`.
 fn asking<T: Files>(rt: &T, alloc: Global, file: &str) -> Result<Vec<u8>, ToolFault>
     ensures { IfErr result IsOpenFault }
 {
@@ -307,24 +308,25 @@ fn asking<T: Files>(rt: &T, alloc: Global, file: &str) -> Result<Vec<u8>, ToolFa
     }
 }
 
-/// What a run of `ill exchange` is to do.
+/// The arguments of a run of `ill exchange`.
 #[derive(Clone, Copy)]
 pub struct Night<'a> {
     /// The folder of the mail that has come.
     pub incoming: &'a str,
     /// The folder of the mail that is to go.
     pub outgoing: &'a str,
-    /// The day of the run, and what a responder says of days that have passed.
+    /// The day of the run, and the deeds that it may ask of a responder.
     pub dates: Option<(Day, Dates)>,
-    /// The path of the file of the copy. On a shelf it is that of a folder, in which each copy has the name of its desk.
+    /// The path of the file of the copy. On a shelf it is that of a folder, in which each copy has the name of its
+    /// desk.
     pub copy: Option<&'a str>,
-    /// The path of the file that is touched in the end.
+    /// The path of the file that is made anew in the end.
     pub beat: Option<&'a str>,
     /// Set if the desk stands on a shelf, which has sorted the mail.
     pub is_on_shelf: bool,
 }
 
-/// `ill exchange`: takes the mail that has come, says what the date says, copies the desk, and sends.
+/// `ill exchange`: takes the mail that has come, does the deeds of the day, copies the desk, and sends.
 pub fn exchange<T: LockFiles, W: Write, E: Write>(
     rt: &T,
     alloc: Global,
@@ -342,7 +344,7 @@ pub fn exchange<T: LockFiles, W: Write, E: Write>(
     release(done, desk, lock)
 }
 
-/// Looks up the folder at a path.
+/// Finds the folder at `path`.
 pub(crate) fn find_folder<T: Files>(rt: &T, path: &str) -> Result<(), ToolFault>
     ensures { IfErr result IsOpenFault }
 {
@@ -352,7 +354,7 @@ pub(crate) fn find_folder<T: Files>(rt: &T, path: &str) -> Result<(), ToolFault>
     }
 }
 
-/// Exchanges the mail of a desk. If its mail cannot be taken, nothing is sent.
+/// Exchanges the mail of `desk`. If its mail cannot be taken, nothing is sent.
 fn exchange_at<T: Files, S: Store, W: Write, E: Write>(
     rt: &T,
     alloc: Global,
@@ -375,7 +377,7 @@ fn exchange_at<T: Files, S: Store, W: Write, E: Write>(
     }
 }
 
-/// Says what the date says, copies the desk, and sends, once the mails of a night were taken.
+/// Does the deeds of the day, copies the desk, and sends, once the mails of a night were taken.
 fn go_on<T: Files, S: Store, W: Write, E: Write>(
     rt: &T,
     alloc: Global,
@@ -395,7 +397,7 @@ fn go_on<T: Files, S: Store, W: Write, E: Write>(
     }
 }
 
-/// Hands an answer on. If a file or a folder has failed, a person is told which.
+/// Returns `answer`. If it is a fault of a file or a folder, a line to `errors` has `path` and `text`.
 pub(crate) fn blame<X: Drop, E: Write>(
     alloc: Global,
     answer: Result<X, ToolFault>,
@@ -411,7 +413,7 @@ pub(crate) fn blame<X: Drop, E: Write>(
     answer
 }
 
-/// Says what the date says, if something of it is wanted.
+/// Does the deeds of the day, if `dates` has one.
 fn say_dates<S: Store, W: Write>(
     alloc: Global,
     desk: &mut Desk<S>,
@@ -427,7 +429,7 @@ fn say_dates<S: Store, W: Write>(
     }
 }
 
-/// Copies the desk, and then sends what wants sending. If the copy fails nothing is sent.
+/// Copies the desk, and then sends the messages that want sending. If the copy fails, nothing is sent.
 fn send_all<T: Files, S: Store, W: Write, E: Write>(
     rt: &T,
     alloc: Global,
@@ -450,7 +452,7 @@ fn send_all<T: Files, S: Store, W: Write, E: Write>(
     }
 }
 
-/// Copies a desk to a file, if one is named.
+/// Copies `desk` to the file at `path`, if there is a path.
 fn copy_to<T: Files, S: Store, E: Write>(
     rt: &T,
     alloc: Global,
@@ -468,7 +470,7 @@ fn copy_to<T: Files, S: Store, E: Write>(
     blame(alloc, copied, path.as_str(), NO_COPY, errors)
 }
 
-/// Returns the path of the copy of the desk in a file, if one is wanted.
+/// Returns the path of the copy of the desk in `file`, if `night` wants one.
 fn copy_path(alloc: Global, file: &str, night: &Night<'_>) -> Result<Option<String>, OutOfMemory> {
     let Some(copy) = night.copy else {
         return Ok(None);
@@ -480,7 +482,7 @@ fn copy_path(alloc: Global, file: &str, night: &Night<'_>) -> Result<Option<Stri
     Ok(Some(format!(in alloc; "{copy}/{name}")?))
 }
 
-/// Makes a file anew, if one is named, so that its time is that of the run.
+/// Makes the file at `path` anew, if there is a path. So its time is that of the run.
 pub(crate) fn beat<T: Files, E: Write>(
     rt: &T,
     alloc: Global,
@@ -498,7 +500,8 @@ pub(crate) fn beat<T: Files, E: Write>(
     }
 }
 
-/// Makes a file that has the end of a line and nothing else. Nothing else is removed for it.
+/// Makes a file at `path` that has the end of a line alone. It replaces a regular file of at most one byte, and no
+/// other.
 fn make_anew<T: Files>(rt: &T, path: &str) -> io::Result<()> {
     match fs::symlink_metadata(rt, path) {
         Ok(found) if found.is_file() && found.len() <= 1 => fs::remove_file(rt, path)?,
@@ -512,7 +515,7 @@ fn make_anew<T: Files>(rt: &T, path: &str) -> io::Result<()> {
     options.open(rt, path)?.write_all(b"\n")
 }
 
-/// Gives the sign of life of a run whose messages have left, and answers what it comes to.
+/// Makes the file at `path` anew, if there is a path, and returns the ending of the run. Its messages have left.
 fn finish<T: Files, S: Store, E: Write>(
     rt: &T,
     alloc: Global,
@@ -529,7 +532,7 @@ fn finish<T: Files, S: Store, E: Write>(
     }
 }
 
-/// Answers what a night comes to: mails stay, or something wants a person, or all is well.
+/// Returns the ending of a night: a fault if mails stay, false if something wants a person, else true.
 fn ending<S: Store>(desk: &Desk<S>, taken: &Taken) -> Result<bool, ToolFault>
     ensures { result ≡ night_ending desk.now.live.role (taken_of taken.now) }
 {

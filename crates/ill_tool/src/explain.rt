@@ -1,7 +1,7 @@
-//! What a person is told behind the line of a fault, where `--explain` asks for it.
+//! The lines that `--explain` adds after the line of a fault.
 //!
-//! It is found out after the command, from the words of its line and from what stands at the path of its file. No
-//! program may rest on these texts. Their own faults are passed over.
+//! They are found after the command, from the words of its line and from the file at the path. No program may rest on
+//! these texts. Their own faults are ignored.
 
 mod action;
 mod arguments;
@@ -24,10 +24,10 @@ use shelf::tell_shelf_fault;
 use std::alloc::Global;
 use std::io::Write;
 
-/// The option, as it stands before the command.
+/// The option, which stands before the command.
 const OPTION: &str = "--explain";
 
-/// Whether the words of a command line, of which the first is the program's name, ask for explanations.
+/// Tells if `words` ask for explanations. The first word is the name of the program.
 pub fn is_asked(words: &[&str]) -> bool {
     words
         .iter()
@@ -36,7 +36,7 @@ pub fn is_asked(words: &[&str]) -> bool {
         .any(|word| *word == OPTION)
 }
 
-/// Writes why a command line came to a fault, if its words ask for that.
+/// Writes the reason why a command line came to `fault`, if its words ask for that.
 pub fn explain<T: LockFiles, E: Write>(
     rt: &T,
     alloc: Global,
@@ -52,7 +52,8 @@ pub fn explain<T: LockFiles, E: Write>(
     }
 }
 
-/// Adds the lines on a fault of the command line with these words. Nothing is answered where they are not read again.
+/// Appends to `text` the lines on a fault of the command line with these words. Returns none if they cannot be read
+/// again.
 fn tell<T: LockFiles>(
     rt: &T,
     alloc: Global,
@@ -75,7 +76,7 @@ fn tell<T: LockFiles>(
     }
 }
 
-/// Adds the lines on a fault of a command on a shelf with these arguments.
+/// Appends to `text` the lines on a fault of a command on a shelf with these arguments.
 fn tell_on_shelf<T: LockFiles>(
     rt: &T,
     alloc: Global,
@@ -91,7 +92,7 @@ fn tell_on_shelf<T: LockFiles>(
     }
 }
 
-/// Adds the lines on a fault of a command with these arguments.
+/// Appends to `text` the lines on a fault of a command with these arguments.
 fn tell_fault<T: LockFiles>(
     rt: &T,
     alloc: Global,

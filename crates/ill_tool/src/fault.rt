@@ -1,4 +1,4 @@
-//! Why a command stopped.
+//! The faults that stop a command.
 
 ghost use Rattle.std.specs.Prelude.{◌≡◌};
 ghost use Rattle.ill_tool.specs.Simulate.{sim_fault};
@@ -11,12 +11,12 @@ use ill_world::{DeskOutcome, Outcome, SimFault};
 use std::alloc::{AllocError, AllocFailed};
 use thiserror::Error;
 
-/// Why a command stopped. What was written before stays written.
+/// The fault that stopped a command. Lines that were written before stay written.
 #[derive(Clone, Copy, Debug, PartialEq, Eq, Hash, Error)]
 pub enum ToolFault {
-    /// A word is not what it has to be: a role, a number or a day is none, or no id can have the group or
-    /// the transaction. The words of an action name none of this side, one of them is empty or holds a
-    /// space, or their `+N` is beyond the calendar; or a responder's action has no day.
+    /// A word is wrong: a role, a number or a day is none, or no id can have the group or the transaction. The words of
+    /// an action may name none of this side. One of them may be empty or hold a space, or their `+N` is beyond the
+    /// calendar. Or a responder's action has no day.
     #[error("arguments")]
     Arguments,
     /// The input has bytes that are no APDU. This is never `DerFault::OutOfMemory`.
@@ -28,8 +28,7 @@ pub enum ToolFault {
     /// The line of the script with this number, from 1 on, is bad.
     #[error("script at line {0}")]
     Script(u32),
-    /// The side refused, its store failed, or its record is none. This is never
-    /// `DeskFault::OutOfMemory`.
+    /// The side refused, its store failed, or its record is none. This is never `DeskFault::OutOfMemory`.
     #[error("{0}")]
     Desk(DeskFault),
     /// Mails of a folder wait for the next run. All else was done.
@@ -86,7 +85,7 @@ impl<T: Drop> From<AllocFailed<T>> for ToolFault {
     }
 }
 
-/// The fault of a desk that did not start, without the store that it hands back.
+/// Gives the fault of a desk that did not start, without the store that it hands back.
 impl<S: Drop> From<(DeskFault, S)> for ToolFault {
     ghost from_gives = { λ refused tool. tool ≡ desk_fault refused.0 };
 
@@ -95,7 +94,7 @@ impl<S: Drop> From<(DeskFault, S)> for ToolFault {
     }
 }
 
-/// The fault of a desk that did not begin, without the store that it hands back.
+/// Gives the fault of a desk that did not begin, without the store that it hands back.
 impl<S: Drop> From<(ToolFault, S)> for ToolFault {
     ghost from_gives = { λ refused tool. tool ≡ refused.0 };
 
@@ -104,7 +103,7 @@ impl<S: Drop> From<(ToolFault, S)> for ToolFault {
     }
 }
 
-/// What is seen of a refusal of a desk. Its other faults end the command.
+/// Returns the outcome of a refusal of a desk. Its other faults end the command.
 pub(crate) fn refused(fault: DeskFault) -> Result<DeskOutcome, ToolFault>
     ensures { result ≡ refused fault }
 {

@@ -1,5 +1,5 @@
-//! The commands that keep a desk in a file. Their arguments were read before, but for the words of an
-//! action. A command that may change the file holds its lock from before the load to its end.
+//! The commands that keep a desk in a file. Their arguments were read before, but for the words of an action. A command
+//! that may change the file holds its lock from before the load to its end.
 
 ghost use Rattle.std.specs.Prelude.{◌≡◌, ◌++◌, Ok, true, false, map, string_bytes, IfErr, OnOk};
 ghost use Rattle.ill_saved.specs.Desk.{answer_of};
@@ -75,7 +75,7 @@ pub fn act<T: LockFiles, W: Write>(
     release(acted, desk, lock)
 }
 
-/// `ill take`: takes the APDUs of the input, to whose end no other command changes the file.
+/// `ill take`: takes the APDUs of the input. It holds the lock of the file until the input ends.
 pub fn take<T: LockFiles, R: Read, W: Write>(
     rt: &T,
     alloc: Global,
@@ -96,7 +96,7 @@ pub fn take<T: LockFiles, R: Read, W: Write>(
     release(taken, desk, lock)
 }
 
-/// `ill take --keep`: the same, and each message that was taken is kept in the file beside that of the desk.
+/// `ill take --keep`: takes the APDUs of the input, and keeps each that was taken in the file beside that of the desk.
 fn take_kept<T: LockFiles, R: Read, W: Write>(
     rt: &T,
     alloc: Global,
@@ -113,7 +113,8 @@ fn take_kept<T: LockFiles, R: Read, W: Write>(
     release(taken, desk, lock)
 }
 
-/// Takes the APDUs of the input at a desk, and keeps each that was taken beside its file, if that can be opened.
+/// Takes the APDUs of the input at `desk`. It keeps each that was taken in the file beside `file`, if that can be
+/// opened.
 fn take_and_keep<T: Files, S: Store, R: Read, W: Write>(
     rt: &T,
     alloc: Global,
@@ -130,7 +131,7 @@ fn take_and_keep<T: Files, S: Store, R: Read, W: Write>(
     run_desk_kept_take(alloc, desk, is_long, &mut came, reader, writer)
 }
 
-/// Takes the APDUs of the input at a desk, and tells of them in long words or short ones.
+/// Takes the APDUs of the input at `desk`, and writes long lines or short ones.
 fn take_told<S: Store, R: Read, W: Write>(
     alloc: Global,
     desk: &mut Desk<S>,
@@ -149,7 +150,7 @@ fn take_told<S: Store, R: Read, W: Write>(
     }
 }
 
-/// `ill send`: gives the bytes of a message of a transaction.
+/// `ill send`: writes the bytes of a message of a transaction.
 pub fn send<T: Files, W: Write>(
     rt: &T,
     alloc: Global,
@@ -166,7 +167,7 @@ pub fn send<T: Files, W: Write>(
     all_well(sent)
 }
 
-/// `ill list`: lists the loans that are wanted of the desks at paths.
+/// `ill list`: lists the loans of the desks at `paths` that are wanted.
 pub fn list<T: Files, W: Write, E: Write>(
     rt: &T,
     alloc: Global,
@@ -185,7 +186,7 @@ pub fn list<T: Files, W: Write, E: Write>(
     all_well(list_files(rt, alloc, &files, wanted, form, writer, errors))
 }
 
-/// Lists the desks in files, one behind another.
+/// Lists the desks in `files`, one after another.
 fn list_files<T: Files, W: Write, E: Write>(
     rt: &T,
     alloc: Global,
@@ -231,7 +232,7 @@ fn list_file<T: Files, W: Write, E: Write>(
     answer
 }
 
-/// Lists a desk.
+/// Lists `desk` in the form `form`.
 fn list_desk<S: Store, W: Write>(
     alloc: Global,
     desk: &Desk<S>,
@@ -250,7 +251,7 @@ fn list_desk<S: Store, W: Write>(
     }
 }
 
-/// Lists a desk in lines, behind a heading.
+/// Lists `desk` in lines, after a heading.
 fn list_lines<S: Store, W: Write>(
     alloc: Global,
     desk: &Desk<S>,
@@ -266,10 +267,10 @@ fn list_lines<S: Store, W: Write>(
     run_desk_list(alloc, desk, &heading, wanted, writer)
 }
 
-/// The number of loans from which on a person is told how much room a desk has left.
+/// The number of loans from which on a warning tells how much room a desk has left.
 const MANY: usize = 900;
 
-/// Writes how much room a desk has, if it has many loans.
+/// Writes to `errors` how much room a desk has, if it has many loans.
 fn warn<E: Write>(alloc: Global, file: &str, loans: usize, errors: &mut E) {
     if loans < MANY {
         return;
@@ -314,7 +315,7 @@ pub fn loan<T: Files, W: Write>(
     all_well(shown)
 }
 
-/// Shows all that is known of a transaction, or draws it, with these bytes of the messages that came.
+/// Shows all that is known of a transaction, or draws it. `came` has the bytes of the messages that came.
 fn shown_loan<S: Store, W: Write>(
     alloc: Global,
     desk: &Desk<S>,
@@ -333,7 +334,7 @@ fn shown_loan<S: Store, W: Write>(
     }
 }
 
-/// `ill verify`: tells what a file has.
+/// `ill verify`: checks the record in a file.
 pub fn verify<T: Files, W: Write>(
     rt: &T,
     alloc: Global,
@@ -365,7 +366,7 @@ pub fn report<T: Files, W: Write>(
     all_well(end_page(page, writer))
 }
 
-/// Adds what a page tells of the desks in files.
+/// Appends to `page` the part of each desk in `files`.
 fn push_files<T: Files>(
     rt: &T,
     alloc: Global,
@@ -382,7 +383,7 @@ fn push_files<T: Files>(
     Ok(())
 }
 
-/// Adds what a page tells of the desk in a file.
+/// Appends to `page` the part of the desk in `file`.
 fn push_file<T: Files>(
     rt: &T,
     alloc: Global,
@@ -402,7 +403,7 @@ fn push_file<T: Files>(
     }
 }
 
-/// Answers that all went well, unless there was a fault.
+/// Returns true, unless `answer` is a fault.
 pub fn all_well<A: Drop>(answer: Result<A, ToolFault>) -> Result<bool, ToolFault>
     ensures { result ≡ all_well answer }
 {
@@ -412,7 +413,7 @@ pub fn all_well<A: Drop>(answer: Result<A, ToolFault>) -> Result<bool, ToolFault
     }
 }
 
-/// Lets go what a beginning answered, and answers that all went well, unless there was a fault.
+/// Drops the desk or the store of `begun`, and returns true, unless there was a fault.
 fn end<D: Drop, S: Drop>(begun: Result<D, (ToolFault, S)>) -> Result<bool, ToolFault>
     ensures { result ≡ all_well (answer_of begun) }
 {
@@ -422,7 +423,7 @@ fn end<D: Drop, S: Drop>(begun: Result<D, (ToolFault, S)>) -> Result<bool, ToolF
     }
 }
 
-/// The lock of a file.
+/// Takes the lock of `file`.
 pub(crate) fn lock<'a, T: LockFiles>(
     rt: &'a T,
     alloc: Global,
@@ -436,7 +437,7 @@ pub(crate) fn lock<'a, T: LockFiles>(
     }
 }
 
-/// The desk in a file, loaded under the file's lock.
+/// Loads the desk in `file` under the lock of the file.
 pub fn open_locked<'a, T: LockFiles>(
     rt: &'a T,
     alloc: Global,
@@ -449,7 +450,7 @@ pub fn open_locked<'a, T: LockFiles>(
     Ok((held, opened))
 }
 
-/// Lets a desk go and then its lock, and hands on what a command answered.
+/// Drops the desk and then its lock, and returns `answer`.
 pub fn release<D: Drop, L: Drop>(
     answer: Result<bool, ToolFault>,
     desk: D,
@@ -462,7 +463,7 @@ pub fn release<D: Drop, L: Drop>(
     answer
 }
 
-/// The desk in a file.
+/// Loads the desk in `file`.
 pub fn open<'a, T: Files>(
     rt: &'a T,
     alloc: Global,

@@ -15,12 +15,12 @@ use std::{fs, io};
 /// The endings of the names of files that stand beside a desk's.
 const BESIDE: [&str; 4] = [".new", ".lck", CAME, RETIRED];
 
-/// How many bytes the names of a folder are read at once: any name has room there.
+/// The number of bytes of the names of a folder that are read at once. Any name has room there.
 const NAMES: usize = 4096;
 
-/// The paths of the files of desks at these paths, in their order. In place of a folder stand its desks, in
-/// the order of their names: its regular files, without those that a desk has beside it, and without those
-/// whose names begin with a dot.
+/// Returns the paths of the files of the desks at `paths`, in their order. The desks in a folder stand in its place, in
+/// the order of their names. They are its regular files, without those that a desk has beside it. Names that begin with
+/// a dot are left out too.
 pub fn desk_paths<T: Files>(rt: &T, alloc: Global, paths: &[&str]) -> Result<Vec<String>, ToolFault>
     ensures { IfErr result IsOpenFault }
 {
@@ -33,7 +33,7 @@ pub fn desk_paths<T: Files>(rt: &T, alloc: Global, paths: &[&str]) -> Result<Vec
     Ok(files)
 }
 
-/// Adds a path, or those of the desks in the folder there.
+/// Appends `path` to `files`, or the paths of the desks in the folder there.
 fn push_path<T: Files>(rt: &T, files: &mut Vec<String>, path: &str) -> io::Result<()> {
     match fs::metadata(rt, path) {
         Ok(found) if found.is_dir() => push_folder(rt, files, path),
@@ -44,7 +44,7 @@ fn push_path<T: Files>(rt: &T, files: &mut Vec<String>, path: &str) -> io::Resul
     }
 }
 
-/// Adds the paths of the desks in a folder.
+/// Appends to `files` the paths of the desks in `folder`.
 fn push_folder<T: Files>(rt: &T, files: &mut Vec<String>, folder: &str) -> io::Result<()> {
     let alloc = *files.allocator();
     let folder = folder.trim_end_matches('/');
@@ -59,7 +59,7 @@ fn push_folder<T: Files>(rt: &T, files: &mut Vec<String>, folder: &str) -> io::R
     Ok(())
 }
 
-/// The names in a folder. One that is no text is a fault, since no path can have it.
+/// Returns the names in `folder`. A name that is no text is a fault, since no path can have it.
 fn names<T: Files>(rt: &T, alloc: Global, folder: &str) -> io::Result<Vec<String>> {
     let mut names = Vec::new(alloc);
     for name in raw_names(rt, alloc, folder)? {
@@ -71,7 +71,7 @@ fn names<T: Files>(rt: &T, alloc: Global, folder: &str) -> io::Result<Vec<String
     Ok(names)
 }
 
-/// The bytes of the names in a folder.
+/// Returns the bytes of the names in `folder`.
 pub(crate) fn raw_names<T: Files>(rt: &T, alloc: Global, folder: &str) -> io::Result<Vec<Vec<u8>>> {
     let folder = format!(in alloc; "{folder}/")?;
     let reader = BufReader::with_capacity(alloc, NAMES, rt.open_dir(folder.as_str())?)?;
@@ -82,12 +82,12 @@ pub(crate) fn raw_names<T: Files>(rt: &T, alloc: Global, folder: &str) -> io::Re
     Ok(names)
 }
 
-/// Whether a file of this name in a folder of desks is one.
+/// Tells if a file named `name` in a folder of desks is one.
 fn is_desk_name(name: &str) -> bool {
     !name.starts_with('.') && !BESIDE.iter().any(|ending| name.ends_with(*ending))
 }
 
-/// The fault of a folder that cannot be read.
+/// Returns the fault of a folder that cannot be read.
 pub(crate) fn fault(error: &io::Error) -> ToolFault
     ensures { IsOpenFault result }
 {

@@ -1,6 +1,6 @@
-//! How a command writes what it shows.
+//! The forms in which a command writes.
 
-/// How a command writes what it shows.
+/// The form in which a command writes.
 #[derive(Clone, Copy, Debug, PartialEq, Eq, Hash)]
 pub enum Form {
     /// In lines, of a label and a value each.

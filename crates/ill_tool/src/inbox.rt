@@ -1,4 +1,4 @@
-//! The command `inbox`: many mails are taken at a desk, and all that they change is saved at once.
+//! The command `inbox`: a desk takes many mails, and saves once.
 
 ghost use Rattle.std.specs.Prelude.{◌≡◌, ◌≤◌, [], ◌∷◌, ◌++◌, Ok, IfErr, IfOk, OnOk};
 ghost use Rattle.ill_der.specs.ShortForm.{apdu_at};
@@ -23,12 +23,13 @@ use ill_world::{DeskOutcome, Outcome};
 use std::alloc::Global;
 use std::io::Write;
 
-/// Takes the message of each mail at a desk, in their order, and then saves the desk once, if any was taken. Each
-/// message that was taken is written to `came`, and flushed there, before that is saved. Then it writes what became of
-/// each mail, and their counts, with how many further mails wait, and flushes that. It answers what becomes of each mail.
+/// Takes the message of each mail of `mails` at `desk`, in their order. If any was taken, it then saves the desk once.
+/// Before that it writes each message that was taken to `came`, and flushes it. Then it writes the verdict of each
+/// mail, and their counts. The last of these is `waiting`, the number of further mails. It flushes these lines. It
+/// returns the verdict of each mail.
 ///
-/// Only at `Ok` may the file of a mail go. At every fault what has landed is what had landed before, or all that the
-/// mails change; and unless the writer failed, nothing was written.
+/// Only at `Ok` may the file of a mail go. At every fault the store has its old record, or the one with all mails.
+/// Unless the writer failed, nothing was written to `writer`.
 pub fn run_desk_inbox<S: Store, F: Write, W: Write>(
     alloc: Global,
     desk: &mut Desk<S>,
@@ -48,7 +49,7 @@ pub fn run_desk_inbox<S: Store, F: Write, W: Write>(
     run_inbox(alloc, desk, mails, waiting, came, writer)
 }
 
-/// The same, on the sides of what keeps them.
+/// Takes the message of each mail of `mails` at `keeper`, saves once, and writes their verdicts.
 fn run_inbox<K: Keeper, F: Write, W: Write>(
     alloc: Global,
     keeper: &mut K,
@@ -77,17 +78,17 @@ fn run_inbox<K: Keeper, F: Write, W: Write>(
     }
 }
 
-/// What came of mails so far.
+/// The verdicts on the mails of a run so far, with their lines.
 #[derive(Drop)]
 pub(crate) struct Sorted {
     verdicts: Vec<Verdict>,
-    /// What is told of them.
+    /// The lines of the mails.
     told: Vec<u8>,
     /// The bytes of the messages that were taken.
     kept: Vec<u8>,
 }
 
-/// Hands the messages of all mails to their sides, in their order, and tells of them and of their counts.
+/// Hands the messages of all mails to their sides, in their order. It adds their lines and that of their counts.
 fn sort<K: Keeper>(
     alloc: Global,
     keeper: &mut K,
@@ -131,7 +132,7 @@ fn sort_mails<K: Keeper>(alloc: Global, keeper: &mut K, mails: &[Mail]) -> Resul
 }
 
 impl Sorted {
-    /// Hands the message of a mail to its side, if it has one, and adds what came of it.
+    /// Hands the message of `mail` to its side, if it has one, and adds its verdict.
     fn sort_mail<K: Keeper>(
         &mut self,
         alloc: Global,
@@ -149,7 +150,7 @@ impl Sorted {
         }
     }
 
-    /// The same, of a mail that could be read.
+    /// Hands the message in `bytes`, of the mail `name`, to its side, and adds the verdict.
     fn sort_bytes<K: Keeper>(
         &mut self,
         alloc: Global,
@@ -169,7 +170,7 @@ impl Sorted {
         }
     }
 
-    /// The same, of a mail that has a message.
+    /// Hands the message `read` of the mail `name` to its side, and adds the verdict.
     fn sort_message<K: Keeper>(
         &mut self,
         alloc: Global,
@@ -193,7 +194,7 @@ impl Sorted {
         }
     }
 
-    /// Adds what a message did, and what becomes of its mail.
+    /// Adds the lines of a message and the verdict of its mail.
     fn judge<K: Keeper>(
         &mut self,
         keeper: &K,
@@ -216,7 +217,7 @@ impl Sorted {
         self.settle(name, Verdict::of(keeper.role(), outcome))
     }
 
-    /// Tells of a message, and keeps it if it was taken.
+    /// Adds the lines of a message, and keeps its bytes if it was taken.
     fn tell<K: Keeper>(
         &mut self,
         keeper: &K,
@@ -238,7 +239,7 @@ impl Sorted {
         Ok(())
     }
 
-    /// Adds what becomes of a mail.
+    /// Adds the verdict of a mail, and its line if it has one.
     fn settle(&mut self, name: &[u8], verdict: Verdict) -> Result<(), ToolFault>
         ensures verdicts { OnOk result (self.new.verdicts.items ≡ self.old.verdicts.items ++ verdict ∷ []) }
         ensures told { OnOk result (self.new.told.items ≡ self.old.told.items ++ verdict_line name.now verdict) }
@@ -251,7 +252,7 @@ impl Sorted {
     }
 }
 
-/// The message of a mail, or why no desk will ever take its bytes.
+/// Returns the message of a mail, or the reason that no desk will ever take its bytes.
 pub(crate) fn message_in(bytes: &[u8]) -> Result<ApduView<'_>, Unfit>
     ensures { result ≡ message_in bytes.now }
 {
@@ -261,7 +262,7 @@ pub(crate) fn message_in(bytes: &[u8]) -> Result<ApduView<'_>, Unfit>
     one_message(bytes)
 }
 
-/// The message that bytes are, or why they are none.
+/// Returns the message that `bytes` are, or the reason that they are none.
 fn one_message(bytes: &[u8]) -> Result<ApduView<'_>, Unfit>
     ensures { result ≡ one_message (apdu_at bytes.now) }
 {
@@ -277,7 +278,7 @@ fn one_message(bytes: &[u8]) -> Result<ApduView<'_>, Unfit>
     }
 }
 
-/// Hands a message to its side.
+/// Hands `apdu` to its side, and returns the outcome.
 fn hand<K: Keeper>(alloc: Global, keeper: &mut K, apdu: &Apdu) -> Result<DeskOutcome, ToolFault>
     ensures handed { HandsOver K.keeping (K.live keeper.old) apdu.now result (K.live keeper.new) }
     ensures fault { IfErr result (λ fault. fault ≡ OutOfMemory) }
@@ -299,7 +300,7 @@ fn is_change(outcome: DeskOutcome) -> bool
     )
 }
 
-/// Keeps the bytes of the messages that were taken, and then saves that they were: once, if there are any.
+/// Writes the bytes of the messages that were taken, and then saves once. If there are none, it does nothing.
 fn keep_and_save<K: Keeper, F: Write>(
     alloc: Global,
     keeper: &mut K,

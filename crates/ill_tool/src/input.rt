@@ -1,4 +1,4 @@
-//! What the commands share that read all APDUs of an input.
+//! The part of all commands that read each APDU of an input.
 
 ghost use Rattle.std.specs.Prelude.{◌≡◌};
 ghost use Rattle.ill_der.specs.Feed.{end_of};
@@ -15,16 +15,16 @@ const MAX_APDUS: u32 = 100_000;
 /// The most bytes that are read at a time.
 const PIECE: usize = 4_096;
 
-/// A handler that is handed as many APDUs as an input may have, and how many it was handed.
+/// A handler that takes at most the APDUs that an input may have, and their count.
 #[derive(Drop)]
 pub struct Counted<H> {
-    /// What is handed the APDUs.
+    /// The handler of the APDUs.
     pub handler: H,
     count: u32,
 }
 
 impl<H> Counted<H> {
-    /// The handler, which was handed none yet.
+    /// Returns the handler, with a count of none.
     pub fn new(handler: H) -> Counted<H>
         ensures handler { result.handler ≡ handler }
         ensures none { result.count ≡ 0 }
@@ -58,11 +58,11 @@ impl<C, H: Handler<C, Fault = ToolFault>> Handler<C> for Counted<H> {
     }
 }
 
-/// Hands each APDU of the input to the handler, one after another up to the end, and answers how many
-/// there were. It reads at most 4,096 bytes at a time, and takes no memory.
+/// Hands each APDU of the input to the handler, one after another up to the end, and returns their number. It reads at
+/// most 4,096 bytes at a time, and allocates nothing.
 ///
-/// The first fault is answered: of bytes, too many APDUs, a failing reader, or the handler's own. The
-/// APDUs before it were handled; of what was read behind it, less than a piece, nothing was looked at.
+/// It returns the first fault: of bytes, too many APDUs, a failing reader, or the handler's own. The APDUs before it
+/// were handled. The bytes after it that were read, less than a piece, were not decoded.
 pub fn handle_input<R: Read, C, H: Handler<C, Fault = ToolFault>>(
     alloc: Global,
     reader: &mut R,
@@ -89,7 +89,7 @@ pub fn handle_input<R: Read, C, H: Handler<C, Fault = ToolFault>>(
     }
 }
 
-/// Answers so many APDUs, where the input may end here.
+/// Returns `count`, if the input may end here.
 fn end(feed: &Feed, count: u32) -> Result<u32, ToolFault>
     ensures { result ≡ answer_at_end (end_of feed.now) count }
 {

@@ -8,7 +8,7 @@ use crate::escape::{Escaping, push_written};
 use ill_values::{Day, Number, OutOfMemory};
 use itoa::Buffer;
 
-/// A value of a field.
+/// The value of a field.
 #[derive(Clone, Copy)]
 pub(crate) enum Value<'a> {
     Missing,
@@ -20,7 +20,7 @@ pub(crate) enum Value<'a> {
 }
 
 impl<'a> Value<'a> {
-    /// A day, if there is one.
+    /// Returns the value of `date`: missing, if there is none.
     pub(crate) fn day(date: Option<Day>) -> Value<'a>
         ensures { value_text result ≡ optional day date }
     {
@@ -30,7 +30,7 @@ impl<'a> Value<'a> {
         }
     }
 
-    /// The number of a message, if there is one.
+    /// Returns the value of the number of a message: missing, if there is none.
     pub(crate) fn number(number: Option<Number>) -> Value<'a>
         ensures { value_text result ≡ optional decimal number }
     {
@@ -44,7 +44,7 @@ impl<'a> Value<'a> {
 /// A label and a value.
 pub(crate) type Field<'a> = (&'a str, Value<'a>);
 
-/// Adds fields, with a comma between each and the next, and this before the first.
+/// Appends `fields` to `text`, with `before` ahead of the first and a comma between two.
 pub(crate) fn push_members(
     text: &mut Vec<u8>,
     before: &[u8],
@@ -62,7 +62,7 @@ pub(crate) fn push_members(
     Ok(())
 }
 
-/// Adds a field.
+/// Appends the field of `label` and `value`.
 fn push_member(text: &mut Vec<u8>, label: &str, value: &Value<'_>) -> Result<(), OutOfMemory>
     ensures { OnOk result (text.new.items ≡ text.old.items ++ member (label.now, value_text value.now)) }
 {
@@ -70,7 +70,7 @@ fn push_member(text: &mut Vec<u8>, label: &str, value: &Value<'_>) -> Result<(),
     push_value(text, value)
 }
 
-/// Adds a label, and the colon behind it.
+/// Appends `label` as a string, and a colon.
 pub(crate) fn push_label(text: &mut Vec<u8>, label: &str) -> Result<(), OutOfMemory>
     ensures { OnOk result (text.new.items ≡ text.old.items ++ (quoted label.now ++ codes ":")) }
 {
@@ -78,7 +78,7 @@ pub(crate) fn push_label(text: &mut Vec<u8>, label: &str) -> Result<(), OutOfMem
     push_plain(text, ":")
 }
 
-/// Adds a value.
+/// Appends `value`.
 fn push_value(text: &mut Vec<u8>, value: &Value<'_>) -> Result<(), OutOfMemory>
     ensures { OnOk result (text.new.items ≡ text.old.items ++ value_text value.now) }
 {
@@ -93,7 +93,7 @@ fn push_value(text: &mut Vec<u8>, value: &Value<'_>) -> Result<(), OutOfMemory>
     }
 }
 
-/// Adds a text as it is.
+/// Appends `plain` as it is.
 pub(crate) fn push_plain(text: &mut Vec<u8>, plain: &str) -> Result<(), OutOfMemory>
     ensures { OnOk result (text.new.items ≡ text.old.items ++ plain.now) }
 {
@@ -101,7 +101,7 @@ pub(crate) fn push_plain(text: &mut Vec<u8>, plain: &str) -> Result<(), OutOfMem
     Ok(())
 }
 
-/// Adds a string.
+/// Appends `value` as a string.
 fn push_quoted(text: &mut Vec<u8>, value: &[u8]) -> Result<(), OutOfMemory>
     ensures { OnOk result (text.new.items ≡ text.old.items ++ quoted value.now) }
 {
@@ -111,7 +111,7 @@ fn push_quoted(text: &mut Vec<u8>, value: &[u8]) -> Result<(), OutOfMemory>
     Ok(())
 }
 
-/// Adds an array of strings.
+/// Appends `words` as an array of strings.
 fn push_words(text: &mut Vec<u8>, words: &[&str]) -> Result<(), OutOfMemory>
     ensures { OnOk result (text.new.items ≡ text.old.items
         ++ array quoted (map (λ word. word.now) words.now)) }

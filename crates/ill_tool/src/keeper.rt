@@ -1,4 +1,4 @@
-//! What keeps sides in a store: one side alone, or those of many transactions.
+//! The two keepers of sides in a store: a desk of one side, and a desk of many transactions.
 
 ghost use Rattle.std.specs.Prelude.{◌≡◌, ◌++◌, true, length, option_copied, IfOk, OnOk, OnErr};
 ghost use Rattle.ill_der.specs.Adding.{AddsFront};
@@ -16,34 +16,33 @@ use ill_values::{Apdu, Number, OutOfMemory, TxnId};
 use ill_world::{push_held, push_side};
 use std::alloc::Global;
 
-/// What keeps sides in a store, and lets the messages of those be sent that it has saved.
+/// Keeps sides in a store, and gives a message for sending after it has saved it.
 pub(crate) trait Keeper {
-    /// What names a side.
+    /// The name of a side.
     type Key;
 
-    /// Where the sides are saved.
+    /// The store of the sides.
     type Kept: Store;
 
-    /// What a beginning wants.
+    /// The arguments of a beginning.
     type First;
 
-    /// What is held.
+    /// The model of the sides that are held.
     ghost Live: { Type 0 };
 
-    /// What its calls do to what it holds.
+    /// The effects of the calls on the sides that are held.
     ghost keeping: { Keeping Self.Live Self.Key };
 
-    /// What it holds.
+    /// The sides that a keeper holds.
     ghost live: { Self → Self.Live };
 
-    /// Its store.
+    /// The store of a keeper.
     ghost store: { Self → Self.Kept };
 
-    /// What is held at a beginning.
+    /// The sides that a keeper holds after its beginning.
     ghost begun: { Self.First → Self.Live };
 
-    /// Begins over a store without a record (else `Exists`). Nothing is saved yet. A fault gives the
-    /// store back.
+    /// Begins over a store without a record (else `Exists`). Nothing is saved yet. A fault gives the store back.
     fn create(
         alloc: Global,
         kept: Self::Kept,
@@ -56,16 +55,16 @@ pub(crate) trait Keeper {
         ensures store { DeskLoads (Self.Kept.state kept) (answer_of result)
             (Self.Kept.state (store_after store result)) };
 
-    /// The role of all sides.
+    /// Returns the role of all sides.
     fn role(&self) -> Role
         ensures { result ≡ keeping.role (live self.now) };
 
-    /// Performs an action on a side.
+    /// Performs `action` on the side `key`.
     fn act(&mut self, alloc: Global, key: &Self::Key, action: &Action) -> Result<(), DeskFault>
         ensures acts { KeeperActs keeping (live self.old) key.now action.now result (live self.new) }
         ensures store { store self.new ≡ store self.old };
 
-    /// Hands a message to the side that it is for.
+    /// Hands `apdu` to the side that it is for.
     fn take(&mut self, alloc: Global, apdu: &Apdu) -> Result<Taking, DeskFault>
         ensures takes { KeeperTakes keeping (live self.old) apdu.now result (live self.new) }
         ensures store { store self.new ≡ store self.old };
@@ -77,32 +76,32 @@ pub(crate) trait Keeper {
             (Self.Kept.state (store self.new)) }
         ensures faults { IsSaveFault result };
 
-    /// The bytes of a message of a side, to send it.
+    /// Returns the bytes of the message `number` of the side `key`, to send it.
     fn message(&self, alloc: Global, key: &Self::Key, number: Number) -> Result<Vec<u8>, DeskFault>
         ensures { SendsHeld (λ bytes. bytes.items) (keeping.found key.now (live self.now)) number result };
 
-    /// What names the side that a message is for.
+    /// Returns the name of the side that `apdu` is for.
     fn key_of(apdu: &Apdu) -> &Self::Key
         ensures { result.now ≡ keeping.key_of apdu.now };
 
-    /// Adds how a side stands. If memory runs out, the line stays, and a front of that may stand behind
-    /// it, but never all of it.
+    /// Appends to `line` how the side `key` stands. If memory runs out, `line` keeps its content, and may end with a
+    /// proper prefix of that text.
     fn push_side(&self, line: &mut Vec<u8>, key: &Self::Key) -> Result<(), OutOfMemory>
         ensures text { OnOk result (line.new.items ≡ line.old.items
             ++ held_text (keeping.side_for key.now (live self.now))) }
         ensures front { OnErr result (AddsFront line.old.items line.new.items
             (held_text (keeping.side_for key.now (live self.now)))) };
 
-    /// Adds how a side stands once all sides are saved.
+    /// Appends to `line` how the side `key` stands once all sides are saved.
     fn push_saved_side(&self, line: &mut Vec<u8>, key: &Self::Key) -> Result<(), OutOfMemory>
         ensures { OnOk result (line.new.items ≡ line.old.items
             ++ held_text (as_told true (keeping.side_for key.now (live self.now)))) };
 
-    /// What names the side that is there from the beginning, if one is.
+    /// Returns the name of the side that is there from the beginning, if there is one.
     fn first_key(&self) -> Option<&Self::Key>
         ensures { option_copied result ≡ keeping.first_key };
 
-    /// The store. The sides in memory are let go.
+    /// Returns the store. The sides in memory are dropped.
     fn close(self) -> Self::Kept
         ensures { result ≡ store self };
 }
@@ -235,7 +234,7 @@ impl<S: Store> Keeper for Desk<S> {
     }
 }
 
-/// How many messages the side of this transaction has issued, of which none may be held.
+/// Returns the number of messages that the side of `txn` has issued. If it is not held, the number is 0.
 fn issued_count(sides: &Sides, txn: &TxnId) -> u8
     ensures { result ≡ length (issued_of (side_for txn.now sides.now)) }
 {

@@ -18,9 +18,9 @@ use ill_values::{Apdu, OutOfMemory, TxnId};
 use std::alloc::Global;
 use std::io::Write;
 
-/// Writes all that `run_desk_loan` does, and behind it each message of the transaction that `came` has, each once:
-/// in lines, or in one object. `came` is what `take --keep` has kept. What is no message in it, and all behind that, is
-/// passed over.
+/// Writes all that `run_desk_loan` does, and after it each message of the transaction in `came`, once. It writes lines,
+/// or one object. `came` has the bytes that `take --keep` has kept. A part that is no message, and all after it, is
+/// ignored.
 pub fn run_desk_kept_loan<S: Store, W: Write>(
     alloc: Global,
     desk: &Desk<S>,
@@ -38,7 +38,7 @@ pub fn run_desk_kept_loan<S: Store, W: Write>(
     }
 }
 
-/// Writes all that is known of a side, and the messages that came to it.
+/// Writes all that is known of `side`, and the messages in `came` that came to it.
 fn write_kept<W: Write>(
     alloc: Global,
     form: Form,
@@ -57,7 +57,7 @@ fn write_kept<W: Write>(
     write_whole(writer, &text)
 }
 
-/// Adds all that is known of a side, and the messages that came to it.
+/// Appends all that is known of `side`, and the messages `kept` that came to it, in the form `form`.
 fn push_loan_as(
     text: &mut Vec<u8>,
     form: Form,
@@ -74,7 +74,7 @@ fn push_loan_as(
     }
 }
 
-/// Adds the lines of a side, and of the messages that came to it.
+/// Appends the lines of `side`, and of the messages `kept` that came to it.
 fn push_kept_lines(
     lines: &mut Vec<u8>,
     side: &Side,
@@ -88,7 +88,7 @@ fn push_kept_lines(
     push_kept(lines, kept)
 }
 
-/// The messages that bytes have, up to the first that is none.
+/// Returns the messages in `bytes`, up to the first part that is none.
 pub(crate) fn apdus_in(alloc: Global, bytes: &[u8]) -> Result<Vec<Apdu>, OutOfMemory>
     ensures { IfOk result (λ came. AreIn bytes.now came.items) }
 {
@@ -96,7 +96,7 @@ pub(crate) fn apdus_in(alloc: Global, bytes: &[u8]) -> Result<Vec<Apdu>, OutOfMe
     Ok(feed.push(bytes)?.apdus)
 }
 
-/// The messages of a transaction, each once.
+/// Returns the messages of `came` that are of the transaction `txn`, each once.
 pub(crate) fn kept_of(alloc: Global, txn: &TxnId, came: &[Apdu]) -> Result<Vec<Apdu>, OutOfMemory>
     ensures { IfOk result (λ kept. kept.items ≡ kept_of txn.now came.now) }
 {
@@ -107,7 +107,7 @@ pub(crate) fn kept_of(alloc: Global, txn: &TxnId, came: &[Apdu]) -> Result<Vec<A
     Ok(kept)
 }
 
-/// Adds a message, if it is of the transaction and not among those that are there.
+/// Appends `apdu` to `kept`, if it is of the transaction `txn` and not among them yet.
 fn push_new(kept: &mut Vec<Apdu>, txn: &TxnId, apdu: &Apdu) -> Result<(), OutOfMemory>
     ensures { OnOk result (kept.new.items ≡ with_new txn.now kept.old.items apdu.now) }
 {
@@ -118,7 +118,7 @@ fn push_new(kept: &mut Vec<Apdu>, txn: &TxnId, apdu: &Apdu) -> Result<(), OutOfM
     Ok(())
 }
 
-/// Tells if a message of these bytes is among those.
+/// Tells if a message of `kept` has the bytes of `apdu`.
 pub(crate) fn is_among(alloc: Global, kept: &[Apdu], apdu: &Apdu) -> Result<bool, OutOfMemory>
     ensures { IfOk result (λ is. is ≡ is_among kept.now apdu.now) }
 {
@@ -131,7 +131,7 @@ pub(crate) fn is_among(alloc: Global, kept: &[Apdu], apdu: &Apdu) -> Result<bool
     Ok(false)
 }
 
-/// Adds the lines of messages that came.
+/// Appends the lines of `kept`, messages that came.
 fn push_kept(lines: &mut Vec<u8>, kept: &[Apdu]) -> Result<(), OutOfMemory>
     ensures { OnOk result (lines.new.items ≡ lines.old.items
         ++ flat_map (marked_lines (codes "came") true) kept.now) }

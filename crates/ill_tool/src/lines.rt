@@ -11,7 +11,7 @@ use ill_der::{ApduView, BodyView};
 use ill_values::{Apdu, Body, Day, Number, OutOfMemory};
 use itoa::Buffer;
 
-/// Adds the lines of an APDU.
+/// Appends the lines of `apdu`.
 #[tactic(auto, unfolding(crate::specs::Lines::lines_of))]
 pub fn push_apdu(lines: &mut Vec<u8>, apdu: &ApduView<'_>) -> Result<(), OutOfMemory>
     ensures { OnOk result (lines.new.items ≡ lines.old.items ++ lines_of apdu.now) }
@@ -26,7 +26,7 @@ pub fn push_apdu(lines: &mut Vec<u8>, apdu: &ApduView<'_>) -> Result<(), OutOfMe
     push_fields(lines, apdu.body())
 }
 
-/// Adds the lines of an APDU for a screen, with its item escaped.
+/// Appends the lines of `apdu` for a screen, with its item escaped.
 #[tactic(auto, unfolding(crate::specs::Lines::shown_lines))]
 pub fn push_shown(lines: &mut Vec<u8>, apdu: &Apdu) -> Result<(), OutOfMemory>
     ensures { OnOk result (lines.new.items ≡ lines.old.items ++ shown_lines apdu.now) }
@@ -42,7 +42,7 @@ pub fn push_shown(lines: &mut Vec<u8>, apdu: &Apdu) -> Result<(), OutOfMemory>
     push_shown_fields(lines, &body)
 }
 
-/// Adds the lines of what each APDU has.
+/// Appends the lines that each APDU has.
 fn push_head(
     lines: &mut Vec<u8>,
     body: &BodyView<'_>,
@@ -58,7 +58,7 @@ fn push_head(
     push_number(lines, "number", number)
 }
 
-/// Adds the lines of a transaction id.
+/// Appends the lines of a transaction id.
 pub fn push_id(lines: &mut Vec<u8>, group: &[u8], transaction: &[u8]) -> Result<(), OutOfMemory>
     ensures { OnOk result (lines.new.items ≡ lines.old.items ++ id_lines group.now transaction.now) }
 {
@@ -66,7 +66,7 @@ pub fn push_id(lines: &mut Vec<u8>, group: &[u8], transaction: &[u8]) -> Result<
     push_line(lines, "transaction", transaction)
 }
 
-/// Adds the lines of the further fields, with an item escaped.
+/// Appends the lines of the further fields of `body`, with an item escaped.
 pub fn push_shown_fields(lines: &mut Vec<u8>, body: &BodyView<'_>) -> Result<(), OutOfMemory>
     ensures { OnOk result (lines.new.items ≡ lines.old.items ++ shown_fields (body_in body.now)) }
 {
@@ -76,6 +76,7 @@ pub fn push_shown_fields(lines: &mut Vec<u8>, body: &BodyView<'_>) -> Result<(),
     }
 }
 
+/// Appends the lines of a request: its expiry day, if it has one, and its item, which is escaped.
 fn push_shown_request(
     lines: &mut Vec<u8>,
     expiry: Option<Day>,
@@ -88,7 +89,7 @@ fn push_shown_request(
     push_item(lines, item)
 }
 
-/// Adds the line of an item, which is escaped.
+/// Appends the line of `item`, which is escaped.
 pub fn push_item(lines: &mut Vec<u8>, item: &[u8]) -> Result<(), OutOfMemory>
     ensures { OnOk result (lines.new.items ≡ lines.old.items ++ line (codes "item") (escaped item.now)) }
 {
@@ -97,7 +98,7 @@ pub fn push_item(lines: &mut Vec<u8>, item: &[u8]) -> Result<(), OutOfMemory>
     push_line(lines, "item", &shown)
 }
 
-/// Adds the lines of the further fields.
+/// Appends the lines of the further fields of `body`.
 pub fn push_fields(lines: &mut Vec<u8>, body: &BodyView<'_>) -> Result<(), OutOfMemory>
     ensures { OnOk result (lines.new.items ≡ lines.old.items ++ field_lines (body_in body.now)) }
 {
@@ -122,6 +123,7 @@ pub fn push_fields(lines: &mut Vec<u8>, body: &BodyView<'_>) -> Result<(), OutOf
     }
 }
 
+/// Appends the lines of a reply to a Renew: its number and `yes` or `no`, and the new due day if it is granted.
 fn push_grant(lines: &mut Vec<u8>, answers: Number, granted: Option<Day>) -> Result<(), OutOfMemory>
     ensures { OnOk result (lines.new.items ≡ lines.old.items ++ grant_lines answers granted) }
 {
@@ -134,6 +136,7 @@ fn push_grant(lines: &mut Vec<u8>, answers: Number, granted: Option<Day>) -> Res
     }
 }
 
+/// Appends the lines of a reply: the number of the message that it answers, and `yes` or `no`.
 fn push_reply(lines: &mut Vec<u8>, answers: Number, yes: bool) -> Result<(), OutOfMemory>
     ensures { OnOk result (lines.new.items ≡ lines.old.items ++ reply_lines answers yes) }
 {
@@ -141,13 +144,14 @@ fn push_reply(lines: &mut Vec<u8>, answers: Number, yes: bool) -> Result<(), Out
     push_whether(lines, "reply", yes)
 }
 
-/// Adds the line of whether something is so: `yes` or `no`.
+/// Appends the line of `label` with `yes` or `no`.
 pub fn push_whether(lines: &mut Vec<u8>, label: &str, yes: bool) -> Result<(), OutOfMemory>
     ensures { OnOk result (lines.new.items ≡ lines.old.items ++ line label.now (reply_word yes)) }
 {
     push_line(lines, label, if yes { b"yes" } else { b"no" })
 }
 
+/// Appends the line of `day`, if there is one.
 fn push_optional_date(lines: &mut Vec<u8>, day: Option<Day>) -> Result<(), OutOfMemory>
     ensures { OnOk result (lines.new.items ≡ lines.old.items ++ optional_date_line day) }
 {
@@ -157,34 +161,35 @@ fn push_optional_date(lines: &mut Vec<u8>, day: Option<Day>) -> Result<(), OutOf
     }
 }
 
+/// Appends the line of `day`.
 fn push_date(lines: &mut Vec<u8>, day: Day) -> Result<(), OutOfMemory>
     ensures { OnOk result (lines.new.items ≡ lines.old.items ++ date_line day) }
 {
     push_line(lines, "date", &day.digits())
 }
 
-/// Adds the line of a number of a message.
+/// Appends the line of the number of a message.
 pub fn push_number(lines: &mut Vec<u8>, label: &str, number: Number) -> Result<(), OutOfMemory>
     ensures { OnOk result (lines.new.items ≡ lines.old.items ++ number_line label.now number) }
 {
     push_decimal(lines, label, usize::from(number.get()))
 }
 
-/// Adds the line of a number, of whatever it is.
+/// Appends the line of any number.
 pub fn push_decimal(lines: &mut Vec<u8>, label: &str, number: usize) -> Result<(), OutOfMemory>
     ensures { OnOk result (lines.new.items ≡ lines.old.items ++ number_line label.now number) }
 {
     push_line(lines, label, Buffer::new().format(number).as_bytes())
 }
 
-/// Adds the line of how many APDUs there are.
+/// Appends the line of the number of APDUs.
 pub fn push_count(lines: &mut Vec<u8>, count: u32) -> Result<(), OutOfMemory>
     ensures { OnOk result (lines.new.items ≡ lines.old.items ++ count_line count) }
 {
     push_line(lines, Buffer::new().format(count), b"apdus")
 }
 
-/// Adds a line: a label, a space and a value.
+/// Appends a line: a label, a space and a value.
 #[tactic(auto, unfolding(crate::specs::Lines::line))]
 pub fn push_line(lines: &mut Vec<u8>, label: &str, value: &[u8]) -> Result<(), OutOfMemory>
     ensures { OnOk result (lines.new.items ≡ lines.old.items ++ line label.now value.now) }
@@ -196,7 +201,7 @@ pub fn push_line(lines: &mut Vec<u8>, label: &str, value: &[u8]) -> Result<(), O
     Ok(())
 }
 
-/// A view of what an APDU says.
+/// Returns a view of `body`.
 pub(crate) fn view(body: &Body) -> BodyView<'_>
     ensures { body_in result ≡ body.now }
 {

@@ -20,29 +20,29 @@ use std::io::Write;
 /// The loans that are listed, by their turns.
 #[derive(Clone, Copy, Debug, PartialEq, Eq, Hash)]
 pub enum Which {
-    /// All of them.
+    /// All loans.
     All,
-    /// Those that are not over.
+    /// The loans that are not over.
     Open,
-    /// Those that wait for this library.
+    /// The loans that wait for this library.
     Mine,
 }
 
-/// What is said of the loans that are listed: all of it holds of each.
+/// The conditions on the loans that are listed. Each loan meets all of them.
 #[derive(Clone, Copy, Debug, PartialEq, Eq, Hash)]
 pub struct Wanted {
-    /// Those of which turn.
+    /// The turns of the loans.
     pub which: Which,
     /// The day, if one is said, on which a loan past its deadline waits for this library.
     pub today: Option<Day>,
-    /// The day, if one is said, before which they are due.
+    /// The day, if one is said, before which the loans are due.
     pub due_before: Option<Day>,
-    /// The state, if one is said, in which they are.
+    /// The state, if one is said, of the loans.
     pub state: Option<State>,
 }
 
 impl Which {
-    /// The turns whose loans are listed, in their order.
+    /// Returns the turns whose loans are listed, in their order.
     fn turns<'a>(self) -> &'a [Turn]
         ensures { result.now ≡ turns_of self }
     {
@@ -61,16 +61,16 @@ impl Which {
     }
 }
 
-/// How many loans a desk has.
+/// The numbers of loans at a desk.
 #[derive(Clone, Copy, Debug, PartialEq, Eq, Hash)]
 pub(crate) struct Counts {
-    /// All of them.
+    /// All loans.
     pub loans: usize,
-    /// Those that are not over.
+    /// The loans that are not over.
     pub open_loans: usize,
-    /// Those that wait for this library.
+    /// The loans that wait for this library.
     pub mine: usize,
-    /// Those for which there is still room.
+    /// The further loans for which there is room.
     pub room: usize,
 }
 
@@ -83,8 +83,8 @@ pub(crate) enum Rows<'a> {
     Objects(Option<&'a str>),
 }
 
-/// Writes a heading, a line for each loan of a desk that is wanted, and one that counts all of its loans.
-/// Those stand first that wait for this library, and of those with the same turn the most urgent.
+/// Writes `heading`, a line for each wanted loan of `desk`, and a line that counts all of its loans. The loans that
+/// wait for this library come first. Of loans with one turn the most urgent come first.
 pub fn run_desk_list<S: Store, W: Write>(
     alloc: Global,
     desk: &Desk<S>,
@@ -100,8 +100,8 @@ pub fn run_desk_list<S: Store, W: Write>(
     write_whole(writer, &lines)
 }
 
-/// Writes an object of JSON for each loan of a desk that is wanted, in the order of the lines, and one of the
-/// counts. Each has the path of the desk, if one is told.
+/// Writes an object of JSON for each loan of `desk` that is wanted, in the order of the lines. Then it writes one of
+/// the counts. Each has `file`, the path of the desk, if one is told.
 pub fn run_desk_list_objects<S: Store, W: Write>(
     alloc: Global,
     desk: &Desk<S>,
@@ -117,7 +117,7 @@ pub fn run_desk_list_objects<S: Store, W: Write>(
     write_whole(writer, &text)
 }
 
-/// Adds all lines of a list.
+/// Appends all lines of a list of `sides`.
 fn push_list(lines: &mut Vec<u8>, sides: &Sides, wanted: &Wanted) -> Result<(), OutOfMemory>
     ensures { OnOk result (lines.new.items ≡ lines.old.items ++ list_lines wanted.now sides.now.sides) }
 {
@@ -125,7 +125,7 @@ fn push_list(lines: &mut Vec<u8>, sides: &Sides, wanted: &Wanted) -> Result<(), 
     push_ordered(lines, &sides, wanted)
 }
 
-/// Adds all lines of a list of loans in this order.
+/// Appends all lines of a list of `sides`, which are in order.
 fn push_ordered(lines: &mut Vec<u8>, sides: &[&Side], wanted: &Wanted) -> Result<(), OutOfMemory>
     ensures { OnOk result (lines.new.items ≡ lines.old.items
         ++ ordered_lines wanted.now (map (λ side. side.now) sides.now)) }
@@ -134,7 +134,7 @@ fn push_ordered(lines: &mut Vec<u8>, sides: &[&Side], wanted: &Wanted) -> Result
     push_listed(lines, &rows, wanted, sides)
 }
 
-/// Adds all objects of a list.
+/// Appends all objects of a list of `sides`.
 fn push_list_objects(
     text: &mut Vec<u8>,
     file: Option<&str>,
@@ -148,7 +148,7 @@ fn push_list_objects(
     push_listed(text, &Rows::Objects(file), wanted, &sides)
 }
 
-/// Adds the loans that are listed of these, and the counts of all.
+/// Appends the loans of `sides` that are listed, and the counts of all.
 fn push_listed(
     text: &mut Vec<u8>,
     rows: &Rows<'_>,
@@ -165,7 +165,7 @@ fn push_listed(
     push_counts(text, rows, &Counts::of(sides, wanted))
 }
 
-/// Adds those that are listed whose turn it is, in their order.
+/// Appends the listed loans of `sides` that have the turn `turn`, in their order.
 fn push_rows(
     text: &mut Vec<u8>,
     rows: &Rows<'_>,
@@ -182,7 +182,7 @@ fn push_rows(
     Ok(())
 }
 
-/// Adds a side, if it is listed and its turn is this.
+/// Appends the loan of `side`, if it is listed and has the turn `turn`.
 fn push_row_at(
     text: &mut Vec<u8>,
     rows: &Rows<'_>,
@@ -199,7 +199,7 @@ fn push_row_at(
     Ok(())
 }
 
-/// Adds a side whose turn is this, in a line or in an object.
+/// Appends the loan of `side`, of the turn `turn`, as a line or as an object.
 fn push_row_as(
     text: &mut Vec<u8>,
     rows: &Rows<'_>,
@@ -214,14 +214,14 @@ fn push_row_as(
     }
 }
 
-/// Tells if a loan is listed, if loans of its turn are.
+/// Tells if the loan of `side` is listed when the loans of its turn are.
 fn is_wanted(wanted: &Wanted, side: &Side) -> bool
     ensures { result ≡ is_wanted wanted.now side.now }
 {
     is_due_before(wanted.due_before, side.due()) && is_in(wanted.state, side.state())
 }
 
-/// Tells if a loan is due before this day, if one is said.
+/// Tells if a loan is due before `day`. Without a day each loan is wanted.
 fn is_due_before(day: Option<Day>, due: Option<Day>) -> bool
     ensures { result ≡ is_due_before day due }
 {
@@ -231,7 +231,7 @@ fn is_due_before(day: Option<Day>, due: Option<Day>) -> bool
     }
 }
 
-/// Tells if a loan is in this state, if one is said.
+/// Tells if a loan is in the state `wanted`. Without a wanted state each loan is.
 fn is_in(wanted: Option<State>, state: State) -> bool
     ensures { result ≡ is_in wanted state }
 {
@@ -241,7 +241,7 @@ fn is_in(wanted: Option<State>, state: State) -> bool
     }
 }
 
-/// Tells if a loan has this turn, on a day or on none.
+/// Tells if the loan of `side` has the turn `turn` on the day of `wanted`, or on no day.
 fn has_turn(wanted: &Wanted, turn: Turn, side: &Side) -> bool
     ensures { result ≡ has_turn wanted.now.today turn side.now }
 {
@@ -249,7 +249,7 @@ fn has_turn(wanted: &Wanted, turn: Turn, side: &Side) -> bool
 }
 
 impl Counts {
-    /// The counts of these loans.
+    /// Returns the counts of `sides`.
     fn of(sides: &[&Side], wanted: &Wanted) -> Counts
         ensures { result ≡ counts_of wanted.now.today (map (λ side. side.now) sides.now) }
     {
@@ -263,7 +263,7 @@ impl Counts {
     }
 }
 
-/// Adds counts, in a line or in an object.
+/// Appends `counts`, as a line or as an object.
 fn push_counts(text: &mut Vec<u8>, rows: &Rows<'_>, counts: &Counts) -> Result<(), OutOfMemory>
     ensures { OnOk result (text.new.items ≡ text.old.items ++ counts_text rows.now counts.now) }
 {
@@ -273,7 +273,7 @@ fn push_counts(text: &mut Vec<u8>, rows: &Rows<'_>, counts: &Counts) -> Result<(
     }
 }
 
-/// Adds the line of counts.
+/// Appends the line of `counts`.
 #[tactic(auto, unfolding(crate::specs::List::counts_line))]
 fn push_counts_line(lines: &mut Vec<u8>, counts: &Counts) -> Result<(), OutOfMemory>
     ensures { OnOk result (lines.new.items ≡ lines.old.items ++ counts_line counts.now) }
@@ -291,7 +291,7 @@ fn push_counts_line(lines: &mut Vec<u8>, counts: &Counts) -> Result<(), OutOfMem
     Ok(())
 }
 
-/// Counts the loans that have this turn, on a day or on none.
+/// Returns the number of loans of `sides` that have the turn `turn`.
 fn count(sides: &[&Side], wanted: &Wanted, turn: Turn) -> usize
     ensures { result ≡ count_of wanted.now.today turn (map (λ side. side.now) sides.now) }
 {

@@ -12,7 +12,7 @@ use ill_core::Turn;
 use ill_saved::Side;
 use ill_values::OutOfMemory;
 
-/// Adds the object of a loan of this turn, on a line, with the path of its desk, if one is told.
+/// Appends the object of the loan of `side` on a line. It has the path `file` of its desk, if one is told.
 pub(crate) fn push_row_object(
     text: &mut Vec<u8>,
     file: Option<&str>,
@@ -27,7 +27,7 @@ pub(crate) fn push_row_object(
     push_plain(text, "}\n")
 }
 
-/// Adds the fields of a loan, and the path of its desk.
+/// Appends the fields of the loan of `side`, and the path of its desk.
 fn push_row_and_file(
     text: &mut Vec<u8>,
     file: Option<&str>,
@@ -41,7 +41,7 @@ fn push_row_and_file(
     push_file(text, file)
 }
 
-/// Adds the fields of a loan.
+/// Appends the fields of the loan of `side`.
 fn push_row_fields(text: &mut Vec<u8>, turn: Turn, side: &Side) -> Result<(), OutOfMemory>
     ensures { OnOk result (text.new.items ≡ text.old.items
         ++ joined member [] (row_fields turn side.now (names_of side.now))) }
@@ -50,7 +50,7 @@ fn push_row_fields(text: &mut Vec<u8>, turn: Turn, side: &Side) -> Result<(), Ou
     push_row_with(text, turn, side, &names)
 }
 
-/// Adds the fields of a loan, with these names of what it may do now.
+/// Appends the fields of the loan of `side`, with `names` as the actions that it may take now.
 #[tactic(auto, unfolding(crate::specs::Json::joined))]
 fn push_row_with<'a>(
     text: &mut Vec<u8>,
@@ -76,7 +76,7 @@ fn push_row_with<'a>(
     )
 }
 
-/// Adds the path of a desk, if one is told.
+/// Appends the path of a desk, if one is told.
 #[tactic(auto, unfolding(crate::specs::Json::joined))]
 fn push_file(text: &mut Vec<u8>, file: Option<&str>) -> Result<(), OutOfMemory>
     ensures { OnOk result (text.new.items ≡ text.old.items
@@ -88,7 +88,7 @@ fn push_file(text: &mut Vec<u8>, file: Option<&str>) -> Result<(), OutOfMemory>
     }
 }
 
-/// Adds the object of counts, on a line, with the path of their desk, if one is told.
+/// Appends the object of `counts` on a line, with the path `file` of the desk, if one is told.
 pub(crate) fn push_counts_object(
     text: &mut Vec<u8>,
     file: Option<&str>,
@@ -102,7 +102,7 @@ pub(crate) fn push_counts_object(
     push_plain(text, "}\n")
 }
 
-/// Adds the fields of counts, and the path of their desk.
+/// Appends the fields of `counts`, and the path of the desk.
 fn push_counts_and_file(
     text: &mut Vec<u8>,
     file: Option<&str>,
@@ -115,7 +115,7 @@ fn push_counts_and_file(
     push_file(text, file)
 }
 
-/// Adds the fields of counts.
+/// Appends the fields of `counts`.
 #[tactic(auto, unfolding(crate::specs::Json::joined))]
 fn push_counts_fields(text: &mut Vec<u8>, counts: &Counts) -> Result<(), OutOfMemory>
     ensures { OnOk result (text.new.items ≡ text.old.items

@@ -1,4 +1,4 @@
-//! A desk among those that are listed: what is written beside its loans.
+//! A desk among those that are listed, with the text before its loans.
 
 ghost use Rattle.std.specs.Prelude.{◌≡◌, ◌++◌, option_map, IfOk};
 ghost use Rattle.ill_tool.specs.Listing.{file_told, gap, heading, room_line};
@@ -19,7 +19,7 @@ pub(crate) struct Listed<'a> {
 }
 
 impl<'a> Listed<'a> {
-    /// The path, if it is told.
+    /// Returns the path, if it is told.
     pub(crate) fn told(&self) -> Option<&'a str>
         ensures { option_map (λ path. path.now) result ≡ file_told self.now.is_headed self.now.path.now }
     {
@@ -31,7 +31,7 @@ impl<'a> Listed<'a> {
     }
 }
 
-/// The heading of a desk in lines: an empty line behind another desk, and a line of its path, if it is told.
+/// Returns the heading of a desk in lines: an empty line after another desk, and a line of its path, if it is told.
 pub(crate) fn heading(alloc: Global, listed: &Listed<'_>) -> Result<Vec<u8>, OutOfMemory>
     ensures { IfOk result (λ text. text.items
         ≡ gap listed.now.is_first ++ heading listed.now.is_headed listed.now.path.now) }
@@ -47,7 +47,7 @@ pub(crate) fn heading(alloc: Global, listed: &Listed<'_>) -> Result<Vec<u8>, Out
     Ok(text)
 }
 
-/// The line that warns how much room a desk has left.
+/// Returns the line that warns how much room a desk has left.
 pub(crate) fn warning(alloc: Global, path: &str, room: usize) -> Result<Vec<u8>, OutOfMemory>
     ensures { IfOk result (λ line. line.items ≡ room_line path.now room) }
 {

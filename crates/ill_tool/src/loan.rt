@@ -17,8 +17,9 @@ use ill_values::{Apdu, Body, Number, OutOfMemory, TxnId};
 use std::alloc::Global;
 use std::io::Write;
 
-/// Writes all that the record knows: the seven lines of `status`, who acts next and what this side may do
-/// now, what is asked for, the messages that were taken, and each message that it has issued.
+/// Writes all that the record of `desk` knows. The first lines are the seven of `status`. Then come the library that
+/// acts next, the actions that this side may take now, and the request. The last are the messages that were taken, and
+/// each that it has issued.
 pub fn run_loan<S: Store, W: Write>(
     alloc: Global,
     desk: &Desk1<S>,
@@ -30,7 +31,7 @@ pub fn run_loan<S: Store, W: Write>(
     write_loan(alloc, desk.side(), desk.released(), writer)
 }
 
-/// The same, of the side of a transaction at a desk, which must be held (else `NoSuchTransaction`).
+/// Writes all that is known of the side of `txn` at `desk`, which must be held (else `NoSuchTransaction`).
 pub fn run_desk_loan<S: Store, W: Write>(
     alloc: Global,
     desk: &Desk<S>,
@@ -46,7 +47,7 @@ pub fn run_desk_loan<S: Store, W: Write>(
     }
 }
 
-/// Writes all that is known of a side.
+/// Writes all that is known of `side`.
 fn write_loan<W: Write>(
     alloc: Global,
     side: &Side,
@@ -61,7 +62,7 @@ fn write_loan<W: Write>(
     write_whole(writer, &lines)
 }
 
-/// Adds the lines of a side, and of the messages that it has issued.
+/// Appends the lines of `side`, and of the messages that it has issued.
 #[tactic(auto, unfolding(crate::specs::Loan::loan_lines))]
 pub(crate) fn push_loan(lines: &mut Vec<u8>, side: &Side, released: u8) -> Result<(), OutOfMemory>
     ensures { OnOk result (lines.new.items ≡ lines.old.items ++ loan_lines side.now released) }
@@ -70,7 +71,7 @@ pub(crate) fn push_loan(lines: &mut Vec<u8>, side: &Side, released: u8) -> Resul
     push_messages(lines, side.all_issued(), released)
 }
 
-/// Adds the lines of a side, before those of its messages.
+/// Appends the lines of `side` that stand before those of its messages.
 fn push_side(lines: &mut Vec<u8>, side: &Side, released: u8) -> Result<(), OutOfMemory>
     ensures { OnOk result (lines.new.items ≡ lines.old.items ++ side_lines side.now released) }
 {
@@ -80,7 +81,7 @@ fn push_side(lines: &mut Vec<u8>, side: &Side, released: u8) -> Result<(), OutOf
     push_taken(lines, side)
 }
 
-/// Adds the lines of who acts next, and of what the side may do now.
+/// Appends the line of the library that acts next, and that of the actions that the side may take.
 fn push_turn(lines: &mut Vec<u8>, side: &Side) -> Result<(), OutOfMemory>
     ensures { OnOk result (lines.new.items ≡ lines.old.items ++ turn_lines side.now) }
 {
@@ -89,7 +90,7 @@ fn push_turn(lines: &mut Vec<u8>, side: &Side) -> Result<(), OutOfMemory>
     push_words(lines, "now", &names)
 }
 
-/// The word of who acts next.
+/// Returns the word of `turn`.
 pub(crate) fn turn_word(turn: Turn) -> &'static str
     ensures { result.now ≡ turn_word turn }
 {
@@ -100,7 +101,7 @@ pub(crate) fn turn_word(turn: Turn) -> &'static str
     }
 }
 
-/// The names of verbs.
+/// Returns the names of `verbs`.
 pub(crate) fn names<'a>(alloc: Global, verbs: &[Verb]) -> Result<Vec<&'a str>, OutOfMemory>
     ensures { IfOk result (λ names. map (λ name. name.now) names.items ≡ map verb_name verbs.now) }
 {
@@ -111,7 +112,7 @@ pub(crate) fn names<'a>(alloc: Global, verbs: &[Verb]) -> Result<Vec<&'a str>, O
     Ok(names)
 }
 
-/// The request of a loan, if it has begun.
+/// Returns the request of a loan, if it has begun.
 pub(crate) fn request(side: &Side) -> Option<&Apdu>
     ensures { option_map (λ apdu. apdu.now) result ≡ request_of side.now }
 {
@@ -121,7 +122,7 @@ pub(crate) fn request(side: &Side) -> Option<&Apdu>
     }
 }
 
-/// Adds the lines of the request of a loan, if it has begun.
+/// Appends the lines of the request of a loan, if it has begun.
 fn push_request(lines: &mut Vec<u8>, side: &Side) -> Result<(), OutOfMemory>
     ensures { OnOk result (lines.new.items ≡ lines.old.items
         ++ request_lines (request_of side.now)) }
@@ -132,7 +133,7 @@ fn push_request(lines: &mut Vec<u8>, side: &Side) -> Result<(), OutOfMemory>
     }
 }
 
-/// Adds the lines of what a request asks for, and until when.
+/// Appends the lines of the item and the expiry day of a request.
 fn push_wanted(lines: &mut Vec<u8>, body: &Body) -> Result<(), OutOfMemory>
     ensures { OnOk result (lines.new.items ≡ lines.old.items ++ item_lines body.now) }
 {
@@ -145,7 +146,7 @@ fn push_wanted(lines: &mut Vec<u8>, body: &Body) -> Result<(), OutOfMemory>
     }
 }
 
-/// Adds the lines of what the record tells of messages taken.
+/// Appends the lines of the messages that the side has taken, as far as its record has their numbers.
 fn push_taken(lines: &mut Vec<u8>, side: &Side) -> Result<(), OutOfMemory>
     ensures { OnOk result (lines.new.items ≡ lines.old.items ++ taken_lines side.now) }
 {
@@ -159,7 +160,7 @@ fn push_taken(lines: &mut Vec<u8>, side: &Side) -> Result<(), OutOfMemory>
     }
 }
 
-/// Adds the line of the number of a message, which is a dash where there is none.
+/// Appends the line of the number of a message: a dash, if there is none.
 fn push_optional_number(
     lines: &mut Vec<u8>,
     label: &str,
@@ -174,7 +175,7 @@ fn push_optional_number(
     }
 }
 
-/// Adds the lines of messages, in their order.
+/// Appends the lines of `apdus`, in their order.
 fn push_messages(lines: &mut Vec<u8>, apdus: &[Apdu], released: u8) -> Result<(), OutOfMemory>
     ensures { OnOk result (lines.new.items ≡ lines.old.items
         ++ flat_map (message_lines released) apdus.now) }
@@ -185,14 +186,14 @@ fn push_messages(lines: &mut Vec<u8>, apdus: &[Apdu], released: u8) -> Result<()
     Ok(())
 }
 
-/// Adds the lines of a message, behind an empty one, and whether it may leave.
+/// Appends an empty line, the lines of `apdu`, and a line that tells if it may leave.
 fn push_message(lines: &mut Vec<u8>, apdu: &Apdu, released: u8) -> Result<(), OutOfMemory>
     ensures { OnOk result (lines.new.items ≡ lines.old.items ++ message_lines released apdu.now) }
 {
     push_marked(lines, "leaves", apdu.number.get() <= released, apdu)
 }
 
-/// Adds the lines of a message, behind an empty one, and whether something is so.
+/// Appends an empty line, the lines of `apdu`, and the line of `label` with `yes` or `no`.
 pub(crate) fn push_marked(
     lines: &mut Vec<u8>,
     label: &str,

@@ -1,4 +1,4 @@
-//! The words of `take --long` that tell which message it was, and what it said.
+//! The words of `take --long` that name a message, and the lines of its fields.
 
 ghost use Rattle.std.specs.Prelude.{◌≡◌, ◌++◌, OnOk};
 ghost use Rattle.ill_tool.specs.LongLines.{heading, indent, indented, said, word};
@@ -8,7 +8,7 @@ use ill_der::ApduView;
 use ill_values::OutOfMemory;
 use itoa::Buffer;
 
-/// Adds which message it was: `GROUP TRANSACTION TYPE NUMBER`, with a space behind each.
+/// Appends `GROUP TRANSACTION TYPE NUMBER` of `apdu`, with a space after each.
 pub(crate) fn push_heading(lines: &mut Vec<u8>, apdu: &ApduView<'_>) -> Result<(), OutOfMemory>
     ensures { OnOk result (lines.new.items ≡ lines.old.items ++ heading apdu.now) }
 {
@@ -18,7 +18,7 @@ pub(crate) fn push_heading(lines: &mut Vec<u8>, apdu: &ApduView<'_>) -> Result<(
     push_word(lines, Buffer::new().format(apdu.number().get()).as_bytes())
 }
 
-/// Adds a word, and the space behind it.
+/// Appends the word `text`, and a space.
 pub(crate) fn push_word(lines: &mut Vec<u8>, text: &[u8]) -> Result<(), OutOfMemory>
     ensures { OnOk result (lines.new.items ≡ lines.old.items ++ word text.now) }
 {
@@ -27,7 +27,7 @@ pub(crate) fn push_word(lines: &mut Vec<u8>, text: &[u8]) -> Result<(), OutOfMem
     Ok(())
 }
 
-/// Adds what it said: the lines of its further fields, with two spaces before each. A terminal acts on none.
+/// Appends the lines of the further fields of `apdu`, with two spaces before each. No byte of them acts on a terminal.
 pub(crate) fn push_said(lines: &mut Vec<u8>, apdu: &ApduView<'_>) -> Result<(), OutOfMemory>
     ensures { OnOk result (lines.new.items ≡ lines.old.items ++ said apdu.now) }
 {
@@ -37,7 +37,7 @@ pub(crate) fn push_said(lines: &mut Vec<u8>, apdu: &ApduView<'_>) -> Result<(), 
     push_indented(lines, &shown)
 }
 
-/// Adds a text with two spaces before each line.
+/// Appends `text` with two spaces before each line.
 fn push_indented(lines: &mut Vec<u8>, text: &[u8]) -> Result<(), OutOfMemory>
     ensures { OnOk result (lines.new.items ≡ lines.old.items ++ indented text.now) }
 {
@@ -50,7 +50,7 @@ fn push_indented(lines: &mut Vec<u8>, text: &[u8]) -> Result<(), OutOfMemory>
     Ok(())
 }
 
-/// What stands before a byte: two spaces where it begins a line.
+/// Returns the text before a byte: two spaces, if it begins a line.
 fn indent(begins: bool) -> &'static [u8]
     ensures { result.now ≡ indent begins }
 {

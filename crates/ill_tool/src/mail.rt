@@ -1,8 +1,8 @@
-//! The mails of a run: those that it claims from a folder, and those that an earlier run has claimed and left. Whoever
-//! brings mails may put anything into the folder at any moment.
+//! The mails of a run: those that it claims from a folder, and those that an earlier run has claimed and left. Anybody
+//! who brings mails may put anything into the folder at any moment.
 //!
-//! A mail is claimed when it is renamed into the folder of the desk's mail, where nobody else may write. There it is
-//! looked at, and read once.
+//! A run claims a mail by a rename into the folder of the desk's mail, where nobody else may write. Only there it looks
+//! at the mail, and reads it once.
 
 ghost use Rattle.std.specs.Prelude.{IfErr};
 ghost use Rattle.ill_tool.specs.Commands.{IsOpenFault};
@@ -25,30 +25,30 @@ use std::{fs, io};
 /// The most mails of one run. Further ones wait for the next.
 const MAILS: usize = 10_000;
 
-/// How many folders of runs are tried, if others make them at the same time.
+/// The number of names for the folder of a run that are tried, if others take them meanwhile.
 const TRIES: u32 = 100;
 
 /// The mails of a run.
 #[derive(Drop)]
 pub struct Mails {
-    /// Those that are read: the ones that were claimed before, and then the others in the order of the bytes of their
+    /// The mails that are read: those that were claimed before, and then the others in the order of the bytes of their
     /// names.
     pub mails: Vec<Mail>,
     /// The path of the file of each, or none if it could not be claimed.
     pub files: Vec<Option<String>>,
-    /// How many further ones there are.
+    /// The number of further mails.
     pub waiting: usize,
     /// The folders of runs that have claimed mails, this one's last.
     pub runs: Vec<String>,
 }
 
 impl Mails {
-    /// Tells if a run has no room for further ones.
+    /// Tells if a run has no room for a further mail.
     fn is_full(&self) -> bool {
         self.mails.len() >= MAILS
     }
 
-    /// Adds a mail.
+    /// Adds a mail of this name, with its bytes and the path of its file.
     fn add(
         &mut self,
         name: Vec<u8>,
@@ -69,7 +69,7 @@ impl Mails {
         self.add(name, None, None)
     }
 
-    /// Adds the mail in a file that was claimed.
+    /// Adds the mail in `file`, which was claimed.
     fn add_claimed<T: Files>(&mut self, rt: &T, name: Vec<u8>, file: String) -> io::Result<()> {
         let bytes = mail_bytes(rt, *name.allocator(), file.as_str())?;
         self.add(name, bytes, Some(file))
@@ -81,7 +81,7 @@ impl Mails {
 pub struct Incoming<'a> {
     /// Its path.
     pub folder: &'a str,
-    /// Set if a shelf sorts the folder: then the mails of the desk were claimed for it before.
+    /// Set if a shelf sorts the folder. Then the mails of the desk were claimed for it before.
     pub is_sorted: bool,
 }
 
@@ -95,7 +95,7 @@ pub fn begin_run<T: Files>(rt: &T, alloc: Global, mail_box: &MailBox) -> Result<
     }
 }
 
-/// Reads the mails of a desk: those that were claimed before, and those that are claimed from a folder into that of a run.
+/// Reads the mails that were claimed before, and claims those of `folder` into the folder `run` and reads them.
 pub fn claim_mails<T: Files>(
     rt: &T,
     alloc: Global,
@@ -111,8 +111,8 @@ pub fn claim_mails<T: Files>(
     }
 }
 
-/// Reads the mails that a shelf has sorted to the desk in a file. Whoever brings mails may write to one that he has opened
-/// before it was claimed: then its message may be for another desk, and it is not read.
+/// Reads the mails that a shelf has sorted to the desk in `file`. A carrier may still write to a mail that it opened
+/// before the claim. Then its message may be for another desk, and its bytes are hidden.
 pub fn sorted_mails<T: Files>(
     rt: &T,
     alloc: Global,
@@ -131,7 +131,7 @@ pub fn sorted_mails<T: Files>(
     }
 }
 
-/// Hides the bytes of the mails whose message is not for the desk in a file.
+/// Hides the bytes of the mails whose message is not for the desk in `file`.
 fn hide_others(
     alloc: Global,
     file: &str,
@@ -150,8 +150,8 @@ fn hide_others(
     Ok(())
 }
 
-/// Reads the mails of a desk, as many as one run takes: those that were claimed, and those that are claimed from a folder
-/// into that of a run.
+/// Reads the mails of a desk, as many as one run takes: those that were claimed before, and those that it claims from a
+/// folder into that of a run.
 fn all_mails<T: Files>(
     rt: &T,
     alloc: Global,
@@ -173,7 +173,7 @@ fn all_mails<T: Files>(
     Ok(mails)
 }
 
-/// Claims the mails of a folder into that of a run, as many as there is room for, and reads them.
+/// Claims the mails of `folder` into the folder `run`, as many as there is room for, and reads them.
 fn claim_from<T: Files>(
     rt: &T,
     alloc: Global,
@@ -192,7 +192,7 @@ fn claim_from<T: Files>(
 }
 
 /// Makes the folder of a run among the mails that were claimed, and returns its path. Its number is greater than those
-/// of all that are there. It was not there before, so that no other run has it.
+/// of all that are there. The folder is new, so no other run has it.
 pub(crate) fn new_run<T: Files>(rt: &T, alloc: Global, mail_box: &MailBox) -> io::Result<String> {
     let mut last = 0;
     for run in names_in(rt, alloc, mail_box.claimed())? {
@@ -209,7 +209,7 @@ pub(crate) fn new_run<T: Files>(rt: &T, alloc: Global, mail_box: &MailBox) -> io
     Err(ErrorKind::AlreadyExists.into())
 }
 
-/// The names in a folder that begin with no dot, in the order of their bytes.
+/// Returns the names in `folder` that begin with no dot, in the order of their bytes.
 pub(crate) fn names_in<T: Files>(rt: &T, alloc: Global, folder: &str) -> io::Result<Vec<Vec<u8>>> {
     let mut names = raw_names(rt, alloc, folder)?;
     names.retain(|name| !name.starts_with(b"."));
@@ -217,7 +217,7 @@ pub(crate) fn names_in<T: Files>(rt: &T, alloc: Global, folder: &str) -> io::Res
     Ok(names)
 }
 
-/// Adds the mails that an earlier run has claimed, in the folder of this name. What is no such folder has no mails.
+/// Adds the mails that an earlier run has claimed into its folder `run`. Anything else has no mails.
 fn add_run<T: Files>(rt: &T, claimed: &str, run: &[u8], mails: &mut Mails) -> io::Result<()> {
     let alloc = *mails.mails.allocator();
     let Some(number) = number_of(run) else {
@@ -234,7 +234,7 @@ fn add_run<T: Files>(rt: &T, claimed: &str, run: &[u8], mails: &mut Mails) -> io
     Ok(())
 }
 
-/// Tells if a folder stands at a path.
+/// Tells if a folder stands at `path`.
 fn is_folder<T: Files>(rt: &T, path: &str) -> bool {
     match fs::symlink_metadata(rt, path) {
         Ok(found) => found.is_dir(),
@@ -242,7 +242,7 @@ fn is_folder<T: Files>(rt: &T, path: &str) -> bool {
     }
 }
 
-/// The number of a run, by the name of its folder.
+/// Returns the number of a run, by the name of its folder.
 fn number_of(run: &[u8]) -> Option<u32> {
     str::from_utf8(run).ok()?.parse::<u32>().ok()
 }
@@ -259,8 +259,8 @@ fn add_again<T: Files>(rt: &T, folder: &str, name: Vec<u8>, mails: &mut Mails) -
     }
 }
 
-/// Claims the mail of this name and adds it, if it is one, or counts it if the run has enough. A mail that cannot be
-/// claimed is not read.
+/// Claims the mail `name` and adds it, if it is one, or counts it if the run has enough. A mail that cannot be claimed
+/// is not read.
 fn add_mail<T: Files>(
     rt: &T,
     folder: &str,
@@ -280,7 +280,7 @@ fn add_mail<T: Files>(
     }
 }
 
-/// Claims the mail at a path, and adds it.
+/// Claims the mail at `path`, and adds it.
 fn add_claimed<T: Files>(
     rt: &T,
     path: &str,
@@ -295,7 +295,7 @@ fn add_claimed<T: Files>(
     }
 }
 
-/// The name that is told of one that is no text: each byte that is none of ASCII is an escape, such as `\x9b`.
+/// Returns the text for a name that is none: each byte beyond ASCII is an escape, such as `\x9b`.
 fn as_text(alloc: Global, name: &[u8]) -> io::Result<Vec<u8>> {
     let mut text = String::new(alloc);
     for byte in name {
@@ -308,8 +308,8 @@ fn as_text(alloc: Global, name: &[u8]) -> io::Result<Vec<u8>> {
     Ok(text.into_bytes())
 }
 
-/// Renames a file into the folder of a run, and answers its path there. No other file has its name there, since names in
-/// a folder differ.
+/// Renames the file at `path` into the folder `run`, and returns its path there. No other file has its name there,
+/// since names in a folder differ.
 fn claim<T: Files>(
     rt: &T,
     alloc: Global,
@@ -323,7 +323,7 @@ fn claim<T: Files>(
     Ok(file)
 }
 
-/// The path of the file of this name, if the name is a text: no path can have another.
+/// Returns the path of the file `name` in `folder`, if the name is a text. No path can have another name.
 pub(crate) fn path_of(alloc: Global, folder: &str, name: &[u8]) -> io::Result<Option<String>> {
     match str::from_utf8(name) {
         Ok(name) => Ok(Some(format!(in alloc; "{folder}/{name}")?)),
@@ -331,7 +331,7 @@ pub(crate) fn path_of(alloc: Global, folder: &str, name: &[u8]) -> io::Result<Op
     }
 }
 
-/// Looks up the regular file at a path. Anything else, and what has gone, is no mail.
+/// Finds the regular file at `path`. Anything else, and a file that has gone, is no mail.
 fn lookup<T: Files>(rt: &T, path: &str) -> io::Result<Option<Metadata>> {
     match fs::symlink_metadata(rt, path) {
         Ok(found) if found.is_file() => Ok(Some(found)),
@@ -341,7 +341,7 @@ fn lookup<T: Files>(rt: &T, path: &str) -> io::Result<Option<Metadata>> {
     }
 }
 
-/// The bytes of a claimed mail: one more than a message has, if it has as many. None if it is no regular file, or
+/// Returns the bytes of a claimed mail, at most one more than a message has. Returns none if it is no regular file, or
 /// cannot be read.
 fn mail_bytes<T: Files>(rt: &T, alloc: Global, file: &str) -> io::Result<Option<Vec<u8>>> {
     let bytes = match lookup(rt, file) {
@@ -359,14 +359,15 @@ fn mail_bytes<T: Files>(rt: &T, alloc: Global, file: &str) -> io::Result<Option<
 /// The most bytes that are read of a mail: one more than a message has.
 const MOST: usize = APDU_LIMIT + 1;
 
-/// Returns the first bytes of the file at a path, which had this size. If it still has, one call reads them.
+/// Returns the first bytes of the file at `path`, which had the size `size`. If it still has, one call reads them.
 fn first_bytes<T: Files>(rt: &T, alloc: Global, path: &str, size: u64) -> io::Result<Vec<u8>> {
     let mut file = fs::open(rt, path)?;
     let mut first = [0; MOST];
     let count = file.read(&mut first)?;
     let mut bytes = Vec::from_slice(alloc, &first[..count])?;
     if count as u64 != size {
-        file.take(MOST.saturating_sub(count) as u64).read_to_end(&mut bytes)?;
+        file.take(MOST.saturating_sub(count) as u64)
+            .read_to_end(&mut bytes)?;
     }
     Ok(bytes)
 }

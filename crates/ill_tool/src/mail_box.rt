@@ -1,5 +1,5 @@
-//! The folder of a desk's mail, beside its file. Nobody but the user of the desk may write there, so what has come to
-//! stand there stays what it is.
+//! The folder of a desk's mail, beside its file. Nobody but the user of the desk may write there, so a file there stays
+//! as it is.
 
 use ill_saved::{FileStore, RECORD_LIMIT, Store, StoreFault};
 use std::alloc::Global;
@@ -10,7 +10,7 @@ use std::path::Path;
 use std::rt::Files;
 use std::{fs, io};
 
-/// The ending of its name, behind that of the desk's file.
+/// The ending of the name of the folder, after the name of the desk's file.
 pub(crate) const MAIL: &str = ".mail";
 
 /// The ending of the name of the file that tells why a mail was put aside.
@@ -24,7 +24,7 @@ pub struct MailBox {
 }
 
 impl MailBox {
-    /// The folder of the mail of the desk in a file. It is made, for its owner alone, if it is not there.
+    /// Opens the folder of the mail of the desk in the file `desk`. If it is not there, it is made for its owner alone.
     pub fn open<T: Files>(rt: &T, alloc: Global, desk: &str) -> io::Result<MailBox> {
         let path = format!(in alloc; "{desk}{MAIL}")?;
         make_own_folder(rt, path.as_str())?;
@@ -33,18 +33,21 @@ impl MailBox {
         Ok(MailBox { path, claimed })
     }
 
-    /// The folder of the mails that were claimed: in it has each run a folder of its own.
+    /// Returns the folder of the mails that were claimed. Each run has a folder of its own in it.
     pub fn claimed(&self) -> &str {
         self.claimed.as_str()
     }
 
-    /// Tells if a path leads to this folder, into it, or to the folder of the desk's file: no mail stands there.
+    /// Tells if `path` leads to this folder, into it, or to the folder of the desk's file. No mail stands there.
     pub fn is_at<T: Files>(&self, rt: &T, alloc: Global, path: &str) -> io::Result<bool> {
         let above = fs::metadata(rt, self.above())?;
-        Ok(is_same(&fs::metadata(rt, path)?, &above) || is_within(rt, alloc, path, self.path.as_str())?)
+        Ok(
+            is_same(&fs::metadata(rt, path)?, &above)
+                || is_within(rt, alloc, path, self.path.as_str())?,
+        )
     }
 
-    /// The path of the folder in which it stands.
+    /// Returns the path of the folder in which this one stands.
     fn above(&self) -> &str {
         match Path::new(self.path.as_str()).parent() {
             Some(folder) if !folder.as_str().is_empty() => folder.as_str(),
@@ -52,12 +55,12 @@ impl MailBox {
         }
     }
 
-    /// The file of the messages that ask.
+    /// Returns the path of the file of the messages that ask.
     pub fn asked(&self, alloc: Global) -> io::Result<String> {
         asked_at(alloc, self.path.as_str())
     }
 
-    /// Puts a file aside under a name, with another file beside it that tells why.
+    /// Puts `file` aside under `name`, with the line `why` in another file beside it.
     pub fn put_aside<T: Files>(
         &self,
         rt: &T,
@@ -77,7 +80,7 @@ impl MailBox {
         }
     }
 
-    /// Keeps the messages that ask, in place of those of the night before.
+    /// Keeps `asked`, the messages that ask, in place of those of the night before.
     pub fn keep_asked<T: Files>(&self, rt: &T, alloc: Global, asked: &[u8]) -> io::Result<()> {
         let path = self.asked(alloc)?;
         if asked.is_empty() {
@@ -91,12 +94,12 @@ impl MailBox {
     }
 }
 
-/// The path of the file of the messages that ask, in the folder of a desk's mail.
+/// Returns the path of the file of the messages that ask, in the folder `path` of a desk's mail.
 fn asked_at(alloc: Global, path: &str) -> io::Result<String> {
     Ok(format!(in alloc; "{path}/asked")?)
 }
 
-/// The messages that ask at the desk in a file, one behind another: none if there is no file of them.
+/// Returns the messages that ask at the desk in the file `desk`, one after another: none if there is no file of them.
 pub fn asked_bytes<T: Files>(rt: &T, alloc: Global, desk: &str) -> io::Result<Vec<u8>> {
     let path = format!(in alloc; "{desk}{MAIL}")?;
     let asked = asked_at(alloc, path.as_str())?;
@@ -108,7 +111,7 @@ pub fn asked_bytes<T: Files>(rt: &T, alloc: Global, desk: &str) -> io::Result<Ve
     }
 }
 
-/// Makes a folder that its owner alone may enter, if none is there. One that others may enter is a fault.
+/// Makes a folder that its owner alone may enter, if none is there. A folder that others may enter is a fault.
 fn make_own_folder<T: Files>(rt: &T, path: &str) -> io::Result<()> {
     make_folder(rt, path)?;
     let found = fs::symlink_metadata(rt, path)?;
@@ -119,7 +122,7 @@ fn make_own_folder<T: Files>(rt: &T, path: &str) -> io::Result<()> {
     }
 }
 
-/// Makes a folder for its owner alone, if none is there. A link to one is none.
+/// Makes a folder for its owner alone, if none is there. A link to a folder is a fault.
 pub(crate) fn make_folder<T: Files>(rt: &T, path: &str) -> io::Result<()> {
     match fs::symlink_metadata(rt, path) {
         Ok(found) if found.is_dir() => Ok(()),
@@ -136,11 +139,11 @@ pub(crate) fn is_same(one: &Metadata, other: &Metadata) -> bool {
     (one.dev(), one.ino()) == (other.dev(), other.ino())
 }
 
-/// How many folders a folder of mails may lie below one within which it is found: as many as stand between a claimed
-/// mail and the folder of its desk's file.
+/// The most levels by which a folder may lie below a folder of mails in which it is found. That many folders stand
+/// between a claimed mail and the folder of its desk's file.
 const DEPTH: usize = 3;
 
-/// Tells if a path leads to a folder, or to one that lies at most three folders below it.
+/// Tells if `path` leads to `folder`, or to a folder at most three levels below it.
 pub(crate) fn is_within<T: Files>(
     rt: &T,
     alloc: Global,
@@ -158,7 +161,7 @@ pub(crate) fn is_within<T: Files>(
     Ok(false)
 }
 
-/// Removes a file, if it is there.
+/// Removes the file at `path`, if it is there.
 pub(crate) fn remove_if_there<T: Files>(rt: &T, path: &str) -> io::Result<()> {
     match fs::remove_file(rt, path) {
         Err(error) if error.kind() != ErrorKind::NotFound => Err(error),
@@ -166,7 +169,7 @@ pub(crate) fn remove_if_there<T: Files>(rt: &T, path: &str) -> io::Result<()> {
     }
 }
 
-/// Writes a line to a file, in place of one that is there.
+/// Writes `line` to the file at `path`, in place of one that is there.
 fn write_anew<T: Files>(rt: &T, path: &str, line: &[u8]) -> io::Result<()> {
     remove_if_there(rt, path)?;
     let mut options = OpenOptions::new();

@@ -21,7 +21,7 @@ use ill_world::{DeskOutcome, Outcome, Who};
 use std::alloc::Global;
 use std::io::Write;
 
-/// Begins a side of this transaction, saves it in a store that has no record (else `Exists`), and
+/// Begins a side of the transaction `txn` over a store that has no record (else `Exists`). It saves the side, and
 /// writes its line. A fault gives the store back.
 ///
 /// If the writer fails, or memory runs out for the line, the record stays saved.
@@ -43,8 +43,8 @@ pub fn run_new<S: Store, W: Write>(
     begin(alloc, store, (role, txn), writer)
 }
 
-/// Begins a desk of this role that holds no side, saves it in a store that has no record (else `Exists`),
-/// and writes the line `done`. A fault gives the store back.
+/// Begins a desk of the role `role` that holds no side, over a store that has no record (else `Exists`). It saves the
+/// desk, and writes the line `done`. A fault gives the store back.
 ///
 /// If the writer fails, the record stays saved.
 pub fn run_desk_new<S: Store, W: Write>(
@@ -62,7 +62,7 @@ pub fn run_desk_new<S: Store, W: Write>(
     begin(alloc, store, role, writer)
 }
 
-/// The same, of whatever keeps sides.
+/// Begins a keeper with `first` over a store that has no record (else `Exists`), saves it, and writes its line.
 #[tactic(auto, using(crate::proofs::NewLemmas::still_spent, crate::proofs::NewLemmas::begun_over))]
 fn begin<K: Keeper, W: Write>(
     alloc: Global,
@@ -85,7 +85,7 @@ fn begin<K: Keeper, W: Write>(
     }
 }
 
-/// Saves what was created, and writes its line.
+/// Saves a keeper that was just created, and writes its line.
 fn save_first<K: Keeper, W: Write>(
     alloc: Global,
     keeper: &mut K,
@@ -103,7 +103,7 @@ fn save_first<K: Keeper, W: Write>(
     }
 }
 
-/// Writes the line of what was saved at the beginning.
+/// Writes the line of the beginning that was saved.
 fn write_beginning<K: Keeper, W: Write>(
     alloc: Global,
     keeper: &K,

@@ -18,7 +18,7 @@ use ill_der::{ApduView, BodyView};
 use ill_saved::Side;
 use ill_values::{Apdu, Day, Number, OutOfMemory};
 
-/// Adds the object of an APDU, on a line.
+/// Appends the object of `apdu` on a line.
 pub(crate) fn push_apdu_object(text: &mut Vec<u8>, apdu: &ApduView<'_>) -> Result<(), OutOfMemory>
     ensures { OnOk result (text.new.items ≡ text.old.items ++ object_line (apdu_fields apdu.now)) }
 {
@@ -33,7 +33,7 @@ pub(crate) fn push_apdu_object(text: &mut Vec<u8>, apdu: &ApduView<'_>) -> Resul
     push_plain(text, "}\n")
 }
 
-/// Adds the fields of an APDU.
+/// Appends the fields of an APDU.
 fn push_apdu(
     text: &mut Vec<u8>,
     body: &BodyView<'_>,
@@ -48,7 +48,7 @@ fn push_apdu(
     push_body(text, body)
 }
 
-/// Adds the fields of what each APDU has.
+/// Appends the fields that each APDU has.
 #[tactic(auto, unfolding(crate::specs::Json::joined))]
 fn push_head<'a>(
     text: &mut Vec<u8>,
@@ -72,7 +72,7 @@ fn push_head<'a>(
     )
 }
 
-/// Adds the further fields of an APDU.
+/// Appends the further fields of an APDU.
 #[tactic(auto, unfolding(crate::specs::Json::joined))]
 fn push_body(text: &mut Vec<u8>, body: &BodyView<'_>) -> Result<(), OutOfMemory>
     ensures { OnOk result (text.new.items ≡ text.old.items
@@ -105,7 +105,7 @@ fn push_body(text: &mut Vec<u8>, body: &BodyView<'_>) -> Result<(), OutOfMemory>
     }
 }
 
-/// Adds the date of a request, if it has one, and its item.
+/// Appends the date of a request, if it has one, and its item.
 #[tactic(auto, unfolding(crate::specs::Json::joined))]
 fn push_request(text: &mut Vec<u8>, expiry: Option<Day>, item: &[u8]) -> Result<(), OutOfMemory>
     ensures { OnOk result (text.new.items ≡ text.old.items
@@ -118,7 +118,7 @@ fn push_request(text: &mut Vec<u8>, expiry: Option<Day>, item: &[u8]) -> Result<
     }
 }
 
-/// Adds the number of the message that is answered, and the reply.
+/// Appends the number of the message that is answered, and the reply.
 #[tactic(auto, unfolding(crate::specs::Json::joined))]
 fn push_reply(text: &mut Vec<u8>, answers: Number, yes: bool) -> Result<(), OutOfMemory>
     ensures { OnOk result (text.new.items ≡ text.old.items
@@ -134,7 +134,7 @@ fn push_reply(text: &mut Vec<u8>, answers: Number, yes: bool) -> Result<(), OutO
     )
 }
 
-/// Adds a date, if there is one.
+/// Appends `day`, if there is one.
 #[tactic(auto, unfolding(crate::specs::Json::joined))]
 fn push_date(text: &mut Vec<u8>, day: Option<Day>) -> Result<(), OutOfMemory>
     ensures { OnOk result (text.new.items ≡ text.old.items
@@ -146,7 +146,7 @@ fn push_date(text: &mut Vec<u8>, day: Option<Day>) -> Result<(), OutOfMemory>
     }
 }
 
-/// Adds the object of how a side stands, on a line.
+/// Appends, on a line, the object of how `side` stands.
 pub(crate) fn push_status_object(
     text: &mut Vec<u8>,
     side: &Side,
@@ -160,7 +160,7 @@ pub(crate) fn push_status_object(
     push_plain(text, "}\n")
 }
 
-/// Adds the fields of how a side stands.
+/// Appends the fields of how `side` stands.
 fn push_status(text: &mut Vec<u8>, side: &Side, released: u8) -> Result<(), OutOfMemory>
     ensures { OnOk result (text.new.items ≡ text.old.items
         ++ joined member [] (status_fields side.now released)) }
@@ -169,7 +169,7 @@ fn push_status(text: &mut Vec<u8>, side: &Side, released: u8) -> Result<(), OutO
     push_standing(text, side, released, &marks)
 }
 
-/// Adds the fields of how a side stands, with these marks.
+/// Appends the fields of how `side` stands, with `marks`.
 #[tactic(auto, unfolding(crate::specs::Json::joined))]
 fn push_standing<'a>(
     text: &mut Vec<u8>,
@@ -196,7 +196,7 @@ fn push_standing<'a>(
     )
 }
 
-/// Adds the fields of all that is known of a side.
+/// Appends the fields of all that is known of `side`.
 fn push_loan(text: &mut Vec<u8>, side: &Side, released: u8) -> Result<(), OutOfMemory>
     ensures { OnOk result (text.new.items ≡ text.old.items
         ++ joined member [] (loan_fields side.now released)) }
@@ -207,7 +207,7 @@ fn push_loan(text: &mut Vec<u8>, side: &Side, released: u8) -> Result<(), OutOfM
     push_messages(text, "messages", side.all_issued(), Some(released))
 }
 
-/// Adds the object of all that is known of a side and of these messages that came, on a line.
+/// Appends the object of all that is known of `side` and of the messages `came`, on a line.
 pub(crate) fn push_kept_object(
     text: &mut Vec<u8>,
     side: &Side,
@@ -222,7 +222,7 @@ pub(crate) fn push_kept_object(
     push_plain(text, "}\n")
 }
 
-/// Adds the fields of all that is known of a side, and of these messages that came.
+/// Appends the fields of all that is known of `side`, and of the messages `came`.
 fn push_loan_and_came(
     text: &mut Vec<u8>,
     side: &Side,
@@ -236,7 +236,7 @@ fn push_loan_and_came(
     push_messages(text, "came", came, None)
 }
 
-/// Adds the fields of who acts next, of what the side may do now, and of what is asked for.
+/// Appends the fields of the library that acts next, the actions that the side may take now, and the request.
 fn push_turn(text: &mut Vec<u8>, side: &Side) -> Result<(), OutOfMemory>
     ensures { OnOk result (text.new.items ≡ text.old.items
         ++ joined member (codes ",") (turn_fields side.now (names_of side.now))) }
@@ -245,7 +245,7 @@ fn push_turn(text: &mut Vec<u8>, side: &Side) -> Result<(), OutOfMemory>
     push_now(text, side, &names)
 }
 
-/// Adds the fields of who acts next, of what the side may do by these names, and of what is asked for.
+/// Appends the fields of the library that acts next, the actions `names`, and the request.
 #[tactic(auto, unfolding(crate::specs::Json::joined))]
 fn push_now<'a>(text: &mut Vec<u8>, side: &'a Side, names: &'a [&'a str]) -> Result<(), OutOfMemory>
     ensures { OnOk result (text.new.items ≡ text.old.items
@@ -263,7 +263,7 @@ fn push_now<'a>(text: &mut Vec<u8>, side: &'a Side, names: &'a [&'a str]) -> Res
     )
 }
 
-/// Adds the fields of what the record tells of messages taken.
+/// Appends the fields of the messages that the side has taken, as far as its record has their numbers.
 #[tactic(auto, unfolding(crate::specs::Json::joined))]
 fn push_taken(text: &mut Vec<u8>, side: &Side) -> Result<(), OutOfMemory>
     ensures { OnOk result (text.new.items ≡ text.old.items
@@ -285,7 +285,7 @@ fn push_taken(text: &mut Vec<u8>, side: &Side) -> Result<(), OutOfMemory>
     }
 }
 
-/// Adds the field of messages. If it is said how many are released, each tells if it may leave.
+/// Appends the field `label` of the messages `apdus`. If there is a number `released`, each tells if it may leave.
 #[tactic(auto, unfolding(crate::specs::Json::joined))]
 fn push_messages(
     text: &mut Vec<u8>,
@@ -301,7 +301,7 @@ fn push_messages(
     push_array(text, apdus, released)
 }
 
-/// Adds the array of messages.
+/// Appends the array of the messages `apdus`.
 fn push_array(text: &mut Vec<u8>, apdus: &[Apdu], released: Option<u8>) -> Result<(), OutOfMemory>
     ensures { OnOk result (text.new.items ≡ text.old.items
         ++ array (message_object released) apdus.now) }
@@ -317,7 +317,7 @@ fn push_array(text: &mut Vec<u8>, apdus: &[Apdu], released: Option<u8>) -> Resul
     Ok(())
 }
 
-/// Adds the object of a message.
+/// Appends the object of the message `apdu`.
 fn push_message(text: &mut Vec<u8>, apdu: &Apdu, released: Option<u8>) -> Result<(), OutOfMemory>
     ensures { OnOk result (text.new.items ≡ text.old.items ++ message_object released apdu.now) }
 {
@@ -327,7 +327,7 @@ fn push_message(text: &mut Vec<u8>, apdu: &Apdu, released: Option<u8>) -> Result
     push_plain(text, "}")
 }
 
-/// Adds the fields of a message.
+/// Appends the fields of the message `apdu`.
 fn push_issued(text: &mut Vec<u8>, apdu: &Apdu) -> Result<(), OutOfMemory>
     ensures { OnOk result (text.new.items ≡ text.old.items
         ++ joined member [] (apdu_fields apdu.now)) }
@@ -336,7 +336,7 @@ fn push_issued(text: &mut Vec<u8>, apdu: &Apdu) -> Result<(), OutOfMemory>
     push_apdu(text, &view(&apdu.body), group, transaction, apdu.number)
 }
 
-/// Adds the field that tells if a message may leave, if it is said how many are released.
+/// Appends the field that tells if `apdu` may leave, if there is a number `released`.
 #[tactic(auto, unfolding(crate::specs::Json::joined))]
 fn push_leaves(text: &mut Vec<u8>, apdu: &Apdu, released: Option<u8>) -> Result<(), OutOfMemory>
     ensures { OnOk result (text.new.items ≡ text.old.items
@@ -351,7 +351,7 @@ fn push_leaves(text: &mut Vec<u8>, apdu: &Apdu, released: Option<u8>) -> Result<
     }
 }
 
-/// The item of a side, if its request is there.
+/// Returns the item of `side`, if its request is there.
 pub(crate) fn title<'a>(side: &'a Side) -> Value<'a>
     ensures { value_text result ≡ optional quoted (item_asked (request_of side.now)) }
 {

@@ -1,4 +1,4 @@
-//! The commands on a shelf. In a transaction each does at the desk of its group what the command for one desk does.
+//! The commands on a shelf. In a transaction each does at the desk of its group as the command for one desk does.
 
 ghost use Rattle.std.specs.Prelude.{◌≡◌, true, map, is_some, IfErr};
 ghost use Rattle.ill_tool.specs.Commands.{ActsAtFile, ExchangesAtFile, InboxAtFile, IsOpenFault, LoanAtFile, NewAtFile, OutboxAtFile, SendsAtFile, ShowsFile};
@@ -31,7 +31,7 @@ use std::io::{ErrorKind, Write};
 use std::rt::Files;
 use std::{fs, io};
 
-/// `ill shelf new`: begins a shelf in a folder, which is made if it is not there.
+/// `ill shelf new`: begins a shelf in a folder. The folder is made if it is not there.
 pub fn new_shelf<T: LockFiles, W: Write>(
     rt: &T,
     alloc: Global,
@@ -59,8 +59,8 @@ fn make_shelf_folder<T: Files>(rt: &T, folder: &str) -> Result<(), ToolFault>
     }
 }
 
-/// `ill shelf act`: performs one action in a transaction, at the desk of its group. A new group is begun only if that is
-/// said.
+/// `ill shelf act`: performs one action in a transaction, at the desk of its group. A new group is begun only if
+/// `is_new_group` is set.
 pub fn act_on_shelf<T: LockFiles, W: Write>(
     rt: &T,
     alloc: Global,
@@ -82,8 +82,8 @@ pub fn act_on_shelf<T: LockFiles, W: Write>(
     release(acted, desk, lock)
 }
 
-/// Opens the desk in a file under the file's lock. If the file is not there, a desk of this role is begun, of which
-/// nothing is saved yet.
+/// Opens the desk in `file` under the lock of the file. If the file is not there and `role` is one, it begins a desk of
+/// that role. Nothing of that desk is saved yet.
 fn open_or_begin<'a, T: LockFiles>(
     rt: &'a T,
     alloc: Global,
@@ -100,7 +100,7 @@ fn open_or_begin<'a, T: LockFiles>(
     Ok((held, opened))
 }
 
-/// Starts a desk over a store. If the store has no record, a desk of this role is begun.
+/// Starts a desk over `store`. If the store has no record and `role` is one, it begins a desk of that role.
 fn start_or_begin<S: Store + Drop>(
     alloc: Global,
     store: S,
@@ -114,7 +114,7 @@ fn start_or_begin<S: Store + Drop>(
     }
 }
 
-/// `ill shelf send`: gives the bytes of a message of a transaction.
+/// `ill shelf send`: writes the bytes of a message of a transaction.
 pub fn send_on_shelf<T: Files, W: Write>(
     rt: &T,
     alloc: Global,
@@ -145,7 +145,7 @@ pub fn loan_on_shelf<T: Files, W: Write>(
     loan(rt, alloc, file.as_str(), txn, form, is_picture, writer)
 }
 
-/// Returns the path of the desk of a transaction's group, unless the group is retired.
+/// Returns the path of the desk of the group of `txn`, unless the group is retired.
 fn home_of<T: Files>(rt: &T, alloc: Global, folder: &str, txn: &TxnId) -> Result<String, ToolFault>
     ensures { IfErr result IsOpenFault }
 {
@@ -171,7 +171,8 @@ pub fn status_of_shelf<T: LockFiles, W: Write, E: Write>(
     visit_all(rt, alloc, &desks, &Visit::Status(form), writer, errors)
 }
 
-/// `ill shelf outbox`: puts the messages of the loans that want sending into a folder, or writes them one behind another.
+/// `ill shelf outbox`: puts the messages of the loans that want sending into a folder, or writes them one after
+/// another.
 pub fn outbox_of_shelf<T: LockFiles, W: Write, E: Write>(
     rt: &T,
     alloc: Global,
@@ -206,7 +207,7 @@ pub fn inbox_of_shelf<T: LockFiles, W: Write, E: Write>(
     graver(answer, waiting(is_waiting))
 }
 
-/// Returns the paths of the desks of a shelf, and behind them that of its own.
+/// Returns the paths of the desks of `shelf`, and after them that of its own desk.
 fn desks_and_own<T: Files>(
     rt: &T,
     alloc: Global,
@@ -219,7 +220,7 @@ fn desks_and_own<T: Files>(
     Ok(desks)
 }
 
-/// Answers that mails wait, if they do.
+/// Returns the fault that mails wait, if they do; else true.
 fn waiting(is_waiting: bool) -> Result<bool, ToolFault>
     ensures { IsFurther result }
 {
@@ -252,7 +253,7 @@ pub fn exchange_of_shelf<T: LockFiles, W: Write, E: Write>(
     graver(answer, further)
 }
 
-/// Returns what a night of a shelf does at each of its desks. The sign of life is given once, in the end.
+/// Returns the night of each desk of a shelf. The sign of life is given once, in the end.
 fn at_each<'a>(night: &Night<'a>) -> Night<'a>
     ensures { result.dates ≡ night.now.dates }
 {
@@ -266,8 +267,8 @@ fn at_each<'a>(night: &Night<'a>) -> Night<'a>
     }
 }
 
-/// Keeps the marks of retired groups with the copies, gives the sign of life of a night, unless a desk has failed, and
-/// tells if mails wait.
+/// Keeps the marks of retired groups with the copies. Unless a desk has failed, it then gives the sign of life of a
+/// night. It returns the fault that mails wait, if they do.
 fn end_night<T: Files, E: Write>(
     rt: &T,
     alloc: Global,
@@ -292,10 +293,10 @@ fn end_night<T: Files, E: Write>(
     waiting(is_waiting)
 }
 
-/// What a person is told behind the path of a folder of copies.
+/// The text that follows the path of a folder of copies.
 const NO_MARKS: &str = " does not have the marks of all retired groups";
 
-/// Puts the mark of each retired group into a folder of copies, and removes the copy of its desk there.
+/// Puts the mark of each retired group into `folder`, which has copies, and removes the copy of its desk there.
 fn copy_marks<T: Files>(rt: &T, alloc: Global, shelf: &Shelf<'_>, folder: &str) -> io::Result<()> {
     for name in names_of_desks(rt, alloc, shelf.folder, shelf.role, RETIRED)? {
         let copy = format!(in alloc; "{folder}/{name}")?;
@@ -307,13 +308,13 @@ fn copy_marks<T: Files>(rt: &T, alloc: Global, shelf: &Shelf<'_>, folder: &str) 
     Ok(())
 }
 
-/// Saves the mark of the group of a desk that is retired, and all changes of its folder with it.
+/// Saves the mark that the group of `desk` is retired, and all changes of its folder with it.
 fn save_mark<T: Files>(rt: &T, alloc: Global, desk: &str) -> io::Result<()> {
     let path = retired_path(alloc, desk)?;
     save_file(rt, alloc, path.as_str(), MARK)
 }
 
-/// Saves bytes in a file, and all changes of its folder with it.
+/// Saves `bytes` in the file at `path`, and all changes of its folder with it.
 fn save_file<T: Files>(rt: &T, alloc: Global, path: &str, bytes: &[u8]) -> io::Result<()> {
     let mut store = FileStore::at(rt, alloc, path, RECORD_LIMIT)?;
     match store.save(alloc, bytes) {
@@ -332,7 +333,7 @@ fn file_fault(error: &io::Error) -> ToolFault
     }
 }
 
-/// `ill shelf retire`: replaces a desk whose loans are all over by a mark of its group. No mail is sorted meanwhile.
+/// `ill shelf retire`: replaces a desk by a mark of its group, if all its loans are over. No mail is sorted meanwhile.
 pub fn retire<T: LockFiles, W: Write>(
     rt: &T,
     alloc: Global,
@@ -354,14 +355,14 @@ pub fn retire<T: LockFiles, W: Write>(
     tell_with(is_marked, told)
 }
 
-/// The line of a group that is retired, or is not since a loan is not over.
+/// Returns the line of a group that is retired, or of one with a loan that is not over.
 fn retired_line(is_retired: bool) -> &'static [u8]
     ensures { result.now ≡ retired_line is_retired }
 {
     if is_retired { b"done\n" } else { b"not-now\n" }
 }
 
-/// Returns the answer of a command whose line was written, or could not be.
+/// Returns the answer of a command that has written its line, or could not.
 fn tell_with(is_well: bool, told: Result<(), ToolFault>) -> Result<bool, ToolFault>
     ensures { result ≡ told_with is_well told }
 {
@@ -371,8 +372,8 @@ fn tell_with(is_well: bool, told: Result<(), ToolFault>) -> Result<bool, ToolFau
     }
 }
 
-/// Marks the group of the desk in a file as retired, if all loans of the desk are over, and then removes the desk. It
-/// tells if the group is marked.
+/// Marks the group of the desk in `file` as retired, if all loans of the desk are over. Then it removes the desk. It
+/// returns true if the group is marked.
 fn mark_and_clear<T: Files>(rt: &T, alloc: Global, file: &str) -> Result<bool, ToolFault>
     ensures { IfErr result IsOpenFault }
 {
@@ -383,7 +384,7 @@ fn mark_and_clear<T: Files>(rt: &T, alloc: Global, file: &str) -> Result<bool, T
     Ok(is_marked)
 }
 
-/// Marks the group of the desk in a file as retired, if all loans of the desk are over. It may be marked already.
+/// Marks the group of the desk in `file` as retired, if all loans of the desk are over. It may be marked already.
 fn mark_retired<T: Files>(rt: &T, alloc: Global, file: &str) -> Result<bool, ToolFault>
     ensures { IfErr result IsOpenFault }
 {
@@ -398,7 +399,7 @@ fn mark_retired<T: Files>(rt: &T, alloc: Global, file: &str) -> Result<bool, Too
     run_desk_retire(alloc, &desk, &mut mark)
 }
 
-/// Removes the file of a desk, and what stands beside it, and saves that. A mail that was put aside stays, and its folder.
+/// Removes the file of a desk and the files beside it, and saves that. A mail that was put aside stays, and its folder.
 fn clear<T: Files>(rt: &T, alloc: Global, file: &str) -> io::Result<()> {
     let came = format!(in alloc; "{file}{CAME}")?;
     let mail = format!(in alloc; "{file}{MAIL}")?;
@@ -408,8 +409,8 @@ fn clear<T: Files>(rt: &T, alloc: Global, file: &str) -> io::Result<()> {
     save_mark(rt, alloc, file)
 }
 
-/// Removes the mails that were claimed for a desk and the messages that ask, and their folder, unless mails were put aside
-/// there. Then it saves that no message asks, and all changes of the folder with it.
+/// Removes the mails that were claimed for a desk, the messages that ask, and their folder. If mails were put aside
+/// there, the folder stays. Then it saves that no message asks, and all changes of the folder with it.
 fn clear_mail<T: Files>(rt: &T, alloc: Global, mail: &str) -> io::Result<()> {
     let claimed = format!(in alloc; "{mail}/in")?;
     let asked = format!(in alloc; "{mail}/asked")?;

@@ -1,4 +1,4 @@
-//! The command `outbox`: all messages leave that are wanted at the other side.
+//! The command `outbox`: all messages leave that the other side may still need.
 
 ghost use Rattle.std.specs.Prelude.{◌≡◌, ◌++◌, map, take, length, IfOk, OnOk};
 ghost use Rattle.ill_saved.specs.Side.{issued_of, role_of, txn_of};
@@ -18,9 +18,9 @@ use sha2::{Digest, Sha256};
 use std::alloc::Global;
 use std::io::Write;
 
-/// Puts all messages of a desk that were saved to where mail leaves, those of each loan that wants sending, and answers
-/// how many they are. A loan wants sending until it is over. Behind that a responder answers whoever asks: `asking` has
-/// the messages, one behind another, that came for loans that are over.
+/// Puts the saved messages of each loan that wants sending into `out`, and returns their number. A loan wants sending
+/// until it is over. After that a responder still answers: `asking` has the messages, one after another, that came for
+/// loans that are over.
 ///
 /// At a fault the first of them are there, and no part of another.
 pub fn run_desk_outbox<S: Store, O: Outgoing>(
@@ -42,7 +42,7 @@ pub fn run_desk_outbox<S: Store, O: Outgoing>(
     put_all(alloc, &leaving, out)
 }
 
-/// Writes the same messages, one behind another.
+/// Writes the messages of `run_desk_outbox` to `writer`, one after another.
 pub fn run_desk_outbox_stream<S: Store, W: Write>(
     alloc: Global,
     desk: &Desk<S>,
@@ -67,7 +67,7 @@ pub(crate) struct Leaving<'a> {
     pub(crate) apdu: &'a Apdu,
 }
 
-/// The messages that leave a desk.
+/// Returns the messages that leave `desk`.
 fn leaving_desk<'a, S: Store>(
     alloc: Global,
     desk: &'a Desk<S>,
@@ -79,7 +79,7 @@ fn leaving_desk<'a, S: Store>(
     leaving_sides(alloc, &held, asking)
 }
 
-/// The messages that leave of these sides.
+/// Returns the messages of `sides` that leave.
 fn leaving_sides<'a>(
     alloc: Global,
     sides: &[HeldSide<'a>],
@@ -94,7 +94,7 @@ fn leaving_sides<'a>(
     Ok(leaving)
 }
 
-/// Adds the messages that leave of a side, if it wants sending.
+/// Appends the messages of `held` that leave, if it wants sending.
 fn push_leaving<'a>(
     leaving: &mut Vec<Leaving<'a>>,
     held: HeldSide<'a>,
@@ -110,7 +110,7 @@ fn push_leaving<'a>(
     }
 }
 
-/// Adds the messages of a side that were saved.
+/// Appends the saved messages of `held`.
 fn push_released<'a>(leaving: &mut Vec<Leaving<'a>>, held: HeldSide<'a>) -> Result<(), OutOfMemory>
     ensures { OnOk result (map issue_of leaving.new.items ≡ map issue_of leaving.old.items
         ++ issues_of held.entry.side.now (released_of (held_of held.entry))) }
@@ -118,7 +118,7 @@ fn push_released<'a>(leaving: &mut Vec<Leaving<'a>>, held: HeldSide<'a>) -> Resu
     push_issues(leaving, held.side, released(held))
 }
 
-/// Adds messages of a side.
+/// Appends the messages `apdus` of `side`.
 fn push_issues<'a>(
     leaving: &mut Vec<Leaving<'a>>,
     side: &'a Side,
@@ -133,7 +133,7 @@ fn push_issues<'a>(
     Ok(())
 }
 
-/// The messages of a side that were saved.
+/// Returns the saved messages of `held`.
 fn released<'a>(held: HeldSide<'a>) -> &'a [Apdu]
     ensures { result.now ≡ released_of (held_of held.entry) }
 {
@@ -142,14 +142,14 @@ fn released<'a>(held: HeldSide<'a>) -> &'a [Apdu]
     &issued[..count]
 }
 
-/// Tells if one of these messages is of a transaction.
+/// Tells if a message of `asking` is of the transaction `txn`.
 fn is_asked(asking: &[Apdu], txn: &TxnId) -> bool
     ensures { result ≡ is_asked asking.now txn.now }
 {
     asking.iter().any(|apdu| apdu.txn == *txn)
 }
 
-/// Puts messages where they leave, one after another, and answers how many they are.
+/// Puts the messages `leaving` into `out`, one after another, and returns their number.
 fn put_all<O: Outgoing>(
     alloc: Global,
     leaving: &[Leaving<'_>],
@@ -165,7 +165,7 @@ fn put_all<O: Outgoing>(
     Ok(leaving.len())
 }
 
-/// Puts a message where it leaves.
+/// Puts the message `leaving` into `out`.
 fn put<O: Outgoing>(alloc: Global, leaving: Leaving<'_>, out: &mut O) -> Result<(), ToolFault>
     ensures { PutsOne O.after (letter_of (issue_of leaving.entry)) (O.mails out.old) (O.mails out.new) result }
 {
@@ -174,7 +174,7 @@ fn put<O: Outgoing>(alloc: Global, leaving: Leaving<'_>, out: &mut O) -> Result<
     out.put(&name, &bytes)
 }
 
-/// The name of the mail of a message.
+/// Returns the name of the mail of the message `number` of `side`.
 fn mail_name(alloc: Global, side: &Side, number: Number) -> Result<Vec<u8>, OutOfMemory>
     ensures { IfOk result (λ name. name.items ≡ mail_name side.now number) }
 {
@@ -184,7 +184,7 @@ fn mail_name(alloc: Global, side: &Side, number: Number) -> Result<Vec<u8>, OutO
     Ok(name)
 }
 
-/// The part of the names of the mails of a loan in which they are alike.
+/// Returns the part that all names of the mails of a loan begin with.
 fn loan_stem(alloc: Global, side: &Side) -> Result<Vec<u8>, OutOfMemory>
     ensures { IfOk result (λ stem. stem.items ≡ loan_stem side.now) }
 {
@@ -195,10 +195,10 @@ fn loan_stem(alloc: Global, side: &Side) -> Result<Vec<u8>, OutOfMemory>
     Ok(stem)
 }
 
-/// How many hexadecimal digits of the digest of a loan's text stand in the names of its mails.
+/// The number of hexadecimal digits of the digest of a loan's text that begin the names of its mails.
 const STEM: usize = 32;
 
-/// A text that tells the loan of a side from all others.
+/// Returns a text that tells the loan of `side` from all others.
 fn loan_text(alloc: Global, side: &Side) -> Result<Vec<u8>, OutOfMemory>
     ensures { IfOk result (λ text. text.items ≡ loan_text side.now) }
 {
@@ -209,7 +209,7 @@ fn loan_text(alloc: Global, side: &Side) -> Result<Vec<u8>, OutOfMemory>
     Ok(text)
 }
 
-/// Adds a line.
+/// Appends `line` and its end.
 fn push_line(text: &mut Vec<u8>, line: &[u8]) -> Result<(), OutOfMemory>
     ensures { OnOk result (text.new.items ≡ text.old.items ++ line_of line.now) }
 {
@@ -218,7 +218,7 @@ fn push_line(text: &mut Vec<u8>, line: &[u8]) -> Result<(), OutOfMemory>
     Ok(())
 }
 
-/// A number in three digits.
+/// Returns `number` in three digits.
 fn three_digits(number: u8) -> [u8; 3]
     ensures { result ≡ three_digits number }
 {

@@ -1,4 +1,4 @@
-//! Where messages go that leave a desk: into a folder of mails, or onto a stream.
+//! The outlets of the messages that leave a desk: a folder of mails, or a stream.
 
 ghost use Rattle.std.specs.Prelude.{◌++◌, ℕ, List, Option, Some, None};
 ghost use Rattle.ill_tool.specs.Outbox.{Letter, PutsOne};
@@ -14,13 +14,13 @@ use std::{fs, io};
 
 /// Takes messages that leave, each with the name of its mail.
 pub trait Outgoing {
-    /// What is there.
+    /// The model of the mails in an outlet.
     ghost Mails: { Type 0 };
 
-    /// What is there, if that is known.
+    /// The mails in an outlet, if they are known.
     ghost mails: { Self → Option Self.Mails };
 
-    /// What is there once a message was put behind it.
+    /// The mails in an outlet after one more was put there.
     ghost after: { Self.Mails → Letter → Self.Mails };
 
     /// Puts a message there, whole or not at all.
@@ -28,7 +28,7 @@ pub trait Outgoing {
         ensures { PutsOne after (record { name = name.now; bytes = bytes.now }) (mails self.old) (mails self.new) result };
 }
 
-/// The messages that leave on a stream, one behind another: their names are passed over.
+/// A stream of the messages that leave, one after another. It ignores their names.
 #[derive(Drop)]
 pub(crate) struct Stream {
     pub(crate) bytes: Vec<u8>,
@@ -47,7 +47,7 @@ impl Outgoing for Stream {
     }
 }
 
-/// A folder of mails, one message a file. Whoever moves the mail may put anything there at any moment.
+/// A folder of mails, with one message in a file. Anybody who moves the mail may put anything there at any moment.
 #[derive(Drop)]
 pub(crate) struct MailFolder<'a, R: Files> {
     rt: &'a R,
@@ -58,7 +58,7 @@ pub(crate) struct MailFolder<'a, R: Files> {
 }
 
 impl<'a, R: Files> MailFolder<'a, R> {
-    /// The folder at a path.
+    /// Returns the folder at `path`.
     pub(crate) fn at(rt: &'a R, alloc: Global, path: &'a str) -> MailFolder<'a, R> {
         MailFolder {
             rt,
@@ -68,7 +68,7 @@ impl<'a, R: Files> MailFolder<'a, R> {
         }
     }
 
-    /// The path of a mail that could not be put there.
+    /// Returns the path of a mail that could not be put there.
     pub(crate) fn failed(&self) -> Result<Option<String>, OutOfMemory> {
         let Some(name) = &self.failed else {
             return Ok(None);
@@ -78,8 +78,8 @@ impl<'a, R: Files> MailFolder<'a, R> {
         Ok(Some(format!(in self.alloc; "{folder}/{name}")?))
     }
 
-    /// Writes a message to a new file, and then renames that: a mail of this name is there whole, or as it was. No
-    /// link is followed: the new file is made where nothing is, and the rename replaces a link at the name.
+    /// Writes a message to a new file, and then renames that: the mail `name` is there whole, or as it was. It follows
+    /// no link. The new file is made at a path without a file, and the rename replaces a link at `name`.
     fn write(&self, name: &[u8], bytes: &[u8]) -> io::Result<()> {
         let folder = self.path;
         let name = str::from_utf8(name).unwrap_or_default();
@@ -98,7 +98,7 @@ impl<'a, R: Files> MailFolder<'a, R> {
     }
 }
 
-/// Writes bytes to a file that was not there.
+/// Writes `bytes` to a file that was not there.
 fn write_new<R: Files>(rt: &R, path: &str, bytes: &[u8]) -> io::Result<()> {
     let mut options = OpenOptions::new();
     options.write(true);

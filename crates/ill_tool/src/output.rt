@@ -1,4 +1,4 @@
-//! What the commands share that write.
+//! The part of all commands that writes.
 
 ghost use Rattle.ill_tool.specs.Output.{WritesFront};
 
@@ -6,7 +6,7 @@ use crate::fault::ToolFault;
 use ill_der::write_bytes;
 use std::io::Write;
 
-/// Writes all of the bytes, or a front of them where the writer fails.
+/// Writes all of `bytes`, or a prefix of them if the writer fails.
 pub fn write_whole<W: Write>(writer: &mut W, bytes: &[u8]) -> Result<(), ToolFault>
     ensures { WritesFront (W.contents writer.old) (W.contents writer.new) bytes.now result }
 {
@@ -16,7 +16,7 @@ pub fn write_whole<W: Write>(writer: &mut W, bytes: &[u8]) -> Result<(), ToolFau
     }
 }
 
-/// The same, and then flushes the writer, so that what was written does not wait in it.
+/// Writes all of `bytes` and flushes the writer, so that they do not wait in it.
 pub fn write_and_flush<W: Write>(writer: &mut W, bytes: &[u8]) -> Result<(), ToolFault>
     ensures { WritesFront (W.contents writer.old) (W.contents writer.new) bytes.now result }
 {

@@ -17,11 +17,11 @@ use itoa::Buffer;
 use std::alloc::Global;
 use std::io::Write;
 
-/// Writes a sequence chart, in the language of Mermaid, of the messages of a transaction: of those that its side has
-/// issued, of the request that a responder has taken, and of those that these bytes have.
+/// Writes a sequence chart of the messages of `txn`, in the language of Mermaid. It has those that its side has issued,
+/// the request that a responder has taken, and those in `came`.
 ///
-/// Nobody knows how the messages of the two sides lay in time. Each side's own order holds. A message of the other
-/// side stands as late as may be, but not behind one that needs it, and directly behind one that it answers by its
+/// Nobody knows how the messages of the two sides lay in time. The order of each side holds. A message of the other
+/// side stands as late as possible, but before one that needs it. It stands directly after one that it answers by its
 /// number.
 pub fn run_desk_picture<S: Store, W: Write>(
     alloc: Global,
@@ -42,7 +42,7 @@ pub fn run_desk_picture<S: Store, W: Write>(
 /// The first lines of a picture.
 const OPENING: &str = "sequenceDiagram\n  participant requester\n  participant responder\n";
 
-/// Writes the picture of a side, with the messages that came to it.
+/// Writes the picture of `side`, with the messages in `came` that came to it.
 fn write_picture<W: Write>(
     alloc: Global,
     side: &Side,
@@ -59,7 +59,7 @@ fn write_picture<W: Write>(
     write_whole(writer, &lines)
 }
 
-/// The messages that came: of a responder its request too.
+/// Returns the messages `kept` that came, and of a responder its request too.
 fn theirs_of(alloc: Global, side: &Side, kept: Vec<Apdu>) -> Result<Vec<Apdu>, OutOfMemory>
     ensures { IfOk result (λ theirs. theirs.items ≡ theirs_of side.now kept.items) }
 {
@@ -72,7 +72,7 @@ fn theirs_of(alloc: Global, side: &Side, kept: Vec<Apdu>) -> Result<Vec<Apdu>, O
     }
 }
 
-/// The messages that came, and this one before them, if it is not among them.
+/// Returns the messages `kept` that came, with `request` before them, if it is not among them.
 fn with_request(alloc: Global, request: &Apdu, kept: Vec<Apdu>) -> Result<Vec<Apdu>, OutOfMemory>
     ensures { IfOk result (λ theirs. theirs.items ≡ with_request (Some request.now) kept.items) }
 {
@@ -83,7 +83,7 @@ fn with_request(alloc: Global, request: &Apdu, kept: Vec<Apdu>) -> Result<Vec<Ap
     Ok(kept)
 }
 
-/// The picture of own messages, and of theirs.
+/// Returns the lines of the picture of the messages `own` and `theirs`.
 fn draw(alloc: Global, own: &[Apdu], theirs: &[Apdu]) -> Result<Vec<u8>, OutOfMemory>
     ensures { IfOk result (λ lines. lines.items ≡ picture_of own.now theirs.now) }
 {
@@ -96,7 +96,7 @@ fn draw(alloc: Global, own: &[Apdu], theirs: &[Apdu]) -> Result<Vec<u8>, OutOfMe
     Ok(lines)
 }
 
-/// Adds an own message, and those of theirs that stand before it or answer it. It gives the others.
+/// Appends the message `own`, and those of `theirs` that stand before it or answer it. It returns the others.
 fn push_own<'a>(
     lines: &mut Vec<u8>,
     own: &Apdu,
@@ -113,7 +113,7 @@ fn push_own<'a>(
     Ok(left)
 }
 
-/// How a message of theirs stands to an own one.
+/// The relation of a message of theirs to an own one.
 #[derive(Clone, Copy)]
 enum Link {
     /// It stands before it.
@@ -122,7 +122,8 @@ enum Link {
     Behind,
 }
 
-/// How many of theirs there are, up to the last that is linked so to an own message.
+/// Returns the number of messages in `theirs` up to the last that has the relation `link` to `own`. Without one it is
+/// 0.
 fn through(link: Link, own: &Apdu, theirs: &[Apdu]) -> usize
     ensures reached { result ≡ through link own.now theirs.now }
     ensures within { result ≤ length theirs.now }
@@ -136,7 +137,7 @@ fn through(link: Link, own: &Apdu, theirs: &[Apdu]) -> usize
     last
 }
 
-/// Whether one of theirs is linked so to an own message.
+/// Tells if the message `their` has the relation `link` to `own`.
 fn is_linked(link: Link, own: &Apdu, their: &Apdu) -> bool
     ensures { result ≡ is_linked link own.now their.now }
 {
@@ -146,7 +147,7 @@ fn is_linked(link: Link, own: &Apdu, their: &Apdu) -> bool
     }
 }
 
-/// Whether a message of the other side is there before one of this type is issued.
+/// Tells if a message `their` of the other side is there before one of the type of `own` is issued.
 fn comes_before(their: &Body, own: &Body) -> bool
     ensures { result ≡ comes_before their.now own.now }
 {
@@ -158,7 +159,7 @@ fn comes_before(their: &Body, own: &Body) -> bool
     }
 }
 
-/// Whether a message answers the number of another one.
+/// Tells if a message `body` answers the number `asked`.
 fn answers(body: &Body, asked: Number) -> bool
     ensures { result ≡ answers body.now asked }
 {
@@ -170,7 +171,7 @@ fn answers(body: &Body, asked: Number) -> bool
     }
 }
 
-/// Adds an arrow for each message.
+/// Appends an arrow for each of `apdus`.
 fn push_arrows(lines: &mut Vec<u8>, apdus: &[Apdu]) -> Result<(), OutOfMemory>
     ensures { OnOk result (lines.new.items ≡ lines.old.items ++ arrows apdus.now) }
 {
@@ -180,7 +181,7 @@ fn push_arrows(lines: &mut Vec<u8>, apdus: &[Apdu]) -> Result<(), OutOfMemory>
     Ok(())
 }
 
-/// Adds the arrow of a message.
+/// Appends the arrow of `apdu`.
 #[tactic(auto, unfolding(crate::specs::Picture::arrow))]
 fn push_arrow(lines: &mut Vec<u8>, apdu: &Apdu) -> Result<(), OutOfMemory>
     ensures { OnOk result (lines.new.items ≡ lines.old.items ++ arrow apdu.now) }
@@ -194,7 +195,7 @@ fn push_arrow(lines: &mut Vec<u8>, apdu: &Apdu) -> Result<(), OutOfMemory>
     Ok(())
 }
 
-/// From whom to whom a message goes.
+/// Returns the text with the sender and the receiver of a message.
 fn way(body: &Body) -> &'static str
     ensures { result.now ≡ way_of body.now }
 {
@@ -205,7 +206,7 @@ fn way(body: &Body) -> &'static str
     }
 }
 
-/// Adds the number and the type of a message, and the lines of its further fields.
+/// Appends the number and the type of a message, and the lines of its further fields.
 fn push_label(label: &mut Vec<u8>, apdu: &Apdu) -> Result<(), OutOfMemory>
     ensures { OnOk result (label.new.items ≡ label.old.items ++ label_of apdu.now) }
 {
@@ -217,7 +218,7 @@ fn push_label(label: &mut Vec<u8>, apdu: &Apdu) -> Result<(), OutOfMemory>
     push_shown_fields(label, &body)
 }
 
-/// Adds a text, of which Mermaid takes nothing for its own.
+/// Appends `text` so that Mermaid takes no byte of it for its own.
 fn push_drawn(lines: &mut Vec<u8>, text: &[u8]) -> Result<(), OutOfMemory>
     ensures { OnOk result (lines.new.items ≡ lines.old.items ++ drawn text.now) }
 {
@@ -227,6 +228,7 @@ fn push_drawn(lines: &mut Vec<u8>, text: &[u8]) -> Result<(), OutOfMemory>
     Ok(())
 }
 
+/// Appends `byte` as it is, as the end of a line, or by its number.
 fn push_byte(lines: &mut Vec<u8>, byte: u8) -> Result<(), OutOfMemory>
     ensures { OnOk result (lines.new.items ≡ lines.old.items ++ drawn_byte byte) }
 {
@@ -244,7 +246,7 @@ fn push_byte(lines: &mut Vec<u8>, byte: u8) -> Result<(), OutOfMemory>
     Ok(())
 }
 
-/// Whether nobody takes a byte for anything else.
+/// Returns true if a chart may have `byte` as it is.
 fn is_plain(byte: u8) -> bool
     ensures { result ≡ is_plain byte }
 {

@@ -27,7 +27,7 @@ use itoa::Buffer;
 use std::alloc::Global;
 use std::io::Write;
 
-/// Writes a page of the loans of a desk on this day, under the name of its file.
+/// Writes a page of the loans of `desk` on the day `today`, under the name of its file.
 pub fn run_desk_report<S: Store, W: Write>(
     alloc: Global,
     desk: &Desk<S>,
@@ -44,7 +44,7 @@ pub fn run_desk_report<S: Store, W: Write>(
     end_page(page, writer)
 }
 
-/// Adds what stands before the desks of a page on this day.
+/// Appends the text before the desks of a page on the day `today`.
 pub(crate) fn push_head(page: &mut Vec<u8>, today: Day) -> Result<(), OutOfMemory>
     ensures { OnOk result (page.new.items ≡ page.old.items ++ page_head today) }
 {
@@ -54,7 +54,7 @@ pub(crate) fn push_head(page: &mut Vec<u8>, today: Day) -> Result<(), OutOfMemor
     Ok(())
 }
 
-/// Writes a page, behind whose desks nothing stands yet.
+/// Ends `page`, which has all its desks, and writes it.
 pub(crate) fn end_page<W: Write>(mut page: Vec<u8>, writer: &mut W) -> Result<(), ToolFault>
     ensures { WritesText (W.contents writer.old) (W.contents writer.new) (page.items ++ END.now) result }
 {
@@ -62,7 +62,7 @@ pub(crate) fn end_page<W: Write>(mut page: Vec<u8>, writer: &mut W) -> Result<()
     write_whole(writer, &page)
 }
 
-/// Adds what is told of a desk.
+/// Appends the part of the desk in `file`.
 #[tactic(auto, unfolding(crate::specs::Report::desk_text))]
 pub(crate) fn push_desk(
     page: &mut Vec<u8>,
@@ -82,7 +82,7 @@ pub(crate) fn push_desk(
     Ok(())
 }
 
-/// Adds the loans of a desk: those that wait for this library, all that are open, and those that are over.
+/// Appends the loans of a desk: those that wait for this library, all that are open, and those that are over.
 #[tactic(auto, unfolding(crate::specs::Report::sections_text))]
 fn push_sections(page: &mut Vec<u8>, today: Day, sides: &[&Side]) -> Result<(), OutOfMemory>
     ensures { OnOk result (page.new.items ≡ page.old.items
@@ -111,7 +111,7 @@ fn push_sections(page: &mut Vec<u8>, today: Day, sides: &[&Side]) -> Result<(), 
     push_section(page, today, sides, &over)
 }
 
-/// Adds the loans that stand together, behind their count.
+/// Appends the loans of `section`, after their count.
 fn push_section(
     page: &mut Vec<u8>,
     today: Day,
@@ -128,7 +128,7 @@ fn push_section(
     push_loans(page, today, sides, section)
 }
 
-/// How many loans have one of these turns.
+/// Returns the number of loans that have one of `turns`.
 fn count(today: Day, sides: &[&Side], turns: &[Turn]) -> usize
     ensures { result ≡ count_by (is_on today turns.now) (map (λ side. side.now) sides.now) }
 {
@@ -138,7 +138,7 @@ fn count(today: Day, sides: &[&Side], turns: &[Turn]) -> usize
         .count()
 }
 
-/// Whether a loan has one of these turns.
+/// Tells if the loan of `side` has one of `turns`.
 fn is_on(today: Day, turns: &[Turn], side: &Side) -> bool
     ensures { result ≡ is_on today turns.now side.now }
 {
@@ -146,7 +146,7 @@ fn is_on(today: Day, turns: &[Turn], side: &Side) -> bool
     turns.iter().any(|other| turn == *other)
 }
 
-/// Adds the loans that have a turn of the section.
+/// Appends the loans that have a turn of `section`.
 fn push_loans(
     page: &mut Vec<u8>,
     today: Day,
@@ -162,7 +162,7 @@ fn push_loans(
     Ok(())
 }
 
-/// Adds what is told of a loan, if it has a turn of the section.
+/// Appends the part of the loan of `side`, if it has a turn of `section`.
 fn push_loan_on(
     page: &mut Vec<u8>,
     today: Day,
@@ -178,7 +178,7 @@ fn push_loan_on(
     Ok(())
 }
 
-/// Adds what is told of a loan.
+/// Appends the part of the loan of `side`, of these fields.
 fn push_loan(
     page: &mut Vec<u8>,
     today: Day,
@@ -193,7 +193,7 @@ fn push_loan(
     Ok(())
 }
 
-/// Adds one thing that is told of a loan, between its texts.
+/// Appends `field` of the loan of `side`, between its texts.
 fn push_field(page: &mut Vec<u8>, today: Day, side: &Side, field: Field) -> Result<(), OutOfMemory>
     ensures { OnOk result (page.new.items ≡ page.old.items ++ field_text today side.now field) }
 {
@@ -202,7 +202,7 @@ fn push_field(page: &mut Vec<u8>, today: Day, side: &Side, field: Field) -> Resu
     page.extend_from_slice(field.after().as_bytes())
 }
 
-/// Adds one thing that is told of a loan.
+/// Appends the value of `field` of the loan of `side`.
 fn push_value(page: &mut Vec<u8>, today: Day, side: &Side, field: Field) -> Result<(), OutOfMemory>
     ensures { OnOk result (page.new.items ≡ page.old.items ++ value_text today side.now field) }
 {
@@ -221,7 +221,7 @@ fn push_value(page: &mut Vec<u8>, today: Day, side: &Side, field: Field) -> Resu
     }
 }
 
-/// Adds the title of a loan.
+/// Appends the title of the loan of `side`.
 fn push_html_title(page: &mut Vec<u8>, side: &Side) -> Result<(), OutOfMemory>
     ensures { OnOk result (page.new.items ≡ page.old.items
         ++ html_escaped (title_text (item_asked (request_of side.now)))) }
@@ -231,14 +231,14 @@ fn push_html_title(page: &mut Vec<u8>, side: &Side) -> Result<(), OutOfMemory>
     push_html(page, &title)
 }
 
-/// Adds a number.
+/// Appends `number`.
 fn push_number(page: &mut Vec<u8>, number: usize) -> Result<(), OutOfMemory>
     ensures { OnOk result (page.new.items ≡ page.old.items ++ decimal number) }
 {
     page.extend_from_slice(Buffer::new().format(number).as_bytes())
 }
 
-/// Adds a day, or a dash where there is none.
+/// Appends `day`, or a dash if there is none.
 fn push_day(page: &mut Vec<u8>, day: Option<Day>) -> Result<(), OutOfMemory>
     ensures { OnOk result (page.new.items ≡ page.old.items ++ day_text day) }
 {
@@ -248,7 +248,7 @@ fn push_day(page: &mut Vec<u8>, day: Option<Day>) -> Result<(), OutOfMemory>
     }
 }
 
-/// Who acts next.
+/// Returns the words for the library that acts next.
 fn actor(turn: Turn) -> &'static str
     ensures { result.now ≡ actor turn }
 {
@@ -259,7 +259,7 @@ fn actor(turn: Turn) -> &'static str
     }
 }
 
-/// Adds what this library may do.
+/// Appends the actions that this library may take.
 fn push_actions(page: &mut Vec<u8>, verbs: &[Verb]) -> Result<(), OutOfMemory>
     ensures { OnOk result (page.new.items ≡ page.old.items ++ flat_map action_text verbs.now) }
 {
@@ -269,7 +269,7 @@ fn push_actions(page: &mut Vec<u8>, verbs: &[Verb]) -> Result<(), OutOfMemory>
     Ok(())
 }
 
-/// Adds a line of what this library may do.
+/// Appends the line of an action that this library may take.
 fn push_action(page: &mut Vec<u8>, verb: Verb) -> Result<(), OutOfMemory>
     ensures { OnOk result (page.new.items ≡ page.old.items ++ action_text verb) }
 {
@@ -280,7 +280,7 @@ fn push_action(page: &mut Vec<u8>, verb: Verb) -> Result<(), OutOfMemory>
     page.extend_from_slice(b"</li>")
 }
 
-/// What an action is, for people.
+/// Returns the meaning of an action, for people.
 fn meaning(verb: Verb) -> &'static str
     ensures { result.now ≡ verb_meaning verb }
 {
@@ -302,7 +302,7 @@ fn meaning(verb: Verb) -> &'static str
     }
 }
 
-/// Adds messages, drawn as arrows or named.
+/// Appends `apdus`, drawn as arrows or named.
 fn push_messages(page: &mut Vec<u8>, apdus: &[Apdu], is_drawn: bool) -> Result<(), OutOfMemory>
     ensures { OnOk result (page.new.items ≡ page.old.items
         ++ flat_map (message_text is_drawn) apdus.now) }
@@ -313,7 +313,7 @@ fn push_messages(page: &mut Vec<u8>, apdus: &[Apdu], is_drawn: bool) -> Result<(
     Ok(())
 }
 
-/// Adds a message, drawn as an arrow or named.
+/// Appends `apdu`, drawn as an arrow or named.
 fn push_message(page: &mut Vec<u8>, apdu: &Apdu, is_drawn: bool) -> Result<(), OutOfMemory>
     ensures { OnOk result (page.new.items ≡ page.old.items ++ message_text is_drawn apdu.now) }
 {
@@ -328,7 +328,7 @@ fn push_message(page: &mut Vec<u8>, apdu: &Apdu, is_drawn: bool) -> Result<(), O
     page.extend_from_slice(ARROW.as_bytes())
 }
 
-/// Adds the name of a message, with the answer or the day that it has.
+/// Appends the name of a message, with the answer or the day that it has.
 fn push_name(page: &mut Vec<u8>, body: &Body) -> Result<(), OutOfMemory>
     ensures { OnOk result (page.new.items ≡ page.old.items
         ++ (type_name body.now ++ detail_text body.now)) }
@@ -337,7 +337,7 @@ fn push_name(page: &mut Vec<u8>, body: &Body) -> Result<(), OutOfMemory>
     push_detail(page, body)
 }
 
-/// Adds the answer or the day that a message has, with a space before each.
+/// Appends the answer or the day that a message has, with a space before each.
 fn push_detail(page: &mut Vec<u8>, body: &Body) -> Result<(), OutOfMemory>
     ensures { OnOk result (page.new.items ≡ page.old.items ++ detail_text body.now) }
 {
@@ -360,7 +360,7 @@ fn push_detail(page: &mut Vec<u8>, body: &Body) -> Result<(), OutOfMemory>
     }
 }
 
-/// Adds a word, with a space before it.
+/// Appends `word`, with a space before it.
 fn push_word(page: &mut Vec<u8>, word: &[u8]) -> Result<(), OutOfMemory>
     ensures { OnOk result (page.new.items ≡ page.old.items ++ (codes " " ++ word.now)) }
 {

@@ -1,12 +1,12 @@
-//! Of what the page of `ill report` is made: the texts that are the same for all loans, and what is told of a loan
-//! between them. No text of a person stands here.
+//! The parts of the page of `ill report`: its constant texts, and the fields of a loan between them. No text of a
+//! person stands here.
 
 ghost use Rattle.std.specs.Prelude.{◌≡◌};
 ghost use Rattle.ill_tool.specs.Report.{after, before};
 
 use ill_core::Turn;
 
-/// What is told of a loan.
+/// A field of a loan.
 #[derive(Clone, Copy)]
 pub(crate) enum Field {
     /// The item that is asked for.
@@ -21,19 +21,19 @@ pub(crate) enum Field {
     Due,
     /// The day after which the request may expire.
     Expiry,
-    /// Who acts next.
+    /// The library that acts next.
     Next,
-    /// What this library may do.
+    /// The actions that this library may take.
     Actions,
-    /// How high the chart of its messages is.
+    /// The height of the chart of its messages.
     Height,
-    /// The names of its messages, for whom the chart is read out.
+    /// The names of its messages, for those to whom the chart is read out.
     Names,
     /// Its messages, as arrows of the chart.
     Arrows,
 }
 
-/// A loan that waits for this library: what is to be done.
+/// The fields of a loan that waits for this library, with its actions.
 pub(crate) const TASK: [Field; 7] = [
     Field::Title,
     Field::Group,
@@ -44,7 +44,7 @@ pub(crate) const TASK: [Field; 7] = [
     Field::Actions,
 ];
 
-/// All of a loan, with a chart of the messages that this library has issued.
+/// All fields of a loan, with a chart of the messages that this library has issued.
 pub(crate) const LOAN: [Field; 10] = [
     Field::Title,
     Field::Group,
@@ -59,7 +59,7 @@ pub(crate) const LOAN: [Field; 10] = [
 ];
 
 impl Field {
-    /// The text before it.
+    /// Returns the text before the field.
     pub(crate) fn before(self) -> &'static str
         ensures { result.now ≡ before self }
     {
@@ -78,7 +78,7 @@ impl Field {
         }
     }
 
-    /// The text behind it.
+    /// Returns the text after the field.
     pub(crate) fn after(self) -> &'static str
         ensures { result.now ≡ after self }
     {
@@ -100,13 +100,13 @@ pub(crate) struct Section<'a> {
     pub heading: &'a str,
     /// The turns that they have.
     pub turns: &'a [Turn],
-    /// The text behind their count.
+    /// The text after their count.
     pub opening: &'a str,
-    /// What is told of each.
+    /// The fields of each loan.
     pub fields: &'a [Field],
 }
 
-/// What stands before the day of a page.
+/// The text before the day of a page.
 pub(crate) const PAGE: &str = "\
 <!DOCTYPE html>
 <html lang=\"en\">
@@ -141,46 +141,46 @@ svg path { fill: none; stroke: var(--mark) }
 <body>
 <h1>Loans on ";
 
-/// What stands behind the day of a page, before its desks.
+/// The text after the day of a page, before its desks.
 pub(crate) const DESKS: &str = "</h1>\n";
 
-/// What stands behind the desks of a page.
+/// The text after the desks of a page.
 pub(crate) const END: &str = "</body>\n</html>\n";
 
-/// What stands before the file of a desk.
+/// The text before the file of a desk.
 pub(crate) const DESK: &str = "<section>\n<h2 dir=\"auto\">";
 
-/// What stands behind the file of a desk, before its loans.
+/// The text after the file of a desk, before its loans.
 pub(crate) const LOANS: &str = "</h2>\n";
 
-/// What stands behind the loans of a desk.
+/// The text after the loans of a desk.
 pub(crate) const DESK_END: &str = "</details>\n</section>\n";
 
-/// What stands before the count of the loans that wait for this library.
+/// The text before the count of the loans that wait for this library.
 pub(crate) const WAITING: &str = "<h3>Waits for us today: ";
 
-/// What stands before the count of the loans that are open.
+/// The text before the count of the loans that are open.
 pub(crate) const OPEN: &str = "<h3>Open loans: ";
 
-/// What stands behind a count, before the loans.
+/// The text after a count, before the loans.
 pub(crate) const OPENING: &str = "</h3>\n";
 
-/// What stands before the count of the loans that are over.
+/// The text before the count of the loans that are over.
 pub(crate) const OVER: &str = "<details>\n<summary>Over: ";
 
-/// What stands behind that count, before these loans.
+/// The text after that count, before these loans.
 pub(crate) const FOLDED: &str = "</summary>\n";
 
-/// What stands in a chart before its messages: the two libraries, each with a line below it.
+/// The text in a chart before its messages: the two libraries, each with a line below it.
 pub(crate) const LIFELINES: &str = "\
 <text x=\"30\" y=\"14\">We</text><text x=\"290\" y=\"14\">Partner</text><path d=\"M30 20V7999M290 20V7999\"/>
 ";
 
-/// What stands before the row of a message in a chart.
+/// The text before the row of a message in a chart.
 pub(crate) const ROW: &str = "<g transform=\"translate(0 ";
 
-/// What stands behind the row of a message, before its name.
+/// The text after the row of a message, before its name.
 pub(crate) const NAME: &str = ")\"><text x=\"160\" y=\"-6\">";
 
-/// What stands behind the name of a message: its arrow.
+/// The text after the name of a message: its arrow.
 pub(crate) const ARROW: &str = "</text><path d=\"M30 0H289m-8-5 8 5-8 5\"/></g>\n";

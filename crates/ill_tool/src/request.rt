@@ -1,4 +1,4 @@
-//! What the words of a command line ask for, read before any file is opened.
+//! The requests of command lines, which are read before any file is opened.
 
 ghost use Rattle.std.specs.Prelude.{◌≡◌, true, map, option_map};
 ghost use Rattle.clap.specs.Words.{found_of, rows_of, subcommand_rows_of};
@@ -22,12 +22,12 @@ use ill_world::Who;
 use ill_world::words::{number, who};
 use std::alloc::{AllocError, Global};
 
-/// What a command line asks for.
+/// The request of a command line.
 #[derive(Drop)]
 pub enum Request<'a> {
     /// Show each APDU of the input: `ill show`.
     Show {
-        /// The form in which they are shown.
+        /// The form of the APDUs that are shown.
         form: Form,
     },
     /// Check the input and count its APDUs: `ill check`.
@@ -65,9 +65,9 @@ pub enum Request<'a> {
     Take {
         /// The path of the file.
         file: &'a str,
-        /// Whether to tell which message each was, and what it said.
+        /// Set if each message is told at length, with its fields.
         is_long: bool,
-        /// Whether to keep each message that is taken.
+        /// Set if each message that is taken is kept.
         is_kept: bool,
     },
     /// Take the mails of a folder: `ill inbox`.
@@ -88,7 +88,7 @@ pub enum Request<'a> {
     Exchange {
         /// The path of the file.
         file: &'a str,
-        /// What is to be done.
+        /// The arguments of the night.
         night: Night<'a>,
     },
     /// Give the bytes of a message: `ill send`.
@@ -106,14 +106,14 @@ pub enum Request<'a> {
         paths: Vec<&'a str>,
         /// The loans that are listed.
         wanted: Wanted,
-        /// The form in which they are listed.
+        /// The form of the list.
         form: Form,
     },
     /// Show the sides in a file: `ill status`.
     Status {
         /// The path of the file.
         file: &'a str,
-        /// The form in which they are shown.
+        /// The form of the sides that are shown.
         form: Form,
     },
     /// Show all that is known of a transaction: `ill loan`.
@@ -122,9 +122,9 @@ pub enum Request<'a> {
         file: &'a str,
         /// The transaction.
         txn: TxnId,
-        /// The form in which it is shown.
+        /// The form of the loan that is shown.
         form: Form,
-        /// Whether to draw its messages in place of that.
+        /// Set if its messages are drawn instead.
         is_picture: bool,
     },
     /// Retire a group of a shelf: `ill shelf retire`.
@@ -134,7 +134,7 @@ pub enum Request<'a> {
         /// The group.
         group: &'a str,
     },
-    /// Tell what a file has: `ill verify`.
+    /// Check the record in a file: `ill verify`.
     Verify {
         /// The path of the file.
         file: &'a str,
@@ -148,7 +148,7 @@ pub enum Request<'a> {
     },
 }
 
-/// Why words are no request.
+/// The reason that words are no request.
 #[derive(Drop)]
 pub enum Refusal {
     /// They are no command, or ask for help: `clap` has the text.
@@ -181,7 +181,7 @@ impl From<AllocError> for Refusal {
     }
 }
 
-/// What a command line asks for, and of what.
+/// The request of a command line, for one desk or for a shelf.
 #[derive(Drop)]
 pub enum Call<'a> {
     /// Of one desk, or of none.
@@ -190,7 +190,7 @@ pub enum Call<'a> {
     Shelf(Request<'a>),
 }
 
-/// Reads the words of a command line, of which the first is the program's name.
+/// Reads the words of a command line. The first word is the name of the program.
 pub fn read_words<'a>(alloc: Global, words: &'a [&'a str]) -> Result<Call<'a>, Refusal> {
     let matches = command(alloc)?.try_get_matches_from(words)?;
     match matches.subcommand() {
@@ -199,7 +199,7 @@ pub fn read_words<'a>(alloc: Global, words: &'a [&'a str]) -> Result<Call<'a>, R
     }
 }
 
-/// The request of what was found in words.
+/// Returns the request of the command in `matches`.
 fn found<'a>(alloc: Global, matches: &ArgMatches<'a>) -> Result<Request<'a>, Refusal>
     ensures { ReadsValue asked (asked_in (subcommand_rows_of matches.now)) result }
 {
@@ -209,7 +209,7 @@ fn found<'a>(alloc: Global, matches: &ArgMatches<'a>) -> Result<Request<'a>, Ref
     }
 }
 
-/// The request of the command that a word stands for, by the matches behind the word.
+/// Returns the request of the command that `word` stands for, by the matches of the words after it.
 fn named<'a>(alloc: Global, word: &str, matches: &ArgMatches<'a>) -> Result<Request<'a>, Refusal>
     ensures { ReadsValue asked (asked_by word.now (rows_of (found_of matches.now))) result }
 {
@@ -219,7 +219,7 @@ fn named<'a>(alloc: Global, word: &str, matches: &ArgMatches<'a>) -> Result<Requ
     }
 }
 
-/// The request of this command, by its matches.
+/// Returns the request of the command `name`, by its matches.
 fn requested<'a>(
     alloc: Global,
     name: Name,
@@ -250,7 +250,7 @@ fn requested<'a>(
     }
 }
 
-/// The request of `ill new`.
+/// Returns the request of `ill new`.
 fn new_request<'a>(alloc: Global, matches: &ArgMatches<'a>) -> Result<Request<'a>, Refusal>
     ensures { ReadsValue asked (asked_of names.New (rows_of (found_of matches.now))) result }
 {
@@ -259,7 +259,7 @@ fn new_request<'a>(alloc: Global, matches: &ArgMatches<'a>) -> Result<Request<'a
     Ok(Request::New { file, role })
 }
 
-/// The request of `ill act`.
+/// Returns the request of `ill act`.
 fn act_request<'a>(alloc: Global, matches: &ArgMatches<'a>) -> Result<Request<'a>, Refusal>
     ensures { ReadsValue asked (asked_of names.Act (rows_of (found_of matches.now))) result }
 {
@@ -277,7 +277,7 @@ fn act_request<'a>(alloc: Global, matches: &ArgMatches<'a>) -> Result<Request<'a
     })
 }
 
-/// The request of `ill take`.
+/// Returns the request of `ill take`.
 fn take_request<'a>(alloc: Global, matches: &ArgMatches<'a>) -> Result<Request<'a>, Refusal>
     ensures { ReadsValue asked (asked_of names.Take (rows_of (found_of matches.now))) result }
 {
@@ -291,7 +291,7 @@ fn take_request<'a>(alloc: Global, matches: &ArgMatches<'a>) -> Result<Request<'
     })
 }
 
-/// The request of `ill inbox`.
+/// Returns the request of `ill inbox`.
 fn inbox_request<'a>(alloc: Global, matches: &ArgMatches<'a>) -> Result<Request<'a>, Refusal>
     ensures { ReadsValue asked (asked_of names.Inbox (rows_of (found_of matches.now))) result }
 {
@@ -300,7 +300,7 @@ fn inbox_request<'a>(alloc: Global, matches: &ArgMatches<'a>) -> Result<Request<
     Ok(Request::Inbox { file, folder })
 }
 
-/// The request of `ill outbox`.
+/// Returns the request of `ill outbox`.
 fn outbox_request<'a>(alloc: Global, matches: &ArgMatches<'a>) -> Result<Request<'a>, Refusal>
     ensures { ReadsValue asked (asked_of names.Outbox (rows_of (found_of matches.now))) result }
 {
@@ -309,7 +309,7 @@ fn outbox_request<'a>(alloc: Global, matches: &ArgMatches<'a>) -> Result<Request
     Ok(Request::Outbox { file, folder })
 }
 
-/// Where an outbox sends: into a folder, or to the output. One of both is said.
+/// Returns the folder into which an outbox sends, or none if it writes to the output. The words must name one of both.
 fn outlet<'a>(matches: &ArgMatches<'a>) -> Result<Option<&'a str>, Refusal>
     ensures { ReadsValue (λ folder. option_map (λ text. text.now) folder) (outlet_of (rows_of (found_of matches.now))) result }
 {
@@ -321,7 +321,7 @@ fn outlet<'a>(matches: &ArgMatches<'a>) -> Result<Option<&'a str>, Refusal>
     }
 }
 
-/// The text of an argument that may be left out.
+/// Returns the text of an argument that may be left out.
 fn said<'a>(matches: &ArgMatches<'a>, argument: Argument) -> Option<&'a str>
     ensures { option_map (λ text. text.now) result ≡ text_of argument (rows_of (found_of matches.now)) }
 {
@@ -331,7 +331,7 @@ fn said<'a>(matches: &ArgMatches<'a>, argument: Argument) -> Option<&'a str>
     }
 }
 
-/// The request of `ill exchange`.
+/// Returns the request of `ill exchange`.
 fn exchange_request<'a>(alloc: Global, matches: &ArgMatches<'a>) -> Result<Request<'a>, Refusal>
     ensures { ReadsValue asked (asked_of names.Exchange (rows_of (found_of matches.now))) result }
 {
@@ -354,7 +354,7 @@ fn exchange_request<'a>(alloc: Global, matches: &ArgMatches<'a>) -> Result<Reque
     })
 }
 
-/// The day of a night and what is said of it, if something is: then the day is there.
+/// Returns the day of a night and the deeds that it asks for, if it asks for any. Then the words must have the day.
 fn dates(matches: &ArgMatches<'_>) -> Result<Option<(Day, Dates)>, Refusal>
     ensures { ReadsValue (λ dates. dates) (dates_of (rows_of (found_of matches.now))) result }
 {
@@ -370,7 +370,7 @@ fn dates(matches: &ArgMatches<'_>) -> Result<Option<(Day, Dates)>, Refusal>
     }
 }
 
-/// The request of `ill send`.
+/// Returns the request of `ill send`.
 fn send_request<'a>(alloc: Global, matches: &ArgMatches<'a>) -> Result<Request<'a>, Refusal>
     ensures { ReadsValue asked (asked_of names.Send (rows_of (found_of matches.now))) result }
 {
@@ -380,7 +380,7 @@ fn send_request<'a>(alloc: Global, matches: &ArgMatches<'a>) -> Result<Request<'
     Ok(Request::Send { file, txn, number })
 }
 
-/// The request of `ill list`.
+/// Returns the request of `ill list`.
 fn list_request<'a>(alloc: Global, matches: &ArgMatches<'a>) -> Result<Request<'a>, Refusal>
     ensures { ReadsValue asked (asked_of names.List (rows_of (found_of matches.now))) result }
 {
@@ -396,7 +396,7 @@ fn list_request<'a>(alloc: Global, matches: &ArgMatches<'a>) -> Result<Request<'
     })
 }
 
-/// The request of `ill status`.
+/// Returns the request of `ill status`.
 fn status_request<'a>(alloc: Global, matches: &ArgMatches<'a>) -> Result<Request<'a>, Refusal>
     ensures { ReadsValue asked (asked_of names.Status (rows_of (found_of matches.now))) result }
 {
@@ -405,7 +405,7 @@ fn status_request<'a>(alloc: Global, matches: &ArgMatches<'a>) -> Result<Request
     Ok(Request::Status { file, form })
 }
 
-/// The request of `ill loan`.
+/// Returns the request of `ill loan`.
 fn loan_request<'a>(alloc: Global, matches: &ArgMatches<'a>) -> Result<Request<'a>, Refusal>
     ensures { ReadsValue asked (asked_of names.Loan (rows_of (found_of matches.now))) result }
 {
@@ -421,7 +421,7 @@ fn loan_request<'a>(alloc: Global, matches: &ArgMatches<'a>) -> Result<Request<'
     })
 }
 
-/// The request of `ill shelf retire`.
+/// Returns the request of `ill shelf retire`.
 fn retire_request<'a>(alloc: Global, matches: &ArgMatches<'a>) -> Result<Request<'a>, Refusal>
     ensures { ReadsValue asked (asked_of names.Retire (rows_of (found_of matches.now))) result }
 {
@@ -430,7 +430,7 @@ fn retire_request<'a>(alloc: Global, matches: &ArgMatches<'a>) -> Result<Request
     Ok(Request::Retire { file, group })
 }
 
-/// The group of an argument.
+/// Returns the group of an argument.
 fn group<'a>(alloc: Global, matches: &ArgMatches<'a>) -> Result<&'a str, Refusal>
     ensures { ReadsValue (λ group. group.now) (group_of (rows_of (found_of matches.now))) result }
 {
@@ -442,7 +442,7 @@ fn group<'a>(alloc: Global, matches: &ArgMatches<'a>) -> Result<&'a str, Refusal
     }
 }
 
-/// The request of `ill verify`.
+/// Returns the request of `ill verify`.
 fn verify_request<'a>(alloc: Global, matches: &ArgMatches<'a>) -> Result<Request<'a>, Refusal>
     ensures { ReadsValue asked (asked_of names.Verify (rows_of (found_of matches.now))) result }
 {
@@ -450,7 +450,7 @@ fn verify_request<'a>(alloc: Global, matches: &ArgMatches<'a>) -> Result<Request
     Ok(Request::Verify { file })
 }
 
-/// The request of `ill report`.
+/// Returns the request of `ill report`.
 fn report_request<'a>(alloc: Global, matches: &ArgMatches<'a>) -> Result<Request<'a>, Refusal>
     ensures { ReadsValue asked (asked_of names.Report (rows_of (found_of matches.now))) result }
 {
@@ -459,7 +459,7 @@ fn report_request<'a>(alloc: Global, matches: &ArgMatches<'a>) -> Result<Request
     Ok(Request::Report { paths, today })
 }
 
-/// The request of `ill simulate`.
+/// Returns the request of `ill simulate`.
 fn simulate_request<'a>(alloc: Global, matches: &ArgMatches<'a>) -> Result<Request<'a>, Refusal>
     ensures { ReadsValue asked (asked_of names.Simulate (rows_of (found_of matches.now))) result }
 {
@@ -468,7 +468,7 @@ fn simulate_request<'a>(alloc: Global, matches: &ArgMatches<'a>) -> Result<Reque
     Ok(Request::Simulate { group, transaction })
 }
 
-/// The role of a desk.
+/// Returns the role of a desk.
 fn role(alloc: Global, matches: &ArgMatches<'_>) -> Result<Who, Refusal>
     ensures { ReadsValue (λ role. role) (role_of (rows_of (found_of matches.now))) result }
 {
@@ -479,7 +479,7 @@ fn role(alloc: Global, matches: &ArgMatches<'_>) -> Result<Who, Refusal>
     }
 }
 
-/// The transaction of a loan.
+/// Returns the transaction of a loan.
 fn loan(alloc: Global, matches: &ArgMatches<'_>) -> Result<TxnId, Refusal>
     ensures { ReadsValue (λ txn. txn) (loan_of (rows_of (found_of matches.now))) result }
 {
@@ -491,7 +491,7 @@ fn loan(alloc: Global, matches: &ArgMatches<'_>) -> Result<TxnId, Refusal>
     }
 }
 
-/// The loans that are listed.
+/// Returns the conditions on the loans that are listed.
 fn wanted(matches: &ArgMatches<'_>) -> Result<Wanted, Refusal>
     ensures { ReadsValue (λ wanted. wanted) (wanted_of (rows_of (found_of matches.now))) result }
 {
@@ -513,7 +513,7 @@ fn wanted(matches: &ArgMatches<'_>) -> Result<Wanted, Refusal>
     })
 }
 
-/// The state of an option, if one is said.
+/// Returns the state of an option, if one is said.
 fn state(matches: &ArgMatches<'_>) -> Result<Option<State>, Refusal>
     ensures { ReadsValue (λ state. state) (state_in (rows_of (found_of matches.now))) result }
 {
@@ -526,7 +526,7 @@ fn state(matches: &ArgMatches<'_>) -> Result<Option<State>, Refusal>
     }
 }
 
-/// The day of an option, if one is said.
+/// Returns the day of an option, if one is said.
 fn day(matches: &ArgMatches<'_>, argument: Argument) -> Result<Option<Day>, Refusal>
     ensures { ReadsValue (λ day. day) (day_in argument (rows_of (found_of matches.now))) result }
 {
@@ -539,7 +539,7 @@ fn day(matches: &ArgMatches<'_>, argument: Argument) -> Result<Option<Day>, Refu
     }
 }
 
-/// The day of a report.
+/// Returns the day of a report.
 fn report_day(alloc: Global, matches: &ArgMatches<'_>) -> Result<Day, Refusal>
     ensures { ReadsValue (λ today. today) (report_day_of (rows_of (found_of matches.now))) result }
 {
@@ -550,7 +550,7 @@ fn report_day(alloc: Global, matches: &ArgMatches<'_>) -> Result<Day, Refusal>
     }
 }
 
-/// Those whose turn it is that are listed.
+/// Returns the turns of the loans that are listed.
 fn which(matches: &ArgMatches<'_>) -> Which
     ensures { result ≡ which_of (rows_of (found_of matches.now)) }
 {
@@ -563,7 +563,7 @@ fn which(matches: &ArgMatches<'_>) -> Which
     Which::All
 }
 
-/// The form in which a command writes.
+/// Returns the form in which a command writes.
 fn form(matches: &ArgMatches<'_>) -> Form
     ensures { result ≡ form_of (rows_of (found_of matches.now)) }
 {
@@ -574,7 +574,7 @@ fn form(matches: &ArgMatches<'_>) -> Form
     }
 }
 
-/// Whether a flag is set. It has a text, which is `true` where it stands in the words.
+/// Tells if a flag is set. Its text is `true` if it stands in the words.
 fn is_set(matches: &ArgMatches<'_>, flag: Argument) -> bool
     ensures { result ≡ is_set flag (rows_of (found_of matches.now)) }
 {
@@ -584,7 +584,7 @@ fn is_set(matches: &ArgMatches<'_>, flag: Argument) -> bool
     }
 }
 
-/// The number of a message.
+/// Returns the number of a message.
 fn message_number(alloc: Global, matches: &ArgMatches<'_>) -> Result<Number, Refusal>
     ensures { ReadsValue (λ number. number) (number_of_message (rows_of (found_of matches.now))) result }
 {
@@ -595,7 +595,7 @@ fn message_number(alloc: Global, matches: &ArgMatches<'_>) -> Result<Number, Ref
     }
 }
 
-/// The texts of an argument that has one or more.
+/// Returns the texts of an argument that has one or more.
 fn texts<'a>(
     alloc: Global,
     matches: &ArgMatches<'a>,
@@ -613,7 +613,7 @@ fn texts<'a>(
     }
 }
 
-/// The text of an argument that a command has to have.
+/// Returns the text of an argument that a command has to have.
 fn text<'a>(alloc: Global, matches: &ArgMatches<'a>, argument: Argument) -> Result<&'a str, Refusal>
     ensures { ReadsValue (λ text. text.now) (text_of argument (rows_of (found_of matches.now))) result }
 {
@@ -623,7 +623,7 @@ fn text<'a>(alloc: Global, matches: &ArgMatches<'a>, argument: Argument) -> Resu
     }
 }
 
-/// The refusal of matches that lack what `command` asks for. `clap` lets none through that do.
+/// Returns the refusal of matches that lack an argument of `command`. `clap` lets no such matches through.
 fn unknown(alloc: Global) -> Refusal
     ensures { IsRefusal true result }
 {

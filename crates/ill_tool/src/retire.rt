@@ -1,4 +1,4 @@
-//! The command `retire`: a desk whose loans are all over is replaced by a mark of its group.
+//! The command `retire`: a mark of its group replaces a desk whose loans are all over.
 
 ghost use Rattle.std.specs.Prelude.{◌≡◌, IfOk};
 ghost use Rattle.std.specs.List.{list_all};
@@ -17,7 +17,8 @@ use std::alloc::Global;
 /// The bytes of the file that marks a retired group.
 pub(crate) const MARK: &[u8] = b"retired\n";
 
-/// Marks in another store that the group of a desk is retired, if all loans of the desk are over, and tells if they are.
+/// Marks in the store `mark` that the group of `desk` is retired, if all loans of the desk are over. Returns true if
+/// they are.
 pub fn run_desk_retire<S: Store, C: Store>(
     alloc: Global,
     desk: &Desk<S>,
@@ -36,7 +37,7 @@ pub fn run_desk_retire<S: Store, C: Store>(
     }
 }
 
-/// Tells if all loans are over.
+/// Tells if all loans of `sides` are over.
 fn are_over(alloc: Global, sides: &Sides) -> Result<bool, OutOfMemory>
     ensures { IfOk result (λ are_over. are_over ≡ are_all_over sides.now.sides) }
 {
@@ -44,7 +45,7 @@ fn are_over(alloc: Global, sides: &Sides) -> Result<bool, OutOfMemory>
     Ok(are_each_over(&all))
 }
 
-/// Tells if each of some loans is over.
+/// Tells if each of `sides` is over.
 fn are_each_over(sides: &[&Side]) -> bool
     ensures { result ≡ list_all (λ side. is_over side.now) sides.now }
 {

@@ -14,7 +14,7 @@ use ill_saved::Side;
 use ill_values::{Body, Item, OutOfMemory};
 use std::alloc::Global;
 
-/// The columns of a list: how wide those are that have no width of their own, and whether verbs are listed.
+/// The columns of a list: the widths of those that have none of their own, and if verbs are listed.
 #[derive(Clone, Copy)]
 pub struct Columns {
     pub group: usize,
@@ -23,7 +23,7 @@ pub struct Columns {
 }
 
 impl Columns {
-    /// The columns that are wide enough for all of these sides.
+    /// Returns the columns that are wide enough for all of `sides`.
     pub fn of(sides: &[&Side], has_verbs: bool) -> Columns
         ensures { result ≡ columns_of has_verbs (map (λ side. side.now) sides.now) }
     {
@@ -40,7 +40,7 @@ impl Columns {
     }
 }
 
-/// How wide the columns are of a turn, a state, a day and the verbs.
+/// The widths of the columns of a turn, a state, a day and the verbs.
 const TURN: usize = 6;
 
 const STATE: usize = 20;
@@ -49,7 +49,7 @@ const DUE: usize = 8;
 
 const VERBS: usize = 20;
 
-/// Adds the line of a side whose turn is this.
+/// Appends the line of `side`, whose turn is `turn`.
 #[tactic(auto, unfolding(crate::specs::List::row))]
 pub fn push_row(
     lines: &mut Vec<u8>,
@@ -68,7 +68,7 @@ pub fn push_row(
     Ok(())
 }
 
-/// Adds whose turn it is, the state, and the due day, which is a dash where there is none.
+/// Appends the turn, the state, and the due day: a dash, if there is none.
 fn push_standing(lines: &mut Vec<u8>, turn: Turn, side: &Side) -> Result<(), OutOfMemory>
     ensures { OnOk result (lines.new.items ≡ lines.old.items
         ++ (cell 6 (turn_word turn) ++ cell 20 (state_name (state_of side.now))
@@ -82,7 +82,7 @@ fn push_standing(lines: &mut Vec<u8>, turn: Turn, side: &Side) -> Result<(), Out
     }
 }
 
-/// Adds what `act` takes now, with a comma between each and the next, where it is listed.
+/// Appends the actions that `act` takes now, with a comma between two, if they are listed.
 fn push_verbs(lines: &mut Vec<u8>, has_verbs: bool, side: &Side) -> Result<(), OutOfMemory>
     ensures { OnOk result (lines.new.items ≡ lines.old.items ++ verbs_cell has_verbs side.now) }
 {
@@ -93,14 +93,14 @@ fn push_verbs(lines: &mut Vec<u8>, has_verbs: bool, side: &Side) -> Result<(), O
     push_cell(lines, VERBS, verbs.as_bytes())
 }
 
-/// What `act` takes now, with a comma between each and the next.
+/// Returns the actions that `act` takes now, with a comma between two.
 fn verbs_text(alloc: Global, side: &Side) -> Result<String, OutOfMemory>
     ensures { IfOk result (λ text. string_bytes text ≡ verbs_text side.now) }
 {
     Ok(names(alloc, side.verbs())?.join(alloc, ",")?)
 }
 
-/// Adds the title of a loan: the item that is asked for, or a dash where there is none.
+/// Appends the title of the loan of `side`: the item that is asked for, or a dash if there is none.
 pub(crate) fn push_title(lines: &mut Vec<u8>, side: &Side) -> Result<(), OutOfMemory>
     ensures { OnOk result (lines.new.items ≡ lines.old.items
         ++ title_text (item_asked (request_of side.now))) }
@@ -114,7 +114,7 @@ pub(crate) fn push_title(lines: &mut Vec<u8>, side: &Side) -> Result<(), OutOfMe
     }
 }
 
-/// Adds a text, spaces behind it up to this width, and two more.
+/// Appends `text`, spaces up to `width`, and two more.
 fn push_cell(lines: &mut Vec<u8>, width: usize, text: &[u8]) -> Result<(), OutOfMemory>
     ensures { OnOk result (lines.new.items ≡ lines.old.items ++ cell width text.now) }
 {
@@ -123,7 +123,7 @@ fn push_cell(lines: &mut Vec<u8>, width: usize, text: &[u8]) -> Result<(), OutOf
     Ok(())
 }
 
-/// Adds a text, and spaces behind it up to this width.
+/// Appends `text`, and spaces up to `width`.
 fn push_padded(lines: &mut Vec<u8>, width: usize, text: &[u8]) -> Result<(), OutOfMemory>
     ensures { OnOk result (lines.new.items ≡ lines.old.items ++ padded width text.now) }
 {
@@ -134,7 +134,7 @@ fn push_padded(lines: &mut Vec<u8>, width: usize, text: &[u8]) -> Result<(), Out
     Ok(())
 }
 
-/// The item of a loan: that of its request.
+/// Returns the item of a loan: that of its request.
 pub(crate) fn item_asked(side: &Side) -> Option<&Item>
     ensures { option_map (λ item. item.now) result ≡ item_asked (request_of side.now) }
 {

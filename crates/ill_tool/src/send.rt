@@ -13,7 +13,7 @@ use ill_values::{Number, TxnId};
 use std::alloc::Global;
 use std::io::Write;
 
-/// Writes the bytes of the message with this number, and nothing else.
+/// Writes the bytes of the message `number`, and nothing else.
 ///
 /// It must have been issued (else `NoSuchMessage`) and saved (else `NotSaved`).
 pub fn run_send<S: Store, W: Write>(
@@ -28,7 +28,8 @@ pub fn run_send<S: Store, W: Write>(
     send_from(alloc, desk, &(), number, writer)
 }
 
-/// The same, of the side of a transaction at a desk, which must be held (else `NoSuchTransaction`).
+/// Writes the bytes of the message `number` of the side of `txn` at `desk`. The side must be held (else
+/// `NoSuchTransaction`).
 pub fn run_desk_send<S: Store, W: Write>(
     alloc: Global,
     desk: &Desk<S>,
@@ -42,7 +43,7 @@ pub fn run_desk_send<S: Store, W: Write>(
     send_from(alloc, desk, txn, number, writer)
 }
 
-/// The same, of a side of what keeps it.
+/// Writes the bytes of the message `number` of the side `key` of `keeper`.
 fn send_from<K: Keeper, W: Write>(
     alloc: Global,
     keeper: &K,

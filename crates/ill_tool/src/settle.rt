@@ -1,4 +1,4 @@
-//! What becomes of the files of mails once a run has saved what they change.
+//! The end of the files of mails, once a run has saved their messages.
 
 ghost use Rattle.std.specs.Prelude.{IfErr};
 ghost use Rattle.ill_tool.specs.Outbox.{IsFileFault};
@@ -14,9 +14,9 @@ use std::io::{ErrorKind, Write};
 use std::rt::Files;
 use std::{fs, io};
 
-/// Removes the file of each mail that is done, puts those aside that no desk will ever take, and gives the others back
-/// to their folder. A file with which that cannot be done stays, and is told; then it is a failure of the store. If
-/// memory runs out, the further ones stay.
+/// Settles the file of each mail of `found`. It removes the file of a mail that is done, and puts one aside that no
+/// desk will ever take. It gives the others back to their folder. If that fails for a file, it stays, and a line to
+/// `errors` names its mail. Then the fault is one of the store. If memory runs out, the further ones stay.
 pub fn settle_mails<T: Files, E: Write>(
     rt: &T,
     alloc: Global,
@@ -44,7 +44,7 @@ pub fn settle_mails<T: Files, E: Write>(
     if all_done { Ok(()) } else { Err(STORE_FAILED) }
 }
 
-/// What a person is told of a mail whose file could not be removed, put aside or given back.
+/// The text about a mail whose file could not be removed, put aside or given back.
 const STUCK: &str = " is not settled, and stays among the mails that were claimed";
 
 /// Removes the folders of runs in which no mail is left.
@@ -60,11 +60,11 @@ pub struct MailPaths<'a> {
     pub file: &'a str,
     pub folder: &'a str,
     pub mail_box: &'a MailBox,
-    /// Whether a person is told of the mails that want one.
+    /// Set if a person is told of the mails that want one.
     pub is_telling: bool,
 }
 
-/// Does with the file of a mail what its verdict says. A mail that could not be claimed is where it was.
+/// Settles the file of a mail by its verdict. A mail that could not be claimed stays in its folder.
 fn settle_mail<T: Files>(
     rt: &T,
     alloc: Global,
@@ -99,8 +99,8 @@ fn put_aside<T: Files>(
     mail_box.put_aside(rt, alloc, file, digest.as_str(), &why)
 }
 
-/// Gives a mail back to the folder from which it was claimed. If that cannot be done, since another of its name has come
-/// there, it stays claimed, and the next run takes it first.
+/// Gives a mail back to the folder from which it was claimed. If another mail of its name has come there, it stays
+/// claimed, and the next run takes it first.
 pub(crate) fn give_back<T: Files>(
     rt: &T,
     alloc: Global,
@@ -120,8 +120,8 @@ pub(crate) fn give_back<T: Files>(
     }
 }
 
-/// Gives back what can have no second name, such as a folder, if nothing stands in its place. What a run has given back
-/// that was killed then is there already, and its second name is removed.
+/// Gives back a file that can have no second name, such as a folder, if its name is free there. If a killed run has
+/// given it back already, it removes its second name.
 fn give_back_alone<T: Files>(rt: &T, file: &str, path: &str) {
     match (
         fs::symlink_metadata(rt, file),

@@ -27,16 +27,16 @@ use std::{fs, io};
 /// group.
 const OWN: &str = ".shelf";
 
-/// The name in front of `.mail` of the folder of mails that are not sorted yet.
+/// The name, before `.mail`, of the folder of mails that are not sorted yet.
 const UNSORTED: &str = ".unsorted";
 
-/// The ending of the name of the file that marks a retired group, behind that of its desk.
+/// The ending of the name of the file that marks a retired group, after the name of its desk.
 pub(crate) const RETIRED: &str = ".retired";
 
-/// The bytes for which escapes stand in the name of a desk: all but letters, digits, the hyphen and the low line.
+/// The bytes that an escape replaces in the name of a desk: all but letters, digits, the hyphen and the low line.
 pub(crate) const ESCAPED: AsciiSet = ascii_set!(NON_ALPHANUMERIC.remove(b'-').remove(b'_'));
 
-/// Returns the name of the file of the desk of a group.
+/// Returns the name of the file of the desk of `group`.
 pub fn desk_name(alloc: Global, role: Role, group: &[u8]) -> Result<String, OutOfMemory>
     ensures { IfOk result (λ name. string_bytes name ≡ desk_name role group.now) }
 {
@@ -57,7 +57,7 @@ pub(crate) struct Shelf<'a> {
 }
 
 impl<'a> Shelf<'a> {
-    /// Opens the shelf in a folder.
+    /// Opens the shelf in `folder`.
     pub(crate) fn open<T: Files>(
         rt: &T,
         alloc: Global,
@@ -75,7 +75,7 @@ impl<'a> Shelf<'a> {
         Ok(Shelf { folder, role })
     }
 
-    /// Returns the path of the desk of a group.
+    /// Returns the path of the desk of `group`.
     pub(crate) fn desk_of(&self, alloc: Global, group: &[u8]) -> Result<String, OutOfMemory>
         ensures { IfOk result (λ path. string_bytes path ≡ desk_path self.now.folder.now self.now.role group.now) }
     {
@@ -91,7 +91,7 @@ impl<'a> Shelf<'a> {
         own_path(alloc, self.folder)
     }
 
-    /// Returns the path of a desk that is none, beside which the mails stand that are not sorted yet.
+    /// Returns a path at which no desk stands. Beside it stand the mails that are not sorted yet.
     pub(crate) fn unsorted(&self, alloc: Global) -> Result<String, OutOfMemory> {
         Ok(format!(in alloc; "{}/{UNSORTED}", self.folder)?)
     }
@@ -107,12 +107,13 @@ impl<'a> Shelf<'a> {
     }
 }
 
-/// Returns the path of the own desk of the shelf in a folder.
+/// Returns the path of the own desk of the shelf in `folder`.
 pub(crate) fn own_path(alloc: Global, folder: &str) -> Result<String, OutOfMemory> {
     Ok(format!(in alloc; "{folder}/{OWN}")?)
 }
 
-/// Returns the paths of the desks of a role in a folder, in the order of their names, without those of retired groups.
+/// Returns the paths of the desks of `role` in `folder`, in the order of their names. Those of retired groups are left
+/// out.
 fn desks_in<T: Files>(rt: &T, alloc: Global, folder: &str, role: Role) -> io::Result<Vec<String>> {
     let mut desks = Vec::new(alloc);
     for name in names_of_desks(rt, alloc, folder, role, "")? {
@@ -124,7 +125,8 @@ fn desks_in<T: Files>(rt: &T, alloc: Global, folder: &str, role: Role) -> io::Re
     Ok(desks)
 }
 
-/// Returns the names of desks of a role, in their order, for which a folder has a file with an ending behind that name.
+/// Returns the names of desks of `role`, in their order. For each, `folder` has a file with that name and then
+/// `ending`.
 pub(crate) fn names_of_desks<T: Files>(
     rt: &T,
     alloc: Global,
@@ -146,7 +148,7 @@ pub(crate) fn names_of_desks<T: Files>(
     Ok(desks)
 }
 
-/// Tells if a name is that of the desk of a group.
+/// Tells if `name` is that of the desk of a group.
 fn is_desk_name(alloc: Global, role: Role, name: &str) -> Result<bool, OutOfMemory> {
     let Some((stem, _)) = name.rsplit_once('.') else {
         return Ok(false);
@@ -156,8 +158,8 @@ fn is_desk_name(alloc: Global, role: Role, name: &str) -> Result<bool, OutOfMemo
     Ok(TxnId::is_qualifier(&group) && desk_name(alloc, role, &group)?.as_str() == name)
 }
 
-/// Tells if bytes are for the desk in a file of a shelf: no message, or one of its group. The shelf's own desk has none that
-/// would begin a loan there.
+/// Tells if `bytes` are for the desk in `file` of a shelf: no message, or one of its group. For the shelf's own desk
+/// they may be any message that begins no loan there.
 pub(crate) fn is_for_desk(
     alloc: Global,
     file: &str,
@@ -175,7 +177,7 @@ pub(crate) fn is_for_desk(
     Ok(desk_name(alloc, role, message.group())?.as_str() == name)
 }
 
-/// Tells if the group of the desk in a file is retired.
+/// Tells if the group of the desk in `file` is retired.
 pub(crate) fn is_retired<T: Files>(rt: &T, alloc: Global, file: &str) -> io::Result<bool> {
     let mark = retired_path(alloc, file)?;
     is_there(rt, mark.as_str())
@@ -186,7 +188,7 @@ pub(crate) fn retired_path(alloc: Global, file: &str) -> Result<String, OutOfMem
     Ok(format!(in alloc; "{file}{RETIRED}")?)
 }
 
-/// Tells if something stands at a path.
+/// Tells if anything stands at `path`.
 pub(crate) fn is_there<T: Files>(rt: &T, path: &str) -> io::Result<bool> {
     match fs::symlink_metadata(rt, path) {
         Ok(_) => Ok(true),
@@ -195,7 +197,7 @@ pub(crate) fn is_there<T: Files>(rt: &T, path: &str) -> io::Result<bool> {
     }
 }
 
-/// Refuses a retired group, as one whose loans no desk has.
+/// Refuses a retired group, like one whose loans no desk has.
 pub(crate) fn refuse_retired<T: Files>(rt: &T, alloc: Global, file: &str) -> Result<(), ToolFault>
     ensures { IfErr result IsOpenFault }
 {
@@ -206,7 +208,7 @@ pub(crate) fn refuse_retired<T: Files>(rt: &T, alloc: Global, file: &str) -> Res
     }
 }
 
-/// Two groups whose desks have one name are one group: each group has a desk of its own.
+/// Two groups whose desks have one name are one group. So each group has a desk of its own.
 pub fn groups_have_their_own_desks()
     ensures { (role : Role) (one other : List ℕ) → IsQualifier one → IsQualifier other →
         desk_name role one ≡ desk_name role other → one ≡ other }

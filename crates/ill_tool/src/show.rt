@@ -16,11 +16,10 @@ use ill_values::OutOfMemory;
 use std::alloc::Global;
 use std::io::{Read, Write};
 
-/// Shows each APDU of the input, up to its end, and answers how many there were.
+/// Shows each APDU of the input, up to its end, and returns their number.
 ///
-/// If an APDU is faulty, there are too many, or the reader fails, the lines of the APDUs before are
-/// written. If memory runs out, those of some of the first APDUs are, and if the writer fails, a
-/// front of that text.
+/// If an APDU is faulty or one too many, or the reader fails, the lines of those before are written. If memory runs
+/// out, it has written those of some of the first APDUs. If the writer fails, it has a prefix of that text.
 pub fn run_show<R: Read, W: Write>(
     alloc: Global,
     reader: &mut R,
@@ -32,7 +31,7 @@ pub fn run_show<R: Read, W: Write>(
     run_show_as(alloc, Form::Lines, reader, writer)
 }
 
-/// The same, in this form.
+/// Shows each APDU of the input in the form `form`, as `run_show` does.
 pub fn run_show_as<R: Read, W: Write>(
     alloc: Global,
     form: Form,
@@ -48,7 +47,7 @@ pub fn run_show_as<R: Read, W: Write>(
     }
 }
 
-/// The same, in objects or in lines.
+/// Shows each APDU of the input, in objects or in lines.
 fn show<R: Read, W: Write, const JSON: bool>(
     alloc: Global,
     reader: &mut R,
@@ -85,7 +84,7 @@ impl<W: Write, const JSON: bool> Handler<W> for Showing<JSON> {
     }
 }
 
-/// Adds the text of an APDU.
+/// Appends the text of `apdu`.
 fn push_text<const JSON: bool>(text: &mut Vec<u8>, apdu: &ApduView<'_>) -> Result<(), OutOfMemory>
     ensures { OnOk result (text.new.items ≡ text.old.items ++ apdu_text (form_of JSON) apdu.now) }
 {

@@ -1,4 +1,4 @@
-//! The line of how a side stands, alone or with what a message was and said.
+//! The line of how a side stands, alone or with the heading and the fields of a message.
 
 ghost use Rattle.std.specs.Prelude.{◌≡◌, ◌++◌, true, OnOk};
 ghost use Rattle.ill_tool.specs.Telling.{as_told, done_line, held_text, is_fine, long, side_line, wording, WritesOutcome};
@@ -14,8 +14,8 @@ use ill_world::{DeskOutcome, Outcome};
 use std::alloc::Global;
 use std::io::Write;
 
-/// Writes the line of an outcome and of how the side stands after it: `OUTCOME STATE DUE
-/// RELEASED/ISSUED`. It answers whether all went well.
+/// Writes the line of an outcome and of how the side stands after it: `OUTCOME STATE DUE RELEASED/ISSUED`. Returns true
+/// if all went well.
 pub(crate) fn report<K: Keeper, W: Write>(
     alloc: Global,
     writer: &mut W,
@@ -32,8 +32,8 @@ pub(crate) fn report<K: Keeper, W: Write>(
     Ok(is_fine(outcome))
 }
 
-/// The same, of a message: where it is told at length, which message it was goes before the line, and what it said
-/// behind it.
+/// Writes the line of the outcome of a message. With `LONG` the heading of the message stands before it, and the lines
+/// of its fields after it. Returns true if all went well.
 pub(crate) fn report_message<K: Keeper, W: Write, const LONG: bool>(
     alloc: Global,
     writer: &mut W,
@@ -51,7 +51,7 @@ pub(crate) fn report_message<K: Keeper, W: Write, const LONG: bool>(
     Ok(is_fine(outcome))
 }
 
-/// Adds the words of the outcome of a message.
+/// Appends the words of the outcome of a message.
 fn push_words<K: Keeper, const LONG: bool>(
     lines: &mut Vec<u8>,
     apdu: &ApduView<'_>,
@@ -69,7 +69,7 @@ fn push_words<K: Keeper, const LONG: bool>(
     }
 }
 
-/// Adds the words of the outcome of a message at length, with how its side stands once it is saved.
+/// Appends the words of the outcome of a message at length, with how its side stands once it is saved.
 pub(crate) fn push_saved_message<K: Keeper>(
     lines: &mut Vec<u8>,
     apdu: &ApduView<'_>,
@@ -83,7 +83,7 @@ pub(crate) fn push_saved_message<K: Keeper>(
     push_long::<K, true>(lines, apdu, outcome, keeper, key)
 }
 
-/// Adds which message it was, the line, and what it said.
+/// Appends the heading of a message, the line, and the lines of its fields.
 fn push_long<K: Keeper, const SAVED: bool>(
     lines: &mut Vec<u8>,
     apdu: &ApduView<'_>,
@@ -99,7 +99,7 @@ fn push_long<K: Keeper, const SAVED: bool>(
     push_said(lines, apdu)
 }
 
-/// Adds the line of a side that has done something, with how it stands once that is saved.
+/// Appends the line of a side that has done something, with how it stands once that is saved.
 pub(crate) fn push_done_line<K: Keeper>(
     line: &mut Vec<u8>,
     keeper: &K,
@@ -111,7 +111,7 @@ pub(crate) fn push_done_line<K: Keeper>(
     push_line::<K, true>(line, DeskOutcome::Plain(Outcome::Done), keeper, key)
 }
 
-/// Adds the line of an outcome and of how the side stands after it, now or once it is saved.
+/// Appends the line of an outcome and of how the side stands after it, now or once it is saved.
 fn push_line<K: Keeper, const SAVED: bool>(
     line: &mut Vec<u8>,
     outcome: DeskOutcome,
@@ -128,7 +128,7 @@ fn push_line<K: Keeper, const SAVED: bool>(
     Ok(())
 }
 
-/// Adds how a side stands, now or once it is saved.
+/// Appends how a side stands, now or once it is saved.
 fn push_side_as<K: Keeper, const SAVED: bool>(
     line: &mut Vec<u8>,
     keeper: &K,
@@ -144,7 +144,7 @@ fn push_side_as<K: Keeper, const SAVED: bool>(
     }
 }
 
-/// Whether all went well: nothing was refused, and no message was in conflict.
+/// Tells if all went well: nothing was refused, and no message was in conflict.
 fn is_fine(outcome: DeskOutcome) -> bool
     ensures { result ≡ is_fine outcome }
 {

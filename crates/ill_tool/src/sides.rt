@@ -10,7 +10,7 @@ use ill_saved::{Desk, Side, Sides, Store};
 use ill_values::OutOfMemory;
 use std::alloc::Global;
 
-/// All sides, in the order in which they were begun.
+/// Returns all sides, in the order in which they were begun.
 pub(crate) fn all_of<'a>(alloc: Global, sides: &'a Sides) -> Result<Vec<&'a Side>, OutOfMemory>
     ensures { IfOk result (λ all. map (λ side. side.now) all.items ≡ sides.now.sides) }
 {
@@ -21,7 +21,7 @@ pub(crate) fn all_of<'a>(alloc: Global, sides: &'a Sides) -> Result<Vec<&'a Side
     Ok(all)
 }
 
-/// Adds the side at this place, if there is one.
+/// Appends the side at `place`, if there is one.
 fn push_at<'a>(all: &mut Vec<&'a Side>, sides: &'a Sides, place: usize) -> Result<(), OutOfMemory>
     ensures { OnOk result (map (λ side. side.now) all.new.items
         ≡ map (λ side. side.now) all.old.items ++ option_to_list (slice_get sides.now.sides place)) }
@@ -32,14 +32,14 @@ fn push_at<'a>(all: &mut Vec<&'a Side>, sides: &'a Sides, place: usize) -> Resul
     Ok(())
 }
 
-/// A side of a desk, with how many of its messages were saved.
+/// A side of a desk, with the number of its saved messages.
 #[derive(Clone, Copy)]
 pub(crate) struct HeldSide<'a> {
     pub(crate) side: &'a Side,
     pub(crate) released: u8,
 }
 
-/// All sides of a desk, in the order in which they were begun, each with how many of its messages were saved.
+/// Returns all sides of `desk`, in the order in which they were begun, with the numbers of their saved messages.
 pub(crate) fn all_held<'a, S: Store>(
     alloc: Global,
     desk: &'a Desk<S>,
@@ -53,7 +53,7 @@ pub(crate) fn all_held<'a, S: Store>(
     Ok(all)
 }
 
-/// Adds the side at this place of a desk, if there is one.
+/// Appends the side at `place` of `desk`, if there is one.
 fn push_held_at<'a, S: Store>(
     all: &mut Vec<HeldSide<'a>>,
     desk: &'a Desk<S>,

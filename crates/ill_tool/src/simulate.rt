@@ -9,12 +9,12 @@ use ill_world::{simulate, simulate_desks};
 use std::alloc::Global;
 use std::io::{Read, Write};
 
-/// Performs a script of both sides of the transaction with these qualifiers, and writes a line for
-/// each event. It answers the number of events.
+/// Performs a script of both sides of the transaction with these qualifiers, and writes a line for each event. It
+/// returns the number of events.
 ///
-/// If there is no such transaction, nothing is read or written. At a bad line, and where the reader
-/// fails, the lines of all events before are written. If memory runs out, those of some of the first
-/// events are, and if the writer fails, a front of that text.
+/// If there is no such transaction, nothing is read or written. If a line is bad or the reader fails, the lines of all
+/// events before are written. If memory runs out, those of some of the first events are. If the writer fails, it has a
+/// prefix of that text.
 pub fn run_simulate<R: Read, W: Write>(
     alloc: Global,
     group: &str,
@@ -33,8 +33,8 @@ pub fn run_simulate<R: Read, W: Write>(
     }
 }
 
-/// Performs a script of two desks, which names its transactions itself, and writes a line for each event.
-/// It answers the number of events. What was written before a fault is told at `run_simulate`.
+/// Performs a script of two desks, which names its transactions itself, and writes a line for each event. It returns
+/// the number of events. `run_simulate` tells which lines are written before a fault.
 pub fn run_simulate_desks<R: Read, W: Write>(
     alloc: Global,
     reader: &mut R,
@@ -49,7 +49,7 @@ pub fn run_simulate_desks<R: Read, W: Write>(
     }
 }
 
-/// The transaction id with these qualifiers.
+/// Returns the transaction id with these qualifiers.
 pub fn id(alloc: Global, group: &str, transaction: &str) -> Result<TxnId, ToolFault>
     ensures { GivesId (txn_id_of group.now transaction.now) result }
 {

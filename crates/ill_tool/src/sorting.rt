@@ -1,8 +1,8 @@
 //! Mail that has come to a shelf: each message goes to the mail of the desk of its group.
 //!
-//! A mail is claimed into a folder of the shelf, and renamed from there into the mail of a desk. So one that a killed run
-//! has claimed is sorted by the next run. What has no desk goes to the shelf's own desk, which answers as a desk does
-//! that has not the loan: no message goes there that would begin one.
+//! A mail is claimed into a folder of the shelf, and renamed from there into the mail of a desk. So the next run sorts
+//! a mail that a killed run has claimed. A message whose group has no desk goes to the shelf's own desk. That desk
+//! answers as one does that lacks the loan. No message goes there that would begin a loan.
 
 ghost use Rattle.std.specs.Prelude.{◌≡◌, IfErr};
 ghost use Rattle.ill_tool.specs.Commands.{IsOpenFault};
@@ -32,14 +32,14 @@ use std::{fs, io};
 /// The most desks that the mail of one run makes: strangers must not fill a disk.
 const NEW_DESKS: usize = 16;
 
-/// What a shelf has of a group.
+/// The home of a group on a shelf.
 #[derive(Clone, Copy)]
 pub(crate) enum Home {
     /// The desk of the group.
     Desk,
     /// The mark of a retired group.
     Retired,
-    /// What stands beside a desk, and no desk: its file was lost.
+    /// Files beside a desk, and no desk: its file was lost.
     Lost,
     /// Nothing.
     Nothing,
@@ -75,8 +75,8 @@ pub(crate) fn route_of(role: Role, home: Home, is_request: bool, has_room: bool)
     }
 }
 
-/// Sorts the mails of a folder to the desks of a shelf, and tells if any wait for the next run. A person is told of
-/// those, of new desks, and of mails of retired groups.
+/// Sorts the mails of `folder` to the desks of `shelf`, and tells if any wait for the next run. It writes lines to
+/// `errors` of those, of new desks, and of mails of retired groups.
 pub(crate) fn sort_mails<T: LockFiles, E: Write>(
     rt: &T,
     alloc: Global,
@@ -93,7 +93,7 @@ pub(crate) fn sort_mails<T: LockFiles, E: Write>(
     sorted
 }
 
-/// Sorts the mails of a folder, while no other command does.
+/// Sorts the mails of `folder`, while no other command does.
 fn sort_under_lock<T: LockFiles, E: Write>(
     rt: &T,
     alloc: Global,
@@ -116,7 +116,7 @@ fn sort_under_lock<T: LockFiles, E: Write>(
     }
 }
 
-/// Claims the mails of a folder that does not lie within the shelf: what stands there belongs to a desk.
+/// Claims the mails of `folder`, which may not lie within the shelf: files there belong to a desk.
 fn claim_from_outside<T: Files>(
     rt: &T,
     alloc: Global,
@@ -134,7 +134,7 @@ fn claim_from_outside<T: Files>(
     }
 }
 
-/// Sorts mails that were claimed.
+/// Sorts the mails `found`, which were claimed, and tells if any wait for the next run.
 fn sort_found<T: LockFiles, E: Write>(
     rt: &T,
     alloc: Global,
@@ -163,7 +163,7 @@ fn sort_found<T: LockFiles, E: Write>(
     Ok(sorting.is_waiting)
 }
 
-/// Why a mail, or a desk, is told to a person.
+/// The texts about a mail, or a desk.
 const NOT_READ_NOW: &str = " left not-read";
 
 const NOT_SORTED: &str = " is not sorted, and stays among the mails that were claimed";
@@ -181,13 +181,13 @@ const NEW_GROUP: &str = " is made: mail begins its group";
 struct SortedBox {
     /// The path of the desk's file.
     desk: String,
-    /// The folder in which they were claimed: in it their names differ.
+    /// The folder in which they were claimed. Their names differ in it.
     from: String,
     /// The folder into which they are renamed.
     run: String,
 }
 
-/// How far the mails are sorted.
+/// The state of the sorting of mails.
 #[derive(Drop)]
 struct Sorting<'a, T: LockFiles> {
     rt: &'a T,
@@ -196,7 +196,7 @@ struct Sorting<'a, T: LockFiles> {
     /// The folder from which the mails come.
     folder: &'a str,
     boxes: Vec<SortedBox>,
-    /// How many desks were made.
+    /// The number of desks that were made.
     made: usize,
     /// Set if mails wait for the next run.
     is_waiting: bool,
@@ -223,7 +223,7 @@ impl<T: LockFiles> Sorting<'_, T> {
         }
     }
 
-    /// Sorts a mail with these bytes. What is no message is for the shelf's own desk.
+    /// Sorts a mail with these bytes. Bytes that are no message are for the shelf's own desk.
     fn sort_bytes<E: Write>(
         &mut self,
         mail: &Mail,
@@ -276,8 +276,7 @@ impl<T: LockFiles> Sorting<'_, T> {
         self.hand_over(mail, file, own)
     }
 
-    /// Renames the file of a mail into the mails of a desk. If their folder has gone, since another run has removed it,
-    /// it is made again.
+    /// Renames the file of a mail into the mails of `desk`. If another run has removed their folder, it makes it again.
     fn hand_over(&mut self, mail: &Mail, file: &str, desk: String) -> io::Result<()> {
         let place = self.place_of(file, desk)?;
         match self.rename_into(place, mail, file) {
@@ -289,7 +288,7 @@ impl<T: LockFiles> Sorting<'_, T> {
         }
     }
 
-    /// Renames the file of a mail into the folder at a place.
+    /// Renames the file of a mail into the folder at `place`.
     fn rename_into(&self, place: usize, mail: &Mail, file: &str) -> io::Result<()> {
         let Some(sorted) = self.boxes.get(place) else {
             return Ok(());
@@ -300,7 +299,8 @@ impl<T: LockFiles> Sorting<'_, T> {
         }
     }
 
-    /// Returns the place of the folder into which a file is renamed for a desk. It is made for the first of them.
+    /// Returns the place of the folder into which `file` is renamed for `desk`. It is made for the first file from one
+    /// folder.
     fn place_of(&mut self, file: &str, desk: String) -> io::Result<usize> {
         let from = Path::new(file)
             .parent()
@@ -317,7 +317,7 @@ impl<T: LockFiles> Sorting<'_, T> {
         Ok(self.boxes.len().saturating_sub(1))
     }
 
-    /// Makes the folder at a place again.
+    /// Makes the folder at `place` again.
     fn renew(&mut self, place: usize) -> io::Result<()> {
         let run = match self.boxes.get(place) {
             Some(sorted) => self.run_at(sorted.desk.as_str())?,
@@ -329,13 +329,13 @@ impl<T: LockFiles> Sorting<'_, T> {
         Ok(())
     }
 
-    /// Makes a folder for the mails of a desk.
+    /// Makes a folder for the mails of `desk`.
     fn run_at(&self, desk: &str) -> io::Result<String> {
         let mail_box = MailBox::open(self.rt, self.alloc, desk)?;
         new_run(self.rt, self.alloc, &mail_box)
     }
 
-    /// Tells why a mail is given back.
+    /// Writes the line that tells why a mail is given back.
     fn tell_back<E: Write>(&mut self, mail: &Mail, home: Home, desk: &[u8], errors: &mut E) {
         match home {
             Home::Lost => self.leave(desk, LOST, errors),
@@ -343,14 +343,14 @@ impl<T: LockFiles> Sorting<'_, T> {
         }
     }
 
-    /// Leaves a mail for the next run, and tells a person of it, or of its desk.
+    /// Leaves a mail for the next run, and writes a line of it, or of its desk.
     fn leave<E: Write>(&mut self, name: &[u8], text: &str, errors: &mut E) {
         self.is_waiting = true;
         warn(self.alloc, name, text, errors);
     }
 }
 
-/// Returns what a shelf has of the group of a desk.
+/// Returns the home of the group of `desk`.
 pub(crate) fn home_at<T: Files>(rt: &T, alloc: Global, desk: &str) -> io::Result<Home> {
     if is_retired(rt, alloc, desk)? {
         return Ok(Home::Retired);
@@ -365,14 +365,14 @@ pub(crate) fn home_at<T: Files>(rt: &T, alloc: Global, desk: &str) -> io::Result
     }
 }
 
-/// Tells if a file that stands beside a desk outlives it. So its group was begun before.
+/// Tells if a file that may outlive `desk` is there beside it. Then its group was begun before.
 fn is_lost<T: Files>(rt: &T, alloc: Global, desk: &str) -> io::Result<bool> {
     let came = format!(in alloc; "{desk}{CAME}")?;
     let mail = format!(in alloc; "{desk}{MAIL}")?;
     Ok(is_there(rt, came.as_str())? || is_there(rt, mail.as_str())?)
 }
 
-/// Refuses a group whose desk is lost, as one that has no record.
+/// Refuses a group whose desk is lost, like one that has no record.
 pub(crate) fn refuse_lost<T: Files>(rt: &T, alloc: Global, desk: &str) -> Result<(), ToolFault>
     ensures { IfErr result IsOpenFault }
 {
@@ -383,7 +383,7 @@ pub(crate) fn refuse_lost<T: Files>(rt: &T, alloc: Global, desk: &str) -> Result
     }
 }
 
-/// Makes the desk of a group at a path, unless the group is retired. It may be there already.
+/// Makes the desk of a group at the path `desk`, unless the group is retired. It may be there already.
 pub(crate) fn make_desk<T: LockFiles>(
     rt: &T,
     alloc: Global,
@@ -398,7 +398,7 @@ pub(crate) fn make_desk<T: LockFiles>(
     made
 }
 
-/// Makes the desk of a group at a path, while no other command does.
+/// Makes the desk of a group at the path `desk`, while no other command does.
 fn make_under_lock<T: Files>(rt: &T, alloc: Global, role: Role, desk: &str) -> Result<(), ToolFault>
     ensures { IfErr result IsOpenFault }
 {

@@ -21,8 +21,8 @@ use ill_values::{Day, OutOfMemory};
 use std::alloc::Global;
 use std::io::Write;
 
-/// Writes seven lines that show the record: its role, group, transaction, state, due date, how many of
-/// its messages are released and issued, and its marks.
+/// Writes seven lines that show the record: its role, group, transaction, state, due date, the numbers of its messages
+/// that are released and issued, and its marks.
 pub fn run_status<S: Store, W: Write>(
     alloc: Global,
     desk: &Desk1<S>,
@@ -36,7 +36,7 @@ pub fn run_status<S: Store, W: Write>(
     write_whole(writer, &lines)
 }
 
-/// Writes the seven lines of each transaction that a desk holds, in the order in which they were begun.
+/// Writes the seven lines of each transaction that `desk` holds, in the order in which they were begun.
 pub fn run_desk_status<S: Store, W: Write>(
     alloc: Global,
     desk: &Desk<S>,
@@ -48,7 +48,7 @@ pub fn run_desk_status<S: Store, W: Write>(
     run_desk_status_as(alloc, desk, Form::Lines, writer)
 }
 
-/// The same, in this form: an object of each transaction in place of the seven lines.
+/// Writes the seven lines of each transaction, or in place of them an object, by `form`.
 pub fn run_desk_status_as<S: Store, W: Write>(
     alloc: Global,
     desk: &Desk<S>,
@@ -63,7 +63,7 @@ pub fn run_desk_status_as<S: Store, W: Write>(
     write_whole(writer, &lines)
 }
 
-/// Adds the text of each side that a desk holds.
+/// Appends the text of each side that `desk` holds.
 fn push_desk<S: Store>(lines: &mut Vec<u8>, desk: &Desk<S>, form: Form) -> Result<(), OutOfMemory>
     ensures { OnOk result (lines.new.items ≡ lines.old.items ++ status_of_desk form desk.now.live.held) }
 {
@@ -73,7 +73,7 @@ fn push_desk<S: Store>(lines: &mut Vec<u8>, desk: &Desk<S>, form: Form) -> Resul
     Ok(())
 }
 
-/// Adds the text of the side at this place of a desk, if there is one.
+/// Appends the text of the side at `place` of `desk`, if there is one.
 fn push_status_at<S: Store>(
     lines: &mut Vec<u8>,
     desk: &Desk<S>,
@@ -90,7 +90,7 @@ fn push_status_at<S: Store>(
     }
 }
 
-/// Adds the text of a side.
+/// Appends the text of `side`.
 fn push_status_as(
     lines: &mut Vec<u8>,
     form: Form,
@@ -105,7 +105,7 @@ fn push_status_as(
     }
 }
 
-/// Adds the lines of a side.
+/// Appends the lines of `side`.
 #[tactic(auto, unfolding(crate::specs::Status::status_lines))]
 pub(crate) fn push_status(lines: &mut Vec<u8>, side: &Side, released: u8) -> Result<(), OutOfMemory>
     ensures { OnOk result (lines.new.items ≡ lines.old.items ++ status_lines side.now released) }
@@ -117,7 +117,7 @@ pub(crate) fn push_status(lines: &mut Vec<u8>, side: &Side, released: u8) -> Res
     push_marks(lines, side)
 }
 
-/// Adds the lines of the state and the due date, which is a dash where there is none.
+/// Appends the lines of the state and the due date: a dash, if there is none.
 fn push_state_and_due(lines: &mut Vec<u8>, side: &Side) -> Result<(), OutOfMemory>
     ensures { OnOk result (lines.new.items ≡ lines.old.items
         ++ (line (codes "state") (state_name (state_of side.now))
@@ -127,7 +127,7 @@ fn push_state_and_due(lines: &mut Vec<u8>, side: &Side) -> Result<(), OutOfMemor
     push_day_or_dash(lines, "due", side.due())
 }
 
-/// Adds the line of a day, which is a dash where there is none.
+/// Appends the line of `day`: a dash, if there is none.
 pub(crate) fn push_day_or_dash(
     lines: &mut Vec<u8>,
     label: &str,
@@ -141,7 +141,7 @@ pub(crate) fn push_day_or_dash(
     }
 }
 
-/// Adds the line of how many messages are released and issued, as `1/2`.
+/// Appends the line of the numbers of messages that are released and issued, as `1/2`.
 fn push_counts(lines: &mut Vec<u8>, side: &Side, released: u8) -> Result<(), OutOfMemory>
     ensures { OnOk result (lines.new.items ≡ lines.old.items
         ++ line (codes "messages") (counts_text side.now released)) }
@@ -151,7 +151,7 @@ fn push_counts(lines: &mut Vec<u8>, side: &Side, released: u8) -> Result<(), Out
     push_line(lines, "messages", counts.as_bytes())
 }
 
-/// Adds the line of the marks, which is a dash where none holds.
+/// Appends the line of the marks: a dash, if none holds.
 fn push_marks(lines: &mut Vec<u8>, side: &Side) -> Result<(), OutOfMemory>
     ensures { OnOk result (lines.new.items ≡ lines.old.items
         ++ line (codes "marks") (spaced_or_dash (marks_of side.now))) }
@@ -160,7 +160,7 @@ fn push_marks(lines: &mut Vec<u8>, side: &Side) -> Result<(), OutOfMemory>
     push_words(lines, "marks", &marks)
 }
 
-/// Adds the line of words, which is a dash where there are none.
+/// Appends the line of `words`: a dash, if there are none.
 pub(crate) fn push_words(
     lines: &mut Vec<u8>,
     label: &str,
@@ -176,7 +176,7 @@ pub(crate) fn push_words(
     push_line(lines, label, text.as_bytes())
 }
 
-/// The name of a role.
+/// Returns the name of `role`.
 pub(crate) fn role_name(role: Role) -> &'static str
     ensures { result.now ≡ role_name role }
 {
@@ -186,7 +186,7 @@ pub(crate) fn role_name(role: Role) -> &'static str
     }
 }
 
-/// The marks of a side that hold.
+/// Returns the marks of `side` that hold.
 pub(crate) fn marks<'a>(alloc: Global, side: &Side) -> Result<Vec<&'a str>, OutOfMemory>
     ensures { IfOk result (λ marks. map (λ mark. mark.now) marks.items ≡ marks_of side.now) }
 {
@@ -204,7 +204,7 @@ pub(crate) fn marks<'a>(alloc: Global, side: &Side) -> Result<Vec<&'a str>, OutO
     Ok(marks)
 }
 
-/// Adds a mark, if it holds.
+/// Appends the mark `word`, if it holds.
 fn push_mark<'a>(marks: &mut Vec<&'a str>, holds: bool, word: &'a str) -> Result<(), OutOfMemory>
     ensures { OnOk result (map (λ mark. mark.now) marks.new.items
         ≡ map (λ mark. mark.now) marks.old.items ++ mark holds word.now) }

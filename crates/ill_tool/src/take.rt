@@ -21,13 +21,13 @@ use ill_world::{DeskOutcome, Outcome};
 use std::alloc::Global;
 use std::io::{Read, Sink, Write, sink};
 
-/// Takes each APDU of the input, up to its end, and writes a line of what each did and how the side
-/// stands after it. One that was taken is saved before its line is written; no other saves. It answers
-/// whether none was refused or in conflict.
+/// Takes each APDU of the input, up to its end. For each it writes a line of its outcome and of how the side stands. An
+/// APDU that was taken is saved before its line is written; no other saves. Returns true if none was refused or in
+/// conflict.
 ///
-/// If an APDU is faulty, there are too many, the reader fails or memory runs out, those before were
-/// taken, saved and told. If a save fails, its APDU is taken in memory, and what that issued may not be
-/// sent. If the writer fails, what was saved stays so.
+/// If an APDU is faulty or one too many, those before were taken and saved, and their lines written. So were they if
+/// the reader fails or memory runs out. If a save fails, its APDU is taken in memory. A message that it has issued may
+/// not be sent. If the writer fails, the saved record stays.
 pub fn run_take<S: Store, R: Read, W: Write>(
     alloc: Global,
     desk: &mut Desk1<S>,
@@ -42,9 +42,9 @@ pub fn run_take<S: Store, R: Read, W: Write>(
     take_on::<Desk1<S>, Sink, R, W, false, false>(alloc, desk, &mut sink(), reader, writer)
 }
 
-/// The same, at a desk: each APDU is for the side of its own transaction, whose line is written. Where it is not
-/// held and the APDU does not begin it, `no-such-transaction` is written, and where no more can be held,
-/// `desk-full`; both are refusals, behind which the next APDU is taken.
+/// Takes each APDU of the input at `desk`, as `run_take` does. Each is for the side of its own transaction, whose line
+/// is written. If that is not held and the APDU does not begin it, it writes `no-such-transaction`. If the desk has no
+/// room for it, it writes `desk-full`. Both are refusals, after which it takes the next APDU.
 pub fn run_desk_take<S: Store, R: Read, W: Write>(
     alloc: Global,
     desk: &mut Desk<S>,
@@ -59,8 +59,9 @@ pub fn run_desk_take<S: Store, R: Read, W: Write>(
     take_on::<Desk<S>, Sink, R, W, false, false>(alloc, desk, &mut sink(), reader, writer)
 }
 
-/// The same, and each line tells which message it was, as `GROUP TRANSACTION TYPE NUMBER OUTCOME STATE DUE
-/// RELEASED/ISSUED`. Behind it stand the lines of its further fields, each after two spaces.
+/// Takes each APDU of the input as `run_take` does. Each line has the heading of the message: `GROUP TRANSACTION TYPE
+/// NUMBER OUTCOME STATE DUE RELEASED/ISSUED`. After it stand the lines of its further fields, each with two spaces
+/// before it.
 pub fn run_long_take<S: Store, R: Read, W: Write>(
     alloc: Global,
     desk: &mut Desk1<S>,
@@ -75,7 +76,7 @@ pub fn run_long_take<S: Store, R: Read, W: Write>(
     take_on::<Desk1<S>, Sink, R, W, true, false>(alloc, desk, &mut sink(), reader, writer)
 }
 
-/// `run_desk_take`, told as `run_long_take` tells.
+/// Takes each APDU of the input as `run_desk_take` does, and writes the lines of `run_long_take`.
 pub fn run_desk_long_take<S: Store, R: Read, W: Write>(
     alloc: Global,
     desk: &mut Desk<S>,
@@ -90,9 +91,9 @@ pub fn run_desk_long_take<S: Store, R: Read, W: Write>(
     take_on::<Desk<S>, Sink, R, W, true, false>(alloc, desk, &mut sink(), reader, writer)
 }
 
-/// `run_desk_long_take`, or `run_desk_take`, that keeps each message which was taken: its bytes are written to `came`,
-/// and flushed there, before that it was taken is saved. A message that is kept but not saved comes to be kept twice,
-/// when it is taken again; none that is saved is lost.
+/// Takes each APDU of the input as `run_desk_long_take` or `run_desk_take` does, and keeps each that was taken. Its
+/// bytes are written to `came`, and flushed there, before the desk is saved. A message that is kept but not saved is
+/// kept twice when it is taken again. No saved message is lost.
 ///
 /// If a message cannot be kept, that is a failure of the store: it is taken in memory, and not saved.
 pub fn run_desk_kept_take<S: Store, F: Write, R: Read, W: Write>(
@@ -115,7 +116,7 @@ pub fn run_desk_kept_take<S: Store, F: Write, R: Read, W: Write>(
     }
 }
 
-/// The same, on the sides of what keeps them.
+/// Takes each APDU of the input at `keeper`. With `KEEP` it keeps each that was taken in `came`.
 fn take_on<K: Keeper, F: Write, R: Read, W: Write, const LONG: bool, const KEEP: bool>(
     alloc: Global,
     keeper: &mut K,
@@ -138,7 +139,7 @@ fn take_on<K: Keeper, F: Write, R: Read, W: Write, const LONG: bool, const KEEP:
     take_input(alloc, &mut taken, reader, writer)
 }
 
-/// The same, on a keeper that is lent, before the first APDU.
+/// Takes each APDU of the input with `taken`, which has taken none yet.
 fn take_input<K: Keeper, F: Write, R: Read, W: Write, const LONG: bool, const KEEP: bool>(
     alloc: Global,
     taken: &mut Counted<TakesEach<'_, '_, K, F, LONG, KEEP>>,
@@ -163,8 +164,8 @@ fn take_input<K: Keeper, F: Write, R: Read, W: Write, const LONG: bool, const KE
     }
 }
 
-/// Takes each APDU on the keeper that is lent, keeps it where messages are kept, tells of it in long words or short
-/// ones, and keeps in mind whether all went well.
+/// Takes each APDU at a keeper, and keeps it if messages are kept. It writes long lines or short ones, and remembers if
+/// all went well.
 #[derive(Drop)]
 struct TakesEach<'a, 'b, K: Keeper, F: Write, const LONG: bool, const KEEP: bool> {
     keeper: &'a mut K,
@@ -173,7 +174,7 @@ struct TakesEach<'a, 'b, K: Keeper, F: Write, const LONG: bool, const KEEP: bool
 }
 
 impl<K: Keeper, F: Write, const LONG: bool, const KEEP: bool> TakesEach<'_, '_, K, F, LONG, KEEP> {
-    /// Takes an APDU, which was read as this view, saves it if it was taken, and tells of it.
+    /// Takes `apdu`, which was read as `read`, saves it if it was taken, and writes its line.
     fn take_and_tell<W: Write>(
         &mut self,
         alloc: Global,
@@ -239,7 +240,7 @@ impl<K: Keeper, F: Write, W: Write, const LONG: bool, const KEEP: bool> Handler<
     }
 }
 
-/// Takes an APDU and, if it was taken, keeps it where messages are kept, and then saves that.
+/// Takes `apdu`. If it was taken, it keeps it if messages are kept, and then saves.
 fn take_and_save<K: Keeper, F: Write, const KEEP: bool>(
     alloc: Global,
     keeper: &mut K,
@@ -266,7 +267,7 @@ fn take_and_save<K: Keeper, F: Write, const KEEP: bool>(
     }
 }
 
-/// Keeps a message that was taken, where messages are kept, and then saves that it was.
+/// Keeps `apdu`, which was taken, if messages are kept, and then saves.
 fn keep_and_save<K: Keeper, F: Write, const KEEP: bool>(
     alloc: Global,
     keeper: &mut K,
@@ -291,7 +292,7 @@ fn keep_and_save<K: Keeper, F: Write, const KEEP: bool>(
     }
 }
 
-/// Keeps a message: its bytes are written and flushed.
+/// Keeps the message `apdu`: its bytes are written and flushed.
 fn keep<F: Write>(alloc: Global, came: &mut F, apdu: &Apdu) -> Result<(), ToolFault>
     ensures { KeepsFront (spelling apdu.now) (F.contents came.old) (F.contents came.new) result }
 {
@@ -299,7 +300,7 @@ fn keep<F: Write>(alloc: Global, came: &mut F, apdu: &Apdu) -> Result<(), ToolFa
     keep_bytes(came, &bytes)
 }
 
-/// Keeps bytes of messages: they are written and flushed.
+/// Keeps `bytes` of messages: they are written and flushed.
 pub(crate) fn keep_bytes<F: Write>(came: &mut F, bytes: &[u8]) -> Result<(), ToolFault>
     ensures { KeepsFront bytes.now (F.contents came.old) (F.contents came.new) result }
 {

@@ -44,7 +44,7 @@ pub fn take_on_shelf<T: LockFiles, R: Read, W: Write>(
     }
 }
 
-/// Takes each APDU at the desk of its group, and keeps in mind if all went well.
+/// Takes each APDU at the desk of its group, and remembers if all went well.
 #[derive(Drop)]
 struct TakesHome<'a, T: LockFiles> {
     rt: &'a T,
@@ -96,7 +96,7 @@ impl<T: LockFiles, W: Write> Handler<W> for TakesHome<'_, T> {
     }
 }
 
-/// Returns the bytes of an APDU.
+/// Returns the bytes of `apdu`.
 fn spelled(alloc: Global, apdu: &ApduView<'_>) -> Result<Vec<u8>, OutOfMemory>
     ensures { IfOk result (λ bytes. bytes.items ≡ spelling apdu.now) }
 {
@@ -104,8 +104,8 @@ fn spelled(alloc: Global, apdu: &ApduView<'_>) -> Result<Vec<u8>, OutOfMemory>
     encode(alloc, &apdu)
 }
 
-/// Returns the path of the desk for an APDU. That of a new group is made for an ILL-Request at a responder's shelf. A
-/// retired group has none, and neither has one whose desk is lost. The APDUs of other groups are for the shelf's own
+/// Returns the path of the desk for `apdu`. The desk of a new group is made for an ILL-Request at a responder's shelf.
+/// A retired group has none, and neither has one whose desk is lost. The APDUs of other groups are for the shelf's own
 /// desk.
 fn desk_for<T: LockFiles>(
     rt: &T,

@@ -1,4 +1,4 @@
-//! How many mails have come to what, and what a run answers by that.
+//! The counts of mails by their verdicts, and the ending of a run by them.
 
 ghost use Rattle.std.specs.Prelude.{◌≡◌, ◌++◌, OnOk};
 ghost use Rattle.ill_world.specs.declared.event.Outcome.TheVariants as outcomes;
@@ -27,11 +27,11 @@ pub(crate) enum Heap {
     Unknown,
     /// Those that are put aside.
     Aside,
-    /// Those that stay where they are.
+    /// Those that stay in their folder.
     Left,
 }
 
-/// How many mails are on each heap.
+/// The number of mails on each heap.
 #[derive(Clone, Copy, Debug, PartialEq, Eq, Hash)]
 pub(crate) struct Tally {
     pub taken: usize,
@@ -44,7 +44,7 @@ pub(crate) struct Tally {
 }
 
 impl Heap {
-    /// The heap of a mail.
+    /// Returns the heap of a mail.
     fn of(verdict: Verdict) -> Heap
         ensures { result ≡ heap_of verdict }
     {
@@ -56,7 +56,7 @@ impl Heap {
         }
     }
 
-    /// The heap of a mail whose message did this.
+    /// Returns the heap of a mail whose message had this outcome.
     fn of_taking(taking: Taking) -> Heap
         ensures { result ≡ heap_of (verdicts.Done (seen.Plain (outcomes.Answered taking))) }
     {
@@ -75,7 +75,7 @@ impl Heap {
         self == Heap::of(verdict)
     }
 
-    /// Counts the mails that are on this heap.
+    /// Returns the number of mails that are on this heap.
     fn count(self, verdicts: &[Verdict]) -> usize
         ensures { result ≡ count_on self verdicts.now }
     {
@@ -87,7 +87,7 @@ impl Heap {
 }
 
 impl Tally {
-    /// The counts of these mails.
+    /// Returns the counts of the mails with these verdicts.
     pub(crate) fn of(verdicts: &[Verdict]) -> Tally
         ensures { result ≡ tally_of verdicts.now }
     {
@@ -102,7 +102,7 @@ impl Tally {
         }
     }
 
-    /// Answers if nothing wants a person, or that mails wait for the next run.
+    /// Returns the fault that mails wait for the next run, if they do; else true if nothing wants a person.
     pub(crate) fn ending(&self, waiting: usize) -> Result<bool, ToolFault>
         ensures { result ≡ ending self.now waiting }
     {
@@ -120,7 +120,7 @@ impl Tally {
     }
 }
 
-/// Adds the line of counts, with how many further mails wait.
+/// Appends the line of counts, with the number of further mails that wait.
 pub(crate) fn push_tally(
     lines: &mut Vec<u8>,
     tally: &Tally,
@@ -132,7 +132,7 @@ pub(crate) fn push_tally(
     push_staying(lines, tally, waiting)
 }
 
-/// Adds the counts of the mails that are done.
+/// Appends the counts of the mails that are done.
 #[tactic(auto, unfolding(crate::specs::Inbox::done_text))]
 fn push_done(lines: &mut Vec<u8>, tally: &Tally) -> Result<(), OutOfMemory>
     ensures { OnOk result (lines.new.items ≡ lines.old.items ++ done_text tally.now) }
@@ -152,7 +152,7 @@ fn push_done(lines: &mut Vec<u8>, tally: &Tally) -> Result<(), OutOfMemory>
     Ok(())
 }
 
-/// Adds the counts of the mails that stay, and of those that wait.
+/// Appends the counts of the mails that stay, and of those that wait.
 #[tactic(auto, unfolding(crate::specs::Inbox::staying_text))]
 fn push_staying(lines: &mut Vec<u8>, tally: &Tally, waiting: usize) -> Result<(), OutOfMemory>
     ensures { OnOk result (lines.new.items ≡ lines.old.items ++ staying_text tally.now waiting) }

@@ -1,4 +1,4 @@
-//! What becomes of a mail, and the words of it.
+//! The verdict of a mail, and the words of it.
 
 ghost use Rattle.std.specs.Prelude.{◌≡◌, ◌++◌, codes, OnOk};
 ghost use Rattle.ill_tool.specs.declared.verdict.Unfit.TheVariants as unfits;
@@ -24,7 +24,7 @@ pub struct Mail {
 }
 
 impl Mail {
-    /// The digest of the bytes that were read of it, in hexadecimal.
+    /// Returns the digest of the bytes that were read of it, in hexadecimal.
     pub(crate) fn digest(&self, alloc: Global) -> Result<String, OutOfMemory> {
         let mut hasher = Sha256::new();
         if let Some(bytes) = &self.bytes {
@@ -34,20 +34,20 @@ impl Mail {
     }
 }
 
-/// Why no desk will ever take a mail.
+/// The reason that no desk will ever take a mail.
 #[derive(Clone, Copy, Debug, PartialEq, Eq, Hash)]
 pub enum Unfit {
     /// Its bytes are no message.
     NoMessage(DerFault),
     /// It has more bytes than a message.
     TooLong,
-    /// Further bytes stand behind its message.
+    /// Further bytes stand after its message.
     Trailing,
     /// The desk refuses its message for good.
     Refused(Refusal),
 }
 
-/// Why a mail waits for the next run.
+/// The reason that a mail waits for the next run.
 #[derive(Clone, Copy, Debug, PartialEq, Eq, Hash)]
 pub enum Delay {
     /// It cannot be read.
@@ -58,19 +58,19 @@ pub enum Delay {
     DeskFull,
 }
 
-/// What becomes of a mail.
+/// The verdict of a mail.
 #[derive(Clone, Copy, Debug, PartialEq, Eq, Hash)]
 pub enum Verdict {
-    /// The desk has done with it all that it will ever do: its file may go.
+    /// The desk has done with it all that it will ever do. Its file may go.
     Done(DeskOutcome),
     /// It is put aside, for a person.
     Aside(Unfit),
-    /// It stays where it is.
+    /// It stays in its folder.
     Left(Delay),
 }
 
 impl Verdict {
-    /// What becomes of a mail, by the role of the desk and what is seen of its message.
+    /// Returns the verdict of a mail, by the role of the desk and the outcome of its message.
     pub(crate) fn of(role: Role, outcome: DeskOutcome) -> Verdict
         ensures { result ≡ verdict_of role outcome }
     {
@@ -87,7 +87,7 @@ impl Verdict {
     }
 }
 
-/// Adds the line of a mail, by its name: none of one that is done.
+/// Appends the line of the mail `name`. A mail that is done has none.
 pub(crate) fn push_verdict(
     lines: &mut Vec<u8>,
     name: &[u8],
@@ -102,7 +102,7 @@ pub(crate) fn push_verdict(
     }
 }
 
-/// Adds the line of a mail that is put aside.
+/// Appends the line of the mail `name`, which is put aside.
 fn push_aside(lines: &mut Vec<u8>, name: &[u8], unfit: Unfit) -> Result<(), OutOfMemory>
     ensures { OnOk result (lines.new.items ≡ lines.old.items
         ++ stays_line name.now (codes " aside ") (unfit_text unfit)) }
@@ -114,7 +114,7 @@ fn push_aside(lines: &mut Vec<u8>, name: &[u8], unfit: Unfit) -> Result<(), OutO
     Ok(())
 }
 
-/// Adds the line of a mail that stays where it is.
+/// Appends the line of the mail `name`, which stays in its folder.
 fn push_left(lines: &mut Vec<u8>, name: &[u8], delay: Delay) -> Result<(), OutOfMemory>
     ensures { OnOk result (lines.new.items ≡ lines.old.items
         ++ stays_line name.now (codes " left ") (delay_text delay)) }
@@ -126,7 +126,7 @@ fn push_left(lines: &mut Vec<u8>, name: &[u8], delay: Delay) -> Result<(), OutOf
     Ok(())
 }
 
-/// Why a mail waits.
+/// Returns the word of the reason that a mail waits.
 fn delay_word(delay: Delay) -> &'static str
     ensures { result.now ≡ delay_text delay }
 {
@@ -137,7 +137,7 @@ fn delay_word(delay: Delay) -> &'static str
     }
 }
 
-/// Adds why no desk will ever take a mail.
+/// Appends the reason that no desk will ever take a mail.
 pub(crate) fn push_unfit(text: &mut Vec<u8>, unfit: Unfit) -> Result<(), OutOfMemory>
     ensures { OnOk result (text.new.items ≡ text.old.items ++ unfit_text unfit) }
 {
@@ -151,7 +151,7 @@ pub(crate) fn push_unfit(text: &mut Vec<u8>, unfit: Unfit) -> Result<(), OutOfMe
     }
 }
 
-/// Adds a word.
+/// Appends `word`.
 fn push_word(text: &mut Vec<u8>, word: &str) -> Result<(), OutOfMemory>
     ensures { OnOk result (text.new.items ≡ text.old.items ++ word.now) }
 {
@@ -159,7 +159,7 @@ fn push_word(text: &mut Vec<u8>, word: &str) -> Result<(), OutOfMemory>
     Ok(())
 }
 
-/// Adds a fault of bytes, with its place.
+/// Appends a fault of bytes, with its place.
 fn push_der_fault(text: &mut Vec<u8>, fault: DerFault) -> Result<(), OutOfMemory>
     ensures { OnOk result (text.new.items ≡ text.old.items ++ unfit_text (unfits.NoMessage fault)) }
 {
@@ -167,7 +167,7 @@ fn push_der_fault(text: &mut Vec<u8>, fault: DerFault) -> Result<(), OutOfMemory
     push_place(text, fault.at())
 }
 
-/// The word of a fault of bytes.
+/// Returns the word of a fault of bytes.
 fn der_word(fault: DerFault) -> &'static str
     ensures { result.now ≡ der_word fault }
 {
@@ -180,7 +180,7 @@ fn der_word(fault: DerFault) -> &'static str
     }
 }
 
-/// Adds the place of a fault of bytes, if it has one.
+/// Appends the place of a fault of bytes, if it has one.
 fn push_place(text: &mut Vec<u8>, place: Option<u16>) -> Result<(), OutOfMemory>
     ensures { OnOk result (text.new.items ≡ text.old.items ++ place_text place) }
 {

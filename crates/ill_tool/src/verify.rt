@@ -17,8 +17,8 @@ use ill_values::OutOfMemory;
 use std::alloc::Global;
 use std::io::Write;
 
-/// Writes what the record of a desk has that is in a store: five lines, which tell its version, its role, how many
-/// loans it has, how many messages these have issued, and for how many more loans there is room.
+/// Writes five lines of the record in `store`. They have its version, its role, and the number of its loans. Then come
+/// the number of messages that these have issued, and that of further loans for which there is room.
 ///
 /// Nothing is saved. A store without a record is `NoRecord`, and bytes that are none are `Saved`.
 pub fn run_desk_verify<S: Store, W: Write>(
@@ -37,7 +37,7 @@ pub fn run_desk_verify<S: Store, W: Write>(
     }
 }
 
-/// Writes what a record has that has these bytes.
+/// Writes the lines of the record that `bytes` are.
 fn verify_bytes<W: Write>(alloc: Global, bytes: &[u8], writer: &mut W) -> Result<(), ToolFault>
     ensures { Verifies bytes.now (records_at bytes.now)
         (W.contents writer.old) (W.contents writer.new) result }
@@ -48,7 +48,7 @@ fn verify_bytes<W: Write>(alloc: Global, bytes: &[u8], writer: &mut W) -> Result
     }
 }
 
-/// Writes what a record has that has these bytes, and spells these sides.
+/// Writes the lines of the record `bytes`, which has these sides.
 fn write_found<W: Write>(
     alloc: Global,
     bytes: &[u8],
@@ -63,7 +63,7 @@ fn write_found<W: Write>(
     write_whole(writer, &lines)
 }
 
-/// Adds what a record has that has these bytes, and spells these sides.
+/// Appends the lines of the record `bytes`, which has these sides.
 #[tactic(auto, unfolding(crate::specs::Verify::verify_lines))]
 fn push_found(lines: &mut Vec<u8>, bytes: &[u8], sides: &Sides) -> Result<(), OutOfMemory>
     ensures { OnOk result (lines.new.items ≡ lines.old.items ++ verify_lines bytes.now sides.now) }
@@ -77,7 +77,7 @@ fn push_found(lines: &mut Vec<u8>, bytes: &[u8], sides: &Sides) -> Result<(), Ou
     push_decimal(lines, "room", SIDES_LIMIT.saturating_sub(loans))
 }
 
-/// The version of a record that was read.
+/// Returns the version of a record that was read.
 fn version(bytes: &[u8]) -> &'static [u8]
     ensures { result.now ≡ version_of bytes.now }
 {
@@ -88,7 +88,7 @@ fn version(bytes: &[u8]) -> &'static [u8]
     }
 }
 
-/// Counts the messages that all sides have issued together.
+/// Returns the number of messages that all of `sides` have issued together.
 fn issued_by_all(sides: &[&Side]) -> usize
     requires few { length sides.now ≤ most_sides }
     ensures { result ≡ issued_by_all (map (λ side. side.now) sides.now) }

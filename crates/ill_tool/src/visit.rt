@@ -1,4 +1,5 @@
-//! What is done at each desk of a shelf, at one behind another. A desk at which it fails keeps no other from it.
+//! The visits of a command to the desks of a shelf, one after another. A failure at a desk keeps no other from its
+//! visit.
 
 ghost use Rattle.std.specs.Prelude.{◌≡◌, map, string_bytes};
 ghost use Rattle.ill_tool.specs.Listing.{heading};
@@ -17,7 +18,7 @@ use ill_saved::LockFiles;
 use std::alloc::Global;
 use std::io::Write;
 
-/// What is done at each desk of a shelf.
+/// A visit of a command to a desk of a shelf.
 #[derive(Clone, Copy)]
 pub(crate) enum Visit<'a> {
     /// Its loans are shown.
@@ -30,7 +31,7 @@ pub(crate) enum Visit<'a> {
     Exchange(Night<'a>),
 }
 
-/// Visits the desks at these paths, and returns the gravest of what they answer.
+/// Visits the desks at `paths`, and returns the gravest of their answers.
 pub(crate) fn visit_all<T: LockFiles, W: Write, E: Write>(
     rt: &T,
     alloc: Global,
@@ -65,7 +66,7 @@ pub(crate) fn graver(
     }
 }
 
-/// Visits a desk, behind the line of its path.
+/// Visits a desk, after the line of its path.
 fn visit_desk<T: LockFiles, W: Write, E: Write>(
     rt: &T,
     alloc: Global,
@@ -126,7 +127,7 @@ fn is_lines(form: Form) -> bool
     }
 }
 
-/// Visits a desk, and tells a person if that fails.
+/// Visits a desk, and writes a line to `errors` if that fails.
 fn visit_told<T: LockFiles, W: Write, E: Write>(
     rt: &T,
     alloc: Global,
@@ -147,7 +148,7 @@ fn visit_told<T: LockFiles, W: Write, E: Write>(
     answer
 }
 
-/// Does at a desk what is done at each.
+/// Runs the command of `visit` at a desk.
 fn run_visit<T: LockFiles, W: Write, E: Write>(
     rt: &T,
     alloc: Global,

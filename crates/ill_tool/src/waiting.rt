@@ -1,4 +1,4 @@
-//! The loans that wait for a library, on a day or on none, and the order in which they are to be seen to.
+//! The loans that wait for a library, on a day or on none, and their order by urgency.
 
 ghost use Rattle.std.specs.Prelude.{◌≡◌, map, is_none, IfOk};
 ghost use Rattle.ill_core.specs.ResponderActions.{expiry_of};
@@ -12,7 +12,7 @@ use ill_saved::{Side, Sides};
 use ill_values::{Body, Day, OutOfMemory};
 use std::alloc::Global;
 
-/// The due date of a loan, or else the last day of its request.
+/// Returns the due date of a loan, or else the last day of its request.
 pub(crate) fn deadline(side: &Side) -> Option<Day>
     ensures { result ≡ deadline_of side.now }
 {
@@ -22,7 +22,7 @@ pub(crate) fn deadline(side: &Side) -> Option<Day>
     }
 }
 
-/// The last day of the request of a loan.
+/// Returns the last day of the request of a loan.
 pub(crate) fn expiry(side: &Side) -> Option<Day>
     ensures { result ≡ expiry_of (request_of side.now) }
 {
@@ -32,7 +32,7 @@ pub(crate) fn expiry(side: &Side) -> Option<Day>
     }
 }
 
-/// The turn of a loan on a day, if one is said: a loan whose deadline is past waits for this library then.
+/// Returns the turn of a loan, on a day if one is said. A loan whose deadline is past then waits for this library.
 pub(crate) fn turn_on(today: Option<Day>, side: &Side) -> Turn
     ensures { result ≡ turn_on today side.now }
 {
@@ -42,8 +42,7 @@ pub(crate) fn turn_on(today: Option<Day>, side: &Side) -> Turn
     side.turn()
 }
 
-/// Tells if the deadline of a loan is past on the day, and this library can do something. In a loan that is
-/// over it cannot.
+/// Tells if the deadline of a loan is past on the day, and this library can act. In a loan that is over it cannot.
 fn is_pressing(today: Option<Day>, side: &Side) -> bool
     ensures { result ≡ is_pressing today side.now }
 {
@@ -53,7 +52,7 @@ fn is_pressing(today: Option<Day>, side: &Side) -> bool
     }
 }
 
-/// Tells if a deadline comes before another one, or before none.
+/// Tells if the deadline `day` comes before `other`. Any deadline comes before none.
 pub(crate) fn is_sooner(day: Option<Day>, other: Option<Day>) -> bool
     ensures { result ≡ is_sooner day other }
 {
@@ -63,8 +62,8 @@ pub(crate) fn is_sooner(day: Option<Day>, other: Option<Day>) -> bool
     }
 }
 
-/// All loans by their deadlines, those without one last. Of the same deadline those stand first that were
-/// begun first.
+/// Returns all loans by their deadlines, those without one last. Of loans with one deadline those begun first come
+/// first.
 pub(crate) fn most_urgent_first<'a>(
     alloc: Global,
     sides: &'a Sides,
@@ -77,7 +76,7 @@ pub(crate) fn most_urgent_first<'a>(
     Ok(ordered)
 }
 
-/// The key by which loans are sorted: those without a deadline come behind the others.
+/// Returns the key by which loans are sorted: those without a deadline come after the others.
 fn urgency(side: &Side) -> (bool, Option<Day>)
     ensures { result ≡ (is_none (deadline_of side.now), deadline_of side.now) }
 {

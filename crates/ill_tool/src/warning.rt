@@ -1,11 +1,11 @@
-//! Lines to a person, on standard error: each names a path, a mail or a desk, and says what is wrong with it.
+//! Lines to a person, on standard error: each names a path, a mail or a desk, and the fault.
 
 use crate::escape::push_escaped;
 use ill_values::OutOfMemory;
 use std::alloc::Global;
 use std::io::Write;
 
-/// Writes the line of a name, with a text behind it. If memory runs out, no line is written.
+/// Writes a line of `name` and `text`. If memory runs out, no line is written.
 pub(crate) fn warn<E: Write>(alloc: Global, name: &[u8], text: &str, errors: &mut E) {
     let mut line = Vec::new(alloc);
     if push_warning(&mut line, name, text).is_ok() {
@@ -13,7 +13,7 @@ pub(crate) fn warn<E: Write>(alloc: Global, name: &[u8], text: &str, errors: &mu
     }
 }
 
-/// Adds the line of a name, with a text behind it.
+/// Appends a line of `name` and `text`.
 fn push_warning(line: &mut Vec<u8>, name: &[u8], text: &str) -> Result<(), OutOfMemory> {
     push_name(line, name)?;
     line.extend_from_slice(text.as_bytes())?;
@@ -21,7 +21,7 @@ fn push_warning(line: &mut Vec<u8>, name: &[u8], text: &str) -> Result<(), OutOf
     Ok(())
 }
 
-/// Adds the beginning of each line to a person: the program, and a name.
+/// Appends the beginning of each line to a person: the program, and `name`.
 pub(crate) fn push_name(line: &mut Vec<u8>, name: &[u8]) -> Result<(), OutOfMemory> {
     line.extend_from_slice(b"ill: ")?;
     push_escaped(line, name)?;

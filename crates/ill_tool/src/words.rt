@@ -26,10 +26,10 @@ use ill_saved::{DeskFault, LockFiles};
 use std::alloc::Global;
 use std::io::{BufWriter, Cursor, Read, Write};
 
-/// Performs one command line, whose first word is the program's name, and answers the exit status.
+/// Performs one command line, and returns the exit status. The first word is the name of the program.
 ///
-/// The line of a fault is written to `errors`, whose own faults are passed over, and with `--explain` further
-/// lines behind it. What was written to `writer` before a fault is flushed before that line.
+/// The line of a fault is written to `errors`, and with `--explain` further lines after it. Faults of `errors` are
+/// ignored. Bytes that were written to `writer` before a fault are flushed before that line.
 pub fn run_words<T: LockFiles, R: Read, W: Write, E: Write>(
     rt: &T,
     alloc: Global,
@@ -54,8 +54,8 @@ pub fn run_words<T: LockFiles, R: Read, W: Write, E: Write>(
     }
 }
 
-/// Writes the line of a fault, if there is one, and behind it why, if the words ask for that. It answers the exit
-/// status.
+/// Writes the line of a fault, if there is one. After it comes the reason, if the words ask for that. It returns the
+/// exit status.
 fn conclude<T: LockFiles, E: Write>(
     rt: &T,
     alloc: Global,
@@ -73,11 +73,11 @@ fn conclude<T: LockFiles, E: Write>(
     status
 }
 
-/// How many bytes the buffer has that stands between a command and its output.
+/// The number of bytes of the buffer between a command and its output.
 const BUFFER: usize = 65_536;
 
-/// Performs a command, with a buffer round the writer, and answers whether all went well. The commands
-/// read pieces themselves.
+/// Performs a command, with a buffer round the writer, and returns true if all went well. The commands read pieces
+/// themselves.
 fn perform<T: LockFiles, R: Read, W: Write, E: Write>(
     rt: &T,
     alloc: Global,
@@ -96,8 +96,8 @@ fn perform<T: LockFiles, R: Read, W: Write, E: Write>(
     finish_writing(writer, done)
 }
 
-/// Writes what is left in the buffer, and answers what was done. A writer that has failed is not tried
-/// again, so what is left then is dropped.
+/// Writes the bytes that are left in the buffer, and returns `done`, or the fault that the writer fails. A writer that
+/// has failed is not tried again: bytes that are left then are dropped.
 fn finish_writing<W: Write>(
     mut writer: BufWriter<&mut W>,
     done: Result<bool, ToolFault>,
@@ -107,7 +107,7 @@ fn finish_writing<W: Write>(
     flushed
 }
 
-/// Flushes a writer that has not failed, and answers what was done, or that the writer fails.
+/// Flushes a writer that has not failed, and returns `done`, or the fault that the writer fails.
 fn flush<W: Write>(writer: &mut W, done: Result<bool, ToolFault>) -> Result<bool, ToolFault>
     ensures { IsFlushed done result }
 {
@@ -120,7 +120,7 @@ fn flush<W: Write>(writer: &mut W, done: Result<bool, ToolFault>) -> Result<bool
     }
 }
 
-/// Runs the engine of a command. What is to be told that is no fault goes to `errors`.
+/// Runs the engine of a command. Lines that are no faults go to `errors`.
 fn run<T: LockFiles, R: Read, W: Write, E: Write>(
     rt: &T,
     alloc: Global,
@@ -232,7 +232,7 @@ fn run_on_shelf<T: LockFiles, R: Read, W: Write, E: Write>(
     }
 }
 
-/// Writes clap's text: help that was asked for to `writer`, and a refusal to `errors`.
+/// Writes clap's text, and returns the exit status: help that was asked for goes to `writer`, a refusal to `errors`.
 fn tell<W: Write, E: Write>(error: &Error, writer: &mut W, errors: &mut E) -> u8
     ensures { result ≤ 3 }
 {
@@ -246,6 +246,7 @@ fn tell<W: Write, E: Write>(error: &Error, writer: &mut W, errors: &mut E) -> u8
     finish(help(error, writer), errors)
 }
 
+/// Writes the help that was asked for, and flushes it.
 fn help<W: Write>(error: &Error, writer: &mut W) -> Result<bool, ToolFault> {
     write!(writer, "{error}").map_err(|_| ToolFault::Write)?;
     writer.flush().map_err(|_| ToolFault::Write)?;
@@ -258,10 +259,10 @@ const REFUSED: u8 = 1;
 /// The exit status after words, input or a record that are none.
 const BAD: u8 = 2;
 
-/// The exit status where the machine could not do what was asked.
+/// The exit status if the machine could not do the command.
 const FAILED: u8 = 3;
 
-/// Writes the line of a fault, if there is one, and answers the exit status.
+/// Writes the line of a fault, if there is one, and returns the exit status.
 fn finish<E: Write>(outcome: Result<bool, ToolFault>, errors: &mut E) -> u8
     ensures status { result ≡ exit_status outcome }
     ensures most { result ≤ 3 }
@@ -279,8 +280,8 @@ fn finish<E: Write>(outcome: Result<bool, ToolFault>, errors: &mut E) -> u8
 /// The most bytes of the line of a fault.
 const FAULT_LINE: usize = 64;
 
-/// Writes the line of a fault in one piece, so that no other program's line comes to stand within it.
-/// It takes no memory, since there may be none.
+/// Writes the line of a fault in one piece, so that no other program's line comes to stand within it. It allocates
+/// nothing, since there may be no memory.
 fn write_fault<E: Write>(fault: ToolFault, errors: &mut E) {
     let mut line = Cursor::new([0; FAULT_LINE]);
     let _ = writeln!(line, "ill: {fault}");
@@ -288,7 +289,7 @@ fn write_fault<E: Write>(fault: ToolFault, errors: &mut E) {
     let _ = errors.write_all(line.get_ref().get(..size).unwrap_or_default());
 }
 
-/// The exit status after a fault.
+/// Returns the exit status after `fault`.
 fn status_after(fault: ToolFault) -> u8
     ensures status { result ≡ status_of fault }
     ensures most { result ≤ 3 }
@@ -300,7 +301,7 @@ fn status_after(fault: ToolFault) -> u8
     }
 }
 
-/// The exit status after a fault of a side or its record.
+/// Returns the exit status after a fault of a side or its record.
 fn status_after_desk(fault: DeskFault) -> u8
     ensures status { result ≡ desk_status fault }
     ensures most { result ≤ 3 }

@@ -1,4 +1,4 @@
-//! What is wrong in the words of an action.
+//! The lines on an action whose words are wrong.
 
 use crate::command_line::Argument;
 use crate::explain::arguments::tell_no_day;
@@ -11,8 +11,8 @@ use ill_values::{Day, Item, OutOfMemory, TextFault};
 use std::alloc::Global;
 use std::rt::Files;
 
-/// Adds what is wrong in the words of `ill act`, as the role of the desk has them. Nothing is added where the desk
-/// cannot be opened again.
+/// Appends the lines on the words of `ill act` that are wrong for the role of the desk. If the desk cannot be opened
+/// again, it appends nothing.
 pub fn tell_action<T: Files>(
     rt: &T,
     alloc: Global,
@@ -32,14 +32,14 @@ pub fn tell_action<T: Files>(
     }
 }
 
-/// The role of the desk in a file, if one can be opened there.
+/// Returns the role of the desk in `file`, if one can be opened there.
 fn role_at<T: Files>(rt: &T, alloc: Global, file: &str) -> Option<Role> {
     let store = FileStore::at(rt, alloc, file, RECORD_LIMIT).ok()?;
     let desk = Desk::start(alloc, store).ok()?;
     Some(desk.sides().role())
 }
 
-/// Adds what is wrong in words that are no action of this role.
+/// Appends the lines on words that are no action of this role.
 fn tell_words(
     alloc: Global,
     text: &mut String,
@@ -65,7 +65,7 @@ fn tell_words(
     }
 }
 
-/// Adds a line on a word that no action may have.
+/// Appends a line on a word that no action may have.
 fn tell_no_word(text: &mut String, word: &str) -> Result<(), OutOfMemory> {
     let shown = Shown::of(word);
     if word.is_empty() {
@@ -77,7 +77,7 @@ fn tell_no_word(text: &mut String, word: &str) -> Result<(), OutOfMemory> {
     )
 }
 
-/// Adds a line on a word that is no verb, and which verb is near or what verbs there are.
+/// Appends a line on a word that is no verb, with the nearest verb or all verbs of the role.
 fn tell_no_verb(
     alloc: Global,
     text: &mut String,
@@ -94,7 +94,7 @@ fn tell_no_verb(
     }
 }
 
-/// Adds a line on a verb that only the other role has, and what verbs this one has.
+/// Appends a line on a verb that only the other role has, and the verbs of this one.
 fn tell_other_role(text: &mut String, role: Role, form: Form) -> Result<(), OutOfMemory> {
     let verb = form.verb;
     let other = role_name(form.role);
@@ -106,7 +106,7 @@ fn tell_other_role(text: &mut String, role: Role, form: Form) -> Result<(), OutO
     tell_verbs(text, role)
 }
 
-/// Adds a line with the verbs of a role.
+/// Appends a line with the verbs of `role`.
 fn tell_verbs(text: &mut String, role: Role) -> Result<(), OutOfMemory> {
     let name = role_name(role);
     write!(text, "  The verbs of a {name}: ")?;
@@ -115,7 +115,7 @@ fn tell_verbs(text: &mut String, role: Role) -> Result<(), OutOfMemory> {
     writeln!(text, ".")
 }
 
-/// Adds that the day of a responder's action is missing, or stands behind its verb.
+/// Appends that the day of a responder's action is missing, or stands after its verb.
 fn tell_no_today(text: &mut String, form: Form, parts: &[&str]) -> Result<(), OutOfMemory> {
     let verb = form.verb;
     writeln!(
@@ -131,7 +131,7 @@ fn tell_no_today(text: &mut String, form: Form, parts: &[&str]) -> Result<(), Ou
     Ok(())
 }
 
-/// Adds what is wrong in what stands behind a verb.
+/// Appends the lines on the parts after a verb that are wrong.
 fn tell_parts(
     alloc: Global,
     text: &mut String,
@@ -152,7 +152,7 @@ fn tell_parts(
     }
 }
 
-/// Adds which part behind a verb is wrong, of as many as there should be.
+/// Appends the lines on the part after a verb that is wrong. The number of parts is right.
 fn tell_part(
     alloc: Global,
     text: &mut String,
@@ -177,13 +177,13 @@ fn tell_part(
     }
 }
 
-/// Adds that a part is neither yes nor no.
+/// Appends that `part` is neither yes nor no.
 fn tell_neither(text: &mut String, form: Form, part: &str) -> Result<(), OutOfMemory> {
     let shown = Shown::of(part);
     writeln!(text, "  {shown} is neither yes nor no: the form is {form}.")
 }
 
-/// Adds that a part is no result, and what results there are.
+/// Appends that `part` is no result, and all results.
 fn tell_no_result(text: &mut String, part: &str) -> Result<(), OutOfMemory> {
     let shown = Shown::of(part);
     writeln!(text, "  {shown} is no result.")?;
@@ -193,7 +193,7 @@ fn tell_no_result(text: &mut String, part: &str) -> Result<(), OutOfMemory> {
     )
 }
 
-/// Adds that a part is neither a day nor none.
+/// Appends that `part` is neither a day nor none.
 fn tell_no_wish(text: &mut String, form: Form, part: &str) -> Result<(), OutOfMemory> {
     if let Err(fault) = Day::read(part.as_bytes()) {
         tell_no_day(text, part, fault)?;
@@ -201,7 +201,7 @@ fn tell_no_wish(text: &mut String, form: Form, part: &str) -> Result<(), OutOfMe
     writeln!(text, "  `none` stands for no day: the form is {form}.")
 }
 
-/// Adds why a part is no day on which something is due.
+/// Appends why `part` is no day on which an item may be due.
 fn tell_no_due(
     text: &mut String,
     form: Form,
@@ -222,7 +222,7 @@ fn tell_no_due(
     }
 }
 
-/// Adds why no day is so many days after today.
+/// Appends why `part` names no day: its digits are wrong, or it leads past the calendar.
 fn tell_no_days(
     text: &mut String,
     today: Option<Day>,
@@ -243,7 +243,7 @@ fn tell_no_days(
     )
 }
 
-/// Adds what is wrong in a grant.
+/// Appends the lines on a grant that is wrong.
 fn tell_grant(
     text: &mut String,
     form: Form,
@@ -262,7 +262,7 @@ fn tell_grant(
     }
 }
 
-/// Adds why words are no item.
+/// Appends why `words` are no item.
 fn tell_item(alloc: Global, text: &mut String, words: &[&str]) -> Result<(), OutOfMemory> {
     let item = words.join(alloc, " ")?;
     match Item::new(alloc, item.as_bytes()) {
@@ -276,7 +276,7 @@ fn tell_item(alloc: Global, text: &mut String, words: &[&str]) -> Result<(), Out
     }
 }
 
-/// Adds which byte of an item is a control character.
+/// Appends the place of the first byte of `item` that is a control character.
 fn tell_control(text: &mut String, item: &str) -> Result<(), OutOfMemory> {
     let shown = Shown::of(item);
     for (place, byte) in (1_u64..).zip(item.bytes()) {

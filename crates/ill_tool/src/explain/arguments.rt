@@ -1,4 +1,4 @@
-//! Which argument of a command is none, and what it should be.
+//! The lines on arguments that are wrong, with what each should be.
 
 use crate::command_line::{Argument, Name};
 use crate::explain::action::tell_action;
@@ -11,7 +11,8 @@ use ill_values::{Day, DayFault, OutOfMemory, TextFault, TxnId};
 use ill_world::words::{number, who};
 use std::alloc::Global;
 
-/// Adds a line for each argument of a command that is none; where all are right, what is wrong in its action.
+/// Appends a line for each argument of a command that is wrong. If each is right alone, it appends the lines on all
+/// together.
 pub fn tell_arguments<T: LockFiles>(
     rt: &T,
     alloc: Global,
@@ -30,7 +31,7 @@ pub fn tell_arguments<T: LockFiles>(
     Ok(())
 }
 
-/// Adds what is wrong in arguments of which each is right alone.
+/// Appends the lines on arguments that are wrong together, while each is right alone.
 fn tell_together<T: LockFiles>(
     rt: &T,
     alloc: Global,
@@ -52,7 +53,7 @@ fn tell_together<T: LockFiles>(
     }
 }
 
-/// Adds a line on an argument, if it is none.
+/// Appends a line on `argument`, if it is wrong.
 fn tell_argument(
     alloc: Global,
     text: &mut String,
@@ -74,6 +75,7 @@ fn tell_argument(
     }
 }
 
+/// Appends a line on a role, if it is none.
 fn tell_role(text: &mut String, word: &str) -> Result<(), OutOfMemory> {
     if who(word.as_bytes()).is_some() {
         return Ok(());
@@ -164,6 +166,7 @@ fn tell_state(alloc: Global, text: &mut String, word: &str) -> Result<(), OutOfM
     }
 }
 
+/// Appends a line on the number of a message, if it is none.
 fn tell_number(text: &mut String, word: &str) -> Result<(), OutOfMemory> {
     if number(word.as_bytes()).is_some() {
         return Ok(());

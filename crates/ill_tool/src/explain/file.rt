@@ -1,4 +1,4 @@
-//! What is wrong with the file of a desk.
+//! The lines on the file of a desk with which something is wrong.
 
 use crate::came::CAME;
 use crate::command_line::Argument;
@@ -20,10 +20,10 @@ const LOCK: &str = ".lck";
 /// The endings of the names of files that are the program's own.
 const RESERVED: [&str; 2] = [".new", LOCK];
 
-/// How many bytes at the front of a record say what it is.
+/// The number of bytes that begin each record and tell its version.
 const MARK: u32 = 4;
 
-/// Adds what a fault of a desk comes from.
+/// Appends the cause of a fault of a desk.
 pub fn tell_desk_fault<T: LockFiles>(
     rt: &T,
     alloc: Global,
@@ -39,7 +39,7 @@ pub fn tell_desk_fault<T: LockFiles>(
     tell_fault_at(rt, alloc, text, path, has_mails(matches), fault)
 }
 
-/// Adds what a fault of the desk in a file comes from.
+/// Appends the cause of a fault of the desk in the file at `path`.
 pub fn tell_fault_at<T: LockFiles>(
     rt: &T,
     alloc: Global,
@@ -85,12 +85,12 @@ pub fn tell_fault_at<T: LockFiles>(
     }
 }
 
-/// Tells if a command has a folder of mails: of that it tells itself what is wrong.
+/// Tells if a command has a folder of mails. Such a command itself names a folder that fails.
 fn has_mails(matches: &ArgMatches<'_>) -> bool {
     matches.get_str(Argument::Folder.id()).is_some() || matches.get_str(Argument::In.id()).is_some()
 }
 
-/// Tells if another command is at work on a file.
+/// Tells if another command is at work on the file at `path`.
 fn is_at_work<T: LockFiles>(rt: &T, alloc: Global, path: &str) -> bool {
     match format!(in alloc; "{path}{LOCK}") {
         Ok(lock) => is_held(rt, lock.as_str()),
@@ -98,13 +98,13 @@ fn is_at_work<T: LockFiles>(rt: &T, alloc: Global, path: &str) -> bool {
     }
 }
 
-/// Tells if the desk in a file can be opened.
+/// Tells if the desk in the file at `path` can be opened.
 fn is_open<T: LockFiles>(rt: &T, alloc: Global, path: &str) -> bool {
     open(rt, alloc, path).is_ok()
 }
 
-/// The path of the first desk that is not opened, or of the first folder that is not read, of a command that takes
-/// several.
+/// Returns the first of the paths of a command that fails: a desk that cannot be opened, or a folder that cannot be
+/// read.
 fn failed_path<T: LockFiles>(rt: &T, alloc: Global, matches: &ArgMatches<'_>) -> Option<String> {
     for path in matches.get_strs(Argument::Paths.id())? {
         if let Some(failed) = failed_at(rt, alloc, path) {
@@ -114,7 +114,7 @@ fn failed_path<T: LockFiles>(rt: &T, alloc: Global, matches: &ArgMatches<'_>) ->
     None
 }
 
-/// The path of the first desk at a path that is not opened, or the path itself where its folder is not read.
+/// Returns the path of the first desk at `path` that cannot be opened. If its folder cannot be read, it returns `path`.
 fn failed_at<T: LockFiles>(rt: &T, alloc: Global, path: &str) -> Option<String> {
     match desk_paths(rt, alloc, &[path]) {
         Ok(files) => files
@@ -124,7 +124,7 @@ fn failed_at<T: LockFiles>(rt: &T, alloc: Global, path: &str) -> Option<String> 
     }
 }
 
-/// Adds which file has too many bytes: that of the desk, or that of what came.
+/// Appends which file has too many bytes: that of the desk, or that of the messages that came.
 fn tell_too_large<T: LockFiles>(
     rt: &T,
     alloc: Global,
@@ -144,7 +144,7 @@ fn tell_too_large<T: LockFiles>(
     }
 }
 
-/// Adds that no file is there, and that its folder is none, if that is so.
+/// Appends that no file is there, and that its folder is none, if that is so.
 fn tell_absent<T: LockFiles>(rt: &T, text: &mut String, path: &str) -> Result<(), OutOfMemory> {
     let shown = Shown::of(path);
     writeln!(text, "  {shown} is not there: `ill new` begins a desk.")?;
@@ -152,7 +152,7 @@ fn tell_absent<T: LockFiles>(rt: &T, text: &mut String, path: &str) -> Result<()
     Ok(())
 }
 
-/// Adds that the folder of a file is none, and answers whether that is so.
+/// Appends that the folder of a file is none, if that is so, and returns true then.
 fn tell_no_folder<T: LockFiles>(
     rt: &T,
     text: &mut String,
@@ -170,7 +170,7 @@ fn tell_no_folder<T: LockFiles>(
     Ok(!is_folder)
 }
 
-/// The folder of the file at a path.
+/// Returns the folder of the file at `path`.
 fn folder_of(path: &str) -> &str {
     match Path::new(path).parent() {
         Some(folder) if !folder.as_str().is_empty() => folder.as_str(),
@@ -178,7 +178,7 @@ fn folder_of(path: &str) -> &str {
     }
 }
 
-/// Adds why the file at a path was not read, locked or written.
+/// Appends why the file at `path` was not read, locked or written.
 fn tell_failed<T: LockFiles>(
     rt: &T,
     alloc: Global,
@@ -204,7 +204,7 @@ fn tell_failed<T: LockFiles>(
     }
 }
 
-/// Adds what stands at a path in place of a file.
+/// Appends the kind of thing that stands at `path` in place of a file.
 fn tell_kind<T: LockFiles>(
     rt: &T,
     text: &mut String,
@@ -227,7 +227,7 @@ fn tell_kind<T: LockFiles>(
     writeln!(text, "  {shown} is no regular file.")
 }
 
-/// Adds why nothing could be done with the file that stands at a path.
+/// Appends why the file at `path` could not be used.
 fn tell_closed<T: LockFiles>(
     rt: &T,
     alloc: Global,
@@ -244,7 +244,7 @@ fn tell_closed<T: LockFiles>(
     }
 }
 
-/// Adds why no file was found at a path.
+/// Appends why no file was found at `path`.
 fn tell_not_found<T: LockFiles>(
     rt: &T,
     alloc: Global,
@@ -265,7 +265,7 @@ fn tell_not_found<T: LockFiles>(
     tell_unsaved(rt, alloc, text, path)
 }
 
-/// Adds that another command holds the file at a path; else that nothing can be saved there.
+/// Appends that another command holds the file at `path`; else that nothing can be saved there.
 fn tell_unsaved<T: LockFiles>(
     rt: &T,
     alloc: Global,
@@ -292,7 +292,7 @@ fn tell_unsaved<T: LockFiles>(
     tell_came(rt, alloc, text, path)
 }
 
-/// Adds that the file of what came may be the one, if something stands there.
+/// Appends that the file of the messages that came may be at fault, if something stands there.
 fn tell_came<T: LockFiles>(
     rt: &T,
     alloc: Global,
@@ -310,7 +310,7 @@ fn tell_came<T: LockFiles>(
     )
 }
 
-/// Whether another command holds the lock at this path.
+/// Tells if another command holds the lock at the path `lock`.
 fn is_held<T: LockFiles>(rt: &T, lock: &str) -> bool {
     if !is_file(rt, lock) {
         return false;
@@ -321,7 +321,7 @@ fn is_held<T: LockFiles>(rt: &T, lock: &str) -> bool {
     }
 }
 
-/// Whether a regular file stands at a path: to open a pipe would be to wait on it.
+/// Tells if a regular file stands at `path`: to open a pipe would be to wait on it.
 fn is_file<T: LockFiles>(rt: &T, path: &str) -> bool {
     match fs::symlink_metadata(rt, path) {
         Ok(found) => found.is_file(),
@@ -329,7 +329,7 @@ fn is_file<T: LockFiles>(rt: &T, path: &str) -> bool {
     }
 }
 
-/// Adds why the bytes of a file are no record.
+/// Appends why the bytes of a file are no record.
 fn tell_no_record(text: &mut String, path: &str, fault: RecordFault) -> Result<(), OutOfMemory> {
     let shown = Shown::of(path);
     writeln!(text, "  {shown} holds no record of a desk.")?;

@@ -1,4 +1,4 @@
-//! Which message of the input is faulty.
+//! The lines on the message of the input that is faulty.
 
 ghost use Rattle.std.specs.Prelude.{None};
 
@@ -13,12 +13,12 @@ use std::io::Read;
 #[derive(Clone, Copy)]
 pub struct Passed {
     pub messages: u64,
-    /// How many bytes they have.
+    /// The number of their bytes.
     pub bytes: u64,
 }
 
 impl Passed {
-    /// These messages and one more, of so many bytes.
+    /// Returns these messages and one more, of `size` bytes.
     fn and(self, size: usize) -> Passed {
         Passed {
             messages: self.messages.saturating_add(1),
@@ -27,7 +27,7 @@ impl Passed {
     }
 }
 
-/// A reader that counts the good messages at the front of what it gives, if it is to.
+/// A reader that counts the good messages at the beginning of its input, if it is asked to.
 #[derive(Drop)]
 pub struct Watched<'a, R> {
     reader: &'a mut R,
@@ -36,7 +36,7 @@ pub struct Watched<'a, R> {
 }
 
 impl<'a, R> Watched<'a, R> {
-    /// A reader that gives what this one does.
+    /// Returns a reader that gives the bytes of `reader`.
     pub fn new(alloc: Global, reader: &'a mut R, is_counting: bool) -> Watched<'a, R> {
         let feed = if is_counting {
             Some(Feed::new(alloc))
@@ -53,7 +53,7 @@ impl<'a, R> Watched<'a, R> {
         }
     }
 
-    /// The messages that it has given, if it has counted all.
+    /// Returns the messages that it has given, if it has counted all.
     pub fn passed(&self) -> Option<Passed> {
         match self.feed {
             Some(_) => Some(self.passed),
@@ -61,7 +61,7 @@ impl<'a, R> Watched<'a, R> {
         }
     }
 
-    /// Counts the messages that a piece completes. Where memory runs out, no more are counted.
+    /// Counts the messages that a piece completes. If memory runs out, no more are counted.
     fn count(&mut self, piece: &[u8]) {
         let Some(feed) = &mut self.feed else {
             return;
@@ -85,7 +85,7 @@ impl<R: Read> Read for Watched<'_, R> {
     }
 }
 
-/// Adds which message of the input is faulty, where it begins, and what is wrong in it.
+/// Appends the lines on the message of the input that is faulty: its place, and its fault.
 pub fn tell_bad_bytes(
     text: &mut String,
     fault: DerFault,
@@ -109,7 +109,7 @@ pub fn tell_bad_bytes(
     }
 }
 
-/// Adds which message of the input is faulty, behind those that were good, and where it begins.
+/// Appends the number of the faulty message, and the byte at which it begins. The good ones before it are `passed`.
 fn tell_place(text: &mut String, passed: Passed) -> Result<(), OutOfMemory> {
     let number = passed.messages.saturating_add(1);
     let begin = passed.bytes;
@@ -119,7 +119,7 @@ fn tell_place(text: &mut String, passed: Passed) -> Result<(), OutOfMemory> {
     )
 }
 
-/// Adds where the lines of a script are explained.
+/// Appends that the line `line` of a script is no event, and the help that lists them.
 pub fn tell_bad_line(text: &mut String, name: Name, line: u32) -> Result<(), OutOfMemory> {
     let command = name.word();
     writeln!(

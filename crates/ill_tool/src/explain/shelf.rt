@@ -1,4 +1,4 @@
-//! What is wrong with a shelf, or with the desk of a group on it.
+//! The lines on a shelf, or on the desk of a group on it, with which something is wrong.
 
 use crate::command_line::Argument;
 use crate::explain::file::tell_fault_at;
@@ -10,7 +10,7 @@ use ill_saved::{DeskFault, LockFiles};
 use ill_values::OutOfMemory;
 use std::alloc::Global;
 
-/// Adds what a fault of a command on a shelf comes from.
+/// Appends the cause of a fault of a command on a shelf.
 pub fn tell_shelf_fault<T: LockFiles>(
     rt: &T,
     alloc: Global,
@@ -38,7 +38,7 @@ pub fn tell_shelf_fault<T: LockFiles>(
     }
 }
 
-/// Adds what a fault at the desk of a group comes from.
+/// Appends the cause of a fault at the desk of a group.
 fn tell_of_group<T: LockFiles>(
     rt: &T,
     alloc: Global,

@@ -5,14 +5,15 @@ use std::fmt;
 /// The most characters of a word that are shown.
 const MOST: usize = 200;
 
-/// A word in quotes, with escapes for what a terminal may act on. Two points stand for the rest of a long one.
+/// A word in quotes, with escapes for the characters that a terminal may act on. Two points stand for the rest of a
+/// long one.
 #[derive(Clone, Copy)]
 pub struct Shown<'a> {
     word: &'a str,
 }
 
 impl<'a> Shown<'a> {
-    /// What is shown of a word.
+    /// Returns the shown form of `word`.
     pub fn of(word: &'a str) -> Shown<'a> {
         Shown { word }
     }

@@ -1,4 +1,4 @@
-//! The verbs of each role, and what stands behind them.
+//! The verbs of each role, and the parts after each.
 
 use ill_core::Verb;
 use ill_saved::Role;
@@ -7,7 +7,7 @@ use std::alloc::Global;
 use std::fmt;
 use strsim::osa_distance;
 
-/// What stands behind a verb.
+/// The parts of an action after its verb.
 #[derive(Clone, Copy)]
 pub enum Parts {
     Nothing,
@@ -17,14 +17,14 @@ pub enum Parts {
     /// A day or none.
     Wished,
     Result,
-    /// A day, or how many days after today.
+    /// A day, or a number of days after today.
     Due,
     /// Yes and a day, or no.
     Grant,
 }
 
 impl Parts {
-    /// How the help writes them.
+    /// Returns the parts as the help writes them.
     fn form(self) -> &'static str {
         match self {
             Parts::Nothing => "",
@@ -37,7 +37,7 @@ impl Parts {
         }
     }
 
-    /// How many words they have, at least and at most.
+    /// Returns the least and the greatest number of their words.
     pub fn counts(self) -> (usize, usize) {
         match self {
             Parts::Nothing => (0, 0),
@@ -82,7 +82,7 @@ const FORMS: [(Verb, Role, Parts); 14] = [
     (Verb::Expire, Role::Responder, Parts::Nothing),
 ];
 
-/// The form of the verb with this name.
+/// Returns the form of the verb `name`.
 pub fn form_of(name: &str) -> Option<Form> {
     for (verb, role, parts) in FORMS {
         if verb.name() == name {
@@ -92,7 +92,7 @@ pub fn form_of(name: &str) -> Option<Form> {
     None
 }
 
-/// The names of the verbs of a role.
+/// Returns the names of the verbs of `role`.
 pub fn names_of(alloc: Global, role: Role) -> Result<Vec<&'static str>, OutOfMemory> {
     Ok(
         FORMS
@@ -106,7 +106,7 @@ pub fn names_of(alloc: Global, role: Role) -> Result<Vec<&'static str>, OutOfMem
 /// The most letters that are wrong, missing, too many or swapped in a word that is near to a name.
 const NEAR: usize = 2;
 
-/// The name that is nearest to a word, if one is near.
+/// Returns the name that is nearest to `word`, if one is near.
 pub fn nearest<'a>(
     alloc: Global,
     names: &[&'a str],

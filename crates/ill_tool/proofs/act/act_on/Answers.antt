@@ -1,3 +1,4 @@
+-- Answers the contract of `act_on` (`src/act.rt`).
 use Rattle.ill_tool.proofs.ActLemmas.{no_words}
 use Rattle.ill_tool.proofs.act.act_on.Goals as goal
 

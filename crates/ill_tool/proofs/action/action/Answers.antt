@@ -1,3 +1,4 @@
+-- Answers the contract of `action` (`src/action.rt`).
 use Rattle.std.proofs.Common.{◌≡◌, map, IfOk, Bor, sym, ap, subst, ◌∙◌, List, ℕ, Option}
 use Rattle.ill_saved.specs.declared.side.Action.{Action}
 use Rattle.ill_tool.specs.Actions.{action_for}

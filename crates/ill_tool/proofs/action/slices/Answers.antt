@@ -1,3 +1,4 @@
+-- Answers the contract of `slices` (`src/action.rt`).
 use Rattle.std.proofs.Common.{rules, ap, ◌∙◌}
 use Rattle.std.proofs.lemmas.Iterator.{YieldsList-from_slice, YieldsList-from_map_by}
 use Rattle.std.specs.Slice.Iter.{iter_rest}

@@ -1,3 +1,4 @@
+-- Answers the contract of `asked_by` (`src/asked.rt`).
 use Rattle.std.proofs.Common.{◌≡◌, ◌+◌, ◌++◌, drop, ap, ◌∙◌, append_assoc, add-one}
 use Rattle.std.specs.Prelude.{slice_get}
 use Rattle.std.specs.List.{zip}

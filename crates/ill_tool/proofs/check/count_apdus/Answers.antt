@@ -1,3 +1,4 @@
+-- Answers the contract of `count_apdus` (`src/check.rt`).
 use Rattle.ill_tool.specs.declared.check.Passing.{Passing}
 use Rattle.ill_tool.specs.Check.{passes}
 use Rattle.ill_tool.proofs.InputLemmas.{reads_as}

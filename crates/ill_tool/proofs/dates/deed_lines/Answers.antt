@@ -1,3 +1,4 @@
+-- Answers the contract of `deed_lines` (`src/dates.rt`).
 use Rattle.std.proofs.Common.{Bor, ap, sym, ◌∙◌}
 use Rattle.std.specs.List.{flat_map}
 use Rattle.std.proofs.lemmas.List.{take_all}

@@ -1,10 +1,11 @@
+-- The loop invariant of `perform` (`src/dates.rt`).
 use Rattle.std.proofs.Common.{◌≡◌, [], map, take, Bor}
 use Rattle.std.specs.Prelude.{fold}
 use Rattle.ill_tool.specs.declared.dates.Due.{Due}
 use Rattle.ill_tool.specs.Dates.{after_deed, doing}
 use Rattle.ill_tool.proofs.dates.perform.Given as goal
 
--- the deeds so far were performed, and nothing has been saved
+-- The deeds so far were performed, and nothing has been saved.
 abbrev pub invariant-loop-due : goal.invariant-loop-due
 invariant-loop-due g l = record {
   performed : doing (g.K.Keeper.live l.keeper) (map (λ (due : Bor Due). due.now) l.done.items) ≡ fold (after_deed g.K.Keeper.keeping l.today) (doing (g.K.Keeper.live l.initial.keeper) []) (take l.due-index l.dues);

@@ -1,3 +1,4 @@
+-- Answers the contract of `acting_front` (`src/escape.rt`).
 use Rattle.std.proofs.Common.{sym, ◌∙◌}
 use Rattle.std.proofs.lemmas.List.{nil_from_length}
 use Rattle.ill_tool.proofs.EscapeLemmas.{first_of_two_stays, last_stays}

@@ -1,3 +1,4 @@
+-- Answers the contract of `push_written` (`src/escape.rt`).
 use Rattle.std.proofs.Common.{◌++◌}
 use Rattle.std.proofs.lemmas.List.{nil_from_length}
 use Rattle.ill_tool.specs.Escape.{written}

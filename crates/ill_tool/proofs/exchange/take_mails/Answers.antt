@@ -1,3 +1,4 @@
+-- Answers the contract of `take_mails` (`src/exchange.rt`).
 use Rattle.std.proofs.Common.{inr, List, Ok, Err, None, refl, subst}
 use Rattle.ill_tool.specs.declared.verdict.Mail.{Mail}
 use Rattle.ill_tool.specs.Keeping.{many_sides}

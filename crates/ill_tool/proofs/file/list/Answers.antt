@@ -1,3 +1,4 @@
+-- Answers the contract of `list` (`src/file.rt`).
 use Rattle.std.proofs.Common.{List, map, inr, subst}
 use Rattle.std.specs.Prelude.{string_bytes}
 use Rattle.ill_tool.specs.Commands.{ListsDesks}

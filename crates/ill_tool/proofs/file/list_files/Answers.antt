@@ -1,3 +1,4 @@
+-- Answers the contract of `list_files` (`src/file.rt`).
 use Rattle.std.proofs.Common.{◌≡◌, ◌<◌, ℕ, List, map, get_or, refl, ap, sym, subst, ◌∙◌}
 use Rattle.std.specs.Prelude.{string_bytes, nat_lt}
 use Rattle.std.proofs.lemmas.List.{length-map, get_or-map}

@@ -1,3 +1,4 @@
+-- The loop invariant of `list_files` (`src/file.rt`).
 use Rattle.std.proofs.Common.{◌≡◌, ℕ, List, map, take}
 use Rattle.std.specs.Prelude.{string_bytes}
 use Rattle.std.specs.Io.KnownBytes.{Appends}
@@ -6,7 +7,7 @@ use Rattle.ill_tool.specs.Commands.{are_several}
 use Rattle.ill_tool.specs.Listing.{listed_desks}
 use Rattle.ill_tool.proofs.file.list_files.Given as goal
 
--- the desks so far were listed
+-- The desks so far were listed.
 abbrev pub invariant-loop-place : goal.invariant-loop-place
 invariant-loop-place g l =
     (desks : List (List ℕ × List Side)) × (map (λ (desk : List ℕ × List Side). desk.0) desks ≡ take l.place (map (λ file. string_bytes file) l.files))

@@ -1,3 +1,4 @@
+-- Answers the contract of `list_lines` (`src/file.rt`).
 use Rattle.std.proofs.Common.{◌++◌, List, ℕ, ap, subst, ◌∙◌, append_assoc}
 use Rattle.ill_saved.specs.Many.{sides_held}
 use Rattle.ill_tool.specs.Listing.{gap, heading, list_lines}

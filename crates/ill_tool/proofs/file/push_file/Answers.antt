@@ -1,3 +1,4 @@
+-- Answers the contract of `push_file` (`src/file.rt`).
 use Rattle.ill_tool.proofs.ReportLemmas.{one_desk}
 use Rattle.ill_tool.proofs.file.push_file.Goals as goal
 

@@ -1,3 +1,4 @@
+-- Answers the contract of `push_files` (`src/file.rt`).
 use Rattle.ill_tool.proofs.ReportLemmas.{further_desks}
 use Rattle.ill_tool.proofs.file.push_files.Goals as goal
 

@@ -1,3 +1,4 @@
+-- Answers the contract of `report` (`src/file.rt`).
 use Rattle.std.proofs.Common.{ℕ, List, ◌++◌, ap, subst, inr, ◌∙◌}
 use Rattle.ill_tool.specs.Output.{WritesText}
 use Rattle.ill_tool.specs.Report.{AddsDesks, page_head}

@@ -1,3 +1,4 @@
+-- Answers the contract of `take` (`src/file.rt`).
 use Rattle.std.proofs.Common.{rules, Bool, false, sym, subst}
 use Rattle.ill_tool.specs.Commands.{TakesAtFile}
 use Rattle.ill_tool.proofs.file.take.Goals as goal

@@ -1,3 +1,4 @@
+-- Answers the contract of `one_message` (`src/inbox.rt`).
 use Rattle.std.proofs.Common.{rules, ◌+◌, ◌≤◌, length}
 use Rattle.ill_der.specs.ShortForm.{apdu_at}
 use Rattle.ill_tool.proofs.InboxLemmas.{trailing_unfit}

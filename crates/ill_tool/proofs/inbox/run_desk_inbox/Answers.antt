@@ -1,3 +1,4 @@
+-- Answers the contract of `run_desk_inbox` (`src/inbox.rt`).
 use Rattle.ill_tool.specs.Performing.{many_view}
 use Rattle.ill_tool.proofs.InboxLemmas.{ended_if_ok}
 use Rattle.ill_tool.proofs.inbox.run_desk_inbox.Goals as goal

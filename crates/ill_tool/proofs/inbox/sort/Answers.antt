@@ -1,3 +1,4 @@
+-- Answers the contract of `sort` (`src/inbox.rt`).
 use Rattle.ill_tool.specs.Inbox.{after_mails, sorting_of}
 use Rattle.ill_tool.proofs.InboxLemmas.{concluded_is}
 use Rattle.ill_tool.proofs.inbox.sort.Goals as goal

@@ -1,9 +1,10 @@
+-- The loop invariant of `sort_mails` (`src/inbox.rt`).
 use Rattle.std.proofs.Common.{◌≡◌, take}
 use Rattle.std.specs.Prelude.{fold}
 use Rattle.ill_tool.specs.Inbox.{after_mail, sorting_of, unsorted}
 use Rattle.ill_tool.proofs.inbox.sort_mails.Given as goal
 
--- the mails so far are sorted, and nothing has been saved
+-- The mails so far are sorted, and nothing has been saved.
 abbrev pub invariant-loop-mail : goal.invariant-loop-mail
 invariant-loop-mail g l = record {
   sorted : sorting_of (g.K.Keeper.live l.keeper) l.sorted ≡ fold (after_mail g.K.Keeper.keeping) (unsorted (g.K.Keeper.live l.initial.keeper)) (take l.mail-index l.mails);

@@ -1,3 +1,4 @@
+-- Answers the contract of `handle_input` (`src/input.rt`).
 use Rattle.std.proofs.Common.{◌≡◌, ◌≤◌, ℕ, length, take, subst, arith, rules}
 use Rattle.std.specs.Io.KnownBytes.{Consumes}
 use Rattle.std.proofs.lemmas.List.{length-take-le}

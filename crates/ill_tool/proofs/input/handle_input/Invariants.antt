@@ -1,8 +1,9 @@
+-- The loop invariant and the measure of `handle_input` (`src/input.rt`).
 use Rattle.std.proofs.Common.{◌≡◌, length}
 use Rattle.ill_tool.proofs.InputLemmas.{ReadSoFar, room}
 use Rattle.ill_tool.proofs.input.handle_input.Given as goal
 
--- the APDUs whose spellings were read have been handled, and the bytes behind them are held
+-- The APDUs whose encodings were read have been handled, and the bytes after them are held.
 abbrev pub invariant-loop-feed : goal.invariant-loop-feed
 invariant-loop-feed g l = record {
   size : length l.piece ≡ 4096;
@@ -10,6 +11,6 @@ invariant-loop-feed g l = record {
       (l.counted.handler, l.context);
 }
 
--- how many bytes may still come
+-- The number of bytes that may still come becomes smaller.
 abbrev pub decreases-loop-feed : goal.decreases-loop-feed
 decreases-loop-feed g l = room l.counted.count l.feed

@@ -1,3 +1,4 @@
+-- Answers the contract of `push_members` (`src/json.rt`).
 use Rattle.std.proofs.Common.{ℕ, List, Bor, ◌+◌, ◌≤◌, ◌++◌, length, codes, drop, ap, sym, ◌∙◌, arith}
 use Rattle.ill_tool.specs.declared.json.Value.{Value}
 use Rattle.ill_tool.specs.Json.{joined, member, value_text}

@@ -1,3 +1,4 @@
+-- Answers the contract of `push_words` (`src/json.rt`).
 use Rattle.std.proofs.Common.{ℕ, List, Bor, ◌+◌, ◌≤◌, ◌++◌, ◌∷◌, [], length, codes, drop, ap, sym, ◌∙◌, arith, append_assoc}
 use Rattle.std.proofs.Math.ListN.{get_or}
 use Rattle.std.proofs.lemmas.List.{drop_more}

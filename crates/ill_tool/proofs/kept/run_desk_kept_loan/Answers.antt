@@ -1,3 +1,4 @@
+-- Answers the contract of `run_desk_kept_loan` (`src/kept.rt`).
 use Rattle.std.proofs.Common.{rules, ◌≡◌, Option, Some, None, ℕ, sym, subst}
 use Rattle.ill_saved.specs.Sides.{side_with}
 use Rattle.ill_saved.specs.Side.{txn_of}

@@ -1,11 +1,13 @@
+-- Answers the contract of `push_counts_line` (`src/list.rt`).
 use Rattle.std.proofs.Common.{◌≡◌, ℕ, ◌++◌, List, ap, append_assoc, refl, ◌∙◌}
 use Rattle.std.specs.Prelude.{codes}
 use Rattle.std.specs.Fmt.{decimal}
 use Rattle.ill_tool.specs.List.{counts_line}
 use Rattle.ill_tool.proofs.list.push_counts_line.Goals as goal
 
--- Nine texts are joined from the left as from the right.
-nine_joined : (a b c d e f g h i : List ℕ) → a ++ (b ++ (c ++ (d ++ (e ++ (f ++ (g ++ (h ++ i))))))) ≡ a ++ b ++ c ++ d ++ e ++ f ++ g ++ h ++ i
+-- Nine texts that are joined from the right are those joined from the left.
+nine_joined : (a b c d e f g h i : List ℕ)
+    → a ++ (b ++ (c ++ (d ++ (e ++ (f ++ (g ++ (h ++ i))))))) ≡ a ++ b ++ c ++ d ++ e ++ f ++ g ++ h ++ i
 nine_joined a b c d e f g h i = simp append_assoc refl
 
 pub returns : goal.returns

@@ -1,3 +1,4 @@
+-- Answers the contract of `push_list` (`src/list.rt`).
 use Rattle.std.proofs.Common.{◌≡◌, ◌++◌, List, Bor, OnOk, map, ap, subst, ◌∙◌}
 use Rattle.ill_saved.specs.declared.side.Side.{Side}
 use Rattle.ill_tool.specs.Listing.{ordered_lines}

@@ -1,3 +1,4 @@
+-- Answers the contract of `run_desk_list` (`src/list.rt`).
 use Rattle.std.proofs.Common.{◌≡◌, ℕ, ◌++◌, List, Option, Result, Ok, Err, ap, sym, subst, ◌∙◌}
 use Rattle.ill_saved.specs.Sides.{SidesOf}
 use Rattle.ill_saved.specs.Many.{sides_held}
@@ -6,8 +7,9 @@ use Rattle.ill_tool.specs.Listing.{list_lines}
 use Rattle.ill_tool.specs.Output.{WritesFront, WritesText}
 use Rattle.ill_tool.proofs.list.run_desk_list.Goals as goal
 
--- What was written whole, or in front, is a text that was.
-text_written : (before after : Option (List ℕ)) (bytes : List ℕ) (result : Result (Unit {0}) ToolFault) → WritesFront before after bytes result → WritesText before after bytes result
+-- A text that was written whole, or in part by a writer that failed, was written as `WritesText` has it.
+text_written : (before after : Option (List ℕ)) (bytes : List ℕ) (result : Result (Unit {0}) ToolFault)
+    → WritesFront before after bytes result → WritesText before after bytes result
 text_written before after bytes (Ok done) written = written
 text_written before after bytes (Err fault) (is, front) = subst (λ (fault : ToolFault). WritesText before after bytes (Err fault)) (sym is) front
 

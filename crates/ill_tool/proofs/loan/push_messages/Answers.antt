@@ -1,3 +1,4 @@
+-- Answers the contract of `push_messages` (`src/loan.rt`).
 use Rattle.std.proofs.Common.{◌+◌, ◌≤◌, ◌++◌, length, drop, ap, sym, ◌∙◌, arith}
 use Rattle.std.specs.List.{flat_map}
 use Rattle.ill_tool.specs.Loan.{message_lines}

@@ -1,3 +1,4 @@
+-- Answers the contract of `run_desk_loan` (`src/loan.rt`).
 use Rattle.std.proofs.Common.{rules, ◌≡◌, Option, Some, None, ℕ, sym, subst}
 use Rattle.ill_saved.specs.Sides.{side_with}
 use Rattle.ill_saved.specs.Many.{DeskEntry, held_for, sides_held}

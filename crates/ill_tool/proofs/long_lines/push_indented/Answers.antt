@@ -1,3 +1,4 @@
+-- Answers the contract of `push_indented` (`src/long_lines.rt`).
 use Rattle.std.proofs.Common.{◌<◌, ◌++◌, arith, ap, ◌∙◌, length}
 use Rattle.ill_tool.proofs.LongLemmas.{none_further, one_byte_further}
 use Rattle.ill_tool.proofs.long_lines.push_indented.Goals as goal

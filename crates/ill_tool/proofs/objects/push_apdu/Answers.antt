@@ -1,3 +1,4 @@
+-- Answers the contract of `push_apdu` (`src/objects.rt`).
 use Rattle.std.proofs.Common.{◌≡◌, ℕ, List, [], OnOk, subst}
 use Rattle.ill_tool.specs.Json.{member}
 use Rattle.ill_tool.proofs.JsonLemmas.{joined_further}

@@ -1,3 +1,4 @@
+-- Answers the contract of `push_array` (`src/objects.rt`).
 use Rattle.std.proofs.Common.{◌+◌, ◌≤◌, ◌++◌, ◌∷◌, [], length, codes, drop, ap, sym, ◌∙◌, arith, append_assoc}
 use Rattle.ill_tool.specs.Json.{joined}
 use Rattle.ill_tool.specs.Objects.{message_object}

@@ -1,3 +1,4 @@
+-- Answers the contract of `push_loan` (`src/objects.rt`).
 use Rattle.std.proofs.Common.{◌≡◌, ◌++◌, ℕ, List, [], OnOk, ap, subst, ◌∙◌}
 use Rattle.ill_values.specs.declared.apdu.Apdu.{Apdu}
 use Rattle.ill_tool.specs.Json.{joined, member}

@@ -1,3 +1,4 @@
+-- Answers the contract of `push_message` (`src/objects.rt`).
 use Rattle.std.proofs.Common.{◌≡◌, ◌++◌, ◌∷◌, ℕ, List, [], OnOk, ap, subst, ◌∙◌, append_assoc}
 use Rattle.ill_tool.specs.Json.{joined, member}
 use Rattle.ill_tool.specs.Objects.{apdu_fields, leaves_fields}

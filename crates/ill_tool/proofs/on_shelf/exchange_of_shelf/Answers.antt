@@ -1,3 +1,4 @@
+-- Answers the contract of `exchange_of_shelf` (`src/on_shelf.rt`).
 use Rattle.std.proofs.Common.{inr, map, true, subst}
 use Rattle.std.specs.Prelude.{string_bytes}
 use Rattle.ill_tool.specs.Commands.{ExchangesAtFile}

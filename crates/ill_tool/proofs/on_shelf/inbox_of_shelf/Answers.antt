@@ -1,3 +1,4 @@
+-- Answers the contract of `inbox_of_shelf` (`src/on_shelf.rt`).
 use Rattle.std.proofs.Common.{inr, map}
 use Rattle.std.specs.Prelude.{string_bytes}
 use Rattle.ill_tool.proofs.on_shelf.inbox_of_shelf.Goals as goal

@@ -1,3 +1,4 @@
+-- Answers the contract of `outbox_of_shelf` (`src/on_shelf.rt`).
 use Rattle.std.proofs.Common.{inr, map, Ok, true, refl}
 use Rattle.std.specs.Prelude.{string_bytes}
 use Rattle.ill_tool.proofs.ShelfLemmas.{graver_well}

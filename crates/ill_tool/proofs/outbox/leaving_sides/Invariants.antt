@@ -1,8 +1,9 @@
+-- The loop invariant of `leaving_sides` (`src/outbox.rt`).
 use Rattle.std.proofs.Common.{◌≡◌, ◌++◌, map, drop}
 use Rattle.ill_tool.specs.Outbox.{held_of, issue_of, leaving_desk}
 use Rattle.ill_tool.proofs.outbox.leaving_sides.Given as goal
 
--- with those of the sides that are left, all messages are there
+-- The messages so far, with those of the sides that are left, are all messages.
 abbrev pub invariant-loop-held : goal.invariant-loop-held
 invariant-loop-held l = record {
   there : map issue_of l.leaving.items ++ leaving_desk l.asking (map held_of (drop l.held-index l.sides)) ≡ leaving_desk l.asking (map held_of l.sides);

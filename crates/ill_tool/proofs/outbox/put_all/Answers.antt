@@ -1,3 +1,4 @@
+-- Answers the contract of `put_all` (`src/outbox.rt`).
 use Rattle.std.proofs.Common.{◌≡◌, map, take, ap, sym, ◌∙◌}
 use Rattle.ill_tool.specs.Outbox.{after_all, after_one, issue_of, letter_of}
 use Rattle.std.specs.List.{fold}

@@ -1,9 +1,10 @@
+-- The loop invariant of `put_all` (`src/outbox.rt`).
 use Rattle.std.proofs.Common.{◌≡◌, take}
 use Rattle.std.specs.List.{fold}
 use Rattle.ill_tool.specs.Outbox.{after_one, issue_of, letter_of}
 use Rattle.ill_tool.proofs.outbox.put_all.Given as goal
 
--- the messages so far were put there
+-- The messages so far were put there.
 abbrev pub invariant-loop-message : goal.invariant-loop-message
 invariant-loop-message g l = record {
   there : g.O.Outgoing.mails l.out ≡ fold (λ there message. after_one g.O.Outgoing.after there (letter_of (issue_of message))) (g.O.Outgoing.mails l.initial.out) (take l.message-index l.leaving);

@@ -1,3 +1,4 @@
+-- Answers the contract of `run_desk_outbox_stream` (`src/outbox.rt`).
 use Rattle.ill_tool.proofs.OutboxLemmas.{stream_written}
 use Rattle.ill_tool.proofs.outbox.run_desk_outbox_stream.Goals as goal
 

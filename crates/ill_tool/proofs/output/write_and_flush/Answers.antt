@@ -1,3 +1,4 @@
+-- Answers the contract of `write_and_flush` (`src/output.rt`).
 use Rattle.std.proofs.Common.{length, subst, sym, refl, arith}
 use Rattle.std.proofs.lemmas.List.{take_all}
 use Rattle.std.specs.Io.KnownBytes.{Appends}

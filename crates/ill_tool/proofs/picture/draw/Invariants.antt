@@ -1,9 +1,10 @@
+-- The loop invariant of `draw` (`src/picture.rt`).
 use Rattle.std.proofs.Common.{◌≡◌, take}
 use Rattle.std.specs.Prelude.{fold}
 use Rattle.ill_tool.specs.Picture.{opening, with_own}
 use Rattle.ill_tool.proofs.picture.draw.Given as goal
 
--- the own messages so far are drawn, with those of theirs that stand among them
+-- The own messages so far are drawn, with those of theirs that stand among them.
 abbrev pub invariant-loop-apdu : goal.invariant-loop-apdu
 invariant-loop-apdu l = record {
   drawn : record { lines = l.lines.items; left = l.left } ≡ fold with_own (record { lines = opening; left = l.theirs }) (take l.apdu-index l.own);

@@ -1,3 +1,4 @@
+-- Answers the contract of `run_desk_picture` (`src/picture.rt`).
 use Rattle.std.proofs.Common.{rules, ◌≡◌, Option, Some, None, sym, subst}
 use Rattle.ill_saved.specs.Sides.{side_with}
 use Rattle.ill_saved.specs.Many.{DeskEntry, sides_held}

@@ -1,9 +1,10 @@
+-- The loop invariant of `through` (`src/picture.rt`).
 use Rattle.std.proofs.Common.{◌≡◌, ◌≤◌, take}
 use Rattle.std.specs.Prelude.{fold}
 use Rattle.ill_tool.specs.Picture.{reach}
 use Rattle.ill_tool.proofs.picture.through.Given as goal
 
--- the last of those so far that is linked is found
+-- The last of the messages so far that is linked is found.
 abbrev pub invariant-loop-place : goal.invariant-loop-place
 invariant-loop-place l = record {
   reached : record { place = l.place; last = l.last } ≡ fold (reach l.link l.own) (record { place = 0; last = 0 }) (take l.place l.theirs);

@@ -1,3 +1,4 @@
+-- Answers the contract of `push_head` (`src/report.rt`).
 use Rattle.std.proofs.Common.{◌++◌, ap, ◌∙◌}
 use Rattle.ill_tool.specs.declared.report_parts.TheConstants.{PAGE, DESKS}
 use Rattle.ill_values.specs.Day.{iso_text}

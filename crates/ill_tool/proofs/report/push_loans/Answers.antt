@@ -1,3 +1,4 @@
+-- Answers the contract of `push_loans` (`src/report.rt`).
 use Rattle.std.proofs.Common.{◌++◌, ◌∷◌, [], map, Bor, ap, sym, ◌∙◌}
 use Rattle.std.specs.List.{flat_map}
 use Rattle.std.proofs.lemmas.List.{take_all}

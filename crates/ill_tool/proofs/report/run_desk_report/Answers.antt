@@ -1,3 +1,4 @@
+-- Answers the contract of `run_desk_report` (`src/report.rt`).
 use Rattle.std.proofs.Common.{ℕ, List, ◌++◌, ap, sym, subst, ◌∙◌}
 use Rattle.std.proofs.lemmas.List.{append-nil}
 use Rattle.ill_saved.specs.Many.{sides_held}

@@ -1,3 +1,4 @@
+-- Answers the contract of `day` (`src/request.rt`).
 use Rattle.std.proofs.Common.{Ok, Err, None, ap}
 use Rattle.std.specs.Prelude.{is_none}
 use Rattle.ill_tool.specs.Asked.{day_said}

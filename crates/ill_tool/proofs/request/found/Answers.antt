@@ -1,3 +1,4 @@
+-- Answers the contract of `found` (`src/request.rt`).
 use Rattle.std.proofs.Common.{List, Option, sym, subst}
 use Rattle.clap.specs.Words.{Row, Text, found_of, rows_of}
 use Rattle.ill_tool.specs.Asked.{ReadsValue, asked, asked_in}

@@ -1,3 +1,4 @@
+-- Answers the contract of `is_set` (`src/request.rt`).
 use Rattle.std.proofs.Common.{Some, None, ap, sym, ◌∙◌}
 use Rattle.ill_tool.specs.Asked.{is_true}
 use Rattle.ill_tool.proofs.RequestLemmas.{text_said}

@@ -1,3 +1,4 @@
+-- Answers the contract of `list_request` (`src/request.rt`).
 use Rattle.ill_tool.proofs.RequestLemmas.{refused_behind}
 use Rattle.ill_tool.proofs.request.list_request.Goals as goal
 

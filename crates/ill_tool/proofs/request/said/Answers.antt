@@ -1,3 +1,4 @@
+-- Answers the contract of `said` (`src/request.rt`).
 use Rattle.std.proofs.Common.{Some, None, sym}
 use Rattle.ill_tool.proofs.RequestLemmas.{text_said}
 use Rattle.ill_tool.proofs.request.said.Goals as goal

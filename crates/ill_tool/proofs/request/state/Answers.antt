@@ -1,3 +1,4 @@
+-- Answers the contract of `state` (`src/request.rt`).
 use Rattle.std.proofs.Common.{Some, None, ap}
 use Rattle.std.specs.Prelude.{is_none}
 use Rattle.ill_tool.specs.declared.command_line.Argument.TheVariants.{InState}

@@ -1,3 +1,4 @@
+-- Answers the contract of `text` (`src/request.rt`).
 use Rattle.std.proofs.Common.{Some}
 use Rattle.ill_tool.proofs.RequestLemmas.{text_said, none_said}
 use Rattle.ill_tool.proofs.request.text.Goals as goal

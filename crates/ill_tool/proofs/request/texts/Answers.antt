@@ -1,3 +1,4 @@
+-- Answers the contract of `texts` (`src/request.rt`).
 use Rattle.std.proofs.Common.{List, ℕ, Bor, Some, map, sym, ap, ◌∙◌}
 use Rattle.ill_tool.proofs.RequestLemmas.{texts_said, no_texts_said}
 use Rattle.ill_tool.proofs.request.texts.Goals as goal

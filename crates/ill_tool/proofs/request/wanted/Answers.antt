@@ -1,3 +1,4 @@
+-- Answers the contract of `wanted` (`src/request.rt`).
 use Rattle.ill_tool.proofs.RequestLemmas.{refused_behind, refused_third}
 use Rattle.ill_tool.proofs.request.wanted.Goals as goal
 

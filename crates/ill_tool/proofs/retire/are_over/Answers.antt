@@ -1,3 +1,4 @@
+-- Answers the contract of `are_over` (`src/retire.rt`).
 use Rattle.std.proofs.Common.{ap, sym, ◌∙◌}
 use Rattle.std.specs.List.{list_all}
 use Rattle.std.proofs.lemmas.List.Folds.{list_all-map}

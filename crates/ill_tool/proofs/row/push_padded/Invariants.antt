@@ -1,7 +1,8 @@
+-- The loop invariant of `push_padded` (`src/row.rt`).
 use Rattle.std.proofs.Common.{◌≡◌, ◌-◌, ◌++◌, length, replicate}
 use Rattle.ill_tool.proofs.row.push_padded.Given as goal
 
--- with the spaces that are left, all are there
+-- The text so far, with the spaces that are left, has all spaces.
 abbrev pub invariant-loop : goal.invariant-loop
 invariant-loop l = record {
   filled : l.lines.items ++ replicate (l.width - l.counter) 32 ≡ l.initial.lines.items ++ replicate (l.width - length l.text) 32;

@@ -1,3 +1,4 @@
+-- Answers the contract of `verbs_text` (`src/row.rt`).
 use Rattle.std.proofs.Common.{ℕ, List, [], ◌∷◌, map, Bor, ap, sym, ◌∙◌}
 use Rattle.std.specs.List.{join_by}
 use Rattle.ill_core.specs.Verbs.{verb_name}

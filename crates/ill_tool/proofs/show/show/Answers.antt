@@ -1,3 +1,4 @@
+-- Answers the contract of `show` (`src/show.rt`).
 use Rattle.ill_tool.specs.declared.show.Showing.{Showing}
 use Rattle.std.proofs.Common.{not, eqb}
 use Rattle.ill_tool.specs.Show.{form_of, shows}

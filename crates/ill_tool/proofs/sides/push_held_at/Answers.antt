@@ -1,3 +1,4 @@
+-- Answers the contract of `push_held_at` (`src/sides.rt`).
 use Rattle.std.proofs.Common.{rules, ◌≡◌, ◌++◌, [], ◌∷◌, Option, Some, None, map, ap, sym, subst, ◌∙◌}
 use Rattle.std.specs.Prelude.{slice_get}
 use Rattle.std.specs.Option.{option_to_list}

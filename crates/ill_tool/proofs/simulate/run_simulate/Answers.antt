@@ -1,3 +1,4 @@
+-- Answers the contract of `run_simulate` (`src/simulate.rt`).
 use Rattle.std.proofs.Common.{Ok}
 use Rattle.ill_tool.proofs.SimulateLemmas.{no_id, performed, performed_until}
 use Rattle.ill_tool.proofs.simulate.run_simulate.Goals as goal

@@ -1,3 +1,4 @@
+-- Answers the contract of `run_simulate_desks` (`src/simulate.rt`).
 use Rattle.std.proofs.Common.{Ok, refl}
 use Rattle.ill_tool.proofs.simulate.run_simulate_desks.Goals as goal
 

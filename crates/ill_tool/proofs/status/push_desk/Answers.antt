@@ -1,3 +1,4 @@
+-- Answers the contract of `push_desk` (`src/status.rt`).
 use Rattle.std.proofs.Common.{◌≡◌, ◌+◌, ◌++◌, drop, ap, sym, ◌∙◌, append_assoc, add-one}
 use Rattle.std.specs.Prelude.{slice_get}
 use Rattle.ill_tool.specs.Objects.{status_of_desk, text_of_one}

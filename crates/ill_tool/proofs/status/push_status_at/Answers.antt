@@ -1,3 +1,4 @@
+-- Answers the contract of `push_status_at` (`src/status.rt`).
 use Rattle.std.proofs.Common.{rules, ◌≡◌, ◌++◌, OnOk, ℕ, List, Some, None, ap, sym, subst, ◌∙◌}
 use Rattle.std.specs.Prelude.{slice_get}
 use Rattle.std.proofs.lemmas.List.{append-nil}

@@ -1,3 +1,4 @@
+-- Answers the contract of `push_words` (`src/status.rt`).
 use Rattle.std.proofs.Common.{rules, ◌≡◌, ◌==◌, false, length, ◌++◌, ℕ, List, OnOk, Bor, subst, ◌∙◌}
 use Rattle.ill_tool.specs.Lines.{line}
 use Rattle.ill_tool.proofs.StatusLemmas.{joined_by_spaces}

@@ -1,3 +1,4 @@
+-- Answers the contract of `take_input` (`src/take.rt`).
 use Rattle.std.proofs.Common.{Ok, Err, not, eqb}
 use Rattle.ill_tool.specs.Performing.{view_of}
 use Rattle.ill_tool.specs.Telling.{wording}

@@ -1,3 +1,4 @@
+-- Answers the contract of `take_on` (`src/take.rt`).
 use Rattle.std.proofs.Common.{rules, ◌≡◌, subst, not, eqb}
 use Rattle.ill_tool.specs.Performing.{view_of}
 use Rattle.ill_tool.specs.Take.{RunsTaking}
@@ -5,6 +6,7 @@ use Rattle.ill_tool.specs.Telling.{wording}
 use Rattle.ill_tool.proofs.take.take_on.Goals as goal
 
 module _ {T V D B : Type 0} (view : T → V) (kept : D → B) (P : V → V → B → B → Type 0) where
+  -- If `P` holds of the views of some values, it holds of the views of equal values.
   at_same : (a x b y : T) (p q r s : D) → a ≡ x → b ≡ y → p ≡ q → r ≡ s → P (view a) (view b) (kept p) (kept r) → P (view x) (view y) (kept q) (kept s)
   at_same a x b y p q r s e f g h is =
       subst (λ w. P (view x) (view y) (kept q) (kept w)) h

@@ -1,3 +1,4 @@
+-- Answers the contract of `take_on_shelf` (`src/take_home.rt`).
 use Rattle.std.proofs.Common.{◌≡◌, inr, Ok, Err, refl, ap, subst}
 use Rattle.ill_tool.specs.Input.{ReadsInput}
 use Rattle.ill_tool.specs.declared.take_home.TakesHome.{TakesHome}

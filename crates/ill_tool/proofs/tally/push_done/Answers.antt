@@ -1,11 +1,13 @@
+-- Answers the contract of `push_done` (`src/tally.rt`).
 use Rattle.std.proofs.Common.{◌≡◌, ℕ, ◌++◌, List, ap, append_assoc, refl, ◌∙◌}
 use Rattle.std.specs.Prelude.{codes}
 use Rattle.std.specs.Fmt.{decimal}
 use Rattle.ill_tool.specs.Inbox.{done_text}
 use Rattle.ill_tool.proofs.tally.push_done.Goals as goal
 
--- Ten texts are joined from the left as from the right.
-ten_joined : (a b c d e f g h i j : List ℕ) → a ++ (b ++ (c ++ (d ++ (e ++ (f ++ (g ++ (h ++ (i ++ j)))))))) ≡ a ++ b ++ c ++ d ++ e ++ f ++ g ++ h ++ i ++ j
+-- Ten texts that are joined from the right are those joined from the left.
+ten_joined : (a b c d e f g h i j : List ℕ)
+    → a ++ (b ++ (c ++ (d ++ (e ++ (f ++ (g ++ (h ++ (i ++ j)))))))) ≡ a ++ b ++ c ++ d ++ e ++ f ++ g ++ h ++ i ++ j
 ten_joined a b c d e f g h i j = simp append_assoc refl
 
 pub returns : goal.returns

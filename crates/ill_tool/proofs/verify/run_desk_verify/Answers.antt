@@ -1,3 +1,4 @@
+-- Answers the contract of `run_desk_verify` (`src/verify.rt`).
 use Rattle.std.proofs.Common.{rules, Ok, Err, Some, None, refl}
 use Rattle.std.proofs.KnownBytes.{Appends-nil}
 use Rattle.ill_tool.proofs.verify.run_desk_verify.Goals as goal

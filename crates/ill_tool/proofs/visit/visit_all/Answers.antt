@@ -1,3 +1,4 @@
+-- Answers the contract of `visit_all` (`src/visit.rt`).
 use Rattle.std.proofs.Common.{◌≡◌, ◌+◌, ◌<◌, ℕ, List, map, take, get_or, ap, sym, subst, ◌∙◌}
 use Rattle.std.specs.Prelude.{string_bytes}
 use Rattle.std.proofs.lemmas.List.{length-map, get_or-map}

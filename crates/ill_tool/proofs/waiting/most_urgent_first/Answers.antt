@@ -1,3 +1,4 @@
+-- Answers the contract of `most_urgent_first` (`src/waiting.rt`).
 use Rattle.std.proofs.Common.{rules, Bool, Option, Bor, is_none, ap, ◌∙◌}
 use Rattle.std.proofs.lemmas.List.Sorted.{answers_always}
 use Rattle.ill_values.specs.Day.{Date}

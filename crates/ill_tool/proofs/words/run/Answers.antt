@@ -1,3 +1,4 @@
+-- Answers the contract of `run` (`src/words.rt`).
 use Rattle.std.proofs.Common.{refl, sym, subst}
 use Rattle.ill_tool.specs.declared.request.Request.{Request}
 use Rattle.ill_tool.specs.Asked.{asked}

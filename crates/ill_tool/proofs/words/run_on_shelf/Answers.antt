@@ -1,3 +1,4 @@
+-- Answers the contract of `run_on_shelf` (`src/words.rt`).
 use Rattle.std.proofs.Common.{◌≡◌, Bool, Option, Some, None, refl, sym, subst}
 use Rattle.std.specs.Prelude.{is_some, option_map}
 use Rattle.ill_tool.specs.declared.request.Request.{Request}
@@ -6,7 +7,7 @@ use Rattle.ill_tool.specs.Commands.{OutboxAtFile}
 use Rattle.ill_tool.specs.Shelf.{RunsShelf, VisitsShelf}
 use Rattle.ill_tool.proofs.words.run_on_shelf.Goals as goal
 
--- A folder is there if its path is.
+-- An optional value is there exactly if its image is.
 is_there : {X Y : Type 0} (text : X → Y) (folder : Option X) → is_some folder ≡ is_some (option_map text folder)
 is_there text (Some folder) = refl
 is_there text None = refl

@@ -1,3 +1,4 @@
+-- Answers the contract of `act` of a desk as a keeper (`src/keeper.rt`).
 use Rattle.ill_tool.proofs.KeepingLemmas.{many_acts}
 use Rattle.ill_tool.proofs.keeper.DeskKeeper.act.Goals as goal
 

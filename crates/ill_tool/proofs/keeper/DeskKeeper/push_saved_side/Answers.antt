@@ -1,3 +1,4 @@
+-- Answers the contract of `push_saved_side` of a desk as a keeper (`src/keeper.rt`).
 use Rattle.std.proofs.Common.{◌≡◌, ◌++◌, OnOk, ℕ, List, ap, subst, length, ◌∙◌}
 use Rattle.ill_values.specs.TxnId.{Qualifiers}
 use Rattle.ill_world.specs.Trace.{side_text}
@@ -8,8 +9,9 @@ use Rattle.ill_tool.specs.Telling.{held_text}
 use Rattle.ill_saved.proofs.Finding.{side_of_held}
 use Rattle.ill_tool.proofs.keeper.DeskKeeper.push_saved_side.Goals as goal
 
--- The text of a side among all, with all that it has issued, is that of what is held, once it is saved.
-text_is : (live : DeskContents) (txn : Qualifiers) (shown counted : SidesOf) (issued : ℕ) → shown ≡ sides_held live → counted ≡ sides_held live → issued ≡ length (issued_of (side_for txn counted))
+-- The text of a side among all, with all its messages released, is that of the held side once saved.
+text_is : (live : DeskContents) (txn : Qualifiers) (shown counted : SidesOf) (issued : ℕ) → shown ≡ sides_held live
+    → counted ≡ sides_held live → issued ≡ length (issued_of (side_for txn counted))
     → side_text (side_for txn shown) issued ≡ held_text (whole (held_for txn live).side)
 text_is live txn shown counted issued same again all =
     ap (λ sides. side_text (side_for txn sides) issued) same ∙ ap (λ side. side_text side issued) (side_of_held txn live)

@@ -1,3 +1,4 @@
+-- Answers the contract of `push_side` of a desk as a keeper (`src/keeper.rt`).
 use Rattle.std.proofs.Common.{◌≡◌, ◌++◌, OnOk, OnErr, ℕ, List, ap, subst, ◌∙◌}
 use Rattle.ill_values.specs.TxnId.{Qualifiers}
 use Rattle.ill_der.specs.Adding.{AddsFront}
@@ -8,8 +9,9 @@ use Rattle.ill_tool.specs.Telling.{held_text}
 use Rattle.ill_saved.proofs.Finding.{side_of_held}
 use Rattle.ill_tool.proofs.keeper.DeskKeeper.push_side.Goals as goal
 
--- the text of the side among all, with so many released, is that of what is held
-text_is : (live : DeskContents) (txn : Qualifiers) (all : SidesOf) (released : ℕ) → all ≡ sides_held live → released ≡ (held_for txn live).released
+-- The text of a side among all, with `released` messages released, is that of the held side.
+text_is : (live : DeskContents) (txn : Qualifiers) (all : SidesOf) (released : ℕ) → all ≡ sides_held live
+    → released ≡ (held_for txn live).released
     → side_text (side_for txn all) released ≡ held_text (held_for txn live)
 text_is live txn all released same few =
     ap (λ all. side_text (side_for txn all) released) same ∙ ap (λ side. side_text side released) (side_of_held txn live) ∙ ap (side_text (held_for txn live).side) few

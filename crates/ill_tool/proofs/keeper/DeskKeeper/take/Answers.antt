@@ -1,3 +1,4 @@
+-- Answers the contract of `take` of a desk as a keeper (`src/keeper.rt`).
 use Rattle.ill_tool.proofs.KeepingLemmas.{many_takes}
 use Rattle.ill_tool.proofs.keeper.DeskKeeper.take.Goals as goal
 

@@ -1,3 +1,4 @@
+-- Answers the contract of `handle` of `TakesHome` (`src/take_home.rt`).
 use Rattle.std.proofs.Common.{Some, inl, refl}
 use Rattle.ill_der.specs.ShortForm.{spelling}
 use Rattle.ill_tool.proofs.take_home.TakesHomeHandler.handle.Goals as goal

@@ -12,7 +12,7 @@ use Rattle.ill_der.specs.declared.fault.DerFault.{DerFault}
 use Rattle.ill_der.specs.declared.fault.DerFault.TheVariants.{Short, Tag, Length, Field, OutOfMemory}
 use Rattle.ill_der.specs.ShortForm.{spelling, header_at, outer_at, apdu_at}
 use Rattle.ill_der.specs.Stream.{IsUnfinished, IfShort}
-use Rattle.ill_der.specs.Feed.{Begins, DeskEntry, Leaves, fault_of, end_of}
+use Rattle.ill_der.specs.Feed.{Begins, Unread, Leaves, fault_of, end_of}
 use Rattle.ill_der.specs.Handling.{Handles, Handled, FailsAt, HandlesEach}
 use Rattle.ill_tool.specs.declared.fault.ToolFault.{ToolFault}
 use Rattle.ill_tool.specs.declared.input.Counted.{Counted}
@@ -63,7 +63,7 @@ reads_as handles seen view as_seen old new before after result is = (
 -- A failure by `handles` is a failure by `seen` on the views, if each step is.
 fails_as : {S T F : Type 0} (handles : Handles S F) (seen : Handles T F) (view : S → T)
     → ((s t : S) (apdu : Apdu) (r : Result (Unit {0}) F) → handles s apdu r t → seen (view s) apdu r (view t))
-    → (old : DeskEntry) (piece : List ℕ) (before after : S) (fault : F) → FailsAt handles old piece before fault after
+    → (old : Unread) (piece : List ℕ) (before after : S) (fault : F) → FailsAt handles old piece before fault after
     → FailsAt seen old piece (view before) fault (view after)
 fails_as handles seen view as_seen (Ok held) piece before after fault is =
     (is.0, is.1, is.2, view is.3, is.4, handled_as handles seen view as_seen before is.3 is.0 is.5, as_seen is.3 after is.1 (Err fault) is.6)
@@ -72,7 +72,7 @@ fails_as handles seen view as_seen (Err closed) piece before after fault is = ab
 -- A piece that was handled by `handles` is handled by `seen` on the views, if each step is.
 pub each_as : {S T F : Type 0} (handles : Handles S F) (seen : Handles T F) (view : S → T)
     → ((s t : S) (apdu : Apdu) (r : Result (Unit {0}) F) → handles s apdu r t → seen (view s) apdu r (view t))
-    → (old : DeskEntry) (piece : List ℕ) (before : S) (result : Result (Option DerFault) F) (new : DeskEntry) (after : S)
+    → (old : Unread) (piece : List ℕ) (before : S) (result : Result (Option DerFault) F) (new : Unread) (after : S)
     → HandlesEach handles old piece before result new after
     → HandlesEach seen old piece (view before) result new (view after)
 each_as handles seen view as_seen old piece before (Ok fault) new after is = (is.0, (is.1.0, is.1.1, handled_as handles seen view as_seen before after is.1.0 is.1.2))
@@ -98,19 +98,19 @@ counted_on handles before after (apdu ∷ apdus) few is =
     (omega (arith, one.1, on.0), on.1, (is.0.1, one.2, on.2))
 
 -- A piece was pushed, and its APDUs were counted and handled.
-abbrev pub HandlesCounted : {H C : Type 0} → Handles (H × C) ToolFault → DeskEntry → List ℕ → Counted H × C
-    → Result (Option DerFault) ToolFault → DeskEntry → Counted H × C → Type 0
+abbrev pub HandlesCounted : {H C : Type 0} → Handles (H × C) ToolFault → Unread → List ℕ → Counted H × C
+    → Result (Option DerFault) ToolFault → Unread → Counted H × C → Type 0
 HandlesCounted handles old piece before result new after =
     HandlesEach (λ s apdu r t. CountsOn handles (s.0.count, (s.0.handler, s.1)) apdu r (t.0.count, (t.0.handler, t.1))) old piece before result new after
 
 -- A piece handled with a counted handler is handled on the pairs of count and state.
-each_counted : {H C : Type 0} (handles : Handles (H × C) ToolFault) (old feed : DeskEntry) (piece : List ℕ) (before : Counted H × C) (result : Result (Option DerFault) ToolFault) (new : DeskEntry) (after : Counted H × C)
+each_counted : {H C : Type 0} (handles : Handles (H × C) ToolFault) (old feed : Unread) (piece : List ℕ) (before : Counted H × C) (result : Result (Option DerFault) ToolFault) (new : Unread) (after : Counted H × C)
     → feed ≡ old → HandlesCounted handles feed piece before result new after
     → HandlesEach (CountsOn handles) old piece (before.0.count, (before.0.handler, before.1)) result new (after.0.count, (after.0.handler, after.1))
 each_counted {H = H} {C = C} handles old feed piece before result new after same is =
     each_as (λ (s : Counted H × C) apdu r t. CountsOn handles (s.0.count, (s.0.handler, s.1)) apdu r (t.0.count, (t.0.handler, t.1))) (CountsOn handles)
     (λ s. (s.0.count, (s.0.handler, s.1))) (λ s t apdu r h. h) old piece before result new after
-    (subst (λ (f : DeskEntry). HandlesCounted handles f piece before result new after) same is)
+    (subst (λ (f : Unread). HandlesCounted handles f piece before result new after) same is)
 
 -- ---- lists of APDUs
 
@@ -134,7 +134,7 @@ spelled_join front more rest = sym (append_assoc (spellings front) (spellings mo
 -- ---- the APDUs so far
 
 -- The APDUs whose encodings were read have been handled, and the bytes `held` after them are held.
-pub record SoFar {S : Type 0} (handles : Handles S ToolFault) (old now : Option (List ℕ)) (before : S) (count : ℕ) (feed : DeskEntry) (after : S) (apdus : List Apdu) (held : List ℕ) : Type 0 where
+pub record SoFar {S : Type 0} (handles : Handles S ToolFault) (old now : Option (List ℕ)) (before : S) (count : ℕ) (feed : Unread) (after : S) (apdus : List Apdu) (held : List ℕ) : Type 0 where
   pub spelled : AllByRecursion IsApdu apdus
   pub counted : length apdus ≡ count
   pub few : count ≤ 100000
@@ -144,11 +144,11 @@ pub record SoFar {S : Type 0} (handles : Handles S ToolFault) (old now : Option 
   pub unfinished : IsUnfinished held
 
 -- Some APDUs have been read and handled so far, and some bytes are held.
-abbrev pub ReadSoFar : {S : Type 0} → Handles S ToolFault → Option (List ℕ) → Option (List ℕ) → S → ℕ → DeskEntry → S → Type 0
+abbrev pub ReadSoFar : {S : Type 0} → Handles S ToolFault → Option (List ℕ) → Option (List ℕ) → S → ℕ → Unread → S → Type 0
 ReadSoFar handles old now before count feed after = (apdus : List Apdu) × (held : List ℕ) × SoFar handles old now before count feed after apdus held
 
 -- At the beginning no APDU is read, and no byte is held.
-pub none_read : {S : Type 0} (handles : Handles S ToolFault) (old : Option (List ℕ)) (before : S) (count : ℕ) (feed : DeskEntry)
+pub none_read : {S : Type 0} (handles : Handles S ToolFault) (old : Option (List ℕ)) (before : S) (count : ℕ) (feed : Unread)
     → count ≡ 0 → feed ≡ Ok [] → ReadSoFar handles old old before count feed before
 unfolding apdu_at outer_at header_at
 none_read handles old before count feed none empty =
@@ -179,12 +179,12 @@ apdus_read old now new apdus more held piece rest read piece_is begins =
 -- ---- one piece more
 
 -- Returns the number of bytes that may still come, at most.
-abbrev pub room : ℕ → DeskEntry → ℕ
+abbrev pub room : ℕ → Unread → ℕ
 room count (Ok held) = 35900359 - (count * 359 + length held)
 room count (Err fault) = 0
 
 -- A feed that a push did not close holds bytes.
-still_open : (new : DeskEntry) → None ≡ fault_of new → (held : List ℕ) × (new ≡ Ok held)
+still_open : (new : Unread) → None ≡ fault_of new → (held : List ℕ) × (new ≡ Ok held)
 still_open (Ok held) e = (held, refl)
 still_open (Err fault) e = absurd cc
 
@@ -209,18 +209,18 @@ rest_within : (held piece text rest : List ℕ) → held ++ piece ≡ text ++ re
 rest_within held piece text rest e = omega (arith, ap length e, length-append held piece, length-append text rest)
 
 -- A piece that is not empty makes the room fall.
-room_falls : ShortLaw → (count m : ℕ) (feed next : DeskEntry) (held now piece : List ℕ) (more : List Apdu)
+room_falls : ShortLaw → (count m : ℕ) (feed next : Unread) (held now piece : List ℕ) (more : List Apdu)
     → feed ≡ Ok held → next ≡ Ok now → held ++ piece ≡ spellings more ++ now
     → m ≡ count + length more → m ≤ 100000 → IsUnfinished held → IsUnfinished now → 0 < length piece
     → room m next < room count feed
 room_falls law count m feed next held now piece more was is parts counted few unfinished still some =
-    subst (λ (f : DeskEntry). room m next < room count f) (sym was)
-    (subst (λ (f : DeskEntry). room m f < room count (Ok held)) (sym is)
+    subst (λ (f : Unread). room m next < room count f) (sym was)
+    (subst (λ (f : Unread). room m f < room count (Ok held)) (sym is)
     (more_room count (length more) (length held) (length piece) (length now) m (longer_or_handed more held piece now parts) counted few (few_held law held unfinished) (few_held law now still) some))
 
 -- If a piece was pushed and the feed stayed open, the APDUs so far grow, and the room falls.
 pub one_piece_more : {H C : Type 0} (handles : Handles (H × C) ToolFault) → ShortLaw
-    → (old now new : Option (List ℕ)) (before : H × C) (middle after : Counted H × C) (feed next : DeskEntry) (piece : List ℕ)
+    → (old now new : Option (List ℕ)) (before : H × C) (middle after : Counted H × C) (feed next : Unread) (piece : List ℕ)
     → ReadSoFar handles old now before middle.0.count feed (middle.0.handler, middle.1) → Consumes now new piece
     → 0 < length piece → (closed : Option DerFault) → closed ≡ None
     → HandlesCounted handles feed piece middle (Ok closed) next after
@@ -258,7 +258,7 @@ one_piece_more {H = H} {C = C} handles law old now new before middle after feed 
 
 -- If the input ends with the held bytes, it was read to that end.
 ends_held : {S : Type 0} (handles : Handles S ToolFault) → ShortLaw
-    → (old new : Option (List ℕ)) (before after : S) (count : ℕ) (feed : DeskEntry) (result : Result ℕ ToolFault) (apdus : List Apdu) (held : List ℕ)
+    → (old new : Option (List ℕ)) (before after : S) (count : ℕ) (feed : Unread) (result : Result ℕ ToolFault) (apdus : List Apdu) (held : List ℕ)
     → SoFar handles old new before count feed after apdus held → Ends handles result count held [] new after after
     → ReadsInput handles old new before result after
 ends_held handles law old new before after count feed result apdus held is ended = (
@@ -288,17 +288,17 @@ at_end handles count (byte ∷ held) left after unfinished end =
 
 -- If the reader is at its end, the input was read with the answer at its end.
 pub ends_at_end : {S : Type 0} (handles : Handles S ToolFault) → ShortLaw
-    → (old new : Option (List ℕ)) (before after : S) (count : ℕ) (feed : DeskEntry)
+    → (old new : Option (List ℕ)) (before after : S) (count : ℕ) (feed : Unread)
     → ReadSoFar handles old new before count feed after → IsAtEnd new
     → ReadsInput handles old new before (answer_at_end (end_of feed) count) after
 ends_at_end handles law old new before after count feed so_far end =
     let held = so_far.1 in
     let is = so_far.2 in
     ends_held handles law old new before after count feed (answer_at_end (end_of feed) count) so_far.0 held is
-    (subst (λ (f : DeskEntry). Ends handles (answer_at_end (end_of f) count) count held [] new after after) (sym is.opened) (at_end handles count held new after is.unfinished end))
+    (subst (λ (f : Unread). Ends handles (answer_at_end (end_of f) count) count held [] new after after) (sym is.opened) (at_end handles count held new after is.unfinished end))
 
 -- If no byte more was read, the APDUs so far stay.
-pub read_nothing : {S : Type 0} (handles : Handles S ToolFault) (old now new : Option (List ℕ)) (before after : S) (count : ℕ) (feed : DeskEntry)
+pub read_nothing : {S : Type 0} (handles : Handles S ToolFault) (old now new : Option (List ℕ)) (before after : S) (count : ℕ) (feed : Unread)
     → ReadSoFar handles old now before count feed after
     → Consumes now new [] → ReadSoFar handles old new before count feed after
 read_nothing handles old now new before after count feed so_far read =
@@ -324,7 +324,7 @@ kept_nothing now new keeps = Consumes-kept now now new [] (Consumes-nil now) kee
 
 -- If the reader failed, the input was read up to its fault.
 pub ends_unread : {S : Type 0} (handles : Handles S ToolFault) → ShortLaw
-    → (old now new : Option (List ℕ)) (before after : S) (count : ℕ) (feed : DeskEntry)
+    → (old now new : Option (List ℕ)) (before after : S) (count : ℕ) (feed : Unread)
     → ReadSoFar handles old now before count feed after
     → Keeps now new → ReadsInput handles old new before (Err Read) after
 ends_unread handles law old now new before after count feed so_far keeps =
@@ -332,7 +332,7 @@ ends_unread handles law old now new before after count feed so_far keeps =
     ends_held handles law old new before after count feed (Err Read) still.0 still.1 still.2 (inl ((still.2.unfinished, refl), refl))
 
 -- A feed that a push closed with `fault` is that fault.
-closed_by : (new : DeskEntry) (fault : DerFault) → Some fault ≡ fault_of new → new ≡ Err fault
+closed_by : (new : Unread) (fault : DerFault) → Some fault ≡ fault_of new → new ≡ Err fault
 closed_by (Ok held) fault e = absurd cc
 closed_by (Err closed) fault e = (let is : fault ≡ closed = cc in ap (λ (f : DerFault). Err f) (sym is))
 
@@ -346,7 +346,7 @@ not_short OutOfMemory P none = tt
 
 -- If the bytes of a piece closed the feed, the input was read up to the fault of these bytes.
 pub ends_closed : {H C : Type 0} (handles : Handles (H × C) ToolFault) → ShortLaw
-    → (old now new : Option (List ℕ)) (before : H × C) (middle after : Counted H × C) (feed next : DeskEntry) (piece : List ℕ) (fault : DerFault)
+    → (old now new : Option (List ℕ)) (before : H × C) (middle after : Counted H × C) (feed next : Unread) (piece : List ℕ) (fault : DerFault)
     → ReadSoFar handles old now before middle.0.count feed (middle.0.handler, middle.1) → Consumes now new piece
     → length piece ≤ 4096 → (closed : Option DerFault) → closed ≡ Some fault
     → HandlesCounted handles feed piece middle (Ok closed) next after
@@ -390,7 +390,7 @@ ends_in_hand handles state after apdu fault count ahead left is counted few on =
 
 -- If an APDU of a piece is one too many, or its handling failed, the input ends there.
 pub ends_failing : {H C : Type 0} (handles : Handles (H × C) ToolFault) → ShortLaw
-    → (old now new : Option (List ℕ)) (before : H × C) (middle after : Counted H × C) (feed next : DeskEntry) (piece : List ℕ) (fault : ToolFault)
+    → (old now new : Option (List ℕ)) (before : H × C) (middle after : Counted H × C) (feed next : Unread) (piece : List ℕ) (fault : ToolFault)
     → ReadSoFar handles old now before middle.0.count feed (middle.0.handler, middle.1) → Consumes now new piece
     → length piece ≤ 4096
     → HandlesCounted handles feed piece middle (Err fault) next after

@@ -23,7 +23,7 @@ use Rattle.ill_tool.specs.Output.{WritesText}
 
 -- The messages `came` stand one after another in `bytes`, up to the end or a part that is none.
 abbrev pub AreIn : List ℕ → List Apdu → Type 0
-AreIn bytes came = (left : feeds.DeskEntry) × feeds.Feeds (Ok []) bytes came left
+AreIn bytes came = (left : feeds.Unread) × feeds.Feeds (Ok []) bytes came left
 
 -- Returns true if two messages have equal bytes.
 abbrev pub is_same : Apdu → Apdu → Bool

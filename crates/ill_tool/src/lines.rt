@@ -2,7 +2,7 @@
 
 ghost use Rattle.std.specs.Prelude.{◌≡◌, ◌++◌, codes, OnOk};
 ghost use Rattle.ill_values.specs.declared.apdu.Body.TheVariants.{IllRequest};
-ghost use Rattle.ill_der.specs.HeldAndLanded.{apdu_of, body_in};
+ghost use Rattle.ill_der.specs.View.{apdu_of, body_in};
 ghost use Rattle.ill_tool.specs.Escape.{escaped};
 ghost use Rattle.ill_tool.specs.Lines.{line, shown_fields, shown_lines, reply_word, number_line, date_line, optional_date_line, reply_lines, grant_lines, field_lines, id_lines, head_lines, lines_of, count_line};
 

@@ -2,7 +2,7 @@
 
 ghost use Rattle.std.specs.Prelude.{◌≡◌, [], ◌++◌, map, codes, OnOk};
 ghost use Rattle.ill_values.specs.declared.apdu.Body.TheVariants.{IllRequest};
-ghost use Rattle.ill_der.specs.HeldAndLanded.{apdu_of, body_in};
+ghost use Rattle.ill_der.specs.View.{apdu_of, body_in};
 ghost use Rattle.ill_tool.specs.Json.{array, joined, member, optional, quoted, value_text};
 ghost use Rattle.ill_tool.specs.List.{item_asked};
 ghost use Rattle.ill_tool.specs.Loan.{request_of};

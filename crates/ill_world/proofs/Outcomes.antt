@@ -63,12 +63,12 @@ deed_line y deed today = search rules
 number_seen : (apdus : List Apdu) → is_seen (next_number apdus) ≡ true
 number_seen apdus = search rules
 
-wish_done : (x : RequesterRecord) (line : Result requester_actions.ScriptLine Refusal) (number : Result ℕ Refusal) → is_seen line ≡ true → is_seen number ≡ true → is_seen (requester_actions.acts_by x line number) ≡ true
+wish_done : (x : RequesterRecord) (line : Result requester_actions.Line Refusal) (number : Result ℕ Refusal) → is_seen line ≡ true → is_seen number ≡ true → is_seen (requester_actions.acts_by x line number) ≡ true
 wish_done x (Err refusal) number first second = first
 wish_done x (Ok line) (Err refusal) first second = second
 wish_done x (Ok line) (Ok number) first second = refl
 
-deed_done : (y : ResponderRecord) (line : Result responder_actions.ScriptLine Refusal) (number : Result ℕ Refusal) → is_seen line ≡ true → is_seen number ≡ true → is_seen (responder_actions.acts_by y line number) ≡ true
+deed_done : (y : ResponderRecord) (line : Result responder_actions.Line Refusal) (number : Result ℕ Refusal) → is_seen line ≡ true → is_seen number ≡ true → is_seen (responder_actions.acts_by y line number) ≡ true
 deed_done y (Err refusal) number first second = first
 deed_done y (Ok line) (Err refusal) first second = second
 deed_done y (Ok line) (Ok number) first second = refl

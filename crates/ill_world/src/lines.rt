@@ -19,7 +19,7 @@ const LF: u8 = b'\n';
 #[derive(Clone, Copy)]
 pub enum Found {
     /// A line, and its LF.
-    ScriptLine,
+    Line,
     /// What follows the last LF: the text has ended.
     Rest,
     /// More bytes than a line may have.
@@ -60,7 +60,7 @@ fn take_part(ahead: &mut Ahead, line: &mut Vec<u8>) -> Result<Option<Found>, Out
         Some(at) => {
             line.extend_from_slice(&front[..at])?;
             ahead.skip(at + 1);
-            Ok(Some(Found::ScriptLine))
+            Ok(Some(Found::Line))
         }
         None if most > room => {
             ahead.skip(most);

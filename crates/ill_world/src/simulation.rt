@@ -154,7 +154,7 @@ impl<T: Performer> Simulation<T> {
         ensures few { self.new.count ≤ self.old.count + 1 }
     {
         match next_line(reader, &mut self.ahead, &mut self.line)? {
-            Found::ScriptLine => {
+            Found::Line => {
                 self.perform_line(alloc, writer, number)?;
                 Ok(true)
             }

@@ -54,7 +54,7 @@ no_lf bytes is = lf_stands bytes [] 0 None is
 
 -- up to its LF
 pub takes_line : (before ahead front line : List ℕ) (most at : ℕ) → length front ≤ 1024 → most ≤ 1025 - length front → lf_place (take most before) ≡ Some at
-    → line ≡ front ++ take at (take most before) → ahead ≡ drop (at + 1) before → TakesPart before ahead front line (Ok (Some found.ScriptLine))
+    → line ≡ front ++ take at (take most before) → ahead ≡ drop (at + 1) before → TakesPart before ahead front line (Ok (Some found.Line))
 takes_line before ahead front line most at few within is line_is ahead_is =
     let part = take most before in
     let first = first_lf part (drop most before) at is in

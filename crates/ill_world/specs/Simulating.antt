@@ -47,7 +47,7 @@ IsLine bytes = (has_lf bytes ≡ false) × (length bytes ≤ 1024)
 -- Bytes of `before` join `front`, the begin of a line: up to an LF, beyond the limit, or all. If memory runs out, none
 -- are taken.
 abbrev pub TakesPart : List ℕ → List ℕ → List ℕ → List ℕ → Result (Option Found) AllocError → Type 0
-TakesPart before ahead front line (Ok (Some found.ScriptLine)) =
+TakesPart before ahead front line (Ok (Some found.Line)) =
     (bytes : List ℕ) × (before ≡ bytes ++ 10 ∷ ahead) × (has_lf bytes ≡ false)
     × (line ≡ front ++ bytes) × (length line ≤ 1024)
 TakesPart before ahead front line (Ok (Some found.Rest)) = ⊥
@@ -61,7 +61,7 @@ TakesPart before ahead front line (Err fault) = ahead ≡ before
 -- A line was read: with its LF, to the end of the text, or beyond the limit. A failing reader or want of memory cuts
 -- it off.
 abbrev pub ReadsLine : Option (List ℕ) → Option (List ℕ) → List ℕ → Result Found SimFault → Type 0
-ReadsLine old new bytes (Ok found.ScriptLine) = IsLine bytes × Consumes old new (bytes ++ 10 ∷ [])
+ReadsLine old new bytes (Ok found.Line) = IsLine bytes × Consumes old new (bytes ++ 10 ∷ [])
 ReadsLine old new bytes (Ok found.Rest) = IsLine bytes × Consumes old new bytes × IsAtEnd new
 ReadsLine old new bytes (Ok found.TooLong) =
     (more : List ℕ) × (has_lf more ≡ false) × (length more ≡ 1025) × Consumes old new more

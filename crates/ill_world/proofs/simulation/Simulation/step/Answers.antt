@@ -16,7 +16,7 @@ returns-in_err-perform_line-in-Line-clause-steps g c =
     let remaining = g.R.Read.remaining in
     let bytes = c.next_line.new.line.items in
     let was = subst (λ f. ReadsLine (prepend_known c.args.self.now.ahead (remaining c.args.reader.now)) (prepend_known c.next_line.new.ahead (remaining c.next_line.new.reader)) bytes (Ok f)) c.in-Line.is c.in_ok-next_line.ensures.line in
-    let read = subst (λ ahead. ReadsLine (prepend_known c.args.self.now.ahead (remaining c.args.reader.now)) (prepend_known ahead (remaining c.next_line.new.reader)) bytes (Ok found.ScriptLine)) (sym c.perform_line.ensures.ahead) was in
+    let read = subst (λ ahead. ReadsLine (prepend_known c.args.self.now.ahead (remaining c.args.reader.now)) (prepend_known ahead (remaining c.next_line.new.reader)) bytes (Ok found.Line)) (sym c.perform_line.ensures.ahead) was in
     passes_on g.T.Performer.play c.args.self.now.carried _ c.args.number _ _ _ _ _ _ _ _ c.from_residual-in_err-perform_line-in-Line.result c.in_err-perform_line-in-Line.field-0.0 c.from_residual-in_err-perform_line-in-Line.ensures.1
     (line_stops g.T.Performer.play c.args.self.now.carried c.args.number _ _ _ _ _ _ _ _ bytes _ c.in_err-perform_line-in-Line.field-0.0 c.requires.number read.0 read.1 (begins_closed g.T.Performer.play c.args.self.now.carried c.args.number bytes _ read.0) c.in_err-perform_line-in-Line.ensures.performs)
 

@@ -1,6 +1,6 @@
 //! The cases by their words.
 
-use crate::any_desk::StoredDesk;
+use crate::any_desk::AnyDesk;
 use crate::files::Folder;
 use crate::judging::Outcome;
 use crate::words::Words;
@@ -103,11 +103,7 @@ fn store_outcome(alloc: Global, call: &str, words: &mut Words<'_>) -> Option<Out
     }
 }
 
-fn desk_outcome<D: StoredDesk>(
-    alloc: Global,
-    call: &str,
-    words: &mut Words<'_>,
-) -> Option<Outcome> {
+fn desk_outcome<D: AnyDesk>(alloc: Global, call: &str, words: &mut Words<'_>) -> Option<Outcome> {
     match call {
         "create" => starts::creates::<D>(alloc, words),
         "create-over-record" => starts::exists::<D>(alloc, words),

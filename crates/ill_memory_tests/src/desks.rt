@@ -1,17 +1,16 @@
 //! A desk of one transaction or of many: each call, and what it leaves.
 
-use crate::any_desk::StoredDesk;
+use crate::any_desk::AnyDesk;
 use crate::codec::REQUEST;
 use crate::judging::{Outcome, done_if, judged, leaving, quiet};
 use crate::marks::{begin, end};
 use crate::messages::{txn, wish};
 use crate::records::Role;
 use crate::stores::store;
-use crate::words::Words;
+use crate::words::{Words, named};
 use ill_core::{Deed, Refusal, State, Taking, Wish};
 use ill_der::decode;
 use ill_saved::{Action, DeskFault, MemoryStore, NextCall, StoreFault};
-use ill_test_kit::named;
 use ill_values::{AnswerResult, Apdu, Day, Number, TxnId};
 use std::alloc::Global;
 
@@ -83,7 +82,7 @@ struct Keeping<'a> {
 type Ample<'a> = (Option<DeskFault>, &'a [u8]);
 
 /// The case of a desk whose side has issued one message more than its store has.
-pub fn outcome<D: StoredDesk>(alloc: Global, name: &str, words: &mut Words<'_>) -> Option<Outcome> {
+pub fn outcome<D: AnyDesk>(alloc: Global, name: &str, words: &mut Words<'_>) -> Option<Outcome> {
     let role = Role::read(words)?;
     let plan = words.plan().unwrap_or(NextCall::Works);
     let mut desk: D = started_desk(alloc, role)?;
@@ -93,7 +92,7 @@ pub fn outcome<D: StoredDesk>(alloc: Global, name: &str, words: &mut Words<'_>) 
 }
 
 /// The outcome of the call of this name behind an action, which is not saved.
-fn acts_and_calls<D: StoredDesk>(
+fn acts_and_calls<D: AnyDesk>(
     alloc: Global,
     desk: &mut D,
     name: &str,
@@ -107,7 +106,7 @@ fn acts_and_calls<D: StoredDesk>(
 }
 
 /// `restart` of a desk that has begun and saved nothing.
-pub fn restarts_idle<D: StoredDesk>(alloc: Global, words: &mut Words<'_>) -> Option<Outcome> {
+pub fn restarts_idle<D: AnyDesk>(alloc: Global, words: &mut Words<'_>) -> Option<Outcome> {
     let role = Role::read(words)?;
     let (begun, _) = D::create_as(alloc, MemoryStore::new(alloc), role)?;
     let mut desk: D = begun.ok()?;
@@ -117,7 +116,7 @@ pub fn restarts_idle<D: StoredDesk>(alloc: Global, words: &mut Words<'_>) -> Opt
 }
 
 /// The outcome of `restart` behind the first message, which is not saved.
-fn begins_and_restarts<D: StoredDesk>(alloc: Global, desk: &mut D, role: Role) -> Option<Outcome> {
+fn begins_and_restarts<D: AnyDesk>(alloc: Global, desk: &mut D, role: Role) -> Option<Outcome> {
     let has_begun = match role {
         Role::Requester => acts(alloc, desk, wish(alloc, "Request")),
         Role::Responder => desk.take_spelled(alloc, REQUEST).is_ok(),
@@ -131,7 +130,7 @@ fn begins_and_restarts<D: StoredDesk>(alloc: Global, desk: &mut D, role: Role) -
 
 /// The outcome of the call of this name, under a plan of the store, in which this has landed. A name of no
 /// call is for the readers.
-fn called<D: StoredDesk>(
+fn called<D: AnyDesk>(
     alloc: Global,
     desk: &mut D,
     name: &str,
@@ -191,7 +190,7 @@ fn ample_of<'a>(name: &str, plan: NextCall, had: Keeping<'a>) -> Ample<'a> {
 }
 
 /// What a call answers, and whether an allocation was refused meanwhile.
-fn performed<D: StoredDesk>(
+fn performed<D: AnyDesk>(
     alloc: Global,
     desk: &mut D,
     call: Call,
@@ -205,7 +204,7 @@ fn performed<D: StoredDesk>(
 }
 
 /// Whether the call answers what it has to, or its fault.
-fn answer_of<D: StoredDesk>(
+fn answer_of<D: AnyDesk>(
     alloc: Global,
     desk: &mut D,
     call: Call,
@@ -226,14 +225,14 @@ fn is_taken(answer: Result<Taking, DeskFault>) -> Result<bool, DeskFault> {
     Ok(answer? == Taking::Taken)
 }
 
-fn is_first<D: StoredDesk>(alloc: Global, desk: &D, given: &Given) -> Result<bool, DeskFault> {
+fn is_first<D: AnyDesk>(alloc: Global, desk: &D, given: &Given) -> Result<bool, DeskFault> {
     let first = Number::new(1).ok_or(DeskFault::NoSuchMessage)?;
     let bytes = desk.message_in(alloc, &given.txn, first)?;
     Ok(bytes.as_slice() == given.first)
 }
 
 /// The outcome of a call with this answer. After want of memory the desk keeps what it had.
-fn outcome_of<D: StoredDesk>(
+fn outcome_of<D: AnyDesk>(
     alloc: Global,
     desk: &mut D,
     txn: &TxnId,
@@ -253,7 +252,7 @@ fn outcome_of<D: StoredDesk>(
 }
 
 /// Whether this record has landed. The desk goes back to it.
-fn has_landed<D: StoredDesk>(alloc: Global, desk: &mut D, record: &[u8]) -> bool {
+fn has_landed<D: AnyDesk>(alloc: Global, desk: &mut D, record: &[u8]) -> bool {
     desk.plan(NextCall::Works);
     desk.go_back(alloc).is_ok() && desk.is_of(alloc, record)
 }
@@ -271,7 +270,7 @@ fn is_expected(
 }
 
 /// The readers of a desk, and `set_next`.
-fn shows<D: StoredDesk>(alloc: Global, desk: &mut D, txn: &TxnId) -> Outcome {
+fn shows<D: AnyDesk>(alloc: Global, desk: &mut D, txn: &TxnId) -> Outcome {
     begin(alloc);
     let released = desk.released_in(txn);
     let state = desk.state_in(txn);
@@ -283,12 +282,12 @@ fn shows<D: StoredDesk>(alloc: Global, desk: &mut D, txn: &TxnId) -> Outcome {
 }
 
 /// A desk that starts from the record of this role.
-pub fn started_desk<D: StoredDesk>(alloc: Global, role: Role) -> Option<D> {
+pub fn started_desk<D: AnyDesk>(alloc: Global, role: Role) -> Option<D> {
     D::start_from(alloc, store(alloc, role.record())?).ok()
 }
 
 /// Whether the desk does this.
-fn acts<D: StoredDesk>(alloc: Global, desk: &mut D, action: Option<Action>) -> bool {
+fn acts<D: AnyDesk>(alloc: Global, desk: &mut D, action: Option<Action>) -> bool {
     let Some((action, txn)) = action.zip(txn(alloc, "T1")) else {
         return false;
     };

@@ -3,8 +3,8 @@
 use crate::judging::{Outcome, done_if, judged, leaving};
 use crate::marks::{begin, end};
 use crate::stores::{NEW, OLD, loading, loads_as, saving};
+use crate::words::named;
 use ill_saved::{FileLock, FileStore, Store, StoreFault};
-use ill_test_kit::named;
 use ill_values::OutOfMemory;
 use std::alloc::Global;
 use std::fs;

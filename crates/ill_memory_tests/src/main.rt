@@ -34,42 +34,58 @@ mod words;
 mod worlds;
 
 use files::Folder;
-use ill_test_kit::{Lines, Page, answer_lines, make_folder};
 use judging::Outcome;
 use std::alloc::Global;
-use std::{fs, io};
+use std::io::{Error, ErrorKind};
+use std::{env, fs, io};
 use words::Words;
 
 fn main(rt: HostRuntime) -> io::Result<()> {
     let alloc = rt.alloc();
-    let path = make_folder(&rt, alloc, "ill_memory_tests")?;
+    let path = make_folder(&rt, alloc)?;
     let folder = Folder::new(&rt, path.clone()?);
-    let performed = answer_lines(&rt, &mut Calls { alloc, folder });
+    let performed = perform_lines(&rt, alloc, &folder);
     fs::remove_dir_all(&rt, path.as_str())?;
     performed
 }
 
-/// What performs the cases: the folder of their files.
-#[derive(Drop)]
-struct Calls<'a> {
-    alloc: Global,
-    folder: Folder<'a>,
+/// Makes a folder that was not there.
+fn make_folder(rt: &HostRuntime, alloc: Global) -> io::Result<String> {
+    let below = env::temp_dir(rt)?;
+    for number in 0..u16::MAX {
+        let path = format!(in alloc; "{}/ill_memory_tests.{number}", below.as_str())?;
+        if is_made(rt, path.as_str())? {
+            return Ok(path);
+        }
+    }
+    Err(Error::from(ErrorKind::AlreadyExists))
 }
 
-impl Lines for Calls<'_> {
-    fn perform(&mut self, page: &mut Page, line: &str) {
-        if line.starts_with('#') {
-            return page.line(line);
-        }
-        let case = line.split_once(": ").map_or(line, |(case, _)| case);
-        let outcome = cases::outcome(self.alloc, &self.folder, &mut Words::new(case, ' '));
-        page.text(case);
-        page.text(": ");
-        page.show_parts(&outcome.unwrap_or(Outcome::NoSuchCase));
-        page.text("\n");
+/// Makes a folder, and tells whether it was not there.
+fn is_made(rt: &HostRuntime, path: &str) -> io::Result<bool> {
+    match fs::create_dir(rt, path) {
+        Err(error) if error.kind() == ErrorKind::AlreadyExists => Ok(false),
+        made => made.and(Ok(true)),
     }
+}
 
-    fn end(&mut self, _page: &mut Page) -> Option<()> {
-        Some(())
+fn perform_lines(rt: &(impl Input + Print), alloc: Global, folder: &Folder<'_>) -> io::Result<()> {
+    let text = io::read_to_string(alloc, rt.reader())?;
+    for line in text.as_str().lines() {
+        perform_line(rt, alloc, folder, line)?;
     }
+    Ok(())
+}
+
+fn perform_line(rt: &impl Print, alloc: Global, folder: &Folder<'_>, line: &str) -> io::Result<()> {
+    if line.starts_with('#') {
+        return println!(rt; "{line}");
+    }
+    let case = line.split_once(": ").map_or(line, |(case, _)| case);
+    let outcome = cases::outcome(alloc, folder, &mut Words::new(case, ' '));
+    print_outcome(rt, case, outcome.unwrap_or(Outcome::NoSuchCase))
+}
+
+fn print_outcome(rt: &impl Print, case: &str, outcome: Outcome) -> io::Result<()> {
+    println!(rt; "{case}: {outcome:?}")
 }

@@ -3,26 +3,26 @@
 ghost use Rattle.std.specs.Prelude.{◌≡◌, IfSome};
 ghost use Rattle.ill_saved.specs.Side.{idle_of};
 
-use crate::any_desk::{Begun, StoredDesk};
+use crate::any_desk::{AnyDesk, Begun};
 use crate::judging::{Outcome, done_if, judged, leaving};
 use crate::marks::{begin, end};
 use crate::messages::txn;
 use crate::records::Role;
 use crate::stores::store;
 use crate::words::Words;
-use ill_desk_kit::idle_side;
+use ill_core::{Requester, Responder};
 use ill_saved::{DeskFault, MemoryStore, Side};
 use std::alloc::Global;
 
 /// `create` over a store that is empty.
-pub fn creates<D: StoredDesk>(alloc: Global, words: &mut Words<'_>) -> Option<Outcome> {
+pub fn creates<D: AnyDesk>(alloc: Global, words: &mut Words<'_>) -> Option<Outcome> {
     let role = Role::read(words)?;
     let (begun, refused) = D::create_as(alloc, MemoryStore::new(alloc), role)?;
     Some(outcome_of(alloc, begun, Ok(()), role.idle_record(), refused))
 }
 
 /// `create` over a store that has a record.
-pub fn exists<D: StoredDesk>(alloc: Global, words: &mut Words<'_>) -> Option<Outcome> {
+pub fn exists<D: AnyDesk>(alloc: Global, words: &mut Words<'_>) -> Option<Outcome> {
     let role = Role::read(words)?;
     let store = store(alloc, role.record())?;
     let (begun, refused) = D::create_as(alloc, store, role)?;
@@ -31,7 +31,7 @@ pub fn exists<D: StoredDesk>(alloc: Global, words: &mut Words<'_>) -> Option<Out
 }
 
 /// `start` from a record.
-pub fn starts<D: StoredDesk>(alloc: Global, words: &mut Words<'_>) -> Option<Outcome> {
+pub fn starts<D: AnyDesk>(alloc: Global, words: &mut Words<'_>) -> Option<Outcome> {
     let role = Role::read(words)?;
     let store = store(alloc, role.record())?;
     begin(alloc);
@@ -41,16 +41,19 @@ pub fn starts<D: StoredDesk>(alloc: Global, words: &mut Words<'_>) -> Option<Out
 }
 
 /// A side of this role before its first message.
-pub fn first_side(alloc: Global, role: Role) -> Option<Side>
+pub fn idle_side(alloc: Global, role: Role) -> Option<Side>
     ensures { IfSome result (λ side. side ≡ idle_of side) }
 {
     let txn = txn(alloc, "T1")?;
-    Some(idle_side(alloc, role.of_sides(), txn))
+    Some(match role {
+        Role::Requester => Side::Requester(Requester::idle(alloc, txn)),
+        Role::Responder => Side::Responder(Responder::idle(alloc, txn)),
+    })
 }
 
 /// The outcome of a call that answers this with ample memory. Its desk has what this record stands for; a
 /// store that it hands back has this record, from which a desk then starts.
-fn outcome_of<D: StoredDesk>(
+fn outcome_of<D: AnyDesk>(
     alloc: Global,
     begun: Begun<D>,
     ample: Result<(), DeskFault>,
@@ -70,7 +73,7 @@ fn outcome_of<D: StoredDesk>(
 }
 
 /// Whether there is a desk, and it has what this record stands for.
-fn has<D: StoredDesk>(alloc: Global, desk: Option<D>, record: &[u8]) -> bool {
+fn has<D: AnyDesk>(alloc: Global, desk: Option<D>, record: &[u8]) -> bool {
     let Some(desk) = desk else {
         return false;
     };

@@ -2,7 +2,6 @@
 
 use ill_core::State;
 use ill_saved::NextCall;
-use ill_test_kit::named;
 use ill_values::{Day, Number};
 
 static PLANS: [(&str, NextCall); 3] = [
@@ -118,6 +117,16 @@ impl<'a> Words<'a> {
     pub fn named<T: Copy>(&mut self, names: &[(&str, T)]) -> Option<T> {
         named(names, self.word()?)
     }
+}
+
+/// What this word names, of these names with what they stand for.
+pub fn named<T: Copy>(names: &[(&str, T)], word: &str) -> Option<T> {
+    for (name, value) in names {
+        if *name == word {
+            return Some(*value);
+        }
+    }
+    None
 }
 
 fn number_in(word: &str) -> Option<Number> {

@@ -28,7 +28,6 @@ static void claim(const char *folder, const char *to, const char *name, char *pa
     char from[512], bytes[360];
     snprintf(from, sizeof from, "%s/%s", folder, name);
     snprintf(path, sizeof from, "%s/%s", to, name);
-    look(from);
     expect(!rename(from, path), path);
     look(path);
     int file = open(path, O_RDONLY | O_CLOEXEC);

@@ -1,66 +1,83 @@
-/* Refuses allocations of the process that it is preloaded into. REFUSE is the number of the one to
-   refuse, from 1 on, or `all`; where REFUSE_REST is set, all that follow it are refused too. Where
-   REFUSE_MARKED is set, only what lies between two marks counts, from 1 on behind each first mark. A mark is an allocation of a size that nothing else has; the second mark
-   is refused too where something was since the first. REFUSE_SEEN names a file that is made where an
-   allocation other than a mark is refused. */
+/* Refuses allocations of the process that it is preloaded into. REFUSE is the number of the one to refuse, from 1 on; if
+   REFUSE_REST is set, all that follow it are refused too. REFUSE_SEEN names a file that gets a dot for each refusal.
+
+   If REFUSE_MARKED is set, only what lies between two marks is refused, and REFUSE is not read. A mark is an allocation
+   of a size that nothing else has (crates/ill_test_kit/src/marks.rt). Behind BEGIN it refuses the first allocation; and
+   if it has refused one, it refuses the next behind the next BEGIN. Behind BEGIN_QUIET it refuses all. END_OF_MEMORY
+   says that the call between the marks has answered want of memory; END_OR_WITHOUT, that it has not, but may have done
+   without what it was refused. Both are refused themselves if an allocation was. REFUSE_SEEN gets a W for each call that
+   answers want of memory and was refused nothing, or the other way round. */
 #define _GNU_SOURCE
 #include <dlfcn.h>
 #include <errno.h>
 #include <fcntl.h>
 #include <stdlib.h>
-#include <string.h>
 #include <unistd.h>
 
-enum { BEGIN = 54321, END = 54323 };
+enum { BEGIN = 54321, BEGIN_QUIET = 54323, END = 54327, END_OF_MEMORY = 54329, END_OR_WITHOUT = 54331 };
 
-static int is_ready, is_marked, is_open, goes_on;
-static long nth; /* 0 is none, -1 is all */
+static int is_ready, is_marked, is_open, is_quiet, goes_on;
+static int seen = -1;
+static long nth; /* 0 is none */
 static long count, refusals;
 
 static void get_ready(void) {
   const char *text = getenv("REFUSE");
-  nth = !text ? 0 : !strcmp(text, "all") ? -1 : atol(text);
   is_marked = getenv("REFUSE_MARKED") != NULL;
+  nth = is_marked ? 1 : text ? atol(text) : 0;
   goes_on = getenv("REFUSE_REST") != NULL;
   is_open = !is_marked;
   is_ready = 1;
 }
 
-static void tell(void) {
+static void tell(const char *what) {
   const char *path = getenv("REFUSE_SEEN");
-  if (path)
-    close(open(path, O_WRONLY | O_CREAT, 0600));
+  if (path && seen == -1)
+    seen = open(path, O_WRONLY | O_CREAT | O_APPEND | O_CLOEXEC, 0600);
+  if (seen != -1 && write(seen, what, 1) != 1)
+    abort();
 }
 
-/* Whether an allocation of this size is a mark. */
-static int is_mark(size_t size) {
-  return is_marked && (size == BEGIN || size == END);
+/* Begins to refuse. */
+static int begin(int quiet) {
+  is_open = 1;
+  is_quiet = quiet;
+  count = refusals = 0;
+  return 0;
 }
 
-/* Passes a mark, and tells whether it is refused. */
-static int refuses_mark(size_t size) {
-  is_open = size == BEGIN;
-  if (is_open)
-    count = refusals = 0;
-  return refusals != 0;
+/* Ends it, and tells if the answer is wrong. Returns true if the call has to be made again. */
+static int end(size_t mark) {
+  is_open = 0;
+  if (mark == END_OF_MEMORY ? !refusals : mark == END && refusals)
+    tell("W");
+  if (!is_quiet)
+    nth = refusals ? nth + 1 : 1;
+  return mark != END && refusals;
 }
 
-/* Counts an allocation that is no mark, and tells whether it is refused. */
+/* Counts an allocation, and tells if it is refused. */
 static int refuses(void) {
-  if (!is_open)
-    return 0;
   count++;
-  if (nth != -1 && count != nth && !(goes_on && nth > 0 && count > nth))
+  if (!is_quiet && count != nth && !(goes_on && nth > 0 && count > nth))
     return 0;
   refusals++;
-  tell();
+  tell(".");
   return 1;
+}
+
+static int is_refused(size_t size) {
+  if (is_marked && (size == BEGIN || size == BEGIN_QUIET))
+    return begin(size == BEGIN_QUIET);
+  if (is_marked && (size == END || size == END_OF_MEMORY || size == END_OR_WITHOUT))
+    return end(size);
+  return is_open && refuses();
 }
 
 static int refused(size_t size) {
   if (!is_ready)
     get_ready();
-  if (!(is_mark(size) ? refuses_mark(size) : refuses()))
+  if (!is_refused(size))
     return 0;
   errno = ENOMEM;
   return 1;

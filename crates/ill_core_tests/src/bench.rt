@@ -2,9 +2,10 @@
 
 use crate::events::Event;
 use crate::record::Record;
-use crate::side::Side;
+use crate::side::{NO_MEMORY, Side};
 use crate::states::{Role, letters_of, role_of, state_of};
 use ill_core::State;
+use ill_test_kit::marks::TRIES;
 use ill_test_kit::{Lines, Page};
 use std::alloc::Global;
 use std::mem;
@@ -161,17 +162,32 @@ fn happen(
     effect: &str,
     is_twice: bool,
 ) -> Cell {
-    let (mut letters, mut second) = (side.answer(alloc, event), "");
+    let (mut letters, mut second) = (answer(alloc, side, record, event), "");
     if letters == "T" {
         record.add(alloc, effect);
         record.readings.state = side.state();
         letters = letters_of(side.state());
-        if is_twice {
-            second = side.answer_again(alloc, event);
+        if is_twice && matches!(event, Event::Delivery(_)) {
+            second = answer(alloc, side, record, event);
         }
     }
-    if !side.shows(record) {
+    if !side.shows(alloc, record) {
         second = "!";
     }
     (letters, second)
+}
+
+/// Lets it happen to a side with this record, and again while it is refused memory, which changes nothing. Returns the
+/// letter of the answer.
+fn answer(alloc: Global, side: &mut Side, record: &Record, event: &Event) -> &'static str {
+    for _ in 0..TRIES {
+        let letter = side.answer(alloc, event);
+        if letter != NO_MEMORY {
+            return letter;
+        }
+        if !side.shows(alloc, record) {
+            return "!";
+        }
+    }
+    NO_MEMORY
 }

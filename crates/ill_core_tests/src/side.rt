@@ -4,8 +4,12 @@ use crate::events::Event;
 use crate::record::{Readings, Record};
 use crate::states::Role;
 use ill_core::{Refusal, Requester, Responder, State, Taking, Turn, Verb};
+use ill_test_kit::marks::{self, quietly};
 use ill_values::{Apdu, Number, TxnId};
 use std::alloc::Global;
+
+/// The letter of want of memory.
+pub const NO_MEMORY: &str = "?";
 
 pub enum Side {
     Requester(Requester),
@@ -26,18 +30,13 @@ impl Side {
     /// The side in a state that has this past, where there is one. A new one is as it begins.
     pub fn of(alloc: Global, role: Role, state: State, past: &str) -> Option<Side> {
         let txn = TxnId::new(alloc, b"G1", b"T1").ok()?;
-        match (role, past) {
+        let parts = Record::of(alloc, role, state, past);
+        quietly(alloc, || match (role, past) {
             (Role::Requester, "new") => Some(Side::Requester(Requester::idle(alloc, txn))),
             (Role::Responder, "new") => Some(Side::Responder(Responder::idle(alloc, txn))),
-            (Role::Requester, _) => {
-                let parts = Record::of(alloc, role, state, past);
-                Some(Side::Requester(parts.into_requester(txn)?))
-            }
-            (Role::Responder, _) => {
-                let parts = Record::of(alloc, role, state, past);
-                Some(Side::Responder(parts.into_responder(txn)?))
-            }
-        }
+            (Role::Requester, _) => parts.into_requester(txn).map(Side::Requester),
+            (Role::Responder, _) => parts.into_responder(txn).map(Side::Responder),
+        })
     }
 
     pub fn state(&self) -> State {
@@ -63,7 +62,7 @@ impl Side {
     }
 
     /// Lets something happen to it, or asks it, and gives the letter of the answer. What is done is `T`, as
-    /// what is taken.
+    /// what is taken. A question mark is want of memory.
     pub fn answer(&mut self, alloc: Global, event: &Event) -> &'static str {
         match event {
             Event::Reading => "y",
@@ -78,28 +77,34 @@ impl Side {
         match (self, event) {
             (Side::Requester(side), Event::Wish(wish)) => {
                 let is_listed = side.verbs().contains(&wish.verb());
-                done(side.act(alloc, wish), state, is_listed)
+                marks::begin(alloc);
+                let answer = side.act(alloc, wish);
+                unless_refused(alloc, done(answer, state, is_listed))
             }
-            (Side::Requester(side), Event::Delivery(apdu)) => taken(side.take(apdu), state),
+            (Side::Requester(side), Event::Delivery(apdu)) => {
+                taken(quietly(alloc, || side.take(apdu)), state)
+            }
             (Side::Responder(side), Event::Deed(deed, today)) => {
                 let is_listed = side.verbs().contains(&deed.verb());
-                done(side.act(alloc, deed, *today), state, is_listed)
+                marks::begin(alloc);
+                let answer = side.act(alloc, deed, *today);
+                unless_refused(alloc, done(answer, state, is_listed))
             }
-            (Side::Responder(side), Event::Delivery(apdu)) => taken(side.take(alloc, apdu), state),
+            (Side::Responder(side), Event::Delivery(apdu)) => {
+                marks::begin(alloc);
+                let answer = side.take(alloc, apdu);
+                unless_refused(alloc, taken(answer, state))
+            }
             _ => "NO CASE",
         }
     }
 
-    /// Lets a message come again.
-    pub fn answer_again(&mut self, alloc: Global, event: &Event) -> &'static str {
-        match event {
-            Event::Delivery(_) => self.answer(alloc, event),
-            _ => "",
-        }
+    /// Returns true if each of its readers says what this record has. They take no memory.
+    pub fn shows(&self, alloc: Global, record: &Record) -> bool {
+        quietly(alloc, || self.shows_all(record))
     }
 
-    /// Whether each of its readers says what this record has.
-    pub fn shows(&self, record: &Record) -> bool {
+    fn shows_all(&self, record: &Record) -> bool {
         let shows_parts = match self {
             Side::Requester(side) => requester_readings(side) == record.expected(Role::Requester),
             Side::Responder(side) => responder_readings(side) == record.expected(Role::Responder),
@@ -175,6 +180,15 @@ fn responder_readings(side: &Responder) -> Readings {
     }
 }
 
+/// The letter of an answer; or a question mark if a growth was refused, and the answer says so.
+fn unless_refused(alloc: Global, letter: &'static str) -> &'static str {
+    if marks::is_refused(alloc, letter == NO_MEMORY) {
+        NO_MEMORY
+    } else {
+        letter
+    }
+}
+
 fn is_own(txn: &TxnId) -> bool {
     txn.group() == b"G1".as_slice() && txn.transaction() == b"T1".as_slice()
 }
@@ -222,6 +236,6 @@ fn refused(refusal: Refusal, state: State) -> &'static str {
         Refusal::NotDue => "U",
         Refusal::NotExpired => "X",
         Refusal::NumbersUsed => "F",
-        Refusal::OutOfMemory => "?",
+        Refusal::OutOfMemory => NO_MEMORY,
     }
 }

@@ -1,10 +1,14 @@
-//! Whether the other calls of `ill_der` agree with what `decode` answers.
+//! The other calls of `ill_der`, and those of `ill_values`, which have to agree with what `decode` answers.
 
-use ill_der::{DerFault, ReadFault, decode, encode, read_apdu, size, write_apdu};
-use ill_values::Apdu;
+use crate::reading::{Reading, decoded};
+use crate::values::{id_of, item_of};
+use ill_der::{DerFault, ReadFault, WriteFault, encode, encode_onto, size, write_apdu};
+use ill_test_kit::marks;
+use ill_test_kit::marks::{quietly, tried};
+use ill_values::{Apdu, Body, OutOfMemory, TxnId};
 use std::alloc::Global;
 
-/// The first call that does not agree where `decode` answers an APDU of this many bytes, if one does not.
+/// Returns the first call that does not agree, if `decode` answers an APDU of `count` bytes.
 pub fn differing_at_apdu(
     alloc: Global,
     bytes: &[u8],
@@ -14,62 +18,130 @@ pub fn differing_at_apdu(
     let Some((spelling, behind)) = bytes.split_at_checked(count) else {
         return Some(b"decode");
     };
-    if size(apdu) != count {
+    if quietly(alloc, || size(apdu)) != count {
         Some(b"size")
     } else if !is_encoded(alloc, apdu, spelling) {
         Some(b"encode")
+    } else if !is_added(alloc, apdu, spelling) {
+        Some(b"encode_onto")
     } else if !is_written(alloc, apdu, spelling) {
         Some(b"write_apdu")
     } else if !is_read(alloc, bytes, apdu, behind) {
         Some(b"read_apdu")
     } else {
-        None
+        differing_value(alloc, apdu)
     }
 }
 
 fn is_encoded(alloc: Global, apdu: &Apdu, spelling: &[u8]) -> bool {
-    match encode(alloc, apdu) {
+    match tried(alloc, OutOfMemory, || encode(alloc, apdu)) {
         Ok(bytes) => bytes.as_slice() == spelling,
         Err(_) => false,
     }
 }
 
-/// Whether the APDU is written behind what the writer has.
+/// Returns true if the APDU is added behind what is there. Without memory a proper front of it may be added.
+fn is_added(alloc: Global, apdu: &Apdu, spelling: &[u8]) -> bool {
+    for _ in 0..marks::TRIES {
+        let Ok(mut bytes) = Vec::from_slice(alloc, b"#") else {
+            return false;
+        };
+        marks::begin(alloc);
+        let answer = encode_onto(&mut bytes, apdu);
+        let is_refused = marks::is_refused(alloc, answer.is_err());
+        let Some(added) = bytes.strip_prefix(b"#".as_slice()) else {
+            return false;
+        };
+        if !is_refused {
+            return answer.is_ok() && added == spelling;
+        }
+        if added == spelling || !spelling.starts_with(added) {
+            return false;
+        }
+    }
+    false
+}
+
+/// Returns true if the APDU is written behind what the writer has, and nothing is written without memory. The writer
+/// has room, so that it takes no memory itself.
 fn is_written(alloc: Global, apdu: &Apdu, spelling: &[u8]) -> bool {
-    let mut writer = Vec::new(alloc);
-    let is_done = writer.push(b'#').is_ok() && write_apdu(alloc, &mut writer, apdu).is_ok();
+    let Ok(mut writer) = Vec::with_capacity(alloc, spelling.len() + 1) else {
+        return false;
+    };
+    let mut is_right = writer.push(b'#').is_ok();
+    let written = tried(alloc, WriteFault::OutOfMemory, || {
+        is_right &= writer.as_slice() == b"#".as_slice();
+        write_apdu(alloc, &mut writer, apdu)
+    });
     match writer.as_slice() {
-        [b'#', added @ ..] => is_done && added == spelling,
+        [b'#', added @ ..] => is_right && written.is_ok() && added == spelling,
         _ => false,
     }
 }
 
-/// Whether the APDU is read, and these bytes behind it are left.
+/// Returns true if the APDU is read, and these bytes behind it are left. Without memory they are left too.
 fn is_read(alloc: Global, bytes: &[u8], apdu: &Apdu, behind: &[u8]) -> bool {
-    let mut reader = bytes;
-    match read_apdu(alloc, &mut reader) {
-        Ok(Some(found)) => found == *apdu && reader == behind,
+    let reading = Reading::of(alloc, bytes);
+    match &reading.answer {
+        Ok(Some(found)) => *found == *apdu && reading.left == behind && reading.is_steady,
         _ => false,
     }
 }
 
-/// The first call that does not agree where `decode` answers a fault, if one does not.
+/// Returns the first type whose values in this APDU are not made or copied again, if there is one.
+fn differing_value(alloc: Global, apdu: &Apdu) -> Option<&'static [u8]> {
+    if !is_made_again(alloc, &apdu.txn) {
+        Some(b"TxnId")
+    } else if !has_item_again(alloc, &apdu.body) {
+        Some(b"Item")
+    } else if !is_copied(alloc, apdu) {
+        Some(b"Apdu")
+    } else {
+        None
+    }
+}
+
+fn is_made_again(alloc: Global, id: &TxnId) -> bool {
+    match id_of(alloc, id.group(), id.transaction()) {
+        Ok(made) => made == *id,
+        Err(_) => false,
+    }
+}
+
+fn has_item_again(alloc: Global, body: &Body) -> bool {
+    let Body::IllRequest { expiry: _, item } = body else {
+        return true;
+    };
+    match item_of(alloc, item.text()) {
+        Ok(made) => made == *item,
+        Err(_) => false,
+    }
+}
+
+fn is_copied(alloc: Global, apdu: &Apdu) -> bool {
+    match tried(alloc, OutOfMemory, || apdu.copy(alloc)) {
+        Ok(copy) => copy == *apdu,
+        Err(_) => false,
+    }
+}
+
+/// Returns the first call that does not agree, if `decode` answers a fault.
 pub fn differing_at_fault(alloc: Global, bytes: &[u8], fault: DerFault) -> Option<&'static [u8]> {
-    let mut reader = bytes;
-    let is_answered = match read_apdu(alloc, &mut reader) {
+    let reading = Reading::of(alloc, bytes);
+    let is_answered = match &reading.answer {
         Ok(None) => bytes.is_empty(),
         Ok(Some(_)) => false,
-        Err(found) => found == ReadFault::Bytes(fault),
+        Err(found) => *found == ReadFault::Bytes(fault),
     };
-    if is_answered && is_taken(alloc, bytes, reader, fault) {
+    if is_answered && reading.is_steady && is_taken(alloc, bytes, reading.left, fault) {
         None
     } else {
         Some(b"read_apdu")
     }
 }
 
-/// Whether the bytes before those that are left are the shortest front with the fault. Where the fault
-/// is that the bytes are short, nothing may be left.
+/// Returns true if the bytes before those that are left are the shortest front with the fault. If the bytes are short,
+/// nothing may be left.
 fn is_taken(alloc: Global, bytes: &[u8], left: &[u8], fault: DerFault) -> bool {
     if let DerFault::Short(_) = fault {
         return left.is_empty();
@@ -84,5 +156,5 @@ fn is_taken(alloc: Global, bytes: &[u8], left: &[u8], fault: DerFault) -> bool {
 }
 
 fn has_fault(alloc: Global, bytes: &[u8], fault: DerFault) -> bool {
-    decode(alloc, bytes).err() == Some(fault)
+    decoded(alloc, bytes).err() == Some(fault)
 }

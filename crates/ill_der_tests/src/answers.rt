@@ -1,14 +1,16 @@
-//! What is printed for a case.
+//! The answers that are printed for a case.
 
 use crate::agreement::{differing_at_apdu, differing_at_fault};
 use crate::cases::push_bytes;
 use crate::feeding::{push_halves, push_pieces, push_random, push_singly};
+use crate::reading::{Reading, decoded};
+use crate::values::{push_id, push_item, push_later_day, push_new_day, push_number, push_read_day};
 use crate::words::push_apdu;
-use ill_der::{DerFault, decode, read_apdu};
+use ill_der::DerFault;
 use ill_test_kit::{INDENT, Lines, Page};
 use std::alloc::Global;
 
-/// What performs the lines of the input.
+/// Performs the lines of the input.
 #[derive(Drop)]
 pub struct Cases {
     pub alloc: Global,
@@ -40,9 +42,17 @@ fn push_case(alloc: Global, output: &mut Page, line: &str) {
 /// Adds the answers to a case.
 fn push_answers(alloc: Global, output: &mut Page, line: &str) {
     let (form, words) = line.split_once(": ").unwrap_or(("", line));
-    if form == "in pieces" {
-        return push_pieces(alloc, output, words);
+    match form {
+        "in pieces" => push_pieces(alloc, output, words),
+        "id" => push_id(alloc, output, words),
+        "day of" => push_new_day(alloc, output, words),
+        "number" => push_number(alloc, output, words),
+        _ => push_answers_to_bytes(alloc, output, form, words),
     }
+}
+
+/// Adds the answers to a case of one run of bytes.
+fn push_answers_to_bytes(alloc: Global, output: &mut Page, form: &str, words: &str) {
     let mut bytes = Page::new(alloc);
     push_bytes(alloc, &mut bytes, words);
     match bytes.bytes() {
@@ -59,6 +69,8 @@ fn push_form(alloc: Global, output: &mut Page, form: &str, bytes: &[u8]) {
         "one after another" => push_stream(alloc, output, bytes),
         "byte by byte" => push_singly(alloc, output, bytes),
         "cut in two at each place" => push_halves(alloc, output, bytes),
+        "item" => push_item(alloc, output, bytes),
+        "day" => push_read_day(alloc, output, bytes),
         _ => push_numbered_form(alloc, output, form, bytes),
     }
 }
@@ -69,6 +81,8 @@ fn push_numbered_form(alloc: Global, output: &mut Page, form: &str, bytes: &[u8]
         push_octets(alloc, output, place, bytes);
     } else if let Some((count, seed)) = draws_in(form) {
         push_random(alloc, output, count, seed, bytes);
+    } else if let Some(days) = days_in(form) {
+        push_later_day(alloc, output, days, bytes);
     } else {
         output.line("no case");
     }
@@ -89,10 +103,16 @@ fn draws_in(form: &str) -> Option<(u32, u32)> {
     Some((count, seed))
 }
 
+/// Returns how many days later a day is.
+fn days_in(form: &str) -> Option<u32> {
+    let digits = form.strip_suffix(" days after")?;
+    u32::from_str_radix(digits, 10).ok()
+}
+
 /// The answer of `decode`, and the first call that does not agree with it.
 fn answer_to(alloc: Global, bytes: &[u8]) -> Page {
     let mut answer = Page::new(alloc);
-    let differing = match decode(alloc, bytes) {
+    let differing = match decoded(alloc, bytes) {
         Ok((apdu, size)) => {
             push_apdu(&mut answer, &apdu);
             answer.push(b", size ");
@@ -124,9 +144,9 @@ fn push_fronts(alloc: Global, output: &mut Page, bytes: &[u8]) {
     output.octet(b'\n');
 }
 
-/// Whether all calls answer that the bytes are short at their end.
+/// Returns true if all calls answer that the bytes are short at their end.
 fn is_short(alloc: Global, bytes: &[u8]) -> bool {
-    match decode(alloc, bytes) {
+    match decoded(alloc, bytes) {
         Err(DerFault::Short(size)) => {
             usize::from(size) == bytes.len()
                 && differing_at_fault(alloc, bytes, DerFault::Short(size)).is_none()
@@ -189,14 +209,17 @@ fn push_stream(alloc: Global, output: &mut Page, bytes: &[u8]) {
 
 /// Adds the answer of one `read_apdu`, and how many bytes it took. Gives the bytes that it left.
 fn push_read<'a>(alloc: Global, output: &mut Page, bytes: &'a [u8]) -> &'a [u8] {
-    let mut reader = bytes;
-    match read_apdu(alloc, &mut reader) {
+    let reading = Reading::of(alloc, bytes);
+    match &reading.answer {
         Ok(None) => output.push(b"the end"),
-        Ok(Some(apdu)) => push_apdu(output, &apdu),
-        Err(fault) => output.show(&fault),
+        Ok(Some(apdu)) => push_apdu(output, apdu),
+        Err(fault) => output.show(fault),
     }
     output.push(b", took ");
-    output.show(&bytes.len().saturating_sub(reader.len()));
+    output.show(&bytes.len().saturating_sub(reading.left.len()));
+    if !reading.is_steady {
+        output.push(b", DIFFERS: read_apdu");
+    }
     output.octet(b'\n');
-    reader
+    reading.left
 }

@@ -1,24 +1,26 @@
 //! A feed that is tested.
 
 use crate::words::push_apdu;
-use ill_der::{ApduView, DerFault, Feed, Handler};
+use ill_der::{ApduView, DerFault, Feed, Handler, Pushed};
 use ill_test_kit::Page;
-use ill_values::OutOfMemory;
+use ill_test_kit::marks::{quietly, tried};
+use ill_values::{Apdu, OutOfMemory};
 use std::alloc::Global;
 
-/// What a push gave: a line for each APDU, and the fault.
+/// The outcome of a push: a line for each APDU, and the fault.
 #[derive(Drop)]
 pub struct Given {
     pub apdus: Page,
     pub fault: Option<DerFault>,
 }
 
-/// A feed, another that gets the same pieces by `each`, and what they gave.
+/// A feed, two others that get the same pieces by `each`, and what they gave.
 #[derive(Drop)]
 pub struct Fed {
     alloc: Global,
     pushed: Feed,
     handed: Feed,
+    viewed: Feed,
     apdus: Page,
     fault: Option<DerFault>,
     differing: Option<&'static [u8]>,
@@ -29,8 +31,9 @@ impl Fed {
     pub fn new(alloc: Global) -> Fed {
         Fed {
             alloc,
-            pushed: Feed::new(alloc),
-            handed: Feed::new(alloc),
+            pushed: new_feed(alloc),
+            handed: new_feed(alloc),
+            viewed: new_feed(alloc),
             apdus: Page::new(alloc),
             fault: None,
             differing: None,
@@ -48,19 +51,34 @@ impl Fed {
 
     /// Pushes a piece.
     pub fn push(&mut self, piece: &[u8]) -> Given {
-        let given = push(self.alloc, &mut self.pushed, piece);
-        let handed = hand(self.alloc, &mut self.handed, piece);
-        if !given.agrees_with(&handed) || self.pushed.end() != self.handed.end() {
-            self.differing = Some(b"each");
-        } else if self.fault.is_some() && given.fault != self.fault {
-            self.differing = Some(b"push");
+        let pushed = push(self.alloc, &mut self.pushed, piece);
+        if let Some(call) = self.differing_call(piece, &pushed) {
+            self.differing = Some(call);
         }
+        let given = Given::of(self.alloc, &pushed);
         self.apdus.page(&given.apdus);
         self.fault = given.fault;
         given
     }
 
-    /// Whether both gave the same in all, and end alike.
+    /// Gives a piece to the other feeds. Returns the call that does not agree with `pushed`, if one does not.
+    fn differing_call(&mut self, piece: &[u8], pushed: &Option<Pushed>) -> Option<&'static [u8]> {
+        let Some(pushed) = pushed else {
+            return Some(b"push");
+        };
+        let is_handed = is_handed(self.alloc, &mut self.handed, piece, pushed);
+        let is_viewed = is_viewed(self.alloc, &mut self.viewed, piece, pushed);
+        let end = end(self.alloc, &self.pushed);
+        if !is_handed || !is_viewed || end != self.handed.end() || end != self.viewed.end() {
+            Some(b"each")
+        } else if self.fault.is_some() && pushed.fault != self.fault {
+            Some(b"push")
+        } else {
+            None
+        }
+    }
+
+    /// Returns true if both gave the same in all, and end alike.
     pub fn agrees_with(&self, other: &Fed) -> bool {
         self.apdus.so_far() == other.apdus.so_far()
             && self.fault == other.fault
@@ -99,47 +117,77 @@ impl Fed {
 }
 
 impl Given {
-    /// Whether both are the same.
-    fn agrees_with(&self, other: &Given) -> bool {
-        self.apdus.so_far() == other.apdus.so_far() && self.fault == other.fault
+    /// Puts what was pushed into words.
+    fn of(alloc: Global, pushed: &Option<Pushed>) -> Given {
+        let mut apdus = Page::new(alloc);
+        let Some(pushed) = pushed else {
+            return Given { apdus, fault: None };
+        };
+        for apdu in &pushed.apdus {
+            push_apdu(&mut apdus, apdu);
+            apdus.octet(b'\n');
+        }
+        Given {
+            apdus,
+            fault: pushed.fault,
+        }
     }
 }
 
-/// What `push` gives.
-fn push(alloc: Global, feed: &mut Feed, piece: &[u8]) -> Given {
-    let mut apdus = Page::new(alloc);
-    let mut fault = None;
-    match feed.push(piece) {
-        Ok(pushed) => {
-            for apdu in &pushed.apdus {
-                push_apdu(&mut apdus, apdu);
-                apdus.octet(b'\n');
-            }
-            fault = pushed.fault;
-        }
-        Err(_) => apdus.lose(),
-    }
-    Given { apdus, fault }
+fn new_feed(alloc: Global) -> Feed {
+    quietly(alloc, || Feed::new(alloc))
 }
 
-/// What `each` gives.
-fn hand(alloc: Global, feed: &mut Feed, piece: &[u8]) -> Given {
-    let mut apdus = Page::new(alloc);
-    let fault = match feed.each(piece, &mut apdus, &mut Writer) {
-        Ok(fault) => fault,
-        Err(_) => {
-            apdus.lose();
-            None
-        }
+fn end(alloc: Global, feed: &Feed) -> Result<(), DerFault> {
+    quietly(alloc, || feed.end())
+}
+
+/// Returns what `push` gives, unless it fails, or changed the feed while a growth was refused. To give no APDU, it may
+/// take no memory.
+fn push(alloc: Global, feed: &mut Feed, piece: &[u8]) -> Option<Pushed> {
+    let before = feed.end();
+    let (mut tries, mut stays) = (0_u32, true);
+    let pushed = tried(alloc, OutOfMemory, || {
+        tries = tries.saturating_add(1);
+        stays &= feed.end() == before;
+        feed.push(piece)
+    });
+    let pushed = pushed.ok()?;
+    let is_right = stays && (tries == 1 || !pushed.apdus.is_empty());
+    if is_right { Some(pushed) } else { None }
+}
+
+/// Returns true if `each` gives the same to a handler that takes memory. If that is refused, the feed stays.
+fn is_handed(alloc: Global, feed: &mut Feed, piece: &[u8], pushed: &Pushed) -> bool {
+    let before = feed.end();
+    let mut stays = true;
+    let handed = tried(alloc, OutOfMemory, || {
+        stays &= feed.end() == before;
+        let mut apdus = Vec::new(alloc);
+        let fault = feed.each(piece, &mut apdus, &mut Collector)?;
+        Ok((apdus, fault))
+    });
+    match handed {
+        Ok((apdus, fault)) => stays && apdus == pushed.apdus && fault == pushed.fault,
+        Err(_) => false,
+    }
+}
+
+/// Returns true if `each` gives the same to a handler that takes no memory, and takes none itself.
+fn is_viewed(alloc: Global, feed: &mut Feed, piece: &[u8], pushed: &Pushed) -> bool {
+    let mut viewer = Viewer {
+        expected: &pushed.apdus,
+        is_right: true,
     };
-    Given { apdus, fault }
+    let fault = quietly(alloc, || feed.each(piece, &mut (), &mut viewer));
+    fault == Ok(pushed.fault) && viewer.is_right && viewer.expected.is_empty()
 }
 
-/// Adds each APDU in words.
+/// Adds each APDU to a list.
 #[derive(Drop)]
-struct Writer;
+struct Collector;
 
-impl Handler<Page> for Writer {
+impl Handler<Vec<Apdu>> for Collector {
     type Fault = OutOfMemory;
 
     ghost handles = { λ old apdu result new. Unit {0} };
@@ -147,12 +195,42 @@ impl Handler<Page> for Writer {
     fn handle(
         &mut self,
         alloc: Global,
-        output: &mut Page,
+        apdus: &mut Vec<Apdu>,
         apdu: &ApduView<'_>,
     ) -> Result<(), OutOfMemory> {
-        let apdu = apdu.to_apdu(alloc)?;
-        push_apdu(output, &apdu);
-        output.octet(b'\n');
+        apdus.push(apdu.to_apdu(alloc)?)?;
         Ok(())
     }
+}
+
+/// Expects the views of these APDUs, one after another.
+#[derive(Drop)]
+struct Viewer<'a> {
+    expected: &'a [Apdu],
+    is_right: bool,
+}
+
+impl Handler<()> for Viewer<'_> {
+    type Fault = ();
+
+    ghost handles = { λ old apdu result new. Unit {0} };
+
+    fn handle(&mut self, _alloc: Global, _context: &mut (), apdu: &ApduView<'_>) -> Result<(), ()> {
+        match self.expected {
+            [first, behind @ ..] => {
+                self.is_right &= is_view_of(apdu, first);
+                self.expected = behind;
+            }
+            [] => self.is_right = false,
+        }
+        Ok(())
+    }
+}
+
+/// Returns true if a view has the type of this APDU, and its fields that each APDU has.
+fn is_view_of(view: &ApduView<'_>, apdu: &Apdu) -> bool {
+    view.group() == apdu.txn.group()
+        && view.transaction() == apdu.txn.transaction()
+        && view.number() == apdu.number
+        && view.body().type_name() == apdu.body.type_name()
 }

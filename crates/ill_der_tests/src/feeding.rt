@@ -1,4 +1,4 @@
-//! What is printed for a case of a feed.
+//! The answers that are printed for a case of a feed.
 
 use crate::cases::push_bytes;
 use crate::cuts::{Draws, cut};

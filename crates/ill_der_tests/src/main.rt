@@ -28,6 +28,18 @@
 //!   places where a cut gives other APDUs, another fault or another end, and how many give the same.
 //! - `cut at random, N times from seed N: BYTES`: the same, but cut N times into pieces of 0 to 511 bytes
 //!   that numbers of that seed say; how many give the same.
+//!
+//! And these of values, which print the value that is made, or the fault:
+//!
+//! - `id: BYTES | BYTES`: of two qualifiers, by `TxnId::new`. The id is copied too.
+//! - `item: BYTES`: of a text, by `Item::new`. The item is copied too.
+//! - `day: BYTES`: of eight digits, by `Day::read`.
+//! - `day of: YEAR MONTH DAY`: by `Day::new`.
+//! - `N days after: BYTES`: of eight digits, by `Day::after`.
+//! - `number: N`: by `Number::new`.
+//!
+//! Each call of the libraries stands between marks (`ill_test_kit::marks`). If a shim refuses a growth of it, it has to
+//! leave all as it was, and is made again.
 #![tactic(auto)]
 
 mod agreement;
@@ -36,6 +48,8 @@ mod cases;
 mod cuts;
 mod fed;
 mod feeding;
+mod reading;
+mod values;
 mod words;
 
 use answers::Cases;

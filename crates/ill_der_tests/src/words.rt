@@ -60,7 +60,7 @@ fn push_number(words: &mut Page, name: &[u8], number: Number) {
 }
 
 /// Adds a text in quotes.
-fn push_text(words: &mut Page, name: &[u8], text: &[u8]) {
+pub fn push_text(words: &mut Page, name: &[u8], text: &[u8]) {
     words.push(name);
     words.octet(b'"');
     words.push(text);

@@ -1,6 +1,6 @@
 -- The rules of a desk of one side hold after each of its calls.
 use Rattle.std.proofs.Common.{rules, arith, ◌≡◌, ◌⊎◌, ℕ, ◌+◌, ◌≤◌, Bool, true, List, [], ◌∷◌, ◌++◌, length, Option, Some, None, Result, Ok, Err, refl, ap, sym, subst, ◌∙◌, inl, inr, length-append, append-nil, append_assoc, drop}
-use Rattle.std.specs.Prelude.{nat_le, map, option_map, slice_get, zero, suc, ◌-◌, is_some, if◌then◌else◌, not, false, take}
+use Rattle.std.specs.Prelude.{IfErr, IfOk, is_ok, nat_le, map, option_map, slice_get, zero, suc, ◌-◌, is_some, if◌then◌else◌, not, false, take}
 use Rattle.std.proofs.lemmas.Bool.{le-leb}
 use Rattle.ill_values.specs.Day.{Date}
 use Rattle.ill_values.specs.declared.apdu.Apdu.{Apdu}
@@ -37,24 +37,24 @@ use Rattle.ill_saved.specs.declared.fault.RecordFault.{RecordFault}
 use Rattle.ill_saved.specs.declared.fault.RecordFault.TheVariants as records
 use Rattle.ill_saved.specs.declared.side.Side.{Side}
 use Rattle.ill_saved.specs.declared.side.Side.TheVariants as sides
+use Rattle.ill_saved.specs.declared.role.Role.{Role}
+use Rattle.ill_saved.specs.declared.role.Role.TheVariants as roles
 use Rattle.ill_saved.specs.declared.side.Standing.{Standing}
 use Rattle.ill_saved.specs.declared.side.Standing.TheVariants as standings
 use Rattle.ill_saved.specs.declared.side.Action.{Action}
 use Rattle.ill_saved.specs.declared.side.Action.TheVariants as actions
-use Rattle.ill_saved.specs.declared.store.StoreFault.{StoreFault}
-use Rattle.ill_saved.specs.declared.store.StoreFault.TheVariants as stores
 use Rattle.ill_saved.specs.declared.store.NextCall.{NextCall}
 use Rattle.ill_saved.specs.declared.store.NextCall.TheVariants as plans
-use Rattle.ill_saved.specs.Side.{issued_of, txn_of, is_idle, standing_of, back_to, is_asked, KeepsRequest, IsConsistent, idle_of, done_by, acts, takes, Acts, Takes, IsStep, IsPrefix, Grows, acted, took, Follows, same, further}
-use Rattle.ill_saved.specs.Faults.{of_record}
+use Rattle.ill_saved.specs.Side.{issued_of, txn_of, is_idle, standing_of, back_to, is_asked, KeepsRequest, IsConsistent, idle_of, idle_side, done_by, acts, takes, Acts, Takes, IsStep, IsPrefix, Grows, acted, took, Follows, same, further}
+use Rattle.ill_saved.specs.Faults.{of_core, of_record}
 use Rattle.ill_saved.proofs.Records.{no_digest}
-use Rattle.ill_saved.specs.Records.{record_at, record_spelling, begins_as_record, Decodes}
+use Rattle.ill_saved.specs.Records.{record_at, record_spelling, Decodes}
 use Rattle.ill_saved.specs.Ranges.{Each, IsSide}
-use Rattle.ill_saved.specs.Store.{LandsAtSave, Allows, StoreState, StoreLoads, StoreSaves}
-use Rattle.ill_saved.specs.declared.desk.Loaded.{Loaded}
-use Rattle.ill_saved.specs.Kept.{KeptBytes, none_kept, IsKept, Keeps, GoesBackTo}
-use Rattle.ill_saved.specs.Loading.{LoadsOrIdle}
-use Rattle.ill_saved.specs.Desk.{landed_side, IsBackedBy, IsBackedByRead, IsBacked, IsOneApdu, DeskLoads, LoadsSide, IsLoadFault, Restarts, Sends}
+use Rattle.ill_saved.specs.Store.{Allows, StoreState, StoreLoads}
+use Rattle.ill_saved.specs.Kept.{KeptBytes, IsKept, Keeps, GoesBackTo}
+use Rattle.ill_saved.specs.Holdings.{DeskEntry, Effects, DeskActs, DeskTakesApdu, GoesBackToLanded, IsBacked, IsBackedBy, IsBackedByRead, IsReadFault, IsRecordOf, ReadsRecord, Sends, StaysBacked, landed_live, map_ok, whole}
+use Rattle.ill_saved.specs.OneSide.{OneBacks, alone, one_acts, one_answers, one_side, with_side}
+use Rattle.ill_saved.specs.Desk.{IsOneApdu, Restarts}
 use Rattle.ill_saved.proofs.Rules.{responder_asked}
 
 -- The laws of ill_core on rows: a row keeps the transaction, and issues one APDU or none.
@@ -248,19 +248,28 @@ follows_issues grows old _ (further between new follows row) =
 
 -- ---- the landed side backs the live one after a row
 
--- If the side that was read backs the live one, it backs the live one after a row.
-read_backs : (read : Result Side RecordFault) (old new : Side) (released : ℕ) → IsStep old new
-    → IsBackedByRead read old released → IsBackedByRead read new released
-read_backs (Ok side) old new released row backed =
+-- Returns a held side with its released count.
+abbrev entry : Side → ℕ → DeskEntry
+entry side released = record { side = side; released = released }
+
+-- If a landed side backs the live one, it backs it after a row.
+step_backed : (landed : DeskEntry) (old new : Side) (released : ℕ) → IsStep old new
+    → OneBacks landed (entry old released) → OneBacks landed (entry new released)
+step_backed landed old new released row backed =
     record { consistent = backed.consistent; follows = further old new backed.follows row; has-released = backed.has-released }
+
+-- If the side that was read backs the live one, it backs it after a row.
+read_backs : (read : Result DeskEntry RecordFault) (old new : Side) (released : ℕ) → IsStep old new
+    → IsBackedByRead OneBacks read (entry old released) → IsBackedByRead OneBacks read (entry new released)
+read_backs (Ok landed) old new released row backed = step_backed landed old new released row backed
 read_backs (Err fault) old new released row backed = backed
 
--- If the landed side backs the live one, it backs the live one after a row.
-pub row_backs : RowsGrow → (landed : Option (List ℕ)) (old new : Side) (released : ℕ) → IsStep old new
-    → IsBacked landed old released → IsBacked landed new released
-row_backs grows None old new released row backed =
-    subst (λ side. IsBackedByRead (Ok side) new released) (sym (grows old new row).0) (read_backs (Ok (idle_of old)) old new released row backed)
-row_backs grows (Some bytes) old new released row backed = read_backs (landed_side (Some bytes) old) old new released row backed
+-- If the landed side backs the live one, it backs it after a row.
+row_backs : RowsGrow → (old new : Side) (released : ℕ) → IsStep old new
+    → StaysBacked one_side OneBacks (entry old released) (entry new released)
+row_backs grows old new released row None backed =
+    subst (λ side. OneBacks (whole side) (entry new released)) (sym (grows old new row).0) (step_backed (whole (idle_of old)) old new released row backed)
+row_backs grows old new released row (Some bytes) backed = read_backs (one_side.read bytes) old new released row backed
 
 -- If a requester keeps its transaction and its first `count` messages, it goes back to the record of before.
 requester_back : (s : RequesterStanding) (count : ℕ) (x new : RequesterRecord) → new.txn ≡ x.txn
@@ -323,38 +332,66 @@ keeps_on kept old new released few grows keeps (inr (side, is, of)) =
       },
     )
 
--- The rules of a desk: no more messages are released than issued, and its kept record has just the released ones.
--- If the store is honest, the landed side backs the live one.
-abbrev pub Rules : StoreState → KeptBytes → Side → ℕ → Type 0
-Rules store kept live released = (released ≤ length (issued_of live)) × (store.is_honest ≡ true → IsBacked store.landed live released) × Keeps kept live released
+-- The rules of a held side: no more messages are released than issued, and its kept record has just the released ones.
+abbrev pub Rules : KeptBytes → Side → ℕ → Type 0
+Rules kept live released = (released ≤ length (issued_of live)) × Keeps kept live released
 
--- The rules of a desk hold after a row.
-pub row_rules : RowsGrow → RowsKeepRequest → (store : StoreState) (kept : KeptBytes) (old new : Side) (released : ℕ)
-    → IsStep old new → Rules store kept old released → Rules store kept new released
-row_rules grows keeps store kept old new released row rules =
+-- A held side after a row keeps its rules, and all bytes that backed it back it.
+abbrev pub StaysRight : KeptBytes → Side → Side → ℕ → Type 0
+StaysRight kept old new released =
+    Rules kept new released × StaysBacked one_side OneBacks (entry old released) (entry new released)
+
+-- A held side stays right after a row.
+row_rules : RowsGrow → RowsKeepRequest → (kept : KeptBytes) (old new : Side) (released : ℕ)
+    → IsStep old new → Rules kept old released → StaysRight kept old new released
+row_rules grows keeps kept old new released row rules =
     let more = grows old new row in
-    (omega (arith, rules.0, no_less _ _ more.1), λ is. row_backs grows store.landed old new released row (rules.1 is), keeps_on kept old new released rules.0 more (keeps old new row) rules.2)
+    ((omega (arith, rules.0, no_less _ _ more.1), keeps_on kept old new released rules.0 more (keeps old new row) rules.1), row_backs grows old new released row)
 
--- The rules of a desk hold of an equal side.
-same_rules : (store : StoreState) (kept : KeptBytes) (old new : Side) (released : ℕ) → new ≡ old
-    → Rules store kept old released → Rules store kept new released
-same_rules store kept old new released e rules = subst (λ side. Rules store kept side released) (sym e) rules
+-- A held side stays right if it does not change.
+same_rules : (kept : KeptBytes) (old new : Side) (released : ℕ) → new ≡ old
+    → Rules kept old released → StaysRight kept old new released
+same_rules kept old new released e rules = subst (λ side. StaysRight kept old side released) (sym e) (rules, λ landed backed. backed)
 
--- The rules of a desk hold after an action, whatever its answer.
+-- A held side stays right after an action, whatever its answer.
 pub acts_rules : RowsGrow → RowsKeepRequest
-    → (store : StoreState) (kept : KeptBytes) (old new : Side) (released : ℕ) (action : Action) (answer : Result (Unit {0}) Refusal)
-    → Acts old action answer new → Rules store kept old released → Rules store kept new released
-acts_rules grows keeps store kept old new released action (Ok done) acts rules = row_rules grows keeps store kept old new released (acted action acts) rules
-acts_rules grows keeps store kept old new released action (Err refusals.OutOfMemory) acts rules = same_rules store kept old new released acts.1 rules
-acts_rules grows keeps store kept old new released action (Err refusal) acts rules = same_rules store kept old new released acts.1 rules
+    → (kept : KeptBytes) (old new : Side) (released : ℕ) (action : Action) (answer : Result (Unit {0}) Refusal)
+    → Acts old action answer new → Rules kept old released → StaysRight kept old new released
+acts_rules grows keeps kept old new released action (Ok done) acts rules = row_rules grows keeps kept old new released (acted action acts) rules
+acts_rules grows keeps kept old new released action (Err refusals.OutOfMemory) acts rules = same_rules kept old new released acts.1 rules
+acts_rules grows keeps kept old new released action (Err refusal) acts rules = same_rules kept old new released acts.1 rules
 
--- The rules of a desk hold after an APDU, whatever the answer.
+-- A held side stays right after an APDU, whatever the answer.
 pub takes_rules : RowsGrow → RowsKeepRequest
-    → (store : StoreState) (kept : KeptBytes) (old new : Side) (released : ℕ) (a : Apdu) (answer : Result Taking Refusal)
-    → Takes old a answer new → Rules store kept old released → Rules store kept new released
-takes_rules grows keeps store kept old new released a (Err refusals.OutOfMemory) takes rules = same_rules store kept old new released takes.2 rules
-takes_rules grows keeps store kept old new released a answer takes rules =
-    row_rules grows keeps store kept old new released (took a (ap (λ (r : Result Taking Refusal × Side). r.1) takes)) rules
+    → (kept : KeptBytes) (old new : Side) (released : ℕ) (a : Apdu) (answer : Result Taking Refusal)
+    → Takes old a answer new → Rules kept old released → StaysRight kept old new released
+takes_rules grows keeps kept old new released a (Err refusals.OutOfMemory) takes rules = same_rules kept old new released takes.2 rules
+takes_rules grows keeps kept old new released a answer takes rules =
+    row_rules grows keeps kept old new released (took a (ap (λ (r : Result Taking Refusal × Side). r.1) takes)) rules
+
+-- Returns the answer of a held side for the answer of its core.
+abbrev pub core_answer : {A : Type 0} → Result A Refusal → Result A DeskFault
+core_answer (Ok answer) = Ok answer
+core_answer (Err refusal) = Err (of_core refusal)
+
+-- If the action of a side is done exactly if that of its core is, the answers are alike.
+one_ok : (held : DeskEntry) (r : Result Side Refusal) → is_ok (one_acts held r) ≡ is_ok r
+one_ok held (Ok side) = refl
+one_ok held (Err refusal) = refl
+
+-- If a side answers an action as `Acts` says, a desk of this side answers as `DeskActs` says.
+pub acts_alone : (held : DeskEntry) (new : Side) (action : Action) (answer : Result (Unit {0}) Refusal)
+    → Acts held.side action answer new → DeskActs one_side held tt action (core_answer answer) (with_side held new)
+acts_alone held new action (Ok done) acts = ap (one_acts held) acts
+acts_alone held new action (Err refusals.OutOfMemory) acts = (one_ok held _ ∙ acts.0, ap (with_side held) acts.1)
+acts_alone held new action (Err refusal) acts = (ap (one_acts held) acts.0, refl, ap (with_side held) acts.1)
+
+-- If a side answers an APDU as `Takes` says, a desk of this side answers as `DeskTakesApdu` says.
+pub takes_alone : (held : DeskEntry) (new : Side) (a : Apdu) (answer : Result Taking Refusal)
+    → Takes held.side a answer new → DeskTakesApdu one_side held a (core_answer answer) (with_side held new)
+takes_alone held new a (Err refusals.OutOfMemory) takes = ((ap one_answers takes.0, takes.1), ap (with_side held) takes.2)
+takes_alone held new a (Ok taking) takes = ap (λ (r : Result Taking Refusal × Side). (one_answers r.0, with_side held r.1)) takes
+takes_alone held new a (Err refusal) takes = (ap (λ (r : Result Taking Refusal × Side). (one_answers r.0, with_side held r.1)) takes, refl)
 
 -- ---- one APDU
 
@@ -376,19 +413,6 @@ trailing_alone bytes (Err fault) found less decodes = search rules
 abbrev pub ReadsAgain : Type 0
 ReadsAgain = (side : Side) → IsSide side → record_at (record_spelling side) ≡ Ok side
 
--- The encoding of a side in range backs that side.
-saved_backs : ReadsAgain → (live : Side) (released : ℕ) → IsSide live → released ≤ length (issued_of live)
-    → IsBacked (Some (record_spelling live)) live released
-saved_backs again live released is few =
-    subst (λ read. IsBackedByRead read live released) (sym (again live is)) (record { consistent = is.0; follows = same; has-released = few })
-
--- If the encoding of a side in range has landed, it backs that side.
-landed_backs : ReadsAgain → (bytes : List ℕ) (landed : Option (List ℕ)) (live : Side) (released : ℕ) → IsSide live
-    → bytes ≡ record_spelling live → landed ≡ Some bytes → released ≤ length (issued_of live)
-    → IsBacked landed live released
-landed_backs again bytes landed live released is spelled e few =
-    subst (λ o. IsBacked o live released) (sym (e ∙ ap Some spelled)) (saved_backs again live released is few)
-
 -- A request that is there exactly if the state is not IDLE is the request in that state.
 unless_idle : (is_idle : Bool) (request : Option Apdu) → is_some request ≡ not is_idle
     → (if is_idle then None else request) ≡ request
@@ -407,50 +431,33 @@ back_to_itself (sides.Responder y) count is all =
     ∙ ap (λ l. Some (sides.Responder (responder_of y.txn y.state y.accepted y.last_cancel y.last_renew y.received y.request l))) (take_all count y.issued (omega (arith, all)))
 
 -- If the record of a side is kept and all of its messages are released, its desk keeps the record.
-keeps_whole : (kept : KeptBytes) (side : Side) (count : ℕ) → IsKept kept side → count ≡ length (issued_of side)
+pub keeps_whole : (kept : KeptBytes) (side : Side) (count : ℕ) → IsKept kept side → count ≡ length (issued_of side)
     → Keeps kept side count
 keeps_whole kept side count is all =
     inr (side, is, record { front = none_more (issued_of side) (issued_of side) refl; all = all; back = back_to_itself side count is.0.0 all; asked = λ asked. asked })
 
--- After a done save of the kept record, the rules of the desk hold with all messages released.
-pub save_rules : ReadsAgain → {old new : StoreState} {bytes : List ℕ} (kept : KeptBytes) (live : Side) (count : ℕ)
-    → StoreSaves bytes old (Ok tt) new → IsKept kept live → bytes ≡ kept.bytes
-    → count ≡ length (issued_of live) → Rules new kept live count
-save_rules again {old} {new} {bytes} kept live count saves is spelled all = (
-  omega (arith, all),
-  λ now. landed_backs again bytes new.landed live count is.0 (spelled ∙ ap (λ (k : KeptBytes). k.bytes) is.1) (saves.landed (sym saves.honest ∙ now)) (omega (arith, all)),
-  keeps_whole kept live count is all,
-)
+-- A consistent side backs itself with all messages released.
+pub itself_backs : (side : Side) (count : ℕ) → IsConsistent side → count ≤ length (issued_of side) → IsBackedBy side side count
+itself_backs side count is few = record { consistent = is; follows = same; has-released = few }
 
--- If the old bytes back the live side, so do the bytes after a save. These are the old ones or its encoding.
-either_backs : ReadsAgain → (old new : Option (List ℕ)) (bytes : List ℕ) (live : Side) (released : ℕ) → IsSide live
-    → bytes ≡ record_spelling live → released ≤ length (issued_of live)
-    → IsBacked old live released → (new ≡ old) ⊎ (new ≡ Some bytes) → IsBacked new live released
-either_backs again old new bytes live released is spelled few backed (inl e) = subst (λ o. IsBacked o live released) (sym e) backed
-either_backs again old new bytes live released is spelled few backed (inr e) = landed_backs again bytes new live released is spelled e few
+-- The kept record of a side in range is its record.
+pub record_of : ReadsAgain → (kept : KeptBytes) (live : Side) (released : ℕ) → IsKept kept live
+    → released ≤ length (issued_of live) → IsRecordOf one_side OneBacks kept.bytes (entry live released)
+record_of again kept live released is few =
+    let spelled : kept.bytes ≡ record_spelling live = ap (λ (k : KeptBytes). k.bytes) is.1 in
+    record {
+      spelled = spelled;
+      read = ap one_side.read spelled ∙ ap (map_ok whole) (again live is.0);
+      backed = itself_backs live released is.0.0 few;
+      saved = itself_backs live (length (issued_of live)) is.0.0 (omega arith);
+    }
 
--- After a save that fails, the old bytes or the new ones have landed.
-pub old_or_new : (plan : Option NextCall) (bytes : List ℕ) (fault : StoreFault) (old new : Option (List ℕ))
-    → LandsAtSave plan bytes (Err fault) old new → (new ≡ old) ⊎ (new ≡ Some bytes)
-old_or_new (Some plans.FailsOld) bytes stores.Failed old new lands = inl lands
-old_or_new (Some plans.FailsNew) bytes stores.Failed old new lands = inr lands
-old_or_new (Some plans.Works) bytes stores.Failed old new lands = lands
-old_or_new None bytes stores.Failed old new lands = lands
-old_or_new plan bytes stores.TooLarge old new lands = absurd lands
-old_or_new plan bytes stores.OutOfMemory old new lands = inl lands
-
--- After a save that fails, the rules of the desk hold as before.
-pub fault_rules : ReadsAgain
-    → {old new : StoreState} {bytes : List ℕ} {fault : StoreFault} (kept : KeptBytes) (live : Side) (released : ℕ)
-    → StoreSaves bytes old (Err fault) new → IsSide live
-    → bytes ≡ record_spelling live → Rules old kept live released → Rules new kept live released
-fault_rules again {old} {new} {bytes} {fault} kept live released saves is spelled rules = (
-  rules.0,
-  λ now.
-      let was = sym saves.honest ∙ now in
-      either_backs again old.landed new.landed bytes live released is spelled rules.0 (rules.1 was) (old_or_new old.plan bytes fault old.landed new.landed (saves.landed was)),
-  rules.2,
-)
+-- The next kept record is the record of the side.
+pub next_record : {E : Type 0} → ReadsAgain → (live : Side) (released : ℕ) (result : Result KeptBytes E)
+    → IfOk result (λ kept. IsKept kept live) → released ≤ length (issued_of live)
+    → IfOk result (λ kept. IsRecordOf one_side OneBacks kept.bytes (entry live released))
+next_record again live released (Ok kept) is few = record_of again kept live released is few
+next_record again live released (Err fault) is few = tt
 
 -- ---- loading
 
@@ -465,186 +472,123 @@ unfolding are_numbered rise_from ships_first requesters.is_consistent responders
 idle_consistent (sides.Requester x) = search rules
 idle_consistent (sides.Responder y) = search rules
 
--- A consistent side backs itself with all messages released.
-pub itself_backs : (side : Side) (count : ℕ) → IsConsistent side → count ≡ length (issued_of side) → IsBackedBy side side count
-itself_backs side count is all = record { consistent = is; follows = same; has-released = omega (arith, all) }
-
--- If nothing has landed, an idle side is backed with all messages released.
-idle_backs : (live side : Side) (count : ℕ) → side ≡ idle_of live → count ≡ length (issued_of side) → IsBacked None side count
-idle_backs live side count e all =
-    subst (λ s. count ≡ length (issued_of s) → IsBacked None s count) (sym e)
-    (λ every. subst (λ s. IsBackedBy s (idle_of live) count) (sym (idle_twice live)) (itself_backs (idle_of live) count (idle_consistent live) every)) all
-
--- The landed side backs itself with all messages released.
-whole_backs : (landed : Option (List ℕ)) (live side : Side) (count : ℕ) → landed_side landed live ≡ Ok side
-    → IsConsistent side → count ≡ length (issued_of side) → IsBacked landed side count
-whole_backs None live side count is consistent all =
-    let same : side ≡ idle_of live = search rules in
-    idle_backs live side count same all
-whole_backs (Some bytes) live side count is consistent all = subst (λ read. IsBackedByRead read side count) (sym is) (itself_backs side count consistent all)
-
 -- An idle side has issued nothing.
 pub nothing_issued : (live : Side) → length (issued_of (idle_of live)) ≡ 0
 nothing_issued (sides.Requester x) = refl
 nothing_issued (sides.Responder y) = refl
 
--- A side that was loaded is the one that the landed bytes encode.
-loaded_is : (bytes : Option (List ℕ)) (live : Side) (loaded : Loaded) → LoadsOrIdle bytes live (Ok loaded)
-    → landed_side bytes live ≡ Ok loaded.side
-loaded_is (Some bytes) live loaded loads = loads.0
-loaded_is None live loaded loads = ap Ok (sym loads.0)
+-- The idle side of a role and a transaction is its own idle side.
+pub idle_is_idle : (role : Role) (txn : Qualifiers) → idle_side role txn ≡ idle_of (idle_side role txn)
+idle_is_idle roles.Requester txn = refl
+idle_is_idle roles.Responder txn = refl
 
--- A side that was loaded is consistent.
-loaded_consistent : (bytes : Option (List ℕ)) (live : Side) (loaded : Loaded) → LoadsOrIdle bytes live (Ok loaded)
-    → IsConsistent loaded.side
-loaded_consistent (Some bytes) live loaded loads = loads.1.0.0
-loaded_consistent None live loaded loads = subst IsConsistent (sym loads.0) (idle_consistent live)
+-- If nothing has landed, the idle side with nothing released is backed.
+pub idle_backs : (first : Side) → first ≡ idle_of first → OneBacks (one_side.unsaved (alone first)) (alone first)
+idle_backs first idle =
+    subst (λ side. IsBackedBy side first 0) idle (itself_backs first 0 (subst IsConsistent (sym idle) (idle_consistent first)) (omega arith))
 
--- If all messages of a loaded side are released, its desk keeps its record, or none if nothing has landed.
-loaded_keeps : (bytes : Option (List ℕ)) (live : Side) (loaded : Loaded) (count : ℕ)
-    → LoadsOrIdle bytes live (Ok loaded) → count ≡ length (issued_of loaded.side)
-    → Keeps loaded.kept loaded.side count
-loaded_keeps (Some bytes) live loaded count loads all = keeps_whole loaded.kept loaded.side count loads.1 all
-loaded_keeps None live loaded count loads all = inl (loads.1, all ∙ (ap (λ s. length (issued_of s)) loads.0 ∙ nothing_issued live))
+-- If nothing has landed, the idle side of a side is backed with all of its messages released.
+pub idle_again_backs : (live : Side) → IsBacked one_side OneBacks None (whole (idle_of live))
+idle_again_backs live =
+    subst (λ side. OneBacks (whole side) (whole (idle_of live))) (sym (idle_twice live)) (itself_backs (idle_of live) (length (issued_of (idle_of live))) (idle_consistent live) (omega arith))
 
--- After a load of the landed side, the rules of a desk hold of that side with all messages released.
-whole_rules : {X : Type 0} {bytes_of : X → List ℕ} {old new : StoreState} {found : Option X} (kept : KeptBytes) (live side : Side) (count : ℕ)
-    → StoreLoads bytes_of old (Ok found) new
-    → landed_side (option_map bytes_of found) live ≡ Ok side → IsConsistent side → Keeps kept side count
-    → count ≡ length (issued_of side) → Rules new kept side count
-whole_rules {X} {bytes_of} {old} {new} {found} kept live side count loads is consistent keeps all = (
-  omega (arith, all),
-  λ now.
-      let was = sym loads.honest ∙ now in
-      subst (λ o. IsBacked o side count) (loads.loaded was ∙ sym (loads.landed was)) (whole_backs (option_map bytes_of found) live side count is consistent all),
-  keeps,
+-- An idle side with nothing released is that side with all of its messages released.
+pub alone_whole : (live : Side) → alone (idle_of live) ≡ whole (idle_of live)
+alone_whole live = ap (entry (idle_of live)) (sym (nothing_issued live))
+
+-- If bytes are read as sides that back themselves, the bytes back them.
+pub read_is_backed : {L K : Type 0} (effects : Effects L K) (backs : L → L → Type 0) (bytes : List ℕ) (live : L)
+    → effects.read bytes ≡ Ok live → backs live live → IsBacked effects backs (Some bytes) live
+read_is_backed effects backs bytes live read backed = subst (λ r. IsBackedByRead backs r live) (sym read) backed
+
+-- If the live side goes back to the kept record, the loaded bytes encode it with all of its messages released.
+pub back_is : ReadsAgain → (kept : KeptBytes) (released : ℕ) (bytes : Option (List ℕ)) (old new : Side)
+    → GoesBackTo kept released bytes true old new → landed_live one_side bytes (entry old released) ≡ Ok (whole new)
+back_is again kept released bytes old new (spelled, is, of) =
+    ap (λ o. landed_live one_side o (entry old released)) (spelled ∙ ap (λ (k : KeptBytes). Some k.bytes) is.1) ∙ ap (map_ok whole) (again new is.0)
+
+-- If the live side goes back to the kept record, the loaded bytes back it, and it keeps its rules.
+pub back_rules : ReadsAgain → (kept : KeptBytes) (released : ℕ) (bytes : Option (List ℕ)) (old new : Side)
+    → GoesBackTo kept released bytes true old new
+    → Rules kept new released × IsBacked one_side OneBacks bytes (entry new released) × (entry new released ≡ whole new)
+back_rules again kept released bytes old new (spelled, is, of) = (
+  (omega (arith, of.all), keeps_whole kept new released is of.all),
+  subst (λ o. IsBacked one_side OneBacks o (entry new released)) (sym (spelled ∙ ap (λ (k : KeptBytes). Some k.bytes) is.1))
+      (read_is_backed one_side OneBacks (record_spelling new) (entry new released) (ap (map_ok whole) (again new is.0) ∙ ap (λ n. Ok (entry new n)) (sym of.all)) (itself_backs new released is.0.0 (omega (arith, of.all)))),
+  ap (entry new) of.all,
 )
 
--- After a restart, the rules of a desk hold of the loaded side with all messages released.
-pub restart_rules : {X : Type 0} {bytes_of : X → List ℕ} {old new : StoreState} {found : Option X} (live : Side) (loaded : Loaded) (count : ℕ)
-    → StoreLoads bytes_of old (Ok found) new
-    → LoadsOrIdle (option_map bytes_of found) live (Ok loaded) → count ≡ length (issued_of loaded.side)
-    → Rules new loaded.kept loaded.side count
-restart_rules {X} {bytes_of} {old} {new} {found} live loaded count store loads all =
-    let bytes = option_map bytes_of found in
-    whole_rules loaded.kept live loaded.side count store (loaded_is bytes live loaded loads) (loaded_consistent bytes live loaded loads) (loaded_keeps bytes live loaded count loads all) all
+-- A fault of decoding a value is the fault of what the value becomes.
+pub map_decodes : {V L : Type 0} (f : V → L) (read : Result V RecordFault) (begins : Bool) (fault : RecordFault)
+    → Decodes read begins (Err fault) → Decodes (map_ok f read) begins (Err fault)
+map_decodes f read begins records.OutOfMemory decodes = decodes
+map_decodes f read begins records.Short decodes = ap (map_ok f) decodes
+map_decodes f read begins (records.Bad at) decodes = ap (map_ok f) decodes
+map_decodes f read begins records.Inconsistent decodes = ap (map_ok f) decodes
+map_decodes f read begins records.Digest decodes = ap (map_ok f) decodes
+
+-- A fault of decoding is the fault of reading a record.
+pub fault_reads : {L K : Type 0} (effects : Effects L K) (bytes : List ℕ) (fault : RecordFault)
+    → Decodes (effects.read bytes) (effects.begins bytes) (Err fault) → ReadsRecord effects bytes (Err (of_record fault))
+fault_reads effects bytes records.OutOfMemory decodes = tt
+fault_reads effects bytes records.Short decodes = decodes
+fault_reads effects bytes (records.Bad at) decodes = decodes
+fault_reads effects bytes records.Inconsistent decodes = decodes
+fault_reads effects bytes records.Digest decodes = decodes
+
+-- A fault of decoding one record is one of reading a record without a digest.
+pub record_faults : (bytes : List ℕ) (begins : Bool) (fault : RecordFault) → Decodes (record_at bytes) begins (Err fault)
+    → IsReadFault false (of_record fault)
+record_faults bytes begins records.OutOfMemory decodes = tt
+record_faults bytes begins records.Short decodes = tt
+record_faults bytes begins (records.Bad at) decodes = tt
+record_faults bytes begins records.Inconsistent decodes = tt
+record_faults bytes begins records.Digest decodes = absurd (no_digest bytes decodes)
+
+-- Each fault of decoding is one of reading a record with a digest.
+pub records_faults : (fault : RecordFault) → IsReadFault true (of_record fault)
+records_faults records.OutOfMemory = tt
+records_faults records.Short = tt
+records_faults (records.Bad at) = tt
+records_faults records.Inconsistent = tt
+records_faults records.Digest = refl
 
 -- If a plan allows a call to answer a value, it allows the call to be done.
-pub allows_done : {X : Type 0} (plan : Option NextCall) (value : X) → Allows plan (Ok value) → Allows {X = Unit {0}} plan (Ok tt)
+allows_done : {X : Type 0} (plan : Option NextCall) (value : X) → Allows plan (Ok value) → Allows {X = Unit {0}} plan (Ok tt)
 allows_done None value allows = tt
 allows_done (Some plans.Works) value allows = tt
 allows_done (Some plans.FailsOld) value allows = allows
 allows_done (Some plans.FailsNew) value allows = allows
 
--- A restart that loads a side from an honest store answers as `Restarts` says.
-pub restarts_to : {X : Type 0} {bytes_of : X → List ℕ} {old new : StoreState} {found : Option X} (live : Side) (loaded : Loaded)
-    → StoreLoads bytes_of old (Ok found) new → LoadsOrIdle (option_map bytes_of found) live (Ok loaded)
-    → old.is_honest ≡ true → Restarts (landed_side old.landed live) old.plan (Ok tt) loaded.side
-restarts_to {X} {bytes_of} {old} {new} {found} live loaded store loads honest =
-    (ap (λ o. landed_side o live) (sym (store.loaded honest)) ∙ loaded_is (option_map bytes_of found) live loaded loads, allows_done old.plan found (store.planned honest))
+-- If the landed bytes back the live sides, reading them gives no fault of the record.
+no_fault : {L : Type 0} (backs : L → L → Type 0) (read : Result L RecordFault) (begins : Bool) (live : L) (has_digest : Bool) (fault : RecordFault)
+    → IsBackedByRead backs read live → Decodes read begins (Err fault) → IsReadFault has_digest (faults.Saved fault) → ⊥
+no_fault backs (Ok landed) begins live has_digest records.OutOfMemory backed decodes is = is
+no_fault backs (Ok landed) begins live has_digest records.Short backed decodes is = search rules
+no_fault backs (Ok landed) begins live has_digest (records.Bad at) backed decodes is = search rules
+no_fault backs (Ok landed) begins live has_digest records.Inconsistent backed decodes is = search rules
+no_fault backs (Ok landed) begins live has_digest records.Digest backed decodes is = search rules
+no_fault backs (Err other) begins live has_digest fault backed decodes is = backed
 
--- If the live side goes back, the landed bytes encode the side to which it goes.
-back_is : ReadsAgain → (kept : KeptBytes) (released : ℕ) (bytes : Option (List ℕ)) (old new : Side)
-    → GoesBackTo kept released bytes true old new → landed_side bytes old ≡ Ok new
-back_is again kept released bytes old new (spelled, is, of) =
-    ap (λ o. landed_side o old) (spelled ∙ ap (λ (k : KeptBytes). Some k.bytes) is.1) ∙ again new is.0
+-- If the loaded bytes back the live sides, going back to them is a restart.
+restarts_so : {L K : Type 0} (effects : Effects L K) (backs : L → L → Type 0) (bytes : Option (List ℕ)) (plan : Option NextCall) (old new : L) (answer : Result (Unit {0}) DeskFault)
+    → Allows {X = Unit {0}} plan (Ok tt) → IsBacked effects backs bytes old → GoesBackToLanded effects bytes old answer new
+    → IfErr answer (IsReadFault effects.has_digest) → Restarts (landed_live effects bytes old) plan answer new
+restarts_so effects backs bytes plan old new (Ok done) allows backed goes is = (goes, allows)
+restarts_so effects backs (Some bytes) plan old new (Err (faults.Saved fault)) allows backed goes is =
+    absurd (no_fault backs (effects.read bytes) (effects.begins bytes) old effects.has_digest fault backed goes.0 is)
+restarts_so effects backs bytes plan old new (Err faults.OutOfMemory) allows backed goes is = tt
+restarts_so effects backs bytes plan old new (Err other) allows backed goes is = absurd goes
 
--- If the live side goes back over an honest store, the restart answers as `Restarts` says.
-pub back_to_landed : ReadsAgain
-    → {X : Type 0} {bytes_of : X → List ℕ} {before after : StoreState} {found : Option X} (kept : KeptBytes) (released : ℕ) (old new : Side)
+-- If an honest store backs the live sides, going back to the bytes that it loads is a restart.
+pub restarts_to : {L K X : Type 0} (effects : Effects L K) (backs : L → L → Type 0) {bytes_of : X → List ℕ} {before after : StoreState} {found : Option X} (old new : L) (answer : Result (Unit {0}) DeskFault)
     → StoreLoads bytes_of before (Ok found) after
-    → GoesBackTo kept released (option_map bytes_of found) true old new → before.is_honest ≡ true
-    → Restarts (landed_side before.landed old) before.plan (Ok tt) new
-back_to_landed again {X} {bytes_of} {before} {after} {found} kept released old new store back honest =
-    (ap (λ o. landed_side o old) (sym (store.loaded honest)) ∙ back_is again kept released (option_map bytes_of found) old new back, allows_done before.plan found (store.planned honest))
-
--- If the live side goes back, the rules of the desk hold of the side to which it goes.
-pub back_rules : ReadsAgain
-    → {X : Type 0} {bytes_of : X → List ℕ} {before after : StoreState} {found : Option X} (kept : KeptBytes) (old new : Side) (released : ℕ)
-    → StoreLoads bytes_of before (Ok found) after
-    → GoesBackTo kept released (option_map bytes_of found) true old new → Rules after kept new released
-back_rules again {X} {bytes_of} {before} {after} {found} kept old new released store (spelled, is, of) =
-    whole_rules kept old new released store (back_is again kept released (option_map bytes_of found) old new (spelled, is, of)) is.0.0 (keeps_whole kept new released is of.all) of.all
-
--- A fault of decoding one record is a fault of loading a side.
-pub record_loads : (bytes : List ℕ) (begins : Bool) (fault : RecordFault) → Decodes (record_at bytes) begins (Err fault) → IsLoadFault (of_record fault)
-record_loads bytes begins records.OutOfMemory decodes = tt
-record_loads bytes begins records.Short decodes = tt
-record_loads bytes begins (records.Bad at) decodes = tt
-record_loads bytes begins records.Inconsistent decodes = tt
-record_loads bytes begins records.Digest decodes = absurd (no_digest bytes decodes)
-
--- If the bytes are read as a value, decoding them fails only if memory runs out.
-pub no_fault : {V : Type 0} (read : Result V RecordFault) (begins : Bool) (fault : RecordFault) (value : V)
-    → read ≡ Ok value → Decodes read begins (Err fault) → fault ≡ records.OutOfMemory
-no_fault read begins records.Short value is decodes = search rules
-no_fault read begins (records.Bad at) value is decodes = search rules
-no_fault read begins records.Inconsistent value is decodes = search rules
-no_fault read begins records.Digest value is decodes = search rules
-no_fault read begins records.OutOfMemory value is decodes = refl
-
--- If a reading backs the live side, it gave a side.
-backed_is : (read : Result Side RecordFault) (live : Side) (released : ℕ) → IsBackedByRead read live released
-    → (side : Side) × (read ≡ Ok side)
-backed_is (Ok side) live released backed = (side, refl)
-backed_is (Err fault) live released backed = absurd backed
-
--- A fault of loading never has a lack of memory as a fault of the record.
-no_memory : (fault : RecordFault) → fault ≡ records.OutOfMemory → IsLoadFault (faults.Saved fault) → ⊥
-no_memory fault is load = subst (λ f. IsLoadFault (faults.Saved f)) is load
-
--- If the landed bytes back the live side, loading them fails only if memory runs out.
-load_fails : (bytes : Option (List ℕ)) (live new : Side) (released : ℕ) (plan : Option NextCall) (fault : DeskFault)
-    → IsBacked bytes live released → LoadsOrIdle bytes live (Err fault) → IsLoadFault fault
-    → Restarts (landed_side bytes live) plan (Err fault) new
-load_fails (Some bytes) live new released plan (faults.Saved fault) backed loads is =
-    let read = backed_is (record_at bytes) live released backed in
-    absurd (no_memory fault (no_fault (record_at bytes) (begins_as_record bytes) fault read.0 read.1 loads) is)
-load_fails (Some bytes) live new released plan faults.OutOfMemory backed loads is = tt
-load_fails (Some bytes) live new released plan fault backed loads is = absurd loads
-load_fails None live new released plan fault backed loads is = subst (λ f. Restarts (Ok (idle_of live)) plan (Err f) new) (sym loads) tt
-
--- If an honest store backs the live side, a restart that fails to load answers as `Restarts` says.
-pub restart_fails : {X : Type 0} {bytes_of : X → List ℕ} {before after : StoreState} {found : Option X} (live new : Side) (released : ℕ) (fault : DeskFault)
-    → StoreLoads bytes_of before (Ok found) after
-    → (before.is_honest ≡ true → IsBacked before.landed live released)
-    → LoadsOrIdle (option_map bytes_of found) live (Err fault) → IsLoadFault fault → before.is_honest ≡ true
-    → Restarts (landed_side before.landed live) before.plan (Err fault) new
-restart_fails {X} {bytes_of} {before} {after} {found} live new released fault store backed loads is honest =
-    subst (λ o. IsBacked o live released → Restarts (landed_side o live) before.plan (Err fault) new) (store.loaded honest)
-    (λ backs. load_fails (option_map bytes_of found) live new released before.plan fault backs loads is) (backed honest)
-
--- A side that a desk starts with is the one that the landed bytes encode.
-started_is : (landed : Option (List ℕ)) (plan : Option NextCall) (side : Side)
-    → LoadsSide landed plan (Ok (Some side)) → landed_side landed side ≡ Ok side
-started_is (Some bytes) plan side loads = loads.0
-started_is None plan side loads = absurd loads
-
--- After a start, the rules of the desk hold of the loaded side with all messages released.
-pub start_rules : {X : Type 0} {old new : StoreState} {answer : Result X DeskFault} (kept : KeptBytes) (side : Side) (count : ℕ)
-    → DeskLoads old answer new
-    → (old.is_honest ≡ true → LoadsSide old.landed old.plan (Ok (Some side))) → IsKept kept side
-    → count ≡ length (issued_of side) → Rules new kept side count
-start_rules {X} {old} {new} {answer} kept side count store loads is all = (
-  omega (arith, all),
-  λ now.
-      let was = sym store.honest ∙ now in
-      subst (λ o. IsBacked o side count) (sym (store.landed was)) (whole_backs old.landed side side count (started_is old.landed old.plan side (loads was)) is.0.0 all),
-  keeps_whole kept side count is all,
-)
-
--- If nothing has landed, the rules of a new desk hold of its idle side, with nothing released or kept.
-pub create_rules : {X : Type 0} {bytes_of : X → List ℕ} {old new : StoreState} {answer : Result (Option X) StoreFault} (kept : KeptBytes) (first : Side)
-    → StoreLoads bytes_of old answer new
-    → (old.is_honest ≡ true → None ≡ old.landed) → kept ≡ none_kept → first ≡ idle_of first → Rules new kept first 0
-create_rules {X} {bytes_of} {old} {new} {answer} kept first loads none empty idle = (
-  omega arith,
-  λ now.
-      let was = sym loads.honest ∙ now in
-      let all : 0 ≡ length (issued_of first) = sym (ap (λ s. length (issued_of s)) idle ∙ nothing_issued first) in
-      subst (λ o. IsBacked o first 0) (none was ∙ sym (loads.landed was)) (idle_backs first first 0 idle all),
-  inl (empty, refl),
-)
+    → (before.is_honest ≡ true → IsBacked effects backs before.landed old)
+    → GoesBackToLanded effects (option_map bytes_of found) old answer new → IfErr answer (IsReadFault effects.has_digest)
+    → before.is_honest ≡ true → Restarts (landed_live effects before.landed old) before.plan answer new
+restarts_to effects backs {bytes_of} {before} {after} {found} old new answer store backed goes is honest =
+    subst (λ o. IsBacked effects backs o old → Restarts (landed_live effects o old) before.plan answer new) (store.loaded honest)
+    (λ backs_old. restarts_so effects backs (option_map bytes_of found) before.plan old new answer (allows_done before.plan found (store.planned honest)) backs_old goes is) (backed honest)
 
 -- ---- sending
 

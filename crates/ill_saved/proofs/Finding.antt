@@ -9,7 +9,8 @@ use Rattle.ill_values.specs.TxnId.{Qualifiers}
 use Rattle.ill_core.specs.Issued.{is_same_txn}
 use Rattle.ill_saved.specs.Side.{txn_of, idle_side}
 use Rattle.ill_saved.specs.Sides.{found_by, put_by, side_with}
-use Rattle.ill_saved.specs.Many.{DeskEntry, DeskContents, txn_held, idle_held, found_or, held_for, side_for, sides_held}
+use Rattle.ill_saved.specs.Holdings.{DeskEntry}
+use Rattle.ill_saved.specs.ManySides.{DeskContents, txn_held, idle_held, found_or, held_for, side_for, sides_held}
 
 -- If the test of two transactions is true, they are equal.
 pub same_is : (a b : Qualifiers) → is_same_txn a b ≡ true → a ≡ b

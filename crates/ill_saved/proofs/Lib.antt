@@ -10,7 +10,7 @@ pub mod Finding
 pub mod DeskEntry
 pub mod Together
 pub mod Desks
-pub mod Holdings
+pub mod Contents
 pub mod Files
 pub mod Sizes
 pub mod Places

@@ -7,6 +7,7 @@ pub mod Ranges
 pub mod Store
 pub mod Faults
 pub mod Kept
+pub mod Holdings
+pub mod OneSide
 pub mod Desk
-pub mod Many
-pub mod Loading
+pub mod ManySides

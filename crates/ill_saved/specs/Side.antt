@@ -1,6 +1,6 @@
 -- A side of a transaction in either role: its actions, and the APDUs that it takes (this profile's own).
 -- Definitions here tell the roles apart, and a desk does not.
-use Rattle.std.specs.Prelude.{◌≡◌, ◌↔◌, ℕ, Bool, not, if◌then◌else◌, List, [], ◌∷◌, ◌++◌, Option, Some, None, true, false, is_ok, Result, Ok, Err}
+use Rattle.std.specs.Prelude.{◌≡◌, ◌↔◌, ℕ, Bool, not, if◌then◌else◌, List, length, [], ◌∷◌, ◌++◌, Option, Some, None, true, false, is_ok, Result, Ok, Err}
 use Rattle.ill_values.specs.declared.apdu.Apdu.{Apdu}
 use Rattle.ill_values.specs.Day.{Date}
 use Rattle.ill_values.specs.TxnId.{Qualifiers}
@@ -25,6 +25,7 @@ use Rattle.ill_core.specs.ResponderDeliveries as responder_deliveries
 use Rattle.ill_core.specs.Verbs.{wish_verb, deed_verb, requester_verbs, responder_verbs, requester_turn, responder_turn}
 use Rattle.ill_saved.specs.declared.role.Role.{Role}
 use Rattle.ill_saved.specs.declared.role.Role.TheVariants as roles
+use Rattle.ill_saved.specs.declared.shown.Shown.{Shown}
 use Rattle.ill_saved.specs.declared.side.Side.{Side}
 use Rattle.ill_saved.specs.declared.side.Side.TheVariants as sides
 use Rattle.ill_saved.specs.declared.side.Standing.{Standing}
@@ -202,3 +203,12 @@ IsPrefix prefix all = (more : List _) × (all ≡ prefix ++ more)
 -- The new side keeps the role and the transaction. The messages of the old one are a prefix of its own.
 abbrev pub Grows : Side → Side → Type 0
 Grows old new = (idle_of new ≡ idle_of old) × IsPrefix (issued_of old) (issued_of new)
+
+-- Returns the parts of a side that a line shows. `released` counts its released messages.
+abbrev pub shown_of : Side → ℕ → Shown
+shown_of side released = record {
+  state = state_of side;
+  due = due_date_of side;
+  released = released;
+  issued = length (issued_of side);
+}

@@ -1,55 +1,201 @@
-//! One side with its store.
+//! A desk: one side or many, in memory and in a store.
 
-ghost use Rattle.std.specs.Prelude.{◌≡◌, ◌≤◌, true, length, nat_le, option_map, IfOk, IfErr, IfSome};
-ghost use Rattle.ill_core.specs.Issued.{message};
-ghost use Rattle.ill_saved.specs.Side.{issued_of, idle_of, IsConsistent};
-ghost use Rattle.ill_saved.specs.Records.{record_spelling, record_at, begins_as_record, Decodes};
-ghost use Rattle.ill_saved.specs.Ranges.{IsSide};
-ghost use Rattle.ill_saved.specs.Desk.{DeskOf, IsBacked, OneSideActs, DeskTakes, DeskTakesApdu, IsOneApdu, Sends, released_after, DeskSaves, IsSaveFault, landed_side, LoadsSide, IsLoadFault, Restarts, RestartLeaves, answer_of, store_of, Creates, IsCreateAnswer, Starts, IsStartAnswer, IsWhole, DeskLoads, WasSpelled};
-ghost use Rattle.ill_saved.specs.Kept.{Keeps, IsKept};
-ghost use Rattle.ill_saved.specs.Loading.{LoadsRecord, LoadsOrIdle, side_loaded};
+ghost use Rattle.std.specs.Prelude.{◌≡◌, ◌≤◌, true, length, option_copied, IfOk, IfErr, IfSome};
 ghost use Rattle.ill_der.specs.ShortForm.{apdu_at};
+ghost use Rattle.ill_saved.specs.Side.{issued_of, idle_of, shown_of};
+ghost use Rattle.ill_saved.specs.Sides.{found_by};
+ghost use Rattle.ill_saved.specs.Holdings.{DeskActs, DeskTakesApdu, SendsHeld, IsBacked, held_after, landed_live};
+ghost use Rattle.ill_saved.specs.OneSide.{OneBacks, alone, one_side};
+ghost use Rattle.ill_saved.specs.ManySides.{ManyBack, held_for, many_sides, no_sides, sides_held, txn_held};
+ghost use Rattle.ill_saved.specs.Desk.{DeskOf, DeskTakes, IsOneApdu, DeskSaves, IsSaveFault, IsLoadFault, Loads, Restarts, RestartLeaves, answer_of, store_of, Creates, IsCreateAnswer, Begins, IsStartAnswer, IsWhole, DeskLoads, WasSpelled};
 
-use crate::decoding::decode_record;
-use crate::fault::{DeskFault, RecordFault};
-use crate::kept::KeptRecord;
-use crate::laws;
+use crate::fault::DeskFault;
+use crate::holdings::Holdings;
+use crate::many_sides::ManySides;
 use crate::memory_store::MemoryStore;
+use crate::one_side::OneSide;
+use crate::role::Role;
+use crate::shown::Shown;
 use crate::side::{Action, Side};
+use crate::sides::Sides;
 use crate::store::{NextCall, Store};
 use ill_core::Taking;
 use ill_der::decode;
-use ill_values::{Apdu, Number, OutOfMemory};
+use ill_values::{Apdu, Number, TxnId};
 use std::alloc::Global;
 use std::marker::Model;
 
-/// One side of a transaction, in memory and in a store. A message may be sent only once it is saved.
-///
-/// The desk keeps the last record that its own `save`, `start` or `restart` knows to have landed. It sends
-/// messages from those bytes, and the next save copies them.
+/// Sides in memory and in a store. A message may be sent only once it is saved.
 #[derive(Debug, Drop)]
-pub struct Desk1<S: Store> {
-    live: Side,
+pub struct AnyDesk<H: Holdings, S: Store> {
+    held: H,
     store: S,
-    released: u8,
-    kept: KeptRecord,
 }
 
-/// A side that was loaded, with its record.
-#[derive(Drop)]
-struct Loaded {
-    side: Side,
-    kept: KeptRecord,
+/// One side of a transaction, in memory and in a store.
+pub type Desk1<S> = AnyDesk<OneSide, S>;
+
+/// The sides of one library in many transactions, in memory and in a store. No side that is held is idle.
+pub type Desk<S> = AnyDesk<ManySides, S>;
+
+impl<H: Holdings, S: Store> Model for AnyDesk<H, S> {
+    ghost Value = { DeskOf H S };
+
+    ghost view = { λ desk. record { live = desk.held; store = desk.store } };
+
+    ghost invariant = { λ desk. (S.state desk.store).is_honest ≡ true →
+        IsBacked H.effects H.backs (S.state desk.store).landed desk.held };
 }
 
-impl<S: Store> Model for Desk1<S> {
-    ghost Value = { DeskOf S };
+impl<H: Holdings, S: Store> AnyDesk<H, S> {
+    /// Begins a desk over a store without a record (else `Exists`). Saves nothing yet. A fault returns the store.
+    pub fn begin(alloc: Global, store: S, first: H::First) -> Result<AnyDesk<H, S>, (DeskFault, S)>
+        ensures creates { (S.state store).is_honest ≡ true →
+            Creates (S.state store).landed (S.state store).plan (answer_of result) }
+        ensures begins { IfOk result (λ desk. desk.live ≡ H.begun first) }
+        ensures faults { IsCreateAnswer (answer_of result) }
+        ensures store { DeskLoads (S.state store) (answer_of result) (S.state (store_of result)) }
+    {
+        AnyDesk::over(alloc, store, H::begin(alloc, first))
+    }
 
-    ghost view = { λ d. record { live = d.live; store = d.store; released = d.released } };
+    /// Returns a desk of sides that begin, over a store without a record (else `Exists`). A fault returns the store.
+    fn over(alloc: Global, store: S, held: H) -> Result<AnyDesk<H, S>, (DeskFault, S)>
+        requires backed { H.backs (H.effects.unsaved held) held }
+        ensures creates { (S.state store).is_honest ≡ true →
+            Creates (S.state store).landed (S.state store).plan (answer_of result) }
+        ensures begins { IfOk result (λ desk. desk.live ≡ held) }
+        ensures faults { IsCreateAnswer (answer_of result) }
+        ensures store { DeskLoads (S.state store) (answer_of result) (S.state (store_of result)) }
+    {
+        let mut store = store;
+        match store.load(alloc) {
+            Ok(None) => Ok(AnyDesk { held, store }),
+            Ok(Some(_)) => Err((DeskFault::Exists, store)),
+            Err(fault) => Err((DeskFault::from(fault), store)),
+        }
+    }
 
-    ghost invariant = { λ d. (d.released ≤ length (issued_of d.live))
-        × ((S.state d.store).is_honest ≡ true → IsBacked (S.state d.store).landed d.live d.released)
-        × Keeps d.kept d.live d.released };
+    /// Starts a desk with the sides whose record `store` has (else `NoRecord`). All their messages may be sent. A fault
+    /// returns the store.
+    pub fn start(alloc: Global, store: S) -> Result<AnyDesk<H, S>, (DeskFault, S)>
+        ensures starts { (S.state store).is_honest ≡ true →
+            Begins H.effects.read H.effects.begins (λ desk. desk.live) (S.state store).landed (S.state store).plan result }
+        ensures whole { IfOk result (λ desk. IsWhole H.effects desk.live) }
+        ensures rules { IfOk result (λ desk. H.backs desk.live desk.live) }
+        ensures faults { IsStartAnswer H.effects.has_digest (answer_of result) }
+        ensures store { DeskLoads (S.state store) (answer_of result) (S.state (store_of result)) }
+    {
+        let mut store = store;
+        match load::<H, S>(alloc, &mut store) {
+            Ok(Some(held)) => Ok(AnyDesk { held, store }),
+            Ok(None) => Err((DeskFault::NoRecord, store)),
+            Err(fault) => Err((fault, store)),
+        }
+    }
+
+    /// Performs `action` on the side `key`. The message that it issues may be sent after the next `save`.
+    pub fn act_on(&mut self, alloc: Global, key: &H::Key, action: &Action) -> Result<(), DeskFault>
+        ensures acts { DeskActs H.effects self.old.live key.now action.now result self.new.live }
+        ensures store { self.new.store ≡ self.old.store }
+    {
+        self.held.act(alloc, key, action)
+    }
+
+    /// Takes a message: the bytes must be exactly one APDU.
+    pub fn take_bytes(&mut self, alloc: Global, bytes: &[u8]) -> Result<Taking, DeskFault>
+        ensures takes { DeskTakes H.effects self.old.live (apdu_at bytes.now) result self.new.live }
+        ensures store { self.new.store ≡ self.old.store }
+    {
+        let apdu = one_apdu(alloc, bytes)?;
+        self.take(alloc, &apdu)
+    }
+
+    /// Takes a message that was read already.
+    pub fn take(&mut self, alloc: Global, apdu: &Apdu) -> Result<Taking, DeskFault>
+        ensures takes { DeskTakesApdu H.effects self.old.live apdu.now result self.new.live }
+        ensures store { self.new.store ≡ self.old.store }
+    {
+        self.held.take(alloc, apdu)
+    }
+
+    /// Saves all sides, so that all their messages may be sent. A fault leaves the sides and the released messages
+    /// as they were. The desk allocates all its memory before it calls the store.
+    pub fn save(&mut self, alloc: Global) -> Result<(), DeskFault>
+        ensures live { self.new.live ≡ held_after H.effects result self.old.live }
+        ensures store { DeskSaves (H.effects.spelling self.old.live) (S.state self.old.store) result
+            (S.state self.new.store) }
+        ensures sides { WasSpelled H.in_range result self.old.live }
+        ensures faults { IsSaveFault result }
+    {
+        let record = self.held.record(alloc)?;
+        self.store.save(alloc, H::bytes(&record))?;
+        self.held.release(record);
+        Ok(())
+    }
+
+    /// Goes back to the sides in the store, or to those of a beginning if the store has none. All their messages may be
+    /// sent. A fault leaves the sides and the released messages as they were.
+    pub fn restart(&mut self, alloc: Global) -> Result<(), DeskFault>
+        ensures restarts { (S.state self.old.store).is_honest ≡ true →
+            Restarts (landed_live H.effects (S.state self.old.store).landed self.old.live)
+            (S.state self.old.store).plan result self.new.live }
+        ensures leaves { RestartLeaves H.effects result self.old.live self.new.live }
+        ensures store { DeskLoads (S.state self.old.store) result (S.state self.new.store) }
+    {
+        let bytes = self.store.load(alloc)?;
+        self.held.go_back(alloc, bytes)
+    }
+
+    /// Returns the bytes of message `number` of the side `key`, to send it.
+    pub fn message_of(
+        &self,
+        alloc: Global,
+        key: &H::Key,
+        number: Number,
+    ) -> Result<Vec<u8>, DeskFault>
+        ensures { SendsHeld (λ bytes. bytes.items) (H.effects.found key.now self.now.live) number result }
+    {
+        self.held.message(alloc, key, number)
+    }
+
+    /// Returns the role of all sides.
+    pub fn role(&self) -> Role
+        ensures { result ≡ H.effects.role self.now.live }
+    {
+        self.held.role()
+    }
+
+    /// Returns the name of the side that is there from the beginning, if there is one.
+    pub fn first_key(&self) -> Option<&H::Key>
+        ensures { option_copied result ≡ H.effects.first_key }
+    {
+        self.held.first_key()
+    }
+
+    /// Returns the parts of the side `key` that a line shows. A side that is not held is idle.
+    pub fn shown(&self, key: &H::Key) -> Shown
+        ensures { result ≡ shown_of (H.effects.side_for key.now self.now.live).side
+            (H.effects.side_for key.now self.now.live).released }
+    {
+        self.held.shown(key)
+    }
+
+    /// Returns the store with its landed bytes. Drops the sides in memory.
+    pub fn close(self) -> S
+        ensures { result ≡ self.store }
+    {
+        self.store
+    }
+}
+
+impl<H: Holdings> AnyDesk<H, MemoryStore> {
+    /// Plans the next call of the store. The plan holds for that call alone.
+    pub fn set_next(&mut self, next: NextCall)
+        ensures { self.new ≡ record self.old { store = record self.old.store { next = next } } }
+    {
+        self.store.set_next(next);
+    }
 }
 
 impl<S: Store> Desk1<S> {
@@ -59,224 +205,120 @@ impl<S: Store> Desk1<S> {
         requires idle { first ≡ idle_of first }
         ensures creates { (S.state store).is_honest ≡ true →
             Creates (S.state store).landed (S.state store).plan (answer_of result) }
-        ensures begins { IfOk result (λ desk. (desk.live ≡ first) × (desk.released ≡ 0)) }
+        ensures begins { IfOk result (λ desk. desk.live ≡ alone first) }
         ensures faults { IsCreateAnswer (answer_of result) }
         ensures store { DeskLoads (S.state store) (answer_of result) (S.state (store_of result)) }
     {
-        let mut store = store;
-        match store.load(alloc) {
-            Ok(None) => Ok(Desk1 {
-                live: first,
-                store,
-                released: 0,
-                kept: KeptRecord::none(alloc),
-            }),
-            Ok(Some(_)) => Err((DeskFault::Exists, store)),
-            Err(fault) => Err((DeskFault::from(fault), store)),
-        }
-    }
-
-    /// Starts a desk with the side whose record `store` has (else `NoRecord`). All its messages may be sent.
-    /// A fault returns the store.
-    pub fn start(alloc: Global, store: S) -> Result<Desk1<S>, (DeskFault, S)>
-        ensures starts { (S.state store).is_honest ≡ true → Starts (S.state store).landed (S.state store).plan result }
-        ensures whole { IfOk result IsWhole }
-        ensures rules { IfOk result (λ desk. IsConsistent desk.live) }
-        ensures faults { IsStartAnswer (answer_of result) }
-        ensures store { DeskLoads (S.state store) (answer_of result) (S.state (store_of result)) }
-    {
-        let mut store = store;
-        match load_side(&mut store, alloc) {
-            Ok(Some(Loaded { side: live, kept })) => {
-                let released = live.issued_count();
-                Ok(Desk1 {
-                    live,
-                    store,
-                    released,
-                    kept,
-                })
-            }
-            Ok(None) => Err((DeskFault::NoRecord, store)),
-            Err(fault) => Err((fault, store)),
-        }
+        AnyDesk::over(alloc, store, OneSide::alone(alloc, first))
     }
 
     /// Performs `action`. The message that it issues may be sent after the next `save`.
     pub fn act(&mut self, alloc: Global, action: &Action) -> Result<(), DeskFault>
-        ensures acts { OneSideActs self.old.live action.now result self.new.live }
+        ensures acts { DeskActs one_side self.old.live tt action.now result self.new.live }
         ensures store { self.new.store ≡ self.old.store }
-        ensures released { self.new.released ≡ self.old.released }
     {
-        laws::rows_grow();
-        laws::rows_keep_request();
-        Ok(self.live.act(alloc, action)?)
-    }
-
-    /// Takes a message: the bytes must be exactly one APDU.
-    pub fn take_bytes(&mut self, alloc: Global, bytes: &[u8]) -> Result<Taking, DeskFault>
-        ensures takes { DeskTakes self.old.live (apdu_at bytes.now) result self.new.live }
-        ensures store { self.new.store ≡ self.old.store }
-        ensures released { self.new.released ≡ self.old.released }
-    {
-        let apdu = one_apdu(alloc, bytes)?;
-        self.take(alloc, &apdu)
-    }
-
-    /// Takes a message that was read already.
-    pub fn take(&mut self, alloc: Global, apdu: &Apdu) -> Result<Taking, DeskFault>
-        ensures takes { DeskTakesApdu self.old.live apdu.now result self.new.live }
-        ensures store { self.new.store ≡ self.old.store }
-        ensures released { self.new.released ≡ self.old.released }
-    {
-        laws::rows_grow();
-        laws::rows_keep_request();
-        Ok(self.live.take(alloc, apdu)?)
-    }
-
-    /// Saves the side, so that all its messages may be sent. A fault leaves the side and the released messages
-    /// as they were. The desk allocates all its memory before it calls the store.
-    pub fn save(&mut self, alloc: Global) -> Result<(), DeskFault>
-        ensures live { self.new.live ≡ self.old.live }
-        ensures released { self.new.released ≡
-            released_after result self.old.live self.old.released }
-        ensures store { DeskSaves (record_spelling self.old.live) (S.state self.old.store) result
-            (S.state self.new.store) }
-        ensures side { WasSpelled result self.old.live }
-        ensures faults { IsSaveFault result }
-    {
-        laws::read_again();
-        let record = self.kept.next(alloc, &self.live, self.released)?;
-        self.store.save(alloc, record.bytes())?;
-        self.released = self.live.issued_count();
-        self.kept = record;
-        Ok(())
-    }
-
-    /// Goes back to the side in the store, or to the idle side if the store has none. All its messages may be sent.
-    /// A fault leaves the side and the released messages as they were.
-    pub fn restart(&mut self, alloc: Global) -> Result<(), DeskFault>
-        ensures restarts { (S.state self.old.store).is_honest ≡ true →
-            Restarts (landed_side (S.state self.old.store).landed self.old.live) (S.state self.old.store).plan
-            result self.new.live }
-        ensures leaves { RestartLeaves result self.old self.new }
-        ensures store { DeskLoads (S.state self.old.store) result (S.state self.new.store) }
-    {
-        laws::read_again();
-        let bytes = self.store.load(alloc)?;
-        if self.kept.take_back(&bytes, self.released, &mut self.live) {
-            return Ok(());
-        }
-        let Loaded { side, kept } = load_or_idle(alloc, bytes, &self.live)?;
-        self.released = side.issued_count();
-        self.live = side;
-        self.kept = kept;
-        Ok(())
+        self.act_on(alloc, &(), action)
     }
 
     /// Returns the bytes of message `number`, to send it: a copy of those in the landed record. The message must
     /// be issued (else `NoSuchMessage`) and saved (else `NotSaved`).
     pub fn message(&self, alloc: Global, number: Number) -> Result<Vec<u8>, DeskFault>
-        ensures { Sends (λ bytes. bytes.items) (message (issued_of self.now.live) number)
-            (nat_le number self.now.released) result }
+        ensures { SendsHeld (λ bytes. bytes.items) (one_side.found tt self.now.live) number result }
     {
-        if self.live.issued(number).is_none() {
-            return Err(DeskFault::NoSuchMessage);
-        }
-        if number.get() > self.released {
-            return Err(DeskFault::NotSaved);
-        }
-        Ok(Vec::from_slice(alloc, self.kept.message(number))?)
+        self.message_of(alloc, &(), number)
     }
 
     /// Returns the side in memory.
     pub fn side(&self) -> &Side
-        ensures value { result.now ≡ self.now.live }
-        ensures issued { self.now.released ≤ length (issued_of self.now.live) }
+        ensures value { result.now ≡ self.now.live.side }
+        ensures issued { self.now.live.released ≤ length (issued_of self.now.live.side) }
         ensures backed { (S.state self.now.store).is_honest ≡ true →
-            IsBacked (S.state self.now.store).landed self.now.live self.now.released }
+            IsBacked one_side OneBacks (S.state self.now.store).landed self.now.live }
     {
-        &self.live
-    }
-
-    /// Returns the store with its landed bytes. Drops the side in memory.
-    pub fn close(self) -> S
-        ensures { result ≡ self.store }
-    {
-        self.store
+        self.held.side()
     }
 
     /// Returns the number of released messages. Those with numbers up to it may be sent.
     pub fn released(&self) -> u8
-        ensures { result ≡ self.now.released }
+        ensures { result ≡ self.now.live.released }
     {
-        self.released
+        self.held.released()
     }
 }
 
-impl Desk1<MemoryStore> {
-    /// Plans the next call of the store. The plan holds for that call alone.
-    pub fn set_next(&mut self, next: NextCall)
-        ensures { self.new ≡ record self.old { store = record self.old.store { next = next } } }
+impl<S: Store> Desk<S> {
+    /// Creates a desk of this role that holds no side, over a store without a record (else `Exists`). Saves nothing
+    /// yet. A fault returns the store.
+    pub fn create(alloc: Global, store: S, role: Role) -> Result<Desk<S>, (DeskFault, S)>
+        ensures creates { (S.state store).is_honest ≡ true →
+            Creates (S.state store).landed (S.state store).plan (answer_of result) }
+        ensures begins { IfOk result (λ desk. desk.live ≡ no_sides role) }
+        ensures faults { IsCreateAnswer (answer_of result) }
+        ensures store { DeskLoads (S.state store) (answer_of result) (S.state (store_of result)) }
     {
-        self.store.set_next(next);
+        AnyDesk::begin(alloc, store, role)
+    }
+
+    /// Performs `action` in transaction `txn`. If `txn` is not held, a request begins it, or answers `DeskFull` if
+    /// 1,000 are held. Any other action answers `NoSuchTransaction` then. The message that is issued may be sent
+    /// after the next `save`.
+    pub fn act(&mut self, alloc: Global, txn: &TxnId, action: &Action) -> Result<(), DeskFault>
+        ensures acts { DeskActs many_sides self.old.live txn.now action.now result self.new.live }
+        ensures store { self.new.store ≡ self.old.store }
+    {
+        self.act_on(alloc, txn, action)
+    }
+
+    /// Returns the bytes of message `number` of `txn`, to send it. The transaction must be held (else
+    /// `NoSuchTransaction`), and the message issued (else `NoSuchMessage`) and saved (else `NotSaved`).
+    pub fn message(&self, alloc: Global, txn: &TxnId, number: Number) -> Result<Vec<u8>, DeskFault>
+        ensures { SendsHeld (λ bytes. bytes.items) (found_by txn_held txn.now self.now.live.held) number result }
+    {
+        self.message_of(alloc, txn, number)
+    }
+
+    /// Returns the sides in memory.
+    pub fn sides(&self) -> &Sides
+        ensures value { result.now ≡ sides_held self.now.live }
+        ensures backed { (S.state self.now.store).is_honest ≡ true →
+            IsBacked many_sides ManyBack (S.state self.now.store).landed self.now.live }
+    {
+        self.held.sides()
+    }
+
+    /// Returns the number of released messages of `txn`, or 0 if it is not held. Those with numbers up to it may be
+    /// sent.
+    pub fn released(&self, txn: &TxnId) -> u8
+        ensures value { result ≡ (held_for txn.now self.now.live).released }
+        ensures issued { result ≤ length (issued_of (held_for txn.now self.now.live).side) }
+    {
+        self.held.released_of(txn)
+    }
+}
+
+/// Loads the sides that are durable in `store`, if there are any.
+fn load<H: Holdings, S: Store>(alloc: Global, store: &mut S) -> Result<Option<H>, DeskFault>
+    ensures loads { (S.state store.old).is_honest ≡ true →
+        Loads H.effects.read H.effects.begins (S.state store.old).landed (S.state store.old).plan
+        result }
+    ensures whole { IfOk result (λ found. IfSome found (λ held. IsWhole H.effects held)) }
+    ensures backed { IfOk result (λ found. IfSome found (λ held. H.backs held held)) }
+    ensures faults { IfErr result (IsLoadFault H.effects.has_digest) }
+    ensures store { DeskLoads (S.state store.old) result (S.state store.new) }
+{
+    match store.load(alloc)? {
+        Some(bytes) => Ok(Some(H::read(alloc, bytes)?)),
+        None => Ok(None),
     }
 }
 
 /// Reads the one APDU that takes up all of the bytes.
-pub(crate) fn one_apdu(alloc: Global, bytes: &[u8]) -> Result<Apdu, DeskFault>
+fn one_apdu(alloc: Global, bytes: &[u8]) -> Result<Apdu, DeskFault>
     ensures { IsOneApdu (apdu_at bytes.now) result }
 {
     ill_der::laws::prefix_or_fault();
     match decode(alloc, bytes)? {
         (apdu, size) if size == bytes.len() => Ok(apdu),
         _ => Err(DeskFault::Trailing),
-    }
-}
-
-/// Loads the side that is durable in `store`, if there is one.
-fn load_side<S: Store>(store: &mut S, alloc: Global) -> Result<Option<Loaded>, DeskFault>
-    ensures loads { (S.state store.old).is_honest ≡ true →
-        LoadsSide (S.state store.old).landed (S.state store.old).plan (side_loaded result) }
-    ensures kept { IfOk result (λ found. IfSome found (λ l. IsKept l.kept l.side)) }
-    ensures faults { IfErr result IsLoadFault }
-    ensures store { DeskLoads (S.state store.old) result (S.state store.new) }
-{
-    match store.load(alloc)? {
-        Some(bytes) => Ok(Some(load_record(alloc, bytes)?)),
-        None => Ok(None),
-    }
-}
-
-/// Decodes the side that `bytes` encode, and keeps its record.
-fn load_record(alloc: Global, bytes: Vec<u8>) -> Result<Loaded, DeskFault>
-    ensures loads { LoadsRecord bytes.items result }
-    ensures faults { IfErr result IsLoadFault }
-{
-    let side = read_side(alloc, &bytes)?;
-    let kept = KeptRecord::of(alloc, bytes, &side)?;
-    Ok(Loaded { side, kept })
-}
-
-/// Decodes the side that `bytes` encode.
-fn read_side(alloc: Global, bytes: &[u8]) -> Result<Side, RecordFault>
-    ensures decodes { Decodes (record_at bytes.now) (begins_as_record bytes.now) result }
-    ensures spelled { IfOk result (λ side. IsSide side × (bytes.now ≡ record_spelling side)) }
-{
-    laws::spelled();
-    decode_record(alloc, bytes)
-}
-
-/// Decodes the side that `bytes` encode, and keeps its record. Without bytes, returns the idle side of `live`,
-/// of which no record is kept.
-fn load_or_idle(alloc: Global, bytes: Option<Vec<u8>>, live: &Side) -> Result<Loaded, DeskFault>
-    ensures loads { LoadsOrIdle (option_map (λ b. b.items) bytes) live.now result }
-    ensures faults { IfErr result IsLoadFault }
-{
-    match bytes {
-        Some(bytes) => load_record(alloc, bytes),
-        None => Ok(Loaded {
-            side: live.idle_again(alloc)?,
-            kept: KeptRecord::none(alloc),
-        }),
     }
 }

@@ -1,17 +1,19 @@
 //! What lies on the bench: nothing at first, then a store, or a desk with its store; and the sides of one
 //! library.
 
-use crate::any_desk::{DeskOver, ShownDesk};
+use crate::beginnings::{Beginning, lay_desk};
 use crate::calls::{BytesCall, ManyCall, WordsCall};
 use crate::files::Folder;
 use crate::fuses::{fuse, fuse_many};
 use crate::line::Line;
+use crate::many::write_sides;
 use crate::names::Names;
-use crate::words::{write_fault, write_loaded, write_saved};
-use crate::{desks, held, transactions};
-use ill_core::State;
+use crate::records::write_side;
+use crate::words::{write_loaded, write_saved};
+use crate::{desks, held, landing, stores, transactions};
 use ill_desk_kit::plan_of;
-use ill_saved::{Desk, Desk1, DeskFault, MemoryStore, Sides, Store};
+use ill_saved::{Desk, Desk1, ManySides, MemoryStore, NextCall, OneSide, Sides};
+use ill_test_kit::marks;
 use std::alloc::Global;
 
 /// What answers calls. Nothing is answered where the words are none, or what is called lies not there.
@@ -33,19 +35,25 @@ pub struct Bench<'a> {
     store: Option<MemoryStore>,
     desk: Option<Desk1<MemoryStore>>,
     many: Option<Desk<MemoryStore>>,
+    /// The plan for the next call of the store.
+    next: NextCall,
     sides: Option<Sides>,
     folder: Folder<'a>,
 }
 
 impl<'a> Answers for Bench<'a> {
     fn call(&mut self, line: &mut Line, call: WordsCall, words: &str) -> Option<()> {
+        if call.spends_plan() {
+            self.next = NextCall::Works;
+        }
         match call {
             WordsCall::Store => self.lay_store(line),
             WordsCall::Fuse => fuse(self.alloc, line, words),
+            WordsCall::Landing => landing::write::<OneSide>(self.alloc, line, words),
             WordsCall::Load => self.load(line),
             WordsCall::Next => self.plan(line, words),
-            WordsCall::Create => self.create(line, words),
-            WordsCall::Start => self.start(line),
+            WordsCall::Create => self.begin(line, Beginning::Create(words)),
+            WordsCall::Start => self.begin(line, Beginning::Start),
             WordsCall::Close => self.close(line),
             WordsCall::Sides(call) => held::call(self.alloc, line, &mut self.sides, call, words),
             WordsCall::Many(call) => self.call_many(line, call, words),
@@ -54,13 +62,11 @@ impl<'a> Answers for Bench<'a> {
     }
 
     fn call_with(&mut self, line: &mut Line, call: BytesCall, bytes: &[u8]) -> Option<()> {
-        match (call, &mut self.store) {
-            (BytesCall::Put, _) => held::put(self.alloc, line, self.sides.as_mut()?, bytes),
-            (BytesCall::Save, Some(store)) => {
-                write_saved(line, store.save(self.alloc, bytes));
-                Some(())
-            }
-            (call, _) => self.call_desk_with(line, call, bytes),
+        match call {
+            BytesCall::Put => held::put(self.alloc, line, self.sides.as_mut()?, bytes),
+            BytesCall::Live => self.write_live(line, bytes),
+            BytesCall::Save => self.save(line, bytes),
+            call => self.call_desk_with(line, call, bytes),
         }
     }
 
@@ -77,6 +83,7 @@ impl<'a> Bench<'a> {
             store: None,
             desk: None,
             many: None,
+            next: NextCall::Works,
             sides: None,
             folder,
         }
@@ -98,12 +105,22 @@ impl<'a> Bench<'a> {
         }
     }
 
+    /// `live BYTES`: writes what is live, and whether its record has these bytes.
+    fn write_live(&self, line: &mut Line, bytes: &[u8]) -> Option<()> {
+        match &self.many {
+            Some(desk) => write_sides(self.alloc, line, desk.sides(), bytes),
+            None => write_side(self.alloc, line, self.desk.as_ref()?.side(), bytes),
+        }
+        Some(())
+    }
+
     /// Performs a call for a desk of many transactions.
     fn call_many(&mut self, line: &mut Line, call: ManyCall, words: &str) -> Option<()> {
         match call {
-            ManyCall::Create => self.create_many(line, words),
-            ManyCall::Start => self.start_many(line),
+            ManyCall::Create => self.begin_many(line, Beginning::Create(words)),
+            ManyCall::Start => self.begin_many(line, Beginning::Start),
             ManyCall::Fuse => fuse_many(self.alloc, line, words),
+            ManyCall::Landing => landing::write::<ManySides>(self.alloc, line, words),
             call => transactions::call(self.alloc, line, self.many.as_mut()?, call, words),
         }
     }
@@ -112,55 +129,52 @@ impl<'a> Bench<'a> {
     fn lay_store(&mut self, line: &mut Line) -> Option<()> {
         drop(self.desk.take());
         drop(self.many.take());
-        drop(self.store.replace(MemoryStore::new(self.alloc)));
+        drop(self.store.replace(stores::new(self.alloc)));
         line.text("new");
         Some(())
     }
 
     /// `load`
     fn load(&mut self, line: &mut Line) -> Option<()> {
-        write_loaded(line, self.store.as_mut()?.load(self.alloc));
+        write_loaded(line, stores::load(self.alloc, self.store.as_mut()?));
         Some(())
     }
 
-    /// `next PLAN`
+    /// `save`, of a desk; or of these bytes, in the store that lies there.
+    fn save(&mut self, line: &mut Line, bytes: &[u8]) -> Option<()> {
+        let plan = self.next;
+        self.next = NextCall::Works;
+        match (&mut self.store, &mut self.many) {
+            (Some(store), _) => write_saved(line, stores::save(self.alloc, store, plan, bytes)),
+            (None, Some(desk)) => desks::save_under(self.alloc, line, desk, plan),
+            (None, None) => desks::save_under(self.alloc, line, self.desk.as_mut()?, plan),
+        }
+        Some(())
+    }
+
+    /// `next PLAN`. That takes no memory.
     fn plan(&mut self, line: &mut Line, words: &str) -> Option<()> {
         let next = plan_of(words)?;
+        marks::begin_quiet(self.alloc);
         match (&mut self.store, &mut self.many) {
             (Some(store), _) => store.set_next(next),
             (None, Some(desk)) => desk.set_next(next),
             (None, None) => self.desk.as_mut()?.set_next(next),
         }
+        marks::end_quiet(self.alloc);
+        self.next = next;
         line.text("planned");
         Some(())
     }
 
-    /// `create ROLE GROUP TRANSACTION`, over the store that lies there.
-    fn create(&mut self, line: &mut Line, words: &str) -> Option<()> {
-        let answer = Desk1::create_as(self.alloc, words, self.store.take()?)?;
-        self.desk = self.begin(line, answer);
-        Some(())
+    /// `create ROLE GROUP TRANSACTION` or `start`, over the store that lies there.
+    fn begin(&mut self, line: &mut Line, beginning: Beginning<'_>) -> Option<()> {
+        lay_desk(self.alloc, line, &mut self.store, &mut self.desk, beginning)
     }
 
-    /// `start`, over the store that lies there.
-    fn start(&mut self, line: &mut Line) -> Option<()> {
-        let answer = Desk1::start_from(self.alloc, self.store.take()?);
-        self.desk = self.begin(line, answer);
-        Some(())
-    }
-
-    /// `create-many ROLE`: a desk of many transactions, over the store that lies there.
-    fn create_many(&mut self, line: &mut Line, words: &str) -> Option<()> {
-        let answer = Desk::create_as(self.alloc, words, self.store.take()?)?;
-        self.many = self.begin(line, answer);
-        Some(())
-    }
-
-    /// `start-many`: a desk of many transactions, over the store that lies there.
-    fn start_many(&mut self, line: &mut Line) -> Option<()> {
-        let answer = Desk::start_from(self.alloc, self.store.take()?);
-        self.many = self.begin(line, answer);
-        Some(())
+    /// `create-many ROLE` or `start-many`: a desk of many transactions, over the store that lies there.
+    fn begin_many(&mut self, line: &mut Line, beginning: Beginning<'_>) -> Option<()> {
+        lay_desk(self.alloc, line, &mut self.store, &mut self.many, beginning)
     }
 
     /// `close`: lays the store of the desk there, with what has landed in it.
@@ -172,25 +186,5 @@ impl<'a> Bench<'a> {
         drop(self.store.replace(store));
         line.text("closed");
         Some(())
-    }
-
-    /// Gives the new desk, or lays the store there that was handed back.
-    fn begin<D: ShownDesk>(
-        &mut self,
-        line: &mut Line,
-        answer: Result<D, (DeskFault, MemoryStore)>,
-    ) -> Option<D> {
-        match answer {
-            Ok(desk) => {
-                line.text("done");
-                desk.view(self.alloc, None).write(line);
-                Some(desk)
-            }
-            Err((fault, store)) => {
-                write_fault(line, fault, State::Idle);
-                drop(self.store.replace(store));
-                None
-            }
-        }
     }
 }

@@ -60,6 +60,7 @@ pub enum WordsCall {
     Act,
     Message,
     Restart,
+    Landing,
     Sides(SidesCall),
     Many(ManyCall),
 }
@@ -83,9 +84,10 @@ pub enum ManyCall {
     Begin,
     Each,
     Fuse,
+    Landing,
 }
 
-static CALLS: [(&str, Call); 37] = [
+static CALLS: [(&str, Call); 39] = [
     ("", Call::Note),
     ("#", Call::Note),
     ("let", Call::Let),
@@ -148,6 +150,11 @@ static CALLS: [(&str, Call); 37] = [
         "fuse-many",
         Call::Case(CaseCall::Words(WordsCall::Many(ManyCall::Fuse))),
     ),
+    (
+        "landing-many",
+        Call::Case(CaseCall::Words(WordsCall::Many(ManyCall::Landing))),
+    ),
+    ("landing", Call::Case(CaseCall::Words(WordsCall::Landing))),
     ("store", Call::Case(CaseCall::Words(WordsCall::Store))),
     ("fuse", Call::Case(CaseCall::Words(WordsCall::Fuse))),
     ("load", Call::Case(CaseCall::Words(WordsCall::Load))),
@@ -160,6 +167,21 @@ static CALLS: [(&str, Call); 37] = [
     ("restart", Call::Case(CaseCall::Words(WordsCall::Restart))),
     ("file", Call::Case(CaseCall::File)),
 ];
+
+impl WordsCall {
+    /// Returns true if the call spends the plan of the store, or lays another there.
+    pub fn spends_plan(self) -> bool {
+        matches!(
+            self,
+            WordsCall::Store
+                | WordsCall::Load
+                | WordsCall::Create
+                | WordsCall::Start
+                | WordsCall::Restart
+                | WordsCall::Many(ManyCall::Create | ManyCall::Start)
+        )
+    }
+}
 
 /// What this word says.
 pub fn call_of(word: &str) -> Option<Call> {

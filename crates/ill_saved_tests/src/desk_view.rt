@@ -1,87 +1,56 @@
 //! What is seen of a desk.
 
 use crate::line::Line;
-use crate::records::{Facts, side_facts, write_day};
+use crate::records::write_day;
+use crate::sided::Sided;
+use crate::tries::Tries;
 use ill_core::State;
-use ill_saved::{Desk, Side, Store, encode_record};
+use ill_saved::{AnyDesk, Shown, Side, Store, encode_record};
+use ill_test_kit::marks;
 use ill_values::TxnId;
 use std::alloc::Global;
 
-/// What a refusal must leave: the record of each side, and how many of its messages are released. The facts
-/// of a side are the record's.
+/// What a refusal must leave: the record of each side, and how many of its messages are released. What is shown
+/// of a side is the record's.
 #[derive(Drop)]
 pub struct DeskView {
     /// None where memory was wanted for it.
     kept: Option<Vec<u8>>,
     /// Where a side stands, if the call is for one.
-    standing: Option<Standing>,
+    standing: Option<Shown>,
     /// How many sides a desk of many transactions holds.
     held: Option<usize>,
 }
 
-/// What is told of a side, and how many of its messages are released.
-#[derive(Clone, Copy)]
-pub struct Standing {
-    side: Facts,
-    released: u8,
-}
-
-impl Standing {
-    /// That of this side.
-    pub fn of(side: &Side, released: u8) -> Standing {
-        Standing {
-            side: side_facts(side),
-            released,
-        }
-    }
-
-    /// That of a side before its first message.
-    fn idle() -> Standing {
-        let side = Facts {
-            state: State::Idle,
-            due: None,
-            issued: 0,
-        };
-        Standing { side, released: 0 }
-    }
-
-    /// Writes the state and the due date, and how many messages are released and issued.
-    pub fn write(&self, line: &mut Line) {
-        line.text(" ");
-        line.show(&self.side.state);
-        write_day(line, " ", self.side.due);
-        line.text(if self.side.due.is_some() { " " } else { " - " });
-        line.show(&self.released);
-        line.text("/");
-        line.show(&self.side.issued);
-    }
-}
-
 impl DeskView {
-    /// What is seen of a desk with this side.
-    pub fn of_one(alloc: Global, side: &Side, released: u8) -> DeskView {
-        let mut kept = Vec::new(alloc);
-        let pushed = push_kept(alloc, &mut kept, side, released);
-        DeskView {
-            kept: pushed.map(|()| kept),
-            standing: Some(Standing::of(side, released)),
-            held: None,
-        }
-    }
-
-    /// What is seen of a desk of many transactions, and of this one.
-    pub fn of_many<S: Store>(alloc: Global, desk: &Desk<S>, txn: Option<&TxnId>) -> DeskView {
+    /// Returns what is seen of a desk, and of its side of `txn`. The one side of a desk is always seen.
+    pub fn of<H: Sided, S: Store>(
+        alloc: Global,
+        desk: &AnyDesk<H, S>,
+        txn: Option<&TxnId>,
+    ) -> DeskView {
+        let is_of_many = desk.first_key().is_none();
         DeskView {
             kept: kept_by(alloc, desk),
-            standing: txn.map(|txn| standing_in(desk, txn)),
-            held: Some(desk.sides().len()),
+            standing: standing_in(alloc, desk, txn),
+            held: is_of_many.then_some(H::count(desk)),
         }
+    }
+
+    /// Returns the marks round a call of the desk.
+    pub fn tries(&self, alloc: Global) -> Tries {
+        Tries::of(alloc, self.kept.as_ref().map_or(0, |kept| kept.len()))
+    }
+
+    /// Returns true if the desk keeps what was seen of it.
+    pub fn is_of<H: Sided, S: Store>(&self, alloc: Global, desk: &AnyDesk<H, S>) -> bool {
+        self.kept.is_some() && self.kept == kept_by(alloc, desk)
     }
 
     /// The state of the side, or IDLE.
     pub fn state(&self) -> State {
-        match &self.standing {
-            Some(standing) => standing.side.state,
+        match self.standing {
+            Some(standing) => standing.state,
             None => State::Idle,
         }
     }
@@ -89,7 +58,7 @@ impl DeskView {
     /// Writes where the side stands, and how many sides are held.
     pub fn write(&self, line: &mut Line) {
         if let Some(standing) = self.standing {
-            standing.write(line);
+            write_shown(line, standing);
         }
         if let Some(held) = self.held {
             line.text("; ");
@@ -107,27 +76,49 @@ impl DeskView {
     }
 }
 
-/// All that a desk of many transactions keeps.
-fn kept_by<S: Store>(alloc: Global, desk: &Desk<S>) -> Option<Vec<u8>> {
+/// Writes the state and the due date, and how many messages are released and issued.
+pub fn write_shown(line: &mut Line, shown: Shown) {
+    line.text(" ");
+    line.show(&shown.state);
+    write_day(line, " ", shown.due);
+    line.text(if shown.due.is_some() { " " } else { " - " });
+    line.show(&shown.released);
+    line.text("/");
+    line.show(&shown.issued);
+}
+
+/// Returns where the side of `txn` stands, or the one side that a desk has from the beginning. That takes no memory.
+fn standing_in<H: Sided, S: Store>(
+    alloc: Global,
+    desk: &AnyDesk<H, S>,
+    txn: Option<&TxnId>,
+) -> Option<Shown> {
+    marks::begin_quiet(alloc);
+    let standing = standing_of(desk, txn);
+    marks::end_quiet(alloc);
+    standing
+}
+
+fn standing_of<H: Sided, S: Store>(desk: &AnyDesk<H, S>, txn: Option<&TxnId>) -> Option<Shown> {
+    match desk.first_key() {
+        Some(key) => Some(desk.shown(key)),
+        None => Some(desk.shown(H::key(txn?))),
+    }
+}
+
+/// Returns all that a desk keeps.
+fn kept_by<H: Sided, S: Store>(alloc: Global, desk: &AnyDesk<H, S>) -> Option<Vec<u8>> {
     let mut kept = Vec::new(alloc);
-    for place in 0..desk.sides().len() {
-        let side = desk.sides().at(place)?;
-        push_kept(alloc, &mut kept, side, desk.released(side.txn()))?;
+    for place in 0..H::count(desk) {
+        let side = H::side_at(desk, place)?;
+        push_kept(alloc, &mut kept, side, desk.shown(H::key(side.txn())))?;
     }
     Some(kept)
 }
 
 /// Adds how many messages are released, and the record.
-fn push_kept(alloc: Global, kept: &mut Vec<u8>, side: &Side, released: u8) -> Option<()> {
+fn push_kept(alloc: Global, kept: &mut Vec<u8>, side: &Side, shown: Shown) -> Option<()> {
     let record = encode_record(alloc, side).ok()?;
-    kept.push(released).ok()?;
+    kept.push(shown.released).ok()?;
     kept.extend_from_slice(&record).ok()
-}
-
-/// Where the side of this transaction stands: where it is not held, none has begun.
-fn standing_in<S: Store>(desk: &Desk<S>, txn: &TxnId) -> Standing {
-    match desk.sides().get(txn) {
-        Some(side) => Standing::of(side, desk.released(txn)),
-        None => Standing::idle(),
-    }
 }

@@ -1,30 +1,132 @@
 //! Calls of a desk. An answer is a word, and where the desk stands after it.
 
 use crate::actions::action;
-use crate::any_desk::ShownDesk;
 use crate::calls::{BytesCall, WordsCall};
 use crate::desk_view::DeskView;
 use crate::line::Line;
+use crate::sided::{Sided, txn_in};
+use crate::tries::TRIES;
 use crate::words::{taking_word, write_fault};
 use ill_core::{State, Taking};
 use ill_der::decode;
-use ill_saved::DeskFault;
+use ill_saved::{Action, AnyDesk, DeskFault, MemoryStore, NextCall, Store};
 use ill_values::{Apdu, Number, TxnId};
 use std::alloc::Global;
 
-/// Writes the answer of a call: this word, or a fault.
-fn write_answer(
+/// A call of a desk.
+#[derive(Clone, Copy)]
+pub enum DeskCall<'a> {
+    Act(&'a TxnId, &'a Action),
+    TakeBytes(&'a [u8]),
+    Take(&'a Apdu),
+    Save,
+    Restart,
+    Message(&'a TxnId, Number),
+}
+
+/// What a call of a desk answers.
+#[derive(Drop)]
+pub enum Answer {
+    Done,
+    Taking(Taking),
+    Bytes(Vec<u8>),
+}
+
+/// Makes a call.
+pub fn answer_of<H: Sided, S: Store>(
+    alloc: Global,
+    desk: &mut AnyDesk<H, S>,
+    call: &DeskCall<'_>,
+) -> Result<Answer, DeskFault> {
+    match call {
+        DeskCall::Act(txn, action) => desk.act_on(alloc, H::key(txn), action)?,
+        DeskCall::TakeBytes(bytes) => return Ok(Answer::Taking(desk.take_bytes(alloc, bytes)?)),
+        DeskCall::Take(apdu) => return Ok(Answer::Taking(desk.take(alloc, apdu)?)),
+        DeskCall::Save => desk.save(alloc)?,
+        DeskCall::Restart => desk.restart(alloc)?,
+        DeskCall::Message(txn, number) => {
+            let bytes = desk.message_of(alloc, H::key(txn), *number)?;
+            return Ok(Answer::Bytes(bytes));
+        }
+    }
+    Ok(Answer::Done)
+}
+
+/// Makes a call, and again while a growth of it is refused. No such call spends the plan of a store but a save.
+fn answer_again<H: Sided, S: Store>(
+    alloc: Global,
+    desk: &mut AnyDesk<H, S>,
+    call: &DeskCall<'_>,
+    before: &DeskView,
+) -> Result<Answer, DeskFault> {
+    let tries = before.tries(alloc);
+    for _ in 0..TRIES {
+        tries.begin();
+        let answer = answer_of(alloc, desk, call);
+        if !tries.is_refused(is_memory(&answer)) || !before.is_of(alloc, desk) {
+            return answer;
+        }
+    }
+    Err(DeskFault::OutOfMemory)
+}
+
+/// Saves, and again while a growth is refused. Such a save may spend the plan of the store, which is planned again.
+fn save_again<H: Sided>(
+    alloc: Global,
+    desk: &mut AnyDesk<H, MemoryStore>,
+    plan: NextCall,
+    before: &DeskView,
+) -> Result<Answer, DeskFault> {
+    let tries = before.tries(alloc);
+    for _ in 0..TRIES {
+        tries.begin();
+        let answer = answer_of(alloc, desk, &DeskCall::Save);
+        if !tries.is_refused(is_memory(&answer)) || !before.is_of(alloc, desk) {
+            return answer;
+        }
+        desk.set_next(plan);
+    }
+    Err(DeskFault::OutOfMemory)
+}
+
+/// Returns true if a call of a desk answers want of memory.
+pub fn is_memory(answer: &Result<Answer, DeskFault>) -> bool {
+    matches!(answer, Err(DeskFault::OutOfMemory))
+}
+
+/// Makes a call, and writes its answer: this word, if it has no other. Returns true if it was done.
+pub fn perform<H: Sided, S: Store>(
+    alloc: Global,
+    line: &mut Line,
+    desk: &mut AnyDesk<H, S>,
+    call: &DeskCall<'_>,
+    txn: Option<&TxnId>,
+    word: &str,
+) -> bool {
+    let before = DeskView::of(alloc, desk, txn);
+    let answer = answer_again(alloc, desk, call, &before);
+    let is_done = answer.is_ok();
+    let after = DeskView::of(alloc, desk, txn);
+    write_answer(line, word, answer, &before, &after);
+    is_done
+}
+
+/// Writes what a call answers: this word, if it has no other.
+pub fn write_answer(
     line: &mut Line,
     word: &str,
-    answer: Result<(), DeskFault>,
+    answer: Result<Answer, DeskFault>,
     before: &DeskView,
     after: &DeskView,
 ) {
     match answer {
-        Ok(()) => {
-            line.text(word);
-            after.write(line);
+        Ok(Answer::Done) => write_changed(line, word, after),
+        Ok(Answer::Taking(Taking::Taken)) => write_changed(line, "taken", after),
+        Ok(Answer::Taking(other)) => {
+            line.text(taking_word(other, after.state()));
+            after.write_after(line, before);
         }
+        Ok(Answer::Bytes(bytes)) => line.octets(&bytes),
         Err(fault) => {
             write_fault(line, fault, after.state());
             after.write_after(line, before);
@@ -32,10 +134,10 @@ fn write_answer(
     }
 }
 
-/// Writes why a desk that stands so did nothing.
-fn write_refusal(line: &mut Line, fault: DeskFault, view: &DeskView) {
-    write_fault(line, fault, view.state());
-    view.write(line);
+/// Writes a word, and where a desk stands then.
+fn write_changed(line: &mut Line, word: &str, after: &DeskView) {
+    line.text(word);
+    after.write(line);
 }
 
 /// Writes whether a desk was begun, or why not.
@@ -47,10 +149,10 @@ pub fn write_begun<D: Drop, S: Drop>(line: &mut Line, begun: Result<D, (DeskFaul
 }
 
 /// Performs a call that takes words, and writes its answer.
-pub fn call<D: ShownDesk>(
+pub fn call<H: Sided, S: Store>(
     alloc: Global,
     line: &mut Line,
-    desk: &mut D,
+    desk: &mut AnyDesk<H, S>,
     call: WordsCall,
     words: &str,
 ) -> Option<()> {
@@ -65,118 +167,133 @@ pub fn call<D: ShownDesk>(
     }
 }
 
-/// Performs a call that takes bytes, and writes its answer.
-pub fn call_with<D: ShownDesk>(
+/// Performs a call that takes bytes, and writes its answer. `live`, `put` and `save` are none of these.
+pub fn call_with<H: Sided, S: Store>(
     alloc: Global,
     line: &mut Line,
-    desk: &mut D,
+    desk: &mut AnyDesk<H, S>,
     call: BytesCall,
     bytes: &[u8],
 ) -> Option<()> {
     match call {
         BytesCall::Hand => return hand(alloc, line, desk, bytes),
         BytesCall::Messages => return messages(alloc, line, desk, bytes),
-        BytesCall::Save => save(alloc, line, desk),
         BytesCall::Take => take(alloc, line, desk, bytes),
-        // what is live, and whether its record has these bytes
-        BytesCall::Live => desk.write_live(alloc, line, bytes),
-        BytesCall::Put => return None,
+        BytesCall::Live | BytesCall::Put | BytesCall::Save => return None,
     }
     Some(())
 }
 
 /// `act WORDS`, behind the transaction where the desk has many.
-pub fn act<D: ShownDesk>(alloc: Global, line: &mut Line, desk: &mut D, words: &str) -> Option<()> {
-    let (txn, words) = desk.txn(alloc, words)?;
+pub fn act<H: Sided, S: Store>(
+    alloc: Global,
+    line: &mut Line,
+    desk: &mut AnyDesk<H, S>,
+    words: &str,
+) -> Option<()> {
+    let (txn, words) = txn_in(alloc, desk, words)?;
     let action = action(alloc, words)?;
-    let before = desk.view(alloc, Some(&txn));
-    let answer = desk.act_in(alloc, &txn, &action);
-    let after = desk.view(alloc, Some(&txn));
-    write_answer(line, "done", answer, &before, &after);
+    let call = DeskCall::Act(&txn, &action);
+    perform(alloc, line, desk, &call, Some(&txn), "done");
     Some(())
 }
 
-/// `save`
-pub fn save<D: ShownDesk>(alloc: Global, line: &mut Line, desk: &mut D) {
-    let before = desk.view(alloc, None);
-    let answer = desk.save_all(alloc);
-    write_answer(line, "saved", answer, &before, &desk.view(alloc, None));
+/// `save`, once. A call of a store that fails from a call on is counted, even if it is refused memory.
+pub fn save<H: Sided, S: Store>(alloc: Global, line: &mut Line, desk: &mut AnyDesk<H, S>) {
+    let before = DeskView::of(alloc, desk, None);
+    let answer = answer_of(alloc, desk, &DeskCall::Save);
+    let after = DeskView::of(alloc, desk, None);
+    write_answer(line, "saved", answer, &before, &after);
+}
+
+/// `save`, under this plan of the store.
+pub fn save_under<H: Sided>(
+    alloc: Global,
+    line: &mut Line,
+    desk: &mut AnyDesk<H, MemoryStore>,
+    plan: NextCall,
+) {
+    let before = DeskView::of(alloc, desk, None);
+    let answer = save_again(alloc, desk, plan, &before);
+    let after = DeskView::of(alloc, desk, None);
+    write_answer(line, "saved", answer, &before, &after);
 }
 
 /// `restart`: this word, or why not; and whether it was done.
-pub fn restart<D: ShownDesk>(alloc: Global, line: &mut Line, desk: &mut D, word: &str) -> bool {
-    let before = desk.view(alloc, None);
-    let answer = desk.go_back(alloc);
-    let is_done = answer.is_ok();
-    write_answer(line, word, answer, &before, &desk.view(alloc, None));
-    is_done
+pub fn restart<H: Sided, S: Store>(
+    alloc: Global,
+    line: &mut Line,
+    desk: &mut AnyDesk<H, S>,
+    word: &str,
+) -> bool {
+    perform(alloc, line, desk, &DeskCall::Restart, None, word)
 }
 
 /// `take BYTES`
-fn take<D: ShownDesk>(alloc: Global, line: &mut Line, desk: &mut D, bytes: &[u8]) {
+fn take<H: Sided, S: Store>(
+    alloc: Global,
+    line: &mut Line,
+    desk: &mut AnyDesk<H, S>,
+    bytes: &[u8],
+) {
     let first = decode(alloc, bytes).ok();
     let txn = first.as_ref().map(|(apdu, _)| &apdu.txn);
-    let before = desk.view(alloc, txn);
-    let answer = desk.take_spelled(alloc, bytes);
-    write_taking(line, answer, &before, &desk.view(alloc, txn));
+    perform(alloc, line, desk, &DeskCall::TakeBytes(bytes), txn, "");
 }
 
 /// `hand BYTES`: a message is read from them, and the desk takes it.
-fn hand<D: ShownDesk>(alloc: Global, line: &mut Line, desk: &mut D, bytes: &[u8]) -> Option<()> {
+fn hand<H: Sided, S: Store>(
+    alloc: Global,
+    line: &mut Line,
+    desk: &mut AnyDesk<H, S>,
+    bytes: &[u8],
+) -> Option<()> {
     let (apdu, _) = decode(alloc, bytes).ok()?;
-    hand_over(alloc, line, desk, &apdu);
+    let call = DeskCall::Take(&apdu);
+    perform(alloc, line, desk, &call, Some(&apdu.txn), "");
     Some(())
 }
 
-fn hand_over<D: ShownDesk>(alloc: Global, line: &mut Line, desk: &mut D, apdu: &Apdu) {
-    let before = desk.view(alloc, Some(&apdu.txn));
-    let answer = desk.take_read(alloc, apdu);
-    write_taking(line, answer, &before, &desk.view(alloc, Some(&apdu.txn)));
-}
-
-/// Writes what a message did, or a fault.
-fn write_taking(
-    line: &mut Line,
-    answer: Result<Taking, DeskFault>,
-    before: &DeskView,
-    after: &DeskView,
-) {
-    match answer {
-        Ok(Taking::Taken) => write_answer(line, "taken", Ok(()), before, after),
-        Ok(other) => {
-            line.text(taking_word(other, after.state()));
-            after.write_after(line, before);
-        }
-        Err(fault) => write_answer(line, "", Err(fault), before, after),
-    }
-}
-
 /// `message NUMBER`, behind the transaction where the desk has many: its octets, or why there are none.
-fn message<D: ShownDesk>(alloc: Global, line: &mut Line, desk: &D, words: &str) -> Option<()> {
-    let (txn, words) = desk.txn(alloc, words)?;
+fn message<H: Sided, S: Store>(
+    alloc: Global,
+    line: &mut Line,
+    desk: &mut AnyDesk<H, S>,
+    words: &str,
+) -> Option<()> {
+    let (txn, words) = txn_in(alloc, desk, words)?;
     let number = Number::new(words.parse::<u8>().ok()?)?;
-    match desk.message_in(alloc, &txn, number) {
-        Ok(bytes) => line.octets(&bytes),
-        Err(fault) => write_refusal(line, fault, &desk.view(alloc, Some(&txn))),
-    }
+    let call = DeskCall::Message(&txn, number);
+    perform(alloc, line, desk, &call, Some(&txn), "");
     Some(())
 }
 
 /// `messages BYTES`: whether these bytes are all released messages of the desk's transaction, one behind
 /// another.
-fn messages<D: ShownDesk>(alloc: Global, line: &mut Line, desk: &D, bytes: &[u8]) -> Option<()> {
-    let (txn, _) = desk.txn(alloc, "")?;
+fn messages<H: Sided, S: Store>(
+    alloc: Global,
+    line: &mut Line,
+    desk: &AnyDesk<H, S>,
+    bytes: &[u8],
+) -> Option<()> {
+    let (txn, _) = txn_in(alloc, desk, "")?;
     let is_same = released(alloc, desk, &txn)?.as_slice() == bytes;
     line.text(if is_same { "the same" } else { "OTHER BYTES" });
-    desk.view(alloc, Some(&txn)).write(line);
+    DeskView::of(alloc, desk, Some(&txn)).write(line);
     Some(())
 }
 
 /// All released messages, one behind another.
-fn released<D: ShownDesk>(alloc: Global, desk: &D, txn: &TxnId) -> Option<Vec<u8>> {
+fn released<H: Sided, S: Store>(
+    alloc: Global,
+    desk: &AnyDesk<H, S>,
+    txn: &TxnId,
+) -> Option<Vec<u8>> {
+    let key = H::key(txn);
     let mut joined = Vec::new(alloc);
-    for index in 0..desk.released_in(txn) {
-        let bytes = desk.message_in(alloc, txn, Number::new(index + 1)?).ok()?;
+    for index in 0..desk.shown(key).released {
+        let number = Number::new(index + 1)?;
+        let bytes = desk.message_of(alloc, key, number).ok()?;
         joined.extend_from_slice(&bytes).ok()?;
     }
     Some(joined)

@@ -4,15 +4,17 @@ ghost use Rattle.std.specs.Prelude.{◌≡◌, IfErr};
 ghost use Rattle.ill_saved.specs.declared.store.StoreFault.TheVariants.{Failed};
 ghost use Rattle.ill_saved.specs.Store.{failed_file};
 
-use crate::any_desk::DeskOver;
 use crate::failing::{Deceit, Failing};
 use crate::line::Line;
 use crate::longest;
 use crate::names::Names;
-use crate::restarts::{Damage, HostStore, Restarts};
+use crate::restarts::{Damage, Restarts};
+use crate::sided::Sided;
+use crate::tries::TRIES;
 use crate::words::{write_loaded, write_saved};
-use ill_saved::{Desk, Desk1, FileStore, Store, StoreFault};
-use ill_test_kit::named;
+use ill_saved::{FileLock, FileStore, ManySides, OneSide, Store, StoreFault};
+use ill_test_kit::{marks, named};
+use ill_values::OutOfMemory;
 use std::alloc::Global;
 use std::fs::{Metadata, Permissions};
 use std::io::ErrorKind;
@@ -74,13 +76,13 @@ impl<'a> Folder<'a> {
         match call {
             "at" => self.lay(line, path, words),
             "failing" => self.failing(line, names, path, words),
-            "desk" => self.desk::<Desk1<HostStore<'a>>>(line, path),
-            "desk-many" => self.desk::<Desk<HostStore<'a>>>(line, path),
+            "desk" => self.desk::<OneSide>(line, path),
+            "desk-many" => self.desk::<ManySides>(line, path),
             "making" => self.making(line, names, path, words),
             "swapped" => self.swapped(line, path, words),
             "owned" => self.owned(line, names, path, words),
-            "damaged" => self.damaged::<Desk1<HostStore<'a>>>(line, names, path, words),
-            "damaged-many" => self.damaged::<Desk<HostStore<'a>>>(line, names, path, words),
+            "damaged" => self.damaged::<OneSide>(line, names, path, words),
+            "damaged-many" => self.damaged::<ManySides>(line, names, path, words),
             "longest" => longest::write(self.rt, self.alloc, line, path),
             _ => self.call_system(line, names, call, path, words),
         }
@@ -100,6 +102,7 @@ impl<'a> Folder<'a> {
             "folder" => write_done(line, "made", fs::create_dir(self.rt, path)),
             "link" => write_done(line, "linked", self.rt.symlink(words, path)),
             "shows" => self.shows(line, path),
+            "lock" => self.lock(line, path),
             "mode" => self.mode(line, path),
             "change" => self.change_mode(line, path, words),
             _ => None,
@@ -117,7 +120,7 @@ impl<'a> Folder<'a> {
     /// `at NAME LIMIT`
     fn lay(&mut self, line: &mut Line, path: &str, limit: &str) -> Option<()> {
         let limit = limit.parse::<u32>().ok()?;
-        let store = FileStore::at(self.rt, self.alloc, path, limit).ok()?;
+        let store = store_at(self.rt, self.alloc, path, limit).ok()?;
         drop(self.store.replace(store));
         line.text("laid");
         Some(())
@@ -125,7 +128,29 @@ impl<'a> Folder<'a> {
 
     /// `load` or `save BYTES`, with the store that was laid.
     fn call_laid(&mut self, line: &mut Line, call: &str, bytes: &[u8]) -> Option<()> {
-        call_store(self.alloc, line, self.store.as_mut()?, call, bytes)
+        let store = self.store.as_mut()?;
+        match call {
+            "load" => write_loaded(line, load_again(store, self.alloc)),
+            _ => write_saved(line, save_quietly(store, self.alloc, bytes)),
+        }
+        Some(())
+    }
+
+    /// `lock NAME`: the lock of the file is taken, and then let go.
+    fn lock(&self, line: &mut Line, path: &str) -> Option<()> {
+        for _ in 0..TRIES {
+            marks::begin(self.alloc);
+            let taken = FileLock::take(self.rt, self.alloc, path);
+            let says_memory = matches!(&taken, Err(StoreFault::OutOfMemory));
+            let is_refused = marks::is_refused(self.alloc, says_memory);
+            let is_taken = taken.is_ok();
+            drop(taken);
+            if !is_refused {
+                line.text(if is_taken { "taken" } else { "NOT TAKEN" });
+                return Some(());
+            }
+        }
+        None
     }
 
     /// `failing NAME COUNT FAULT load`, or `save BYTES` in place of `load`: with a store of its own, whose
@@ -158,8 +183,8 @@ impl<'a> Folder<'a> {
 
     /// `desk NAME`: a requester that asks is saved there, and another desk starts from its record. With
     /// `desk-many` the desks are of many transactions.
-    fn desk<D: DeskOver<HostStore<'a>>>(&self, line: &mut Line, path: &str) -> Option<()> {
-        Restarts::new(self.rt, self.alloc, path, 1000).write_started::<D>(line)
+    fn desk<H: Sided>(&self, line: &mut Line, path: &str) -> Option<()> {
+        Restarts::new(self.rt, self.alloc, path, 1000).write_started::<H>(line)
     }
 
     /// `put NAME BYTES`: a file with these bytes.
@@ -232,7 +257,7 @@ impl<'a> Folder<'a> {
 
     /// `damaged NAME LIMIT DAMAGE`: what a desk answers behind whose back its record was damaged. With
     /// `damaged-many` it is of many transactions.
-    fn damaged<D: DeskOver<HostStore<'a>>>(
+    fn damaged<H: Sided>(
         &self,
         line: &mut Line,
         names: &Names,
@@ -242,7 +267,7 @@ impl<'a> Folder<'a> {
         let (limit, words) = words.split_once(' ').unwrap_or((words, ""));
         let limit = limit.parse::<u32>().ok()?;
         let damage = damage_of(names, words)?;
-        Restarts::new(self.rt, self.alloc, path, limit).write_damaged::<D>(line, &damage)
+        Restarts::new(self.rt, self.alloc, path, limit).write_damaged::<H>(line, &damage)
     }
 }
 
@@ -261,6 +286,50 @@ fn damage_of(names: &Names, words: &str) -> Option<Damage> {
         "nothing" => Some(Damage::Nothing),
         bytes => Some(Damage::Bytes(names.bytes(bytes, 0)?)),
     }
+}
+
+/// Returns the store in the file at this path. It is laid again while a growth is refused.
+fn store_at<'a>(
+    rt: &'a HostRuntime,
+    alloc: Global,
+    path: &str,
+    limit: u32,
+) -> Result<FileStore<'a, HostRuntime>, OutOfMemory> {
+    for _ in 0..TRIES {
+        marks::begin(alloc);
+        let store = FileStore::at(rt, alloc, path, limit);
+        if !marks::is_refused(alloc, store.is_err()) {
+            return store;
+        }
+    }
+    Err(OutOfMemory)
+}
+
+/// Loads, and again while a growth is refused.
+fn load_again(
+    store: &mut FileStore<'_, HostRuntime>,
+    alloc: Global,
+) -> Result<Option<Vec<u8>>, StoreFault> {
+    for _ in 0..TRIES {
+        marks::begin(alloc);
+        let loaded = load(store, alloc);
+        if !marks::is_refused(alloc, matches!(&loaded, Err(StoreFault::OutOfMemory))) {
+            return loaded;
+        }
+    }
+    Err(StoreFault::OutOfMemory)
+}
+
+/// Saves. That takes no memory.
+fn save_quietly(
+    store: &mut FileStore<'_, HostRuntime>,
+    alloc: Global,
+    bytes: &[u8],
+) -> Result<(), StoreFault> {
+    marks::begin_quiet(alloc);
+    let saved = save(store, alloc, bytes);
+    marks::end_quiet(alloc);
+    saved
 }
 
 /// `load`, or `save` of these bytes.

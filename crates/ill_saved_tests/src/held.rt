@@ -7,8 +7,9 @@ use crate::line::Line;
 use crate::longest::longest;
 use crate::many::write_again;
 use crate::records::write_head;
-use ill_saved::{Role, Side, Sides, SidesFault, decode_record};
-use ill_test_kit::named;
+use crate::tries::TRIES;
+use ill_saved::{Role, Side, Sides, SidesFault, decode_record, encode_record, encode_record2};
+use ill_test_kit::{marks, named};
 use ill_values::TxnId;
 use std::alloc::Global;
 
@@ -24,16 +25,19 @@ pub fn call(
         SidesCall::Lay => lay(alloc, line, sides, words),
         SidesCall::Fill => fill(alloc, line, sides.as_mut()?, words),
         SidesCall::Get => get(alloc, line, sides.as_ref()?, words),
-        SidesCall::At => at(line, sides.as_ref()?, words),
+        SidesCall::At => at(alloc, line, sides.as_ref()?, words),
         SidesCall::PutLongest => put_longest(alloc, line, sides.as_mut()?),
         SidesCall::Again => write_again(alloc, line, sides.as_ref()?),
     }
 }
 
-/// `sides ROLE`: none is held yet.
+/// `sides ROLE`: none is held yet. That takes no memory.
 fn lay(alloc: Global, line: &mut Line, sides: &mut Option<Sides>, words: &str) -> Option<()> {
-    let none = Sides::new(alloc, role_of(words)?).ok()?;
-    write_held(line, sides.insert(none));
+    let role = role_of(words)?;
+    marks::begin_quiet(alloc);
+    let none = Sides::new(alloc, role);
+    marks::end_quiet(alloc);
+    write_held(alloc, line, sides.insert(none.ok()?));
     Some(())
 }
 
@@ -45,7 +49,7 @@ fn fill(alloc: Global, line: &mut Line, sides: &mut Sides, words: &str) -> Optio
             return None;
         }
     }
-    write_held(line, sides);
+    write_held(alloc, line, sides);
     Some(())
 }
 
@@ -76,7 +80,7 @@ fn put_longest(alloc: Global, line: &mut Line, sides: &mut Sides) -> Option<()> 
 }
 
 fn put_side(alloc: Global, line: &mut Line, sides: &mut Sides, side: Side) {
-    match sides.put(alloc, side) {
+    match put_again(alloc, sides, side) {
         Ok(()) => line.text("done"),
         Err((fault, side)) => {
             line.text(fault_word(fault));
@@ -85,7 +89,40 @@ fn put_side(alloc: Global, line: &mut Line, sides: &mut Sides, side: Side) {
         }
     }
     line.text("; ");
-    write_held(line, sides);
+    write_held(alloc, line, sides);
+}
+
+/// Puts a side, and again while a growth is refused. Such a put hands the side back, and changes nothing.
+fn put_again(alloc: Global, sides: &mut Sides, side: Side) -> Result<(), (SidesFault, Side)> {
+    let before = (
+        encode_record2(alloc, sides).ok(),
+        encode_record(alloc, &side).ok(),
+    );
+    let mut side = side;
+    for _ in 0..TRIES {
+        marks::begin(alloc);
+        let answer = sides.put(alloc, side);
+        let says_memory = matches!(&answer, Err((SidesFault::OutOfMemory, _)));
+        if !marks::is_refused(alloc, says_memory) {
+            return answer;
+        }
+        match answer {
+            Err((_, back)) if is_as_before(alloc, sides, &back, &before) => side = back,
+            answer => return answer,
+        }
+    }
+    Err((SidesFault::OutOfMemory, side))
+}
+
+/// The record of the sides, and that of a side that is put.
+type Before = (Option<Vec<u8>>, Option<Vec<u8>>);
+
+/// Returns true if the sides, and the one that was handed back, have the records that they had.
+fn is_as_before(alloc: Global, sides: &Sides, back: &Side, before: &Before) -> bool {
+    let (all, one) = before;
+    let is_same = *all == encode_record2(alloc, sides).ok()
+        && *one == encode_record(alloc, back).ok();
+    is_same && all.is_some() && one.is_some()
 }
 
 fn fault_word(fault: SidesFault) -> &'static str {
@@ -101,13 +138,20 @@ fn fault_word(fault: SidesFault) -> &'static str {
 /// `get GROUP TRANSACTION`: the side of this transaction.
 fn get(alloc: Global, line: &mut Line, sides: &Sides, words: &str) -> Option<()> {
     let (txn, _) = split_txn(alloc, words)?;
-    write_found(line, sides.get(&txn));
+    marks::begin_quiet(alloc);
+    let found = sides.get(&txn);
+    marks::end_quiet(alloc);
+    write_found(line, found);
     Some(())
 }
 
 /// `at PLACE`: the side at this place.
-fn at(line: &mut Line, sides: &Sides, words: &str) -> Option<()> {
-    write_found(line, sides.at(words.parse::<usize>().ok()?));
+fn at(alloc: Global, line: &mut Line, sides: &Sides, words: &str) -> Option<()> {
+    let place = words.parse::<usize>().ok()?;
+    marks::begin_quiet(alloc);
+    let found = sides.at(place);
+    marks::end_quiet(alloc);
+    write_found(line, found);
     Some(())
 }
 
@@ -119,9 +163,12 @@ fn write_found(line: &mut Line, side: Option<&Side>) {
 }
 
 /// Writes how many sides are held, and the role of all.
-pub fn write_held(line: &mut Line, sides: &Sides) {
-    line.show(&sides.len());
-    line.text(match sides.role() {
+pub fn write_held(alloc: Global, line: &mut Line, sides: &Sides) {
+    marks::begin_quiet(alloc);
+    let (count, role) = (sides.len(), sides.role());
+    marks::end_quiet(alloc);
+    line.show(&count);
+    line.text(match role {
         Role::Requester => " requester",
         Role::Responder => " responder",
     });

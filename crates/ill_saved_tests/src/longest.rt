@@ -1,7 +1,7 @@
 //! The longest record that a side has.
 
 use crate::again::written_and_read;
-use crate::any_desk::ShownDesk;
+use crate::desk_view::DeskView;
 use crate::desks::write_begun;
 use crate::line::Line;
 use ill_core::{Responder, State};
@@ -58,7 +58,7 @@ fn write_started(rt: &HostRuntime, alloc: Global, line: &mut Line, path: &str) -
 
 /// Writes where a desk stands, and the size of its last message.
 fn write_desk<S: Store + Drop>(alloc: Global, line: &mut Line, desk: &Desk1<S>) -> Option<()> {
-    desk.view(alloc, None).write(line);
+    DeskView::of(alloc, desk, None).write(line);
     written_and_read(alloc, desk.side()).map(drop).ok()?;
     let message = desk.message(alloc, Number::new(255)?).ok()?;
     line.text(", the last message ");

@@ -6,15 +6,19 @@
 //! the cases with the answers that they should get, and `stdout` is the same. Files stand in a folder that
 //! is made for them below the system's for temporary files, and removed at the end.
 //!
+//! Calls that take memory stand between marks (`tries.rt`), and are made again while a growth of them is refused. A
+//! refused call changes nothing, and the answers are as ever.
+//!
 //! To try some cases alone, in seconds: put their lines and the `let`s that they name into a file, as
 //! `grep -E '^(let|file) ' stdin > file`, and `rt try < file | diff file -` prints nothing where all is right.
 #![tactic(auto)]
 
 mod actions;
 mod again;
-mod any_desk;
+mod beginnings;
 mod bench;
 mod calls;
+mod coding;
 mod desk_view;
 mod desks;
 mod failing;
@@ -22,6 +26,7 @@ mod files;
 mod fuses;
 mod held;
 mod idle;
+mod landing;
 mod line;
 mod longest;
 mod many;
@@ -30,7 +35,10 @@ mod records;
 mod restarts;
 mod runs;
 mod session;
+mod sided;
+mod stores;
 mod transactions;
+mod tries;
 mod words;
 
 use bench::Bench;

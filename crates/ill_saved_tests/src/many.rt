@@ -1,17 +1,18 @@
 //! What bytes are as a saved record of many sides.
 
 use crate::again::all_written_and_read;
+use crate::coding::{all_decoded, all_encoded};
 use crate::held::write_held;
 use crate::line::Line;
 use crate::records::write_head;
 use crate::words::write_record_fault;
-use ill_saved::{Sides, decode_record2, encode_record2};
+use ill_saved::Sides;
 use sha2::{Digest, Sha256};
 use std::alloc::Global;
 
 /// Writes what bytes are as a record of many sides: a fault, or how many sides there are and each of them.
 pub fn write_records(alloc: Global, line: &mut Line, bytes: &[u8]) {
-    match decode_record2(alloc, bytes) {
+    match all_decoded(alloc, bytes) {
         Ok(sides) => write_sides(alloc, line, &sides, bytes),
         Err(fault) => write_record_fault(line, fault),
     }
@@ -27,17 +28,17 @@ pub fn write_sealed(alloc: Global, line: &mut Line, bytes: &[u8]) -> Option<()> 
 
 /// `again`: the size of the record of the sides, which is read as the same sides.
 pub fn write_again(alloc: Global, line: &mut Line, sides: &Sides) -> Option<()> {
-    let record = encode_record2(alloc, sides).ok()?;
+    let record = all_encoded(alloc, sides).ok()?;
     let again = all_written_and_read(alloc, sides).ok()?;
     line.show(&record.len());
     line.text(" octets; ");
-    write_held(line, &again);
+    write_held(alloc, line, &again);
     Some(())
 }
 
 /// Writes how many sides there are and each of them, and whether these bytes are their record.
 pub fn write_sides(alloc: Global, line: &mut Line, sides: &Sides, bytes: &[u8]) {
-    write_held(line, sides);
+    write_held(alloc, line, sides);
     for place in 0..sides.len() {
         if let Some(side) = sides.at(place) {
             line.text(", ");
@@ -52,7 +53,7 @@ pub fn write_sides(alloc: Global, line: &mut Line, sides: &Sides, bytes: &[u8]) 
 }
 
 fn is_record_of(alloc: Global, sides: &Sides, bytes: &[u8]) -> bool {
-    match encode_record2(alloc, sides) {
+    match all_encoded(alloc, sides) {
         Ok(record) => record.as_slice() == bytes,
         Err(_) => false,
     }

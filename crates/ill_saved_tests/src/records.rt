@@ -1,17 +1,18 @@
 //! What bytes are as a saved record, and what the readers of a side tell.
 
 use crate::again::written_and_read;
+use crate::coding::{decoded, encoded};
 use crate::line::Line;
 use crate::runs::Run;
 use crate::words::{write_name, write_record_fault};
 use ill_core::{Requester, Responder, State};
-use ill_saved::{Side, decode_record, encode_record};
+use ill_saved::Side;
 use ill_values::{Apdu, Body, Day, Number, TxnId};
 use std::alloc::Global;
 
 /// Writes what bytes are as a record: a fault, or a side.
 pub fn write_record(alloc: Global, line: &mut Line, bytes: &[u8]) {
-    match decode_record(alloc, bytes) {
+    match decoded(alloc, bytes) {
         Ok(side) => write_side(alloc, line, &side, bytes),
         Err(fault) => write_record_fault(line, fault),
     }
@@ -24,7 +25,7 @@ pub fn write_side(alloc: Global, line: &mut Line, side: &Side, bytes: &[u8]) {
         Side::Responder(responder) => write_responder(line, responder),
     }
     write_issued(alloc, line, side);
-    let is_same = match encode_record(alloc, side) {
+    let is_same = match encoded(alloc, side) {
         Ok(record) => record.as_slice() == bytes && written_and_read(alloc, side).map(drop).is_ok(),
         Err(_) => false,
     };
@@ -125,7 +126,7 @@ fn write_reply(line: &mut Line, answers: Number, yes: bool) {
 /// Writes the messages that a side has issued, each behind its number.
 fn write_issued(alloc: Global, line: &mut Line, side: &Side) {
     let mut run = Run::new(alloc, "; ", 1);
-    for index in 0..side_facts(side).issued {
+    for index in 0..side.issued_count() {
         run.push(line, issued(alloc, side, index + 1));
     }
     run.write(line);
@@ -149,29 +150,5 @@ fn find(side: &Side, value: u8) -> Option<(&Apdu, &TxnId)> {
     match side {
         Side::Requester(side) => Some((side.issued(number)?, side.txn())),
         Side::Responder(side) => Some((side.issued(number)?, side.txn())),
-    }
-}
-
-/// What is told of a side behind each call of a desk.
-#[derive(Clone, Copy)]
-pub struct Facts {
-    pub state: State,
-    pub due: Option<Day>,
-    pub issued: u8,
-}
-
-/// What is told of this side.
-pub fn side_facts(side: &Side) -> Facts {
-    match side {
-        Side::Requester(side) => Facts {
-            state: side.state(),
-            due: side.due(),
-            issued: side.issued_count(),
-        },
-        Side::Responder(side) => Facts {
-            state: side.state(),
-            due: side.due(),
-            issued: side.issued_count(),
-        },
     }
 }

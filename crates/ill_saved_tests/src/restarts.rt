@@ -1,19 +1,23 @@
 //! Desks whose record was damaged in its file.
 
 use crate::actions::action;
-use crate::any_desk::{DeskOver, ShownDesk};
+use crate::desk_view::DeskView;
 use crate::desks::{restart, write_begun};
 use crate::line::Line;
-use ill_saved::{DeskFault, FileStore};
+use crate::sided::Sided;
+use ill_saved::{AnyDesk, DeskFault, FileStore, Role};
 use ill_values::{Number, TxnId};
 use std::alloc::Global;
 use std::{fs, io};
 
-/// The role of each desk, and the transaction in which it asks.
-const FIRST: &str = "requester G1 T1";
-
 /// A file of the system as a desk's store.
-pub type HostStore<'a> = FileStore<'a, HostRuntime>;
+type HostStore<'a> = FileStore<'a, HostRuntime>;
+
+/// A desk over a file of the system.
+type HostDesk<'a, H> = AnyDesk<H, HostStore<'a>>;
+
+/// A desk, or a fault and its store.
+type Begun<'a, H> = Result<HostDesk<'a, H>, (DeskFault, HostStore<'a>)>;
 
 /// What has become of the record.
 #[derive(Drop)]
@@ -48,24 +52,20 @@ impl<'a, 'p> Restarts<'a, 'p> {
 
     /// Writes what a desk answers whose record is damaged: to `restart`, with where it stands then, and
     /// then what `start` and `create` answer there.
-    pub fn write_damaged<D: DeskOver<HostStore<'a>>>(
-        &self,
-        line: &mut Line,
-        damage: &Damage,
-    ) -> Option<()> {
-        self.damaged::<D>(line, damage)?;
+    pub fn write_damaged<H: Sided>(&self, line: &mut Line, damage: &Damage) -> Option<()> {
+        self.damaged::<H>(line, damage)?;
         line.text("; start ");
-        write_begun(line, D::start_from(self.alloc, self.store()?));
+        write_begun(line, self.start::<H>()?);
         line.text("; create ");
-        write_begun(line, self.create::<D>()?);
+        write_begun(line, self.create::<H>()?);
         Some(())
     }
 
     /// Writes where a desk stands that starts from the record of another, and its first message.
-    pub fn write_started<D: DeskOver<HostStore<'a>>>(&self, line: &mut Line) -> Option<()> {
-        self.asked::<D>()?;
+    pub fn write_started<H: Sided>(&self, line: &mut Line) -> Option<()> {
+        self.asked::<H>()?;
         line.text("started");
-        let desk = D::start_from(self.alloc, self.store()?).ok()?;
+        let desk = self.start::<H>()?.ok()?;
         let shown = self.show(line, &desk);
         drop(desk);
         shown
@@ -75,9 +75,16 @@ impl<'a, 'p> Restarts<'a, 'p> {
         FileStore::at(self.rt, self.alloc, self.path, self.limit).ok()
     }
 
+    /// A desk that starts from the record.
+    fn start<H: Sided>(&self) -> Option<Begun<'a, H>> {
+        Some(AnyDesk::start(self.alloc, self.store()?))
+    }
+
     /// A desk that has not asked.
-    fn create<D: DeskOver<HostStore<'a>>>(&self) -> Option<Result<D, (DeskFault, HostStore<'a>)>> {
-        D::create_as(self.alloc, FIRST, self.store()?)
+    fn create<H: Sided>(&self) -> Option<Begun<'a, H>> {
+        let (store, txn) = self.store().zip(self.txn())?;
+        let first = H::first(Role::Requester, txn);
+        Some(AnyDesk::begin(self.alloc, store, first))
     }
 
     /// The transaction in which it asks.
@@ -86,40 +93,45 @@ impl<'a, 'p> Restarts<'a, 'p> {
     }
 
     /// A desk asks, and is gone.
-    fn asked<D: DeskOver<HostStore<'a>>>(&self) -> Option<()> {
-        let mut desk: D = self.create()?.ok()?;
+    fn asked<H: Sided>(&self) -> Option<()> {
+        let mut desk: HostDesk<'a, H> = self.create()?.ok()?;
         let asked = self.ask(&mut desk);
         drop(desk);
         asked
     }
 
     /// Has the desk ask, and saves that.
-    fn ask<D: ShownDesk>(&self, desk: &mut D) -> Option<()> {
+    fn ask<H: Sided>(&self, desk: &mut HostDesk<'a, H>) -> Option<()> {
         self.act(desk, "request none Maps")?;
-        desk.save_all(self.alloc).ok()
+        desk.save(self.alloc).ok()
     }
 
-    fn act<D: ShownDesk>(&self, desk: &mut D, words: &str) -> Option<()> {
+    fn act<H: Sided>(&self, desk: &mut HostDesk<'a, H>, words: &str) -> Option<()> {
         let (txn, action) = self.txn().zip(action(self.alloc, words))?;
-        desk.act_in(self.alloc, &txn, &action).ok()
+        desk.act_on(self.alloc, H::key(&txn), &action).ok()
     }
 
-    fn show<D: ShownDesk>(&self, line: &mut Line, desk: &D) -> Option<()> {
-        desk.view(self.alloc, Some(&self.txn()?)).write(line);
+    fn show<H: Sided>(&self, line: &mut Line, desk: &HostDesk<'a, H>) -> Option<()> {
+        DeskView::of(self.alloc, desk, Some(&self.txn()?)).write(line);
         line.text(", ");
         line.octets(&self.first_message(desk)?);
         Some(())
     }
 
     /// Damages the record of a desk that has asked and then wishes to cancel, and restarts it.
-    fn damaged<D: DeskOver<HostStore<'a>>>(&self, line: &mut Line, damage: &Damage) -> Option<()> {
-        let mut desk: D = self.create()?.ok()?;
+    fn damaged<H: Sided>(&self, line: &mut Line, damage: &Damage) -> Option<()> {
+        let mut desk: HostDesk<'a, H> = self.create()?.ok()?;
         let answered = self.damage(line, &mut desk, damage);
         drop(desk);
         answered
     }
 
-    fn damage<D: ShownDesk>(&self, line: &mut Line, desk: &mut D, damage: &Damage) -> Option<()> {
+    fn damage<H: Sided>(
+        &self,
+        line: &mut Line,
+        desk: &mut HostDesk<'a, H>,
+        damage: &Damage,
+    ) -> Option<()> {
         self.ask(desk)?;
         self.act(desk, "cancel")?;
         self.inflict(damage).ok()?;
@@ -141,7 +153,7 @@ impl<'a, 'p> Restarts<'a, 'p> {
 
     /// Writes what `restart` answers, and where the desk stands then. After a fault that is as before,
     /// and its first message has the bytes that it had.
-    fn restart<D: ShownDesk>(&self, line: &mut Line, desk: &mut D) -> Option<()> {
+    fn restart<H: Sided>(&self, line: &mut Line, desk: &mut HostDesk<'a, H>) -> Option<()> {
         let message = self.first_message(desk)?;
         let is_done = restart(self.alloc, line, desk, "done");
         if !is_done && !self.has_first_message(desk, &message) {
@@ -150,15 +162,16 @@ impl<'a, 'p> Restarts<'a, 'p> {
         Some(())
     }
 
-    fn has_first_message<D: ShownDesk>(&self, desk: &D, bytes: &[u8]) -> bool {
+    fn has_first_message<H: Sided>(&self, desk: &HostDesk<'a, H>, bytes: &[u8]) -> bool {
         match self.first_message(desk) {
             Some(message) => message.as_slice() == bytes,
             None => false,
         }
     }
 
-    fn first_message<D: ShownDesk>(&self, desk: &D) -> Option<Vec<u8>> {
-        desk.message_in(self.alloc, &self.txn()?, Number::new(1)?)
+    fn first_message<H: Sided>(&self, desk: &HostDesk<'a, H>) -> Option<Vec<u8>> {
+        let txn = self.txn()?;
+        desk.message_of(self.alloc, H::key(&txn), Number::new(1)?)
             .ok()
     }
 }

@@ -2,10 +2,10 @@
 
 use crate::actions::action;
 use crate::calls::ManyCall;
-use crate::desk_view::Standing;
+use crate::desk_view::write_shown;
 use crate::held::{numbered, write_held};
 use crate::line::Line;
-use ill_saved::{Desk, MemoryStore, Role, Store};
+use ill_saved::{Desk, MemoryStore, Role, Shown, Store};
 use ill_values::{Apdu, Body, Item, Number, TxnId};
 use std::alloc::Global;
 
@@ -19,8 +19,8 @@ pub fn call(
 ) -> Option<()> {
     match call {
         ManyCall::Begin => begin(alloc, line, desk, words),
-        ManyCall::Each => write_each(line, desk),
-        ManyCall::Create | ManyCall::Start | ManyCall::Fuse => None,
+        ManyCall::Each => write_each(alloc, line, desk),
+        ManyCall::Create | ManyCall::Start | ManyCall::Fuse | ManyCall::Landing => None,
     }
 }
 
@@ -29,7 +29,7 @@ fn begin(alloc: Global, line: &mut Line, desk: &mut Desk<MemoryStore>, words: &s
     for number in 0..words.parse::<u16>().ok()? {
         begin_one(alloc, desk, numbered(alloc, number)?)?;
     }
-    write_held(line, desk.sides());
+    write_held(alloc, line, desk.sides());
     Some(())
 }
 
@@ -51,14 +51,14 @@ fn request(alloc: Global, txn: TxnId) -> Option<Apdu> {
 }
 
 /// `each`: where each side stands, in the order in which they were begun.
-fn write_each<S: Store>(line: &mut Line, desk: &Desk<S>) -> Option<()> {
-    write_held(line, desk.sides());
+fn write_each<S: Store>(alloc: Global, line: &mut Line, desk: &Desk<S>) -> Option<()> {
+    write_held(alloc, line, desk.sides());
     for place in 0..desk.sides().len() {
         let side = desk.sides().at(place)?;
         line.text(",");
         line.qualifier(side.txn().group());
         line.qualifier(side.txn().transaction());
-        Standing::of(side, desk.released(side.txn())).write(line);
+        write_shown(line, Shown::of(side, desk.released(side.txn())));
     }
     Some(())
 }

@@ -4,6 +4,7 @@
 
 mod folder;
 mod lines;
+pub mod marks;
 mod naming;
 mod page;
 mod streams;

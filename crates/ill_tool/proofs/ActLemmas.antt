@@ -5,18 +5,18 @@ use Rattle.std.proofs.KnownBytes.{Appends-nil}
 use Rattle.ill_saved.specs.declared.side.Action.{Action}
 use Rattle.ill_tool.specs.declared.fault.ToolFault.{ToolFault}
 use Rattle.ill_tool.specs.declared.fault.ToolFault.TheVariants.{OutOfMemory}
-use Rattle.ill_tool.specs.Keeping.{Keeping}
+use Rattle.ill_saved.specs.Holdings.{Effects}
 use Rattle.ill_tool.specs.Performing.{HeldAndLanded}
 use Rattle.ill_tool.specs.Act.{RunsAct}
 
-module _ {L K : Type 0} (keeping : Keeping L K) (key : K) where
+module _ {L K : Type 0} (effects : Effects L K) (key : K) where
   -- If memory ran out for the words, the command has the fault `OutOfMemory`, and nothing changed.
-  words_unread : (named : Option Action) (now : HeldAndLanded L) (before : Option (List ℕ)) → RunsAct keeping key named now before before (Err OutOfMemory) now
+  words_unread : (named : Option Action) (now : HeldAndLanded L) (before : Option (List ℕ)) → RunsAct effects key named now before before (Err OutOfMemory) now
   words_unread None now before = (inr refl, refl, Appends-nil before)
   words_unread (Some action) now before = (Err OutOfMemory, [], inl (tt, refl), Appends-nil before, (refl, refl))
 
   -- If the result is the fault `OutOfMemory` alone, the command has it, and nothing changed.
   pub no_words : (named : Option Action) (now : HeldAndLanded L) (before : Option (List ℕ)) (result : Result Bool ToolFault) → IsErrAnd result (λ fault. fault ≡ OutOfMemory)
-      → RunsAct keeping key named now before before result now
+      → RunsAct effects key named now before before result now
   no_words named now before (Ok fine) failed = absurd failed
-  no_words named now before (Err fault) failed = subst (λ (f : ToolFault). RunsAct keeping key named now before before (Err f) now) (sym failed) (words_unread named now before)
+  no_words named now before (Err fault) failed = subst (λ (f : ToolFault). RunsAct effects key named now before before (Err f) now) (sym failed) (words_unread named now before)

@@ -5,11 +5,11 @@ use Rattle.ill_values.specs.declared.apdu.Apdu.{Apdu}
 use Rattle.ill_der.specs.declared.fault.DerFault.{DerFault}
 use Rattle.ill_der.specs.ShortForm.{Views}
 use Rattle.ill_tool.specs.declared.verdict.Unfit.TheVariants.{Trailing}
-use Rattle.ill_saved.specs.Many.{DeskContents}
+use Rattle.ill_saved.specs.ManySides.{DeskContents}
 use Rattle.ill_tool.specs.declared.verdict.Mail.{Mail}
 use Rattle.ill_tool.specs.declared.verdict.Verdict.{Verdict}
 use Rattle.ill_tool.specs.declared.tally.Tally.{Tally}
-use Rattle.ill_tool.specs.Keeping.{many_sides}
+use Rattle.ill_saved.specs.ManySides.{many_sides}
 use Rattle.ill_tool.specs.Performing.{HeldAndLanded}
 use Rattle.ill_tool.specs.declared.fault.ToolFault.{ToolFault}
 use Rattle.ill_tool.specs.Inbox.{EndedWell, RunsInbox, Sorting, answered_with, concluded, inbox_text, one_message, tally_line, tally_of}

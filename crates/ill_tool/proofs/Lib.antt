@@ -1,7 +1,7 @@
 pub mod InputLemmas
 pub mod SimulateLemmas
 pub mod ActionLemmas
-pub mod KeepingLemmas
+pub mod HeldLemmas
 pub mod ActLemmas
 pub mod StatusLemmas
 pub mod ListLemmas

@@ -1,4 +1,4 @@
--- The beginning of a keeper, from the results of its calls.
+-- The beginning of a desk, from the results of its calls.
 use Rattle.std.proofs.Common.{rules, ◌≡◌, ◌⊎◌, ℕ, List, Option, Some, None, Result, Ok, Err, inl, inr, refl, ◌∙◌}
 use Rattle.ill_saved.specs.declared.fault.DeskFault.TheVariants.{Store}
 use Rattle.ill_saved.specs.declared.store.StoreFault.TheVariants.{Failed}
@@ -7,8 +7,8 @@ use Rattle.ill_values.specs.TxnId.{Qualifiers}
 use Rattle.ill_saved.specs.declared.role.Role.{Role}
 use Rattle.ill_saved.specs.declared.role.Role.TheVariants.{Requester, Responder}
 use Rattle.ill_saved.specs.Side.{idle_side}
-use Rattle.ill_saved.specs.Many.{whole}
-use Rattle.ill_tool.specs.Keeping.{alone}
+use Rattle.ill_saved.specs.Holdings.{whole}
+use Rattle.ill_saved.specs.OneSide.{alone}
 use Rattle.ill_saved.specs.Store.{Allows, spent}
 use Rattle.ill_tool.specs.declared.fault.ToolFault.{ToolFault}
 use Rattle.ill_tool.specs.declared.fault.ToolFault.TheVariants.{Desk, Write, OutOfMemory}

@@ -5,9 +5,10 @@ use Rattle.std.proofs.lemmas.Option.{slice_get-map}
 use Rattle.ill_saved.specs.declared.side.Side.{Side}
 use Rattle.ill_saved.specs.Side.{txn_of}
 use Rattle.ill_saved.specs.Sides.{are_apart}
-use Rattle.ill_saved.specs.Many.{DeskEntry, DeskContents, held_for, sides_held}
+use Rattle.ill_saved.specs.Holdings.{DeskEntry}
+use Rattle.ill_saved.specs.ManySides.{DeskContents, held_for, sides_held}
 use Rattle.ill_saved.proofs.Finding.{some_is}
-use Rattle.ill_tool.proofs.KeepingLemmas.{held_at_place}
+use Rattle.ill_tool.proofs.HeldLemmas.{held_at_place}
 use Rattle.std.specs.Option.{option_to_list}
 
 -- The items from `place` on are the one there and those after it.

@@ -6,12 +6,13 @@ use Rattle.std.proofs.lemmas.Option.{slice_get-map}
 use Rattle.ill_saved.specs.declared.side.Side.{Side}
 use Rattle.ill_saved.specs.Side.{txn_of}
 use Rattle.ill_saved.specs.Sides.{are_apart}
-use Rattle.ill_saved.specs.Many.{DeskEntry, DeskContents, held_for, sides_held}
+use Rattle.ill_saved.specs.Holdings.{DeskEntry}
+use Rattle.ill_saved.specs.ManySides.{DeskContents, held_for, sides_held}
 use Rattle.ill_saved.proofs.Finding.{some_is}
 use Rattle.ill_tool.specs.declared.form.Form.{Form}
 use Rattle.ill_tool.specs.Objects.{status_of_desk, status_text, text_of_one}
 use Rattle.ill_tool.specs.Status.{spaced_or_dash}
-use Rattle.ill_tool.proofs.KeepingLemmas.{held_at_place}
+use Rattle.ill_tool.proofs.HeldLemmas.{held_at_place}
 
 -- Texts with a space before each are those of the mapped words with a space before each.
 all_spaced : {X : Type 0} (text : X → List ℕ) (words : List X)

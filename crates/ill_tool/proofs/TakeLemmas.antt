@@ -9,7 +9,8 @@ use Rattle.ill_tool.specs.declared.fault.ToolFault.{ToolFault}
 use Rattle.ill_tool.specs.declared.fault.ToolFault.TheVariants.{Desk}
 use Rattle.ill_tool.specs.Input.{StopsReading, ReadsInput}
 use Rattle.ill_tool.specs.declared.take.TakesEach.{TakesEach}
-use Rattle.ill_tool.specs.Keeping.{Keeping}
+use Rattle.ill_saved.specs.Desk.{DeskOf}
+use Rattle.ill_saved.specs.Holdings.{Effects}
 use Rattle.ill_tool.specs.Performing.{HeldAndLanded, ToolFailsCounted}
 use Rattle.ill_tool.specs.Telling.{Wording}
 use Rattle.ill_tool.specs.Take.{KeepsDesk, Progress, progress, takes_each, answer_of, RunsTaking}
@@ -36,7 +37,7 @@ unfailing : (fault : ToolFault) (count : ℕ) (bytes ahead : List ℕ) (left : O
 unfailing (Desk fault) count bytes ahead left before after stops = absurd stops
 unfailing other count bytes ahead left before after stops = tt
 
--- The lent keeper, the lent file, and the count of the store's failures.
+-- The lent desk, the lent file, and the count of the store's failures.
 module _ {S N M : Type 0} (is_kept : Bool) (handles : Handles S ToolFault) (name : S → N) (came : S → M) (failures : S → ℕ)
     (keeps : (s t : S) (apdu : Apdu) (r : Result (Unit {0}) ToolFault) → handles s apdu r t → KeepsDesk is_kept r (name s) (name t) (came s) (came t) (failures s) (failures t)) where
   -- APDUs that were handled keep the lent values, and the count of failures never falls.
@@ -69,27 +70,27 @@ module _ {S N M : Type 0} (is_kept : Bool) (handles : Handles S ToolFault) (name
 
 -- ---- the command
 
--- An input whose messages are taken on a lent keeper, and kept if messages are kept.
-module _ {T D A B C L N W : Type 0} {n m : ℕ} (is_kept : Bool) (told : Wording) (keeping : Keeping L N) (view : T → HeldAndLanded L) (failures : T → ℕ) (kept : D → Option (List ℕ))
+-- An input whose messages are taken on a lent desk, and kept if messages are kept.
+module _ {H S D A B C L N W : Type 0} {n m : ℕ} (is_kept : Bool) (told : Wording) (effects : Effects L N) (view : DeskOf H S → HeldAndLanded L) (failures : DeskOf H S → ℕ) (kept : D → Option (List ℕ))
     (contents : W → Option (List ℕ)) where
   -- Returns the state of the command by the state of its handler.
-  abbrev how_far : TakesEach T D n m A B C × W → Progress L
-  how_far s = progress (view s.0.keeper.now) (kept s.0.came.now) (contents s.1) s.0.all_fine
+  abbrev how_far : TakesEach H S D n m A B C × W → Progress L
+  how_far s = progress (view s.0.desk.now) (kept s.0.came.now) (contents s.1) s.0.all_fine
 
   -- A message is taken, and the lent values are kept.
-  abbrev pub TakesOn : Handles (TakesEach T D n m A B C × W) ToolFault
+  abbrev pub TakesOn : Handles (TakesEach H S D n m A B C × W) ToolFault
   TakesOn s apdu r t =
-      takes_each is_kept told keeping (how_far s) apdu r (how_far t)
-      × KeepsDesk is_kept r s.0.keeper.ghost_name t.0.keeper.ghost_name s.0.came.ghost_name t.0.came.ghost_name (failures s.0.keeper.now) (failures t.0.keeper.now)
+      takes_each is_kept told effects (how_far s) apdu r (how_far t)
+      × KeepsDesk is_kept r s.0.desk.ghost_name t.0.desk.ghost_name s.0.came.ghost_name t.0.came.ghost_name (failures s.0.desk.now) (failures t.0.desk.now)
 
   -- If an input was read by `TakesOn`, the command has taken it, and the lent values are kept.
-  pub input_taken : (old new : Option (List ℕ)) (before after : TakesEach T D n m A B C × W) (result : Result ℕ ToolFault) → before.0.all_fine ≡ true → ReadsInput TakesOn old new before result after
-      → RunsTaking is_kept told keeping old new (kept before.0.came.now) (kept after.0.came.now) (contents before.1) (contents after.1) (view before.0.keeper.now) (answer_of result after.0.all_fine)
-      (view after.0.keeper.now)
-      × KeepsDesk is_kept result before.0.keeper.ghost_name after.0.keeper.ghost_name before.0.came.ghost_name after.0.came.ghost_name (failures before.0.keeper.now) (failures after.0.keeper.now)
+  pub input_taken : (old new : Option (List ℕ)) (before after : TakesEach H S D n m A B C × W) (result : Result ℕ ToolFault) → before.0.all_fine ≡ true → ReadsInput TakesOn old new before result after
+      → RunsTaking is_kept told effects old new (kept before.0.came.now) (kept after.0.came.now) (contents before.1) (contents after.1) (view before.0.desk.now) (answer_of result after.0.all_fine)
+      (view after.0.desk.now)
+      × KeepsDesk is_kept result before.0.desk.ghost_name after.0.desk.ghost_name before.0.came.ghost_name after.0.came.ghost_name (failures before.0.desk.now) (failures after.0.desk.now)
   input_taken old new before after result fine is =
-      let taken = reads_as TakesOn (takes_each is_kept told keeping) how_far (λ s t apdu r h. h.0) old new before after result is in
-      let first = progress (view before.0.keeper.now) (kept before.0.came.now) (contents before.1) in (
-        (result, after.0.all_fine, refl, subst (λ (b : Bool). ReadsInput (takes_each is_kept told keeping) old new (first b) result (how_far after)) fine taken),
-        input_keeps is_kept TakesOn (λ s. s.0.keeper.ghost_name) (λ s. s.0.came.ghost_name) (λ s. failures s.0.keeper.now) (λ s t apdu r h. h.1) old new before after result is,
+      let taken = reads_as TakesOn (takes_each is_kept told effects) how_far (λ s t apdu r h. h.0) old new before after result is in
+      let first = progress (view before.0.desk.now) (kept before.0.came.now) (contents before.1) in (
+        (result, after.0.all_fine, refl, subst (λ (b : Bool). ReadsInput (takes_each is_kept told effects) old new (first b) result (how_far after)) fine taken),
+        input_keeps is_kept TakesOn (λ s. s.0.desk.ghost_name) (λ s. s.0.came.ghost_name) (λ s. failures s.0.desk.now) (λ s t apdu r h. h.1) old new before after result is,
       )

@@ -5,25 +5,25 @@ use Rattle.ill_saved.specs.declared.side.Action.{Action}
 use Rattle.ill_world.specs.declared.event.DeskOutcome.{DeskOutcome}
 use Rattle.ill_tool.specs.declared.fault.ToolFault.{ToolFault}
 use Rattle.ill_tool.specs.declared.fault.ToolFault.TheVariants.{Arguments, OutOfMemory}
-use Rattle.ill_tool.specs.Keeping.{Keeping}
+use Rattle.ill_saved.specs.Holdings.{Effects}
 use Rattle.ill_tool.specs.Performing.{HeldAndLanded, acted, Performs}
 use Rattle.ill_tool.specs.Telling.{side_line, Reports}
 
 -- One action on the side `key` of `old` has this result and leads to `new`. It was done and saved. Or it was
 -- refused, and nothing changed. Or it was done, and the save failed. Or memory ran out before it was done or
 -- saved.
-abbrev pub ActsAndSaves : {L K : Type 0} → Keeping L K → K → HeldAndLanded L → Action → Result DeskOutcome ToolFault →
+abbrev pub ActsAndSaves : {L K : Type 0} → Effects L K → K → HeldAndLanded L → Action → Result DeskOutcome ToolFault →
     HeldAndLanded L → Type 0
-ActsAndSaves keeping key old action result new =
-    Performs keeping (Unit {0}) old (acted old.live (keeping.acts old.live key action)) result new
+ActsAndSaves effects key old action result new =
+    Performs effects (Unit {0}) old (acted old.live (effects.acts old.live key action)) result new
 
 -- The command `act`. If the words name an action, it is performed, and its line written. If they name none,
 -- nothing changes. Without memory it may stay open which of both holds.
-abbrev pub RunsAct : {L K : Type 0} → Keeping L K → K → Option Action → HeldAndLanded L → Option (List ℕ) →
+abbrev pub RunsAct : {L K : Type 0} → Effects L K → K → Option Action → HeldAndLanded L → Option (List ℕ) →
     Option (List ℕ) → Result Bool ToolFault → HeldAndLanded L → Type 0
-RunsAct keeping key (Some action) old before after result new =
+RunsAct effects key (Some action) old before after result new =
     (performed : Result DeskOutcome ToolFault) × (text : List ℕ)
-    × ActsAndSaves keeping key old action performed new × Appends before after text
-    × Reports side_line performed (keeping.side_for key new.live) text result
-RunsAct keeping key None old before after result new =
+    × ActsAndSaves effects key old action performed new × Appends before after text
+    × Reports side_line performed (effects.side_for key new.live) text result
+RunsAct effects key None old before after result new =
     ((result ≡ Err Arguments) ⊎ (result ≡ Err OutOfMemory)) × (new ≡ old) × Appends before after []

@@ -7,12 +7,13 @@ use Rattle.ill_values.specs.TxnId.{Qualifiers, txn_id_of}
 use Rattle.ill_values.specs.declared.apdu.Apdu.{Apdu}
 use Rattle.ill_saved.specs.declared.side.Side.{Side}
 use Rattle.ill_saved.specs.declared.store.StoreFault.{StoreFault}
-use Rattle.ill_saved.specs.Many.{DeskEntry, DeskContents, found_by, txn_held}
+use Rattle.ill_saved.specs.Holdings.{DeskEntry}
+use Rattle.ill_saved.specs.ManySides.{DeskContents, found_by, txn_held}
 use Rattle.ill_tool.specs.declared.fault.ToolFault.{ToolFault}
 use Rattle.ill_tool.specs.declared.fault.ToolFault.TheVariants.{Arguments, Desk, Left, OutOfMemory}
 use Rattle.std.specs.List.{zip}
 use Rattle.ill_saved.specs.declared.role.Role.{Role}
-use Rattle.ill_tool.specs.Keeping.{many_sides}
+use Rattle.ill_saved.specs.ManySides.{many_sides}
 use Rattle.ill_tool.specs.Performing.{HeldAndLanded}
 use Rattle.ill_tool.specs.Output.{WritesText}
 use Rattle.ill_tool.specs.Actions.{action_named}
@@ -31,7 +32,7 @@ use Rattle.ill_tool.specs.Dates.{RunsDates}
 use Rattle.ill_tool.specs.Person.{wants_person}
 use Rattle.ill_tool.specs.Inbox.{RunsInbox, ending, is_waiting, tally_of}
 use Rattle.ill_tool.specs.Kept.{AreIn}
-use Rattle.ill_tool.specs.Outbox.{IsFileFault, StreamsOutbox, letters_of, sent_line}
+use Rattle.ill_tool.specs.Outbox.{IsFileFault, StreamsOutbox, asked_by, letters_of, sent_line}
 use Rattle.ill_tool.specs.Send.{RunsSend}
 use Rattle.ill_tool.specs.Kept.{RunsKeptLoan}
 use Rattle.ill_tool.specs.Picture.{drawn_or_shown}
@@ -129,12 +130,19 @@ InboxAtFile before after result =
     × TakesMails old before after taken new × (result ≡ ending_of taken))
 
 -- The messages that want sending were put into a folder, of which nothing is known, and their number was
--- written. Or a file was shut.
+-- written. `bytes` are the messages that ask. Or a file was shut.
+abbrev pub SendsAsked : List ℕ → List DeskEntry → Option (List ℕ) → Option (List ℕ) → Result (Unit {0}) ToolFault →
+    Type 0
+SendsAsked bytes held before after result =
+    (IsErrAnd result IsOpenFault × (after ≡ before))
+    ⊎ ((asking : List Apdu) × AreIn bytes asking
+    × WritesText before after (sent_line (length (letters_of asking held))) result)
+
+-- The messages that want sending were put into a folder, with some that ask, of which nothing is known. Or a
+-- file was shut.
 abbrev pub SendsTo : List DeskEntry → Option (List ℕ) → Option (List ℕ) → Result (Unit {0}) ToolFault → Type 0
 SendsTo held before after result =
-    (IsErrAnd result IsOpenFault × (after ≡ before))
-    ⊎ ((bytes : List ℕ) × (asking : List Apdu) × AreIn bytes asking
-    × WritesText before after (sent_line (length (letters_of asking held))) result)
+    IsShut before after result ⊎ ((bytes : List ℕ) × SendsAsked bytes held before after result)
 
 -- The messages that want sending were written, one after another; or a file was shut.
 abbrev pub SendsOn : List DeskEntry → Option (List ℕ) → Option (List ℕ) → Result (Unit {0}) ToolFault → Type 0
@@ -168,14 +176,19 @@ abbrev pub Departs : Result Bool ToolFault → Result (Unit {0}) ToolFault → R
 Departs ending (Ok done) result = (result ≡ ending) ⊎ IsErrAnd result IsFileFault
 Departs ending (Err fault) result = result ≡ Err fault
 
--- A night after the deeds of its day: the desk is copied, and then its messages leave. If the copy fails,
--- nothing leaves.
-abbrev pub SendsAll : Result Bool ToolFault → List DeskEntry → Option (List ℕ) → Option (List ℕ) →
-    Result (Unit {0}) ToolFault → Result Bool ToolFault → Type 0
-SendsAll ending held before after (Err fault) result = (result ≡ Err fault) × (after ≡ before)
-SendsAll ending held before after (Ok done) result =
+-- Returns the messages of a night's mails that ask: each is of a loan that is over at the desk `live`.
+abbrev pub night_asks : DeskContents → Night → List ℕ
+night_asks live night = asked_by live (zip night.mails night.verdicts)
+
+-- A night after the deeds of its day: the desk `live` is copied, and then its messages leave. A loan that the
+-- deeds have ended is asked too by a message of this night. If the copy fails, nothing leaves.
+abbrev pub SendsAll : Night → DeskContents → Option (List ℕ) → Option (List ℕ) → Result (Unit {0}) ToolFault →
+    Result Bool ToolFault → Type 0
+SendsAll night live before after (Err fault) result = (result ≡ Err fault) × (after ≡ before)
+SendsAll night live before after (Ok done) result =
     (IsErrAnd result IsFileFault × (after ≡ before))
-    ⊎ ((sent : Result (Unit {0}) ToolFault) × SendsTo held before after sent × Departs ending sent result)
+    ⊎ ((sent : Result (Unit {0}) ToolFault) × SendsAsked (night_asks live night) live.held before after sent
+    × Departs (night_ending live.role night) sent result)
 
 -- A night after its mails were taken: the deeds of the day, and then the sending. If the mails could not be
 -- taken, nothing else is done.
@@ -184,7 +197,7 @@ abbrev pub GoesOn : Option (Date × Dates) → Result Night ToolFault → Option
 GoesOn dates (Err fault) before after old result new = (result ≡ Err fault) × (after ≡ before) × (new ≡ old)
 GoesOn dates (Ok night) before after old result new =
     (between : Option (List ℕ)) × (said : Result (Unit {0}) ToolFault) × SaysDates dates before between old said new
-    × SendsAll (night_ending new.live.role night) new.live.held between after said result
+    × SendsAll night new.live between after said result
 
 -- A night of a desk: its mails were taken, the deeds of the day were performed, and its messages left.
 abbrev pub ExchangesAt : Option (Date × Dates) → HeldAndLanded DeskContents → Option (List ℕ) → Option (List ℕ) →

@@ -16,11 +16,12 @@ use Rattle.ill_saved.specs.declared.side.Side.{Side}
 use Rattle.ill_saved.specs.declared.side.Action.TheVariants as actions
 use Rattle.ill_saved.specs.declared.fault.DeskFault.{DeskFault}
 use Rattle.ill_saved.specs.Side.{due_date_of, role_of, state_of, txn_of}
-use Rattle.ill_saved.specs.Many.{DeskContents, sides_held}
+use Rattle.ill_saved.specs.ManySides.{DeskContents, sides_held}
 use Rattle.ill_tool.specs.declared.fault.ToolFault.{ToolFault}
 use Rattle.ill_tool.specs.declared.dates.Dates.{Dates}
 use Rattle.ill_tool.specs.declared.dates.Due.{Due}
-use Rattle.ill_tool.specs.Keeping.{Keeping, many_sides}
+use Rattle.ill_saved.specs.ManySides.{many_sides}
+use Rattle.ill_saved.specs.Holdings.{Effects}
 use Rattle.ill_tool.specs.LongLines.{word}
 use Rattle.ill_tool.specs.Performing.{HeldAndLanded, has_any, Run, EndsRun}
 use Rattle.ill_tool.specs.Telling.{as_told, done_line}
@@ -83,42 +84,42 @@ after_act due (Ok live) old = doing live (old.done ++ due ∷ [])
 after_act due (Err fault) old = old
 
 -- The state after the deed `due` on the day `today`.
-abbrev pub after_deed : {L : Type 0} → Keeping L Qualifiers → Date → Doing L → Due → Doing L
-after_deed keeping today old due =
-    after_act due (keeping.acts old.live due.txn (actions.Deed due.deed today)) old
+abbrev pub after_deed : {L : Type 0} → Effects L Qualifiers → Date → Doing L → Due → Doing L
+after_deed effects today old due =
+    after_act due (effects.acts old.live due.txn (actions.Deed due.deed today)) old
 
 -- The state after all deeds `dues`, in their order.
-abbrev pub after_deeds : {L : Type 0} → Keeping L Qualifiers → Date → L → List Due → Doing L
-after_deeds keeping today live dues = fold (after_deed keeping today) (doing live []) dues
+abbrev pub after_deeds : {L : Type 0} → Effects L Qualifiers → Date → L → List Due → Doing L
+after_deeds effects today live dues = fold (after_deed effects today) (doing live []) dues
 
 -- ---- the lines
 
 -- Returns the line of a deed that was done, with how its loan stands once all is saved.
-abbrev pub deed_line : {L : Type 0} → Keeping L Qualifiers → L → Due → List ℕ
-deed_line keeping live due =
+abbrev pub deed_line : {L : Type 0} → Effects L Qualifiers → L → Due → List ℕ
+deed_line effects live due =
     word due.txn.group ++ (word due.txn.transaction ++ (word (verb_name (deed_verb due.deed))
-    ++ done_line (as_told true (keeping.side_for due.txn live))))
+    ++ done_line (as_told true (effects.side_for due.txn live))))
 
 -- Returns the lines of all deeds that were done.
-abbrev pub deed_lines : {L : Type 0} → Keeping L Qualifiers → L → List Due → List ℕ
-deed_lines keeping live done = flat_map (deed_line keeping live) done
+abbrev pub deed_lines : {L : Type 0} → Effects L Qualifiers → L → List Due → List ℕ
+deed_lines effects live done = flat_map (deed_line effects live) done
 
 -- ---- the run
 
 -- Returns the run that the deeds make.
-abbrev pub deeds_run : {L : Type 0} → Keeping L Qualifiers → Doing L → Run L (Unit {0})
-deeds_run keeping end = record {
+abbrev pub deeds_run : {L : Type 0} → Effects L Qualifiers → Doing L → Run L (Unit {0})
+deeds_run effects end = record {
   live = end.live;
   has_changed = has_any end.done;
-  told = deed_lines keeping end.live end.done;
+  told = deed_lines effects end.live end.done;
   answer = tt;
 }
 
 -- A run of the deeds `dues` on the day `today`, from output `before` to `after`, and from `old` to `new`.
-abbrev pub RunsDeeds : {L : Type 0} → Keeping L Qualifiers → Date → List Due → Option (List ℕ) → Option (List ℕ) →
+abbrev pub RunsDeeds : {L : Type 0} → Effects L Qualifiers → Date → List Due → Option (List ℕ) → Option (List ℕ) →
     HeldAndLanded L → Result (Unit {0}) ToolFault → HeldAndLanded L → Type 0
-RunsDeeds keeping today dues before after old result new =
-    EndsRun keeping (deeds_run keeping (after_deeds keeping today old.live dues)) before after old result new
+RunsDeeds effects today dues before after old result new =
+    EndsRun effects (deeds_run effects (after_deeds effects today old.live dues)) before after old result new
 
 -- A run at a desk of all deeds that the day asks for.
 abbrev pub RunsDates : Dates → Date → Option (List ℕ) → Option (List ℕ) → HeldAndLanded DeskContents →

@@ -9,7 +9,7 @@ use Rattle.ill_der.specs.Faults.{place_of}
 use Rattle.ill_core.specs.declared.taking.Taking.TheVariants as takings
 use Rattle.ill_saved.specs.declared.role.Role.{Role}
 use Rattle.ill_saved.specs.declared.role.Role.TheVariants.{Requester}
-use Rattle.ill_saved.specs.Many.{DeskContents}
+use Rattle.ill_saved.specs.ManySides.{DeskContents}
 use Rattle.ill_world.specs.declared.event.Outcome.TheVariants as outcomes
 use Rattle.ill_world.specs.declared.event.DeskOutcome.{DeskOutcome}
 use Rattle.ill_world.specs.declared.event.DeskOutcome.TheVariants as seen
@@ -28,7 +28,8 @@ use Rattle.ill_tool.specs.declared.tally.Heap.TheVariants as heaps
 use Rattle.ill_tool.specs.declared.tally.Tally.{Tally}
 use Rattle.ill_tool.specs.declared.inbox.Sorted.{Sorted}
 use Rattle.ill_tool.specs.Escape.{escaped}
-use Rattle.ill_tool.specs.Keeping.{Keeping, many_sides}
+use Rattle.ill_saved.specs.ManySides.{many_sides}
+use Rattle.ill_saved.specs.Holdings.{Effects}
 use Rattle.ill_tool.specs.Performing.{HeldAndLanded, handed, is_change, has_any, Run, EndsRun}
 use Rattle.ill_tool.specs.Take.{KeepsBefore}
 use Rattle.ill_tool.specs.Telling.{as_told, long}
@@ -132,39 +133,39 @@ kept_bytes outcome bytes = if is_change outcome then bytes else []
 
 -- Returns the state after a message with this outcome. It is told as by `take --long`, with its side as it
 -- stands once all is saved. It is kept if it was taken.
-abbrev pub told_of : {L K : Type 0} → Keeping L K → List ℕ → Apdu → DeskOutcome → L → Sorting L → Sorting L
-told_of keeping bytes a outcome live old = record {
+abbrev pub told_of : {L K : Type 0} → Effects L K → List ℕ → Apdu → DeskOutcome → L → Sorting L → Sorting L
+told_of effects bytes a outcome live old = record {
   live = live;
   verdicts = old.verdicts;
-  told = old.told ++ long a outcome (as_told true (keeping.side_for (keeping.key_of a) live));
+  told = old.told ++ long a outcome (as_told true (effects.side_for (effects.key_of a) live));
   kept = old.kept ++ kept_bytes outcome bytes;
 }
 
 -- Returns the state after a message was handed to its side. No side returns a fault that is no refusal.
-abbrev pub after_hand : {L K : Type 0} → Keeping L K → List ℕ → List ℕ → Apdu → Result DeskOutcome ToolFault × L →
+abbrev pub after_hand : {L K : Type 0} → Effects L K → List ℕ → List ℕ → Apdu → Result DeskOutcome ToolFault × L →
     Sorting L → Sorting L
-after_hand keeping name bytes a (Ok outcome, live) old =
-    settled name (verdict_of (keeping.role live) outcome) (told_of keeping bytes a outcome live old)
-after_hand keeping name bytes a (Err fault, live) old = old
+after_hand effects name bytes a (Ok outcome, live) old =
+    settled name (verdict_of (effects.role live) outcome) (told_of effects bytes a outcome live old)
+after_hand effects name bytes a (Err fault, live) old = old
 
 -- Returns the state after a mail with this message, or without one.
-abbrev pub after_message : {L K : Type 0} → Keeping L K → List ℕ → List ℕ → Result Apdu Unfit → Sorting L → Sorting L
-after_message keeping name bytes (Ok a) old = after_hand keeping name bytes a (handed keeping old.live a) old
-after_message keeping name bytes (Err unfit) old = settled name (Aside unfit) old
+abbrev pub after_message : {L K : Type 0} → Effects L K → List ℕ → List ℕ → Result Apdu Unfit → Sorting L → Sorting L
+after_message effects name bytes (Ok a) old = after_hand effects name bytes a (handed effects old.live a) old
+after_message effects name bytes (Err unfit) old = settled name (Aside unfit) old
 
 -- Returns the state after a mail with these bytes, if they could be read.
-abbrev pub after_bytes : {L K : Type 0} → Keeping L K → List ℕ → Option (List ℕ) → Sorting L → Sorting L
-after_bytes keeping name None old = settled name (Left delays.NotRead) old
-after_bytes keeping name (Some bytes) old = after_message keeping name bytes (message_in bytes) old
+abbrev pub after_bytes : {L K : Type 0} → Effects L K → List ℕ → Option (List ℕ) → Sorting L → Sorting L
+after_bytes effects name None old = settled name (Left delays.NotRead) old
+after_bytes effects name (Some bytes) old = after_message effects name bytes (message_in bytes) old
 
 -- Returns the state after one mail.
-abbrev pub after_mail : {L K : Type 0} → Keeping L K → Sorting L → Mail → Sorting L
-after_mail keeping old mail =
-    after_bytes keeping mail.name.items (option_map (λ bytes. bytes.items) mail.bytes) old
+abbrev pub after_mail : {L K : Type 0} → Effects L K → Sorting L → Mail → Sorting L
+after_mail effects old mail =
+    after_bytes effects mail.name.items (option_map (λ bytes. bytes.items) mail.bytes) old
 
 -- Returns the state after all mails, in their order.
-abbrev pub after_mails : {L K : Type 0} → Keeping L K → L → List Mail → Sorting L
-after_mails keeping live mails = fold (after_mail keeping) (unsorted live) mails
+abbrev pub after_mails : {L K : Type 0} → Effects L K → L → List Mail → Sorting L
+after_mails effects live mails = fold (after_mail effects) (unsorted live) mails
 
 -- ---- counts
 
@@ -225,9 +226,9 @@ tally_line tally waiting = done_text tally ++ staying_text tally waiting
 -- ---- the command
 
 -- A message was handed to its side; or memory ran out for it, and nothing changed.
-abbrev pub HandsOver : {L K : Type 0} → Keeping L K → L → Apdu → Result DeskOutcome ToolFault → L → Type 0
-HandsOver keeping old a (Ok outcome) new = handed keeping old a ≡ (Ok outcome, new)
-HandsOver keeping old a (Err fault) new = new ≡ old
+abbrev pub HandsOver : {L K : Type 0} → Effects L K → L → Apdu → Result DeskOutcome ToolFault → L → Type 0
+HandsOver effects old a (Ok outcome) new = handed effects old a ≡ (Ok outcome, new)
+HandsOver effects old a (Err fault) new = new ≡ old
 
 -- Returns all lines of a run.
 abbrev pub inbox_text : {L : Type 0} → Sorting L → ℕ → List ℕ
@@ -258,11 +259,11 @@ answered_with value (Err fault) = Err fault
 
 -- A run over `mails`, with `waiting` further ones. It leads from the kept bytes, the output and the sides
 -- before to those after. The messages that were taken are kept before they are saved.
-abbrev pub RunsInbox : {L K : Type 0} → Keeping L K → List Mail → ℕ → Option (List ℕ) → Option (List ℕ) →
+abbrev pub RunsInbox : {L K : Type 0} → Effects L K → List Mail → ℕ → Option (List ℕ) → Option (List ℕ) →
     Option (List ℕ) → Option (List ℕ) → HeldAndLanded L → Result (List Verdict) ToolFault → HeldAndLanded L → Type 0
-RunsInbox keeping mails waiting kept_before kept_after before after old result new =
-    KeepsBefore (after_mails keeping old.live mails).kept result kept_before kept_after old new
-    × EndsRun keeping (inbox_run (after_mails keeping old.live mails) waiting) before after old result new
+RunsInbox effects mails waiting kept_before kept_after before after old result new =
+    KeepsBefore (after_mails effects old.live mails).kept result kept_before kept_after old new
+    × EndsRun effects (inbox_run (after_mails effects old.live mails) waiting) before after old result new
 
 -- A run over `mails` with `verdicts` has ended well at a desk that is `new` now: all its changes are saved.
 unfoldable pub EndedWell : List Mail → List Verdict → HeldAndLanded DeskContents → Type 0

@@ -9,7 +9,7 @@ use Rattle.ill_der.specs.ShortForm.{spelling}
 use Rattle.ill_der.specs.Feed as feeds
 use Rattle.ill_core.specs.Issued.{is_same_txn}
 use Rattle.ill_saved.specs.Side.{txn_of}
-use Rattle.ill_saved.specs.Many.{DeskEntry}
+use Rattle.ill_saved.specs.Holdings.{DeskEntry}
 use Rattle.ill_saved.specs.declared.fault.DeskFault.TheVariants.{NoSuchTransaction}
 use Rattle.ill_tool.specs.declared.fault.ToolFault.{ToolFault}
 use Rattle.ill_tool.specs.declared.fault.ToolFault.TheVariants.{Desk, OutOfMemory}

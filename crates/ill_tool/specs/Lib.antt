@@ -7,9 +7,7 @@ pub mod Show
 pub mod Check
 pub mod Simulate
 pub mod Actions
-pub mod Keeping
 pub mod Performing
-pub mod Keeper
 pub mod LongLines
 pub mod Telling
 pub mod Act
@@ -17,6 +15,7 @@ pub mod Take
 pub mod Inbox
 pub mod Dates
 pub mod Copy
+pub mod CopyOver
 pub mod Send
 pub mod Status
 pub mod Loan

@@ -4,8 +4,8 @@ use Rattle.std.specs.Io.KnownBytes.{Appends}
 use Rattle.ill_saved.specs.declared.fault.DeskFault.TheVariants.{Exists, Store}
 use Rattle.ill_saved.specs.declared.store.StoreFault.TheVariants.{Failed}
 use Rattle.ill_saved.specs.declared.store.NextCall.{NextCall}
-use Rattle.ill_saved.specs.Many.{DeskEntry}
-use Rattle.ill_tool.specs.Keeping.{Keeping}
+use Rattle.ill_saved.specs.Holdings.{DeskEntry}
+use Rattle.ill_saved.specs.Holdings.{Effects}
 use Rattle.ill_tool.specs.Performing.{CountsToolFailure}
 use Rattle.ill_tool.specs.Telling.{done_line}
 use Rattle.ill_saved.specs.Store.{Allows, LandsAtFailure, StoreState, spent}
@@ -18,8 +18,8 @@ line_of_first (Some held) = done_line held
 line_of_first None = codes "done\n"
 
 -- Returns the line of the beginning of `live`.
-abbrev pub first_line : {L K : Type 0} → Keeping L K → L → List ℕ
-first_line keeping live = line_of_first (option_map (λ key. keeping.side_for key live) keeping.first_key)
+abbrev pub first_line : {L K : Type 0} → Effects L K → L → List ℕ
+first_line effects live = line_of_first (option_map (λ key. effects.side_for key live) effects.first_key)
 
 -- The output of a beginning with this line. It has the line, once the record is saved, or a prefix if the
 -- writer failed. It has nothing if a record is there, the store failed or memory ran out.

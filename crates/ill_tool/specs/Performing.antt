@@ -1,4 +1,4 @@
--- The outcome of an action or a message, or of many, for any keeper of sides: the visible outcome, and the
+-- The outcome of an action or a message, or of many, for any desk of sides: the visible outcome, and the
 -- saved record (this profile's own).
 use Rattle.std.specs.Prelude.{◌≡◌, ◌⊎◌, ℕ, nat_lt, ◌≤◌, Bool, true, false, if◌then◌else◌, List, length, take, Option, None, Some, option_map, Result, Ok, Err}
 use Rattle.std.specs.Io.KnownBytes.{Appends}
@@ -10,13 +10,12 @@ use Rattle.ill_saved.specs.declared.fault.DeskFault.TheVariants as desks
 use Rattle.ill_saved.specs.declared.store.StoreFault.TheVariants.{Failed}
 use Rattle.ill_saved.specs.Store.{HasRisen, StoreState}
 use Rattle.ill_saved.specs.Desk.{DeskOf}
-use Rattle.ill_saved.specs.Many.{DeskEntry, DeskContents, ManyOf}
 use Rattle.ill_world.specs.declared.event.Outcome.TheVariants as outcomes
 use Rattle.ill_world.specs.declared.event.DeskOutcome.{DeskOutcome}
 use Rattle.ill_world.specs.declared.event.DeskOutcome.TheVariants.{Plain, NoSuchTransaction, DeskFull}
 use Rattle.ill_tool.specs.declared.fault.ToolFault.{ToolFault}
 use Rattle.ill_tool.specs.declared.fault.ToolFault.TheVariants.{Desk, Write, OutOfMemory}
-use Rattle.ill_tool.specs.Keeping.{Keeping}
+use Rattle.ill_saved.specs.Holdings.{Effects}
 
 -- ---- the known state
 
@@ -33,33 +32,24 @@ known_if false landed = None
 abbrev pub known : StoreState → Option (Option (List ℕ))
 known store = known_if store.is_honest store.landed
 
-abbrev pub view_of : {L S : Type 0} → (S → StoreState) → L → S → HeldAndLanded L
-view_of state live store = record { live = live; landed = known (state store) }
-
--- Returns the side of a desk of one.
-abbrev pub the_one : {S : Type 0} → DeskOf S → DeskEntry
-the_one desk = record { side = desk.live; released = desk.released }
-
-abbrev pub one_view : {S : Type 0} → (S → StoreState) → DeskOf S → HeldAndLanded DeskEntry
-one_view state desk = view_of state (the_one desk) desk.store
-
-abbrev pub many_view : {S : Type 0} → (S → StoreState) → ManyOf S → HeldAndLanded DeskContents
-many_view state desk = view_of state desk.live desk.store
+-- Returns the sides that a desk holds, and the content of its store, if it is known.
+abbrev pub view_of : {L S : Type 0} → (S → StoreState) → DeskOf L S → HeldAndLanded L
+view_of state desk = record { live = desk.live; landed = known (state desk.store) }
 
 -- Returns the state in which `live` is held, and not saved yet.
 abbrev pub becomes : {L : Type 0} → HeldAndLanded L → L → HeldAndLanded L
 becomes old live = record old { live = live }
 
 -- Returns the state in which all is saved.
-abbrev pub saved : {L K : Type 0} → Keeping L K → HeldAndLanded L → HeldAndLanded L
-saved keeping old = record {
-  live = keeping.saves old.live;
-  landed = option_map (λ _. Some (keeping.spelling old.live)) old.landed;
+abbrev pub saved : {L K : Type 0} → Effects L K → HeldAndLanded L → HeldAndLanded L
+saved effects old = record {
+  live = effects.saves old.live;
+  landed = option_map (λ _. Some (effects.spelling old.live)) old.landed;
 }
 
 -- A save has failed: the sides that are held stay, and the old record has landed or the new one.
-abbrev pub IsFaulted : {L K : Type 0} → Keeping L K → HeldAndLanded L → HeldAndLanded L → Type 0
-IsFaulted keeping old new = (new ≡ old) ⊎ (new ≡ record old { landed = (saved keeping old).landed })
+abbrev pub IsFaulted : {L K : Type 0} → Effects L K → HeldAndLanded L → HeldAndLanded L → Type 0
+IsFaulted effects old new = (new ≡ old) ⊎ (new ≡ record old { landed = (saved effects old).landed })
 
 -- ---- the visible outcome
 
@@ -86,8 +76,8 @@ answered (Ok taking) = Ok (Plain (outcomes.Answered taking))
 answered (Err fault) = refused fault
 
 -- Returns the outcome of a message that was handed to its side, and the sides after it.
-abbrev pub handed : {L K : Type 0} → Keeping L K → L → Apdu → Result DeskOutcome ToolFault × L
-handed keeping live a = (answered (keeping.takes live a).0, (keeping.takes live a).1)
+abbrev pub handed : {L K : Type 0} → Effects L K → L → Apdu → Result DeskOutcome ToolFault × L
+handed effects live a = (answered (effects.takes live a).0, (effects.takes live a).1)
 
 -- ---- the change
 
@@ -104,16 +94,16 @@ IsChange (Err fault) = ⊥
 
 -- The result of an event with this outcome and these sides. It happened, and was saved if it was a change. Or
 -- it was one, and the save failed. Or memory ran out for it, if it needs memory, or for the save.
-abbrev pub Performs : {L K : Type 0} → Keeping L K → Type 0 → HeldAndLanded L → Result DeskOutcome ToolFault × L →
+abbrev pub Performs : {L K : Type 0} → Effects L K → Type 0 → HeldAndLanded L → Result DeskOutcome ToolFault × L →
     Result DeskOutcome ToolFault → HeldAndLanded L → Type 0
-Performs keeping WantsMemory old event (Ok outcome) new =
+Performs effects WantsMemory old event (Ok outcome) new =
     (event.0 ≡ Ok outcome)
-    × (new ≡ (if is_change outcome then saved keeping (becomes old event.1) else becomes old event.1))
-Performs keeping WantsMemory old event (Err (Desk (desks.Store Failed))) new =
-    IsChange event.0 × IsFaulted keeping (becomes old event.1) new
-Performs keeping WantsMemory old event (Err OutOfMemory) new =
+    × (new ≡ (if is_change outcome then saved effects (becomes old event.1) else becomes old event.1))
+Performs effects WantsMemory old event (Err (Desk (desks.Store Failed))) new =
+    IsChange event.0 × IsFaulted effects (becomes old event.1) new
+Performs effects WantsMemory old event (Err OutOfMemory) new =
     (WantsMemory × (new ≡ old)) ⊎ (IsChange event.0 × (new ≡ becomes old event.1))
-Performs keeping WantsMemory old event (Err other) new = ⊥
+Performs effects WantsMemory old event (Err other) new = ⊥
 
 -- ---- many changes, and one save
 
@@ -122,13 +112,13 @@ abbrev pub has_any : {X : Type 0} → List X → Bool
 has_any items = nat_lt 0 (length items)
 
 -- The changes are saved at once, if there are any; or that failed, or memory ran out for it.
-abbrev pub SavesOnce : {L K X : Type 0} → Keeping L K → List X → HeldAndLanded L → Result (Unit {0}) ToolFault
+abbrev pub SavesOnce : {L K X : Type 0} → Effects L K → List X → HeldAndLanded L → Result (Unit {0}) ToolFault
     → HeldAndLanded L → Type 0
-SavesOnce keeping changes old (Ok done) new = new ≡ (if has_any changes then saved keeping old else old)
-SavesOnce keeping changes old (Err (Desk (desks.Store Failed))) new =
-    (has_any changes ≡ true) × IsFaulted keeping old new
-SavesOnce keeping changes old (Err OutOfMemory) new = new ≡ old
-SavesOnce keeping changes old (Err other) new = ⊥
+SavesOnce effects changes old (Ok done) new = new ≡ (if has_any changes then saved effects old else old)
+SavesOnce effects changes old (Err (Desk (desks.Store Failed))) new =
+    (has_any changes ≡ true) × IsFaulted effects old new
+SavesOnce effects changes old (Err OutOfMemory) new = new ≡ old
+SavesOnce effects changes old (Err other) new = ⊥
 
 -- A run of changes: the sides after them, a flag that there are any, the lines of them, and the answer.
 pub record Run (L A : Type 0) : Type 0 where
@@ -138,23 +128,23 @@ pub record Run (L A : Type 0) : Type 0 where
   pub answer : A
 
 -- Returns the state after a run: all is saved, if anything has changed.
-abbrev pub after_run : {L K A : Type 0} → Keeping L K → HeldAndLanded L → Run L A → HeldAndLanded L
-after_run keeping old run =
-    if run.has_changed then saved keeping (becomes old run.live) else becomes old run.live
+abbrev pub after_run : {L K A : Type 0} → Effects L K → HeldAndLanded L → Run L A → HeldAndLanded L
+after_run effects old run =
+    if run.has_changed then saved effects (becomes old run.live) else becomes old run.live
 
 -- The end of a run. If all is well its lines are written. If the writer fails all is saved too. If the one
 -- save fails, the old record has landed or that of all changes, and nothing is written. If memory runs out,
 -- nothing more has landed.
-abbrev pub EndsRun : {L K A : Type 0} → Keeping L K → Run L A → Option (List ℕ) → Option (List ℕ) → HeldAndLanded L →
+abbrev pub EndsRun : {L K A : Type 0} → Effects L K → Run L A → Option (List ℕ) → Option (List ℕ) → HeldAndLanded L →
     Result A ToolFault → HeldAndLanded L → Type 0
-EndsRun keeping run before after old (Ok answer) new =
-    (answer ≡ run.answer) × Appends before after run.told × (new ≡ after_run keeping old run)
-EndsRun keeping run before after old (Err Write) new =
-    ((size : ℕ) × Appends before after (take size run.told)) × (new ≡ after_run keeping old run)
-EndsRun keeping run before after old (Err (Desk (desks.Store Failed))) new =
-    (after ≡ before) × (run.has_changed ≡ true) × IsFaulted keeping (becomes old run.live) new
-EndsRun keeping run before after old (Err OutOfMemory) new = (after ≡ before) × (new.landed ≡ old.landed)
-EndsRun keeping run before after old (Err other) new = ⊥
+EndsRun effects run before after old (Ok answer) new =
+    (answer ≡ run.answer) × Appends before after run.told × (new ≡ after_run effects old run)
+EndsRun effects run before after old (Err Write) new =
+    ((size : ℕ) × Appends before after (take size run.told)) × (new ≡ after_run effects old run)
+EndsRun effects run before after old (Err (Desk (desks.Store Failed))) new =
+    (after ≡ before) × (run.has_changed ≡ true) × IsFaulted effects (becomes old run.live) new
+EndsRun effects run before after old (Err OutOfMemory) new = (after ≡ before) × (new.landed ≡ old.landed)
+EndsRun effects run before after old (Err other) new = ⊥
 
 -- ---- failures of the store
 

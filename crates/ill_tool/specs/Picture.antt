@@ -9,7 +9,7 @@ use Rattle.ill_core.specs.Bodies.{is_requesters}
 use Rattle.ill_saved.specs.declared.side.Side.{Side}
 use Rattle.ill_saved.specs.declared.side.Side.TheVariants.{Requester, Responder}
 use Rattle.ill_saved.specs.Side.{issued_of}
-use Rattle.ill_saved.specs.Many.{DeskEntry}
+use Rattle.ill_saved.specs.Holdings.{DeskEntry}
 use Rattle.ill_tool.specs.declared.picture.Link.{Link}
 use Rattle.ill_tool.specs.declared.picture.Link.TheVariants.{Before, Behind}
 use Rattle.ill_tool.specs.Escape.{is_within}

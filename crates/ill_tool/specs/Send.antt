@@ -5,7 +5,7 @@ use Rattle.ill_values.specs.declared.apdu.Apdu.{Apdu}
 use Rattle.ill_der.specs.ShortForm.{spelling}
 use Rattle.ill_core.specs.Issued.{message}
 use Rattle.ill_saved.specs.Side.{issued_of}
-use Rattle.ill_saved.specs.Many.{DeskEntry}
+use Rattle.ill_saved.specs.Holdings.{DeskEntry}
 use Rattle.ill_saved.specs.declared.fault.DeskFault.TheVariants.{NoSuchTransaction, NoSuchMessage, NotSaved}
 use Rattle.ill_tool.specs.declared.fault.ToolFault.{ToolFault}
 use Rattle.ill_tool.specs.declared.fault.ToolFault.TheVariants.{Desk}

@@ -9,7 +9,7 @@ use Rattle.ill_saved.specs.declared.side.Side.TheVariants.{Requester, Responder}
 use Rattle.ill_saved.specs.declared.role.Role.{Role}
 use Rattle.ill_saved.specs.declared.role.Role.TheVariants as roles
 use Rattle.ill_saved.specs.Side.{role_of, issued_of, txn_of, state_of, due_date_of}
-use Rattle.ill_saved.specs.Many.{DeskEntry}
+use Rattle.ill_saved.specs.Holdings.{DeskEntry}
 use Rattle.ill_world.specs.Words.{spaced}
 use Rattle.ill_world.specs.Trace.{due_text}
 use Rattle.ill_tool.specs.Lines.{line, id_lines}

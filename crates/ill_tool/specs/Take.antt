@@ -10,19 +10,19 @@ use Rattle.ill_saved.specs.declared.store.StoreFault.TheVariants.{Failed}
 use Rattle.ill_der.specs.ShortForm.{spelling}
 use Rattle.ill_der.specs.Handling.{Handles}
 use Rattle.ill_tool.specs.Input.{ReadsInput}
-use Rattle.ill_tool.specs.Keeping.{Keeping}
+use Rattle.ill_saved.specs.Holdings.{Effects}
 use Rattle.ill_tool.specs.Performing.{HeldAndLanded, handed, is_change, saved, IsFaulted, Performs, ToolFailsCounted}
-use Rattle.ill_tool.specs.Keeper.{WantsMemory}
+use Rattle.ill_saved.specs.Holdings.{WantsMemory}
 use Rattle.ill_tool.specs.Telling.{is_fine, Wording, Reports}
 
 -- ---- one message
 
 -- The result of a message. It was handed to its side, and saved if it was taken. Or it was taken, and the
 -- save failed. Or memory ran out for it, if it takes memory, or for the save.
-abbrev pub TakesAndSaves : {L K : Type 0} → Keeping L K → HeldAndLanded L → Apdu → Result DeskOutcome ToolFault →
+abbrev pub TakesAndSaves : {L K : Type 0} → Effects L K → HeldAndLanded L → Apdu → Result DeskOutcome ToolFault →
     HeldAndLanded L → Type 0
-TakesAndSaves keeping old a result new =
-    Performs keeping (WantsMemory keeping old.live a) old (handed keeping old.live a) result new
+TakesAndSaves effects old a result new =
+    Performs effects (WantsMemory effects old.live a) old (handed effects old.live a) result new
 
 -- ---- the bytes that are kept
 
@@ -57,11 +57,11 @@ KeepsTaken is_kept a (Err fault) before after old new =
     KeepsBefore {X = Unit {0}} (kept_text is_kept a) (Err fault) before after old new
 
 -- The taken message is saved, or the save failed, or memory ran out for it.
-abbrev pub SavesTaken : {L K : Type 0} → Keeping L K → HeldAndLanded L → Result (Unit {0}) ToolFault → HeldAndLanded L → Type 0
-SavesTaken keeping old (Ok done) new = new ≡ saved keeping old
-SavesTaken keeping old (Err (Desk (desks.Store Failed))) new = IsFaulted keeping old new
-SavesTaken keeping old (Err OutOfMemory) new = new ≡ old
-SavesTaken keeping old (Err other) new = ⊥
+abbrev pub SavesTaken : {L K : Type 0} → Effects L K → HeldAndLanded L → Result (Unit {0}) ToolFault → HeldAndLanded L → Type 0
+SavesTaken effects old (Ok done) new = new ≡ saved effects old
+SavesTaken effects old (Err (Desk (desks.Store Failed))) new = IsFaulted effects old new
+SavesTaken effects old (Err OutOfMemory) new = new ≡ old
+SavesTaken effects old (Err other) new = ⊥
 
 -- The count of the store's failures never falls. If nothing is kept, a failure is returned only if it has
 -- risen, or can rise no more.
@@ -84,19 +84,19 @@ progress view came written fine = record { view = view; came = came; written = w
 
 -- A message is taken: it was handed to its side, kept, saved if it was taken, and told. Or memory ran out to
 -- read it, and nothing changed. Or it was performed as far as the fault let it, and told.
-abbrev pub takes_each : {L K : Type 0} → Bool → Wording → Keeping L K → Handles (Progress L) ToolFault
-takes_each is_kept told keeping old a (Ok done) new =
-    (outcome : DeskOutcome) × TakesAndSaves keeping old.view a (Ok outcome) new.view
+abbrev pub takes_each : {L K : Type 0} → Bool → Wording → Effects L K → Handles (Progress L) ToolFault
+takes_each is_kept told effects old a (Ok done) new =
+    (outcome : DeskOutcome) × TakesAndSaves effects old.view a (Ok outcome) new.view
     × KeepsTaken is_kept a (Ok outcome) old.came new.came old.view new.view
-    × Appends old.written new.written (told a outcome (keeping.side_for (keeping.key_of a) new.view.live))
+    × Appends old.written new.written (told a outcome (effects.side_for (effects.key_of a) new.view.live))
     × (new.fine ≡ old.fine && is_fine outcome)
-takes_each is_kept told keeping old a (Err fault) new =
+takes_each is_kept told effects old a (Err fault) new =
     ((fault ≡ OutOfMemory) × (new ≡ old))
     ⊎ ((performed : Result DeskOutcome ToolFault) × (text : List ℕ)
-    × TakesAndSaves keeping old.view a performed new.view
+    × TakesAndSaves effects old.view a performed new.view
     × KeepsTaken is_kept a performed old.came new.came old.view new.view
     × Appends old.written new.written text
-    × Reports (told a) performed (keeping.side_for (keeping.key_of a) new.view.live) text (Err fault))
+    × Reports (told a) performed (effects.side_for (effects.key_of a) new.view.live) text (Err fault))
 
 -- Returns the answer, at the end of the input or before it.
 abbrev pub answer_of : Result ℕ ToolFault → Bool → Result Bool ToolFault
@@ -105,28 +105,28 @@ answer_of (Err fault) fine = Err fault
 
 -- The command, in the words `told`. It leads from the input `old` to `new`, and changes the kept bytes, the
 -- output and the desk. At the end of the input it returns true if all went well.
-abbrev pub RunsTaking : {L K : Type 0} → Bool → Wording → Keeping L K → Option (List ℕ) → Option (List ℕ) →
+abbrev pub RunsTaking : {L K : Type 0} → Bool → Wording → Effects L K → Option (List ℕ) → Option (List ℕ) →
     Option (List ℕ) → Option (List ℕ) → Option (List ℕ) → Option (List ℕ) → HeldAndLanded L → Result Bool ToolFault →
     HeldAndLanded L → Type 0
-RunsTaking is_kept told keeping old new kept_before kept_after before after from result to =
+RunsTaking is_kept told effects old new kept_before kept_after before after from result to =
     (ended : Result ℕ ToolFault) × (fine : Bool) × (result ≡ answer_of ended fine)
-    × ReadsInput (takes_each is_kept told keeping) old new (progress from kept_before before true) ended
+    × ReadsInput (takes_each is_kept told effects) old new (progress from kept_before before true) ended
     (progress to kept_after after fine)
 
 -- The command if no message is kept.
-abbrev pub RunsTake : {L K : Type 0} → Wording → Keeping L K → Option (List ℕ) → Option (List ℕ) →
+abbrev pub RunsTake : {L K : Type 0} → Wording → Effects L K → Option (List ℕ) → Option (List ℕ) →
     Option (List ℕ) → Option (List ℕ) → HeldAndLanded L → Result Bool ToolFault → HeldAndLanded L → Type 0
-RunsTake told keeping old new before after from result to =
-    RunsTaking false told keeping old new None None before after from result to
+RunsTake told effects old new before after from result to =
+    RunsTaking false told effects old new None None before after from result to
 
 -- The command if each message that was taken is kept.
-abbrev pub RunsKeptTake : {L K : Type 0} → Wording → Keeping L K → Option (List ℕ) → Option (List ℕ) →
+abbrev pub RunsKeptTake : {L K : Type 0} → Wording → Effects L K → Option (List ℕ) → Option (List ℕ) →
     Option (List ℕ) → Option (List ℕ) → Option (List ℕ) → Option (List ℕ) → HeldAndLanded L → Result Bool ToolFault →
     HeldAndLanded L → Type 0
-RunsKeptTake told keeping old new kept_before kept_after before after from result to =
-    RunsTaking true told keeping old new kept_before kept_after before after from result to
+RunsKeptTake told effects old new kept_before kept_after before after from result to =
+    RunsTaking true told effects old new kept_before kept_after before after from result to
 
--- The lent keeper and file are those of before, and the failures of the store are counted.
+-- The lent desk and file are those of before, and the failures of the store are counted.
 abbrev pub KeepsDesk : {X N M : Type 0} → Bool → Result X ToolFault → N → N → M → M → ℕ → ℕ → Type 0
 KeepsDesk is_kept result old new old_came new_came before after =
     ((new ≡ old) × (new_came ≡ old_came)) × CountsTaking is_kept result before after

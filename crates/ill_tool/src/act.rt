@@ -3,15 +3,15 @@
 ghost use Rattle.std.specs.Prelude.{map};
 ghost use Rattle.ill_saved.specs.Side.{role_of};
 ghost use Rattle.ill_tool.specs.Actions.{action_named};
-ghost use Rattle.ill_tool.specs.Keeping.{many_sides, one_side};
-ghost use Rattle.ill_tool.specs.Performing.{many_view, one_view, view_of, CountsToolFailure};
+ghost use Rattle.ill_saved.specs.OneSide.{one_side};
+ghost use Rattle.ill_saved.specs.ManySides.{many_sides};
+ghost use Rattle.ill_tool.specs.Performing.{view_of, CountsToolFailure};
 ghost use Rattle.ill_tool.specs.Act.{ActsAndSaves, RunsAct};
 
 use crate::action::action;
 use crate::fault::{ToolFault, refused};
-use crate::keeper::Keeper;
 use crate::side_line::report;
-use ill_saved::{Action, Desk, Desk1, Store};
+use ill_saved::{Action, AnyDesk, Desk, Desk1, Holdings, Store};
 use ill_values::{Day, TxnId};
 use ill_world::{DeskOutcome, Outcome};
 use std::alloc::Global;
@@ -31,10 +31,10 @@ pub fn run_act<S: Store, W: Write>(
     writer: &mut W,
 ) -> Result<bool, ToolFault>
     ensures runs { RunsAct one_side tt
-        (action_named (role_of desk.old.live) today (map (λ word. word.now) words.now))
-        (one_view S.state desk.old)
+        (action_named (role_of desk.old.live.side) today (map (λ word. word.now) words.now))
+        (view_of S.state desk.old)
         (W.contents writer.old) (W.contents writer.new) result
-        (one_view S.state desk.new) }
+        (view_of S.state desk.new) }
     ensures counted { CountsToolFailure result (S.state desk.old.store).failures (S.state desk.new.store).failures }
 {
     act_on(alloc, desk, &(), today, words, writer)
@@ -53,56 +53,56 @@ pub fn run_desk_act<S: Store, W: Write>(
 ) -> Result<bool, ToolFault>
     ensures runs { RunsAct many_sides txn.now
         (action_named desk.old.live.role today (map (λ word. word.now) words.now))
-        (many_view S.state desk.old)
+        (view_of S.state desk.old)
         (W.contents writer.old) (W.contents writer.new) result
-        (many_view S.state desk.new) }
+        (view_of S.state desk.new) }
     ensures counted { CountsToolFailure result (S.state desk.old.store).failures (S.state desk.new.store).failures }
 {
     act_on(alloc, desk, txn, today, words, writer)
 }
 
-/// Performs the action that `words` name on the side `key` of `keeper`, saves it, and writes its line.
-fn act_on<K: Keeper, W: Write>(
+/// Performs the action that `words` name on the side `key` of `desk`, saves it, and writes its line.
+fn act_on<H: Holdings, S: Store, W: Write>(
     alloc: Global,
-    keeper: &mut K,
-    key: &K::Key,
+    desk: &mut AnyDesk<H, S>,
+    key: &H::Key,
     today: Option<Day>,
     words: &[&str],
     writer: &mut W,
 ) -> Result<bool, ToolFault>
-    ensures runs { RunsAct K.keeping key.now
-        (action_named (K.keeping.role (K.live keeper.old)) today (map (λ word. word.now) words.now))
-        (view_of K.Kept.state (K.live keeper.old) (K.store keeper.old))
+    ensures runs { RunsAct H.effects key.now
+        (action_named (H.effects.role desk.old.live) today (map (λ word. word.now) words.now))
+        (view_of S.state desk.old)
         (W.contents writer.old) (W.contents writer.new) result
-        (view_of K.Kept.state (K.live keeper.new) (K.store keeper.new)) }
-    ensures counted { CountsToolFailure result (K.Kept.state (K.store keeper.old)).failures
-        (K.Kept.state (K.store keeper.new)).failures }
+        (view_of S.state desk.new) }
+    ensures counted { CountsToolFailure result (S.state desk.old.store).failures
+        (S.state desk.new.store).failures }
 {
-    let Some(action) = action(alloc, keeper.role(), today, words)? else {
+    let Some(action) = action(alloc, desk.role(), today, words)? else {
         return Err(ToolFault::Arguments);
     };
-    match act_and_save(alloc, keeper, key, &action) {
-        Ok(outcome) => report(alloc, writer, outcome, keeper, key),
+    match act_and_save(alloc, desk, key, &action) {
+        Ok(outcome) => report(alloc, writer, outcome, desk, key),
         Err(fault) => Err(fault),
     }
 }
 
 /// Performs `action` on the side `key`, and saves it if it was done.
-fn act_and_save<K: Keeper>(
+fn act_and_save<H: Holdings, S: Store>(
     alloc: Global,
-    keeper: &mut K,
-    key: &K::Key,
+    desk: &mut AnyDesk<H, S>,
+    key: &H::Key,
     action: &Action,
 ) -> Result<DeskOutcome, ToolFault>
-    ensures acts { ActsAndSaves K.keeping key.now
-        (view_of K.Kept.state (K.live keeper.old) (K.store keeper.old))
+    ensures acts { ActsAndSaves H.effects key.now
+        (view_of S.state desk.old)
         action.now result
-        (view_of K.Kept.state (K.live keeper.new) (K.store keeper.new)) }
-    ensures counted { CountsToolFailure result (K.Kept.state (K.store keeper.old)).failures
-        (K.Kept.state (K.store keeper.new)).failures }
+        (view_of S.state desk.new) }
+    ensures counted { CountsToolFailure result (S.state desk.old.store).failures
+        (S.state desk.new.store).failures }
 {
-    match keeper.act(alloc, key, action) {
-        Ok(()) => match keeper.save(alloc) {
+    match desk.act_on(alloc, key, action) {
+        Ok(()) => match desk.save(alloc) {
             Ok(()) => Ok(DeskOutcome::Plain(Outcome::Done)),
             Err(fault) => Err(fault.into()),
         },

@@ -431,7 +431,11 @@ impl Argument {
     /// Returns the argument for clap in a command on a shelf.
     fn arg_on_shelf<'a>(self, alloc: Global) -> Arg<'a> {
         match self {
-            Argument::NewFile | Argument::File => Arg::new(alloc, self.id())
+            Argument::NewFile => Arg::new(alloc, self.id())
+                .value_name("DIR")
+                .help("The folder of the shelf, which is made if it is missing")
+                .required(true),
+            Argument::File => Arg::new(alloc, self.id())
                 .value_name("DIR")
                 .help("The folder of the shelf")
                 .required(true),

@@ -1,14 +1,78 @@
 //! Copies all that a desk holds to another store.
 
-ghost use Rattle.std.specs.Prelude.{◌≡◌, Ok, OnOk};
-ghost use Rattle.ill_saved.specs.Many.{sides_held};
+ghost use Rattle.std.specs.Prelude.{◌≡◌, ◌≤◌, Ok, IfErr, IfOk, OnOk};
+ghost use Rattle.ill_saved.specs.ManySides.{sides_held};
 ghost use Rattle.ill_saved.specs.Records2.{records_at, sides_spelling};
 ghost use Rattle.ill_tool.specs.Performing.{CountsToolFailure, known};
+ghost use Rattle.ill_tool.specs.declared.fault.ToolFault.TheVariants.{OutOfMemory};
 ghost use Rattle.ill_tool.specs.Copy.{Copies};
+ghost use Rattle.ill_tool.specs.CopyOver.{CopiesOver, HasLoans, sides_read};
+ghost use Rattle.ill_tool.specs.Outbox.{IsFileFault};
 
+use crate::came::STORE_FAILED;
 use crate::fault::ToolFault;
-use ill_saved::{Desk, DeskFault, Store, encode_record2};
+use ill_saved::{Desk, DeskFault, RecordFault, Store, StoreFault, decode_record2, encode_record2};
 use std::alloc::Global;
+
+/// The end of a copy.
+#[derive(Clone, Copy, Debug, PartialEq, Eq, Hash)]
+pub(crate) enum Copied {
+    /// The store has the record of the desk.
+    Done,
+    /// The store has this number of loans, more than the desk, and keeps them.
+    Kept(usize),
+}
+
+/// Copies `desk` as `run_desk_copy` does, unless `copy` has more loans. Then the desk is not the one that was copied
+/// there, or an older state of it, and `copy` stays. A record that cannot be read has no loans.
+pub(crate) fn run_desk_copy_over<S: Store, C: Store>(
+    alloc: Global,
+    desk: &Desk<S>,
+    copy: &mut C,
+) -> Result<Copied, ToolFault>
+    ensures copies { CopiesOver (sides_held desk.now.live) (known (C.state copy.old)) result
+        (known (C.state copy.new)) }
+    ensures never_fewer { (C.state copy.old).failures ≤ (C.state copy.new).failures }
+{
+    let count = match loans_in_copy(alloc, copy) {
+        Ok(count) => count,
+        Err(fault) => return Err(fault),
+    };
+    if count > desk.sides().len() {
+        return Ok(Copied::Kept(count));
+    }
+    match run_desk_copy(alloc, desk, copy) {
+        Ok(()) => Ok(Copied::Done),
+        Err(fault) => Err(fault),
+    }
+}
+
+/// Returns the number of loans in `copy`.
+fn loans_in_copy<C: Store>(alloc: Global, copy: &mut C) -> Result<usize, ToolFault>
+    ensures loans { IfOk result (λ count. HasLoans count (known (C.state copy.old))) }
+    ensures fault { IfErr result IsFileFault }
+    ensures copy { known (C.state copy.new) ≡ known (C.state copy.old) }
+    ensures never_fewer { (C.state copy.old).failures ≤ (C.state copy.new).failures }
+{
+    match copy.load(alloc) {
+        Ok(Some(bytes)) => loans_of(alloc, &bytes),
+        Ok(None) => Ok(0),
+        Err(StoreFault::OutOfMemory) => Err(ToolFault::OutOfMemory),
+        Err(_) => Err(STORE_FAILED),
+    }
+}
+
+/// Returns the number of loans of the record `bytes`, or 0 if they are none.
+fn loans_of(alloc: Global, bytes: &[u8]) -> Result<usize, ToolFault>
+    ensures loans { IfOk result (λ count. count ≡ sides_read (records_at bytes.now)) }
+    ensures fault { IfErr result (λ fault. fault ≡ OutOfMemory) }
+{
+    match decode_record2(alloc, bytes) {
+        Ok(sides) => Ok(sides.len()),
+        Err(RecordFault::OutOfMemory) => Err(ToolFault::OutOfMemory),
+        Err(_) => Ok(0),
+    }
+}
 
 /// Saves the record of all that `desk` holds to the store `copy`. Nothing changes at the desk.
 ///

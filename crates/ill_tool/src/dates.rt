@@ -3,17 +3,16 @@
 ghost use Rattle.std.specs.Prelude.{◌≡◌, ◌++◌, map, slice_get, IfErr, IfOk, OnOk};
 ghost use Rattle.std.specs.Option.{option_to_list};
 ghost use Rattle.ill_tool.specs.declared.fault.ToolFault.TheVariants.{OutOfMemory};
-ghost use Rattle.ill_tool.specs.Performing.{CountsToolFailure, SavesOnce, many_view, view_of};
+ghost use Rattle.ill_tool.specs.Performing.{CountsToolFailure, SavesOnce, view_of};
 ghost use Rattle.ill_tool.specs.Dates.{RunsDates, RunsDeeds, after_deed, after_deeds, all_due, deed_at, deed_by_date, deed_line, deed_lines, doing, due_at, due_in, is_overdue, may_expire};
 
 use crate::fault::ToolFault;
-use crate::keeper::Keeper;
 use crate::long_lines::push_word;
 use crate::output::write_and_flush;
 use crate::side_line::push_done_line;
 use crate::waiting::is_sooner;
 use ill_core::{Deed, State};
-use ill_saved::{Action, Desk, DeskFault, Role, Side, Sides, Store};
+use ill_saved::{Action, AnyDesk, Desk, DeskFault, Holdings, Role, Side, Sides, Store};
 use ill_values::{Day, OutOfMemory as NoMemory, TxnId};
 use std::alloc::Global;
 use std::io::Write;
@@ -49,7 +48,7 @@ pub fn run_desk_dates<S: Store, W: Write>(
     writer: &mut W,
 ) -> Result<(), ToolFault>
     ensures runs { RunsDates which today (W.contents writer.old) (W.contents writer.new)
-        (many_view S.state desk.old) result (many_view S.state desk.new) }
+        (view_of S.state desk.old) result (view_of S.state desk.new) }
     ensures counted { CountsToolFailure result (S.state desk.old.store).failures (S.state desk.new.store).failures }
 {
     match all_due(alloc, desk.sides(), today, which) {
@@ -136,28 +135,28 @@ fn may_expire(state: State) -> bool
 }
 
 /// Performs `dues` on the day `today`, in their order, saves once, and writes the lines of those that were done.
-fn run_deeds<K: Keeper<Key = TxnId>, W: Write>(
+fn run_deeds<H: Holdings<Key = TxnId>, S: Store, W: Write>(
     alloc: Global,
-    keeper: &mut K,
+    desk: &mut AnyDesk<H, S>,
     today: Day,
     dues: &[Due],
     writer: &mut W,
 ) -> Result<(), ToolFault>
-    ensures runs { RunsDeeds K.keeping today dues.now (W.contents writer.old) (W.contents writer.new)
-        (view_of K.Kept.state (K.live keeper.old) (K.store keeper.old)) result
-        (view_of K.Kept.state (K.live keeper.new) (K.store keeper.new)) }
-    ensures counted { CountsToolFailure result (K.Kept.state (K.store keeper.old)).failures
-        (K.Kept.state (K.store keeper.new)).failures }
+    ensures runs { RunsDeeds H.effects today dues.now (W.contents writer.old) (W.contents writer.new)
+        (view_of S.state desk.old) result
+        (view_of S.state desk.new) }
+    ensures counted { CountsToolFailure result (S.state desk.old.store).failures
+        (S.state desk.new.store).failures }
 {
-    let done = match perform(alloc, keeper, today, dues) {
+    let done = match perform(alloc, desk, today, dues) {
         Ok(done) => done,
         Err(fault) => return Err(fault),
     };
-    let told = match deed_lines(alloc, keeper, &done) {
+    let told = match deed_lines(alloc, desk, &done) {
         Ok(told) => told,
         Err(_) => return Err(ToolFault::OutOfMemory),
     };
-    if let Err(fault) = save_any(alloc, keeper, &done) {
+    if let Err(fault) = save_any(alloc, desk, &done) {
         return Err(fault);
     }
     match write_and_flush(writer, &told) {
@@ -167,20 +166,20 @@ fn run_deeds<K: Keeper<Key = TxnId>, W: Write>(
 }
 
 /// Performs `dues` on the day `today`, in their order, and returns those that were done.
-fn perform<'a, K: Keeper<Key = TxnId>>(
+fn perform<'a, H: Holdings<Key = TxnId>, S: Store>(
     alloc: Global,
-    keeper: &mut K,
+    desk: &mut AnyDesk<H, S>,
     today: Day,
     dues: &'a [Due],
 ) -> Result<Vec<&'a Due>, ToolFault>
-    ensures performed { IfOk result (λ done. doing (K.live keeper.new) (map (λ due. due.now) done.items)
-        ≡ after_deeds K.keeping today (K.live keeper.old) dues.now) }
+    ensures performed { IfOk result (λ done. doing desk.new.live (map (λ due. due.now) done.items)
+        ≡ after_deeds H.effects today desk.old.live dues.now) }
     ensures fault { IfErr result (λ fault. fault ≡ OutOfMemory) }
-    ensures store { K.store keeper.new ≡ K.store keeper.old }
+    ensures store { desk.new.store ≡ desk.old.store }
 {
     let mut done = Vec::new(alloc);
     for due in dues {
-        if let Err(fault) = perform_one(alloc, keeper, today, due, &mut done) {
+        if let Err(fault) = perform_one(alloc, desk, today, due, &mut done) {
             return Err(fault);
         }
     }
@@ -188,19 +187,19 @@ fn perform<'a, K: Keeper<Key = TxnId>>(
 }
 
 /// Performs `due` on the day `today`, and appends it to `done` if it is not refused.
-fn perform_one<'a, K: Keeper<Key = TxnId>>(
+fn perform_one<'a, H: Holdings<Key = TxnId>, S: Store>(
     alloc: Global,
-    keeper: &mut K,
+    desk: &mut AnyDesk<H, S>,
     today: Day,
     due: &'a Due,
     done: &mut Vec<&'a Due>,
 ) -> Result<(), ToolFault>
-    ensures performed { OnOk result (doing (K.live keeper.new) (map (λ due. due.now) done.new.items)
-        ≡ after_deed K.keeping today (doing (K.live keeper.old) (map (λ due. due.now) done.old.items)) due.now) }
+    ensures performed { OnOk result (doing desk.new.live (map (λ due. due.now) done.new.items)
+        ≡ after_deed H.effects today (doing desk.old.live (map (λ due. due.now) done.old.items)) due.now) }
     ensures fault { IfErr result (λ fault. fault ≡ OutOfMemory) }
-    ensures store { K.store keeper.new ≡ K.store keeper.old }
+    ensures store { desk.new.store ≡ desk.old.store }
 {
-    match keeper.act(alloc, &due.txn, &Action::Deed(due.deed, today)) {
+    match desk.act_on(alloc, &due.txn, &Action::Deed(due.deed, today)) {
         Ok(()) => Ok(done.push(due)?),
         Err(DeskFault::OutOfMemory) => Err(ToolFault::OutOfMemory),
         Err(_) => Ok(()),
@@ -208,49 +207,53 @@ fn perform_one<'a, K: Keeper<Key = TxnId>>(
 }
 
 /// Saves all sides at once, if `done` has a deed.
-fn save_any<K: Keeper>(alloc: Global, keeper: &mut K, done: &[&Due]) -> Result<(), ToolFault>
-    ensures saves { SavesOnce K.keeping (map (λ due. due.now) done.now)
-        (view_of K.Kept.state (K.live keeper.old) (K.store keeper.old)) result
-        (view_of K.Kept.state (K.live keeper.new) (K.store keeper.new)) }
-    ensures counted { CountsToolFailure result (K.Kept.state (K.store keeper.old)).failures
-        (K.Kept.state (K.store keeper.new)).failures }
+fn save_any<H: Holdings, S: Store>(
+    alloc: Global,
+    desk: &mut AnyDesk<H, S>,
+    done: &[&Due],
+) -> Result<(), ToolFault>
+    ensures saves { SavesOnce H.effects (map (λ due. due.now) done.now)
+        (view_of S.state desk.old) result
+        (view_of S.state desk.new) }
+    ensures counted { CountsToolFailure result (S.state desk.old.store).failures
+        (S.state desk.new.store).failures }
 {
     if done.is_empty() {
         return Ok(());
     }
-    match keeper.save(alloc) {
+    match desk.save(alloc) {
         Ok(()) => Ok(()),
         Err(fault) => Err(fault.into()),
     }
 }
 
 /// Returns the lines of the deeds of `done`, with how each loan stands once all is saved.
-fn deed_lines<K: Keeper<Key = TxnId>>(
+fn deed_lines<H: Holdings<Key = TxnId>, S: Store>(
     alloc: Global,
-    keeper: &K,
+    desk: &AnyDesk<H, S>,
     done: &[&Due],
 ) -> Result<Vec<u8>, NoMemory>
     ensures { IfOk result (λ lines. lines.items
-        ≡ deed_lines K.keeping (K.live keeper.now) (map (λ due. due.now) done.now)) }
+        ≡ deed_lines H.effects desk.now.live (map (λ due. due.now) done.now)) }
 {
     let mut lines = Vec::new(alloc);
     for due in done {
-        push_deed_line(&mut lines, keeper, due)?;
+        push_deed_line(&mut lines, desk, due)?;
     }
     Ok(lines)
 }
 
 /// Appends to `lines` the line of the deed `due`.
-fn push_deed_line<K: Keeper<Key = TxnId>>(
+fn push_deed_line<H: Holdings<Key = TxnId>, S: Store>(
     lines: &mut Vec<u8>,
-    keeper: &K,
+    desk: &AnyDesk<H, S>,
     due: &Due,
 ) -> Result<(), NoMemory>
     ensures { OnOk result (lines.new.items ≡ lines.old.items
-        ++ deed_line K.keeping (K.live keeper.now) due.now) }
+        ++ deed_line H.effects desk.now.live due.now) }
 {
     push_word(lines, due.txn.group())?;
     push_word(lines, due.txn.transaction())?;
     push_word(lines, due.deed.verb().name().as_bytes())?;
-    push_done_line(lines, keeper, &due.txn)
+    push_done_line(lines, desk, &due.txn)
 }

@@ -2,14 +2,14 @@
 //! the lock of the desk's file from before the load to its end.
 
 ghost use Rattle.std.specs.Prelude.{◌≡◌, Ok, is_some, IfErr};
-ghost use Rattle.ill_tool.specs.Commands.{Departs, ExchangesAt, ExchangesAtFile, GoesOn, InboxAtFile, IsOpenFault, OutboxAtFile, SaysDates, SendsAll, SendsFrom, SendsOn, SendsTo, SettlesRun, TakesMails, ending_of, night_ending, taken_of};
+ghost use Rattle.ill_tool.specs.Commands.{Departs, ExchangesAt, ExchangesAtFile, GoesOn, InboxAtFile, IsOpenFault, OutboxAtFile, SaysDates, SendsAll, SendsAsked, SendsFrom, SendsOn, SendsTo, SettlesRun, TakesMails, ending_of, night_ending, taken_of};
 ghost use Rattle.ill_tool.specs.Inbox.{EndedWell, answered_with};
-ghost use Rattle.ill_tool.specs.Performing.{many_view};
+ghost use Rattle.ill_tool.specs.Performing.{view_of};
 ghost use Rattle.ill_tool.specs.Outbox.{IsFileFault};
 
 use crate::asked::asked_by;
 use crate::came::{STORE_FAILED, open_came};
-use crate::copy::run_desk_copy;
+use crate::copy::{Copied, run_desk_copy_over};
 use crate::dates::{Dates, run_desk_dates};
 use crate::fault::ToolFault;
 use crate::file::{all_well, open_locked, release};
@@ -78,8 +78,8 @@ fn take_mails<T: Files, S: Store, W: Write, E: Write>(
     writer: &mut W,
     errors: &mut E,
 ) -> Result<Taken, ToolFault>
-    ensures { TakesMails (many_view S.state desk.old) (W.contents writer.old) (W.contents writer.new)
-        (answered_with taken_of result) (many_view S.state desk.new) }
+    ensures { TakesMails (view_of S.state desk.old) (W.contents writer.old) (W.contents writer.new)
+        (answered_with taken_of result) (view_of S.state desk.new) }
 {
     let mail_box = blame(alloc, open_box(rt, alloc, file), file, NO_BOX, errors)?;
     let mut came = blame(alloc, open_came(rt, alloc, file), file, NO_CAME, errors)?;
@@ -116,7 +116,7 @@ fn find_mails<T: Files, E: Write>(
     ensures { IfErr result IsOpenFault }
 {
     if incoming.is_sorted {
-        let found = sorted_mails(rt, alloc, mail_box, file, role);
+        let found = sorted_mails(rt, alloc, mail_box, incoming.folder, file, role);
         return blame(alloc, found, file, NO_BOX, errors);
     }
     let run = begin_run(rt, alloc, mail_box);
@@ -137,6 +137,8 @@ const NO_CAME: &str = ".came cannot be read or written";
 const NOT_ASKED: &str = ".mail/asked cannot be read or written";
 
 const NO_COPY: &str = " is not written, so nothing is sent";
+
+const KEPT: &str = ": put it back or move it away, since nothing is sent without a copy";
 
 const NOT_SENT: &str = " is not written, so nothing more is sent";
 
@@ -165,7 +167,7 @@ fn conclude<T: Files, S: Store, E: Write>(
     verdicts: Vec<Verdict>,
     errors: &mut E,
 ) -> Result<Taken, ToolFault>
-    requires ended { EndedWell found.mails.items verdicts.items (many_view S.state desk.now) }
+    requires ended { EndedWell found.mails.items verdicts.items (view_of S.state desk.now) }
     ensures { SettlesRun found.mails.items found.waiting (Ok verdicts.items) (answered_with taken_of result) }
 {
     if place.is_telling {
@@ -260,8 +262,24 @@ fn send_to<T: Files, S: Store, W: Write, E: Write>(
     ensures { SendsTo desk.now.live.held (W.contents writer.old) (W.contents writer.new) result }
 {
     let asking = blame(alloc, asking(rt, alloc, file), file, NOT_ASKED, errors)?;
+    send_asked(rt, alloc, desk, &asking, folder, writer, errors)
+}
+
+/// Puts the messages of the loans that want sending into `folder`, and writes their number. `asking` has the messages
+/// that ask, one after another.
+fn send_asked<T: Files, S: Store, W: Write, E: Write>(
+    rt: &T,
+    alloc: Global,
+    desk: &Desk<S>,
+    asking: &[u8],
+    folder: &str,
+    writer: &mut W,
+    errors: &mut E,
+) -> Result<(), ToolFault>
+    ensures { SendsAsked asking.now desk.now.live.held (W.contents writer.old) (W.contents writer.new) result }
+{
     let mut out = MailFolder::at(rt, alloc, folder);
-    let sent = run_desk_outbox(alloc, desk, &asking, &mut out);
+    let sent = run_desk_outbox(alloc, desk, asking, &mut out);
     let sent = blame_mail(alloc, sent, &out, errors)?;
     let line = format!(in alloc; "sent {sent}\n")?;
     write_and_flush(writer, line.as_bytes())
@@ -364,8 +382,8 @@ fn exchange_at<T: Files, S: Store, W: Write, E: Write>(
     writer: &mut W,
     errors: &mut E,
 ) -> Result<bool, ToolFault>
-    ensures { ExchangesAt night.now.dates (many_view S.state desk.old)
-        (W.contents writer.old) (W.contents writer.new) result (many_view S.state desk.new) }
+    ensures { ExchangesAt night.now.dates (view_of S.state desk.old)
+        (W.contents writer.old) (W.contents writer.new) result (view_of S.state desk.new) }
 {
     let incoming = Incoming {
         folder: night.incoming,
@@ -389,7 +407,7 @@ fn go_on<T: Files, S: Store, W: Write, E: Write>(
     errors: &mut E,
 ) -> Result<bool, ToolFault>
     ensures { GoesOn night.now.dates (Ok (taken_of taken.now)) (W.contents writer.old) (W.contents writer.new)
-        (many_view S.state desk.old) result (many_view S.state desk.new) }
+        (view_of S.state desk.old) result (view_of S.state desk.new) }
 {
     match say_dates(alloc, desk, night.dates, writer) {
         Ok(()) => send_all(rt, alloc, file, night, desk, taken, writer, errors),
@@ -421,7 +439,7 @@ fn say_dates<S: Store, W: Write>(
     writer: &mut W,
 ) -> Result<(), ToolFault>
     ensures { SaysDates dates (W.contents writer.old) (W.contents writer.new)
-        (many_view S.state desk.old) result (many_view S.state desk.new) }
+        (view_of S.state desk.old) result (view_of S.state desk.new) }
 {
     match dates {
         Some((today, which)) => run_desk_dates(alloc, desk, today, which, writer),
@@ -429,7 +447,8 @@ fn say_dates<S: Store, W: Write>(
     }
 }
 
-/// Copies the desk, and then sends the messages that want sending. If the copy fails, nothing is sent.
+/// Copies the desk, and then sends the messages that want sending. A responder's loan that the deeds of the day have
+/// ended is among them, if a message of it came in this run. If the copy fails, nothing is sent.
 fn send_all<T: Files, S: Store, W: Write, E: Write>(
     rt: &T,
     alloc: Global,
@@ -440,19 +459,20 @@ fn send_all<T: Files, S: Store, W: Write, E: Write>(
     writer: &mut W,
     errors: &mut E,
 ) -> Result<bool, ToolFault>
-    ensures { SendsAll (night_ending desk.now.live.role (taken_of taken.now)) desk.now.live.held
-        (W.contents writer.old) (W.contents writer.new) (Ok tt) result }
+    ensures { SendsAll (taken_of taken.now) desk.now.live (W.contents writer.old) (W.contents writer.new) (Ok tt)
+        result }
 {
     let copy = copy_path(alloc, file, night)?;
     copy_to(rt, alloc, desk, copy.as_ref(), errors)?;
-    let sent = send_to(rt, alloc, file, desk, night.outgoing, writer, errors);
+    let asked = asked_by(alloc, desk, &taken.found.mails, &taken.verdicts)?;
+    let sent = send_asked(rt, alloc, desk, &asked, night.outgoing, writer, errors);
     match sent {
         Ok(()) => finish(rt, alloc, night.beat, desk, taken, errors),
         Err(fault) => Err(fault),
     }
 }
 
-/// Copies `desk` to the file at `path`, if there is a path.
+/// Copies `desk` to the file at `path`, if there is a path. A copy that has more loans stays, which is a failure.
 fn copy_to<T: Files, S: Store, E: Write>(
     rt: &T,
     alloc: Global,
@@ -466,8 +486,21 @@ fn copy_to<T: Files, S: Store, E: Write>(
         return Ok(());
     };
     let mut copy = FileStore::at(rt, alloc, path.as_str(), RECORD_LIMIT)?;
-    let copied = run_desk_copy(alloc, desk, &mut copy);
-    blame(alloc, copied, path.as_str(), NO_COPY, errors)
+    match run_desk_copy_over(alloc, desk, &mut copy) {
+        Ok(Copied::Done) => Ok(()),
+        Ok(Copied::Kept(count)) => {
+            tell_kept(alloc, path.as_str(), count, desk.sides().len(), errors);
+            Err(STORE_FAILED)
+        }
+        Err(fault) => blame(alloc, Err(fault), path.as_str(), NO_COPY, errors),
+    }
+}
+
+/// Writes a line to `errors` of a copy that has more loans than its desk. If memory runs out, no line is written.
+fn tell_kept<E: Write>(alloc: Global, path: &str, count: usize, own: usize, errors: &mut E) {
+    if let Ok(text) = format!(in alloc; " has {count} loans, and the desk {own}{KEPT}") {
+        warn(alloc, path.as_bytes(), text.as_str(), errors);
+    }
 }
 
 /// Returns the path of the copy of the desk in `file`, if `night` wants one.

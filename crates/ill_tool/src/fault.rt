@@ -1,6 +1,7 @@
 //! The faults that stop a command.
 
-ghost use Rattle.std.specs.Prelude.{◌≡◌};
+ghost use Rattle.std.specs.Prelude.{◌≡◌, true, is_ok};
+ghost use Rattle.ill_saved.specs.Holdings.{is_refusal};
 ghost use Rattle.ill_tool.specs.Simulate.{sim_fault};
 ghost use Rattle.ill_tool.specs.Performing.{desk_fault, refused};
 ghost use Rattle.ill_tool.specs.declared.fault.ToolFault.TheVariants.{OutOfMemory};
@@ -105,7 +106,8 @@ impl<S: Drop> From<(ToolFault, S)> for ToolFault {
 
 /// Returns the outcome of a refusal of a desk. Its other faults end the command.
 pub(crate) fn refused(fault: DeskFault) -> Result<DeskOutcome, ToolFault>
-    ensures { result ≡ refused fault }
+    ensures value { result ≡ refused fault }
+    ensures outcome { is_refusal fault ≡ true → is_ok result ≡ true }
 {
     match fault {
         DeskFault::Core(refusal) => Ok(DeskOutcome::Plain(Outcome::Refused(refusal))),

@@ -3,16 +3,16 @@
 
 ghost use Rattle.std.specs.Prelude.{◌≡◌, ◌++◌, Ok, true, false, map, string_bytes, IfErr, OnOk};
 ghost use Rattle.ill_saved.specs.Desk.{answer_of};
-ghost use Rattle.ill_saved.specs.Many.{found_by, sides_held, txn_held};
+ghost use Rattle.ill_saved.specs.ManySides.{found_by, sides_held, txn_held};
 ghost use Rattle.ill_tool.specs.Report.{AddsDesks};
 ghost use Rattle.ill_tool.specs.Commands.{ActsAtFile, IsOpenFault, ListsDesk, ListsDesks, ListsPaths, LoanAtFile, NewAtFile, ReportsPaths, SendsAtFile, ShowsFile, TakesAtFile, VerifiesFile, all_well};
 ghost use Rattle.ill_tool.specs.Listing.{between, listed_desk};
-ghost use Rattle.ill_tool.specs.Keeping.{many_sides};
+ghost use Rattle.ill_saved.specs.ManySides.{many_sides};
 ghost use Rattle.ill_tool.specs.Kept.{RunsKeptLoan};
 ghost use Rattle.ill_tool.specs.Picture.{drawn_or_shown};
 ghost use Rattle.ill_tool.specs.declared.form.Form.TheVariants.{Lines};
 ghost use Rattle.ill_tool.specs.Output.{WritesText};
-ghost use Rattle.ill_tool.specs.Performing.{many_view};
+ghost use Rattle.ill_tool.specs.Performing.{view_of};
 ghost use Rattle.ill_tool.specs.Take.{RunsTake};
 ghost use Rattle.ill_tool.specs.Telling.{wording};
 
@@ -141,7 +141,7 @@ fn take_told<S: Store, R: Read, W: Write>(
 ) -> Result<bool, ToolFault>
     ensures { RunsTake (wording is_long) many_sides (R.remaining reader.old) (R.remaining reader.new)
         (W.contents writer.old) (W.contents writer.new)
-        (many_view S.state desk.old) result (many_view S.state desk.new) }
+        (view_of S.state desk.old) result (view_of S.state desk.new) }
 {
     if is_long {
         run_desk_long_take(alloc, desk, reader, writer)

@@ -189,8 +189,9 @@ For each of them a line is written to standard output:
 OUTCOME is one of these; behind it the line says how its loan stands, as that of
 `ill act`:
   taken                  this is news: read it, and act on it
-  repeat                 the desk knows it already; there is nothing to do
-  stale                  it answers what is no longer open; nothing to do either
+  repeat                 the desk knows it already; the partner may lack the
+                         answer, so send all messages of the loan again
+  stale                  it answers what is no longer open: nothing is to do
   conflict               it has no place in this state: somebody should look
   no-such-transaction    it is of a loan that the desk has not, and begins none
   desk-full              it would begin a loan, and the desk has 1,000
@@ -362,6 +363,7 @@ This is the night of a desk, for a machine that does it by itself:
      last day. Both want --today. A line for each is written:
        GROUP TRANSACTION VERB done STATE DUE RELEASED/ISSUED
   3. With --copy the desk is copied to a file, which should be on another disk.
+     A copy that has more loans than the desk stays, and that is a failure.
   4. The messages that want sending are put into the folder OUT, as `ill outbox`
      does.
   5. With --beat a file is made anew: its time tells when a run ended. It has
@@ -875,9 +877,10 @@ An ILL-Request of a new group makes its desk at a responder's shelf. A run makes
 16 desks at most; standard error tells of each, and of the requests that wait. A
 message of a retired group is removed, and told.
 
-A desk that fails is told on standard error, and the others go on. The exit
-status is the gravest: 3 for a fault or mails that are left, 1 if a mail wants a
-person, else 0.";
+A desk that fails is told on standard error, and the others go on. So is a desk
+that is lost, in each run: DESK.came or DESK.mail is there, and DESK is not. It
+counts as mails that are left. The exit status is the gravest: 3 for a fault or
+mails that are left, 1 if a mail wants a person, else 0.";
 
 pub const SHELF_OUTBOX: &str = "\
 Put the messages of all desks that want sending into a folder.

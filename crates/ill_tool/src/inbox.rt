@@ -3,13 +3,12 @@
 ghost use Rattle.std.specs.Prelude.{◌≡◌, ◌≤◌, [], ◌∷◌, ◌++◌, Ok, IfErr, IfOk, OnOk};
 ghost use Rattle.ill_der.specs.ShortForm.{apdu_at};
 ghost use Rattle.ill_tool.specs.declared.fault.ToolFault.TheVariants.{OutOfMemory};
-ghost use Rattle.ill_tool.specs.Keeping.{many_sides};
-ghost use Rattle.ill_tool.specs.Performing.{SavesOnce, is_change, many_view, view_of};
+ghost use Rattle.ill_saved.specs.ManySides.{many_sides};
+ghost use Rattle.ill_tool.specs.Performing.{SavesOnce, is_change, view_of};
 ghost use Rattle.ill_tool.specs.Take.{KeepsBefore};
 ghost use Rattle.ill_tool.specs.Inbox.{EndedWell, HandsOver, RunsInbox, after_mail, after_mails, after_message, answered_with, concluded, message_in, one_message, settled, sorting_of, told_of, verdict_line, verdict_of};
 
 use crate::fault::{ToolFault, refused};
-use crate::keeper::Keeper;
 use crate::output::write_and_flush;
 use crate::side_line::push_saved_message;
 use crate::take::keep_bytes;
@@ -17,7 +16,7 @@ use crate::tally::{Tally, push_tally};
 use crate::verdict::{Delay, Mail, Unfit, Verdict, push_verdict};
 use ill_core::Taking;
 use ill_der::{APDU_LIMIT, ApduView, view};
-use ill_saved::{Desk, Store};
+use ill_saved::{AnyDesk, Desk, Holdings, Store};
 use ill_values::Apdu;
 use ill_world::{DeskOutcome, Outcome};
 use std::alloc::Global;
@@ -40,36 +39,36 @@ pub fn run_desk_inbox<S: Store, F: Write, W: Write>(
 ) -> Result<Vec<Verdict>, ToolFault>
     ensures runs { RunsInbox many_sides mails.now waiting (F.contents came.old) (F.contents came.new)
         (W.contents writer.old) (W.contents writer.new)
-        (many_view S.state desk.old) (answered_with (λ verdicts. verdicts.items) result)
-        (many_view S.state desk.new) }
+        (view_of S.state desk.old) (answered_with (λ verdicts. verdicts.items) result)
+        (view_of S.state desk.new) }
     ensures ended { IfOk result (λ verdicts. EndedWell mails.now verdicts.items
-        (many_view S.state desk.new)) }
+        (view_of S.state desk.new)) }
     ensures never_fewer { (S.state desk.old.store).failures ≤ (S.state desk.new.store).failures }
 {
     run_inbox(alloc, desk, mails, waiting, came, writer)
 }
 
-/// Takes the message of each mail of `mails` at `keeper`, saves once, and writes their verdicts.
-fn run_inbox<K: Keeper, F: Write, W: Write>(
+/// Takes the message of each mail of `mails` at `desk`, saves once, and writes their verdicts.
+fn run_inbox<H: Holdings, S: Store, F: Write, W: Write>(
     alloc: Global,
-    keeper: &mut K,
+    desk: &mut AnyDesk<H, S>,
     mails: &[Mail],
     waiting: usize,
     came: &mut F,
     writer: &mut W,
 ) -> Result<Vec<Verdict>, ToolFault>
-    ensures runs { RunsInbox K.keeping mails.now waiting (F.contents came.old) (F.contents came.new)
+    ensures runs { RunsInbox H.effects mails.now waiting (F.contents came.old) (F.contents came.new)
         (W.contents writer.old) (W.contents writer.new)
-        (view_of K.Kept.state (K.live keeper.old) (K.store keeper.old))
+        (view_of S.state desk.old)
         (answered_with (λ verdicts. verdicts.items) result)
-        (view_of K.Kept.state (K.live keeper.new) (K.store keeper.new)) }
-    ensures never_fewer { (K.Kept.state (K.store keeper.old)).failures ≤ (K.Kept.state (K.store keeper.new)).failures }
+        (view_of S.state desk.new) }
+    ensures never_fewer { (S.state desk.old.store).failures ≤ (S.state desk.new.store).failures }
 {
-    let sorted = match sort(alloc, keeper, mails, waiting) {
+    let sorted = match sort(alloc, desk, mails, waiting) {
         Ok(sorted) => sorted,
         Err(fault) => return Err(fault),
     };
-    if let Err(fault) = keep_and_save(alloc, keeper, came, &sorted.kept) {
+    if let Err(fault) = keep_and_save(alloc, desk, came, &sorted.kept) {
         return Err(fault);
     }
     match write_and_flush(writer, &sorted.told) {
@@ -89,18 +88,18 @@ pub(crate) struct Sorted {
 }
 
 /// Hands the messages of all mails to their sides, in their order. It adds their lines and that of their counts.
-fn sort<K: Keeper>(
+fn sort<H: Holdings, S: Store>(
     alloc: Global,
-    keeper: &mut K,
+    desk: &mut AnyDesk<H, S>,
     mails: &[Mail],
     waiting: usize,
 ) -> Result<Sorted, ToolFault>
-    ensures sorted { IfOk result (λ sorted. sorting_of (K.live keeper.new) sorted
-        ≡ concluded waiting (after_mails K.keeping (K.live keeper.old) mails.now)) }
+    ensures sorted { IfOk result (λ sorted. sorting_of desk.new.live sorted
+        ≡ concluded waiting (after_mails H.effects desk.old.live mails.now)) }
     ensures fault { IfErr result (λ fault. fault ≡ OutOfMemory) }
-    ensures store { K.store keeper.new ≡ K.store keeper.old }
+    ensures store { desk.new.store ≡ desk.old.store }
 {
-    let mut sorted = match sort_mails(alloc, keeper, mails) {
+    let mut sorted = match sort_mails(alloc, desk, mails) {
         Ok(sorted) => sorted,
         Err(fault) => return Err(fault),
     };
@@ -112,11 +111,15 @@ fn sort<K: Keeper>(
 }
 
 /// Hands the messages of all mails to their sides, in their order.
-fn sort_mails<K: Keeper>(alloc: Global, keeper: &mut K, mails: &[Mail]) -> Result<Sorted, ToolFault>
-    ensures sorted { IfOk result (λ sorted. sorting_of (K.live keeper.new) sorted
-        ≡ after_mails K.keeping (K.live keeper.old) mails.now) }
+fn sort_mails<H: Holdings, S: Store>(
+    alloc: Global,
+    desk: &mut AnyDesk<H, S>,
+    mails: &[Mail],
+) -> Result<Sorted, ToolFault>
+    ensures sorted { IfOk result (λ sorted. sorting_of desk.new.live sorted
+        ≡ after_mails H.effects desk.old.live mails.now) }
     ensures fault { IfErr result (λ fault. fault ≡ OutOfMemory) }
-    ensures store { K.store keeper.new ≡ K.store keeper.old }
+    ensures store { desk.new.store ≡ desk.old.store }
 {
     let mut sorted = Sorted {
         verdicts: Vec::new(alloc),
@@ -124,7 +127,7 @@ fn sort_mails<K: Keeper>(alloc: Global, keeper: &mut K, mails: &[Mail]) -> Resul
         kept: Vec::new(alloc),
     };
     for mail in mails {
-        if let Err(fault) = sorted.sort_mail(alloc, keeper, mail) {
+        if let Err(fault) = sorted.sort_mail(alloc, desk, mail) {
             return Err(fault);
         }
     }
@@ -133,71 +136,71 @@ fn sort_mails<K: Keeper>(alloc: Global, keeper: &mut K, mails: &[Mail]) -> Resul
 
 impl Sorted {
     /// Hands the message of `mail` to its side, if it has one, and adds its verdict.
-    fn sort_mail<K: Keeper>(
+    fn sort_mail<H: Holdings, S: Store>(
         &mut self,
         alloc: Global,
-        keeper: &mut K,
+        desk: &mut AnyDesk<H, S>,
         mail: &Mail,
     ) -> Result<(), ToolFault>
-        ensures sorted { OnOk result (sorting_of (K.live keeper.new) self.new
-            ≡ after_mail K.keeping (sorting_of (K.live keeper.old) self.old) mail.now) }
+        ensures sorted { OnOk result (sorting_of desk.new.live self.new
+            ≡ after_mail H.effects (sorting_of desk.old.live self.old) mail.now) }
         ensures fault { IfErr result (λ fault. fault ≡ OutOfMemory) }
-        ensures store { K.store keeper.new ≡ K.store keeper.old }
+        ensures store { desk.new.store ≡ desk.old.store }
     {
         match &mail.bytes {
-            Some(bytes) => self.sort_bytes(alloc, keeper, &mail.name, bytes),
+            Some(bytes) => self.sort_bytes(alloc, desk, &mail.name, bytes),
             None => self.settle(&mail.name, Verdict::Left(Delay::NotRead)),
         }
     }
 
     /// Hands the message in `bytes`, of the mail `name`, to its side, and adds the verdict.
-    fn sort_bytes<K: Keeper>(
+    fn sort_bytes<H: Holdings, S: Store>(
         &mut self,
         alloc: Global,
-        keeper: &mut K,
+        desk: &mut AnyDesk<H, S>,
         name: &[u8],
         bytes: &[u8],
     ) -> Result<(), ToolFault>
-        ensures sorted { OnOk result (sorting_of (K.live keeper.new) self.new
-            ≡ after_message K.keeping name.now bytes.now (message_in bytes.now)
-            (sorting_of (K.live keeper.old) self.old)) }
+        ensures sorted { OnOk result (sorting_of desk.new.live self.new
+            ≡ after_message H.effects name.now bytes.now (message_in bytes.now)
+            (sorting_of desk.old.live self.old)) }
         ensures fault { IfErr result (λ fault. fault ≡ OutOfMemory) }
-        ensures store { K.store keeper.new ≡ K.store keeper.old }
+        ensures store { desk.new.store ≡ desk.old.store }
     {
         match message_in(bytes) {
-            Ok(apdu) => self.sort_message(alloc, keeper, name, bytes, &apdu),
+            Ok(apdu) => self.sort_message(alloc, desk, name, bytes, &apdu),
             Err(unfit) => self.settle(name, Verdict::Aside(unfit)),
         }
     }
 
     /// Hands the message `read` of the mail `name` to its side, and adds the verdict.
-    fn sort_message<K: Keeper>(
+    fn sort_message<H: Holdings, S: Store>(
         &mut self,
         alloc: Global,
-        keeper: &mut K,
+        desk: &mut AnyDesk<H, S>,
         name: &[u8],
         bytes: &[u8],
         read: &ApduView<'_>,
     ) -> Result<(), ToolFault>
-        ensures sorted { OnOk result (sorting_of (K.live keeper.new) self.new
-            ≡ after_message K.keeping name.now bytes.now (Ok read.now) (sorting_of (K.live keeper.old) self.old)) }
+        ensures sorted { OnOk result (sorting_of desk.new.live self.new
+            ≡ after_message H.effects name.now bytes.now (Ok read.now) (sorting_of desk.old.live self.old)) }
         ensures fault { IfErr result (λ fault. fault ≡ OutOfMemory) }
-        ensures store { K.store keeper.new ≡ K.store keeper.old }
+        ensures store { desk.new.store ≡ desk.old.store }
     {
         let apdu = match read.to_apdu(alloc) {
             Ok(apdu) => apdu,
             Err(_) => return Err(ToolFault::OutOfMemory),
         };
-        match hand(alloc, keeper, &apdu) {
-            Ok(outcome) => self.judge(keeper, name, bytes, read, &apdu, outcome),
+        match hand(alloc, desk, &apdu) {
+            Ok(outcome) => self.judge(desk, name, bytes, read, &apdu, outcome),
             Err(fault) => Err(fault),
         }
     }
 
     /// Adds the lines of a message and the verdict of its mail.
-    fn judge<K: Keeper>(
+    fn judge<H: Holdings, S: Store>(
         &mut self,
-        keeper: &K,
+        desk: &AnyDesk<H, S>,
         name: &[u8],
         bytes: &[u8],
         read: &ApduView<'_>,
@@ -205,34 +208,34 @@ impl Sorted {
         outcome: DeskOutcome,
     ) -> Result<(), ToolFault>
         requires same { read.now ≡ apdu.now }
-        ensures sorted { OnOk result (sorting_of (K.live keeper.now) self.new
-            ≡ settled name.now (verdict_of (K.keeping.role (K.live keeper.now)) outcome)
-            (told_of K.keeping bytes.now apdu.now outcome (K.live keeper.now)
-            (sorting_of (K.live keeper.now) self.old))) }
+        ensures sorted { OnOk result (sorting_of desk.now.live self.new
+            ≡ settled name.now (verdict_of (H.effects.role desk.now.live) outcome)
+            (told_of H.effects bytes.now apdu.now outcome desk.now.live
+            (sorting_of desk.now.live self.old))) }
         ensures fault { IfErr result (λ fault. fault ≡ OutOfMemory) }
     {
-        if let Err(fault) = self.tell(keeper, bytes, read, apdu, outcome) {
+        if let Err(fault) = self.tell(desk, bytes, read, apdu, outcome) {
             return Err(fault);
         }
-        self.settle(name, Verdict::of(keeper.role(), outcome))
+        self.settle(name, Verdict::of(desk.role(), outcome))
     }
 
     /// Adds the lines of a message, and keeps its bytes if it was taken.
-    fn tell<K: Keeper>(
+    fn tell<H: Holdings, S: Store>(
         &mut self,
-        keeper: &K,
+        desk: &AnyDesk<H, S>,
         bytes: &[u8],
         read: &ApduView<'_>,
         apdu: &Apdu,
         outcome: DeskOutcome,
     ) -> Result<(), ToolFault>
         requires same { read.now ≡ apdu.now }
-        ensures told { OnOk result (sorting_of (K.live keeper.now) self.new
-            ≡ told_of K.keeping bytes.now apdu.now outcome (K.live keeper.now)
-            (sorting_of (K.live keeper.now) self.old)) }
+        ensures told { OnOk result (sorting_of desk.now.live self.new
+            ≡ told_of H.effects bytes.now apdu.now outcome desk.now.live
+            (sorting_of desk.now.live self.old)) }
         ensures fault { IfErr result (λ fault. fault ≡ OutOfMemory) }
     {
-        push_saved_message(&mut self.told, read, outcome, keeper, K::key_of(apdu))?;
+        push_saved_message(&mut self.told, read, outcome, desk, H::key_of(apdu))?;
         if is_change(outcome) {
             self.kept.extend_from_slice(bytes)?;
         }
@@ -279,12 +282,16 @@ fn one_message(bytes: &[u8]) -> Result<ApduView<'_>, Unfit>
 }
 
 /// Hands `apdu` to its side, and returns the outcome.
-fn hand<K: Keeper>(alloc: Global, keeper: &mut K, apdu: &Apdu) -> Result<DeskOutcome, ToolFault>
-    ensures handed { HandsOver K.keeping (K.live keeper.old) apdu.now result (K.live keeper.new) }
+fn hand<H: Holdings, S: Store>(
+    alloc: Global,
+    desk: &mut AnyDesk<H, S>,
+    apdu: &Apdu,
+) -> Result<DeskOutcome, ToolFault>
+    ensures handed { HandsOver H.effects desk.old.live apdu.now result desk.new.live }
     ensures fault { IfErr result (λ fault. fault ≡ OutOfMemory) }
-    ensures store { K.store keeper.new ≡ K.store keeper.old }
+    ensures store { desk.new.store ≡ desk.old.store }
 {
-    match keeper.take(alloc, apdu) {
+    match desk.take(alloc, apdu) {
         Ok(taking) => Ok(DeskOutcome::Plain(Outcome::Answered(taking))),
         Err(fault) => refused(fault),
     }
@@ -301,25 +308,25 @@ fn is_change(outcome: DeskOutcome) -> bool
 }
 
 /// Writes the bytes of the messages that were taken, and then saves once. If there are none, it does nothing.
-fn keep_and_save<K: Keeper, F: Write>(
+fn keep_and_save<H: Holdings, S: Store, F: Write>(
     alloc: Global,
-    keeper: &mut K,
+    desk: &mut AnyDesk<H, S>,
     came: &mut F,
     kept: &[u8],
 ) -> Result<(), ToolFault>
-    ensures saves { SavesOnce K.keeping kept.now
-        (view_of K.Kept.state (K.live keeper.old) (K.store keeper.old)) result
-        (view_of K.Kept.state (K.live keeper.new) (K.store keeper.new)) }
+    ensures saves { SavesOnce H.effects kept.now
+        (view_of S.state desk.old) result
+        (view_of S.state desk.new) }
     ensures keeps { KeepsBefore kept.now result (F.contents came.old) (F.contents came.new)
-        (view_of K.Kept.state (K.live keeper.old) (K.store keeper.old))
-        (view_of K.Kept.state (K.live keeper.new) (K.store keeper.new)) }
-    ensures never_fewer { (K.Kept.state (K.store keeper.old)).failures ≤ (K.Kept.state (K.store keeper.new)).failures }
+        (view_of S.state desk.old)
+        (view_of S.state desk.new) }
+    ensures never_fewer { (S.state desk.old.store).failures ≤ (S.state desk.new.store).failures }
 {
     if kept.is_empty() {
         return Ok(());
     }
     keep_bytes(came, kept)?;
-    match keeper.save(alloc) {
+    match desk.save(alloc) {
         Ok(()) => Ok(()),
         Err(fault) => Err(fault.into()),
     }

@@ -3,7 +3,7 @@
 ghost use Rattle.std.specs.Prelude.{◌≡◌, ◌++◌, true, codes, IfOk, OnOk};
 ghost use Rattle.std.specs.List.{flat_map};
 ghost use Rattle.ill_saved.specs.Side.{txn_of};
-ghost use Rattle.ill_saved.specs.Many.{DeskEntry, found_by, txn_held};
+ghost use Rattle.ill_saved.specs.ManySides.{found_by, txn_held};
 ghost use Rattle.ill_tool.specs.Loan.{marked_lines};
 ghost use Rattle.ill_tool.specs.Kept.{AreIn, RunsKeptLoan, WritesKept, is_among, kept_lines, kept_of, kept_text, with_new};
 

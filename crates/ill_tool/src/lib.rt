@@ -21,7 +21,6 @@ mod html;
 mod inbox;
 mod input;
 mod json;
-mod keeper;
 mod kept;
 mod lines;
 mod list;

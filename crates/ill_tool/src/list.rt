@@ -1,7 +1,7 @@
 //! The command `list`.
 
 ghost use Rattle.std.specs.Prelude.{◌≡◌, [], ◌∷◌, ◌++◌, map, option_map, OnOk};
-ghost use Rattle.ill_saved.specs.Many.{sides_held};
+ghost use Rattle.ill_saved.specs.ManySides.{sides_held};
 ghost use Rattle.ill_tool.specs.Output.{WritesText};
 ghost use Rattle.ill_tool.specs.List.{turns_of, has_verbs, is_due_before, is_in, is_wanted, has_turn, count_of, counts_of, counts_line};
 ghost use Rattle.ill_tool.specs.Listing.{counts_text, list_lines, list_objects, listed, ordered_lines, row_text, rows_of};

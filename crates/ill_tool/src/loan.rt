@@ -3,7 +3,7 @@
 ghost use Rattle.std.specs.Prelude.{◌≡◌, ◌++◌, map, option_map, IfOk, OnOk};
 ghost use Rattle.std.specs.List.{flat_map};
 ghost use Rattle.ill_core.specs.Verbs.{verb_name};
-ghost use Rattle.ill_saved.specs.Many.{found_by, txn_held};
+ghost use Rattle.ill_saved.specs.ManySides.{found_by, txn_held};
 ghost use Rattle.ill_tool.specs.Output.{WritesText};
 ghost use Rattle.ill_tool.specs.Loan.{RunsLoan, item_lines, loan_lines, marked_lines, message_lines, optional_number_line, request_lines, request_of, side_lines, taken_lines, turn_lines, turn_word};
 
@@ -26,7 +26,7 @@ pub fn run_loan<S: Store, W: Write>(
     writer: &mut W,
 ) -> Result<(), ToolFault>
     ensures { WritesText (W.contents writer.old) (W.contents writer.new)
-        (loan_lines desk.now.live desk.now.released) result }
+        (loan_lines desk.now.live.side desk.now.live.released) result }
 {
     write_loan(alloc, desk.side(), desk.released(), writer)
 }

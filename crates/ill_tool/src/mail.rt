@@ -2,7 +2,8 @@
 //! who brings mails may put anything into the folder at any moment.
 //!
 //! A run claims a mail by a rename into the folder of the desk's mail, where nobody else may write. Only there it looks
-//! at the mail, and reads it once.
+//! at the mail, and reads it once. It gives back what is no regular file. A folder of mails that may have folders is
+//! looked at before: no folder is moved unless it comes at that moment.
 
 ghost use Rattle.std.specs.Prelude.{IfErr};
 ghost use Rattle.ill_tool.specs.Commands.{IsOpenFault};
@@ -10,6 +11,7 @@ ghost use Rattle.ill_tool.specs.Commands.{IsOpenFault};
 use crate::fault::ToolFault;
 use crate::folder::{fault, raw_names};
 use crate::mail_box::MailBox;
+use crate::settle::give_back;
 use crate::shelf::is_for_desk;
 use crate::verdict::Mail;
 use ill_der::APDU_LIMIT;
@@ -18,7 +20,7 @@ use ill_values::OutOfMemory;
 use std::alloc::Global;
 use std::fs::{DirBuilder, Metadata};
 use std::io::{ErrorKind, Read};
-use std::os::unix::fs::DirBuilderExt;
+use std::os::unix::fs::{DirBuilderExt, MetadataExt};
 use std::rt::Files;
 use std::{fs, io};
 
@@ -69,10 +71,21 @@ impl Mails {
         self.add(name, None, None)
     }
 
-    /// Adds the mail in `file`, which was claimed.
-    fn add_claimed<T: Files>(&mut self, rt: &T, name: Vec<u8>, file: String) -> io::Result<()> {
-        let bytes = mail_bytes(rt, *name.allocator(), file.as_str())?;
-        self.add(name, bytes, Some(file))
+    /// Adds the mail in `file`, which was claimed. Gives it back to `folder` if it is no regular file.
+    fn add_claimed<T: Files>(
+        &mut self,
+        rt: &T,
+        folder: &str,
+        name: Vec<u8>,
+        file: String,
+    ) -> io::Result<()> {
+        let alloc = *name.allocator();
+        let read = match lookup(rt, file.as_str()) {
+            Ok(None) => return no_failure(give_back(rt, alloc, folder, file.as_str(), &name)),
+            Ok(Some(found)) => first_bytes(rt, alloc, file.as_str(), found.len()),
+            Err(error) => Err(error),
+        };
+        self.add(name, bytes_if_read(read)?, Some(file))
     }
 }
 
@@ -105,24 +118,25 @@ pub fn claim_mails<T: Files>(
 ) -> Result<Mails, ToolFault>
     ensures { IfErr result IsOpenFault }
 {
-    match all_mails(rt, alloc, mail_box, Some((folder, run))) {
+    match all_mails(rt, alloc, mail_box, folder, Some(run)) {
         Ok(mails) => Ok(mails),
         Err(error) => Err(fault(&error)),
     }
 }
 
-/// Reads the mails that a shelf has sorted to the desk in `file`. A carrier may still write to a mail that it opened
-/// before the claim. Then its message may be for another desk, and its bytes are hidden.
+/// Reads the mails that a shelf has sorted from `folder` to the desk in `file`. A carrier may still write to a mail that
+/// it opened before the claim. Then its message may be for another desk, and its bytes are hidden.
 pub fn sorted_mails<T: Files>(
     rt: &T,
     alloc: Global,
     mail_box: &MailBox,
+    folder: &str,
     file: &str,
     role: Role,
 ) -> Result<Mails, ToolFault>
     ensures { IfErr result IsOpenFault }
 {
-    match all_mails(rt, alloc, mail_box, None) {
+    match all_mails(rt, alloc, mail_box, folder, None) {
         Ok(mut mails) => match hide_others(alloc, file, role, &mut mails) {
             Ok(()) => Ok(mails),
             Err(_) => Err(ToolFault::OutOfMemory),
@@ -150,13 +164,14 @@ fn hide_others(
     Ok(())
 }
 
-/// Reads the mails of a desk, as many as one run takes: those that were claimed before, and those that it claims from a
-/// folder into that of a run.
+/// Reads the mails of a desk, as many as one run takes: those that were claimed before, and those that it claims from
+/// `folder` into the folder `run`, if there is one.
 fn all_mails<T: Files>(
     rt: &T,
     alloc: Global,
     mail_box: &MailBox,
-    claiming: Option<(&str, &str)>,
+    folder: &str,
+    run: Option<&str>,
 ) -> io::Result<Mails> {
     let mut mails = Mails {
         mails: Vec::new(alloc),
@@ -165,9 +180,9 @@ fn all_mails<T: Files>(
         runs: Vec::new(alloc),
     };
     for earlier in names_in(rt, alloc, mail_box.claimed())? {
-        add_run(rt, mail_box.claimed(), &earlier, &mut mails)?;
+        add_run(rt, mail_box.claimed(), &earlier, folder, &mut mails)?;
     }
-    if let Some((folder, run)) = claiming {
+    if let Some(run) = run {
         claim_from(rt, alloc, mail_box, folder, run, &mut mails)?;
     }
     Ok(mails)
@@ -185,10 +200,30 @@ fn claim_from<T: Files>(
     if mail_box.is_at(rt, alloc, folder)? {
         return Err(ErrorKind::InvalidInput.into());
     }
+    let claiming = Claiming {
+        folder,
+        run,
+        looks_first: may_have_folders(rt, folder)?,
+    };
     for name in names_in(rt, alloc, folder)? {
-        add_mail(rt, folder, run, name, mails)?;
+        add_mail(rt, &claiming, name, mails)?;
     }
     Ok(())
+}
+
+/// A folder of mails, and the folder of the run that claims them.
+#[derive(Clone, Copy)]
+struct Claiming<'a> {
+    folder: &'a str,
+    run: &'a str,
+    /// Set if each entry of `folder` is looked at before it is claimed.
+    looks_first: bool,
+}
+
+/// Tells if `folder` may have folders. Where a system counts the links of a folder, its own two are the only ones if it
+/// has none.
+fn may_have_folders<T: Files>(rt: &T, folder: &str) -> io::Result<bool> {
+    Ok(fs::metadata(rt, folder)?.nlink() != 2)
 }
 
 /// Makes the folder of a run among the mails that were claimed, and returns its path. Its number is greater than those
@@ -218,19 +253,25 @@ pub(crate) fn names_in<T: Files>(rt: &T, alloc: Global, folder: &str) -> io::Res
 }
 
 /// Adds the mails that an earlier run has claimed into its folder `run`. Anything else has no mails.
-fn add_run<T: Files>(rt: &T, claimed: &str, run: &[u8], mails: &mut Mails) -> io::Result<()> {
+fn add_run<T: Files>(
+    rt: &T,
+    claimed: &str,
+    run: &[u8],
+    folder: &str,
+    mails: &mut Mails,
+) -> io::Result<()> {
     let alloc = *mails.mails.allocator();
     let Some(number) = number_of(run) else {
         return Ok(());
     };
-    let folder = format!(in alloc; "{claimed}/{number:010}")?;
-    if !is_folder(rt, folder.as_str()) {
+    let run = format!(in alloc; "{claimed}/{number:010}")?;
+    if !is_folder(rt, run.as_str()) {
         return Ok(());
     }
-    for name in names_in(rt, alloc, folder.as_str())? {
-        add_again(rt, folder.as_str(), name, mails)?;
+    for name in names_in(rt, alloc, run.as_str())? {
+        add_again(rt, folder, run.as_str(), name, mails)?;
     }
-    mails.runs.push(folder)?;
+    mails.runs.push(run)?;
     Ok(())
 }
 
@@ -247,51 +288,61 @@ fn number_of(run: &[u8]) -> Option<u32> {
     str::from_utf8(run).ok()?.parse::<u32>().ok()
 }
 
-/// Adds a mail that was claimed before, or counts it if the run has enough.
-fn add_again<T: Files>(rt: &T, folder: &str, name: Vec<u8>, mails: &mut Mails) -> io::Result<()> {
-    if mails.is_full() {
-        mails.waiting = mails.waiting.saturating_add(1);
-        return Ok(());
-    }
-    match path_of(*name.allocator(), folder, &name)? {
-        Some(file) => mails.add_claimed(rt, name, file),
-        None => Ok(()),
-    }
-}
-
-/// Claims the mail `name` and adds it, if it is one, or counts it if the run has enough. A mail that cannot be claimed
-/// is not read.
-fn add_mail<T: Files>(
+/// Adds a mail that was claimed before into the folder `run`, or counts it if the run has enough.
+fn add_again<T: Files>(
     rt: &T,
     folder: &str,
     run: &str,
     name: Vec<u8>,
     mails: &mut Mails,
 ) -> io::Result<()> {
+    if mails.is_full() {
+        mails.waiting = mails.waiting.saturating_add(1);
+        return Ok(());
+    }
+    match path_of(*name.allocator(), run, &name)? {
+        Some(file) => mails.add_claimed(rt, folder, name, file),
+        None => Ok(()),
+    }
+}
+
+/// Claims the mail `name` and adds it, if it is one, or counts it if the run has enough.
+fn add_mail<T: Files>(
+    rt: &T,
+    claiming: &Claiming<'_>,
+    name: Vec<u8>,
+    mails: &mut Mails,
+) -> io::Result<()> {
     let alloc = *name.allocator();
-    let Some(path) = path_of(alloc, folder, &name)? else {
+    let Some(path) = path_of(alloc, claiming.folder, &name)? else {
         return mails.add_or_count(as_text(alloc, &name)?);
     };
+    if !claiming.looks_first && !mails.is_full() {
+        return add_claimed(rt, path.as_str(), claiming, name, mails);
+    }
     match lookup(rt, path.as_str()) {
         Ok(None) => Ok(()),
-        Ok(Some(_)) if !mails.is_full() => add_claimed(rt, path.as_str(), run, name, mails),
+        Ok(Some(_)) if !mails.is_full() => add_claimed(rt, path.as_str(), claiming, name, mails),
         Err(error) if error.kind() == ErrorKind::OutOfMemory => Err(error),
         _ => mails.add_or_count(name),
     }
 }
 
-/// Claims the mail at `path`, and adds it.
+/// Claims the mail at `path`, and adds it. A mail that cannot be claimed is not read.
 fn add_claimed<T: Files>(
     rt: &T,
     path: &str,
-    run: &str,
+    claiming: &Claiming<'_>,
     name: Vec<u8>,
     mails: &mut Mails,
 ) -> io::Result<()> {
-    match claim(rt, *name.allocator(), path, run, &name) {
-        Ok(file) => mails.add_claimed(rt, name, file),
+    match claim(rt, *name.allocator(), path, claiming.run, &name) {
+        Ok(file) => mails.add_claimed(rt, claiming.folder, name, file),
         Err(error) if error.kind() == ErrorKind::OutOfMemory => Err(error),
-        Err(_) => mails.add_or_count(name),
+        Err(_) => match lookup(rt, path) {
+            Ok(None) => Ok(()),
+            _ => mails.add_or_count(name),
+        },
     }
 }
 
@@ -317,8 +368,7 @@ fn claim<T: Files>(
     run: &str,
     name: &[u8],
 ) -> io::Result<String> {
-    let name = str::from_utf8(name).unwrap_or_default();
-    let file = format!(in alloc; "{run}/{name}")?;
+    let file = joined(alloc, run, str::from_utf8(name).unwrap_or_default())?;
     fs::rename(rt, path, file.as_str())?;
     Ok(file)
 }
@@ -326,9 +376,19 @@ fn claim<T: Files>(
 /// Returns the path of the file `name` in `folder`, if the name is a text. No path can have another name.
 pub(crate) fn path_of(alloc: Global, folder: &str, name: &[u8]) -> io::Result<Option<String>> {
     match str::from_utf8(name) {
-        Ok(name) => Ok(Some(format!(in alloc; "{folder}/{name}")?)),
+        Ok(name) => Ok(Some(joined(alloc, folder, name)?)),
         Err(_) => Ok(None),
     }
+}
+
+/// Returns the path of `name` in `folder`. It has room for all of it at once.
+fn joined(alloc: Global, folder: &str, name: &str) -> Result<String, OutOfMemory> {
+    let size = folder.len().saturating_add(name.len()).saturating_add(1);
+    let mut path = String::with_capacity(alloc, size)?;
+    path.push_str(folder)?;
+    path.push_str("/")?;
+    path.push_str(name)?;
+    Ok(path)
 }
 
 /// Finds the regular file at `path`. Anything else, and a file that has gone, is no mail.
@@ -341,18 +401,21 @@ fn lookup<T: Files>(rt: &T, path: &str) -> io::Result<Option<Metadata>> {
     }
 }
 
-/// Returns the bytes of a claimed mail, at most one more than a message has. Returns none if it is no regular file, or
-/// cannot be read.
-fn mail_bytes<T: Files>(rt: &T, alloc: Global, file: &str) -> io::Result<Option<Vec<u8>>> {
-    let bytes = match lookup(rt, file) {
-        Ok(Some(found)) => first_bytes(rt, alloc, file, found.len()),
-        Ok(None) => return Ok(None),
-        Err(error) => Err(error),
-    };
-    match bytes {
+/// Returns the bytes of a claimed mail, or none if it could not be read. Only want of memory is a failure.
+fn bytes_if_read(read: io::Result<Vec<u8>>) -> io::Result<Option<Vec<u8>>> {
+    match read {
         Ok(bytes) => Ok(Some(bytes)),
         Err(error) if error.kind() == ErrorKind::OutOfMemory => Err(error),
         Err(_) => Ok(None),
+    }
+}
+
+/// Returns the failure of `done` if it is want of memory. Another one leaves a file among those that were claimed, for
+/// the next run.
+fn no_failure(done: io::Result<()>) -> io::Result<()> {
+    match done {
+        Err(error) if error.kind() == ErrorKind::OutOfMemory => Err(error),
+        _ => Ok(()),
     }
 }
 

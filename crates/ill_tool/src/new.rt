@@ -4,18 +4,18 @@ ghost use Rattle.std.specs.Prelude.{◌≡◌, codes, IfOk};
 ghost use Rattle.ill_saved.specs.Side.{idle_side};
 ghost use Rattle.ill_saved.specs.Records.{record_spelling};
 ghost use Rattle.ill_saved.specs.Records2.{sides_spelling};
-ghost use Rattle.ill_saved.specs.Many.{sides_held, many_store_of};
-ghost use Rattle.ill_saved.specs.Desk.{answer_of, store_after, store_of};
-ghost use Rattle.ill_tool.specs.Keeping.{alone, no_sides};
+ghost use Rattle.ill_saved.specs.ManySides.{sides_held};
+ghost use Rattle.ill_saved.specs.Desk.{answer_of, store_of};
+ghost use Rattle.ill_saved.specs.OneSide.{alone};
+ghost use Rattle.ill_saved.specs.ManySides.{no_sides};
 ghost use Rattle.ill_tool.specs.Telling.{done_line};
 ghost use Rattle.ill_tool.specs.Output.{WritesText};
 ghost use Rattle.ill_tool.specs.New.{first_line, RunsNew, SavesFirst, BeginsIn};
 
 use crate::fault::ToolFault;
-use crate::keeper::Keeper;
 use crate::output::write_whole;
 use crate::side_line::report;
-use ill_saved::{Desk, Desk1, Store};
+use ill_saved::{AnyDesk, Desk, Desk1, Holdings, Store};
 use ill_values::TxnId;
 use ill_world::{DeskOutcome, Outcome, Who};
 use std::alloc::Global;
@@ -36,7 +36,7 @@ pub fn run_new<S: Store, W: Write>(
     ensures runs { RunsNew (done_line (alone (idle_side role txn)))
         (W.contents writer.old) (W.contents writer.new) (answer_of result) }
     ensures begins { IfOk result (λ desk.
-        (desk.live ≡ idle_side role txn) × (desk.released ≡ 0)) }
+        (desk.live.side ≡ idle_side role txn) × (desk.live.released ≡ 0)) }
     ensures store { BeginsIn (record_spelling (idle_side role txn)) (S.state store) (answer_of result)
         (S.state (store_of result)) }
 {
@@ -57,69 +57,63 @@ pub fn run_desk_new<S: Store, W: Write>(
         (answer_of result) }
     ensures begins { IfOk result (λ desk. desk.live ≡ no_sides role) }
     ensures store { BeginsIn (sides_spelling (sides_held (no_sides role))) (S.state store) (answer_of result)
-        (S.state (many_store_of result)) }
+        (S.state (store_of result)) }
 {
     begin(alloc, store, role, writer)
 }
 
-/// Begins a keeper with `first` over a store that has no record (else `Exists`), saves it, and writes its line.
+/// Begins a desk with `first` over a store that has no record (else `Exists`), saves it, and writes its line.
 #[tactic(auto, using(crate::proofs::NewLemmas::still_spent, crate::proofs::NewLemmas::begun_over))]
-fn begin<K: Keeper, W: Write>(
+fn begin<H: Holdings, S: Store, W: Write>(
     alloc: Global,
-    store: K::Kept,
-    first: K::First,
+    store: S,
+    first: H::First,
     writer: &mut W,
-) -> Result<K, (ToolFault, K::Kept)>
-    ensures runs { RunsNew (first_line K.keeping (K.keeping.saves (K.begun first)))
+) -> Result<AnyDesk<H, S>, (ToolFault, S)>
+    ensures runs { RunsNew (first_line H.effects (H.effects.saves (H.begun first)))
         (W.contents writer.old) (W.contents writer.new) (answer_of result) }
-    ensures begins { IfOk result (λ keeper. K.live keeper ≡ K.keeping.saves (K.begun first)) }
-    ensures store { BeginsIn (K.keeping.spelling (K.begun first)) (K.Kept.state store) (answer_of result)
-        (K.Kept.state (store_after K.store result)) }
+    ensures begins { IfOk result (λ desk. desk.live ≡ H.effects.saves (H.begun first)) }
+    ensures store { BeginsIn (H.effects.spelling (H.begun first)) (S.state store) (answer_of result)
+        (S.state (store_of result)) }
 {
-    match K::create(alloc, store, first) {
-        Ok(mut keeper) => match save_first(alloc, &mut keeper, writer) {
-            Ok(()) => Ok(keeper),
-            Err(fault) => Err((fault, keeper.close())),
+    match AnyDesk::begin(alloc, store, first) {
+        Ok(mut desk) => match save_first(alloc, &mut desk, writer) {
+            Ok(()) => Ok(desk),
+            Err(fault) => Err((fault, desk.close())),
         },
         Err((fault, store)) => Err((fault.into(), store)),
     }
 }
 
-/// Saves a keeper that was just created, and writes its line.
-fn save_first<K: Keeper, W: Write>(
+/// Saves a desk that was just created, and writes its line.
+fn save_first<H: Holdings, S: Store, W: Write>(
     alloc: Global,
-    keeper: &mut K,
+    desk: &mut AnyDesk<H, S>,
     writer: &mut W,
 ) -> Result<(), ToolFault>
-    ensures runs { RunsNew (first_line K.keeping (K.keeping.saves (K.live keeper.old)))
+    ensures runs { RunsNew (first_line H.effects (H.effects.saves desk.old.live))
         (W.contents writer.old) (W.contents writer.new) result }
-    ensures live { IfOk result (λ _. K.live keeper.new ≡ K.keeping.saves (K.live keeper.old)) }
-    ensures store { SavesFirst (K.keeping.spelling (K.live keeper.old)) (K.Kept.state (K.store keeper.old)) result
-        (K.Kept.state (K.store keeper.new)) }
+    ensures live { IfOk result (λ _. desk.new.live ≡ H.effects.saves desk.old.live) }
+    ensures store { SavesFirst (H.effects.spelling desk.old.live) (S.state desk.old.store) result
+        (S.state desk.new.store) }
 {
-    match keeper.save(alloc) {
-        Ok(()) => write_beginning(alloc, keeper, writer),
+    match desk.save(alloc) {
+        Ok(()) => write_beginning(alloc, desk, writer),
         Err(fault) => Err(fault.into()),
     }
 }
 
 /// Writes the line of the beginning that was saved.
-fn write_beginning<K: Keeper, W: Write>(
+fn write_beginning<H: Holdings, S: Store, W: Write>(
     alloc: Global,
-    keeper: &K,
+    desk: &AnyDesk<H, S>,
     writer: &mut W,
 ) -> Result<(), ToolFault>
     ensures { WritesText (W.contents writer.old) (W.contents writer.new)
-        (first_line K.keeping (K.live keeper.now)) result }
+        (first_line H.effects desk.now.live) result }
 {
-    match keeper.first_key() {
-        Some(key) => match report(
-            alloc,
-            writer,
-            DeskOutcome::Plain(Outcome::Done),
-            keeper,
-            key,
-        ) {
+    match desk.first_key() {
+        Some(key) => match report(alloc, writer, DeskOutcome::Plain(Outcome::Done), desk, key) {
             Ok(_) => Ok(()),
             Err(fault) => Err(fault),
         },

@@ -2,7 +2,7 @@
 
 ghost use Rattle.std.specs.Prelude.{◌≡◌, ◌≤◌, ◌++◌, length, IfOk, OnOk};
 ghost use Rattle.ill_saved.specs.Side.{txn_of, issued_of};
-ghost use Rattle.ill_saved.specs.Many.{found_by, txn_held};
+ghost use Rattle.ill_saved.specs.ManySides.{found_by, txn_held};
 ghost use Rattle.ill_tool.specs.Kept.{RunsKeptLoan, WritesKept};
 ghost use Rattle.ill_tool.specs.Picture.{answers, arrow, arrows, behind, comes_before, drawn, drawn_byte, is_linked, is_plain, label_of, linked, picture, picture_of, theirs_of, through, way_of, with_own, with_request, without_last};
 

@@ -4,7 +4,7 @@ ghost use Rattle.std.specs.Prelude.{◌≡◌, ◌++◌, [], ◌∷◌, map, cou
 ghost use Rattle.std.specs.List.{flat_map};
 ghost use Rattle.std.specs.Fmt.{decimal};
 ghost use Rattle.ill_values.specs.Types.{type_name};
-ghost use Rattle.ill_saved.specs.Many.{sides_held};
+ghost use Rattle.ill_saved.specs.ManySides.{sides_held};
 ghost use Rattle.ill_tool.specs.Output.{WritesText};
 ghost use Rattle.ill_tool.specs.Html.{html_escaped};
 ghost use Rattle.ill_tool.specs.Loan.{request_of};

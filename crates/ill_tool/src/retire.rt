@@ -2,7 +2,7 @@
 
 ghost use Rattle.std.specs.Prelude.{◌≡◌, IfOk};
 ghost use Rattle.std.specs.List.{list_all};
-ghost use Rattle.ill_saved.specs.Many.{sides_held};
+ghost use Rattle.ill_saved.specs.ManySides.{sides_held};
 ghost use Rattle.ill_world.specs.Night.{is_over};
 ghost use Rattle.ill_tool.specs.Performing.{CountsToolFailure, known};
 ghost use Rattle.ill_tool.specs.Shelf.{Retires, are_all_over};

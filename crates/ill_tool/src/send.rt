@@ -1,14 +1,12 @@
 //! The command `send`.
 
 ghost use Rattle.std.specs.Prelude.{Some};
-ghost use Rattle.ill_saved.specs.Many.{found_by, txn_held};
-ghost use Rattle.ill_tool.specs.Performing.{the_one};
+ghost use Rattle.ill_saved.specs.ManySides.{found_by, txn_held};
 ghost use Rattle.ill_tool.specs.Send.{RunsSend};
 
 use crate::fault::ToolFault;
-use crate::keeper::Keeper;
 use crate::output::write_whole;
-use ill_saved::{Desk, Desk1, Store};
+use ill_saved::{AnyDesk, Desk, Desk1, Holdings, Store};
 use ill_values::{Number, TxnId};
 use std::alloc::Global;
 use std::io::Write;
@@ -22,7 +20,7 @@ pub fn run_send<S: Store, W: Write>(
     number: Number,
     writer: &mut W,
 ) -> Result<(), ToolFault>
-    ensures { RunsSend (Some (the_one desk.now)) number
+    ensures { RunsSend (Some desk.now.live) number
         (W.contents writer.old) (W.contents writer.new) result }
 {
     send_from(alloc, desk, &(), number, writer)
@@ -43,18 +41,18 @@ pub fn run_desk_send<S: Store, W: Write>(
     send_from(alloc, desk, txn, number, writer)
 }
 
-/// Writes the bytes of the message `number` of the side `key` of `keeper`.
-fn send_from<K: Keeper, W: Write>(
+/// Writes the bytes of the message `number` of the side `key` of `desk`.
+fn send_from<H: Holdings, S: Store, W: Write>(
     alloc: Global,
-    keeper: &K,
-    key: &K::Key,
+    desk: &AnyDesk<H, S>,
+    key: &H::Key,
     number: Number,
     writer: &mut W,
 ) -> Result<(), ToolFault>
-    ensures { RunsSend (K.keeping.found key.now (K.live keeper.now)) number
+    ensures { RunsSend (H.effects.found key.now desk.now.live) number
         (W.contents writer.old) (W.contents writer.new) result }
 {
-    match keeper.message(alloc, key, number) {
+    match desk.message_of(alloc, key, number) {
         Ok(bytes) => write_whole(writer, &bytes),
         Err(fault) => Err(fault.into()),
     }

@@ -79,7 +79,7 @@ fn settle_mail<T: Files>(
     match verdict {
         Verdict::Done(_) => remove_if_there(rt, file.as_str()),
         Verdict::Aside(unfit) => put_aside(rt, alloc, place.mail_box, file.as_str(), mail, unfit),
-        Verdict::Left(_) => give_back(rt, alloc, place.folder, file.as_str(), mail),
+        Verdict::Left(_) => give_back(rt, alloc, place.folder, file.as_str(), &mail.name),
     }
 }
 
@@ -99,16 +99,16 @@ fn put_aside<T: Files>(
     mail_box.put_aside(rt, alloc, file, digest.as_str(), &why)
 }
 
-/// Gives a mail back to the folder from which it was claimed. If another mail of its name has come there, it stays
-/// claimed, and the next run takes it first.
+/// Gives the mail `name` back to the folder from which it was claimed. If another mail of its name has come there, it
+/// stays claimed, and the next run takes it first.
 pub(crate) fn give_back<T: Files>(
     rt: &T,
     alloc: Global,
     folder: &str,
     file: &str,
-    mail: &Mail,
+    name: &[u8],
 ) -> io::Result<()> {
-    let Some(path) = path_of(alloc, folder, &mail.name)? else {
+    let Some(path) = path_of(alloc, folder, name)? else {
         return Ok(());
     };
     match fs::hard_link(rt, file, path.as_str()) {

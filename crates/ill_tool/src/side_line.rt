@@ -4,144 +4,141 @@ ghost use Rattle.std.specs.Prelude.{◌≡◌, ◌++◌, true, OnOk};
 ghost use Rattle.ill_tool.specs.Telling.{as_told, done_line, held_text, is_fine, long, side_line, wording, WritesOutcome};
 
 use crate::fault::ToolFault;
-use crate::keeper::Keeper;
 use crate::long_lines::{push_heading, push_said};
 use crate::output::write_whole;
 use ill_core::Taking;
 use ill_der::ApduView;
+use ill_saved::{AnyDesk, Holdings, Store};
 use ill_values::OutOfMemory;
-use ill_world::{DeskOutcome, Outcome};
+use ill_world::{DeskOutcome, Outcome, push_shown};
 use std::alloc::Global;
 use std::io::Write;
 
 /// Writes the line of an outcome and of how the side stands after it: `OUTCOME STATE DUE RELEASED/ISSUED`. Returns true
 /// if all went well.
-pub(crate) fn report<K: Keeper, W: Write>(
+pub(crate) fn report<H: Holdings, S: Store, W: Write>(
     alloc: Global,
     writer: &mut W,
     outcome: DeskOutcome,
-    keeper: &K,
-    key: &K::Key,
+    desk: &AnyDesk<H, S>,
+    key: &H::Key,
 ) -> Result<bool, ToolFault>
     ensures { WritesOutcome side_line (W.contents writer.old) (W.contents writer.new) outcome
-        (K.keeping.side_for key.now (K.live keeper.now)) result }
+        (H.effects.side_for key.now desk.now.live) result }
 {
     let mut line = Vec::new(alloc);
-    push_line::<K, false>(&mut line, outcome, keeper, key)?;
+    push_line::<H, S, false>(&mut line, outcome, desk, key)?;
     write_whole(writer, &line)?;
     Ok(is_fine(outcome))
 }
 
 /// Writes the line of the outcome of a message. With `LONG` the heading of the message stands before it, and the lines
 /// of its fields after it. Returns true if all went well.
-pub(crate) fn report_message<K: Keeper, W: Write, const LONG: bool>(
+pub(crate) fn report_message<H: Holdings, S: Store, W: Write, const LONG: bool>(
     alloc: Global,
     writer: &mut W,
     apdu: &ApduView<'_>,
     outcome: DeskOutcome,
-    keeper: &K,
-    key: &K::Key,
+    desk: &AnyDesk<H, S>,
+    key: &H::Key,
 ) -> Result<bool, ToolFault>
     ensures { WritesOutcome (wording LONG apdu.now) (W.contents writer.old) (W.contents writer.new) outcome
-        (K.keeping.side_for key.now (K.live keeper.now)) result }
+        (H.effects.side_for key.now desk.now.live) result }
 {
     let mut lines = Vec::new(alloc);
-    push_words::<K, LONG>(&mut lines, apdu, outcome, keeper, key)?;
+    push_words::<H, S, LONG>(&mut lines, apdu, outcome, desk, key)?;
     write_whole(writer, &lines)?;
     Ok(is_fine(outcome))
 }
 
 /// Appends the words of the outcome of a message.
-fn push_words<K: Keeper, const LONG: bool>(
+fn push_words<H: Holdings, S: Store, const LONG: bool>(
     lines: &mut Vec<u8>,
     apdu: &ApduView<'_>,
     outcome: DeskOutcome,
-    keeper: &K,
-    key: &K::Key,
+    desk: &AnyDesk<H, S>,
+    key: &H::Key,
 ) -> Result<(), OutOfMemory>
     ensures { OnOk result (lines.new.items ≡ lines.old.items
-        ++ wording LONG apdu.now outcome (K.keeping.side_for key.now (K.live keeper.now))) }
+        ++ wording LONG apdu.now outcome (H.effects.side_for key.now desk.now.live)) }
 {
     if LONG {
-        push_long::<K, false>(lines, apdu, outcome, keeper, key)
+        push_long::<H, S, false>(lines, apdu, outcome, desk, key)
     } else {
-        push_line::<K, false>(lines, outcome, keeper, key)
+        push_line::<H, S, false>(lines, outcome, desk, key)
     }
 }
 
 /// Appends the words of the outcome of a message at length, with how its side stands once it is saved.
-pub(crate) fn push_saved_message<K: Keeper>(
+pub(crate) fn push_saved_message<H: Holdings, S: Store>(
     lines: &mut Vec<u8>,
     apdu: &ApduView<'_>,
     outcome: DeskOutcome,
-    keeper: &K,
-    key: &K::Key,
+    desk: &AnyDesk<H, S>,
+    key: &H::Key,
 ) -> Result<(), OutOfMemory>
     ensures { OnOk result (lines.new.items ≡ lines.old.items
-        ++ long apdu.now outcome (as_told true (K.keeping.side_for key.now (K.live keeper.now)))) }
+        ++ long apdu.now outcome (as_told true (H.effects.side_for key.now desk.now.live))) }
 {
-    push_long::<K, true>(lines, apdu, outcome, keeper, key)
+    push_long::<H, S, true>(lines, apdu, outcome, desk, key)
 }
 
 /// Appends the heading of a message, the line, and the lines of its fields.
-fn push_long<K: Keeper, const SAVED: bool>(
+fn push_long<H: Holdings, S: Store, const SAVED: bool>(
     lines: &mut Vec<u8>,
     apdu: &ApduView<'_>,
     outcome: DeskOutcome,
-    keeper: &K,
-    key: &K::Key,
+    desk: &AnyDesk<H, S>,
+    key: &H::Key,
 ) -> Result<(), OutOfMemory>
     ensures { OnOk result (lines.new.items ≡ lines.old.items
-        ++ long apdu.now outcome (as_told SAVED (K.keeping.side_for key.now (K.live keeper.now)))) }
+        ++ long apdu.now outcome (as_told SAVED (H.effects.side_for key.now desk.now.live))) }
 {
     push_heading(lines, apdu)?;
-    push_line::<K, SAVED>(lines, outcome, keeper, key)?;
+    push_line::<H, S, SAVED>(lines, outcome, desk, key)?;
     push_said(lines, apdu)
 }
 
 /// Appends the line of a side that has done something, with how it stands once that is saved.
-pub(crate) fn push_done_line<K: Keeper>(
+pub(crate) fn push_done_line<H: Holdings, S: Store>(
     line: &mut Vec<u8>,
-    keeper: &K,
-    key: &K::Key,
+    desk: &AnyDesk<H, S>,
+    key: &H::Key,
 ) -> Result<(), OutOfMemory>
     ensures { OnOk result (line.new.items ≡ line.old.items
-        ++ done_line (as_told true (K.keeping.side_for key.now (K.live keeper.now)))) }
+        ++ done_line (as_told true (H.effects.side_for key.now desk.now.live))) }
 {
-    push_line::<K, true>(line, DeskOutcome::Plain(Outcome::Done), keeper, key)
+    push_line::<H, S, true>(line, DeskOutcome::Plain(Outcome::Done), desk, key)
 }
 
 /// Appends the line of an outcome and of how the side stands after it, now or once it is saved.
-fn push_line<K: Keeper, const SAVED: bool>(
+fn push_line<H: Holdings, S: Store, const SAVED: bool>(
     line: &mut Vec<u8>,
     outcome: DeskOutcome,
-    keeper: &K,
-    key: &K::Key,
+    desk: &AnyDesk<H, S>,
+    key: &H::Key,
 ) -> Result<(), OutOfMemory>
     ensures { OnOk result (line.new.items ≡ line.old.items
-        ++ side_line outcome (as_told SAVED (K.keeping.side_for key.now (K.live keeper.now)))) }
+        ++ side_line outcome (as_told SAVED (H.effects.side_for key.now desk.now.live))) }
 {
     line.extend_from_slice(outcome.word().as_bytes())?;
     line.push(b' ')?;
-    push_side_as::<K, SAVED>(line, keeper, key)?;
+    push_side_as::<H, S, SAVED>(line, desk, key)?;
     line.push(b'\n')?;
     Ok(())
 }
 
 /// Appends how a side stands, now or once it is saved.
-fn push_side_as<K: Keeper, const SAVED: bool>(
+fn push_side_as<H: Holdings, S: Store, const SAVED: bool>(
     line: &mut Vec<u8>,
-    keeper: &K,
-    key: &K::Key,
+    desk: &AnyDesk<H, S>,
+    key: &H::Key,
 ) -> Result<(), OutOfMemory>
     ensures { OnOk result (line.new.items ≡ line.old.items
-        ++ held_text (as_told SAVED (K.keeping.side_for key.now (K.live keeper.now)))) }
+        ++ held_text (as_told SAVED (H.effects.side_for key.now desk.now.live))) }
 {
-    if SAVED {
-        keeper.push_saved_side(line, key)
-    } else {
-        keeper.push_side(line, key)
-    }
+    let shown = desk.shown(key);
+    push_shown(line, if SAVED { shown.once_saved() } else { shown })
 }
 
 /// Tells if all went well: nothing was refused, and no message was in conflict.

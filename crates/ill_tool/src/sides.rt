@@ -3,7 +3,7 @@
 ghost use Rattle.std.specs.Prelude.{◌≡◌, ◌++◌, true, map, slice_get, IfOk, OnOk};
 ghost use Rattle.std.specs.Option.{option_to_list};
 ghost use Rattle.ill_saved.specs.Sides.{are_apart};
-ghost use Rattle.ill_saved.specs.Many.{sides_held};
+ghost use Rattle.ill_saved.specs.ManySides.{sides_held};
 ghost use Rattle.ill_tool.specs.Outbox.{held_of};
 
 use ill_saved::{Desk, Side, Sides, Store};

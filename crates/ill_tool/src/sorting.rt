@@ -18,9 +18,9 @@ use crate::mail::{Mails, begin_run, claim_mails, new_run, path_of};
 use crate::mail_box::{MAIL, MailBox, is_within, remove_if_there};
 use crate::new::run_desk_new;
 use crate::settle::{give_back, remove_runs};
-use crate::shelf::{Shelf, is_retired, is_there, refuse_retired};
+use crate::shelf::{Shelf, is_retired, is_there, names_of_desks, refuse_retired};
 use crate::verdict::Mail;
-use crate::warning::warn;
+use crate::warning::{warn, warn_of_message};
 use ill_der::{ApduView, BodyView};
 use ill_saved::{DeskFault, FileStore, LockFiles, RECORD_LIMIT, Role};
 use std::alloc::Global;
@@ -75,8 +75,8 @@ pub(crate) fn route_of(role: Role, home: Home, is_request: bool, has_room: bool)
     }
 }
 
-/// Sorts the mails of `folder` to the desks of `shelf`, and tells if any wait for the next run. It writes lines to
-/// `errors` of those, of new desks, and of mails of retired groups.
+/// Sorts the mails of `folder` to the desks of `shelf`. Returns true if any wait for the next run, or a desk is lost. It
+/// writes lines to `errors` of those, of new desks, and of mails of retired groups.
 pub(crate) fn sort_mails<T: LockFiles, E: Write>(
     rt: &T,
     alloc: Global,
@@ -134,7 +134,8 @@ fn claim_from_outside<T: Files>(
     }
 }
 
-/// Sorts the mails `found`, which were claimed, and tells if any wait for the next run.
+/// Sorts the mails `found`, which were claimed, and tells of each desk that is lost. Returns true if there is one, or
+/// mails wait for the next run.
 fn sort_found<T: LockFiles, E: Write>(
     rt: &T,
     alloc: Global,
@@ -150,8 +151,10 @@ fn sort_found<T: LockFiles, E: Write>(
         folder,
         boxes: Vec::new(alloc),
         made: 0,
+        lost: Vec::new(alloc),
         is_waiting: found.waiting > 0,
     };
+    sorting.tell_lost_desks(errors)?;
     for (mail, file) in found.mails.iter().zip(&found.files) {
         match sorting.sort_mail(mail, file.as_ref(), errors) {
             Ok(()) => {}
@@ -172,7 +175,7 @@ const NO_ROOM: &str = " left: mail has made 16 desks in this run, and makes no m
 
 const LOST: &str = " is lost: mail for it is left, until it is there again";
 
-const RETIRED_GROUP: &str = " removed: its group is retired";
+const RETIRED_GROUP: &str = "removed: its group is retired";
 
 const NEW_GROUP: &str = " is made: mail begins its group";
 
@@ -198,11 +201,36 @@ struct Sorting<'a, T: LockFiles> {
     boxes: Vec<SortedBox>,
     /// The number of desks that were made.
     made: usize,
-    /// Set if mails wait for the next run.
+    /// The paths of the lost desks that were told.
+    lost: Vec<String>,
+    /// Set if mails wait for the next run, or a desk is lost.
     is_waiting: bool,
 }
 
 impl<T: LockFiles> Sorting<'_, T> {
+    /// Tells of each desk that is lost: a file that it has beside it is there.
+    fn tell_lost_desks<E: Write>(&mut self, errors: &mut E) -> io::Result<()> {
+        let shelf = self.shelf;
+        for ending in [CAME, MAIL] {
+            for name in names_of_desks(self.rt, self.alloc, shelf.folder, shelf.role, ending)? {
+                let desk = format!(in self.alloc; "{}/{name}", shelf.folder)?;
+                if let Home::Lost = home_at(self.rt, self.alloc, desk.as_str())? {
+                    self.tell_lost(desk, errors)?;
+                }
+            }
+        }
+        Ok(())
+    }
+
+    /// Tells that `desk` is lost, once in a run.
+    fn tell_lost<E: Write>(&mut self, desk: String, errors: &mut E) -> io::Result<()> {
+        if !self.lost.contains(&desk) {
+            self.leave(desk.as_bytes(), LOST, errors);
+            self.lost.push(desk)?;
+        }
+        Ok(())
+    }
+
     /// Sorts a mail, if it could be claimed and read.
     fn sort_mail<E: Write>(
         &mut self,
@@ -218,7 +246,7 @@ impl<T: LockFiles> Sorting<'_, T> {
             Some(bytes) => self.sort_bytes(mail, bytes, file.as_str(), errors),
             None => {
                 self.leave(&mail.name, NOT_READ_NOW, errors);
-                give_back(self.rt, self.alloc, self.folder, file.as_str(), mail)
+                give_back(self.rt, self.alloc, self.folder, file.as_str(), &mail.name)
             }
         }
     }
@@ -258,11 +286,11 @@ impl<T: LockFiles> Sorting<'_, T> {
                 self.hand_over(mail, file, desk)
             }
             Route::Back => {
-                self.tell_back(mail, home, desk.as_bytes(), errors);
-                give_back(self.rt, self.alloc, self.folder, file, mail)
+                self.tell_back(mail, home, desk, errors)?;
+                give_back(self.rt, self.alloc, self.folder, file, &mail.name)
             }
             Route::Gone => {
-                warn(self.alloc, &mail.name, RETIRED_GROUP, errors);
+                warn_of_message(self.alloc, &mail.name, message, RETIRED_GROUP, errors);
                 remove_if_there(self.rt, file)
             }
             Route::Stray => self.set_aside(mail, file),
@@ -335,15 +363,25 @@ impl<T: LockFiles> Sorting<'_, T> {
         new_run(self.rt, self.alloc, &mail_box)
     }
 
-    /// Writes the line that tells why a mail is given back.
-    fn tell_back<E: Write>(&mut self, mail: &Mail, home: Home, desk: &[u8], errors: &mut E) {
+    /// Writes the line that tells why a mail for `desk` is given back.
+    fn tell_back<E: Write>(
+        &mut self,
+        mail: &Mail,
+        home: Home,
+        desk: String,
+        errors: &mut E,
+    ) -> io::Result<()> {
+        self.is_waiting = true;
         match home {
-            Home::Lost => self.leave(desk, LOST, errors),
-            _ => self.leave(&mail.name, NO_ROOM, errors),
+            Home::Lost => self.tell_lost(desk, errors),
+            _ => {
+                self.leave(&mail.name, NO_ROOM, errors);
+                Ok(())
+            }
         }
     }
 
-    /// Leaves a mail for the next run, and writes a line of it, or of its desk.
+    /// Leaves something for the next run, and writes a line of it.
     fn leave<E: Write>(&mut self, name: &[u8], text: &str, errors: &mut E) {
         self.is_waiting = true;
         warn(self.alloc, name, text, errors);

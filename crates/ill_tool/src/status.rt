@@ -5,7 +5,7 @@ ghost use Rattle.ill_tool.specs.Output.{WritesText};
 ghost use Rattle.ill_core.specs.State.{state_name};
 ghost use Rattle.ill_saved.specs.Side.{state_of, due_date_of};
 ghost use Rattle.ill_saved.specs.Sides.{are_apart};
-ghost use Rattle.ill_saved.specs.Many.{sides_held};
+ghost use Rattle.ill_saved.specs.ManySides.{sides_held};
 ghost use Rattle.ill_world.specs.Trace.{due_text};
 ghost use Rattle.ill_tool.specs.Lines.{line};
 ghost use Rattle.ill_tool.specs.Objects.{status_of_desk, status_text, text_of_one};
@@ -29,7 +29,7 @@ pub fn run_status<S: Store, W: Write>(
     writer: &mut W,
 ) -> Result<(), ToolFault>
     ensures { WritesText (W.contents writer.old) (W.contents writer.new)
-        (status_lines desk.now.live desk.now.released) result }
+        (status_lines desk.now.live.side desk.now.live.released) result }
 {
     let mut lines = Vec::new(alloc);
     push_status(&mut lines, desk.side(), desk.released())?;

@@ -2,20 +2,20 @@
 
 ghost use Rattle.std.specs.Prelude.{◌≡◌, ◌≤◌, true};
 ghost use Rattle.ill_der.specs.ShortForm.{spelling};
-ghost use Rattle.ill_tool.specs.Keeping.{many_sides, one_side};
-ghost use Rattle.ill_tool.specs.Performing.{many_view, one_view, view_of, CountsToolFailure};
+ghost use Rattle.ill_saved.specs.OneSide.{one_side};
+ghost use Rattle.ill_saved.specs.ManySides.{many_sides};
+ghost use Rattle.ill_tool.specs.Performing.{view_of, CountsToolFailure};
 ghost use Rattle.ill_tool.specs.Take.{CountsTaking, KeepsBefore, KeepsDesk, KeepsFront, KeepsTaken, RunsKeptTake, RunsTake, RunsTaking, SavesTaken, TakesAndSaves, kept_text, progress, takes_each};
 ghost use Rattle.ill_tool.specs.Telling.{long, short, wording};
 
 use crate::came::STORE_FAILED;
 use crate::fault::{ToolFault, refused};
 use crate::input::{Counted, handle_input};
-use crate::keeper::Keeper;
 use crate::output::write_and_flush;
 use crate::side_line::report_message;
 use ill_core::Taking;
 use ill_der::{ApduView, Handler, encode};
-use ill_saved::{Desk, Desk1, Store};
+use ill_saved::{AnyDesk, Desk, Desk1, Holdings, ManySides, OneSide, Store};
 use ill_values::Apdu;
 use ill_world::{DeskOutcome, Outcome};
 use std::alloc::Global;
@@ -36,10 +36,10 @@ pub fn run_take<S: Store, R: Read, W: Write>(
 ) -> Result<bool, ToolFault>
     ensures runs { RunsTake short one_side (R.remaining reader.old) (R.remaining reader.new)
         (W.contents writer.old) (W.contents writer.new)
-        (one_view S.state desk.old) result (one_view S.state desk.new) }
+        (view_of S.state desk.old) result (view_of S.state desk.new) }
     ensures counted { CountsToolFailure result (S.state desk.old.store).failures (S.state desk.new.store).failures }
 {
-    take_on::<Desk1<S>, Sink, R, W, false, false>(alloc, desk, &mut sink(), reader, writer)
+    take_on::<OneSide, S, Sink, R, W, false, false>(alloc, desk, &mut sink(), reader, writer)
 }
 
 /// Takes each APDU of the input at `desk`, as `run_take` does. Each is for the side of its own transaction, whose line
@@ -53,10 +53,10 @@ pub fn run_desk_take<S: Store, R: Read, W: Write>(
 ) -> Result<bool, ToolFault>
     ensures runs { RunsTake short many_sides (R.remaining reader.old) (R.remaining reader.new)
         (W.contents writer.old) (W.contents writer.new)
-        (many_view S.state desk.old) result (many_view S.state desk.new) }
+        (view_of S.state desk.old) result (view_of S.state desk.new) }
     ensures counted { CountsToolFailure result (S.state desk.old.store).failures (S.state desk.new.store).failures }
 {
-    take_on::<Desk<S>, Sink, R, W, false, false>(alloc, desk, &mut sink(), reader, writer)
+    take_on::<ManySides, S, Sink, R, W, false, false>(alloc, desk, &mut sink(), reader, writer)
 }
 
 /// Takes each APDU of the input as `run_take` does. Each line has the heading of the message: `GROUP TRANSACTION TYPE
@@ -70,10 +70,10 @@ pub fn run_long_take<S: Store, R: Read, W: Write>(
 ) -> Result<bool, ToolFault>
     ensures runs { RunsTake long one_side (R.remaining reader.old) (R.remaining reader.new)
         (W.contents writer.old) (W.contents writer.new)
-        (one_view S.state desk.old) result (one_view S.state desk.new) }
+        (view_of S.state desk.old) result (view_of S.state desk.new) }
     ensures counted { CountsToolFailure result (S.state desk.old.store).failures (S.state desk.new.store).failures }
 {
-    take_on::<Desk1<S>, Sink, R, W, true, false>(alloc, desk, &mut sink(), reader, writer)
+    take_on::<OneSide, S, Sink, R, W, true, false>(alloc, desk, &mut sink(), reader, writer)
 }
 
 /// Takes each APDU of the input as `run_desk_take` does, and writes the lines of `run_long_take`.
@@ -85,10 +85,10 @@ pub fn run_desk_long_take<S: Store, R: Read, W: Write>(
 ) -> Result<bool, ToolFault>
     ensures runs { RunsTake long many_sides (R.remaining reader.old) (R.remaining reader.new)
         (W.contents writer.old) (W.contents writer.new)
-        (many_view S.state desk.old) result (many_view S.state desk.new) }
+        (view_of S.state desk.old) result (view_of S.state desk.new) }
     ensures counted { CountsToolFailure result (S.state desk.old.store).failures (S.state desk.new.store).failures }
 {
-    take_on::<Desk<S>, Sink, R, W, true, false>(alloc, desk, &mut sink(), reader, writer)
+    take_on::<ManySides, S, Sink, R, W, true, false>(alloc, desk, &mut sink(), reader, writer)
 }
 
 /// Takes each APDU of the input as `run_desk_long_take` or `run_desk_take` does, and keeps each that was taken. Its
@@ -106,33 +106,33 @@ pub fn run_desk_kept_take<S: Store, F: Write, R: Read, W: Write>(
 ) -> Result<bool, ToolFault>
     ensures runs { RunsKeptTake (wording is_long) many_sides (R.remaining reader.old) (R.remaining reader.new)
         (F.contents came.old) (F.contents came.new) (W.contents writer.old) (W.contents writer.new)
-        (many_view S.state desk.old) result (many_view S.state desk.new) }
+        (view_of S.state desk.old) result (view_of S.state desk.new) }
     ensures never_fewer { (S.state desk.old.store).failures ≤ (S.state desk.new.store).failures }
 {
     if is_long {
-        take_on::<Desk<S>, F, R, W, true, true>(alloc, desk, came, reader, writer)
+        take_on::<ManySides, S, F, R, W, true, true>(alloc, desk, came, reader, writer)
     } else {
-        take_on::<Desk<S>, F, R, W, false, true>(alloc, desk, came, reader, writer)
+        take_on::<ManySides, S, F, R, W, false, true>(alloc, desk, came, reader, writer)
     }
 }
 
-/// Takes each APDU of the input at `keeper`. With `KEEP` it keeps each that was taken in `came`.
-fn take_on<K: Keeper, F: Write, R: Read, W: Write, const LONG: bool, const KEEP: bool>(
+/// Takes each APDU of the input at `desk`. With `KEEP` it keeps each that was taken in `came`.
+fn take_on<H: Holdings, S: Store, F: Write, R: Read, W: Write, const LONG: bool, const KEEP: bool>(
     alloc: Global,
-    keeper: &mut K,
+    desk: &mut AnyDesk<H, S>,
     came: &mut F,
     reader: &mut R,
     writer: &mut W,
 ) -> Result<bool, ToolFault>
-    ensures runs { RunsTaking KEEP (wording LONG) K.keeping (R.remaining reader.old) (R.remaining reader.new)
+    ensures runs { RunsTaking KEEP (wording LONG) H.effects (R.remaining reader.old) (R.remaining reader.new)
         (F.contents came.old) (F.contents came.new) (W.contents writer.old) (W.contents writer.new)
-        (view_of K.Kept.state (K.live keeper.old) (K.store keeper.old)) result
-        (view_of K.Kept.state (K.live keeper.new) (K.store keeper.new)) }
-    ensures counted { CountsTaking KEEP result (K.Kept.state (K.store keeper.old)).failures
-        (K.Kept.state (K.store keeper.new)).failures }
+        (view_of S.state desk.old) result
+        (view_of S.state desk.new) }
+    ensures counted { CountsTaking KEEP result (S.state desk.old.store).failures
+        (S.state desk.new.store).failures }
 {
-    let mut taken = Counted::new(TakesEach::<'_, '_, K, F, LONG, KEEP> {
-        keeper,
+    let mut taken = Counted::new(TakesEach::<'_, '_, H, S, F, LONG, KEEP> {
+        desk,
         came,
         all_fine: true,
     });
@@ -140,23 +140,31 @@ fn take_on<K: Keeper, F: Write, R: Read, W: Write, const LONG: bool, const KEEP:
 }
 
 /// Takes each APDU of the input with `taken`, which has taken none yet.
-fn take_input<K: Keeper, F: Write, R: Read, W: Write, const LONG: bool, const KEEP: bool>(
+fn take_input<
+    H: Holdings,
+    S: Store,
+    F: Write,
+    R: Read,
+    W: Write,
+    const LONG: bool,
+    const KEEP: bool,
+>(
     alloc: Global,
-    taken: &mut Counted<TakesEach<'_, '_, K, F, LONG, KEEP>>,
+    taken: &mut Counted<TakesEach<'_, '_, H, S, F, LONG, KEEP>>,
     reader: &mut R,
     writer: &mut W,
 ) -> Result<bool, ToolFault>
     requires none { taken.old.count ≡ 0 }
     requires fine { taken.old.handler.all_fine ≡ true }
-    ensures runs { RunsTaking KEEP (wording LONG) K.keeping (R.remaining reader.old) (R.remaining reader.new)
+    ensures runs { RunsTaking KEEP (wording LONG) H.effects (R.remaining reader.old) (R.remaining reader.new)
         (F.contents taken.old.handler.came.now) (F.contents taken.new.handler.came.now)
         (W.contents writer.old) (W.contents writer.new)
-        (view_of K.Kept.state (K.live taken.old.handler.keeper.now) (K.store taken.old.handler.keeper.now)) result
-        (view_of K.Kept.state (K.live taken.new.handler.keeper.now) (K.store taken.new.handler.keeper.now)) }
-    ensures same_keeper { taken.new.handler.keeper.ghost_name ≡ taken.old.handler.keeper.ghost_name }
+        (view_of S.state taken.old.handler.desk.now) result
+        (view_of S.state taken.new.handler.desk.now) }
+    ensures same_keeper { taken.new.handler.desk.ghost_name ≡ taken.old.handler.desk.ghost_name }
     ensures same_came { taken.new.handler.came.ghost_name ≡ taken.old.handler.came.ghost_name }
-    ensures counted { CountsTaking KEEP result (K.Kept.state (K.store taken.old.handler.keeper.now)).failures
-        (K.Kept.state (K.store taken.new.handler.keeper.now)).failures }
+    ensures counted { CountsTaking KEEP result (S.state taken.old.handler.desk.now.store).failures
+        (S.state taken.new.handler.desk.now.store).failures }
 {
     match handle_input(alloc, reader, writer, taken) {
         Ok(_) => Ok(taken.handler.all_fine),
@@ -164,16 +172,24 @@ fn take_input<K: Keeper, F: Write, R: Read, W: Write, const LONG: bool, const KE
     }
 }
 
-/// Takes each APDU at a keeper, and keeps it if messages are kept. It writes long lines or short ones, and remembers if
+/// Takes each APDU at a desk, and keeps it if messages are kept. It writes long lines or short ones, and remembers if
 /// all went well.
 #[derive(Drop)]
-struct TakesEach<'a, 'b, K: Keeper, F: Write, const LONG: bool, const KEEP: bool> {
-    keeper: &'a mut K,
+struct TakesEach<'a, 'b, H: Holdings, S: Store, F: Write, const LONG: bool, const KEEP: bool> {
+    desk: &'a mut AnyDesk<H, S>,
     came: &'b mut F,
     all_fine: bool,
 }
 
-impl<K: Keeper, F: Write, const LONG: bool, const KEEP: bool> TakesEach<'_, '_, K, F, LONG, KEEP> {
+impl<H: Holdings, S: Store, F: Write, const LONG: bool, const KEEP: bool> TakesEach<
+    '_,
+    '_,
+    H,
+    S,
+    F,
+    LONG,
+    KEEP,
+> {
     /// Takes `apdu`, which was read as `read`, saves it if it was taken, and writes its line.
     fn take_and_tell<W: Write>(
         &mut self,
@@ -183,24 +199,24 @@ impl<K: Keeper, F: Write, const LONG: bool, const KEEP: bool> TakesEach<'_, '_, 
         read: &ApduView<'_>,
     ) -> Result<(), ToolFault>
         requires same { read.now ≡ apdu.now }
-        ensures takes { takes_each KEEP (wording LONG) K.keeping
-            (progress (view_of K.Kept.state (K.live self.old.keeper.now) (K.store self.old.keeper.now))
+        ensures takes { takes_each KEEP (wording LONG) H.effects
+            (progress (view_of S.state self.old.desk.now)
             (F.contents self.old.came.now) (W.contents writer.old) self.old.all_fine)
             apdu.now result
-            (progress (view_of K.Kept.state (K.live self.new.keeper.now) (K.store self.new.keeper.now))
+            (progress (view_of S.state self.new.desk.now)
             (F.contents self.new.came.now) (W.contents writer.new) self.new.all_fine) }
-        ensures keeps { KeepsDesk KEEP result self.old.keeper.ghost_name self.new.keeper.ghost_name
+        ensures keeps { KeepsDesk KEEP result self.old.desk.ghost_name self.new.desk.ghost_name
             self.old.came.ghost_name self.new.came.ghost_name
-            (K.Kept.state (K.store self.old.keeper.now)).failures (K.Kept.state (K.store self.new.keeper.now)).failures }
+            (S.state self.old.desk.now.store).failures (S.state self.new.desk.now.store).failures }
     {
-        match take_and_save::<K, F, KEEP>(alloc, self.keeper, self.came, apdu) {
-            Ok(outcome) => match report_message::<K, W, LONG>(
+        match take_and_save::<H, S, F, KEEP>(alloc, self.desk, self.came, apdu) {
+            Ok(outcome) => match report_message::<H, S, W, LONG>(
                 alloc,
                 writer,
                 read,
                 outcome,
-                self.keeper,
-                K::key_of(apdu),
+                self.desk,
+                H::key_of(apdu),
             ) {
                 Ok(fine) => {
                     self.all_fine &= fine;
@@ -213,19 +229,19 @@ impl<K: Keeper, F: Write, const LONG: bool, const KEEP: bool> TakesEach<'_, '_, 
     }
 }
 
-impl<K: Keeper, F: Write, W: Write, const LONG: bool, const KEEP: bool> Handler<W>
-    for TakesEach<'_, '_, K, F, LONG, KEEP> {
+impl<H: Holdings, S: Store, F: Write, W: Write, const LONG: bool, const KEEP: bool> Handler<W>
+    for TakesEach<'_, '_, H, S, F, LONG, KEEP> {
     type Fault = ToolFault;
 
-    ghost handles = { λ old apdu result new. takes_each KEEP (wording LONG) K.keeping
-        (progress (view_of K.Kept.state (K.live old.0.keeper.now) (K.store old.0.keeper.now))
+    ghost handles = { λ old apdu result new. takes_each KEEP (wording LONG) H.effects
+        (progress (view_of S.state old.0.desk.now)
         (F.contents old.0.came.now) (W.contents old.1) old.0.all_fine)
         apdu result
-        (progress (view_of K.Kept.state (K.live new.0.keeper.now) (K.store new.0.keeper.now))
+        (progress (view_of S.state new.0.desk.now)
         (F.contents new.0.came.now) (W.contents new.1) new.0.all_fine)
-        × KeepsDesk KEEP result old.0.keeper.ghost_name new.0.keeper.ghost_name
+        × KeepsDesk KEEP result old.0.desk.ghost_name new.0.desk.ghost_name
         old.0.came.ghost_name new.0.came.ghost_name
-        (K.Kept.state (K.store old.0.keeper.now)).failures (K.Kept.state (K.store new.0.keeper.now)).failures };
+        (S.state old.0.desk.now.store).failures (S.state new.0.desk.now.store).failures };
 
     fn handle(
         &mut self,
@@ -241,24 +257,24 @@ impl<K: Keeper, F: Write, W: Write, const LONG: bool, const KEEP: bool> Handler<
 }
 
 /// Takes `apdu`. If it was taken, it keeps it if messages are kept, and then saves.
-fn take_and_save<K: Keeper, F: Write, const KEEP: bool>(
+fn take_and_save<H: Holdings, S: Store, F: Write, const KEEP: bool>(
     alloc: Global,
-    keeper: &mut K,
+    desk: &mut AnyDesk<H, S>,
     came: &mut F,
     apdu: &Apdu,
 ) -> Result<DeskOutcome, ToolFault>
-    ensures takes { TakesAndSaves K.keeping
-        (view_of K.Kept.state (K.live keeper.old) (K.store keeper.old))
+    ensures takes { TakesAndSaves H.effects
+        (view_of S.state desk.old)
         apdu.now result
-        (view_of K.Kept.state (K.live keeper.new) (K.store keeper.new)) }
+        (view_of S.state desk.new) }
     ensures keeps { KeepsTaken KEEP apdu.now result (F.contents came.old) (F.contents came.new)
-        (view_of K.Kept.state (K.live keeper.old) (K.store keeper.old))
-        (view_of K.Kept.state (K.live keeper.new) (K.store keeper.new)) }
-    ensures counted { CountsTaking KEEP result (K.Kept.state (K.store keeper.old)).failures
-        (K.Kept.state (K.store keeper.new)).failures }
+        (view_of S.state desk.old)
+        (view_of S.state desk.new) }
+    ensures counted { CountsTaking KEEP result (S.state desk.old.store).failures
+        (S.state desk.new.store).failures }
 {
-    match keeper.take(alloc, apdu) {
-        Ok(Taking::Taken) => match keep_and_save::<K, F, KEEP>(alloc, keeper, came, apdu) {
+    match desk.take(alloc, apdu) {
+        Ok(Taking::Taken) => match keep_and_save::<H, S, F, KEEP>(alloc, desk, came, apdu) {
             Ok(()) => Ok(DeskOutcome::Plain(Outcome::Answered(Taking::Taken))),
             Err(fault) => Err(fault),
         },
@@ -268,25 +284,25 @@ fn take_and_save<K: Keeper, F: Write, const KEEP: bool>(
 }
 
 /// Keeps `apdu`, which was taken, if messages are kept, and then saves.
-fn keep_and_save<K: Keeper, F: Write, const KEEP: bool>(
+fn keep_and_save<H: Holdings, S: Store, F: Write, const KEEP: bool>(
     alloc: Global,
-    keeper: &mut K,
+    desk: &mut AnyDesk<H, S>,
     came: &mut F,
     apdu: &Apdu,
 ) -> Result<(), ToolFault>
-    ensures saves { SavesTaken K.keeping
-        (view_of K.Kept.state (K.live keeper.old) (K.store keeper.old)) result
-        (view_of K.Kept.state (K.live keeper.new) (K.store keeper.new)) }
+    ensures saves { SavesTaken H.effects
+        (view_of S.state desk.old) result
+        (view_of S.state desk.new) }
     ensures keeps { KeepsBefore (kept_text KEEP apdu.now) result (F.contents came.old) (F.contents came.new)
-        (view_of K.Kept.state (K.live keeper.old) (K.store keeper.old))
-        (view_of K.Kept.state (K.live keeper.new) (K.store keeper.new)) }
-    ensures counted { CountsTaking KEEP result (K.Kept.state (K.store keeper.old)).failures
-        (K.Kept.state (K.store keeper.new)).failures }
+        (view_of S.state desk.old)
+        (view_of S.state desk.new) }
+    ensures counted { CountsTaking KEEP result (S.state desk.old.store).failures
+        (S.state desk.new.store).failures }
 {
     if KEEP {
         keep(alloc, came, apdu)?;
     }
-    match keeper.save(alloc) {
+    match desk.save(alloc) {
         Ok(()) => Ok(()),
         Err(fault) => Err(fault.into()),
     }

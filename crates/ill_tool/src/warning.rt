@@ -1,6 +1,8 @@
 //! Lines to a person, on standard error: each names a path, a mail or a desk, and the fault.
 
 use crate::escape::push_escaped;
+use crate::long_lines::push_heading;
+use ill_der::ApduView;
 use ill_values::OutOfMemory;
 use std::alloc::Global;
 use std::io::Write;
@@ -16,6 +18,36 @@ pub(crate) fn warn<E: Write>(alloc: Global, name: &[u8], text: &str, errors: &mu
 /// Appends a line of `name` and `text`.
 fn push_warning(line: &mut Vec<u8>, name: &[u8], text: &str) -> Result<(), OutOfMemory> {
     push_name(line, name)?;
+    line.extend_from_slice(text.as_bytes())?;
+    line.push(b'\n')?;
+    Ok(())
+}
+
+/// Writes a line of the mail `name`, of the heading of its message, and of `text`. If memory runs out, no line is
+/// written.
+pub(crate) fn warn_of_message<E: Write>(
+    alloc: Global,
+    name: &[u8],
+    message: &ApduView<'_>,
+    text: &str,
+    errors: &mut E,
+) {
+    let mut line = Vec::new(alloc);
+    if push_told_message(&mut line, name, message, text).is_ok() {
+        let _ = errors.write_all(&line);
+    }
+}
+
+/// Appends a line of the mail `name`, of the heading of its message, and of `text`.
+fn push_told_message(
+    line: &mut Vec<u8>,
+    name: &[u8],
+    message: &ApduView<'_>,
+    text: &str,
+) -> Result<(), OutOfMemory> {
+    push_name(line, name)?;
+    line.extend_from_slice(b": ")?;
+    push_heading(line, message)?;
     line.extend_from_slice(text.as_bytes())?;
     line.push(b'\n')?;
     Ok(())

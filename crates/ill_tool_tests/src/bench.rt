@@ -1,12 +1,12 @@
 //! What lies on the bench: a folder, and what lies in memory.
 
-use crate::beginning::begin;
 use crate::call::Call;
 use crate::engines;
 use crate::engines::Engine;
 use crate::folder::{FileCall, Folder};
-use crate::memory::{Beginning, Memory, MemoryCall};
+use crate::memory::{Beginning, MemoryCall};
 use crate::names::Names;
+use crate::past::{LineCall, Past};
 use crate::texts::tell_texts;
 use crate::words::Word;
 use ill_saved::LockFiles;
@@ -30,7 +30,7 @@ pub trait Performs {
 pub struct Bench<'a, R: LockFiles> {
     alloc: Global,
     folder: Folder<'a, R>,
-    memory: Option<Memory>,
+    past: Past,
 }
 
 /// What the first word of a line calls.
@@ -42,13 +42,8 @@ enum Kind {
     Watched,
     Engine(Engine),
     File(FileCall),
-    /// A side or a desk in memory begins.
-    Begin(Beginning),
-    /// One begins by the engine of `new`.
-    New(Beginning),
-    /// The next call of its store is planned.
-    Next,
-    On(MemoryCall),
+    /// A call on a side or a desk in memory.
+    Line(LineCall),
     Texts,
 }
 
@@ -65,23 +60,23 @@ const KINDS: [(&str, Kind); 30] = [
     ("file", Kind::File(FileCall::Show)),
     ("folder", Kind::File(FileCall::Folder)),
     ("remove", Kind::File(FileCall::Remove)),
-    ("side", Kind::Begin(Beginning::Side)),
-    ("new-side", Kind::New(Beginning::Side)),
-    ("desk", Kind::Begin(Beginning::Desk)),
-    ("new", Kind::New(Beginning::Desk)),
-    ("next", Kind::Next),
-    ("save", Kind::On(MemoryCall::Save)),
-    ("restart", Kind::On(MemoryCall::Restart)),
-    ("act", Kind::On(MemoryCall::Act)),
-    ("take", Kind::On(MemoryCall::Take)),
-    ("inbox", Kind::On(MemoryCall::Inbox)),
-    ("outbox", Kind::On(MemoryCall::Outbox)),
-    ("stream", Kind::On(MemoryCall::Stream)),
-    ("dates", Kind::On(MemoryCall::Dates)),
-    ("copy", Kind::On(MemoryCall::Copy)),
-    ("send", Kind::On(MemoryCall::Send)),
-    ("status", Kind::On(MemoryCall::Status)),
-    ("loan", Kind::On(MemoryCall::Loan)),
+    ("side", Kind::Line(LineCall::Begin(Beginning::Side))),
+    ("new-side", Kind::Line(LineCall::New(Beginning::Side))),
+    ("desk", Kind::Line(LineCall::Begin(Beginning::Desk))),
+    ("new", Kind::Line(LineCall::New(Beginning::Desk))),
+    ("next", Kind::Line(LineCall::Next)),
+    ("save", Kind::Line(LineCall::On(MemoryCall::Save))),
+    ("restart", Kind::Line(LineCall::On(MemoryCall::Restart))),
+    ("act", Kind::Line(LineCall::On(MemoryCall::Act))),
+    ("take", Kind::Line(LineCall::On(MemoryCall::Take))),
+    ("inbox", Kind::Line(LineCall::On(MemoryCall::Inbox))),
+    ("outbox", Kind::Line(LineCall::On(MemoryCall::Outbox))),
+    ("stream", Kind::Line(LineCall::On(MemoryCall::Stream))),
+    ("dates", Kind::Line(LineCall::On(MemoryCall::Dates))),
+    ("copy", Kind::Line(LineCall::On(MemoryCall::Copy))),
+    ("send", Kind::Line(LineCall::On(MemoryCall::Send))),
+    ("status", Kind::Line(LineCall::On(MemoryCall::Status))),
+    ("loan", Kind::Line(LineCall::On(MemoryCall::Loan))),
     ("texts", Kind::Texts),
 ];
 
@@ -91,7 +86,7 @@ impl<'a, R: LockFiles> Bench<'a, R> {
         Bench {
             alloc,
             folder,
-            memory: None,
+            past: Past::new(alloc),
         }
     }
 
@@ -101,15 +96,6 @@ impl<'a, R: LockFiles> Bench<'a, R> {
         match kind {
             Kind::Ill => self.folder.command(page, names, &mut call),
             Kind::Watched => self.folder.watched_command(page, names, &mut call),
-            Kind::Engine(engine) => engines::perform(self.alloc, page, names, engine, &mut call),
-            Kind::On(kind) => {
-                let memory = self.memory.as_mut()?;
-                memory.perform(self.alloc, page, names, kind, &mut call)
-            }
-            Kind::New(beginning) => {
-                let memory = &mut self.memory;
-                begin(self.alloc, page, names, memory, beginning, &mut call)
-            }
             _ => None,
         }
     }
@@ -117,7 +103,7 @@ impl<'a, R: LockFiles> Bench<'a, R> {
 
 impl<'a, R: LockFiles> Performs for Bench<'a, R> {
     fn begin(&mut self) -> Option<()> {
-        drop(self.memory.take());
+        self.past.clear();
         self.folder.clear()
     }
 
@@ -125,12 +111,8 @@ impl<'a, R: LockFiles> Performs for Bench<'a, R> {
         let (first, others) = words.split_first()?;
         match named(&KINDS, first.text.as_str())? {
             Kind::File(kind) => self.folder.perform(page, names, kind, others),
-            Kind::Begin(beginning) => {
-                let begun = Memory::begin(self.alloc, beginning, others)?;
-                drop(self.memory.replace(begun));
-                Some(())
-            }
-            Kind::Next => self.memory.as_mut()?.plan(others),
+            Kind::Engine(engine) => engines::perform(self.alloc, page, names, engine, others),
+            Kind::Line(kind) => self.past.perform(page, names, kind, others),
             Kind::Texts => {
                 tell_texts(page);
                 Some(())

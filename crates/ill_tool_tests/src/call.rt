@@ -1,22 +1,72 @@
 //! A call: its words, and its streams.
 
+use crate::letters::Letters;
+use crate::memory::MemoryCall;
 use crate::names::Names;
-use crate::streams::{reader_of, writer_of};
+use crate::streams::{bytes_of, reader_of, writer_of};
 use crate::telling::{Telling, begin, tell_reader, tell_writer};
 use crate::words::{Word, cut};
-use ill_test_kit::{Page, TestReader, TestWriter};
+use ill_der::view;
+use ill_saved::DeskFault;
+use ill_test_kit::{Failure, Page, TestReader, TestWriter, marks};
+use ill_tool::ToolFault;
 use std::alloc::Global;
 use std::fmt::Debug;
 
-/// What a call is given.
+/// The room of the writers of a call that stands between marks. It is more than any of these calls writes.
+const ROOM: usize = 65_536;
+
+/// All that a call is given, and all that it leaves behind beside its answer.
 #[derive(Drop)]
 pub struct Call<'a> {
     pub words: &'a [Word],
     pub source: TestReader,
     pub output: TestWriter,
     pub errors: TestWriter,
+    /// The mails that have left.
+    pub letters: Letters,
+    /// It answered want of memory.
+    pub says_memory: bool,
+    /// It was refused a growth, and has to be made again.
+    pub was_refused: bool,
+    /// It answered want of memory, and has changed the store of the copy.
+    pub spoils_copy: bool,
+    /// It stands between marks if it is performed.
+    is_marked: bool,
+    /// The words of its input.
+    input: &'a [Word],
     /// How much is told of what the two writers took.
     tellings: (Telling, Telling),
+}
+
+/// The fault of a call, which may be want of memory.
+pub trait Faulty {
+    /// Returns true if it is want of memory.
+    fn is_memory(&self) -> bool;
+
+    /// Ends the marks of the call. Returns true if a growth was refused.
+    fn is_refused(alloc: Global, says_memory: bool) -> bool;
+}
+
+/// An engine may do without room that it asked for only to be quick.
+impl Faulty for ToolFault {
+    fn is_memory(&self) -> bool {
+        *self == ToolFault::OutOfMemory
+    }
+
+    fn is_refused(alloc: Global, says_memory: bool) -> bool {
+        marks::is_refused_or_without(alloc, says_memory)
+    }
+}
+
+impl Faulty for DeskFault {
+    fn is_memory(&self) -> bool {
+        *self == DeskFault::OutOfMemory
+    }
+
+    fn is_refused(alloc: Global, says_memory: bool) -> bool {
+        marks::is_refused(alloc, says_memory)
+    }
 }
 
 /// The words of a call, and those of its streams.
@@ -55,10 +105,65 @@ impl<'a> Call<'a> {
                 source,
                 output,
                 errors,
+                letters: Letters::new(alloc, usize::MAX),
+                says_memory: false,
+                was_refused: false,
+                spoils_copy: false,
+                is_marked: false,
+                input: parts.input.unwrap_or(&[]),
                 tellings: (told, told_errors),
             }),
             _ => None,
         }
+    }
+
+    /// Lets it stand between marks, and gives its writers room for all that they take.
+    pub fn mark(&mut self, alloc: Global) -> Option<()> {
+        self.output.taken = Vec::with_capacity(alloc, ROOM).ok()?;
+        self.errors.taken = Vec::with_capacity(alloc, ROOM).ok()?;
+        self.is_marked = true;
+        Some(())
+    }
+
+    /// Begins the marks.
+    pub fn begin(&self, alloc: Global) {
+        if self.is_marked {
+            marks::begin(alloc);
+        }
+    }
+
+    /// Ends the marks, and returns the answer.
+    pub fn end<T: Drop, F: Faulty + Drop>(
+        &mut self,
+        alloc: Global,
+        answer: Result<T, F>,
+    ) -> Result<T, F> {
+        self.says_memory = match &answer {
+            Ok(_) => false,
+            Err(fault) => fault.is_memory(),
+        };
+        self.was_refused = self.is_marked && F::is_refused(alloc, self.says_memory);
+        answer
+    }
+
+    /// Leaves it the first `count` of its messages or mails.
+    pub fn shorten(
+        &mut self,
+        alloc: Global,
+        names: &Names,
+        on: MemoryCall,
+        count: usize,
+    ) -> Option<()> {
+        match on {
+            MemoryCall::Take => {
+                let bytes = bytes_of(names, self.input)?;
+                let front = bytes.get(..ends(alloc, &bytes)?.get(count).copied()?)?;
+                let front = Vec::from_slice(alloc, front).ok()?;
+                self.source = TestReader::new(front, Failure::NEVER, Vec::new(alloc));
+            }
+            _ => self.words = self.words.get(..count)?,
+        }
+        Some(())
     }
 
     /// Tells what it has written, and what it has left.
@@ -78,6 +183,36 @@ impl<'a> Call<'a> {
         self.tell(page, names);
         tell_value(page, answer);
     }
+}
+
+/// Returns the bytes of the input of `WORDS < READER` that come before a failure.
+pub fn input_of(names: &Names, words: &[Word]) -> Option<Vec<u8>> {
+    bytes_of(names, Parts::of(words).input.unwrap_or(&[]))
+}
+
+/// Returns how many fronts there are of the messages or mails of a call. Those of another call are none.
+pub fn front_count(alloc: Global, names: &Names, on: MemoryCall, words: &[Word]) -> usize {
+    match on {
+        MemoryCall::Take => input_of(names, words)
+            .and_then(|bytes| ends(alloc, &bytes))
+            .map_or(0, |ends| ends.len()),
+        MemoryCall::Inbox => Parts::of(words).words.len(),
+        _ => 0,
+    }
+}
+
+/// Returns the size of each front of whole messages, from 0 on.
+fn ends(alloc: Global, bytes: &[u8]) -> Option<Vec<usize>> {
+    let mut ends = Vec::new(alloc);
+    let mut end = 0;
+    for _ in 0..bytes.len() {
+        ends.push(end).ok()?;
+        match view(bytes.get(end..)?) {
+            Ok((_, size)) => end = end.checked_add(size)?,
+            Err(_) => return Some(ends),
+        }
+    }
+    Some(ends)
 }
 
 /// Tells what is answered.

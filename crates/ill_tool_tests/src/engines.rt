@@ -2,9 +2,13 @@
 
 use crate::call::{Call, tell_value};
 use crate::names::Names;
+use crate::past::is_short;
 use crate::telling::{tell_bytes, tell_line, tell_reader};
+use crate::tries::Seen;
+use crate::words::Word;
 use ill_der::{ReadFault, decode, encode, read_apdu, write_apdu};
 use ill_test_kit::Page;
+use ill_test_kit::marks::TRIES;
 use ill_tool::{run_check, run_show, run_simulate, run_simulate_desks};
 use ill_values::Apdu;
 use std::alloc::Global;
@@ -20,8 +24,79 @@ pub enum Engine {
     Write,
 }
 
-/// Performs a call, and tells its answer.
+/// Performs a call between marks, and again while it is refused a growth. Then it tells the answer.
 pub fn perform(
+    alloc: Global,
+    page: &mut Page,
+    names: &Names,
+    engine: Engine,
+    words: &[Word],
+) -> Option<()> {
+    let mut tries = Vec::new(alloc);
+    let done = try_often(alloc, page, names, engine, words, &mut tries);
+    drop(tries);
+    done
+}
+
+/// Performs a call between marks until no growth is refused, and adds each try before that.
+fn try_often<'a>(
+    alloc: Global,
+    page: &mut Page,
+    names: &Names,
+    engine: Engine,
+    words: &'a [Word],
+    tries: &mut Vec<Seen<'a>>,
+) -> Option<()> {
+    for _ in 0..TRIES {
+        let mut seen = Seen::new(alloc, Call::of(alloc, names, words)?);
+        let done = perform_once(alloc, names, engine, words, &mut seen);
+        if !seen.call.was_refused {
+            page.page(&seen.answer);
+            tell_faults(page, tries, &seen);
+            drop(seen);
+            return done;
+        }
+        tries.push(seen).ok().and(done)?;
+    }
+    None
+}
+
+/// Performs a call, between marks if it can be performed often.
+fn perform_once(
+    alloc: Global,
+    names: &Names,
+    engine: Engine,
+    words: &[Word],
+    seen: &mut Seen<'_>,
+) -> Option<()> {
+    if is_short(names, words) {
+        seen.call.mark(alloc)?;
+    }
+    answer_of(alloc, &mut seen.answer, names, engine, &mut seen.call)
+}
+
+/// Tells each try that did not write some whole lines before it answered want of memory, and was not as ever.
+fn tell_faults(page: &mut Page, tries: &[Seen<'_>], last: &Seen<'_>) {
+    for seen in tries {
+        let is_fine = if seen.call.says_memory {
+            is_front(&seen.call.output.taken, &last.call.output.taken)
+        } else {
+            seen.answer.bytes() == last.answer.bytes()
+        };
+        if !is_fine {
+            page.line("  = a refused try: its answer");
+        }
+    }
+}
+
+/// Returns true if bytes are the first lines of others, or all of them.
+fn is_front(front: &[u8], whole: &[u8]) -> bool {
+    let is_whole = front.is_empty() || front.ends_with(b"\n") || front.len() == whole.len();
+    is_whole && whole.starts_with(front)
+}
+
+/// Performs a call, and tells its answer.
+fn answer_of(
     alloc: Global,
     page: &mut Page,
     names: &Names,
@@ -30,18 +105,24 @@ pub fn perform(
 ) -> Option<()> {
     match engine {
         Engine::Show => {
+            call.begin(alloc);
             let answer = run_show(alloc, &mut call.source, &mut call.output);
+            let answer = call.end(alloc, answer);
             call.tell_answer(page, names, &answer);
             Some(())
         }
         Engine::Check => {
+            call.begin(alloc);
             let answer = run_check(alloc, &mut call.source, &mut call.output);
+            let answer = call.end(alloc, answer);
             call.tell_answer(page, names, &answer);
             Some(())
         }
         Engine::Simulate => simulate(alloc, page, names, call),
         Engine::SimulateDesks => {
+            call.begin(alloc);
             let answer = run_simulate_desks(alloc, &mut call.source, &mut call.output);
+            let answer = call.end(alloc, answer);
             call.tell_answer(page, names, &answer);
             Some(())
         }
@@ -55,6 +136,7 @@ fn simulate(alloc: Global, page: &mut Page, names: &Names, call: &mut Call<'_>) 
     let [group, transaction] = call.words else {
         return None;
     };
+    call.begin(alloc);
     let answer = run_simulate(
         alloc,
         group.text.as_str(),
@@ -62,6 +144,7 @@ fn simulate(alloc: Global, page: &mut Page, names: &Names, call: &mut Call<'_>) 
         &mut call.source,
         &mut call.output,
     );
+    let answer = call.end(alloc, answer);
     call.tell_answer(page, names, &answer);
     Some(())
 }

@@ -1,10 +1,10 @@
 //! What a side and a desk of many transactions have in common: what is called on them, and what is seen of them.
 
-use crate::letters::Letters;
+use crate::call::Call;
 use crate::view::{View, tell_side};
 use crate::words::{Word, texts};
 use ill_saved::{Desk, Desk1, DeskFault, MemoryStore, Store};
-use ill_test_kit::{Page, TestReader, TestWriter};
+use ill_test_kit::Page;
 use ill_tool::{
     Dates, Mail, ToolFault, Verdict, run_act, run_desk_act, run_desk_copy, run_desk_dates,
     run_desk_inbox, run_desk_kept_take, run_desk_loan, run_desk_long_take, run_desk_outbox,
@@ -20,84 +20,61 @@ const WAITING: usize = 2;
 /// What keeps sides in a store. Nothing is answered where the words are none.
 pub trait Kept {
     /// Performs the action that the words say, by its engine.
-    fn act(
-        &mut self,
-        alloc: Global,
-        words: &[Word],
-        output: &mut TestWriter,
-    ) -> Option<Result<bool, ToolFault>>;
+    fn act(&mut self, alloc: Global, call: &mut Call<'_>) -> Option<Result<bool, ToolFault>>;
 
     /// Takes the APDUs of the input, by the engine: of long lines, or of a desk by that which keeps what came, where
     /// the words say so.
-    fn take(
-        &mut self,
-        alloc: Global,
-        words: &[Word],
-        source: &mut TestReader,
-        output: &mut TestWriter,
-        came: &mut TestWriter,
-    ) -> Result<bool, ToolFault>;
+    fn take(&mut self, alloc: Global, call: &mut Call<'_>) -> Result<bool, ToolFault>;
 
     /// Takes mails, by the engine, which only a desk has. Two more wait.
     fn inbox(
         &mut self,
         alloc: Global,
+        call: &mut Call<'_>,
         mails: &[Mail],
-        output: &mut TestWriter,
-        came: &mut TestWriter,
     ) -> Option<Result<Vec<Verdict>, ToolFault>>;
 
     /// Sends all messages that want it, if these bytes ask, by the engine, which only a desk has.
     fn outbox(
         &self,
         alloc: Global,
+        call: &mut Call<'_>,
         asking: &[u8],
-        letters: &mut Letters,
     ) -> Option<Result<usize, ToolFault>>;
 
     /// Writes all messages that want sending, if these bytes ask, by the engine, which only a desk has.
     fn stream(
         &self,
         alloc: Global,
+        call: &mut Call<'_>,
         asking: &[u8],
-        output: &mut TestWriter,
     ) -> Option<Result<(), ToolFault>>;
 
     /// Performs the deeds that a day asks for, by the engine, which only a desk has.
-    fn dates(
-        &mut self,
-        alloc: Global,
-        words: &[Word],
-        output: &mut TestWriter,
-    ) -> Option<Result<(), ToolFault>>;
+    fn dates(&mut self, alloc: Global, call: &mut Call<'_>) -> Option<Result<(), ToolFault>>;
 
     /// Copies all sides to another store, by the engine, which only a desk has.
-    fn copy(&self, alloc: Global, copy: &mut MemoryStore) -> Option<Result<(), ToolFault>>;
+    fn copy(
+        &self,
+        alloc: Global,
+        call: &mut Call<'_>,
+        copy: &mut MemoryStore,
+    ) -> Option<Result<(), ToolFault>>;
 
     /// Gives the message that the words say, by the engine.
-    fn send(
-        &self,
-        alloc: Global,
-        words: &[Word],
-        output: &mut TestWriter,
-    ) -> Option<Result<(), ToolFault>>;
+    fn send(&self, alloc: Global, call: &mut Call<'_>) -> Option<Result<(), ToolFault>>;
 
     /// Shows all sides, by the engine.
-    fn status(&self, alloc: Global, output: &mut TestWriter) -> Result<(), ToolFault>;
+    fn status(&self, alloc: Global, call: &mut Call<'_>) -> Result<(), ToolFault>;
 
     /// Shows all of the loan that the words say, by the engine.
-    fn loan(
-        &self,
-        alloc: Global,
-        words: &[Word],
-        output: &mut TestWriter,
-    ) -> Option<Result<(), ToolFault>>;
+    fn loan(&self, alloc: Global, call: &mut Call<'_>) -> Option<Result<(), ToolFault>>;
 
     /// Saves all sides.
-    fn save(&mut self, alloc: Global) -> Result<(), DeskFault>;
+    fn save(&mut self, alloc: Global, call: &mut Call<'_>) -> Result<(), DeskFault>;
 
     /// Takes up what has landed.
-    fn restart(&mut self, alloc: Global) -> Result<(), DeskFault>;
+    fn restart(&mut self, alloc: Global, call: &mut Call<'_>) -> Result<(), DeskFault>;
 
     /// What is seen of all sides.
     fn view(&self, alloc: Global) -> Option<View>;
@@ -108,37 +85,30 @@ pub trait Kept {
 
 /// The words are `[--today DAY] WORDS` of an action, and the NUMBER of a message.
 impl<S: Store> Kept for Desk1<S> {
-    fn act(
-        &mut self,
-        alloc: Global,
-        words: &[Word],
-        output: &mut TestWriter,
-    ) -> Option<Result<bool, ToolFault>> {
-        let today = day(words)?;
-        let words: Vec<&str> = texts(alloc, words_behind(words))?;
-        Some(run_act(alloc, self, today, &words, output))
+    fn act(&mut self, alloc: Global, call: &mut Call<'_>) -> Option<Result<bool, ToolFault>> {
+        let today = day(call.words)?;
+        let words: Vec<&str> = texts(alloc, words_behind(call.words))?;
+        call.begin(alloc);
+        let answer = run_act(alloc, self, today, &words, &mut call.output);
+        Some(call.end(alloc, answer))
     }
 
-    fn take(
-        &mut self,
-        alloc: Global,
-        words: &[Word],
-        source: &mut TestReader,
-        output: &mut TestWriter,
-        _came: &mut TestWriter,
-    ) -> Result<bool, ToolFault> {
-        if has(words, "--long") {
-            return run_long_take(alloc, self, source, output);
-        }
-        run_take(alloc, self, source, output)
+    fn take(&mut self, alloc: Global, call: &mut Call<'_>) -> Result<bool, ToolFault> {
+        let is_long = has(call.words, "--long");
+        call.begin(alloc);
+        let answer = if is_long {
+            run_long_take(alloc, self, &mut call.source, &mut call.output)
+        } else {
+            run_take(alloc, self, &mut call.source, &mut call.output)
+        };
+        call.end(alloc, answer)
     }
 
     fn inbox(
         &mut self,
         _alloc: Global,
+        _call: &mut Call<'_>,
         _mails: &[Mail],
-        _output: &mut TestWriter,
-        _came: &mut TestWriter,
     ) -> Option<Result<Vec<Verdict>, ToolFault>> {
         None
     }
@@ -146,8 +116,8 @@ impl<S: Store> Kept for Desk1<S> {
     fn outbox(
         &self,
         _alloc: Global,
+        _call: &mut Call<'_>,
         _asking: &[u8],
-        _letters: &mut Letters,
     ) -> Option<Result<usize, ToolFault>> {
         None
     }
@@ -155,53 +125,54 @@ impl<S: Store> Kept for Desk1<S> {
     fn stream(
         &self,
         _alloc: Global,
+        _call: &mut Call<'_>,
         _asking: &[u8],
-        _output: &mut TestWriter,
     ) -> Option<Result<(), ToolFault>> {
         None
     }
 
-    fn dates(
-        &mut self,
+    fn dates(&mut self, _alloc: Global, _call: &mut Call<'_>) -> Option<Result<(), ToolFault>> {
+        None
+    }
+
+    fn copy(
+        &self,
         _alloc: Global,
-        _words: &[Word],
-        _output: &mut TestWriter,
+        _call: &mut Call<'_>,
+        _copy: &mut MemoryStore,
     ) -> Option<Result<(), ToolFault>> {
         None
     }
 
-    fn copy(&self, _alloc: Global, _copy: &mut MemoryStore) -> Option<Result<(), ToolFault>> {
-        None
+    fn send(&self, alloc: Global, call: &mut Call<'_>) -> Option<Result<(), ToolFault>> {
+        let number = number(call.words)?;
+        call.begin(alloc);
+        let answer = run_send(alloc, self, number, &mut call.output);
+        Some(call.end(alloc, answer))
     }
 
-    fn send(
-        &self,
-        alloc: Global,
-        words: &[Word],
-        output: &mut TestWriter,
-    ) -> Option<Result<(), ToolFault>> {
-        Some(run_send(alloc, self, number(words)?, output))
+    fn status(&self, alloc: Global, call: &mut Call<'_>) -> Result<(), ToolFault> {
+        call.begin(alloc);
+        let answer = run_status(alloc, self, &mut call.output);
+        call.end(alloc, answer)
     }
 
-    fn status(&self, alloc: Global, output: &mut TestWriter) -> Result<(), ToolFault> {
-        run_status(alloc, self, output)
+    fn loan(&self, alloc: Global, call: &mut Call<'_>) -> Option<Result<(), ToolFault>> {
+        call.begin(alloc);
+        let answer = run_loan(alloc, self, &mut call.output);
+        Some(call.end(alloc, answer))
     }
 
-    fn loan(
-        &self,
-        alloc: Global,
-        _words: &[Word],
-        output: &mut TestWriter,
-    ) -> Option<Result<(), ToolFault>> {
-        Some(run_loan(alloc, self, output))
+    fn save(&mut self, alloc: Global, call: &mut Call<'_>) -> Result<(), DeskFault> {
+        call.begin(alloc);
+        let answer = Desk1::save(self, alloc);
+        call.end(alloc, answer)
     }
 
-    fn save(&mut self, alloc: Global) -> Result<(), DeskFault> {
-        Desk1::save(self, alloc)
-    }
-
-    fn restart(&mut self, alloc: Global) -> Result<(), DeskFault> {
-        Desk1::restart(self, alloc)
+    fn restart(&mut self, alloc: Global, call: &mut Call<'_>) -> Result<(), DeskFault> {
+        call.begin(alloc);
+        let answer = Desk1::restart(self, alloc);
+        call.end(alloc, answer)
     }
 
     fn view(&self, alloc: Global) -> Option<View> {
@@ -216,114 +187,119 @@ impl<S: Store> Kept for Desk1<S> {
 
 /// Before the words stand GROUP and TRANSACTION.
 impl<S: Store> Kept for Desk<S> {
-    fn act(
-        &mut self,
-        alloc: Global,
-        words: &[Word],
-        output: &mut TestWriter,
-    ) -> Option<Result<bool, ToolFault>> {
-        let (txn, words) = txn_before(alloc, words)?;
+    fn act(&mut self, alloc: Global, call: &mut Call<'_>) -> Option<Result<bool, ToolFault>> {
+        let (txn, words) = txn_before(alloc, call.words)?;
         let today = day(words)?;
         let words: Vec<&str> = texts(alloc, words_behind(words))?;
-        Some(run_desk_act(alloc, self, &txn, today, &words, output))
+        call.begin(alloc);
+        let answer = run_desk_act(alloc, self, &txn, today, &words, &mut call.output);
+        Some(call.end(alloc, answer))
     }
 
-    fn take(
-        &mut self,
-        alloc: Global,
-        words: &[Word],
-        source: &mut TestReader,
-        output: &mut TestWriter,
-        came: &mut TestWriter,
-    ) -> Result<bool, ToolFault> {
-        let is_long = has(words, "--long");
-        if has(words, "--keep") {
-            return run_desk_kept_take(alloc, self, is_long, came, source, output);
-        }
-        if is_long {
-            return run_desk_long_take(alloc, self, source, output);
-        }
-        run_desk_take(alloc, self, source, output)
+    fn take(&mut self, alloc: Global, call: &mut Call<'_>) -> Result<bool, ToolFault> {
+        let is_long = has(call.words, "--long");
+        let is_kept = has(call.words, "--keep");
+        call.begin(alloc);
+        let (source, output) = (&mut call.source, &mut call.output);
+        let answer = if is_kept {
+            run_desk_kept_take(alloc, self, is_long, &mut call.errors, source, output)
+        } else if is_long {
+            run_desk_long_take(alloc, self, source, output)
+        } else {
+            run_desk_take(alloc, self, source, output)
+        };
+        call.end(alloc, answer)
     }
 
     fn inbox(
         &mut self,
         alloc: Global,
+        call: &mut Call<'_>,
         mails: &[Mail],
-        output: &mut TestWriter,
-        came: &mut TestWriter,
     ) -> Option<Result<Vec<Verdict>, ToolFault>> {
-        Some(run_desk_inbox(alloc, self, mails, WAITING, came, output))
+        call.begin(alloc);
+        let (came, output) = (&mut call.errors, &mut call.output);
+        let answer = run_desk_inbox(alloc, self, mails, WAITING, came, output);
+        Some(call.end(alloc, answer))
     }
 
     fn outbox(
         &self,
         alloc: Global,
+        call: &mut Call<'_>,
         asking: &[u8],
-        letters: &mut Letters,
     ) -> Option<Result<usize, ToolFault>> {
-        Some(run_desk_outbox(alloc, self, asking, letters))
+        call.begin(alloc);
+        let answer = run_desk_outbox(alloc, self, asking, &mut call.letters);
+        Some(call.end(alloc, answer))
     }
 
     fn stream(
         &self,
         alloc: Global,
+        call: &mut Call<'_>,
         asking: &[u8],
-        output: &mut TestWriter,
     ) -> Option<Result<(), ToolFault>> {
-        Some(run_desk_outbox_stream(alloc, self, asking, output))
+        call.begin(alloc);
+        let answer = run_desk_outbox_stream(alloc, self, asking, &mut call.output);
+        Some(call.end(alloc, answer))
     }
 
     /// `DAY [overdue] [expire]`
-    fn dates(
-        &mut self,
-        alloc: Global,
-        words: &[Word],
-        output: &mut TestWriter,
-    ) -> Option<Result<(), ToolFault>> {
-        let (day, wanted) = words.split_first()?;
+    fn dates(&mut self, alloc: Global, call: &mut Call<'_>) -> Option<Result<(), ToolFault>> {
+        let (day, wanted) = call.words.split_first()?;
         let today = Day::read(day.text.as_bytes()).ok()?;
         let which = Dates {
             overdue: has(wanted, "overdue"),
             expire: has(wanted, "expire"),
         };
-        Some(run_desk_dates(alloc, self, today, which, output))
+        call.begin(alloc);
+        let answer = run_desk_dates(alloc, self, today, which, &mut call.output);
+        Some(call.end(alloc, answer))
     }
 
-    fn copy(&self, alloc: Global, copy: &mut MemoryStore) -> Option<Result<(), ToolFault>> {
-        Some(run_desk_copy(alloc, self, copy))
-    }
-
-    fn send(
+    fn copy(
         &self,
         alloc: Global,
-        words: &[Word],
-        output: &mut TestWriter,
+        call: &mut Call<'_>,
+        copy: &mut MemoryStore,
     ) -> Option<Result<(), ToolFault>> {
-        let (txn, words) = txn_before(alloc, words)?;
-        Some(run_desk_send(alloc, self, &txn, number(words)?, output))
+        call.begin(alloc);
+        let answer = run_desk_copy(alloc, self, copy);
+        Some(call.end(alloc, answer))
     }
 
-    fn status(&self, alloc: Global, output: &mut TestWriter) -> Result<(), ToolFault> {
-        run_desk_status(alloc, self, output)
+    fn send(&self, alloc: Global, call: &mut Call<'_>) -> Option<Result<(), ToolFault>> {
+        let (txn, words) = txn_before(alloc, call.words)?;
+        let number = number(words)?;
+        call.begin(alloc);
+        let answer = run_desk_send(alloc, self, &txn, number, &mut call.output);
+        Some(call.end(alloc, answer))
     }
 
-    fn loan(
-        &self,
-        alloc: Global,
-        words: &[Word],
-        output: &mut TestWriter,
-    ) -> Option<Result<(), ToolFault>> {
-        let (txn, _) = txn_before(alloc, words)?;
-        Some(run_desk_loan(alloc, self, &txn, output))
+    fn status(&self, alloc: Global, call: &mut Call<'_>) -> Result<(), ToolFault> {
+        call.begin(alloc);
+        let answer = run_desk_status(alloc, self, &mut call.output);
+        call.end(alloc, answer)
     }
 
-    fn save(&mut self, alloc: Global) -> Result<(), DeskFault> {
-        Desk::save(self, alloc)
+    fn loan(&self, alloc: Global, call: &mut Call<'_>) -> Option<Result<(), ToolFault>> {
+        let (txn, _) = txn_before(alloc, call.words)?;
+        call.begin(alloc);
+        let answer = run_desk_loan(alloc, self, &txn, &mut call.output);
+        Some(call.end(alloc, answer))
     }
 
-    fn restart(&mut self, alloc: Global) -> Result<(), DeskFault> {
-        Desk::restart(self, alloc)
+    fn save(&mut self, alloc: Global, call: &mut Call<'_>) -> Result<(), DeskFault> {
+        call.begin(alloc);
+        let answer = Desk::save(self, alloc);
+        call.end(alloc, answer)
+    }
+
+    fn restart(&mut self, alloc: Global, call: &mut Call<'_>) -> Result<(), DeskFault> {
+        call.begin(alloc);
+        let answer = Desk::restart(self, alloc);
+        call.end(alloc, answer)
     }
 
     fn view(&self, alloc: Global) -> Option<View> {

@@ -16,6 +16,13 @@ struct Letter {
     bytes: Vec<u8>,
 }
 
+impl Letter {
+    fn is(&self, other: &Letter) -> bool {
+        self.name.as_slice() == other.name.as_slice()
+            && self.bytes.as_slice() == other.bytes.as_slice()
+    }
+}
+
 /// The mails that have left, and for how many more there is room.
 #[derive(Drop)]
 pub struct Letters {
@@ -32,6 +39,17 @@ impl Letters {
             letters: Vec::new(alloc),
             room,
         }
+    }
+
+    /// Returns true if its mails are the first ones of the other.
+    pub fn is_front_of(&self, other: &Letters) -> bool {
+        let mut others = other.letters.iter();
+        for letter in &self.letters {
+            if !others.next().is_some_and(|other| letter.is(other)) {
+                return false;
+            }
+        }
+        true
     }
 
     /// Tells the name and the bytes of each.

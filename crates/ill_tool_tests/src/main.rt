@@ -11,6 +11,10 @@
 //!
 //!     rt try -- "a cancel and a shipped cross" < stdin | diff stdin -
 //!
+//! A call on what lies in memory stands between marks (`ill_test_kit::marks`), and so does the engine of a command on
+//! streams. If it is refused a growth, it is made again from the beginning. A try that came to what it may not is told
+//! by a line `  = a refused try: ..`, which no case has.
+//!
 //! Behind a check, `rt run < stdin | diff stdin -` does the same for all of them. They are too long for `rt try`.
 #![tactic(auto)]
 
@@ -26,10 +30,12 @@ mod limited;
 mod mails;
 mod memory;
 mod names;
+mod past;
 mod session;
 mod streams;
 mod telling;
 mod texts;
+mod tries;
 mod view;
 mod watched;
 mod words;

@@ -11,9 +11,10 @@ use crate::limited::LimitedStore;
 use crate::mails::mails_of;
 use crate::names::Names;
 use crate::telling::begin;
+use crate::view::View;
 use crate::words::Word;
 use ill_desk_kit::{idle_side, plan_of};
-use ill_saved::{Desk, Desk1, MemoryStore, Role, Side, Store};
+use ill_saved::{Desk, Desk1, MemoryStore, NextCall, Role, Side, Store};
 use ill_test_kit::Page;
 use ill_values::TxnId;
 use ill_world::words::who;
@@ -103,6 +104,32 @@ impl Memory {
         }
     }
 
+    /// Returns what is seen of all sides.
+    pub fn view(&self, alloc: Global) -> Option<View> {
+        match self {
+            Memory::Side(desk) => desk.view(alloc),
+            Memory::LimitedSide(desk) => desk.view(alloc),
+            Memory::Desk(desk) => desk.view(alloc),
+            Memory::LimitedDesk(desk) => desk.view(alloc),
+        }
+    }
+
+    /// Takes up what has landed, whatever is planned.
+    pub fn go_back(&mut self, alloc: Global) -> Option<()> {
+        match self {
+            Memory::Side(desk) => {
+                desk.set_next(NextCall::Works);
+                desk.restart(alloc).ok()
+            }
+            Memory::LimitedSide(desk) => desk.restart(alloc).ok(),
+            Memory::Desk(desk) => {
+                desk.set_next(NextCall::Works);
+                desk.restart(alloc).ok()
+            }
+            Memory::LimitedDesk(desk) => desk.restart(alloc).ok(),
+        }
+    }
+
     /// Tells how all stands at its beginning.
     pub fn tell_begun(&self, page: &mut Page) {
         begin(page, "stands");
@@ -177,48 +204,48 @@ fn answer<K: Kept>(
     call: &mut Call<'_>,
 ) -> Option<()> {
     match kind {
-        MemoryCall::Save => call.tell_answer(page, names, &kept.save(alloc)),
-        MemoryCall::Restart => call.tell_answer(page, names, &kept.restart(alloc)),
+        MemoryCall::Save => {
+            let answer = kept.save(alloc, call);
+            call.tell_answer(page, names, &answer);
+        }
+        MemoryCall::Restart => {
+            let answer = kept.restart(alloc, call);
+            call.tell_answer(page, names, &answer);
+        }
         MemoryCall::Act => {
-            let answer = kept.act(alloc, call.words, &mut call.output)?;
+            let answer = kept.act(alloc, call)?;
             call.tell_answer(page, names, &answer);
         }
         MemoryCall::Take => {
-            let answer = kept.take(
-                alloc,
-                call.words,
-                &mut call.source,
-                &mut call.output,
-                &mut call.errors,
-            );
+            let answer = kept.take(alloc, call);
             call.tell_answer(page, names, &answer);
         }
         MemoryCall::Inbox => {
             let mails = mails_of(alloc, names, call.words)?;
-            let answer = kept.inbox(alloc, &mails, &mut call.output, &mut call.errors)?;
+            let answer = kept.inbox(alloc, call, &mails)?;
             call.tell_answer(page, names, &answer);
         }
         MemoryCall::Dates => {
-            let answer = kept.dates(alloc, call.words, &mut call.output)?;
+            let answer = kept.dates(alloc, call)?;
             call.tell_answer(page, names, &answer);
         }
         MemoryCall::Outbox => return outbox(alloc, page, names, kept, call),
         MemoryCall::Stream => {
             let asking = names.bytes(call.words)?;
-            let answer = kept.stream(alloc, &asking, &mut call.output)?;
+            let answer = kept.stream(alloc, call, &asking)?;
             call.tell_answer(page, names, &answer);
         }
         MemoryCall::Copy => return copy(alloc, page, names, kept, call),
         MemoryCall::Send => {
-            let answer = kept.send(alloc, call.words, &mut call.output)?;
+            let answer = kept.send(alloc, call)?;
             call.tell_answer(page, names, &answer);
         }
         MemoryCall::Status => {
-            let answer = kept.status(alloc, &mut call.output);
+            let answer = kept.status(alloc, call);
             call.tell_answer(page, names, &answer);
         }
         MemoryCall::Loan => {
-            let answer = kept.loan(alloc, call.words, &mut call.output)?;
+            let answer = kept.loan(alloc, call)?;
             call.tell_answer(page, names, &answer);
         }
     }
@@ -239,15 +266,15 @@ fn outbox<K: Kept>(
         }
         asking => (usize::MAX, asking),
     };
-    let mut letters = Letters::new(alloc, room);
-    let answer = kept.outbox(alloc, &names.bytes(asking)?, &mut letters)?;
-    letters.tell(page, names);
+    call.letters = Letters::new(alloc, room);
+    let answer = kept.outbox(alloc, call, &names.bytes(asking)?)?;
+    call.letters.tell(page, names);
     call.tell_answer(page, names, &answer);
     Some(())
 }
 
-/// `PLAN [BYTES]`: all is copied to a store in memory whose call is planned, and its answer is told; then what has landed
-/// there. The bytes have landed before.
+/// `PLAN [BYTES]`: all is copied to a store in memory whose call is planned, and its answer is told; then what has
+/// landed there. The bytes have landed before.
 fn copy<K: Kept>(
     alloc: Global,
     page: &mut Page,
@@ -257,8 +284,11 @@ fn copy<K: Kept>(
 ) -> Option<()> {
     let (plan, before) = call.words.split_first()?;
     let mut store = store_with(alloc, names, plan, before)?;
-    let answer = kept.copy(alloc, &mut store)?;
+    let answer = kept.copy(alloc, call, &mut store)?;
     call.tell_answer(page, names, &answer);
+    store.set_next(NextCall::Works); // a copy that was refused memory leaves the plan
+    let landed = store.load(alloc).ok()?.unwrap_or(Vec::new(alloc));
+    call.spoils_copy = call.says_memory && landed.as_slice() != names.bytes(before)?.as_slice();
     tell_landed(alloc, page, names, &mut store)
 }
 

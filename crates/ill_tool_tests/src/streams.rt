@@ -30,7 +30,7 @@ fn failure_of(words: &[Word]) -> Option<Failure> {
 
 /// The reader of these words: `[slow] BYTES [| BYTES] [then FAILURE [then BYTES]]`.
 pub fn reader_of(alloc: Global, names: &Names, words: &[Word]) -> Option<TestReader> {
-    let is_slow = words.first().is_some_and(|word| word.is("slow"));
+    let is_slow = is_slow(words);
     let words = words.get(usize::from(is_slow)..)?;
     let (before, failing) = cut(words, "then");
     let (failure, behind) = cut(failing.unwrap_or(&[]), "then");
@@ -64,6 +64,20 @@ fn reader_with(
         reader.set_bar(bar);
     }
     Some(reader)
+}
+
+/// Returns the bytes that the reader of these words gives before it fails.
+pub fn bytes_of(names: &Names, words: &[Word]) -> Option<Vec<u8>> {
+    let words = words.get(usize::from(is_slow(words))..)?;
+    let (before, _) = cut(words, "then");
+    let (first, second) = cut(before, "|");
+    let mut bytes = names.bytes(first)?;
+    names.push(&mut bytes, second.unwrap_or(&[]))?;
+    Some(bytes)
+}
+
+fn is_slow(words: &[Word]) -> bool {
+    words.first().is_some_and(|word| word.is("slow"))
 }
 
 /// The writer of these words: `[slow | any | first COUNT] [flush FAILURE | ROOM then FAILURE]`, where the room is

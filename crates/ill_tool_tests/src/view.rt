@@ -12,6 +12,14 @@ pub struct View {
 }
 
 impl View {
+    /// Returns a view of nothing.
+    pub fn none(alloc: Global) -> View {
+        View {
+            record: Vec::new(alloc),
+            released: Vec::new(alloc),
+        }
+    }
+
     /// What is seen of one side.
     pub fn of_side<S: Store>(alloc: Global, desk: &Desk1<S>) -> Option<View> {
         Some(View {
@@ -33,8 +41,20 @@ impl View {
 
     /// Whether the same is seen of both.
     pub fn is(&self, other: &View) -> bool {
+        self.has_record_of(other) && self.released.as_slice() == other.released.as_slice()
+    }
+
+    /// Returns true if both have the same record.
+    pub fn has_record_of(&self, other: &View) -> bool {
         self.record.as_slice() == other.record.as_slice()
-            && self.released.as_slice() == other.released.as_slice()
+    }
+
+    /// Returns true if it has the same messages released, and none of a side that the other does not have.
+    pub fn releases_as(&self, other: &View) -> bool {
+        match self.released.strip_prefix(other.released.as_slice()) {
+            Some(others) => others.iter().all(|count| *count == 0),
+            None => false,
+        }
     }
 }
 

@@ -16,6 +16,17 @@ impl Word {
     }
 }
 
+/// Copies these words.
+pub fn copied(alloc: Global, words: &[Word]) -> Option<Vec<Word>> {
+    let mut copy = Vec::new(alloc);
+    for word in words {
+        let text = word.text.clone().ok()?;
+        let is_quoted = word.is_quoted;
+        copy.push(Word { text, is_quoted }).ok()?;
+    }
+    Some(copy)
+}
+
 /// These words as text.
 pub fn texts(alloc: Global, words: &[Word]) -> Option<Vec<&str>> {
     words

@@ -10,7 +10,8 @@ use Rattle.ill_core.specs.Issued.{is_same_txn}
 use Rattle.ill_saved.specs.declared.role.Role.{Role as Who}
 use Rattle.ill_saved.specs.declared.role.Role.TheVariants as who
 use Rattle.ill_saved.specs.Side.{other}
-use Rattle.ill_saved.specs.Many.{DeskEntry, found_by, txn_held, held_for}
+use Rattle.ill_saved.specs.Holdings.{DeskEntry}
+use Rattle.ill_saved.specs.ManySides.{found_by, txn_held, held_for}
 use Rattle.ill_saved.specs.declared.side.Side.{Side}
 use Rattle.ill_saved.proofs.Finding.{same_is, same_self}
 use Rattle.ill_world.specs.declared.event.DeskEvent.{DeskEvent}

@@ -14,7 +14,8 @@ use Rattle.ill_saved.specs.declared.role.Role.TheVariants as who
 use Rattle.ill_saved.specs.declared.side.Side.{Side}
 use Rattle.ill_saved.specs.declared.side.Side.TheVariants as sides
 use Rattle.ill_saved.specs.Side.{other, issued_of, idle_side}
-use Rattle.ill_saved.specs.Many.{DeskEntry, held_for, found_or, idle_held, found_by, txn_held}
+use Rattle.ill_saved.specs.Holdings.{DeskEntry}
+use Rattle.ill_saved.specs.ManySides.{held_for, found_or, idle_held, found_by, txn_held}
 use Rattle.ill_saved.proofs.Finding.{same_self}
 use Rattle.ill_world.specs.declared.event.DeskEvent.{DeskEvent}
 use Rattle.ill_world.specs.declared.event.DeskEvent.TheVariants as desk_events

@@ -21,7 +21,8 @@ use Rattle.ill_saved.specs.declared.side.Action.{Action}
 use Rattle.ill_saved.specs.declared.side.Action.TheVariants as actions
 use Rattle.ill_saved.specs.Side.{issued_of, txn_of, other, idle_side, acts, takes, acted, took, begins}
 use Rattle.ill_saved.specs.Sides.{found_by, is_same_role, most_sides, side_with}
-use Rattle.ill_saved.specs.Many.{DeskEntry, txn_held, idle_held, whole, found_or, with_held, held_or_begun, reached, is_own, acted as acted_at, acts_reached, took as took_at, takes_reached}
+use Rattle.ill_saved.specs.Holdings.{DeskEntry, whole}
+use Rattle.ill_saved.specs.ManySides.{txn_held, idle_held, found_or, with_held, held_or_begun, reached, is_own, acted as acted_at, acts_reached, took as took_at, takes_reached}
 use Rattle.ill_saved.proofs.Finding.{same_is, same_self, apart_back, found_is, keys_put, put_last}
 use Rattle.ill_world.specs.declared.event.DeskEvent.{DeskEvent}
 use Rattle.ill_world.specs.declared.event.DeskEvent.TheVariants as desk_events

@@ -10,7 +10,7 @@ use Rattle.ill_saved.specs.declared.role.Role.TheVariants as who
 use Rattle.ill_saved.specs.declared.side.Side.{Side}
 use Rattle.ill_saved.specs.Side.{issued_of, txn_of, idle_side}
 use Rattle.ill_saved.specs.Sides.{found_by, side_with}
-use Rattle.ill_saved.specs.Many.{DeskContents, found_or, held_for, sides_held}
+use Rattle.ill_saved.specs.ManySides.{DeskContents, found_or, held_for, sides_held}
 use Rattle.ill_saved.proofs.Finding.{same_is, side_of_held}
 use Rattle.ill_world.specs.declared.event.Event.{Event}
 use Rattle.ill_world.specs.declared.event.Event.TheVariants as events

@@ -20,7 +20,8 @@ use Rattle.ill_saved.specs.declared.side.Side.{Side}
 use Rattle.ill_saved.specs.declared.side.Side.TheVariants as sides
 use Rattle.ill_saved.specs.Side.{issued_of, txn_of, idle_side, other, takes}
 use Rattle.ill_saved.specs.Sides.{found_by, side_with}
-use Rattle.ill_saved.specs.Many.{DeskEntry, DeskContents, txn_held, idle_held, found_or, held_for, sides_held}
+use Rattle.ill_saved.specs.Holdings.{DeskEntry}
+use Rattle.ill_saved.specs.ManySides.{DeskContents, txn_held, idle_held, found_or, held_for, sides_held}
 use Rattle.ill_saved.proofs.Finding.{same_is, same_self, side_of_held}
 use Rattle.ill_world.specs.declared.event.Event.TheVariants as events
 use Rattle.ill_world.specs.declared.event.DeskEvent.{DeskEvent}

@@ -19,7 +19,8 @@ use Rattle.ill_saved.specs.declared.side.Action.{Action}
 use Rattle.ill_saved.specs.declared.side.Action.TheVariants as actions
 use Rattle.ill_saved.specs.Side.{issued_of, txn_of, role_of, idle_side, acts, takes, acted, took, IsStep, role_for, begins}
 use Rattle.ill_saved.specs.Sides.{SidesOf, is_same_role, most_sides, side_with}
-use Rattle.ill_saved.specs.Many.{DeskEntry, DeskContents, found_by, txn_held, idle_held, whole, found_or, held_for, with_held, side_for, sides_held, whole_of, is_own, held_or_begun, reached, acted as acted_at, acts_reached, desk_acts, took as took_at, takes_reached}
+use Rattle.ill_saved.specs.Holdings.{DeskEntry, whole}
+use Rattle.ill_saved.specs.ManySides.{DeskContents, found_by, txn_held, idle_held, found_or, held_for, with_held, side_for, sides_held, whole_of, is_own, held_or_begun, reached, acted as acted_at, acts_reached, desk_acts, took as took_at, takes_reached}
 use Rattle.ill_saved.proofs.Finding.{same_is, same_self, found_is, found_put, found_mapped, side_of_held}
 use Rattle.ill_world.specs.declared.event.DeskEvent.{DeskEvent}
 use Rattle.ill_world.specs.declared.event.DeskEvent.TheVariants as events

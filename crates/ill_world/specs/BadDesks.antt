@@ -13,7 +13,8 @@ use Rattle.ill_core.specs.Bodies.{is_final}
 use Rattle.ill_core.specs.Requester.{later}
 use Rattle.ill_saved.specs.declared.role.Role.TheVariants.{Requester, Responder}
 use Rattle.ill_saved.specs.declared.side.Side.{Side}
-use Rattle.ill_saved.specs.Many.{DeskEntry, found_by, txn_held, held_for}
+use Rattle.ill_saved.specs.Holdings.{DeskEntry}
+use Rattle.ill_saved.specs.ManySides.{found_by, txn_held, held_for}
 use Rattle.ill_world.specs.declared.event.DeskEvent.{DeskEvent}
 use Rattle.ill_world.specs.declared.event.DeskEvent.TheVariants.{Wish, Deed, Send, Deliver}
 use Rattle.ill_world.specs.declared.event.DeskOutcome.{DeskOutcome}

@@ -7,7 +7,8 @@ use Rattle.ill_saved.specs.declared.side.Action.TheVariants as actions
 use Rattle.ill_saved.specs.declared.side.Side.{Side}
 use Rattle.ill_saved.specs.Side.{other, begins}
 use Rattle.ill_saved.specs.Sides.{side_with}
-use Rattle.ill_saved.specs.Many.{DeskEntry, found_by, txn_held}
+use Rattle.ill_saved.specs.Holdings.{DeskEntry}
+use Rattle.ill_saved.specs.ManySides.{found_by, txn_held}
 use Rattle.ill_world.specs.declared.event.DeskEvent.{DeskEvent}
 use Rattle.ill_world.specs.declared.event.DeskEvent.TheVariants.{Wish, Deed, Send, Deliver}
 use Rattle.ill_world.specs.declared.event.DeskOutcome.{DeskOutcome}

@@ -8,7 +8,7 @@ use Rattle.ill_core.specs.Bodies.{is_end, is_returned}
 use Rattle.ill_saved.specs.declared.role.Role.{Role as Who}
 use Rattle.ill_saved.specs.declared.role.Role.TheVariants.{Requester, Responder}
 use Rattle.ill_saved.specs.declared.side.Side.{Side}
-use Rattle.ill_saved.specs.Many.{held_for}
+use Rattle.ill_saved.specs.ManySides.{held_for}
 use Rattle.ill_world.specs.declared.event.DeskEvent.{DeskEvent}
 use Rattle.ill_world.specs.declared.event.DeskEvent.TheVariants.{Deliver}
 use Rattle.ill_world.specs.declared.event.DeskOutcome.{DeskOutcome}

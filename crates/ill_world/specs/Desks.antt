@@ -14,7 +14,8 @@ use Rattle.ill_saved.specs.declared.role.Role.{Role as Who}
 use Rattle.ill_saved.specs.declared.role.Role.TheVariants.{Requester, Responder}
 use Rattle.ill_saved.specs.Side.{issued_of}
 use Rattle.ill_saved.specs.Sides.{SidesOf}
-use Rattle.ill_saved.specs.Many.{DeskEntry, DeskContents, found_by, put_by, txn_held, found_or, held_for, side_for, sides_held, whole_of, desk_acts, desk_takes}
+use Rattle.ill_saved.specs.Holdings.{DeskEntry}
+use Rattle.ill_saved.specs.ManySides.{DeskContents, found_by, put_by, txn_held, found_or, held_for, side_for, sides_held, whole_of, desk_acts, desk_takes}
 use Rattle.ill_world.specs.declared.event.Event.{Event}
 use Rattle.ill_world.specs.declared.event.Event.TheVariants as events
 use Rattle.ill_world.specs.declared.event.DeskEvent.{DeskEvent}

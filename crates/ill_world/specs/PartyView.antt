@@ -10,7 +10,9 @@ use Rattle.ill_saved.specs.declared.side.Side.{Side}
 use Rattle.ill_saved.specs.declared.store.NextCall.TheVariants.{Works}
 use Rattle.ill_saved.specs.Side.{idle_of}
 use Rattle.ill_saved.specs.Store.{MemoryStoreState}
-use Rattle.ill_saved.specs.Desk.{DeskOf, landed_side}
+use Rattle.ill_saved.specs.Holdings.{DeskEntry, landed_live, whole}
+use Rattle.ill_saved.specs.OneSide.{one_side}
+use Rattle.ill_saved.specs.Desk.{DeskOf}
 use Rattle.ill_world.specs.World.{Party}
 
 -- ---- messages
@@ -38,19 +40,20 @@ read_or live (Ok landed) = landed
 read_or live (Err fault) = live
 
 -- Returns the side that has landed in the store of `desk`.
-abbrev pub landed_of : DeskOf MemoryStoreState → Side
-landed_of desk = read_or desk.live (landed_side desk.store.landed desk.live)
+abbrev pub landed_of : DeskOf DeskEntry MemoryStoreState → Side
+landed_of desk = (read_or desk.live (landed_live one_side desk.store.landed desk.live)).side
 
 -- Returns the party for which `desk` and the messages `sent` from it stand.
-abbrev pub party_of : DeskOf MemoryStoreState → List (Option Apdu) → Party
-party_of desk sent = record { live = desk.live; landed = landed_of desk; released = desk.released; sent = sent }
+abbrev pub party_of : DeskOf DeskEntry MemoryStoreState → List (Option Apdu) → Party
+party_of desk sent =
+    record { live = desk.live.side; landed = landed_of desk; released = desk.live.released; sent = sent }
 
 -- Between two events the next call of the store works. The landed side has the role and the transaction of the live
 -- one.
-pub record IsReady (desk : DeskOf MemoryStoreState) : Type 0 where
+pub record IsReady (desk : DeskOf DeskEntry MemoryStoreState) : Type 0 where
   pub works : desk.store.next ≡ Works
-  pub landed : landed_side desk.store.landed desk.live ≡ Ok (landed_of desk)
-  pub idle : idle_of (landed_of desk) ≡ idle_of desk.live
+  pub landed : landed_live one_side desk.store.landed desk.live ≡ Ok (whole (landed_of desk))
+  pub idle : idle_of (landed_of desk) ≡ idle_of desk.live.side
 
 -- ---- answers
 

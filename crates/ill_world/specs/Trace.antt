@@ -1,5 +1,5 @@
 -- The trace of a run (this profile's own): a line for each event, with its outcome and both sides after it.
-use Rattle.std.specs.Prelude.{ℕ, List, ◌++◌, length, Option, Some, None, codes}
+use Rattle.std.specs.Prelude.{ℕ, List, ◌++◌, Option, Some, None, codes}
 use Rattle.std.specs.Fmt.{decimal}
 use Rattle.ill_values.specs.Day.{Date, date_text}
 use Rattle.ill_core.specs.declared.refusal.Refusal.{Refusal}
@@ -8,14 +8,14 @@ use Rattle.ill_core.specs.declared.taking.Taking.{Taking}
 use Rattle.ill_core.specs.declared.taking.Taking.TheVariants.{Taken, Repeat, Stale, Conflict}
 use Rattle.ill_core.specs.State.{state_name}
 use Rattle.ill_saved.specs.declared.side.Side.{Side}
-use Rattle.ill_saved.specs.Side.{issued_of, state_of, due_date_of}
+use Rattle.ill_saved.specs.Side.{shown_of}
 use Rattle.ill_world.specs.declared.event.Outcome.{Outcome}
 use Rattle.ill_world.specs.declared.event.Outcome.TheVariants.{Done, Saved, Faulted, Sent, Answered, Refused, NoSuchMessage, NotSaved, NotSent, Garbled, Forged, Restarted}
 use Rattle.ill_world.specs.declared.event.DeskOutcome.{DeskOutcome}
 use Rattle.ill_world.specs.declared.event.DeskOutcome.TheVariants.{Plain, NoSuchTransaction, DeskFull}
-use Rattle.ill_world.specs.declared.trace.Shown.{Shown}
+use Rattle.ill_saved.specs.declared.shown.Shown.{Shown}
 use Rattle.ill_values.specs.TxnId.{Qualifiers}
-use Rattle.ill_saved.specs.Many.{held_for}
+use Rattle.ill_saved.specs.ManySides.{held_for}
 use Rattle.ill_world.specs.World.{Party, Parties}
 use Rattle.ill_world.specs.Desks.{DeskParty, DeskParties}
 
@@ -63,15 +63,6 @@ desk_outcome_word DeskFull = codes "desk-full"
 abbrev pub due_text : Option Date → List ℕ
 due_text None = codes "-"
 due_text (Some d) = date_text d
-
--- Returns the parts of `side` that a trace shows. `released` counts its released messages.
-abbrev pub shown_of : Side → ℕ → Shown
-shown_of side released = record {
-  state = state_of side;
-  due = due_date_of side;
-  released = released;
-  issued = length (issued_of side);
-}
 
 -- Returns the parts of a party that a trace shows.
 abbrev pub party_shown : Party → Shown

@@ -5,7 +5,7 @@ ghost use Rattle.ill_values.specs.TxnId.{Qualifiers};
 ghost use Rattle.ill_saved.specs.Side.{IsPrefix};
 ghost use Rattle.ill_saved.specs.declared.role.Role.{Role as Who};
 ghost use Rattle.ill_saved.specs.declared.role.Role.TheVariants.{Requester};
-ghost use Rattle.ill_saved.specs.Many.{found_by, txn_held};
+ghost use Rattle.ill_saved.specs.ManySides.{found_by, txn_held};
 ghost use Rattle.ill_world.specs.declared.event.DeskEvent.{DeskEvent};
 ghost use Rattle.ill_world.specs.declared.event.DeskEvent.TheVariants.{Save, SaveFault, Deliver, Restart, Noise};
 ghost use Rattle.ill_world.specs.declared.event.DeskOutcome.{DeskOutcome};

@@ -2,7 +2,7 @@
 
 ghost use Rattle.std.specs.Prelude.{◌≡◌, option_map, IfOk};
 ghost use Rattle.ill_der.specs.ShortForm.{apdu_at};
-ghost use Rattle.ill_saved.specs.Many.{desk_acts, found_by, held_for, sides_held, txn_held};
+ghost use Rattle.ill_saved.specs.ManySides.{desk_acts, found_by, held_for, sides_held, txn_held};
 ghost use Rattle.ill_world.specs.World as model;
 ghost use Rattle.ill_world.specs.Desks as desks;
 ghost use Rattle.ill_world.specs.declared.event.DeskOutcome.TheVariants as desk_outcomes;
@@ -14,9 +14,8 @@ ghost use Rattle.ill_world.specs.DeskView.{desk_party_of, CanBeSeen, FaultSeen, 
 use crate::desk_sent::DeskSent;
 use crate::event::{DeskOutcome, Outcome, Who};
 use crate::message::Message;
-use crate::trace::Shown;
 use ill_der::{DerFault, decode};
-use ill_saved::{Action, Desk, DeskFault, MemoryStore, NextCall, Sides, StoreFault};
+use ill_saved::{Action, Desk, DeskFault, MemoryStore, NextCall, Shown, Sides, StoreFault};
 use ill_values::{Number, OutOfMemory, TxnId};
 use std::alloc::Global;
 use std::marker::Model;
@@ -172,7 +171,7 @@ impl DeskParty {
     pub fn shown(&self, txn: &TxnId) -> Shown
         ensures { result ≡ desk_shown txn.now self.now }
     {
-        Shown::held(self.desk.sides(), txn, self.desk.released(txn))
+        self.desk.shown(txn)
     }
 }
 

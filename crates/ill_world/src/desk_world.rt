@@ -2,7 +2,7 @@
 
 ghost use Rattle.std.specs.Prelude.{◌≡◌, ◌++◌, ℕ, take, IfOk, OnOk};
 ghost use Rattle.ill_values.specs.TxnId.{Qualifiers};
-ghost use Rattle.ill_saved.specs.Many.{held_for, sides_held};
+ghost use Rattle.ill_saved.specs.ManySides.{held_for, sides_held};
 ghost use Rattle.ill_world.specs.World.{party, who_of};
 ghost use Rattle.ill_world.specs.Desks as model;
 ghost use Rattle.ill_world.specs.Desks.{plain, project, Projects};

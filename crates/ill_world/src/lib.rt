@@ -33,5 +33,5 @@ pub use event::{DeskEvent, DeskOutcome, Event, Outcome, Who};
 pub use fault::SimFault;
 pub use night::{is_over, wants_sending};
 pub use simulation::simulate;
-pub use trace::{push_held, push_side};
+pub use trace::{push_shown, push_side};
 pub use world::{World, run};

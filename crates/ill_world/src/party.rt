@@ -12,9 +12,8 @@ ghost use Rattle.ill_world.specs.PartyView.{party_of, IsReady, GivesOutcome, is_
 use crate::event::Outcome;
 use crate::message::Message;
 use crate::sent::Sent;
-use crate::trace::Shown;
 use ill_der::{DerFault, decode};
-use ill_saved::{Action, Desk1, DeskFault, MemoryStore, NextCall, Side, StoreFault};
+use ill_saved::{Action, Desk1, DeskFault, MemoryStore, NextCall, Shown, Side, StoreFault};
 use ill_values::{Number, OutOfMemory};
 use std::alloc::Global;
 use std::marker::Model;
@@ -198,6 +197,6 @@ impl Party {
     pub fn shown(&self) -> Shown
         ensures { result ≡ party_shown self.now }
     {
-        Shown::of(self.side(), self.released())
+        self.desk.shown(&())
     }
 }

@@ -1,64 +1,12 @@
 //! The lines of a trace, which show the outcome of each event and both sides after it.
 
 ghost use Rattle.std.specs.Prelude.{◌≡◌, ◌++◌, OnOk, OnErr};
-ghost use Rattle.ill_values.specs.TxnId.{Qualifiers};
 ghost use Rattle.ill_der.specs.Adding.{AddsFront};
-ghost use Rattle.ill_saved.specs.declared.role.Role.{Role};
-ghost use Rattle.ill_saved.specs.Many.{side_for};
-ghost use Rattle.ill_saved.specs.Side.{idle_side};
-ghost use Rattle.ill_world.specs.Trace.{line_of, event_text, sides_text, shown_of, shown_text, side_text, due_text};
+ghost use Rattle.ill_world.specs.Trace.{line_of, event_text, sides_text, shown_text, side_text, due_text};
 
-use ill_core::State;
-use ill_saved::{Side, Sides};
-use ill_values::{Day, OutOfMemory, TxnId};
+use ill_saved::{Shown, Side};
+use ill_values::{Day, OutOfMemory};
 use itoa::{Buffer, Integer};
-
-/// The parts of a side that a trace shows: its state, its due date, and the counts of its released and its issued
-/// messages.
-#[derive(Clone, Copy)]
-pub(crate) struct Shown {
-    state: State,
-    due: Option<Day>,
-    released: u8,
-    issued: u8,
-}
-
-impl Shown {
-    /// Returns the parts of `side`. `released` counts its released messages.
-    pub(crate) fn of(side: &Side, released: u8) -> Shown
-        ensures { result ≡ shown_of side.now released }
-    {
-        Shown {
-            state: side.state(),
-            due: side.due(),
-            released,
-            issued: side.issued_count(),
-        }
-    }
-
-    /// Returns the parts of the side of `txn` among `sides`. `released` counts its released messages. A side that
-    /// is not held is shown as an idle one.
-    pub(crate) fn held(sides: &Sides, txn: &TxnId, released: u8) -> Shown
-        ensures { result ≡ shown_of (side_for txn.now sides.now) released }
-    {
-        match sides.get(txn) {
-            Some(side) => Shown::of(side, released),
-            None => Shown::idle(released),
-        }
-    }
-
-    /// Returns the parts of an idle side, of either role and in any transaction.
-    fn idle(released: u8) -> Shown
-        ensures { (role : Role) (txn : Qualifiers) → result ≡ shown_of (idle_side role txn) released }
-    {
-        Shown {
-            state: State::Idle,
-            due: None,
-            released,
-            issued: 0,
-        }
-    }
-}
 
 /// Appends the line of event `number`, counted from 1, with an LF after it. It has the number, `word`, and for each
 /// side the state, the due date, and the counts of its released and its issued messages: `3 saved requester PENDING
@@ -111,25 +59,9 @@ pub fn push_side(lines: &mut Vec<u8>, side: &Side, released: u8) -> Result<(), O
     push_shown(lines, Shown::of(side, released))
 }
 
-/// Appends the text of the side of `txn` among `sides`, which is idle if it is not held. If memory runs out,
-/// `lines` is left as `push_side` leaves it.
-pub fn push_held(
-    lines: &mut Vec<u8>,
-    sides: &Sides,
-    txn: &TxnId,
-    released: u8,
-) -> Result<(), OutOfMemory>
-    ensures text { OnOk result (lines.new.items ≡ lines.old.items
-        ++ side_text (side_for txn.now sides.now) released) }
-    ensures front { OnErr result (AddsFront lines.old.items lines.new.items
-        (side_text (side_for txn.now sides.now) released)) }
-{
-    push_shown(lines, Shown::held(sides, txn, released))
-}
-
-/// Appends the text of these parts of a side.
+/// Appends the text of these parts of a side. If memory runs out, `lines` is left as `push_side` leaves it.
 #[tactic(auto, unfolding(crate::specs::Trace::shown_text))]
-fn push_shown(lines: &mut Vec<u8>, shown: Shown) -> Result<(), OutOfMemory>
+pub fn push_shown(lines: &mut Vec<u8>, shown: Shown) -> Result<(), OutOfMemory>
     ensures text { OnOk result (lines.new.items ≡ lines.old.items ++ shown_text shown) }
     ensures front { OnErr result (AddsFront lines.old.items lines.new.items (shown_text shown)) }
 {

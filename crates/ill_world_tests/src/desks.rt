@@ -1,10 +1,12 @@
 //! Events of two desks as values, performed one by one or as a list.
 
 use crate::list::EventList;
+use crate::tries::{self, Tried};
 use ill_core::{Deed, Wish};
-use ill_test_kit::Page;
-use ill_values::{Day, Item, Number, TxnId};
-use ill_world::{Bytes, DeskEvent, DeskWorld, Who, push_side, run_desks};
+use ill_saved::{Side, Sides};
+use ill_test_kit::{Page, marks};
+use ill_values::{Day, Item, Number, OutOfMemory, TxnId};
+use ill_world::{Bytes, DeskEvent, DeskOutcome, DeskWorld, Who, push_side, run_desks};
 use std::alloc::Global;
 
 /// The transactions of both loans.
@@ -17,13 +19,42 @@ const OTHER_CANCEL: &[u8] = b"\x66\x10\x80\x01\x01\xA1\x08\x81\x02G1\x82\x02T2\x
 
 type Events = EventList<DeskEvent>;
 
+impl Tried for DeskWorld {
+    type Event = DeskEvent;
+
+    type Outcome = DeskOutcome;
+
+    fn after(alloc: Global, _txn: &TxnId, events: &[DeskEvent]) -> Result<DeskWorld, OutOfMemory> {
+        run_desks(alloc, events)
+    }
+
+    fn happen(&mut self, alloc: Global, event: &DeskEvent) -> Result<DeskOutcome, OutOfMemory> {
+        self.step(alloc, event)
+    }
+
+    fn pass_on(&mut self, alloc: Global) -> Result<(), OutOfMemory> {
+        self.exchange(alloc)
+    }
+
+    fn print(&self, alloc: Global, page: &mut Page) -> Option<()> {
+        print_both(alloc, page, self)
+    }
+
+    /// Prints each side that a desk holds.
+    fn print_more(&self, _alloc: Global, page: &mut Page) -> Option<()> {
+        print_held(page, self.requester())?;
+        print_held(page, self.responder())
+    }
+}
+
 /// The events of this name.
 fn desk_events(alloc: Global, name: &str) -> Option<Events> {
     let mut events = Events::new(alloc);
     match name {
         "two-loans" => two_loans(&mut events, alloc),
         "two-losses" => two_losses(&mut events, alloc),
-        "noise" => events.push(noise(alloc)),
+        "noise" => events.push(noise(alloc, Who::Responder)),
+        "kinds" => kinds(&mut events, alloc),
         _ => return None,
     }
     Some(events)
@@ -41,7 +72,7 @@ fn two_loans(events: &mut Events, alloc: Global) {
     events.push(ship(alloc, FIRST));
     events.push(Some(DeskEvent::Restart(Who::Responder)));
     events.push(delivered(alloc, FIRST));
-    events.push(recall(alloc));
+    events.push(recall(alloc, SECOND));
     events.push(delivered(alloc, SECOND));
 }
 
@@ -56,6 +87,40 @@ fn two_losses(events: &mut Events, alloc: Global) {
     events.push(ship(alloc, SECOND));
     events.push(Some(DeskEvent::Save(Who::Responder)));
     events.push(sent(alloc, Who::Responder, SECOND));
+}
+
+/// A Shipped and a Cancel that cross, neither sent yet; and then events of each kind at each desk.
+fn kinds(events: &mut Events, alloc: Global) {
+    events.push(request(alloc, FIRST, b"Maps"));
+    events.push(Some(DeskEvent::Save(Who::Requester)));
+    events.push(sent(alloc, Who::Requester, FIRST));
+    events.push(delivered(alloc, FIRST));
+    events.push(ship(alloc, FIRST));
+    events.push(Some(DeskEvent::Save(Who::Responder)));
+    events.push(cancel(alloc));
+    events.push(sent(alloc, Who::Requester, FIRST));
+    push_faults(events, alloc, Who::Requester);
+    events.push(request(alloc, SECOND, b"Atlas"));
+    push_restart(events, Who::Requester);
+    events.push(sent(alloc, Who::Responder, FIRST));
+    events.push(delivered(alloc, FIRST));
+    push_faults(events, alloc, Who::Responder);
+    events.push(recall(alloc, FIRST));
+    push_restart(events, Who::Responder);
+}
+
+/// Noise, and saves that fail.
+fn push_faults(events: &mut Events, alloc: Global, who: Who) {
+    events.push(noise(alloc, who));
+    for landed in [false, true] {
+        events.push(Some(DeskEvent::SaveFault { who, landed }));
+    }
+}
+
+/// A save, and a restart.
+fn push_restart(events: &mut Events, who: Who) {
+    events.push(Some(DeskEvent::Save(who)));
+    events.push(Some(DeskEvent::Restart(who)));
 }
 
 fn id(alloc: Global, transaction: &[u8]) -> Option<TxnId> {
@@ -85,8 +150,12 @@ fn ship(alloc: Global, transaction: &[u8]) -> Option<DeskEvent> {
     deed(alloc, transaction, Deed::Ship { due })
 }
 
-fn recall(alloc: Global) -> Option<DeskEvent> {
-    deed(alloc, SECOND, Deed::Recall)
+fn recall(alloc: Global, transaction: &[u8]) -> Option<DeskEvent> {
+    deed(alloc, transaction, Deed::Recall)
+}
+
+fn cancel(alloc: Global) -> Option<DeskEvent> {
+    Some(DeskEvent::Wish(id(alloc, FIRST)?, Wish::Cancel))
 }
 
 /// What the responder's library does on 1 March.
@@ -95,18 +164,26 @@ fn deed(alloc: Global, transaction: &[u8], deed: Deed) -> Option<DeskEvent> {
     Some(DeskEvent::Deed(id(alloc, transaction)?, deed, today))
 }
 
-fn noise(alloc: Global) -> Option<DeskEvent> {
+fn noise(alloc: Global, who: Who) -> Option<DeskEvent> {
     let bytes = Bytes::new(Vec::from_slice(alloc, OTHER_CANCEL).ok()?);
-    Some(DeskEvent::Noise(Who::Responder, bytes))
+    Some(DeskEvent::Noise(who, bytes))
 }
 
 /// Performs the events of this name one by one, and prints a line for each.
 pub fn print_desk_steps(alloc: Global, page: &mut Page, name: &str) -> Option<()> {
     let events = desk_events(alloc, name)?;
-    let mut world = DeskWorld::new(alloc).ok()?;
+    let mut world = first_desks(alloc)?;
     let printed = perform_steps(alloc, page, &mut world, &events);
     drop(world);
     printed
+}
+
+/// Returns two desks that hold nothing, which takes no memory.
+fn first_desks(alloc: Global) -> Option<DeskWorld> {
+    marks::begin_quiet(alloc);
+    let world = DeskWorld::new(alloc);
+    marks::end_quiet(alloc);
+    world.ok()
 }
 
 /// Performs events, and prints a line for each, of the transaction that was named last: its number, what is
@@ -123,7 +200,7 @@ fn perform_steps(
     for event in events.all()? {
         shown = named(event).unwrap_or(shown);
         number = number.checked_add(1)?;
-        let outcome = world.step(alloc, event).ok()?;
+        let outcome = tries::step(alloc, page, world, event)?;
         page.show(&number);
         page.text(" ");
         page.text(outcome.word());
@@ -135,7 +212,7 @@ fn perform_steps(
 /// Performs the events of this name as a list, and prints both sides of each transaction.
 pub fn print_desk_run(alloc: Global, page: &mut Page, name: &str) -> Option<()> {
     let events = desk_events(alloc, name)?;
-    let world = run_desks(alloc, events.all()?).ok()?;
+    let world: DeskWorld = tries::run(alloc, events.all()?)?;
     let printed = print_both(alloc, page, &world);
     drop(world);
     printed
@@ -144,15 +221,15 @@ pub fn print_desk_run(alloc: Global, page: &mut Page, name: &str) -> Option<()> 
 /// Performs the events of this name as a list, and then a round, and prints both sides of each transaction.
 pub fn print_desk_exchange(alloc: Global, page: &mut Page, name: &str) -> Option<()> {
     let events = desk_events(alloc, name)?;
-    let mut world = run_desks(alloc, events.all()?).ok()?;
-    let printed = exchange(alloc, page, &mut world);
-    drop(world);
-    printed
+    tries::print_exchange::<DeskWorld>(alloc, page, events.all()?)
 }
 
-fn exchange(alloc: Global, page: &mut Page, world: &mut DeskWorld) -> Option<()> {
-    world.exchange(alloc).ok()?;
-    print_both(alloc, page, world)
+/// Prints each side that a desk holds.
+fn print_held(page: &mut Page, sides: &Sides) -> Option<()> {
+    for place in 0..sides.len() {
+        page.show_parts(sides.at(place)?);
+    }
+    Some(())
 }
 
 fn print_both(alloc: Global, page: &mut Page, world: &DeskWorld) -> Option<()> {
@@ -190,17 +267,24 @@ fn print_side(
     who: Who,
     txn: &TxnId,
 ) -> Option<()> {
-    let sides = match who {
-        Who::Requester => world.requester(),
-        Who::Responder => world.responder(),
-    };
-    match sides.get(txn) {
+    marks::begin_quiet(alloc);
+    let (side, released) = (held(world, who, txn), world.released(who, txn));
+    marks::end_quiet(alloc);
+    match side {
         Some(side) => {
             let mut text = Vec::new(alloc);
-            push_side(&mut text, side, world.released(who, txn)).ok()?;
+            push_side(&mut text, side, released).ok()?;
             page.push(&text);
         }
         None => page.text("IDLE - 0/0"),
     }
     Some(())
+}
+
+/// Returns the side of a transaction that a desk holds.
+fn held<'a>(world: &'a DeskWorld, who: Who, txn: &TxnId) -> Option<&'a Side> {
+    match who {
+        Who::Requester => world.requester().get(txn),
+        Who::Responder => world.responder().get(txn),
+    }
 }

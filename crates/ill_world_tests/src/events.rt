@@ -6,10 +6,12 @@ use ill_values::{AnswerResult, Day, Item, Number};
 use ill_world::{Bytes, Event, Who};
 use std::alloc::Global;
 
-/// A Cancel of the transaction, and one of another.
+/// A Cancel of the transaction; one of another; and that without its last byte.
 const CANCEL: &[u8] = b"\x66\x10\x80\x01\x01\xA1\x08\x81\x02G1\x82\x02T1\x82\x01\x02";
 
 const OTHER_CANCEL: &[u8] = b"\x66\x10\x80\x01\x01\xA1\x08\x81\x02G1\x82\x02T2\x82\x01\x02";
+
+const CUT: &[u8] = b"\x66\x10\x80\x01\x01\xA1\x08\x81\x02G1\x82\x02T2\x82\x01";
 
 type Events = EventList<Event>;
 
@@ -22,6 +24,8 @@ pub fn events(alloc: Global, name: &str) -> Option<Events> {
         "cancelled" => cancelled(&mut events, alloc),
         "declined" => declined(&mut events, alloc),
         "promised" => promised(&mut events, alloc),
+        "renewing" => renewing(&mut events, alloc),
+        "kinds" => kinds(&mut events, alloc),
         _ => return None,
     }
     Some(events)
@@ -83,6 +87,54 @@ fn refused(events: &mut Events, alloc: Global) {
     events.push(Some(Event::Restart(Who::Responder)));
 }
 
+/// A Renew and an Overdue that cross, neither saved yet.
+fn renewing(events: &mut Events, alloc: Global) {
+    push_requested(events, alloc);
+    events.push(ship());
+    push_delivered(events, Who::Responder, 1);
+    events.push(Some(Event::Wish(Wish::Receive)));
+    push_sent(events, Who::Requester, 2);
+    events.push(Some(Event::Wish(Wish::Renew { wished: None })));
+    events.push(overdue());
+}
+
+/// The same, and then events of each kind at each side.
+fn kinds(events: &mut Events, alloc: Global) {
+    renewing(events, alloc);
+    push_useless(events, alloc, Who::Requester, 3);
+    push_faults(events, Who::Requester);
+    events.push(Some(Event::Wish(Wish::Return)));
+    push_restart(events, Who::Requester);
+    push_useless(events, alloc, Who::Responder, 2);
+    events.push(delivered(Who::Responder, 2));
+    push_faults(events, Who::Responder);
+    events.push(deed(Deed::Recall));
+    push_restart(events, Who::Responder);
+}
+
+/// Events that change nothing. The message of this number is not saved yet.
+fn push_useless(events: &mut Events, alloc: Global, who: Who, unsaved: u8) {
+    events.push(sent(who, unsaved));
+    events.push(delivered(who, 3));
+    events.push(noise(alloc, who, OTHER_CANCEL));
+    events.push(noise(alloc, who, CUT));
+    events.push(sent(who, 1));
+    events.push(delivered(who, 1));
+}
+
+/// Saves that fail.
+fn push_faults(events: &mut Events, who: Who) {
+    for landed in [false, true] {
+        events.push(Some(save_fault(who, landed)));
+    }
+}
+
+/// A save, and a restart.
+fn push_restart(events: &mut Events, who: Who) {
+    events.push(Some(Event::Save(who)));
+    events.push(Some(Event::Restart(who)));
+}
+
 /// The responder takes the request.
 fn push_requested(events: &mut Events, alloc: Global) {
     events.push(request(alloc));
@@ -109,6 +161,11 @@ fn request(alloc: Global) -> Option<Event> {
 fn ship() -> Option<Event> {
     let due = Day::new(2025, 3, 15).ok()?;
     deed(Deed::Ship { due })
+}
+
+/// The responder's library says on the day after the due date that the item is overdue.
+fn overdue() -> Option<Event> {
+    Some(Event::Deed(Deed::Overdue, Day::new(2025, 3, 16).ok()?))
 }
 
 /// What the responder's library does on 1 March.

@@ -5,6 +5,10 @@
 //! To try a script alone, in seconds: put its lines into a file, as
 //! `sed -n '/^script a Shipped that comes again$/,/^$/p' stdin > file`, and `rt try < file | diff file -` prints
 //! nothing where all is right.
+//!
+//! Calls of `ill_world` stand between marks, and are made again while a growth of theirs is refused (`tries`,
+//! `performing`). So `tools/want-of-memory` has each growth of each call refused once, and all that is printed is as
+//! ever. Scripts that are longer than `performing` says, and the events of `ending`, have ample memory.
 #![tactic(auto)]
 
 mod desks;
@@ -15,6 +19,7 @@ mod places;
 mod scripts;
 mod session;
 mod streams;
+mod tries;
 mod worlds;
 
 use ill_test_kit::answer_lines;

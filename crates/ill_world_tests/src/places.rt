@@ -1,7 +1,7 @@
 //! Scripts whose reader or writer fails at each place in turn.
 
-use crate::performing::{Script, Told, line_count, perform, perform_into, print_answer};
-use crate::streams::End;
+use crate::performing::{Script, Told, is_whole_lines, line_count, perform, print_answer};
+use crate::streams::{End, Streams};
 use ill_test_kit::Page;
 use std::alloc::Global;
 
@@ -57,24 +57,20 @@ fn print_fronts(
     end: End,
     label: &'static str,
 ) -> Option<()> {
-    let whole = perform(alloc, script, false, End::Stops)?;
+    let whole = perform(alloc, script, Streams::Reader(End::Stops))?;
     let mut answers = Answers::new(alloc, label);
     for place in 0..=script.bytes.len() {
         let front = Script {
             bytes: &script.bytes[..place],
             ..script
         };
-        let told = perform(alloc, front, false, end)?;
+        let told = perform(alloc, front, Streams::Reader(end))?;
         answers.push(page, place, &told, Some(line_count(&told.trace)));
         if !is_whole_lines(&told.trace) || !whole.trace.starts_with(&told.trace) {
             page.line("ANOTHER TRACE");
         }
     }
     Some(())
-}
-
-fn is_whole_lines(text: &[u8]) -> bool {
-    text.is_empty() || text.ends_with(b"\n")
 }
 
 /// Lets the writer take each count of bytes of the trace in turn, and then fail, be interrupted, or take
@@ -92,10 +88,10 @@ fn print_rooms(
     end: End,
     label: &'static str,
 ) -> Option<()> {
-    let whole = perform(alloc, script, false, End::Stops)?;
+    let whole = perform(alloc, script, Streams::Reader(End::Stops))?;
     let mut answers = Answers::new(alloc, label);
     for room in 0..=whole.trace.len() {
-        let told = perform_into(alloc, script, room, end)?;
+        let told = perform(alloc, script, Streams::Writer(room, end))?;
         answers.push(page, room, &told, None);
         if told.trace.as_slice() != &whole.trace[..room] {
             page.line("ANOTHER TRACE");

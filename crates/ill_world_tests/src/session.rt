@@ -5,7 +5,7 @@ use crate::performing::{Script, Simulation, print_script, print_trace};
 use crate::places::{print_readers, print_writers};
 use crate::scripts::push_line;
 use crate::streams::End;
-use crate::worlds::{print_ending, print_run, print_steps};
+use crate::worlds::{print_ending, print_exchange, print_run, print_steps};
 use ill_test_kit::{INDENT, Lines, Page};
 use std::alloc::Global;
 
@@ -86,6 +86,7 @@ impl Session {
             "" | "#" => return Some(()),
             "steps" => return print_steps(self.alloc, answers, name),
             "run" => return print_run(self.alloc, answers, name),
+            "exchange" => return print_exchange(self.alloc, answers, name),
             "desk-steps" => return print_desk_steps(self.alloc, answers, name),
             "desk-run" => return print_desk_run(self.alloc, answers, name),
             "desk-exchange" => return print_desk_exchange(self.alloc, answers, name),

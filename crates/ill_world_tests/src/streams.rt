@@ -29,23 +29,45 @@ impl End {
     }
 }
 
-/// A reader that gives these bytes, one at a time if it is slow, and then ends so. Once it has failed it gives others.
-pub fn reader_of(alloc: Global, bytes: &[u8], is_slow: bool, end: End) -> Option<TestReader> {
-    let behind = match end {
-        End::Stops => Vec::new(alloc),
-        End::Fails | End::Interrupts => Vec::from_slice(alloc, BEHIND).ok()?,
-    };
-    let bytes = Vec::from_slice(alloc, bytes).ok()?;
-    let mut reader = TestReader::new(bytes, end.failure(), behind);
-    if is_slow {
-        reader.set_slow();
-    }
-    Some(reader)
+/// How the streams of a script give and take their bytes.
+#[derive(Clone, Copy)]
+pub enum Streams {
+    /// The reader ends so, and the writer takes all.
+    Reader(End),
+    /// The same, one byte at a time.
+    Slow(End),
+    /// The reader gives all. The writer takes so many bytes, and then ends so.
+    Writer(usize, End),
 }
 
-/// A writer that takes so many bytes until it refuses once. Then it takes more.
-pub fn writer_of(alloc: Global, room: usize, end: End) -> TestWriter {
-    let mut writer = TestWriter::new(alloc);
-    writer.set_room(room, end.failure());
-    writer
+impl Streams {
+    /// A reader that gives these bytes, and then ends so. Once it has failed it gives others.
+    pub fn reader(self, alloc: Global, bytes: &[u8]) -> Option<TestReader> {
+        let end = match self {
+            Streams::Reader(end) | Streams::Slow(end) => end,
+            Streams::Writer(_, _) => End::Stops,
+        };
+        let behind = match end {
+            End::Stops => Vec::new(alloc),
+            End::Fails | End::Interrupts => Vec::from_slice(alloc, BEHIND).ok()?,
+        };
+        let bytes = Vec::from_slice(alloc, bytes).ok()?;
+        let mut reader = TestReader::new(bytes, end.failure(), behind);
+        if matches!(self, Streams::Slow(_)) {
+            reader.set_slow();
+        }
+        Some(reader)
+    }
+
+    /// A writer. It has memory for so many bytes.
+    pub fn writer(self, alloc: Global, most: usize) -> Option<TestWriter> {
+        let mut writer = TestWriter::new(alloc);
+        writer.taken = Vec::with_capacity(alloc, most).ok()?;
+        match self {
+            Streams::Reader(_) => {}
+            Streams::Slow(_) => writer.set_slow(),
+            Streams::Writer(room, end) => writer.set_room(room, end.failure()),
+        }
+        Some(writer)
+    }
 }

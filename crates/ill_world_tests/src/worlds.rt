@@ -3,21 +3,64 @@
 use crate::events::events;
 use crate::list::EventList;
 use crate::performing::txn;
+use crate::tries::{self, Tried};
 use ill_core::State;
 use ill_der::encode;
 use ill_test_kit::Page;
-use ill_values::{Apdu, Day};
-use ill_world::{Event, Who, World, run};
+use ill_test_kit::marks::{self, TRIES};
+use ill_values::{Apdu, Day, OutOfMemory, TxnId};
+use ill_world::{Event, Outcome, Who, World, run};
 use std::alloc::Global;
+
+impl Tried for World {
+    type Event = Event;
+
+    type Outcome = Outcome;
+
+    fn after(alloc: Global, txn: &TxnId, events: &[Event]) -> Result<World, OutOfMemory> {
+        run(alloc, txn, events)
+    }
+
+    fn happen(&mut self, alloc: Global, event: &Event) -> Result<Outcome, OutOfMemory> {
+        self.step(alloc, event)
+    }
+
+    fn pass_on(&mut self, alloc: Global) -> Result<(), OutOfMemory> {
+        self.exchange(alloc)
+    }
+
+    fn print(&self, alloc: Global, page: &mut Page) -> Option<()> {
+        print_world(alloc, page, self)
+    }
+
+    /// Prints each field of it, with what has landed and what was sent.
+    fn print_more(&self, _alloc: Global, page: &mut Page) -> Option<()> {
+        page.show_parts(self);
+        Some(())
+    }
+}
 
 /// Performs the events of this name one by one, and prints what is seen of each, and how both sides stand
 /// in the end.
 pub fn print_steps(alloc: Global, page: &mut Page, name: &str) -> Option<()> {
     let events = events(alloc, name)?;
-    let mut world = World::new(alloc, &txn(alloc)?).ok()?;
+    let mut world = first_world(alloc)?;
     let printed = perform_steps(alloc, page, &mut world, &events);
     drop(world);
     printed
+}
+
+/// Returns a world of two idle sides. While that is refused memory, it is made again.
+fn first_world(alloc: Global) -> Option<World> {
+    let txn = txn(alloc)?;
+    for _ in 0..TRIES {
+        marks::begin(alloc);
+        let world = World::new(alloc, &txn);
+        if !marks::is_refused(alloc, world.is_err()) {
+            return world.ok();
+        }
+    }
+    None
 }
 
 fn perform_steps(
@@ -33,7 +76,10 @@ fn perform_steps(
 }
 
 fn print_step(alloc: Global, page: &mut Page, world: &mut World, event: &Event) -> Option<()> {
-    let outcome = world.step(alloc, event).ok()?;
+    let outcome = tries::step(alloc, page, world, event)?;
+    if takes_no_memory(outcome) && again(alloc, world, event) != Ok(outcome) {
+        page.line("ANOTHER OUTCOME WITHOUT MEMORY");
+    }
     let other = event.who().other();
     page.show_parts(&event.who());
     page.text(" ");
@@ -46,23 +92,41 @@ fn print_step(alloc: Global, page: &mut Page, world: &mut World, event: &Event) 
     Some(())
 }
 
+/// Returns true if the events here that have this outcome change nothing and take no memory.
+fn takes_no_memory(outcome: Outcome) -> bool {
+    matches!(
+        outcome,
+        Outcome::NoSuchMessage | Outcome::NotSaved | Outcome::NotSent | Outcome::Garbled
+    )
+}
+
+/// Performs an event with every growth refused.
+fn again(alloc: Global, world: &mut World, event: &Event) -> Result<Outcome, OutOfMemory> {
+    marks::begin_quiet(alloc);
+    let answer = world.step(alloc, event);
+    marks::end_quiet(alloc);
+    answer
+}
+
 /// Performs the events of this name as a list, and prints how both sides stand in the end.
 pub fn print_run(alloc: Global, page: &mut Page, name: &str) -> Option<()> {
-    let world = run_named(alloc, name)?;
+    let events = events(alloc, name)?;
+    let world: World = tries::run(alloc, events.all()?)?;
     let printed = print_world(alloc, page, &world);
     drop(world);
     printed
 }
 
-/// The world after the events of this name.
-fn run_named(alloc: Global, name: &str) -> Option<World> {
+/// Performs the events of this name as a list, and then a round, and prints how both sides stand in the end.
+pub fn print_exchange(alloc: Global, page: &mut Page, name: &str) -> Option<()> {
     let events = events(alloc, name)?;
-    run(alloc, &txn(alloc)?, events.all()?).ok()
+    tries::print_exchange::<World>(alloc, page, events.all()?)
 }
 
 /// Performs the events of this name as a list, and prints which message has ended the request.
 pub fn print_ending(alloc: Global, page: &mut Page, name: &str) -> Option<()> {
-    let world = run_named(alloc, name)?;
+    let events = events(alloc, name)?;
+    let world = run(alloc, &txn(alloc)?, events.all()?).ok()?;
     let ending = world.responder().ending();
     drop(world);
     match ending {
@@ -76,50 +140,70 @@ pub fn print_ending(alloc: Global, page: &mut Page, name: &str) -> Option<()> {
     Some(())
 }
 
+/// The parts of a side that the readers show.
+#[derive(Clone, Copy)]
+struct Seen<'a> {
+    name: &'static str,
+    state: State,
+    due: Option<Day>,
+    released: u8,
+    issued: &'a [Apdu],
+}
+
 /// Prints how both sides stand, each with the messages that it has issued, and the request that was taken.
 fn print_world(alloc: Global, page: &mut Page, world: &World) -> Option<()> {
-    let requester = world.requester();
-    page.text("requester");
-    print_state_and_due(page, requester.state(), requester.due());
-    print_issued(
-        alloc,
-        page,
-        world.released(Who::Requester),
-        requester.all_issued(),
-    )?;
-    let responder = world.responder();
-    page.text("responder");
-    print_state_and_due(page, responder.state(), responder.due());
-    print_issued(
-        alloc,
-        page,
-        world.released(Who::Responder),
-        responder.all_issued(),
-    )?;
-    if let Some(request) = responder.request() {
+    marks::begin_quiet(alloc);
+    let requester = seen_requester(world);
+    let responder = seen_responder(world);
+    let request = world.responder().request();
+    marks::end_quiet(alloc);
+    print_side(alloc, page, &requester)?;
+    print_side(alloc, page, &responder)?;
+    if let Some(request) = request {
         page.text("request");
         print_message(alloc, page, request)?;
     }
     Some(())
 }
 
-fn print_state_and_due(page: &mut Page, state: State, due: Option<Day>) {
-    page.text(" ");
-    page.show(&state);
-    page.text(" ");
-    match due {
-        Some(due) => page.push(&due.digits()),
-        None => page.text("-"),
+fn seen_requester(world: &World) -> Seen<'_> {
+    let side = world.requester();
+    Seen {
+        name: "requester",
+        state: side.state(),
+        due: side.due(),
+        released: world.released(Who::Requester),
+        issued: side.all_issued(),
     }
 }
 
-fn print_issued(alloc: Global, page: &mut Page, released: u8, issued: &[Apdu]) -> Option<()> {
+fn seen_responder(world: &World) -> Seen<'_> {
+    let side = world.responder();
+    Seen {
+        name: "responder",
+        state: side.state(),
+        due: side.due(),
+        released: world.released(Who::Responder),
+        issued: side.all_issued(),
+    }
+}
+
+/// Prints how a side stands, and the messages that it has issued.
+fn print_side(alloc: Global, page: &mut Page, side: &Seen<'_>) -> Option<()> {
+    page.text(side.name);
     page.text(" ");
-    page.show(&released);
+    page.show(&side.state);
+    page.text(" ");
+    match side.due {
+        Some(due) => page.push(&due.digits()),
+        None => page.text("-"),
+    }
+    page.text(" ");
+    page.show(&side.released);
     page.text("/");
-    page.show(&issued.len());
+    page.show(&side.issued.len());
     page.text("\n");
-    for apdu in issued {
+    for apdu in side.issued {
         page.text("message");
         print_message(alloc, page, apdu)?;
     }

@@ -9,7 +9,7 @@ use Rattle.ill_tool.proofs.dates.deed_lines.Goals as goal
 
 pub returns : goal.returns
 returns g c =
-    let line = deed_line g.K.Keeper.keeping (g.K.Keeper.live c.args.keeper.now) in
+    let line = deed_line g.H.Holdings.effects c.args.desk.now.live in
     let done = c.args.done.now in
     let all = take_all c.loop-due.due-index done c.loop-due-test.false in
     c.loop-due.invariant.told ∙ ap (flat_map (λ (due : Bor Due). line due.now)) all ∙ sym (flat_map-map line (λ (due : Bor Due). due.now) done)

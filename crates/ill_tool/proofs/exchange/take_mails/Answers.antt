@@ -1,14 +1,14 @@
 -- Answers the contract of `take_mails` (`src/exchange.rt`).
 use Rattle.std.proofs.Common.{inr, List, Ok, Err, None, refl, subst}
 use Rattle.ill_tool.specs.declared.verdict.Mail.{Mail}
-use Rattle.ill_tool.specs.Keeping.{many_sides}
-use Rattle.ill_tool.specs.Performing.{many_view}
+use Rattle.ill_saved.specs.ManySides.{many_sides}
+use Rattle.ill_tool.specs.Performing.{view_of}
 use Rattle.ill_tool.specs.Inbox.{RunsInbox}
 use Rattle.ill_tool.proofs.exchange.take_mails.Goals as goal
 
 pub returns-in-Ok : goal.returns-in-Ok
 returns-in-Ok g c =
-    let view = many_view g.S.Store.state in
+    let view = view_of g.S.Store.state in
     let before = g.W.Write.contents c.args.writer.now in
     let after = g.W.Write.contents c.run_desk_inbox-run.new.writer in
     let waiting = c.in_ok-found.found.waiting in

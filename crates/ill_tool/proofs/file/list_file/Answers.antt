@@ -1,6 +1,6 @@
 -- Answers the contract of `list_file` (`src/file.rt`).
 use Rattle.std.proofs.Common.{inr}
-use Rattle.ill_saved.specs.Many.{sides_held}
+use Rattle.ill_saved.specs.ManySides.{sides_held}
 use Rattle.ill_tool.proofs.file.list_file.Goals as goal
 
 pub returns : goal.returns

@@ -1,6 +1,6 @@
 -- Answers the contract of `list_lines` (`src/file.rt`).
 use Rattle.std.proofs.Common.{◌++◌, List, ℕ, ap, subst, ◌∙◌, append_assoc}
-use Rattle.ill_saved.specs.Many.{sides_held}
+use Rattle.ill_saved.specs.ManySides.{sides_held}
 use Rattle.ill_tool.specs.Listing.{gap, heading, list_lines}
 use Rattle.ill_tool.specs.Output.{WritesText}
 use Rattle.ill_tool.proofs.file.list_lines.Goals as goal

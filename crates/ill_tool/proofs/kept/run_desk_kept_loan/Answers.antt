@@ -2,8 +2,9 @@
 use Rattle.std.proofs.Common.{rules, ◌≡◌, Option, Some, None, ℕ, sym, subst}
 use Rattle.ill_saved.specs.Sides.{side_with}
 use Rattle.ill_saved.specs.Side.{txn_of}
-use Rattle.ill_saved.specs.Many.{DeskEntry, held_for, sides_held}
-use Rattle.ill_saved.proofs.Holdings.{held_there, none_held_there}
+use Rattle.ill_saved.specs.Holdings.{DeskEntry}
+use Rattle.ill_saved.specs.ManySides.{held_for, sides_held}
+use Rattle.ill_saved.proofs.Contents.{held_there, none_held_there}
 use Rattle.ill_tool.specs.Kept.{RunsKeptLoan, WritesKept, kept_text}
 use Rattle.ill_tool.proofs.kept.run_desk_kept_loan.Goals as goal
 

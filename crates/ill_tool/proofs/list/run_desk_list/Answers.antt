@@ -1,7 +1,7 @@
 -- Answers the contract of `run_desk_list` (`src/list.rt`).
 use Rattle.std.proofs.Common.{◌≡◌, ℕ, ◌++◌, List, Option, Result, Ok, Err, ap, sym, subst, ◌∙◌}
 use Rattle.ill_saved.specs.Sides.{SidesOf}
-use Rattle.ill_saved.specs.Many.{sides_held}
+use Rattle.ill_saved.specs.ManySides.{sides_held}
 use Rattle.ill_tool.specs.declared.fault.ToolFault.{ToolFault}
 use Rattle.ill_tool.specs.Listing.{list_lines}
 use Rattle.ill_tool.specs.Output.{WritesFront, WritesText}

@@ -1,8 +1,9 @@
 -- Answers the contract of `run_desk_loan` (`src/loan.rt`).
 use Rattle.std.proofs.Common.{rules, ◌≡◌, Option, Some, None, ℕ, sym, subst}
 use Rattle.ill_saved.specs.Sides.{side_with}
-use Rattle.ill_saved.specs.Many.{DeskEntry, held_for, sides_held}
-use Rattle.ill_saved.proofs.Holdings.{held_there, none_held_there}
+use Rattle.ill_saved.specs.Holdings.{DeskEntry}
+use Rattle.ill_saved.specs.ManySides.{held_for, sides_held}
+use Rattle.ill_saved.proofs.Contents.{held_there, none_held_there}
 use Rattle.ill_tool.specs.Output.{WritesText}
 use Rattle.ill_tool.specs.Loan.{RunsLoan, loan_lines}
 use Rattle.ill_tool.proofs.loan.run_desk_loan.Goals as goal

@@ -1,8 +1,9 @@
 -- Answers the contract of `run_desk_picture` (`src/picture.rt`).
 use Rattle.std.proofs.Common.{rules, ◌≡◌, Option, Some, None, sym, subst}
 use Rattle.ill_saved.specs.Sides.{side_with}
-use Rattle.ill_saved.specs.Many.{DeskEntry, sides_held}
-use Rattle.ill_saved.proofs.Holdings.{held_there, none_held_there}
+use Rattle.ill_saved.specs.Holdings.{DeskEntry}
+use Rattle.ill_saved.specs.ManySides.{sides_held}
+use Rattle.ill_saved.proofs.Contents.{held_there, none_held_there}
 use Rattle.ill_tool.specs.Kept.{RunsKeptLoan}
 use Rattle.ill_tool.specs.Picture.{picture}
 use Rattle.ill_tool.proofs.picture.run_desk_picture.Goals as goal

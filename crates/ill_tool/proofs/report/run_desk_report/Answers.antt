@@ -1,7 +1,7 @@
 -- Answers the contract of `run_desk_report` (`src/report.rt`).
 use Rattle.std.proofs.Common.{ℕ, List, ◌++◌, ap, sym, subst, ◌∙◌}
 use Rattle.std.proofs.lemmas.List.{append-nil}
-use Rattle.ill_saved.specs.Many.{sides_held}
+use Rattle.ill_saved.specs.ManySides.{sides_held}
 use Rattle.ill_tool.specs.declared.report_parts.TheConstants.{END}
 use Rattle.ill_tool.specs.Output.{WritesText}
 use Rattle.ill_tool.specs.Report.{desk_text, page_head}

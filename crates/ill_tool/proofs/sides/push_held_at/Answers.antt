@@ -4,7 +4,8 @@ use Rattle.std.specs.Prelude.{slice_get}
 use Rattle.std.specs.Option.{option_to_list}
 use Rattle.std.proofs.lemmas.List.{append-nil, map-append}
 use Rattle.ill_saved.specs.Side.{txn_of}
-use Rattle.ill_saved.specs.Many.{DeskEntry, held_for, sides_held}
+use Rattle.ill_saved.specs.Holdings.{DeskEntry}
+use Rattle.ill_saved.specs.ManySides.{held_for, sides_held}
 use Rattle.ill_tool.specs.Outbox.{held_of}
 use Rattle.ill_tool.proofs.SidesLemmas.{held_there, none_there}
 use Rattle.ill_tool.proofs.sides.push_held_at.Goals as goal

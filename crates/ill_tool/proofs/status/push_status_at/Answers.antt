@@ -3,7 +3,7 @@ use Rattle.std.proofs.Common.{rules, ◌≡◌, ◌++◌, OnOk, ℕ, List, Some,
 use Rattle.std.specs.Prelude.{slice_get}
 use Rattle.std.proofs.lemmas.List.{append-nil}
 use Rattle.ill_saved.specs.Side.{txn_of}
-use Rattle.ill_saved.specs.Many.{held_for, sides_held}
+use Rattle.ill_saved.specs.ManySides.{held_for, sides_held}
 use Rattle.ill_tool.proofs.StatusLemmas.{lines_there, no_lines_there}
 use Rattle.ill_tool.proofs.status.push_status_at.Goals as goal
 

@@ -14,8 +14,8 @@ module _ {T V D B : Type 0} (view : T → V) (kept : D → B) (P : V → V → B
 
 pub returns-clause-runs : goal.returns-clause-runs
 returns-clause-runs g c =
-    let start : c.new-taken.result.handler.keeper.now ≡ c.args.keeper.now = search rules in
+    let start : c.new-taken.result.handler.desk.now ≡ c.args.desk.now = search rules in
     let empty : c.new-taken.result.handler.came.now ≡ c.args.came.now = search rules in
-    at_same (λ k. view_of g.K.Kept.Store.state (g.K.Keeper.live k) (g.K.Keeper.store k)) g.F.Write.contents
-    (λ from to before after. RunsTaking (not (eqb g.row.KEEP 0)) (wording (not (eqb g.row.LONG 0))) g.K.Keeper.keeping (g.R.Read.remaining c.args.reader.now) (g.R.Read.remaining c.take_input.new.reader) before after (g.W.Write.contents c.args.writer.now) (g.W.Write.contents c.take_input.new.writer) from c.take_input.result to)
-    _ c.args.keeper.now _ _ _ c.args.came.now _ _ start (search rules) empty (search rules) c.take_input.ensures.runs
+    at_same (view_of g.S.Store.state) g.F.Write.contents
+    (λ from to before after. RunsTaking (not (eqb g.row.KEEP 0)) (wording (not (eqb g.row.LONG 0))) g.H.Holdings.effects (g.R.Read.remaining c.args.reader.now) (g.R.Read.remaining c.take_input.new.reader) before after (g.W.Write.contents c.args.writer.now) (g.W.Write.contents c.take_input.new.writer) from c.take_input.result to)
+    _ c.args.desk.now _ _ _ c.args.came.now _ _ start (search rules) empty (search rules) c.take_input.ensures.runs

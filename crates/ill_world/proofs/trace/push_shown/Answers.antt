@@ -3,7 +3,7 @@ use Rattle.std.proofs.Common.{rules, ◌≡◌, ℕ, ◌<◌, List, ◌++◌, �
 use Rattle.std.specs.Fmt.{decimal}
 use Rattle.ill_core.specs.State.{state_name}
 use Rattle.ill_der.specs.Adding.{AddsFront}
-use Rattle.ill_world.specs.declared.trace.Shown.{Shown}
+use Rattle.ill_saved.specs.declared.shown.Shown.{Shown}
 use Rattle.ill_world.specs.Trace.{due_text, shown_text}
 use Rattle.ill_der.proofs.AddingLemmas.{adds_nothing, adds_first, adds_second, adds_last, at_err}
 use Rattle.ill_world.proofs.trace.push_shown.Goals as goal

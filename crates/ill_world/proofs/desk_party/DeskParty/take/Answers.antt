@@ -1,6 +1,7 @@
 -- Answers the contract of `DeskParty::take` (`src/desk_party.rt`).
 use Rattle.std.proofs.Common.{rules, [], Ok, subst}
-use Rattle.ill_saved.specs.Many.{ManyTakes}
+use Rattle.ill_saved.specs.Desk.{DeskTakes}
+use Rattle.ill_saved.specs.ManySides.{many_sides}
 use Rattle.ill_world.proofs.DeskParties.{takes_one, takes_role, take_faults}
 use Rattle.ill_world.proofs.desk_party.DeskParty.take.Goals as goal
 
@@ -22,4 +23,4 @@ pub seen-requires : goal.seen-requires
 seen-requires c =
     let desk = c.self.inside.desk in
     let takes = takes_one desk.live c.take_bytes.new.self.live _ c.args.message.now c.take_bytes.result c.bytes.ensures c.take_bytes.ensures.takes in
-    take_faults desk.live c.take_bytes.new.self.live c.args.message.now c.in-Err.fault (subst (λ answer. ManyTakes desk.live (Ok (c.args.message.now, [])) answer c.take_bytes.new.self.live) c.in-Err.is takes)
+    take_faults desk.live c.take_bytes.new.self.live c.args.message.now c.in-Err.fault (subst (λ answer. DeskTakes many_sides desk.live (Ok (c.args.message.now, [])) answer c.take_bytes.new.self.live) c.in-Err.is takes)

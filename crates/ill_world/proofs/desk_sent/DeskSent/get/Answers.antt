@@ -2,7 +2,7 @@
 use Rattle.std.proofs.Common.{rules, ◌≡◌, Some, None, sym, ap, ◌∙◌}
 use Rattle.std.specs.Map.{lookup}
 use Rattle.ill_core.specs.Issued.{is_same_txn}
-use Rattle.ill_saved.specs.Many.{found_or}
+use Rattle.ill_saved.specs.ManySides.{found_or}
 use Rattle.ill_world.specs.World.{nothing_sent, sent_message}
 use Rattle.ill_world.specs.Desks.{sent_for}
 use Rattle.ill_world.proofs.DeskMaps.{sent_there, nothing_there}

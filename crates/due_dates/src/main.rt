@@ -1,0 +1,73 @@
+//! An example to copy from: prints a line for each loan of a desk that is SHIPPED, with its due date.
+//! docs/BUILDING-ON.md goes through it. `ill` has made the desk `data/lending`: two of its five loans are SHIPPED.
+#![tactic(auto)]
+
+ghost use Rattle.std.specs.Prelude.{◌≡◌, ◌++◌, map, slice_get, IfOk, OnOk};
+ghost use Rattle.std.specs.Option.{option_to_list};
+ghost use Rattle.due_dates.specs.Shipped.{shipped};
+
+use anyhow::{Context, Result};
+use ill_core::State;
+use ill_saved::{Desk, DeskFault, FileStore, RECORD_LIMIT, Side, Sides};
+use ill_values::OutOfMemory;
+use std::alloc::Global;
+use std::{env, str};
+
+fn main(rt: HostRuntime) -> Result<()> {
+    let path = env::args(&rt)?.nth(1).context("usage: due_dates DESK")?;
+    print_due_dates(&rt, path.as_str())
+}
+
+/// Opens the desk in the file at `path`, and prints a line for each loan that is SHIPPED.
+fn print_due_dates(rt: &HostRuntime, path: &str) -> Result<()> {
+    let store = FileStore::at(rt, rt.alloc(), path, RECORD_LIMIT)?;
+    let desk = Desk::start(rt.alloc(), store).map_err(DeskFault::from)?;
+    let printed = print_shipped(rt, desk.sides());
+    drop(desk);
+    printed
+}
+
+/// Prints a line for each of `sides` that is SHIPPED.
+fn print_shipped(rt: &HostRuntime, sides: &Sides) -> Result<()> {
+    for side in &shipped(rt.alloc(), sides)? {
+        print_line(rt, side)?;
+    }
+    Ok(())
+}
+
+/// Returns those of `sides` that are SHIPPED, in their order.
+fn shipped<'a>(alloc: Global, sides: &'a Sides) -> Result<Vec<&'a Side>, OutOfMemory>
+    ensures { IfOk result (λ found. map (λ side. side.now) found.items ≡ shipped sides.now.sides) }
+{
+    let mut found = Vec::new(alloc);
+    for place in 0..sides.len() {
+        push_shipped(&mut found, sides, place)?;
+    }
+    Ok(found)
+}
+
+/// Appends the side at `place`, if it is SHIPPED.
+fn push_shipped<'a>(
+    found: &mut Vec<&'a Side>,
+    sides: &'a Sides,
+    place: usize,
+) -> Result<(), OutOfMemory>
+    ensures { OnOk result (map (λ side. side.now) found.new.items ≡ map (λ side. side.now) found.old.items
+        ++ shipped (option_to_list (slice_get sides.now.sides place))) }
+{
+    if let Some(side) = sides.at(place)
+        && side.state() == State::Shipped
+    {
+        found.push(side)?;
+    }
+    Ok(())
+}
+
+/// Prints the due date of `side` and its transaction.
+fn print_line(rt: &HostRuntime, side: &Side) -> Result<()> {
+    let due = side.due().context("no due date")?;
+    let group = str::from_utf8(side.txn().group())?;
+    let transaction = str::from_utf8(side.txn().transaction())?;
+    println!(rt; "{due} {group} {transaction}")?;
+    Ok(())
+}

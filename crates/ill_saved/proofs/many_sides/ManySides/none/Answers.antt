@@ -1,0 +1,27 @@
+-- Answers the contract of `ManySides::none` (`src/many_sides.rt`).
+use Rattle.std.proofs.Common.{rules, ◌≡◌, [], ap, sym, subst}
+use Rattle.ill_saved.specs.Side.{IsConsistent}
+use Rattle.ill_saved.specs.Ranges.{Each}
+use Rattle.ill_saved.specs.Sides.{SidesOf}
+use Rattle.ill_saved.specs.ManySides.{counts, held_of}
+use Rattle.ill_saved.proofs.Contents.{as_many_counted, none_are, whole_backable}
+use Rattle.ill_saved.proofs.many_sides.ManySides.none.Goals as goal
+
+-- Nothing is held, so each side has a count, and no sides back the desk's content.
+pub invariant_of-result : goal.invariant_of-result
+invariant_of-result c =
+    let all = c.in-Ok.sides in
+    let counted = c.new-in-Ok.result.items in
+    let is : all ≡ record { role = c.args.role; sides = [] } = search rules in
+    let whole : counted ≡ counts all.sides = search rules in (
+      as_many_counted all.sides counted whole,
+      whole_backable all counted (subst (λ (held : SidesOf). Each IsConsistent held.sides) (sym is) (none_are IsConsistent)) whole,
+    )
+
+-- The desk holds no sides.
+pub returns : goal.returns
+unfolding held_of
+returns c =
+    let all = c.in-Ok.sides in
+    let is : all ≡ record { role = c.args.role; sides = [] } = search rules in
+    ap (λ (held : SidesOf). record { role = held.role; held = held_of held.sides c.new-in-Ok.result.items }) is

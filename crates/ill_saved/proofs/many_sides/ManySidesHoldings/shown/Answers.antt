@@ -1,0 +1,27 @@
+-- Answers the contract of `ManySides::shown` (`src/many_sides.rt`).
+use Rattle.std.proofs.Common.{rules, ◌≡◌, Some, None, ap, sym, ◌∙◌}
+use Rattle.ill_saved.specs.Side.{shown_of}
+use Rattle.ill_saved.specs.Sides.{side_with}
+use Rattle.ill_saved.specs.ManySides.{idle_held, found_or}
+use Rattle.ill_saved.proofs.Contents.{as_seen, held_there, none_held_there}
+use Rattle.ill_saved.proofs.many_sides.ManySidesHoldings.shown.Goals as goal
+
+-- If the side is held, its parts are those of what is held.
+pub returns-in-Some : goal.returns-in-Some
+returns-in-Some c =
+    let live = c.args.self.now in
+    let txn = c.args.txn.now in
+    let seen = as_seen c.self.inside.sides c.self.inside.released.items live c.self.invariant.0 c.self.view_is in
+    let there : side_with txn c.self.inside.sides.sides ≡ Some c.in-Some.side.now = search rules in
+    let held = ap (found_or (idle_held live.role txn)) (held_there live txn c.in-Some.side.now (ap (λ all. side_with txn all.sides) (sym seen) ∙ there)) in
+    c.of.ensures ∙ ap (shown_of c.in-Some.side.now) c.released_of.ensures.value ∙ sym (ap (λ held. shown_of held.side held.released) held)
+
+-- If the side is not held, its parts are those of an idle one.
+pub returns-in-None : goal.returns-in-None
+returns-in-None c =
+    let live = c.args.self.now in
+    let txn = c.args.txn.now in
+    let seen = as_seen c.self.inside.sides c.self.inside.released.items live c.self.invariant.0 c.self.view_is in
+    let none : side_with txn c.self.inside.sides.sides ≡ None = search rules in
+    let held = ap (found_or (idle_held live.role txn)) (none_held_there live txn (ap (λ all. side_with txn all.sides) (sym seen) ∙ none)) in
+    c.idle.ensures live.role txn ∙ sym (ap (λ held. shown_of held.side held.released) held)

@@ -1,0 +1,14 @@
+-- Answers the contract of `read_side` (`src/one_side.rt`).
+use Rattle.std.proofs.Common.{arith}
+use Rattle.ill_saved.specs.Records.{begins_as_record}
+use Rattle.ill_saved.proofs.Records.{decodes_spelled}
+use Rattle.ill_saved.proofs.one_side.read_side.Goals as goal
+
+-- The answer is that of decoding, and the bytes are the encoding of a side that they give.
+pub returns : goal.returns
+returns c =
+    let bytes = c.args.bytes.now in
+    record {
+      decodes = c.decode_record.ensures;
+      spelled = decodes_spelled bytes (begins_as_record bytes) c.decode_record.result (λ side read. c.spelled.ensures.side bytes side (λ i. omega (arith, c.type_inv.bytes i)) read) c.decode_record.ensures;
+    }

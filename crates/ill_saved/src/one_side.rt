@@ -1,0 +1,193 @@
+//! One side, as a desk holds it.
+
+ghost use Rattle.std.specs.Prelude.{◌≡◌, ◌≤◌, length, option_map, IfErr, IfOk};
+ghost use Rattle.ill_saved.specs.Side.{issued_of, idle_side};
+ghost use Rattle.ill_saved.specs.Records.{record_spelling, record_at, begins_as_record, Decodes};
+ghost use Rattle.ill_saved.specs.Ranges.{IsSide};
+ghost use Rattle.ill_saved.specs.Holdings.{DeskEntry, IsBacked, IsReadFault};
+ghost use Rattle.ill_saved.specs.Desk.{IsWhole};
+ghost use Rattle.ill_saved.specs.OneSide.{OneBacks, ReadsOrIdle, alone, one_side};
+ghost use Rattle.ill_saved.specs.Kept.{Keeps, IsKept};
+
+use crate::decoding::decode_record;
+use crate::fault::{DeskFault, RecordFault};
+use crate::holdings::Holdings;
+use crate::kept::KeptRecord;
+use crate::laws;
+use crate::role::Role;
+use crate::shown::Shown;
+use crate::side::{Action, Side};
+use ill_core::Taking;
+use ill_values::{Apdu, Number, OutOfMemory, TxnId};
+use std::alloc::Global;
+use std::marker::Model;
+
+/// One side of a transaction, with the number of its released messages.
+///
+/// It keeps the last record that is known to have landed. It sends messages from those bytes, and the next record
+/// copies them.
+#[derive(Debug, Drop)]
+pub struct OneSide {
+    side: Side,
+    released: u8,
+    kept: KeptRecord,
+}
+
+impl Model for OneSide {
+    ghost Value = { DeskEntry };
+
+    ghost view = { λ held. record { side = held.side; released = held.released } };
+
+    ghost invariant = { λ held. (held.released ≤ length (issued_of held.side))
+        × Keeps held.kept held.side held.released };
+}
+
+impl OneSide {
+    /// Returns `side` with nothing released.
+    pub(crate) fn alone(alloc: Global, side: Side) -> OneSide
+        ensures { result ≡ alone side }
+    {
+        OneSide {
+            side,
+            released: 0,
+            kept: KeptRecord::none(alloc),
+        }
+    }
+
+    /// Returns the side in memory.
+    pub(crate) fn side(&self) -> &Side
+        ensures value { result.now ≡ self.now.side }
+        ensures issued { self.now.released ≤ length (issued_of self.now.side) }
+    {
+        &self.side
+    }
+
+    /// Returns the number of released messages.
+    pub(crate) fn released(&self) -> u8
+        ensures { result ≡ self.now.released }
+    {
+        self.released
+    }
+}
+
+/// The name of the one side.
+const ONE: () = ();
+
+impl Holdings for OneSide {
+    type Key = ();
+
+    type First = (Role, TxnId);
+
+    type Record = KeptRecord;
+
+    ghost effects = { one_side };
+
+    ghost backs = { OneBacks };
+
+    ghost in_range = { λ held. IsSide held.side };
+
+    ghost begun = { λ first. alone (idle_side first.0 first.1) };
+
+    ghost encoded = { λ made. made.bytes };
+
+    ghost fits = { λ made held. IsKept made held.side };
+
+    fn begin(alloc: Global, first: (Role, TxnId)) -> OneSide {
+        let (role, txn) = first;
+        OneSide::alone(alloc, Side::idle(alloc, role, txn))
+    }
+
+    fn read(alloc: Global, bytes: Vec<u8>) -> Result<OneSide, DeskFault> {
+        let side = read_side(alloc, &bytes)?;
+        let kept = KeptRecord::of(alloc, bytes, &side)?;
+        let released = side.issued_count();
+        Ok(OneSide {
+            side,
+            released,
+            kept,
+        })
+    }
+
+    fn role(&self) -> Role {
+        self.side.role()
+    }
+
+    fn act(&mut self, alloc: Global, _key: &(), action: &Action) -> Result<(), DeskFault> {
+        laws::rows_grow();
+        laws::rows_keep_request();
+        Ok(self.side.act(alloc, action)?)
+    }
+
+    fn take(&mut self, alloc: Global, apdu: &Apdu) -> Result<Taking, DeskFault> {
+        laws::rows_grow();
+        laws::rows_keep_request();
+        Ok(self.side.take(alloc, apdu)?)
+    }
+
+    fn message(&self, alloc: Global, _key: &(), number: Number) -> Result<Vec<u8>, DeskFault> {
+        if self.side.issued(number).is_none() {
+            return Err(DeskFault::NoSuchMessage);
+        }
+        if number.get() > self.released {
+            return Err(DeskFault::NotSaved);
+        }
+        Ok(Vec::from_slice(alloc, self.kept.message(number))?)
+    }
+
+    fn record(&self, alloc: Global) -> Result<KeptRecord, OutOfMemory> {
+        laws::read_again();
+        self.kept.next(alloc, &self.side, self.released)
+    }
+
+    fn bytes(made: &KeptRecord) -> &[u8] {
+        made.bytes()
+    }
+
+    fn release(&mut self, landed: KeptRecord) {
+        self.released = self.side.issued_count();
+        self.kept = landed;
+    }
+
+    fn go_back(&mut self, alloc: Global, bytes: Option<Vec<u8>>) -> Result<(), DeskFault> {
+        laws::read_again();
+        if self.kept.take_back(&bytes, self.released, &mut self.side) {
+            return Ok(());
+        }
+        *self = read_or_idle(alloc, bytes, &self.side)?;
+        Ok(())
+    }
+
+    fn key_of(_apdu: &Apdu) -> &() {
+        &ONE
+    }
+
+    fn first_key(&self) -> Option<&()> {
+        Some(&ONE)
+    }
+
+    fn shown(&self, _key: &()) -> Shown {
+        Shown::of(&self.side, self.released)
+    }
+}
+
+/// Decodes the side that `bytes` encode. Without bytes, returns the idle side of `live`.
+fn read_or_idle(alloc: Global, bytes: Option<Vec<u8>>, live: &Side) -> Result<OneSide, DeskFault>
+    ensures reads { ReadsOrIdle (option_map (λ b. b.items) bytes) live.now result }
+    ensures whole { IfOk result (IsWhole one_side) }
+    ensures backed { IfOk result (λ held. IsBacked one_side OneBacks (option_map (λ b. b.items) bytes) held) }
+    ensures faults { IfErr result (IsReadFault one_side.has_digest) }
+{
+    match bytes {
+        Some(bytes) => OneSide::read(alloc, bytes),
+        None => Ok(OneSide::alone(alloc, live.idle_again(alloc)?)),
+    }
+}
+
+/// Decodes the side that `bytes` encode.
+fn read_side(alloc: Global, bytes: &[u8]) -> Result<Side, RecordFault>
+    ensures decodes { Decodes (record_at bytes.now) (begins_as_record bytes.now) result }
+    ensures spelled { IfOk result (λ side. IsSide side × (bytes.now ≡ record_spelling side)) }
+{
+    laws::spelled();
+    decode_record(alloc, bytes)
+}

@@ -1,0 +1,61 @@
+//! Records that are written and read, and again while a growth is refused.
+
+use crate::tries::{TRIES, Tries};
+use ill_saved::{
+    RecordFault, Side, Sides, decode_record, decode_record2, encode_record, encode_record2,
+};
+use ill_test_kit::marks;
+use ill_values::OutOfMemory;
+use std::alloc::Global;
+
+/// Returns the record of a side.
+pub fn encoded(alloc: Global, side: &Side) -> Result<Vec<u8>, OutOfMemory> {
+    for _ in 0..TRIES {
+        marks::begin(alloc);
+        let record = encode_record(alloc, side);
+        if !marks::is_refused(alloc, record.is_err()) {
+            return record;
+        }
+    }
+    Err(OutOfMemory)
+}
+
+/// Returns the record of many sides.
+pub fn all_encoded(alloc: Global, sides: &Sides) -> Result<Vec<u8>, OutOfMemory> {
+    for _ in 0..TRIES {
+        marks::begin(alloc);
+        let record = encode_record2(alloc, sides);
+        if !marks::is_refused(alloc, record.is_err()) {
+            return record;
+        }
+    }
+    Err(OutOfMemory)
+}
+
+/// Returns the side of a record, or why it is none.
+pub fn decoded(alloc: Global, record: &[u8]) -> Result<Side, RecordFault> {
+    let tries = Tries::of(alloc, record.len());
+    for _ in 0..TRIES {
+        tries.begin();
+        let side = decode_record(alloc, record);
+        if !tries.is_refused(matches!(&side, Err(RecordFault::OutOfMemory))) {
+            return side;
+        }
+        drop(side);
+    }
+    Err(RecordFault::OutOfMemory)
+}
+
+/// Returns the sides of a record of many, or why it is none.
+pub fn all_decoded(alloc: Global, record: &[u8]) -> Result<Sides, RecordFault> {
+    let tries = Tries::of(alloc, record.len());
+    for _ in 0..TRIES {
+        tries.begin();
+        let sides = decode_record2(alloc, record);
+        if !tries.is_refused(matches!(&sides, Err(RecordFault::OutOfMemory))) {
+            return sides;
+        }
+        drop(sides);
+    }
+    Err(RecordFault::OutOfMemory)
+}

@@ -1,0 +1,113 @@
+//! What a save has landed, and that a save that was refused memory has landed nothing.
+
+use crate::actions::action;
+use crate::beginnings::MemoryDesk;
+use crate::desk_view::DeskView;
+use crate::desks::{DeskCall, answer_of, is_memory, perform, write_answer};
+use crate::held::role_of;
+use crate::line::Line;
+use crate::sided::Sided;
+use crate::tries::TRIES;
+use ill_desk_kit::plan_of;
+use ill_saved::{AnyDesk, MemoryStore, NextCall, Role};
+use ill_test_kit::marks;
+use ill_values::TxnId;
+use std::alloc::Global;
+
+/// An ILL-Request.
+const REQUEST: &[u8] = b"\x61\x16\x80\x01\x01\xA1\x08\x81\x02G1\x82\x02T1\x82\x01\x01\x86\x04Maps";
+
+/// `landing ROLE PLAN`: a requester that has saved its request cancels, or a responder that has saved it answers. It
+/// saves again under this plan, and goes back to what has landed.
+pub fn write<H: Sided>(alloc: Global, line: &mut Line, words: &str) -> Option<()> {
+    let (role, plan) = words.split_once(' ')?;
+    let (role, plan) = (role_of(role)?, plan_of(plan)?);
+    let txn = TxnId::new(alloc, b"G1", b"T1").ok()?;
+    for _ in 0..TRIES {
+        let mut desk: MemoryDesk<H> = created(alloc, role)?;
+        let is_again = save(alloc, line, &mut desk, &txn, plan);
+        drop(desk);
+        if !is_again? {
+            return Some(());
+        }
+    }
+    None
+}
+
+/// Returns a desk that has not begun.
+fn created<H: Sided>(alloc: Global, role: Role) -> Option<MemoryDesk<H>> {
+    let txn = TxnId::new(alloc, b"G1", b"T1").ok()?;
+    AnyDesk::begin(alloc, MemoryStore::new(alloc), H::first(role, txn)).ok()
+}
+
+/// Has the desk save twice. Returns true if a growth of the second save was refused, and nothing of it has landed.
+fn save<H: Sided>(
+    alloc: Global,
+    line: &mut Line,
+    desk: &mut MemoryDesk<H>,
+    txn: &TxnId,
+    plan: NextCall,
+) -> Option<bool> {
+    begin(alloc, desk, txn)?;
+    let landed = DeskView::of(alloc, desk, Some(txn));
+    go_on(alloc, desk, txn)?;
+    let before = DeskView::of(alloc, desk, Some(txn));
+    desk.set_next(plan);
+    marks::begin(alloc);
+    let answer = answer_of(alloc, desk, &DeskCall::Save);
+    if marks::is_refused(alloc, is_memory(&answer)) {
+        return has_landed(alloc, desk, &before, &landed).then_some(true);
+    }
+    write_answer(
+        line,
+        "saved",
+        answer,
+        &before,
+        &DeskView::of(alloc, desk, Some(txn)),
+    );
+    line.text(", ");
+    perform(
+        alloc,
+        line,
+        desk,
+        &DeskCall::Restart,
+        Some(txn),
+        "restarted",
+    );
+    Some(false)
+}
+
+/// Returns true if the desk keeps what it had before, and goes back to what has landed before that.
+fn has_landed<H: Sided>(
+    alloc: Global,
+    desk: &mut MemoryDesk<H>,
+    before: &DeskView,
+    landed: &DeskView,
+) -> bool {
+    let is_kept = before.is_of(alloc, desk);
+    desk.set_next(NextCall::Works);
+    is_kept && desk.restart(alloc).is_ok() && landed.is_of(alloc, desk)
+}
+
+/// Has the desk begin, and saves that.
+fn begin<H: Sided>(alloc: Global, desk: &mut MemoryDesk<H>, txn: &TxnId) -> Option<()> {
+    match desk.role() {
+        Role::Requester => act(alloc, desk, txn, "request none Maps")?,
+        Role::Responder => drop(desk.take_bytes(alloc, REQUEST).ok()?),
+    }
+    desk.save(alloc).ok()
+}
+
+/// Has the desk do what is not saved.
+fn go_on<H: Sided>(alloc: Global, desk: &mut MemoryDesk<H>, txn: &TxnId) -> Option<()> {
+    let words = match desk.role() {
+        Role::Requester => "cancel",
+        Role::Responder => "20250301 answer unfilled",
+    };
+    act(alloc, desk, txn, words)
+}
+
+fn act<H: Sided>(alloc: Global, desk: &mut MemoryDesk<H>, txn: &TxnId, words: &str) -> Option<()> {
+    let action = action(alloc, words)?;
+    desk.act_on(alloc, H::key(txn), &action).ok()
+}

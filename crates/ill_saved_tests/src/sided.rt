@@ -1,0 +1,99 @@
+//! Desks of one transaction or of many, as the cases ask for their sides.
+
+use crate::beginnings::Begun;
+use crate::held::role_of;
+use crate::idle::{idle, split_txn};
+use crate::tries::Tries;
+use ill_saved::{
+    AnyDesk, Desk, Desk1, Holdings, ManySides, MemoryStore, OneSide, Role, Side, Store,
+};
+use ill_values::TxnId;
+use std::alloc::Global;
+
+/// What the desk of a case holds: one side, or the sides of many transactions.
+pub trait Sided: Holdings {
+    /// Returns the name of the side of `txn`.
+    fn key(txn: &TxnId) -> &Self::Key;
+
+    /// Returns the arguments of a beginning. A desk of one side begins with that of `txn`.
+    fn first(role: Role, txn: TxnId) -> Self::First;
+
+    /// Creates a desk of what the words say, in a try that it begins.
+    fn create(alloc: Global, tries: &Tries, store: MemoryStore, words: &str) -> Option<Begun<Self>>;
+
+    /// Returns the number of sides.
+    fn count<S: Store>(desk: &AnyDesk<Self, S>) -> usize;
+
+    /// Returns the side at `place`.
+    fn side_at<S: Store>(desk: &AnyDesk<Self, S>, place: usize) -> Option<&Side>;
+}
+
+impl Sided for OneSide {
+    fn key(_txn: &TxnId) -> &() {
+        &()
+    }
+
+    fn first(role: Role, txn: TxnId) -> (Role, TxnId) {
+        (role, txn)
+    }
+
+    fn create(
+        alloc: Global,
+        tries: &Tries,
+        store: MemoryStore,
+        words: &str,
+    ) -> Option<Begun<OneSide>> {
+        let first = idle(alloc, words)?;
+        tries.begin();
+        Some(Desk1::create(alloc, store, first))
+    }
+
+    fn count<S: Store>(_desk: &Desk1<S>) -> usize {
+        1
+    }
+
+    fn side_at<S: Store>(desk: &Desk1<S>, _place: usize) -> Option<&Side> {
+        Some(desk.side())
+    }
+}
+
+impl Sided for ManySides {
+    fn key(txn: &TxnId) -> &TxnId {
+        txn
+    }
+
+    fn first(role: Role, _txn: TxnId) -> Role {
+        role
+    }
+
+    fn create(
+        alloc: Global,
+        tries: &Tries,
+        store: MemoryStore,
+        words: &str,
+    ) -> Option<Begun<ManySides>> {
+        let role = role_of(words)?;
+        tries.begin();
+        Some(Desk::create(alloc, store, role))
+    }
+
+    fn count<S: Store>(desk: &Desk<S>) -> usize {
+        desk.sides().len()
+    }
+
+    fn side_at<S: Store>(desk: &Desk<S>, place: usize) -> Option<&Side> {
+        desk.sides().at(place)
+    }
+}
+
+/// Returns the transaction that `words` begin with, or that of a desk of one side, and the words after it.
+pub fn txn_in<'a, H: Sided, S: Store>(
+    alloc: Global,
+    desk: &AnyDesk<H, S>,
+    words: &'a str,
+) -> Option<(TxnId, &'a str)> {
+    if desk.first_key().is_none() {
+        return split_txn(alloc, words);
+    }
+    Some((H::side_at(desk, 0)?.txn().copy(alloc).ok()?, words))
+}

@@ -1,0 +1,60 @@
+//! Calls of a store in memory, and again while a growth is refused.
+
+use crate::tries::TRIES;
+use ill_saved::{MemoryStore, NextCall, Store, StoreFault};
+use ill_test_kit::marks;
+use std::alloc::Global;
+
+/// Returns all that a store has: what has landed, its failures and its plan; or nothing if memory was wanted for it.
+pub fn seen(alloc: Global, store: &MemoryStore) -> Option<String> {
+    format!(in alloc; "{store:?}").ok()
+}
+
+/// Returns true if a store has what was seen before.
+pub fn is_as_seen(alloc: Global, store: &MemoryStore, before: &Option<String>) -> bool {
+    before.is_some() && seen(alloc, store) == *before
+}
+
+/// Returns a store in which nothing has landed. That takes no memory.
+pub fn new(alloc: Global) -> MemoryStore {
+    marks::begin_quiet(alloc);
+    let store = MemoryStore::new(alloc);
+    marks::end_quiet(alloc);
+    store
+}
+
+/// Loads. A load that is refused memory changes nothing.
+pub fn load(alloc: Global, store: &mut MemoryStore) -> Result<Option<Vec<u8>>, StoreFault> {
+    let before = seen(alloc, store);
+    for _ in 0..TRIES {
+        marks::begin(alloc);
+        let loaded = store.load(alloc);
+        let says_memory = matches!(&loaded, Err(StoreFault::OutOfMemory));
+        if !marks::is_refused(alloc, says_memory) || !is_as_seen(alloc, store, &before) {
+            return loaded;
+        }
+    }
+    Err(StoreFault::OutOfMemory)
+}
+
+/// Saves under this plan. A save that is refused memory spends the plan, and changes nothing else.
+pub fn save(
+    alloc: Global,
+    store: &mut MemoryStore,
+    plan: NextCall,
+    bytes: &[u8],
+) -> Result<(), StoreFault> {
+    let before = seen(alloc, store);
+    for _ in 0..TRIES {
+        marks::begin(alloc);
+        let saved = store.save(alloc, bytes);
+        if !marks::is_refused(alloc, saved == Err(StoreFault::OutOfMemory)) {
+            return saved;
+        }
+        store.set_next(plan);
+        if !is_as_seen(alloc, store, &before) {
+            return saved;
+        }
+    }
+    Err(StoreFault::OutOfMemory)
+}

@@ -1,0 +1,248 @@
+//! A side or a desk in memory, and the lines since it began. By these it is made again.
+//!
+//! A call stands between marks. If it is refused a growth, the lines before it are performed again, and then the call.
+//! So each try begins with just what lay in memory. At the end each try is judged that was refused a growth.
+
+use crate::beginning::begin;
+use crate::call::{Call, front_count, input_of};
+use crate::memory::{Beginning, Memory, MemoryCall};
+use crate::names::Names;
+use crate::tries::{Extent, Seen, fault};
+use crate::words::{Word, copied};
+use ill_test_kit::Page;
+use ill_test_kit::marks::TRIES;
+use std::alloc::Global;
+
+/// The most bytes of an input that is read by a call between marks.
+const SHORT: usize = 1_000;
+
+/// The call of a line.
+#[derive(Clone, Copy)]
+pub enum LineCall {
+    /// A side or a desk begins.
+    Begin(Beginning),
+    /// One begins by the engine of `new`.
+    New(Beginning),
+    /// The next call of its store is planned.
+    Next,
+    /// It is called.
+    On(MemoryCall),
+}
+
+/// A line that was performed.
+#[derive(Drop)]
+struct Line {
+    kind: LineCall,
+    words: Vec<Word>,
+}
+
+/// A side or a desk in memory, and the lines that brought it there.
+#[derive(Drop)]
+pub struct Past {
+    alloc: Global,
+    memory: Option<Memory>,
+    /// Another one like it, on which calls are made with ample memory.
+    ample: Option<Memory>,
+    /// There are none if one of them is too long to be performed again.
+    lines: Option<Vec<Line>>,
+}
+
+impl Past {
+    /// Returns an empty memory.
+    pub fn new(alloc: Global) -> Past {
+        Past {
+            alloc,
+            memory: None,
+            ample: None,
+            lines: None,
+        }
+    }
+
+    /// Empties the memory.
+    pub fn clear(&mut self) {
+        drop(self.memory.take());
+        drop(self.ample.take());
+        drop(self.lines.take());
+    }
+
+    /// Performs a line, and tells its answer.
+    pub fn perform(
+        &mut self,
+        page: &mut Page,
+        names: &Names,
+        kind: LineCall,
+        words: &[Word],
+    ) -> Option<()> {
+        let is_short = is_short(names, words);
+        match kind {
+            LineCall::On(on) if is_short && self.lines.is_some() => {
+                self.perform_marked(page, names, on, words)?;
+            }
+            _ => perform_line(self.alloc, page, names, &mut self.memory, kind, words)?,
+        }
+        self.remember(kind, words, is_short)
+    }
+
+    /// Performs a call between marks, and again while a growth is refused. Then it judges the tries.
+    fn perform_marked(
+        &mut self,
+        page: &mut Page,
+        names: &Names,
+        on: MemoryCall,
+        words: &[Word],
+    ) -> Option<()> {
+        let mut tries = Vec::new(self.alloc);
+        let mut fronts = Vec::new(self.alloc);
+        let mut done = self.try_often(page, names, on, words, &mut tries);
+        if !tries.is_empty() {
+            done = done.and(self.push_fronts(names, on, words, &mut fronts));
+            tell_faults(page, on, &tries, &fronts);
+        }
+        drop(tries);
+        drop(fronts);
+        done
+    }
+
+    /// Performs a call between marks until no growth is refused, and adds each try before that.
+    fn try_often<'a>(
+        &mut self,
+        page: &mut Page,
+        names: &Names,
+        on: MemoryCall,
+        words: &'a [Word],
+        tries: &mut Vec<Seen<'a>>,
+    ) -> Option<()> {
+        for _ in 0..TRIES {
+            let memory = &mut self.memory;
+            let mut seen = Seen::of(self.alloc, names, on, words, Extent::Marked, memory)?;
+            if !seen.call.was_refused {
+                page.page(&seen.answer);
+                drop(seen);
+                return Some(());
+            }
+            let looked = seen.look(self.alloc, memory);
+            tries.push(seen).ok().and(looked)?;
+            again(self.alloc, names, self.lines.as_ref()?, memory)?;
+        }
+        None
+    }
+
+    /// Adds what is seen if the call is not made, if it is whole, and if it is made with each front of its messages.
+    fn push_fronts<'a>(
+        &mut self,
+        names: &Names,
+        on: MemoryCall,
+        words: &'a [Word],
+        fronts: &mut Vec<Seen<'a>>,
+    ) -> Option<()> {
+        self.push_front(names, on, words, Extent::Nothing, fronts)?;
+        self.push_front(names, on, words, Extent::Whole, fronts)?;
+        for count in 0..front_count(self.alloc, names, on, words) {
+            self.push_front(names, on, words, Extent::First(count), fronts)?;
+        }
+        Some(())
+    }
+
+    /// Adds what is seen of so much of the call.
+    fn push_front<'a>(
+        &mut self,
+        names: &Names,
+        on: MemoryCall,
+        words: &'a [Word],
+        extent: Extent,
+        fronts: &mut Vec<Seen<'a>>,
+    ) -> Option<()> {
+        let memory = &mut self.ample;
+        again(self.alloc, names, self.lines.as_ref()?, memory)?;
+        let mut seen = Seen::of(self.alloc, names, on, words, extent, memory)?;
+        let looked = seen.look(self.alloc, memory);
+        fronts.push(seen).ok().and(looked)
+    }
+
+    /// Adds a line that was performed.
+    fn remember(&mut self, kind: LineCall, words: &[Word], is_short: bool) -> Option<()> {
+        if begins_anew(kind, words) {
+            drop(self.lines.replace(Vec::new(self.alloc)));
+        }
+        if !is_short {
+            drop(self.lines.take());
+        }
+        match &mut self.lines {
+            Some(lines) => {
+                let words = copied(self.alloc, words)?;
+                lines.push(Line { kind, words }).ok()
+            }
+            None => Some(()),
+        }
+    }
+}
+
+/// Tells each try that came to what it may not.
+fn tell_faults(page: &mut Page, on: MemoryCall, tries: &[Seen<'_>], fronts: &[Seen<'_>]) {
+    for seen in tries {
+        if let Some(words) = fault(on, seen, fronts) {
+            page.text("  = a refused try: ");
+            page.line(words);
+        }
+    }
+}
+
+/// Performs the lines again, on an empty memory.
+fn again(alloc: Global, names: &Names, lines: &[Line], memory: &mut Option<Memory>) -> Option<()> {
+    drop(memory.take());
+    let mut page = Page::new(alloc);
+    for line in lines {
+        perform_line(alloc, &mut page, names, memory, line.kind, &line.words)?;
+    }
+    Some(())
+}
+
+/// Performs a line on what lies in memory, and tells its answer.
+fn perform_line(
+    alloc: Global,
+    page: &mut Page,
+    names: &Names,
+    memory: &mut Option<Memory>,
+    kind: LineCall,
+    words: &[Word],
+) -> Option<()> {
+    let mut call = Call::of(alloc, names, words)?;
+    let done = perform_on(alloc, page, names, memory, kind, &mut call);
+    drop(call);
+    done
+}
+
+/// Performs a call on what lies in memory, and tells its answer.
+fn perform_on(
+    alloc: Global,
+    page: &mut Page,
+    names: &Names,
+    memory: &mut Option<Memory>,
+    kind: LineCall,
+    call: &mut Call<'_>,
+) -> Option<()> {
+    match kind {
+        LineCall::Begin(beginning) => {
+            let begun = Memory::begin(alloc, beginning, call.words)?;
+            drop(memory.replace(begun));
+            Some(())
+        }
+        LineCall::New(beginning) => begin(alloc, page, names, memory, beginning, call),
+        LineCall::Next => memory.as_mut()?.plan(call.words),
+        LineCall::On(on) => memory.as_mut()?.perform(alloc, page, names, on, call),
+    }
+}
+
+/// Returns true if the line needs none of those before it.
+fn begins_anew(kind: LineCall, words: &[Word]) -> bool {
+    match kind {
+        LineCall::Begin(_) => true,
+        LineCall::New(_) => !words.iter().any(|word| word.is("again")),
+        LineCall::Next | LineCall::On(_) => false,
+    }
+}
+
+/// Returns true if the input of the call is short, so that it can be made often.
+pub fn is_short(names: &Names, words: &[Word]) -> bool {
+    input_of(names, words).is_some_and(|bytes| bytes.len() <= SHORT)
+}

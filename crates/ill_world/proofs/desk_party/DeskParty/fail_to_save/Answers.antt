@@ -1,0 +1,23 @@
+-- Answers the contract of `DeskParty::fail_to_save` (`src/desk_party.rt`).
+use Rattle.std.proofs.Common.{rules, ◌≡◌, Ok, ap}
+use Rattle.ill_saved.specs.Holdings.{map_ok}
+use Rattle.ill_saved.specs.ManySides.{many_sides, sides_held, whole_of}
+use Rattle.ill_saved.specs.Records2.{AreSides}
+use Rattle.ill_saved.proofs.Contents.{sides_of_whole}
+use Rattle.ill_world.proofs.desk_party.DeskParty.fail_to_save.Goals as goal
+
+-- The desk is ready after the save: what has landed is read again.
+pub invariant_of-self : goal.invariant_of-self
+invariant_of-self c =
+    let live = c.self.inside.desk.live in
+    let again : AreSides (sides_held live) → many_sides.read (many_sides.spelling live) ≡ Ok (whole_of (sides_held live)) = λ are. ap (map_ok whole_of) (c.sides_read_again.ensures (sides_held live) are) in
+    let sides = sides_of_whole (sides_held live) in
+    search (rules, again, sides)
+
+-- The desk of the model fails to save too.
+pub returns-in-Err-Store-Failed : goal.returns-in-Err-Store-Failed
+returns-in-Err-Store-Failed c =
+    let live = c.self.inside.desk.live in
+    let again : AreSides (sides_held live) → many_sides.read (many_sides.spelling live) ≡ Ok (whole_of (sides_held live)) = λ are. ap (map_ok whole_of) (c.sides_read_again.ensures (sides_held live) are) in
+    let sides = sides_of_whole (sides_held live) in
+    search (rules, again, sides)

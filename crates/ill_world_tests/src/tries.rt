@@ -1,0 +1,128 @@
+//! Calls of worlds, made again while a growth of them is refused.
+
+use crate::performing::txn;
+use ill_test_kit::Page;
+use ill_test_kit::marks::{self, TRIES};
+use ill_values::{OutOfMemory, TxnId};
+use std::alloc::Global;
+
+/// The line of a call that was refused memory, and has left something else than it may.
+const CHANGED: &str = "CHANGED WITHOUT MEMORY";
+
+/// A world of two sides, or of two desks.
+pub trait Tried: Drop {
+    /// An event that may happen to it.
+    type Event: Drop;
+
+    /// The outcome of an event.
+    type Outcome: Copy;
+
+    /// Returns the world after events.
+    fn after(alloc: Global, txn: &TxnId, events: &[Self::Event]) -> Result<Self, OutOfMemory>;
+
+    /// Performs an event.
+    fn happen(&mut self, alloc: Global, event: &Self::Event) -> Result<Self::Outcome, OutOfMemory>;
+
+    /// Performs a round.
+    fn pass_on(&mut self, alloc: Global) -> Result<(), OutOfMemory>;
+
+    /// Prints how both sides stand.
+    fn print(&self, alloc: Global, page: &mut Page) -> Option<()>;
+
+    /// Prints what else can be seen of it.
+    fn print_more(&self, alloc: Global, page: &mut Page) -> Option<()>;
+}
+
+/// Performs an event, and again while it is refused memory. A refused one must leave all that can be seen as it was.
+pub fn step<W: Tried>(
+    alloc: Global,
+    page: &mut Page,
+    world: &mut W,
+    event: &W::Event,
+) -> Option<W::Outcome> {
+    let before = all_of(alloc, world)?;
+    for _ in 0..TRIES {
+        marks::begin(alloc);
+        let answer = world.happen(alloc, event);
+        if !marks::is_refused(alloc, answer.is_err()) {
+            return answer.ok();
+        }
+        if all_of(alloc, world)?.bytes() != before.bytes() {
+            page.line(CHANGED);
+        }
+    }
+    None
+}
+
+/// Returns the world after events. While that is refused memory, it begins anew.
+pub fn run<W: Tried>(alloc: Global, events: &[W::Event]) -> Option<W> {
+    let txn = txn(alloc)?;
+    for _ in 0..TRIES {
+        marks::begin(alloc);
+        let world = W::after(alloc, &txn, events);
+        if !marks::is_refused(alloc, world.is_err()) {
+            return world.ok();
+        }
+    }
+    None
+}
+
+/// Prints the world after events and a round. While the round is refused memory, a further one must lead to the same
+/// world, and the next try begins anew.
+pub fn print_exchange<W: Tried>(alloc: Global, page: &mut Page, events: &[W::Event]) -> Option<()> {
+    let txn = txn(alloc)?;
+    let mut last = Page::new(alloc);
+    for time in 0..TRIES {
+        let mut world = W::after(alloc, &txn, events).ok()?;
+        let told = exchange(alloc, &mut world);
+        drop(world);
+        let told = told?;
+        if time > 0 && told.all.bytes() != last.bytes() {
+            page.line(CHANGED);
+        }
+        if !told.is_refused {
+            page.page(&told.shown);
+            return Some(());
+        }
+        last = told.all;
+    }
+    None
+}
+
+/// A world after a round.
+#[derive(Drop)]
+struct Exchanged {
+    /// Both sides of it.
+    shown: Page,
+    /// All that can be seen of it.
+    all: Page,
+    /// True if a growth of the round was refused, and a further one was performed.
+    is_refused: bool,
+}
+
+/// Performs a round, and a further one if it was refused memory.
+fn exchange<W: Tried>(alloc: Global, world: &mut W) -> Option<Exchanged> {
+    marks::begin(alloc);
+    let answer = world.pass_on(alloc);
+    let is_refused = marks::is_refused(alloc, answer.is_err());
+    if is_refused {
+        world.pass_on(alloc).ok()?;
+    } else {
+        answer.ok()?;
+    }
+    let mut shown = Page::new(alloc);
+    world.print(alloc, &mut shown)?;
+    Some(Exchanged {
+        shown,
+        all: all_of(alloc, world)?,
+        is_refused,
+    })
+}
+
+/// Returns a page of all that can be seen of a world.
+fn all_of<W: Tried>(alloc: Global, world: &W) -> Option<Page> {
+    let mut page = Page::new(alloc);
+    world.print(alloc, &mut page)?;
+    world.print_more(alloc, &mut page)?;
+    Some(page)
+}

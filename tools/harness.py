@@ -8,6 +8,8 @@ was not flushed.
 """
 import contextlib
 import dataclasses
+import errno
+import itertools
 import os
 import shutil
 import signal
@@ -15,6 +17,7 @@ import subprocess
 import sys
 import tempfile
 import threading
+import time
 
 TOP = os.path.dirname(os.path.dirname(os.path.realpath(__file__)))
 TOOLS = os.path.join(TOP, "tools")
@@ -22,6 +25,7 @@ TIMED_OUT = 124  # the status of a run that takes too long
 NO_FOLDER = "no folder of its own: "
 CLOSED = "closed"  # in place of a stream
 FULL = "/dev/full"
+STARTS = 20  # how often a command is started while the machine has no room for a process, a quarter of a second apart
 
 
 # ---- Folders and files
@@ -124,6 +128,18 @@ def _sink(sink, stack):
     return sink
 
 
+def _perform(command, **how):
+    """Runs a command. It is started again if the machine has no room for a process. Ends the script if no start helps:
+    then no program was tried."""
+    for left in itertools.count(STARTS, -1):
+        try:
+            return subprocess.run(command, check=False, **how)
+        except OSError as error:
+            if left == 1 or error.errno not in (errno.EAGAIN, errno.ENOMEM):
+                sys.exit(f"{command[0]} cannot be started: {error}")
+        time.sleep(0.25)
+
+
 def run(command, given=None, *, piped=None, output=None, errors=None, limit=60, before=None, **more):
     """Runs a command to its end, and returns what it has left.
 
@@ -147,10 +163,10 @@ def run(command, given=None, *, piped=None, output=None, errors=None, limit=60, 
         else:
             more["input"] = piped
         try:
-            done = subprocess.run(
+            done = _perform(
                 command, stdout=None if output == CLOSED else _sink(output, stack),
                 stderr=None if errors == CLOSED else _sink(errors, stack),
-                preexec_fn=settle if before or CLOSED in streams else None, timeout=limit, check=False, **more)
+                preexec_fn=settle if before or CLOSED in streams else None, timeout=limit, **more)
         except subprocess.TimeoutExpired as late:
             return Done(TIMED_OUT, late.stdout or b"", late.stderr or b"")
         return Done(done.returncode, done.stdout or b"", done.stderr or b"")

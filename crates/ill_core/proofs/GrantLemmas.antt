@@ -158,7 +158,7 @@ rise_here last (Some c) dates d p is rises =
     let same : c ≡ d = search rules in
     subst (λ x. (e : Date) × (last_or (Some c) dates ≡ Some e) × (is_before e x ≡ false)) same (rise_above c dates (and_parts _ _ rises).1)
 
--- One more date in front leaves the last of `dates`, which is not before d.
+-- One more date put first leaves the last of `dates`, which is not before d.
 last_skips : (o : Option Date) (dates : List Date) (d : Date) (p : Option Date)
     → ((p : Option Date) → (e : Date) × (last_or p dates ≡ Some e) × (is_before e d ≡ false))
     → (e : Date) × (last_or p (cons_option o dates) ≡ Some e) × (is_before e d ≡ false)

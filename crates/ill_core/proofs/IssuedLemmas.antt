@@ -35,9 +35,9 @@ pub numbered_at : (txn : Qualifiers) (apdus : List Apdu) (i : ℕ) (a : Apdu) (j
     → judged ≡ (is_same_txn a.txn txn && nat_eq a.number (i + 1))
     → are_numbered txn (i + 1) (drop i apdus) ≡ (judged && are_numbered txn (i + 1 + 1) (drop (i + 1) apdus))
 numbered_at txn apdus i a judged within there is =
-    let front : are_numbered txn (i + 1) (drop i apdus) ≡ are_numbered txn (i + 1) (get_or apdus i a ∷ drop (i + 1) apdus) = ap (are_numbered txn (i + 1)) (drop_more apdus i a within) in
+    let prefix : are_numbered txn (i + 1) (drop i apdus) ≡ are_numbered txn (i + 1) (get_or apdus i a ∷ drop (i + 1) apdus) = ap (are_numbered txn (i + 1)) (drop_more apdus i a within) in
     let same : are_numbered txn (i + 1) (get_or apdus i a ∷ drop (i + 1) apdus) ≡ are_numbered txn (i + 1) (a ∷ drop (i + 1) apdus) = ap (λ b. are_numbered txn (i + 1) (b ∷ drop (i + 1) apdus)) (sym there) in
-    front ∙ (same ∙ (numbered_cons txn (i + 1) a (drop (i + 1) apdus) ∙ ap (λ b. b && are_numbered txn (i + 1 + 1) (drop (i + 1) apdus)) (sym is)))
+    prefix ∙ (same ∙ (numbered_cons txn (i + 1) a (drop (i + 1) apdus) ∙ ap (λ b. b && are_numbered txn (i + 1 + 1) (drop (i + 1) apdus)) (sym is)))
 
 -- After the last APDU, nothing is left to be numbered.
 pub numbered_end : (txn : Qualifiers) (apdus : List Apdu) (i : ℕ) → length apdus ≤ i
@@ -54,8 +54,8 @@ found_first o (Some x) others = refl
 pub last_at : {X : Type 0} (f : Apdu → Option X) (o : Option X) (apdus : List Apdu) (i : ℕ) (d : Apdu) → i < length apdus
     → last_or o (filter_map f (drop i apdus)) ≡ last_or (option_or (f (get_or apdus i d)) o) (filter_map f (drop (i + 1) apdus))
 last_at f o apdus i d within =
-    let front : last_or o (filter_map f (drop i apdus)) ≡ last_or o (filter_map f (get_or apdus i d ∷ drop (i + 1) apdus)) = ap (λ xs. last_or o (filter_map f xs)) (drop_more apdus i d within) in
-    front ∙ found_first o (f (get_or apdus i d)) (filter_map f (drop (i + 1) apdus))
+    let prefix : last_or o (filter_map f (drop i apdus)) ≡ last_or o (filter_map f (get_or apdus i d ∷ drop (i + 1) apdus)) = ap (λ xs. last_or o (filter_map f xs)) (drop_more apdus i d within) in
+    prefix ∙ found_first o (f (get_or apdus i d)) (filter_map f (drop (i + 1) apdus))
 
 -- An APDU of `txn` with the next number keeps the numbering.
 pub numbered_next : (txn : Qualifiers) (number : ℕ) (apdus : List Apdu) (a : Apdu)
@@ -69,14 +69,14 @@ numbered_next txn number (b ∷ apdus) a numbered same next =
     and_from _ _ parts.0 (numbered_next txn (number + 1) apdus a parts.1 same (omega (arith, next)))
 
 -- The first `count` APDUs of a numbered list are numbered.
-pub numbered_front : (txn : Qualifiers) (number count : ℕ) (apdus : List Apdu) → are_numbered txn number apdus ≡ true
+pub numbered_prefix : (txn : Qualifiers) (number count : ℕ) (apdus : List Apdu) → are_numbered txn number apdus ≡ true
     → are_numbered txn number (take count apdus) ≡ true
 unfolding are_numbered
-numbered_front txn number zero apdus numbered = refl
-numbered_front txn number (suc count) [] numbered = refl
-numbered_front txn number (suc count) (a ∷ apdus) numbered =
+numbered_prefix txn number zero apdus numbered = refl
+numbered_prefix txn number (suc count) [] numbered = refl
+numbered_prefix txn number (suc count) (a ∷ apdus) numbered =
     let parts = and_parts _ _ numbered in
-    and_from _ _ parts.0 (numbered_front txn (number + 1) count apdus parts.1)
+    and_from _ _ parts.0 (numbered_prefix txn (number + 1) count apdus parts.1)
 
 -- If a negation is true, the test is false.
 pub not_true : (b : Bool) → not b ≡ true → b ≡ false
@@ -141,16 +141,16 @@ pub found_more : {X : Type 0} (f : Apdu → Option X) (apdus : List Apdu) (a : A
 found_more f apdus a x there = filter_map-append f apdus (a ∷ []) ∙ ap (λ o. filter_map f apdus ++ cons_option o []) there
 
 -- A value found at the end replaces the last one of the list. If none is found, that stays.
-last_behind : {X : Type 0} (o : Option X) (xs : List X) (found : Option X)
+last_after : {X : Type 0} (o : Option X) (xs : List X) (found : Option X)
     → last_or o (xs ++ cons_option found []) ≡ option_or found (last_or o xs)
-last_behind o [] None = refl
-last_behind o [] (Some x) = refl
-last_behind o (y ∷ xs) found = last_behind (Some y) xs found
+last_after o [] None = refl
+last_after o [] (Some x) = refl
+last_after o (y ∷ xs) found = last_after (Some y) xs found
 
 -- A value found in one more APDU replaces the last one. If none is found, that stays.
 pub last_of_next : {X : Type 0} (f : Apdu → Option X) (apdus : List Apdu) (a : Apdu)
     → last_of f (apdus ++ a ∷ []) ≡ option_or (f a) (last_of f apdus)
-last_of_next f apdus a = ap (last_or None) (filter_map-append f apdus (a ∷ [])) ∙ last_behind None (filter_map f apdus) (f a)
+last_of_next f apdus a = ap (last_or None) (filter_map-append f apdus (a ∷ [])) ∙ last_after None (filter_map f apdus) (f a)
 
 -- If f finds x in one more APDU, x is the last value.
 pub last_of_more : {X : Type 0} (f : Apdu → Option X) (apdus : List Apdu) (a : Apdu) (x : X) → f a ≡ Some x
@@ -170,10 +170,10 @@ renew_below txn number [] o n within numbered found = omega (arith, within n fou
 renew_below txn number (a ∷ apdus) o n within numbered found =
     let parts : ((is_same_txn a.txn txn && nat_eq a.number number) ≡ true) × (are_numbered txn (number + 1) apdus ≡ true) = and_parts _ _ (sym (numbered_cons txn number a apdus) ∙ numbered) in
     let same : a.number ≡ number = eqb-true a.number number (and_parts (is_same_txn a.txn txn) (nat_eq a.number number) parts.0).1 in
-    let behind : n < number + 1 + length apdus =
+    let after : n < number + 1 + length apdus =
     renew_below txn (number + 1) apdus (option_or (number_of_renew a) o) n (λ m. number_found number a.number m (is_renew a.body) o same within) parts.1
     (sym (found_first o (number_of_renew a) (filter_map number_of_renew apdus)) ∙ found) in
-    omega (arith, behind)
+    omega (arith, after)
 
 -- In a list numbered from 1 on, the number of the last Renew is at most the length.
 pub last_renew_within : (txn : Qualifiers) (apdus : List Apdu) (n : ℕ) → are_numbered txn 1 apdus ≡ true
@@ -200,7 +200,7 @@ not_longer old new a same longer =
 
 -- ---- which message is a Cancel
 
--- If message n is old or the new one, so is message n + 1 after one more in front.
+-- If message n is old or the new one, so is message n + 1 after one more is put first.
 one_further : (says : Bool) (old : Bool) (n size : ℕ) → (old ≡ true) ⊎ ((suc n ≡ size + 1) × (says ≡ true))
     → (old ≡ true) ⊎ ((suc (suc n) ≡ suc size + 1) × (says ≡ true))
 one_further says old n size (inl is) = inl is

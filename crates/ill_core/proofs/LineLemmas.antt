@@ -15,8 +15,8 @@ line_is here row e = search rules
 pub at_line : {R : Type 0} (P : R → Type 0) (is_here : Bool) (here others : Result R Refusal) (row : R)
     → (is_here ≡ true → here ≡ Ok row → P row) → (others ≡ Ok row → P row)
     → (if is_here then here else others) ≡ Ok row → P row
-at_line P true here others row leads behind e = leads refl e
-at_line P false here others row leads behind e = behind e
+at_line P true here others row leads after e = leads refl e
+at_line P false here others row leads after e = after e
 
 -- If P holds of the line `here`, it holds of each `row` that is equal to it as a result.
 pub is_this : {R : Type 0} (P : R → Type 0) (here row : R) → P here → ◌≡◌ {A = Result R Refusal} (Ok here) (Ok row) → P row

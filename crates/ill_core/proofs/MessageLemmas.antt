@@ -35,7 +35,7 @@ message_says says (c ∷ apdus) (suc (suc n)) b there is = or_right (says c.body
 abbrev pub Said : (Body → Bool) → List Apdu → Type 0
 Said says apdus = (n : ℕ) × (a : Apdu) × (message apdus n ≡ Some a) × (says a.body ≡ true)
 
--- A message that says it is one number further in a list with one more APDU in front.
+-- A message that says it is one number further in a list with one more APDU put first.
 said_further : (says : Body → Bool) (b : Apdu) (apdus : List Apdu) (n : ℕ) (a : Apdu) → message apdus n ≡ Some a
     → says a.body ≡ true → Said says (b ∷ apdus)
 said_further says b apdus zero a at is = search rules

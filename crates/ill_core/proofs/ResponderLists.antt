@@ -70,7 +70,7 @@ pub rise_none : (o : Option Date) → rise_from o [] ≡ true
 unfolding rise_from
 rise_none o = refl
 
--- Dates with a found date in front rise exactly if that is after `last`, and the others rise after it.
+-- Dates with a found date put first rise exactly if that is after `last`, and the others rise after it.
 grant_rises : (last found : Option Date) (dates : List Date)
     → rise_from last (cons_option found dates) ≡ (rises last found && rise_from (option_or found last) dates)
 grant_rises last None dates = refl
@@ -83,10 +83,10 @@ pub rise_at : (last found next : Option Date) (follows : Bool) (apdus : List Apd
     → rise_from last (filter_map granted_day (drop i apdus)) ≡ (follows && rise_from next (filter_map granted_day (drop (i + 1) apdus)))
 rise_at last found next follows apdus i a within there is may then_last =
     let others = filter_map granted_day (drop (i + 1) apdus) in
-    let front : rise_from last (filter_map granted_day (drop i apdus)) ≡ rise_from last (filter_map granted_day (get_or apdus i a ∷ drop (i + 1) apdus)) = ap (λ xs. rise_from last (filter_map granted_day xs)) (drop_more apdus i a within) in
+    let prefix : rise_from last (filter_map granted_day (drop i apdus)) ≡ rise_from last (filter_map granted_day (get_or apdus i a ∷ drop (i + 1) apdus)) = ap (λ xs. rise_from last (filter_map granted_day xs)) (drop_more apdus i a within) in
     let same : rise_from last (filter_map granted_day (get_or apdus i a ∷ drop (i + 1) apdus)) ≡ rise_from last (filter_map granted_day (a ∷ drop (i + 1) apdus)) = ap (λ b. rise_from last (filter_map granted_day (b ∷ drop (i + 1) apdus))) (sym there) in
     let known : rise_from last (filter_map granted_day (a ∷ drop (i + 1) apdus)) ≡ rise_from last (cons_option found others) = ap (λ o. rise_from last (cons_option o others)) (sym is) in
-    front ∙ (same ∙ (known ∙ (grant_rises last found others ∙ (ap (λ b. b && rise_from (option_or found last) others) (sym may) ∙ ap (λ o. follows && rise_from o others) (sym then_last)))))
+    prefix ∙ (same ∙ (known ∙ (grant_rises last found others ∙ (ap (λ b. b && rise_from (option_or found last) others) (sym may) ∙ ap (λ o. follows && rise_from o others) (sym then_last)))))
 
 -- After the last APDU, no date is left to rise.
 pub rise_end : (last : Option Date) (apdus : List Apdu) (i : ℕ) → length apdus ≤ i
@@ -110,9 +110,9 @@ pub ships_at : (shipped renewal : Bool) (apdus : List Apdu) (i : ℕ) (a : Apdu)
     → ships_first (drop i apdus) ≡ (shipped || (not renewal && ships_first (drop (i + 1) apdus)))
 ships_at shipped renewal apdus i a within there is_s is_r =
     let others = ships_first (drop (i + 1) apdus) in
-    let front : ships_first (drop i apdus) ≡ ships_first (get_or apdus i a ∷ drop (i + 1) apdus) = ap ships_first (drop_more apdus i a within) in
+    let prefix : ships_first (drop i apdus) ≡ ships_first (get_or apdus i a ∷ drop (i + 1) apdus) = ap ships_first (drop_more apdus i a within) in
     let same : ships_first (get_or apdus i a ∷ drop (i + 1) apdus) ≡ ships_first (a ∷ drop (i + 1) apdus) = ap (λ b. ships_first (b ∷ drop (i + 1) apdus)) (sym there) in
-    front ∙ (same ∙ (ships_cons a (drop (i + 1) apdus) ∙ (ap (λ b. b || (not (is_renewal a.body) && others)) (sym is_s) ∙ ap (λ b. shipped || (not b && others)) (sym is_r))))
+    prefix ∙ (same ∙ (ships_cons a (drop (i + 1) apdus) ∙ (ap (λ b. b || (not (is_renewal a.body) && others)) (sym is_s) ∙ ap (λ b. shipped || (not b && others)) (sym is_r))))
 
 -- After the last APDU, the list ships first.
 pub ships_end : (apdus : List Apdu) (i : ℕ) → length apdus ≤ i → ships_first (drop i apdus) ≡ true

@@ -10,7 +10,7 @@ use Rattle.ill_core.specs.Requester.{RequesterRecord, IsRequester}
 use Rattle.ill_core.specs.RequesterRules.{RequesterRules}
 use Rattle.ill_core.specs.Responder as responder
 use Rattle.ill_core.specs.Responder.{ResponderRecord, IsResponder}
-use Rattle.ill_core.proofs.IssuedLemmas.{numbered_front}
+use Rattle.ill_core.proofs.IssuedLemmas.{numbered_prefix}
 use Rattle.ill_core.proofs.ResponderLists.{request_in_is}
 use Rattle.ill_core.specs.ResponderRules.{ResponderRules}
 
@@ -139,7 +139,7 @@ pub requester_back : (x : RequesterRecord) (s : requesters.Standing) (count : �
     → (requester.parts_fit s.state (is_some s.held) (is_some s.due) s.checked_in && requester.issued_keeps_rules s.state (take count x.issued)) ≡ true
     → IsRequester (requester.back_to s count x)
 unfolding requester.is_consistent
-requester_back x s count h fits = and_from _ _ (numbered_front x.txn 1 count x.issued (and_parts _ _ h).0) fits
+requester_back x s count h fits = and_from _ _ (numbered_prefix x.txn 1 count x.issued (and_parts _ _ h).0) fits
 
 -- If the requester with the parts of standing `s` and the first `count` messages keeps its rules, these fit together.
 pub requester_back_fits : (x : RequesterRecord) (s : requesters.Standing) (count : ℕ) → IsRequester (requester.back_to s count x)
@@ -155,7 +155,7 @@ pub responder_back : (y : ResponderRecord) (s : responders.Standing) (count : �
 unfolding responder.is_consistent
 responder_back y s count h fits =
     let numbered = and_parts _ _ h in
-    and_from _ _ (numbered_front y.txn 1 count y.issued numbered.0) (
+    and_from _ _ (numbered_prefix y.txn 1 count y.issued numbered.0) (
     and_from _ _ (request_in_is y.txn s.state y.request (and_parts _ _ numbered.1).0) fits)
 
 -- If the responder with the parts of standing `s` and the first `count` messages keeps its rules, these fit together.

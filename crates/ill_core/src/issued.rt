@@ -134,7 +134,7 @@ impl Issued {
     }
 
     /// Returns the first `count` APDUs, or all if there are fewer.
-    pub fn front(&self, count: u8) -> &[Apdu]
+    pub fn prefix(&self, count: u8) -> &[Apdu]
         ensures { result.now ≡ take count self.now.apdus }
     {
         let count = usize::from(count).min(self.apdus.len());
@@ -142,10 +142,10 @@ impl Issued {
     }
 
     /// Keeps the first `count` APDUs, and drops the others.
-    #[tactic(auto, using(crate::proofs::IssuedLemmas::numbered_front))]
+    #[tactic(auto, using(crate::proofs::IssuedLemmas::numbered_prefix))]
     pub fn go_back(&mut self, count: u8)
         ensures txn { self.new.txn ≡ self.old.txn }
-        ensures front { self.new.apdus ≡ take count self.old.apdus }
+        ensures prefix { self.new.apdus ≡ take count self.old.apdus }
     {
         self.apdus.truncate(usize::from(count));
         self.granted = last_granted(&self.apdus);

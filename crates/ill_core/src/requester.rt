@@ -159,7 +159,7 @@ impl Requester {
     fn could_stand(&self, standing: &Standing, count: u8) -> bool
         ensures { (result ≡ true) ↔ IsRequester (back_to standing.now count self.now) }
     {
-        rules::fit_together(standing, self.issued.front(count))
+        rules::fit_together(standing, self.issued.prefix(count))
     }
 
     /// Does the decision `wish` of the library, and issues the message that tells the responder.

@@ -178,7 +178,7 @@ impl Responder {
         ensures { (result ≡ true) ↔ IsResponder (back_to standing.now count self.now) }
     {
         let is_asked = is_asked_in(standing.state, &self.request);
-        rules::fit_together(standing, is_asked, self.issued.front(count))
+        rules::fit_together(standing, is_asked, self.issued.prefix(count))
     }
 
     /// Does the decision `deed` of the library on the day `today`, and issues the message that tells

@@ -62,7 +62,7 @@ impl Bench {
         }
     }
 
-    /// Reads the other fields of a row, or of a ruler, which has more behind the last.
+    /// Reads the other fields of a row, or of a ruler, which has more after the last.
     fn push_fields(&mut self, page: &mut Page, name: &str, past: &str, rest: &str) {
         let (event, rest) = rest.split_once('|').unwrap_or((rest, ""));
         let (effect, columns) = rest.split_once('|').unwrap_or((rest, ""));
@@ -121,7 +121,7 @@ impl Bench {
 }
 
 impl Lines for Bench {
-    /// Adds a line, and behind it what it is answered, in place of the answer that stands there.
+    /// Adds a line, and after it what it is answered, in place of the answer that stands there.
     fn perform(&mut self, page: &mut Page, line: &str) {
         if line.starts_with('#') {
             return page.line(line);
@@ -137,7 +137,7 @@ impl Lines for Bench {
     }
 }
 
-/// A case without its answer, which stands behind the bar of a name, or behind the fourth bar of a row
+/// A case without its answer, which stands after the bar of a name, or after the fourth bar of a row
 /// and before its fifth. A ruler, which has no fifth, has no answer.
 fn without_answer(line: &str) -> &str {
     let bars = line.matches('|').count();

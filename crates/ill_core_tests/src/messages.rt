@@ -13,7 +13,7 @@ pub fn day(text: &str) -> Option<Day> {
     Day::read(text.as_bytes()).ok()
 }
 
-/// The number of the message that stands behind so many.
+/// The number of the message that stands after so many.
 pub fn next_number(count: usize) -> Option<Number> {
     Number::new(u8::try_from(count.saturating_add(1)).ok()?)
 }
@@ -29,7 +29,7 @@ pub fn message(alloc: Global, word: &str, place: Option<Number>) -> Option<Apdu>
     Some(Apdu { txn, number, body })
 }
 
-/// What a message says: a letter, the number that it answers, and a date behind a hyphen.
+/// What a message says: a letter, the number that it answers, and a date after a hyphen.
 pub fn body_of(alloc: Global, word: &str) -> Option<Body> {
     let (word, date) = word.split_once('-').unwrap_or((word, ""));
     let mut letters = word.chars();

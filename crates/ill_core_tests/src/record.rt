@@ -273,7 +273,7 @@ impl Record {
         false
     }
 
-    /// Wants nothing behind the word `only`.
+    /// Wants nothing after the word `only`.
     fn obey(&mut self, word: &str) {
         match word {
             "" | "new" => {}

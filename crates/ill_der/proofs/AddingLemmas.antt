@@ -2,30 +2,30 @@
 use Rattle.std.proofs.Common.{◌≡◌, ℕ, List, [], ◌++◌, ◌<◌, length, Result, Ok, Err, OnErr, refl, sym, ap, ◌∙◌, arith, append_assoc, length-append}
 use Rattle.std.proofs.lemmas.List.{append-nil}
 use Rattle.std.proofs.lemmas.Result.{on_err_weaker}
-use Rattle.ill_der.specs.Adding.{AddsFront}
+use Rattle.ill_der.specs.Adding.{AddsPrefix}
 
 -- If `new` is `old` and `text` has a byte, `new` is `old` and a proper prefix of `text`: the empty one.
-pub adds_nothing : (old new text : List ℕ) → new ≡ old → 0 < length text → AddsFront old new text
-adds_nothing old new text same some = record { front = []; rest = text; parts = refl; added = same ∙ sym (append-nil old); lacks = some }
+pub adds_nothing : (old new text : List ℕ) → new ≡ old → 0 < length text → AddsPrefix old new text
+adds_nothing old new text same some = record { prefix = []; rest = text; parts = refl; added = same ∙ sym (append-nil old); lacks = some }
 
 -- A proper prefix of `first` after `old` is a proper prefix of `first ++ second` after `old`.
-pub adds_first : (old new first second : List ℕ) → AddsFront old new first → AddsFront old new (first ++ second)
+pub adds_first : (old new first second : List ℕ) → AddsPrefix old new first → AddsPrefix old new (first ++ second)
 adds_first old new first second is = record {
-  front = is.front;
+  prefix = is.prefix;
   rest = is.rest ++ second;
-  parts = ap (λ (x : List ℕ). x ++ second) is.parts ∙ append_assoc is.front is.rest second;
+  parts = ap (λ (x : List ℕ). x ++ second) is.parts ∙ append_assoc is.prefix is.rest second;
   added = is.added;
   lacks = omega (arith, is.lacks, length-append is.rest second);
 }
 
 -- A proper prefix of `second` after `old ++ first` is a proper prefix of `first ++ second` after `old`.
-pub adds_second : (old middle new first second : List ℕ) → middle ≡ old ++ first → AddsFront middle new second
-    → AddsFront old new (first ++ second)
+pub adds_second : (old middle new first second : List ℕ) → middle ≡ old ++ first → AddsPrefix middle new second
+    → AddsPrefix old new (first ++ second)
 adds_second old middle new first second all is = record {
-  front = first ++ is.front;
+  prefix = first ++ is.prefix;
   rest = is.rest;
-  parts = ap (λ (x : List ℕ). first ++ x) is.parts ∙ sym (append_assoc first is.front is.rest);
-  added = is.added ∙ ap (λ (x : List ℕ). x ++ is.front) all ∙ append_assoc old first is.front;
+  parts = ap (λ (x : List ℕ). first ++ x) is.parts ∙ sym (append_assoc first is.prefix is.rest);
+  added = is.added ∙ ap (λ (x : List ℕ). x ++ is.prefix) all ∙ append_assoc old first is.prefix;
   lacks = is.lacks;
 }
 
@@ -36,6 +36,6 @@ at_err (Err fault) holds = holds
 
 -- At an error, a proper prefix of `second` after `old ++ first` is one of `first ++ second` after `old`.
 pub adds_last : {T E : Type 0} (result : Result T E) (old middle new first second : List ℕ) → middle ≡ old ++ first
-    → OnErr result (AddsFront middle new second)
-    → OnErr result (AddsFront old new (first ++ second))
+    → OnErr result (AddsPrefix middle new second)
+    → OnErr result (AddsPrefix old new (first ++ second))
 adds_last result old middle new first second all is = on_err_weaker result (adds_second old middle new first second all) is

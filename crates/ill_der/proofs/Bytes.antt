@@ -16,8 +16,8 @@ IsBytes-take n bytes h i =
       | inr le ↦ rw (get_or_past (take n bytes) i 0 (omega (arith, length-take n bytes))) (omega arith)
     ]
 
--- If `bytes` is `front ++ rest` and all of it are octets, so are all of `rest`.
-pub IsBytes-rest : (bytes front rest : List ℕ) → bytes ≡ front ++ rest → IsBytes bytes → IsBytes rest
-IsBytes-rest bytes front rest e h =
-    let whole : IsBytes (front ++ rest) = subst IsBytes e h in
-    subst IsBytes (drop_at front rest (length front) refl) (IsBytes-drop (length front) (front ++ rest) whole)
+-- If `bytes` is `prefix ++ rest` and all of it are octets, so are all of `rest`.
+pub IsBytes-rest : (bytes prefix rest : List ℕ) → bytes ≡ prefix ++ rest → IsBytes bytes → IsBytes rest
+IsBytes-rest bytes prefix rest e h =
+    let whole : IsBytes (prefix ++ rest) = subst IsBytes e h in
+    subst IsBytes (drop_at prefix rest (length prefix) refl) (IsBytes-drop (length prefix) (prefix ++ rest) whole)

@@ -14,24 +14,24 @@ use Rattle.ill_der.proofs.FeedLemmas.{AgainLaw, ShortLaw, begins_join, begins_mo
 
 -- ---- pieces one after another
 
--- If `front` and then `piece` are pushed, one push of `front ++ piece` gives all their APDUs and the last feed.
-pub two_pushes : (old middle new : Unread) (front piece : List ℕ) (first more : List Apdu) → Feeds old front first middle
-    → Feeds middle piece more new → Feeds old (front ++ piece) (first ++ more) new
-two_pushes (Ok held) (Ok between) new front piece first more a b =
-    let bytes : (held ++ front) ++ piece ≡ held ++ (front ++ piece) = append_assoc held front piece in
-    let begun = subst (λ (x : List ℕ). Begins ((held ++ front) ++ piece) first (x ++ piece)) (sym a.2.0) (begins_more (held ++ front) a.0 piece first a.1) in
-    let begins = begins_join ((held ++ front) ++ piece) (between ++ piece) b.0 first more begun b.1 in
+-- If `prefix` and then `piece` are pushed, one push of `prefix ++ piece` gives all their APDUs and the last feed.
+pub two_pushes : (old middle new : Unread) (prefix piece : List ℕ) (first more : List Apdu) → Feeds old prefix first middle
+    → Feeds middle piece more new → Feeds old (prefix ++ piece) (first ++ more) new
+two_pushes (Ok held) (Ok between) new prefix piece first more a b =
+    let bytes : (held ++ prefix) ++ piece ≡ held ++ (prefix ++ piece) = append_assoc held prefix piece in
+    let begun = subst (λ (x : List ℕ). Begins ((held ++ prefix) ++ piece) first (x ++ piece)) (sym a.2.0) (begins_more (held ++ prefix) a.0 piece first a.1) in
+    let begins = begins_join ((held ++ prefix) ++ piece) (between ++ piece) b.0 first more begun b.1 in
     (b.0, subst (λ (x : List ℕ). Begins x (first ++ more) b.0) bytes begins, b.2)
-two_pushes (Ok held) (Err fault) new front piece first more a b =
-    let bytes : (held ++ front) ++ piece ≡ held ++ (front ++ piece) = append_assoc held front piece in
-    let begun = subst (λ (x : List ℕ). Begins x first (a.0 ++ piece)) bytes (begins_more (held ++ front) a.0 piece first a.1) in
+two_pushes (Ok held) (Err fault) new prefix piece first more a b =
+    let bytes : (held ++ prefix) ++ piece ≡ held ++ (prefix ++ piece) = append_assoc held prefix piece in
+    let begun = subst (λ (x : List ℕ). Begins x first (a.0 ++ piece)) bytes (begins_more (held ++ prefix) a.0 piece first a.1) in
     let all : first ≡ first ++ more = sym (append-nil first) ∙ ap (λ (x : List Apdu). first ++ x) (sym b.0) in
     let leaves : Leaves (a.0 ++ piece) (Err fault) = (fault_stays a.0 piece fault a.2.1 a.2.0, a.2.1) in (
       a.0 ++ piece,
-      subst (λ (x : List Apdu). Begins (held ++ (front ++ piece)) x (a.0 ++ piece)) all begun,
+      subst (λ (x : List Apdu). Begins (held ++ (prefix ++ piece)) x (a.0 ++ piece)) all begun,
       subst (Leaves (a.0 ++ piece)) (sym b.1) leaves,
     )
-two_pushes (Err fault) middle new front piece first more a b =
+two_pushes (Err fault) middle new prefix piece first more a b =
     let closed : Feeds (Err fault) piece more new = subst (λ (m : Unread). Feeds m piece more new) a.1 b in
     (ap (λ (x : List Apdu). x ++ more) a.0 ∙ closed.0, closed.1)
 
@@ -78,11 +78,11 @@ first_again again bytes rest apdu apdus begins =
     ap apdu_at (begins.parts ∙ append_assoc (spelling apdu) (flat_map spelling apdus) rest) ∙ again apdu (flat_map spelling apdus ++ rest) begins.spelled.0
 
 -- If `bytes` are all a rest that leaves a feed, no APDU begins them.
-no_first : AgainLaw → (bytes rest behind : List ℕ) (new : Unread) (apdu : Apdu) (apdus : List Apdu) → Begins bytes [] rest
-    → Leaves rest new → Begins bytes (apdu ∷ apdus) behind → ⊥
-no_first again bytes rest behind new apdu apdus none leaves some =
+no_first : AgainLaw → (bytes rest after : List ℕ) (new : Unread) (apdu : Apdu) (apdus : List Apdu) → Begins bytes [] rest
+    → Leaves rest new → Begins bytes (apdu ∷ apdus) after → ⊥
+no_first again bytes rest after new apdu apdus none leaves some =
     let fault = has_fault rest new leaves in
-    no_value fault.0 (apdu, flat_map spelling apdus ++ behind) (sym (first_again again bytes behind apdu apdus some) ∙ ap apdu_at none.parts ∙ fault.1)
+    no_value fault.0 (apdu, flat_map spelling apdus ++ after) (sym (first_again again bytes after apdu apdus some) ∙ ap apdu_at none.parts ∙ fault.1)
 
 -- If `rest` leaves the feed `a` and leaves the feed `b`, `a` equals `b`.
 same_left : (rest : List ℕ) (a b : Unread) → Leaves rest a → Leaves rest b → a ≡ b
@@ -94,23 +94,23 @@ same_left rest (Err fault) (Ok other) a b =
 same_left rest (Err one) (Err other) a b = ap Err (fault_is one other (sym a.0 ∙ b.0))
 
 -- If `bytes` are divided into APDUs and a rest in two ways, the APDUs are equal, and the feeds left are.
-one_cut : AgainLaw → (first second : List Apdu) (bytes rest behind : List ℕ) (a b : Unread) → Begins bytes first rest
-    → Leaves rest a → Begins bytes second behind → Leaves behind b
+one_cut : AgainLaw → (first second : List Apdu) (bytes rest after : List ℕ) (a b : Unread) → Begins bytes first rest
+    → Leaves rest a → Begins bytes second after → Leaves after b
     → (first ≡ second) × (a ≡ b)
-one_cut again [] [] bytes rest behind a b x leaves y other =
+one_cut again [] [] bytes rest after a b x leaves y other =
     (refl, same_left rest a b leaves (subst (λ (r : List ℕ). Leaves r b) (sym y.parts ∙ x.parts) other))
-one_cut again [] (apdu ∷ apdus) bytes rest behind a b x leaves y other =
-    absurd (no_first again bytes rest behind a apdu apdus x leaves y)
-one_cut again (apdu ∷ apdus) [] bytes rest behind a b x leaves y other =
-    absurd (no_first again bytes behind rest b apdu apdus y other x)
-one_cut again (apdu ∷ apdus) (one ∷ ones) bytes rest behind a b x leaves y other =
+one_cut again [] (apdu ∷ apdus) bytes rest after a b x leaves y other =
+    absurd (no_first again bytes rest after a apdu apdus x leaves y)
+one_cut again (apdu ∷ apdus) [] bytes rest after a b x leaves y other =
+    absurd (no_first again bytes after rest b apdu apdus y other x)
+one_cut again (apdu ∷ apdus) (one ∷ ones) bytes rest after a b x leaves y other =
     let tail = flat_map spelling apdus ++ rest in
-    let last = flat_map spelling ones ++ behind in
-    let same = ok_is (apdu, tail) (one, last) (sym (first_again again bytes rest apdu apdus x) ∙ first_again again bytes behind one ones y) in
+    let last = flat_map spelling ones ++ after in
+    let same = ok_is (apdu, tail) (one, last) (sym (first_again again bytes rest apdu apdus x) ∙ first_again again bytes after one ones y) in
     let head : apdu ≡ one = ap (λ (r : Apdu × List ℕ). r.0) same in
     let tails : tail ≡ last = ap (λ (r : Apdu × List ℕ). r.1) same in
     let later =
-    one_cut again apdus ones tail rest behind a b (record { spelled = x.spelled.1; parts = refl }) leaves (record { spelled = y.spelled.1; parts = tails }) other in
+    one_cut again apdus ones tail rest after a b (record { spelled = x.spelled.1; parts = refl }) leaves (record { spelled = y.spelled.1; parts = tails }) other in
     (ap (λ (e : Apdu). e ∷ apdus) head ∙ ap (λ (es : List Apdu). one ∷ es) later.0, later.1)
 
 -- No bytes at all are unfinished: they are less than an APDU.

@@ -36,9 +36,9 @@ contents_found Truncated left inside rest f e = absurd cc
 contents_found Invalid left inside rest f e = absurd cc
 contents_found (Definite n octets) left inside rest f e =
     let part : Cursor = cursor_at (left.at + octets) (take n (drop octets left.bytes)) in
-    let behind : Cursor = cursor_at (left.at + (octets + n)) (drop (octets + n) left.bytes) in
-    let there = went_on (ltb (length left.bytes) (octets + n)) (Ok (part, behind)) (Length left.at) (inside, rest) e in
-    let both : (part, behind) ≡ (inside, rest) = ok_is (part, behind) (inside, rest) there.1 in
+    let later : Cursor = cursor_at (left.at + (octets + n)) (drop (octets + n) left.bytes) in
+    let there = went_on (ltb (length left.bytes) (octets + n)) (Ok (part, later)) (Length left.at) (inside, rest) e in
+    let both : (part, later) ≡ (inside, rest) = ok_is (part, later) (inside, rest) there.1 in
     record {
       n = n;
       octets = octets;
@@ -55,11 +55,11 @@ pub record TakesElement (identifier : ℕ) (bytes inside rest : List ℕ) : Type
   pub rest_fits : IsBytes rest
 
 -- If `bytes` is `identifier`, the length octets of `inside`, `inside` and `rest`, it is that element and `rest`.
-pub assembled : (identifier n octets : ℕ) (bytes behind inside rest : List ℕ) → bytes ≡ identifier ∷ behind
-    → behind ≡ length_octets n ++ drop octets behind
-    → drop octets behind ≡ inside ++ rest → length inside ≡ n → bytes ≡ element identifier inside ++ rest
+pub assembled : (identifier n octets : ℕ) (bytes later inside rest : List ℕ) → bytes ≡ identifier ∷ later
+    → later ≡ length_octets n ++ drop octets later
+    → drop octets later ≡ inside ++ rest → length inside ≡ n → bytes ≡ element identifier inside ++ rest
 unfolding element
-assembled identifier n octets bytes behind inside rest first second third size =
+assembled identifier n octets bytes later inside rest first second third size =
     first ∙ ap (λ (x : List ℕ). identifier ∷ x) (second ∙ ap (λ (x : List ℕ). length_octets n ++ x) third
     ∙ sym (append_assoc (length_octets n) inside rest) ∙ ap (λ (k : ℕ). (length_octets k ++ inside) ++ rest) (sym size))
 
@@ -68,20 +68,20 @@ pub element_takes : (identifier : ℕ) (left inside rest : Cursor) → IsBytes l
     → element_at identifier left ≡ Ok (inside, rest) → TakesElement identifier left.bytes inside.bytes rest.bytes
 unfolding element_at
 element_takes identifier left inside rest fits e =
-    let behind = drop 1 left.bytes in
-    let begins = passed (begins_with identifier left.bytes) (contents_by (length_of behind) (cursor_at (left.at + 1) behind)) (Tag left.at) (inside, rest) e in
+    let later = drop 1 left.bytes in
+    let begins = passed (begins_with identifier left.bytes) (contents_by (length_of later) (cursor_at (left.at + 1) later)) (Tag left.at) (inside, rest) e in
     let fits1 = IsBytes-drop 1 left.bytes fits in
-    let found = contents_found (length_of behind) (cursor_at (left.at + 1) behind) inside rest refl begins.1 in
-    let spelled = length_takes behind found.n found.octets fits1 found.form in
-    let taken = drop found.octets behind in
-    let size : length inside.bytes ≡ found.n = ap length (sym found.inside-is) ∙ omega (arith, length-take found.n taken, length-drop found.octets behind, found.enough) in
+    let found = contents_found (length_of later) (cursor_at (left.at + 1) later) inside rest refl begins.1 in
+    let spelled = length_takes later found.n found.octets fits1 found.form in
+    let taken = drop found.octets later in
+    let size : length inside.bytes ≡ found.n = ap length (sym found.inside-is) ∙ omega (arith, length-take found.n taken, length-drop found.octets later, found.enough) in
     let split : taken ≡ inside.bytes ++ rest.bytes =
     sym (take-append-drop found.n taken) ∙ ap (λ (x : List ℕ). x ++ drop found.n taken) found.inside-is
-    ∙ ap (λ (x : List ℕ). inside.bytes ++ x) (drop-drop found.n found.octets behind ∙ found.rest-is) in
+    ∙ ap (λ (x : List ℕ). inside.bytes ++ x) (drop-drop found.n found.octets later ∙ found.rest-is) in
     record {
-      parts = assembled identifier found.n found.octets left.bytes behind inside.bytes rest.bytes (begins_true identifier left.bytes begins.0) spelled.0 split size;
-      inside_fits = subst IsBytes found.inside-is (IsBytes-take found.n taken (IsBytes-drop found.octets behind fits1));
-      rest_fits = subst IsBytes found.rest-is (IsBytes-drop (found.octets + found.n) behind fits1);
+      parts = assembled identifier found.n found.octets left.bytes later inside.bytes rest.bytes (begins_true identifier left.bytes begins.0) spelled.0 split size;
+      inside_fits = subst IsBytes found.inside-is (IsBytes-take found.n taken (IsBytes-drop found.octets later fits1));
+      rest_fits = subst IsBytes found.rest-is (IsBytes-drop (found.octets + found.n) later fits1);
     }
 
 -- ---- an encoding is read as its element
@@ -96,10 +96,10 @@ contents_again at octets contents more =
     le-ltb _ _ (omega (arith, length-append octets (contents ++ more), length-append contents more)) in
     let inside : take (length contents) (drop (length octets) all) ≡ contents =
     ap (take (length contents)) (drop_at octets (contents ++ more) (length octets) refl) ∙ take_at contents more (length contents) refl in
-    let behind : drop (length octets + length contents) all ≡ more =
+    let later : drop (length octets + length contents) all ≡ more =
     ap (drop (length octets + length contents)) (sym (append_assoc octets contents more))
     ∙ drop_at (octets ++ contents) more (length octets + length contents) (length-append octets contents) in
-    rw (enough, inside, behind) refl
+    rw (enough, inside, later) refl
 
 -- Holds if `element_at` reads the element of `identifier` and `contents` from `left`, and leaves `more`.
 abbrev pub ReadsElement : ℕ → Cursor → List ℕ → List ℕ → Type 0
@@ -141,19 +141,19 @@ contents_faults Truncated left d e = length_inside left.at d e
 contents_faults Invalid left d e = length_inside left.at d e
 contents_faults (Definite m octets) left d e =
     let part : Cursor = cursor_at (left.at + octets) (take m (drop octets left.bytes)) in
-    let behind : Cursor = cursor_at (left.at + (octets + m)) (drop (octets + m) left.bytes) in
-    elim (chosen (ltb (length left.bytes) (octets + m)) (Err (Length left.at)) (Ok (part, behind)) (Err d) e) [
+    let later : Cursor = cursor_at (left.at + (octets + m)) (drop (octets + m) left.bytes) in
+    elim (chosen (ltb (length left.bytes) (octets + m)) (Err (Length left.at)) (Ok (part, later)) (Err d) e) [
       | inl h ↦ length_inside left.at d h.1
-      | inr h ↦ absurd (no_value d (part, behind) h.1)
+      | inr h ↦ absurd (no_value d (part, later) h.1)
     ]
 
 -- Each fault of `element_at` is Tag, Length or Field.
 pub element_faults : (identifier : ℕ) (left : Cursor) (d : DerFault) → element_at identifier left ≡ Err d → IsInside d
 unfolding element_at
 element_faults identifier left d e =
-    let behind = drop 1 left.bytes in
-    elim (chosen (begins_with identifier left.bytes) (contents_by (length_of behind) (cursor_at (left.at + 1) behind)) (Err (Tag left.at)) (Err d) e) [
-      | inl h ↦ contents_faults (length_of behind) (cursor_at (left.at + 1) behind) d h.1
+    let later = drop 1 left.bytes in
+    elim (chosen (begins_with identifier left.bytes) (contents_by (length_of later) (cursor_at (left.at + 1) later)) (Err (Tag left.at)) (Err d) e) [
+      | inl h ↦ contents_faults (length_of later) (cursor_at (left.at + 1) later) d h.1
       | inr h ↦ tag_inside left.at d h.1
     ]
 

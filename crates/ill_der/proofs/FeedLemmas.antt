@@ -20,11 +20,11 @@ use Rattle.ill_der.proofs.ShortFormLaws.{fault_stays}
 
 -- ---- APDUs one after another
 
--- If each APDU of `front` and of `more` is in range, so is each of `front ++ more`.
-pub all_join : (front more : List Apdu) → AllByRecursion IsApdu front → AllByRecursion IsApdu more
-    → AllByRecursion IsApdu (front ++ more)
+-- If each APDU of `prefix` and of `more` is in range, so is each of `prefix ++ more`.
+pub all_join : (prefix more : List Apdu) → AllByRecursion IsApdu prefix → AllByRecursion IsApdu more
+    → AllByRecursion IsApdu (prefix ++ more)
 all_join [] more all others = others
-all_join (apdu ∷ front) more all others = (all.0, all_join front more all.1 others)
+all_join (apdu ∷ prefix) more all others = (all.0, all_join prefix more all.1 others)
 
 -- `bytes` begins with no APDUs, and all of it is the rest.
 pub begins_none : (bytes : List ℕ) → Begins bytes [] bytes
@@ -38,16 +38,16 @@ begins_one law bytes apdu rest fits e =
     let is = subst (BeginsWithOne bytes) e (law bytes fits) in
     record { spelled = (is.0.0, tt); parts = is.0.1 ∙ ap (λ (x : List ℕ). x ++ rest) (sym (append-nil (spelling apdu))) }
 
--- If `front` begins `bytes` with the rest `middle`, and `more` begins `middle`, `front ++ more` begins `bytes`.
-pub begins_join : (bytes middle rest : List ℕ) (front more : List Apdu) → Begins bytes front middle
-    → Begins middle more rest → Begins bytes (front ++ more) rest
-begins_join bytes middle rest front more first second =
-    let text = flat_map spelling front in
+-- If `prefix` begins `bytes` with the rest `middle`, and `more` begins `middle`, `prefix ++ more` begins `bytes`.
+pub begins_join : (bytes middle rest : List ℕ) (prefix more : List Apdu) → Begins bytes prefix middle
+    → Begins middle more rest → Begins bytes (prefix ++ more) rest
+begins_join bytes middle rest prefix more first second =
+    let text = flat_map spelling prefix in
     record {
-      spelled = all_join front more first.spelled second.spelled;
+      spelled = all_join prefix more first.spelled second.spelled;
       parts =
           first.parts ∙ ap (λ (x : List ℕ). text ++ x) second.parts ∙ sym (append_assoc text (flat_map spelling more) rest)
-          ∙ ap (λ (x : List ℕ). x ++ rest) (sym (flat_map-append spelling front more));
+          ∙ ap (λ (x : List ℕ). x ++ rest) (sym (flat_map-append spelling prefix more));
     }
 
 -- If `apdus` begin `bytes` with `rest`, they begin `bytes ++ more` with `rest ++ more`.
@@ -60,17 +60,17 @@ begins_more bytes rest more apdus is = record {
 
 -- If one or more APDUs begin `bytes`, the first of them alone begins `bytes`.
 begins_first : (bytes : List ℕ) (apdus : List Apdu) (apdu : Apdu) (rest : List ℕ)
-    → Begins bytes (apdus ++ apdu ∷ []) rest → (first : Apdu) × (behind : List ℕ) × Begins bytes (first ∷ []) behind
+    → Begins bytes (apdus ++ apdu ∷ []) rest → (first : Apdu) × (later : List ℕ) × Begins bytes (first ∷ []) later
 begins_first bytes [] apdu rest begins = (apdu, rest, begins)
 begins_first bytes (first ∷ apdus) apdu rest begins =
-    let behind = flat_map spelling (apdus ++ apdu ∷ []) ++ rest in (
+    let later = flat_map spelling (apdus ++ apdu ∷ []) ++ rest in (
       first,
-      behind,
+      later,
       record {
         spelled = (begins.spelled.0, tt);
         parts =
             begins.parts ∙ append_assoc (spelling first) (flat_map spelling (apdus ++ apdu ∷ [])) rest
-            ∙ ap (λ (x : List ℕ). x ++ behind) (sym (append-nil (spelling first)));
+            ∙ ap (λ (x : List ℕ). x ++ later) (sym (append-nil (spelling first)));
       },
     )
 
@@ -85,10 +85,10 @@ handled_then handles before now after (first ∷ apdus) apdu so_far next =
     (so_far.0, so_far.1, handled_then handles so_far.0 now after apdus apdu so_far.2 next)
 
 -- If the APDUs before the offset `at` were handled, and handling the next failed, handling `bytes` failed.
-pub fails_behind : {S F : Type 0} (handles : Handles S F) (bytes : List ℕ) (at : ℕ) (before now after : S) (fault : F)
+pub fails_after : {S F : Type 0} (handles : Handles S F) (bytes : List ℕ) (at : ℕ) (before now after : S) (fault : F)
     → ((apdus : List Apdu) × Begins bytes apdus (drop at bytes) × Handled handles before apdus now) → HandlesFirst handles (take (length bytes - at) (drop at bytes)) now (Err fault) after
     → FailsIn handles bytes before fault after
-fails_behind handles bytes at before now after fault so_far next =
+fails_after handles bytes at before now after fault so_far next =
     let begins = subst (λ (x : List ℕ). Begins x (next.0 ∷ []) next.1) (take_rest bytes at) next.2 in
     (so_far.0, next.0, next.1, now, begins_join bytes (drop at bytes) next.1 so_far.0 (next.0 ∷ []) so_far.1 begins, so_far.2, next.3)
 
@@ -100,11 +100,11 @@ pub one_more_handled : {S F : Type 0} (handles : Handles S F) (bytes : List ℕ)
     → (at + size ≤ length bytes) × ((apdus : List Apdu) × Begins bytes apdus (drop (at + size) bytes) × Handled handles before apdus after)
 one_more_handled handles bytes at size before now after within so_far next =
     let first = subst (λ (x : List ℕ). HandlesFirst handles x now (Ok (Ok size)) after) (take_rest bytes at) next in
-    let behind = subst (Begins (drop at bytes) (first.2.0 ∷ [])) (drop-drop size at bytes) first.2.1 in (
+    let later = subst (Begins (drop at bytes) (first.2.0 ∷ [])) (drop-drop size at bytes) first.2.1 in (
       omega (arith, within, first.1, length-drop at bytes),
       (
         so_far.0 ++ first.2.0 ∷ [],
-        begins_join bytes (drop at bytes) (drop (at + size) bytes) so_far.0 (first.2.0 ∷ []) so_far.1 behind,
+        begins_join bytes (drop at bytes) (drop (at + size) bytes) so_far.0 (first.2.0 ∷ []) so_far.1 later,
         handled_then handles before now after so_far.0 first.2.0 so_far.2 first.2.2,
       ),
     )
@@ -126,9 +126,9 @@ is_open (Some fault) bytes now e opened =
     absurd cc
 
 -- If the feed `now` is open, it holds `bytes`.
-pub holds_front : (closed : Option DerFault) (bytes : List ℕ) (now : Unread) → held_of closed bytes ≡ now → IsOk now
+pub holds_prefix : (closed : Option DerFault) (bytes : List ℕ) (now : Unread) → held_of closed bytes ≡ now → IsOk now
     → now ≡ Ok bytes
-holds_front closed bytes now e opened = sym e ∙ ap (λ (k : Option DerFault). held_of k bytes) (is_open closed bytes now e opened)
+holds_prefix closed bytes now e opened = sym e ∙ ap (λ (k : Option DerFault). held_of k bytes) (is_open closed bytes now e opened)
 
 -- If `fault` closes no feed, it is Short.
 pub closing_none : (fault : DerFault) → None ≡ closing fault → (n : ℕ) × (fault ≡ Short n)
@@ -151,9 +151,9 @@ pub holds_nothing : (buffer : List ℕ) → Holds 0 buffer
 unfolding apdu_at outer_at header_at
 holds_nothing buffer = record { most = omega arith; unfinished = refl }
 
--- If the first `size` bytes of `buffer` are `front`, unfinished and at most 358, `buffer` holds them.
-pub holds : (size : ℕ) (buffer front : List ℕ) → size ≤ 358 → take size buffer ≡ front → IsUnfinished front → Holds size buffer
-holds size buffer front few is unfinished = record { most = few; unfinished = subst IsUnfinished (sym is) unfinished }
+-- If the first `size` bytes of `buffer` are `prefix`, unfinished and at most 358, `buffer` holds them.
+pub holds : (size : ℕ) (buffer prefix : List ℕ) → size ≤ 358 → take size buffer ≡ prefix → IsUnfinished prefix → Holds size buffer
+holds size buffer prefix few is unfinished = record { most = few; unfinished = subst IsUnfinished (sym is) unfinished }
 
 -- The law of short bytes: the number of Short is that of all bytes, and at most 358.
 abbrev pub ShortLaw : Type 0
@@ -221,9 +221,9 @@ rest_held law old new rest filled fault fills none e =
     let all : take filled new ≡ rest = all_filled old new rest 0 filled fills few in
     (holds filled new rest few all short.0, all, short.0)
 
--- If `front` is `held` and the first `k` bytes of `piece`, `front` and its other bytes are `held ++ piece`.
-pub whole_piece : (k : ℕ) (held piece front : List ℕ) → front ≡ held ++ take k piece → front ++ drop k piece ≡ held ++ piece
-whole_piece k held piece front parts =
+-- If `prefix` is `held` and the first `k` bytes of `piece`, `prefix` and its other bytes are `held ++ piece`.
+pub whole_piece : (k : ℕ) (held piece prefix : List ℕ) → prefix ≡ held ++ take k piece → prefix ++ drop k piece ≡ held ++ piece
+whole_piece k held piece prefix parts =
     ap (λ (x : List ℕ). x ++ drop k piece) parts ∙ append_assoc held (take k piece) (drop k piece) ∙ ap (λ (x : List ℕ). held ++ x) (take-append-drop k piece)
 
 -- ---- the APDU that begins with the held bytes
@@ -232,39 +232,39 @@ whole_piece k held piece front parts =
 abbrev pub AgainLaw : Type 0
 AgainLaw = (apdu : Apdu) (rest : List ℕ) → IsApdu apdu → apdu_at (spelling apdu ++ rest) ≡ Ok (apdu, rest)
 
--- If an APDU begins `front`, which begins with the unfinished `held`, the APDU has more bytes than `held`.
-pub ends_behind : AgainLaw → (held more front : List ℕ) (size : ℕ) (apdu : Apdu) → IsUnfinished held
-    → front ≡ held ++ more → size ≤ length front
-    → Begins front (apdu ∷ []) (drop size front) → length held < size
-ends_behind again held more front size apdu unfinished parts within begins =
+-- If an APDU begins `prefix`, which begins with the unfinished `held`, the APDU has more bytes than `held`.
+pub ends_after : AgainLaw → (held more prefix : List ℕ) (size : ℕ) (apdu : Apdu) → IsUnfinished held
+    → prefix ≡ held ++ more → size ≤ length prefix
+    → Begins prefix (apdu ∷ []) (drop size prefix) → length held < size
+ends_after again held more prefix size apdu unfinished parts within begins =
     elim (cases_lt (length held) size) [
       | inl lt ↦ lt
       | inr le ↦
           let text = spelling apdu in
-          let spelled : front ≡ text ++ drop size front = begins.parts ∙ ap (λ (x : List ℕ). x ++ drop size front) (append-nil text) in
-          let long : length text ≡ size = omega (arith, within, ap length spelled, length-append text (drop size front), length-drop size front) in
-          let at_front : take size front ≡ text = ap (take size) spelled ∙ take_at text (drop size front) size long in
-          let in_held : take size held ≡ text = sym (take-append-le size held more le) ∙ ap (take size) (sym parts) ∙ at_front in
+          let spelled : prefix ≡ text ++ drop size prefix = begins.parts ∙ ap (λ (x : List ℕ). x ++ drop size prefix) (append-nil text) in
+          let long : length text ≡ size = omega (arith, within, ap length spelled, length-append text (drop size prefix), length-drop size prefix) in
+          let at_prefix : take size prefix ≡ text = ap (take size) spelled ∙ take_at text (drop size prefix) size long in
+          let in_held : take size held ≡ text = sym (take-append-le size held more le) ∙ ap (take size) (sym parts) ∙ at_prefix in
           let is : held ≡ text ++ drop size held = sym (take-append-drop size held) ∙ ap (λ (x : List ℕ). x ++ drop size held) in_held in
           absurd (no_value (Short (length held)) (apdu, drop size held) (sym (again apdu (drop size held) begins.spelled.0) ∙ ap apdu_at (sym is) ∙ unfinished))
     ]
 
--- If `apdu` begins `front`, which is `held` and a prefix of `piece`, it begins `held ++ piece`.
+-- If `apdu` begins `prefix`, which is `held` and a prefix of `piece`, it begins `held ++ piece`.
 -- The rest is `piece` after the bytes that `apdu` took of it.
-begins_held : (held piece front : List ℕ) (k size : ℕ) (apdu : Apdu) → k ≤ length piece → front ≡ held ++ take k piece
-    → length held ≤ size → size ≤ length front
-    → Begins front (apdu ∷ []) (drop size front) → Begins (held ++ piece) (apdu ∷ []) (drop (size - length held) piece)
-begins_held held piece front k size apdu few parts behind within begins =
+begins_held : (held piece prefix : List ℕ) (k size : ℕ) (apdu : Apdu) → k ≤ length piece → prefix ≡ held ++ take k piece
+    → length held ≤ size → size ≤ length prefix
+    → Begins prefix (apdu ∷ []) (drop size prefix) → Begins (held ++ piece) (apdu ∷ []) (drop (size - length held) piece)
+begins_held held piece prefix k size apdu few parts later within begins =
     let more = take k piece in
     let at = size - length held in
     let long : length more ≡ k = length-take-le k piece few in
-    let there : at ≤ length more = omega (arith, within, ap length parts, length-append held more, behind) in
-    let place : size ≡ length held + at = omega (arith, behind) in
-    let rest : drop size front ≡ drop at more = ap (drop size) parts ∙ ap (λ (n : ℕ). drop n (held ++ more)) place ∙ drop-append-add held more at in
-    let last : drop size front ++ drop k piece ≡ drop at piece =
+    let there : at ≤ length more = omega (arith, within, ap length parts, length-append held more, later) in
+    let place : size ≡ length held + at = omega (arith, later) in
+    let rest : drop size prefix ≡ drop at more = ap (drop size) parts ∙ ap (λ (n : ℕ). drop n (held ++ more)) place ∙ drop-append-add held more at in
+    let last : drop size prefix ++ drop k piece ≡ drop at piece =
     ap (λ (x : List ℕ). x ++ drop k piece) rest ∙ sym (drop-append-le at more (drop k piece) there) ∙ ap (drop at) (take-append-drop k piece) in
-    subst (λ (x : List ℕ). Begins x (apdu ∷ []) (drop at piece)) (whole_piece k held piece front parts)
-    (subst (Begins (front ++ drop k piece) (apdu ∷ [])) last (begins_more front (drop size front) (drop k piece) (apdu ∷ []) begins))
+    subst (λ (x : List ℕ). Begins x (apdu ∷ []) (drop at piece)) (whole_piece k held piece prefix parts)
+    (subst (Begins (prefix ++ drop k piece) (apdu ∷ [])) last (begins_more prefix (drop size prefix) (drop k piece) (apdu ∷ []) begins))
 
 -- ---- the outcome of a push
 
@@ -273,45 +273,45 @@ pub goes_on_from : {S F : Type 0} (handles : Handles S F) → AgainLaw
     → (old new piece : List ℕ) (size filled end : ℕ) (before now : S) → Fills old new size piece filled → Holds size old
     → HandlesFirst handles (take filled new) before (Ok (Ok end)) now → (size ≤ end) × (end - size ≤ length piece)
 goes_on_from handles again old new piece size filled end before now fills is first =
-    let behind = ends_behind again (take size old) (take (filled - size) piece) (take filled new) end first.2.0 is.unfinished fills.parts first.1 first.2.1 in
+    let later = ends_after again (take size old) (take (filled - size) piece) (take filled new) end first.2.0 is.unfinished fills.parts first.1 first.2.1 in
     let long = length-take-le size old (omega (arith, fills.few, fills.room)) in
     let whole = filled_length old new piece size filled fills in
-    (omega (arith, behind, long), omega (arith, first.1, whole, fills.count))
+    (omega (arith, later, long), omega (arith, first.1, whole, fills.count))
 
 -- If the first APDU of `held ++ piece` was handled, going on with the rest has the outcome of a push.
-on_behind : {S F : Type 0} (handles : Handles S F) (held piece behind : List ℕ) (apdu : Apdu) (before now after : S) (result : Result (Option DerFault) F) (new : Unread)
-    → Begins (held ++ piece) (apdu ∷ []) behind → handles before apdu (Ok tt) now → GoesOn handles (Ok held) behind now result new after
+on_after : {S F : Type 0} (handles : Handles S F) (held piece later : List ℕ) (apdu : Apdu) (before now after : S) (result : Result (Option DerFault) F) (new : Unread)
+    → Begins (held ++ piece) (apdu ∷ []) later → handles before apdu (Ok tt) now → GoesOn handles (Ok held) later now result new after
     → HandlesEach handles (Ok held) piece before result new after
-on_behind handles held piece behind apdu before now after (Ok fault) new begins first on = (
+on_after handles held piece later apdu before now after (Ok fault) new begins first on = (
   on.0,
   (
     apdu ∷ on.1.0,
-    (on.1.1.0, begins_join (held ++ piece) behind on.1.1.0 (apdu ∷ []) on.1.0 begins on.1.1.1, on.1.1.2),
+    (on.1.1.0, begins_join (held ++ piece) later on.1.1.0 (apdu ∷ []) on.1.0 begins on.1.1.1, on.1.1.2),
     (now, first, on.1.2),
   ),
 )
-on_behind handles held piece behind apdu before now after (Err fault) new begins first on =
-    (on.0, fails_later handles (held ++ piece) behind before now after apdu fault begins first on.1)
+on_after handles held piece later apdu before now after (Err fault) new begins first on =
+    (on.0, fails_later handles (held ++ piece) later before now after apdu fault begins first on.1)
 
 -- If the first APDU of the filled bytes was handled, going on with the rest has the outcome of a push.
-pub goes_on_behind : {S F : Type 0} (handles : Handles S F) → AgainLaw
+pub goes_on_after : {S F : Type 0} (handles : Handles S F) → AgainLaw
     → (old new piece : List ℕ) (size filled end : ℕ) (before now after : S) (was : Unread) (result : Result (Option DerFault) F) (feed : Unread)
     → Fills old new size piece filled → Holds size old → was ≡ Ok (take size old)
     → HandlesFirst handles (take filled new) before (Ok (Ok end)) now
     → GoesOn handles (Ok (take size new)) (take (length piece - (end - size)) (drop (end - size) piece)) now result feed after
     → HandlesEach handles was piece before result feed after
-goes_on_behind handles again old new piece size filled end before now after was result feed fills is opened first on =
+goes_on_after handles again old new piece size filled end before now after was result feed fills is opened first on =
     let held = take size old in
     let there = goes_on_from handles again old new piece size filled end before now fills is first in
     let long : length held ≡ size = length-take-le size old (omega (arith, fills.few, fills.room)) in
-    let behind : length held ≤ end = omega (arith, long, there.0) in
+    let later : length held ≤ end = omega (arith, long, there.0) in
     let few : filled - size ≤ length piece = omega (arith, fills.count) in
-    let begins = begins_held held piece (take filled new) (filled - size) end first.2.0 few fills.parts behind first.1 first.2.1 in
+    let begins = begins_held held piece (take filled new) (filled - size) end first.2.0 few fills.parts later first.1 first.2.1 in
     let begun = subst (λ (n : ℕ). Begins (held ++ piece) (first.2.0 ∷ []) (drop (end - n) piece)) long begins in
     let on_rest = subst (λ (x : List ℕ). GoesOn handles (Ok (take size new)) x now result feed after) (take_rest piece (end - size)) on in
     let on_held = subst (λ (x : List ℕ). GoesOn handles (Ok x) (drop (end - size) piece) now result feed after) (still_held old new piece size filled fills) on_rest in
     subst (λ (h : Unread). HandlesEach handles h piece before result feed after) (sym opened)
-    (on_behind handles held piece (drop (end - size) piece) first.2.0 before now after result feed begun first.2.2 on_held)
+    (on_after handles held piece (drop (end - size) piece) first.2.0 before now after result feed begun first.2.2 on_held)
 
 -- If nothing was held, going on with `piece` has the outcome of a push.
 on_alone : {S F : Type 0} (handles : Handles S F) (held piece : List ℕ) (before after : S) (result : Result (Option DerFault) F) (new : Unread)

@@ -22,15 +22,15 @@ use Rattle.ill_der.proofs.Chains.{bind_err, chosen, no_value, tag_inside, length
 use Rattle.ill_der.proofs.Lengths.{length_few}
 use Rattle.ill_der.proofs.StreamLemmas.{decodes_err, spelled_without_memory}
 use Rattle.ill_der.proofs.ContentsLaws.{Values}
-use Rattle.ill_der.proofs.ShortFormLaws.{IsFinal, length_more, outer_with, outer_behind, outer_of, outer_is, outer_none, inside_faults}
+use Rattle.ill_der.proofs.ShortFormLaws.{IsFinal, length_more, outer_with, outer_after, outer_of, outer_is, outer_none, inside_faults}
 
 -- ---- bytes that are missing after an identifier
 
 -- Returns how many more bytes a length and its contents need at least, if `size` bytes follow the identifier.
-abbrev missing_behind : LengthForm → ℕ → ℕ
-missing_behind Truncated size = 1
-missing_behind Invalid size = 0
-missing_behind (Definite n octets) size = cond (ltb 355 n) 0 (octets + n - size)
+abbrev missing_after : LengthForm → ℕ → ℕ
+missing_after Truncated size = 1
+missing_after Invalid size = 0
+missing_after (Definite n octets) size = cond (ltb 355 n) 0 (octets + n - size)
 
 -- For a definite length, `missing_by` is the number of bytes up to the end of the contents, or 0 if `large`.
 missing_in : (apdu_type : ApduType) (n octets size : ℕ) (large : Bool)
@@ -38,22 +38,22 @@ missing_in : (apdu_type : ApduType) (n octets size : ℕ) (large : Bool)
 missing_in apdu_type n octets size true = refl
 missing_in apdu_type n octets size false = omega arith
 
--- For an APDU of a known type, `missing_by` of its header is `missing_behind` of its length.
+-- For an APDU of a known type, `missing_by` of its header is `missing_after` of its length.
 missing_cases : (apdu_type : ApduType) (form : LengthForm) (size : ℕ)
-    → missing_by (header_by apdu_type form (size + 1)) (size + 1) ≡ missing_behind form size
+    → missing_by (header_by apdu_type form (size + 1)) (size + 1) ≡ missing_after form size
 missing_cases apdu_type Truncated size = refl
 missing_cases apdu_type Invalid size = refl
 missing_cases apdu_type (Definite n octets) size = missing_in apdu_type n octets size (ltb 355 n)
 
--- `missing_by` of the header is `missing_behind` of the length, or 0 if the identifier has no type.
+-- `missing_by` of the header is `missing_after` of the length, or 0 if the identifier has no type.
 missing_from : (o : Option ApduType) (bytes : List ℕ)
-    → missing_by (header_of o bytes) (length bytes + 1) ≡ cond (is_some o) (missing_behind (length_of bytes) (length bytes)) 0
+    → missing_by (header_of o bytes) (length bytes + 1) ≡ cond (is_some o) (missing_after (length_of bytes) (length bytes)) 0
 missing_from None bytes = refl
 missing_from (Some apdu_type) bytes = missing_cases apdu_type (length_of bytes) (length bytes)
 
--- `missing_of (first ∷ bytes)` is `missing_behind` of the length in `bytes`, or 0 if `first` has no type.
+-- `missing_of (first ∷ bytes)` is `missing_after` of the length in `bytes`, or 0 if `first` has no type.
 missing_is : (first : ℕ) (bytes : List ℕ)
-    → missing_of (first ∷ bytes) ≡ cond (is_some (type_with first)) (missing_behind (length_of bytes) (length bytes)) 0
+    → missing_of (first ∷ bytes) ≡ cond (is_some (type_with first)) (missing_after (length_of bytes) (length bytes)) 0
 unfolding missing_of header_at
 missing_is first bytes =
     ap (λ (size : ℕ). missing_by (header_of (type_with first) bytes) size) (let e : length (first ∷ bytes) ≡ length bytes + 1 = omega arith in e) ∙ missing_from (type_with first) bytes
@@ -69,7 +69,7 @@ missing_none = refl
 wanted_is : (apdu_type : ApduType) (n octets : ℕ) (large : Bool) (bytes more : List ℕ) → ltb 355 n ≡ large
     → length_of bytes ≡ Definite n octets
     → length more < cond large 0 (octets + n - length bytes)
-    → outer_behind apdu_type (length_of (bytes ++ more)) (bytes ++ more) ≡ Err (Short (length (bytes ++ more) + 1))
+    → outer_after apdu_type (length_of (bytes ++ more)) (bytes ++ more) ≡ Err (Short (length (bytes ++ more) + 1))
 wanted_is apdu_type n octets true bytes more large e lt = absurd (omega (arith, lt))
 wanted_is apdu_type n octets false bytes more large e lt =
     let same : length_of (bytes ++ more) ≡ Definite n octets = length_more bytes more (subst IsFinal (sym e) tt) ∙ e in
@@ -78,8 +78,8 @@ wanted_is apdu_type n octets false bytes more large e lt =
 
 -- If `more` has fewer bytes than `bytes` lacks by its length `form`, `bytes ++ more` is short.
 wanted_by : (apdu_type : ApduType) (form : LengthForm) (bytes more : List ℕ) → length_of bytes ≡ form
-    → length more < missing_behind form (length bytes)
-    → outer_behind apdu_type (length_of (bytes ++ more)) (bytes ++ more) ≡ Err (Short (length (bytes ++ more) + 1))
+    → length more < missing_after form (length bytes)
+    → outer_after apdu_type (length_of (bytes ++ more)) (bytes ++ more) ≡ Err (Short (length (bytes ++ more) + 1))
 wanted_by apdu_type Truncated bytes [] e lt = rw (append-nil bytes, e) refl
 wanted_by apdu_type Truncated bytes (x ∷ more) e lt = absurd (omega (arith, lt))
 wanted_by apdu_type Invalid bytes more e lt = absurd (omega (arith, lt))
@@ -87,7 +87,7 @@ wanted_by apdu_type (Definite n octets) bytes more e lt = wanted_is apdu_type n 
 
 -- If `more` has fewer bytes than are missing after an identifier, `bytes ++ more` is short.
 wanted_of : (o : Option ApduType) (bytes more : List ℕ)
-    → length more < cond (is_some o) (missing_behind (length_of bytes) (length bytes)) 0
+    → length more < cond (is_some o) (missing_after (length_of bytes) (length bytes)) 0
     → outer_of o (bytes ++ more) ≡ Err (Short (length (bytes ++ more) + 1))
 wanted_of None bytes more lt = absurd (omega (arith, lt))
 wanted_of (Some apdu_type) bytes more lt = wanted_by apdu_type (length_of bytes) bytes more refl lt
@@ -107,9 +107,9 @@ wanted bytes more lt = rw (wanted_outer bytes more lt) refl
 
 -- ---- bytes that lack none
 
--- If `bytes` lacks no byte by its length `form`, `outer_behind` is not Short.
-enough_by : (apdu_type : ApduType) (form : LengthForm) (bytes : List ℕ) (n : ℕ) → missing_behind form (length bytes) ≡ 0
-    → outer_behind apdu_type form bytes ≡ Err (Short n) → ⊥
+-- If `bytes` lacks no byte by its length `form`, `outer_after` is not Short.
+enough_by : (apdu_type : ApduType) (form : LengthForm) (bytes : List ℕ) (n : ℕ) → missing_after form (length bytes) ≡ 0
+    → outer_after apdu_type form bytes ≡ Err (Short n) → ⊥
 enough_by apdu_type Truncated bytes n none e = omega (arith, none)
 enough_by apdu_type Invalid bytes n none e = length_inside 1 (Short n) e
 enough_by apdu_type (Definite m octets) bytes n none e =
@@ -125,7 +125,7 @@ enough_by apdu_type (Definite m octets) bytes n none e =
 
 -- If `bytes` lacks no byte after an identifier, `outer_of` is not Short.
 enough_of : (o : Option ApduType) (bytes : List ℕ) (n : ℕ)
-    → cond (is_some o) (missing_behind (length_of bytes) (length bytes)) 0 ≡ 0 → outer_of o bytes ≡ Err (Short n) → ⊥
+    → cond (is_some o) (missing_after (length_of bytes) (length bytes)) 0 ≡ 0 → outer_of o bytes ≡ Err (Short n) → ⊥
 enough_of None bytes n none e = tag_inside 0 (Short n) e
 enough_of (Some apdu_type) bytes n none e = enough_by apdu_type (length_of bytes) bytes n none e
 
@@ -169,19 +169,19 @@ refused values bytes fault other none h =
 judged_fault : Values → (bytes : List ℕ) (fault : DerFault) → IsBytes bytes → AreUnfinished bytes → missing_of bytes ≡ 0
     → Decodes bytes (apdu_at bytes) (Err fault)
     → IsJudged bytes (Err (read_fault fault))
-judged_fault values bytes OutOfMemory fits fronts none h = spelled_without_memory values bytes fits fronts h
-judged_fault values bytes (Short at) fits fronts none h = refused values bytes (Short at) (λ e. absurd cc) none h
-judged_fault values bytes (Tag at) fits fronts none h = refused values bytes (Tag at) (λ e. absurd cc) none h
-judged_fault values bytes (Length at) fits fronts none h = refused values bytes (Length at) (λ e. absurd cc) none h
-judged_fault values bytes (Field at) fits fronts none h = refused values bytes (Field at) (λ e. absurd cc) none h
+judged_fault values bytes OutOfMemory fits prefixes none h = spelled_without_memory values bytes fits prefixes h
+judged_fault values bytes (Short at) fits prefixes none h = refused values bytes (Short at) (λ e. absurd cc) none h
+judged_fault values bytes (Tag at) fits prefixes none h = refused values bytes (Tag at) (λ e. absurd cc) none h
+judged_fault values bytes (Length at) fits prefixes none h = refused values bytes (Length at) (λ e. absurd cc) none h
+judged_fault values bytes (Field at) fits prefixes none h = refused values bytes (Field at) (λ e. absurd cc) none h
 
 -- If `bytes` lacks no byte and its proper prefixes are unfinished, a result that hands on decoding's fault judges it.
 pub handed_on : Values → (bytes : List ℕ) (fault : DerFault) (r : Result (Option Apdu) ReadFault) → IsBytes bytes
     → AreUnfinished bytes → missing_of bytes ≡ 0
     → Decodes bytes (apdu_at bytes) (Err fault) → IsErrAnd r (λ handed. handed ≡ read_fault fault) → IsJudged bytes r
-handed_on values bytes fault (Ok found) fits fronts none h is = absurd is
-handed_on values bytes fault (Err handed) fits fronts none h is =
-    subst (λ (f : ReadFault). IsJudged bytes (Err f)) (sym is) (judged_fault values bytes fault fits fronts none h)
+handed_on values bytes fault (Ok found) fits prefixes none h is = absurd is
+handed_on values bytes fault (Err handed) fits prefixes none h is =
+    subst (λ (f : ReadFault). IsJudged bytes (Err f)) (sym is) (judged_fault values bytes fault fits prefixes none h)
 
 -- ---- no APDU is longer than 359 bytes
 
@@ -192,14 +192,14 @@ most_is n octets size true e few some = absurd (omega (arith, some))
 most_is n octets size false e few some = omega (arith, few, some, ltb-false 355 n e)
 
 -- If bytes are missing by the length `form`, those and the `size` bytes before are at most 358.
-most_by : (form : LengthForm) (size : ℕ) → IsFew form size → 0 < missing_behind form size → size + missing_behind form size ≤ 358
+most_by : (form : LengthForm) (size : ℕ) → IsFew form size → 0 < missing_after form size → size + missing_after form size ≤ 358
 most_by Truncated size few some = omega (arith, few)
 most_by Invalid size few some = absurd (omega (arith, some))
 most_by (Definite n octets) size few some = most_is n octets size (ltb 355 n) refl few some
 
 -- If bytes are missing after an identifier, those and `bytes` are at most 358.
-most_of : (o : Option ApduType) (bytes : List ℕ) → 0 < cond (is_some o) (missing_behind (length_of bytes) (length bytes)) 0
-    → length bytes + cond (is_some o) (missing_behind (length_of bytes) (length bytes)) 0 ≤ 358
+most_of : (o : Option ApduType) (bytes : List ℕ) → 0 < cond (is_some o) (missing_after (length_of bytes) (length bytes)) 0
+    → length bytes + cond (is_some o) (missing_after (length_of bytes) (length bytes)) 0 ≤ 358
 most_of None bytes some = absurd (omega (arith, some))
 most_of (Some apdu_type) bytes some = most_by (length_of bytes) (length bytes) (length_few bytes) some
 
@@ -214,18 +214,18 @@ most_missing (first ∷ bytes) some = omega (arith, missing_is first bytes, most
 pub unfinished_alone : (bytes : List ℕ) → 0 < missing_of bytes → IsUnfinished bytes
 unfinished_alone bytes some = subst IsUnfinished (append-nil bytes) (wanted bytes [] some)
 
--- Let `front` have unfinished proper prefixes, and `more` at most the bytes that it lacks.
--- Then the proper prefixes of `front ++ more` are unfinished.
-pub read_on : (front more : List ℕ) → AreUnfinished front → length more ≤ missing_of front → AreUnfinished (front ++ more)
-read_on front more fronts few size lt =
-    elim (cases_lt size (length front)) [
-      | inl shorter ↦ subst IsUnfinished (sym (take-append-le size front more (omega arith))) (fronts size shorter)
+-- Let `prefix` have unfinished proper prefixes, and `more` at most the bytes that it lacks.
+-- Then the proper prefixes of `prefix ++ more` are unfinished.
+pub read_on : (prefix more : List ℕ) → AreUnfinished prefix → length more ≤ missing_of prefix → AreUnfinished (prefix ++ more)
+read_on prefix more prefixes few size lt =
+    elim (cases_lt size (length prefix)) [
+      | inl shorter ↦ subst IsUnfinished (sym (take-append-le size prefix more (omega arith))) (prefixes size shorter)
       | inr le ↦
-          let k = size - length front in
-          let is : take size (front ++ more) ≡ front ++ take k more =
-          ap (λ (m : ℕ). take m (front ++ more)) (let e : size ≡ length front + k = omega (arith, le) in e) ∙ take-append-add front more k in
-          let fewer : k < length more = omega (arith, le, lt, length-append front more) in
-          subst IsUnfinished (sym is) (wanted front (take k more) (omega (arith, few, fewer, length-take-le k more (omega (arith, fewer)))))
+          let k = size - length prefix in
+          let is : take size (prefix ++ more) ≡ prefix ++ take k more =
+          ap (λ (m : ℕ). take m (prefix ++ more)) (let e : size ≡ length prefix + k = omega (arith, le) in e) ∙ take-append-add prefix more k in
+          let fewer : k < length more = omega (arith, le, lt, length-append prefix more) in
+          subst IsUnfinished (sym is) (wanted prefix (take k more) (omega (arith, few, fewer, length-take-le k more (omega (arith, fewer)))))
     ]
 
 -- The first `size + count` bytes after a put at `size` are `size` old ones and `count` of `buffer`.
@@ -234,12 +234,12 @@ pub filled : (size k count : ℕ) (bytes buffer : List ℕ) → size ≤ length 
 filled size k count bytes buffer fits few =
     let all = put_mid size k bytes buffer in
     let n = size + length buffer in
-    let front = take size bytes in
-    let long : length front ≡ size = length-take-le size bytes fits in
-    let whole : take n all ≡ front ++ buffer = take-put_mid size k bytes buffer n refl fits in
-    let parts : all ≡ (front ++ buffer) ++ drop n all = sym (take-append-drop n all) ∙ ap (λ (x : List ℕ). x ++ drop n all) whole in
-    ap (take (size + count)) parts ∙ take-append-le (size + count) (front ++ buffer) (drop n all) (omega (arith, long, few, length-append front buffer))
-    ∙ ap (λ (m : ℕ). take (m + count) (front ++ buffer)) (sym long) ∙ take-append-add front buffer count
+    let prefix = take size bytes in
+    let long : length prefix ≡ size = length-take-le size bytes fits in
+    let whole : take n all ≡ prefix ++ buffer = take-put_mid size k bytes buffer n refl fits in
+    let parts : all ≡ (prefix ++ buffer) ++ drop n all = sym (take-append-drop n all) ∙ ap (λ (x : List ℕ). x ++ drop n all) whole in
+    ap (take (size + count)) parts ∙ take-append-le (size + count) (prefix ++ buffer) (drop n all) (omega (arith, long, few, length-append prefix buffer))
+    ∙ ap (λ (m : ℕ). take (m + count) (prefix ++ buffer)) (sym long) ∙ take-append-add prefix buffer count
 
 -- If `buffer` fits into `bytes` at `size`, putting it there keeps the length of `bytes`.
 pub filled_length : (size k : ℕ) (bytes buffer : List ℕ) → length buffer ≡ k → size + k ≤ length bytes

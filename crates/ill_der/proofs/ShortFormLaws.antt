@@ -270,9 +270,9 @@ whole_body_faults values apdu_type left d e =
       ]
     ]
 
--- Returns the APDU with the transaction id and the number of `front`, and with `body`.
+-- Returns the APDU with the transaction id and the number of `prefix`, and with `body`.
 abbrev made : (Unit {0} × ((List ℕ × List ℕ) × ℕ)) → Body → Apdu
-made front body = record { txn = record { group = front.1.0.0; transaction = front.1.0.1 }; number = front.1.1; body = body }
+made prefix body = record { txn = record { group = prefix.1.0.0; transaction = prefix.1.0.1 }; number = prefix.1.1; body = body }
 
 -- Holds if `bytes` is the contents of `apdu`, of type `apdu_type` and in range.
 abbrev IsWhole : ApduType → List ℕ → Apdu → Type 0
@@ -283,13 +283,13 @@ inside_takes : Values → (apdu_type : ApduType) (left : Cursor) (apdu : Apdu) �
     → inside_of apdu_type left ≡ Ok apdu → IsWhole apdu_type left.bytes apdu
 unfolding inside_of
 inside_takes values apdu_type left apdu fits e =
-    let front = bind_ok (head.read left) (λ front. body_of apdu_type front.1 >>= λ body. Ok (made front.0 body)) apdu e in
-    let body = bind_ok (body_of apdu_type front.0.1) (λ body. Ok (made front.0.0 body)) apdu front.2 in
-    let is : made front.0.0 body.0 ≡ apdu = ok_is (made front.0.0 body.0) apdu body.2 in
-    let first = (head_is values).takes left front.0.0 front.0.1 fits front.1 in
-    let second = whole_body_takes values apdu_type front.0.1 body.0 first.2 body.1 in
-    let whole : left.bytes ≡ contents_of (made front.0.0 body.0) = first.0 ∙ ap (λ (x : List ℕ). head.spell front.0.0 ++ x) second.0 in
-    let parts : IsApdu (made front.0.0 body.0) = record {
+    let prefix = bind_ok (head.read left) (λ prefix. body_of apdu_type prefix.1 >>= λ body. Ok (made prefix.0 body)) apdu e in
+    let body = bind_ok (body_of apdu_type prefix.0.1) (λ body. Ok (made prefix.0.0 body)) apdu prefix.2 in
+    let is : made prefix.0.0 body.0 ≡ apdu = ok_is (made prefix.0.0 body.0) apdu body.2 in
+    let first = (head_is values).takes left prefix.0.0 prefix.0.1 fits prefix.1 in
+    let second = whole_body_takes values apdu_type prefix.0.1 body.0 first.2 body.1 in
+    let whole : left.bytes ≡ contents_of (made prefix.0.0 body.0) = first.0 ∙ ap (λ (x : List ℕ). head.spell prefix.0.0 ++ x) second.0 in
+    let parts : IsApdu (made prefix.0.0 body.0) = record {
       txn = record { group = first.1.1.0.0; transaction = first.1.1.0.1 };
       number = first.1.1.1;
       body = second.1;
@@ -301,15 +301,15 @@ inside_again : Values → (apdu : Apdu) (at : ℕ) → IsApdu apdu
     → inside_of (type_of apdu.body) (cursor_at at (contents_of apdu)) ≡ Ok apdu
 unfolding inside_of
 inside_again values apdu at is =
-    let front : Unit {0} × ((List ℕ × List ℕ) × ℕ) = (tt, ((apdu.txn.group, apdu.txn.transaction), apdu.number)) in
-    let first = (head_is values).again front at (spell_body apdu.body) (tt, ((is.txn.group, is.txn.transaction), is.number)) tt in
+    let prefix : Unit {0} × ((List ℕ × List ℕ) × ℕ) = (tt, ((apdu.txn.group, apdu.txn.transaction), apdu.number)) in
+    let first = (head_is values).again prefix at (spell_body apdu.body) (tt, ((is.txn.group, is.txn.transaction), is.number)) tt in
     rw (first.1, whole_body_again values apdu.body first.0 is.body) refl
 
 -- The contents of an APDU in range have at most 142 bytes more than its further fields.
 contents_by_body : Values → (apdu : Apdu) → IsApdu apdu → length (contents_of apdu) ≤ 142 + length (spell_body apdu.body)
 contents_by_body values apdu is =
-    let front : Unit {0} × ((List ℕ × List ℕ) × ℕ) = (tt, ((apdu.txn.group, apdu.txn.transaction), apdu.number)) in
-    omega (arith, length-append (head.spell front) (spell_body apdu.body), (head_is values).bound front (tt, ((is.txn.group, is.txn.transaction), is.number)))
+    let prefix : Unit {0} × ((List ℕ × List ℕ) × ℕ) = (tt, ((apdu.txn.group, apdu.txn.transaction), apdu.number)) in
+    omega (arith, length-append (head.spell prefix) (spell_body apdu.body), (head_is values).bound prefix (tt, ((is.txn.group, is.txn.transaction), is.number)))
 
 -- The contents of an APDU in range have at most 355 bytes.
 pub contents_bound : Values → (apdu : Apdu) → IsApdu apdu → length (contents_of apdu) ≤ 355
@@ -324,7 +324,7 @@ short_contents values apdu is other = omega (arith, contents_by_body values apdu
 pub inside_faults : Values → (apdu_type : ApduType) (left : Cursor) (d : DerFault) → inside_of apdu_type left ≡ Err d → IsInside d
 unfolding inside_of
 inside_faults values apdu_type left d e =
-    elim (bind_err (head.read left) (λ front. body_of apdu_type front.1 >>= λ body. Ok (made front.0 body)) d e) [
+    elim (bind_err (head.read left) (λ prefix. body_of apdu_type prefix.1 >>= λ body. Ok (made prefix.0 body)) d e) [
       | inl h ↦ (head_is values).faults left d h
       | inr h ↦ elim (bind_err (body_of apdu_type h.0.1) (λ body. Ok (made h.0.0 body)) d h.2) [
         | inl g ↦ whole_body_faults values apdu_type h.0.1 d g
@@ -366,18 +366,18 @@ abbrev pub outer_with : ApduType → ℕ → ℕ → List ℕ → Outer
 outer_with apdu_type n octets bytes = record { apdu_type = apdu_type; inside = cursor_at (1 + octets) (take n (drop octets bytes)); size = 1 + (octets + n) }
 
 -- Reads the contents of an APDU of a known type, by its length, from the bytes after the identifier.
-abbrev pub outer_behind : ApduType → LengthForm → List ℕ → Result Outer DerFault
-outer_behind apdu_type (Definite n octets) bytes =
+abbrev pub outer_after : ApduType → LengthForm → List ℕ → Result Outer DerFault
+outer_after apdu_type (Definite n octets) bytes =
     cond (ltb 355 n) (Err (Length 1)) (cond (ltb (length bytes) (octets + n)) (Err (Short (length bytes + 1))) (Ok (outer_with apdu_type n octets bytes)))
-outer_behind apdu_type Truncated bytes = Err (Short (length bytes + 1))
-outer_behind apdu_type Invalid bytes = Err (Length 1)
+outer_after apdu_type Truncated bytes = Err (Short (length bytes + 1))
+outer_after apdu_type Invalid bytes = Err (Length 1)
 
 -- Reads the length and the contents of an APDU from the bytes after the identifier, if that has a type.
 abbrev pub outer_of : Option ApduType → List ℕ → Result Outer DerFault
 outer_of None bytes = Err (Tag 0)
-outer_of (Some apdu_type) bytes = outer_behind apdu_type (length_of bytes) bytes
+outer_of (Some apdu_type) bytes = outer_after apdu_type (length_of bytes) bytes
 
--- For a definite length, reading the header and then the contents agrees with `outer_behind`.
+-- For a definite length, reading the header and then the contents agrees with `outer_after`.
 outer_in : (first : ℕ) (apdu_type : ApduType) (n octets : ℕ) (large : Bool) (bytes : List ℕ)
     → (cond large (Err (Length 1)) (Ok (record { apdu_type = apdu_type; start = 1 + octets; size = 1 + (octets + n) })) >>= λ header. outer_by header (first ∷ bytes))
     ≡ cond large (Err (Length 1)) (cond (ltb (length bytes) (octets + n)) (Err (Short (length bytes + 1))) (Ok (outer_with apdu_type n octets bytes)))
@@ -390,13 +390,13 @@ outer_in first apdu_type n octets false bytes =
       | inl lt ↦ lt-ltb (length all) (1 + (octets + n)) (omega (arith, lt)) ∙ sym (lt-ltb (length bytes) (octets + n) lt)
       | inr le ↦ le-ltb (length all) (1 + (octets + n)) (omega (arith, le)) ∙ sym (le-ltb (length bytes) (octets + n) le)
     ] in
-    let behind : drop (1 + octets) all ≡ drop octets bytes = sym (drop-drop octets 1 all) in
+    let later : drop (1 + octets) all ≡ drop octets bytes = sym (drop-drop octets 1 all) in
     let many : 1 + (octets + n) - (1 + octets) ≡ n = omega arith in
-    rw (fewer, count, behind, many) refl
+    rw (fewer, count, later, many) refl
 
--- For a known type, reading the header and then the contents agrees with `outer_behind`.
+-- For a known type, reading the header and then the contents agrees with `outer_after`.
 outer_cases : (first : ℕ) (apdu_type : ApduType) (form : LengthForm) (bytes : List ℕ)
-    → (header_by apdu_type form (length bytes + 1) >>= λ header. outer_by header (first ∷ bytes)) ≡ outer_behind apdu_type form bytes
+    → (header_by apdu_type form (length bytes + 1) >>= λ header. outer_by header (first ∷ bytes)) ≡ outer_after apdu_type form bytes
 outer_cases first apdu_type Truncated bytes = refl
 outer_cases first apdu_type Invalid bytes = refl
 outer_cases first apdu_type (Definite n octets) bytes = outer_in first apdu_type n octets (ltb 355 n) bytes
@@ -417,9 +417,9 @@ pub outer_none : outer_at [] ≡ Err (Short 0)
 unfolding outer_at header_at
 outer_none = refl
 
--- If `outer_behind` gives `outer`, and `first` is the octet of the type, `first ∷ bytes` begins with its element.
+-- If `outer_after` gives `outer`, and `first` is the octet of the type, `first ∷ bytes` begins with its element.
 outer_by_takes : (first : ℕ) (apdu_type : ApduType) (form : LengthForm) (bytes : List ℕ) (outer : Outer) → IsBytes bytes
-    → first ≡ identifier_of apdu_type → length_of bytes ≡ form → outer_behind apdu_type form bytes ≡ Ok outer
+    → first ≡ identifier_of apdu_type → length_of bytes ≡ form → outer_after apdu_type form bytes ≡ Ok outer
     → IsOuter (first ∷ bytes) outer
 outer_by_takes first apdu_type Truncated bytes outer fits k f e = absurd cc
 outer_by_takes first apdu_type Invalid bytes outer fits k f e = absurd cc
@@ -432,10 +432,10 @@ outer_by_takes first apdu_type (Definite n octets) bytes outer fits k f e =
     let taken = drop octets bytes in
     let size : length (take n taken) ≡ n = omega (arith, length-take n taken, length-drop octets bytes) in
     let split : taken ≡ take n taken ++ drop (octets + n) bytes = sym (take-append-drop n taken) ∙ ap (λ (x : List ℕ). take n taken ++ x) (drop-drop n octets bytes) in
-    let behind : drop (1 + (octets + n)) (first ∷ bytes) ≡ drop (octets + n) bytes = sym (drop-drop (octets + n) 1 (first ∷ bytes)) in
+    let later : drop (1 + (octets + n)) (first ∷ bytes) ≡ drop (octets + n) bytes = sym (drop-drop (octets + n) 1 (first ∷ bytes)) in
     let parts : first ∷ bytes ≡ element (identifier_of apdu_type) (take n taken) ++ drop (1 + (octets + n)) (first ∷ bytes) =
     assembled (identifier_of apdu_type) n octets (first ∷ bytes) bytes (take n taken) (drop (octets + n) bytes) (ap (λ (x : ℕ). x ∷ bytes) k) spelled.0 split size
-    ∙ ap (λ (x : List ℕ). element (identifier_of apdu_type) (take n taken) ++ x) (sym behind) in
+    ∙ ap (λ (x : List ℕ). element (identifier_of apdu_type) (take n taken) ++ x) (sym later) in
     subst (λ (x : Outer). IsOuter (first ∷ bytes) x) is (record { parts = parts; inside_fits = IsBytes-take n taken (IsBytes-drop octets bytes fits) })
 
 -- If `outer_of` gives `outer`, and `o` is the type with `first`, `first ∷ bytes` begins with its element.
@@ -456,9 +456,9 @@ abbrev OuterAgain : ApduType → List ℕ → List ℕ → Type 0
 OuterAgain apdu_type contents more =
     (at : ℕ) × (outer_at (element (identifier_of apdu_type) contents ++ more) ≡ Ok (record { apdu_type = apdu_type; inside = cursor_at at contents; size = length (element (identifier_of apdu_type) contents) }))
 
--- `outer_behind` reads `contents` after the length octets, whatever follows, if they are at most 355.
+-- `outer_after` reads `contents` after the length octets, whatever follows, if they are at most 355.
 outer_by_again : (apdu_type : ApduType) (octets contents more : List ℕ) → length contents ≤ 355
-    → outer_behind apdu_type (Definite (length contents) (length octets)) (octets ++ (contents ++ more))
+    → outer_after apdu_type (Definite (length contents) (length octets)) (octets ++ (contents ++ more))
     ≡ Ok (record { apdu_type = apdu_type; inside = cursor_at (1 + length octets) contents; size = 1 + (length octets + length contents) })
 outer_by_again apdu_type octets contents more small =
     let all = octets ++ (contents ++ more) in
@@ -475,15 +475,15 @@ unfolding element
 outer_again apdu_type contents more small =
     let octets = length_octets (length contents) in
     let identifier = identifier_of apdu_type in
-    let behind = (octets ++ contents) ++ more in
+    let later = (octets ++ contents) ++ more in
     let size : 1 + (length octets + length contents) ≡ length (identifier ∷ (octets ++ contents)) = omega (arith, length-append octets contents) in
-    let read : outer_of (type_with identifier) behind ≡ Ok (record { apdu_type = apdu_type; inside = cursor_at (1 + length octets) contents; size = length (identifier ∷ (octets ++ contents)) }) =
+    let read : outer_of (type_with identifier) later ≡ Ok (record { apdu_type = apdu_type; inside = cursor_at (1 + length octets) contents; size = length (identifier ∷ (octets ++ contents)) }) =
     rw (type_again apdu_type, append_assoc octets contents more, length_again (length contents) (contents ++ more) (omega arith)) (rw (← size) (outer_by_again apdu_type octets contents more small)) in
-    (1 + length octets, outer_is identifier behind ∙ read)
+    (1 + length octets, outer_is identifier later ∙ read)
 
--- If `outer_behind` is `Short n`, `n` is the number of `bytes` and the identifier, and `bytes` are at most 357.
+-- If `outer_after` is `Short n`, `n` is the number of `bytes` and the identifier, and `bytes` are at most 357.
 outer_by_short : (apdu_type : ApduType) (form : LengthForm) (bytes : List ℕ) (n : ℕ) → IsFew form (length bytes)
-    → outer_behind apdu_type form bytes ≡ Err (Short n) → (n ≡ length bytes + 1) × (length bytes ≤ 357)
+    → outer_after apdu_type form bytes ≡ Err (Short n) → (n ≡ length bytes + 1) × (length bytes ≤ 357)
 outer_by_short apdu_type Truncated bytes n few e = (sym (short_is (length bytes + 1) n e), omega arith)
 outer_by_short apdu_type Invalid bytes n few e = absurd (length_inside 1 (Short n) e)
 outer_by_short apdu_type (Definite m octets) bytes n few e =
@@ -511,8 +511,8 @@ outer_short (first ∷ bytes) n e =
 -- ---- whole APDUs
 
 -- Holds if `bytes` is the encoding of `apdu`, which is in range, and then `rest`.
-abbrev IsAtFront : List ℕ → Apdu → List ℕ → Type 0
-IsAtFront bytes apdu rest = IsApdu apdu × (bytes ≡ spelling apdu ++ rest)
+abbrev IsAtPrefix : List ℕ → Apdu → List ℕ → Type 0
+IsAtPrefix bytes apdu rest = IsApdu apdu × (bytes ≡ spelling apdu ++ rest)
 
 -- If `apdu_at` reads `apdu` from `bytes`, `bytes` is the encoding of `apdu`, which is in range, and then `rest`.
 pub apdu_takes : Values → (bytes : List ℕ) (apdu : Apdu) (rest : List ℕ) → IsBytes bytes
@@ -529,7 +529,7 @@ apdu_takes values bytes apdu rest fits e =
     let parts : bytes ≡ element (identifier_of (type_of inner.0.body)) (contents_of inner.0) ++ drop size bytes =
     whole.parts ∙ ap (λ (x : List ℕ). element (identifier_of apdu_type) x ++ drop size bytes) inside.0
     ∙ ap (λ (k : ApduType). element (identifier_of k) (contents_of inner.0) ++ drop size bytes) (sym inside.2) in
-    subst (λ (x : Apdu × List ℕ). IsAtFront bytes x.0 x.1) both (inside.1, parts)
+    subst (λ (x : Apdu × List ℕ). IsAtPrefix bytes x.0 x.1) both (inside.1, parts)
 
 -- `apdu_at` reads each APDU in range from its encoding, whatever follows.
 pub apdu_again : Values → (apdu : Apdu) (rest : List ℕ) → IsApdu apdu → apdu_at (spelling apdu ++ rest) ≡ Ok (apdu, rest)
@@ -538,8 +538,8 @@ apdu_again values apdu rest is =
     let text = element (identifier_of (type_of apdu.body)) (contents_of apdu) in
     let outer = outer_again (type_of apdu.body) (contents_of apdu) rest (contents_bound values apdu is) in
     let inner = inside_again values apdu outer.0 is in
-    let behind : drop (length text) (text ++ rest) ≡ rest = drop_at text rest (length text) refl in
-    rw (outer.1, inner, behind) refl
+    let later : drop (length text) (text ++ rest) ≡ rest = drop_at text rest (length text) refl in
+    rw (outer.1, inner, later) refl
 
 -- If `apdu_at bytes` is `Short n`, `n` is the number of `bytes`, which is at most 358.
 pub apdu_short : Values → (bytes : List ℕ) (n : ℕ) → apdu_at bytes ≡ Err (Short n) → (n ≡ length bytes) × (length bytes ≤ 358)
@@ -553,9 +553,9 @@ apdu_short values bytes n e =
       ]
     ]
 
--- The fault of `outer_behind` is never OutOfMemory.
+-- The fault of `outer_after` is never OutOfMemory.
 outer_by_memory : (apdu_type : ApduType) (form : LengthForm) (bytes : List ℕ)
-    → outer_behind apdu_type form bytes ≡ Err OutOfMemory → ⊥
+    → outer_after apdu_type form bytes ≡ Err OutOfMemory → ⊥
 outer_by_memory apdu_type Truncated bytes e = short_or_memory (length bytes + 1) e
 outer_by_memory apdu_type Invalid bytes e = length_inside 1 OutOfMemory e
 outer_by_memory apdu_type (Definite m octets) bytes e =
@@ -630,10 +630,10 @@ same_contents : (n octets : ℕ) (bytes more : List ℕ) → octets + n ≤ leng
 same_contents n octets bytes more enough =
     ap (take n) (drop-append-le octets bytes more (omega arith)) ∙ take-append-le n (drop octets bytes) more (omega (arith, length-drop octets bytes))
 
--- If `outer_behind` reads `outer` from `bytes`, the length is final, and `outer` is read from `bytes ++ more`.
+-- If `outer_after` reads `outer` from `bytes`, the length is final, and `outer` is read from `bytes ++ more`.
 outer_by_more : (apdu_type : ApduType) (form : LengthForm) (bytes more : List ℕ) (outer : Outer)
-    → outer_behind apdu_type form bytes ≡ Ok outer
-    → IsFinal form × (outer_behind apdu_type form (bytes ++ more) ≡ Ok outer)
+    → outer_after apdu_type form bytes ≡ Ok outer
+    → IsFinal form × (outer_after apdu_type form (bytes ++ more) ≡ Ok outer)
 outer_by_more apdu_type Truncated bytes more outer e = absurd cc
 outer_by_more apdu_type Invalid bytes more outer e = absurd cc
 outer_by_more apdu_type (Definite n octets) bytes more outer e =
@@ -649,7 +649,7 @@ outer_of_more : (first : ℕ) (o : Option ApduType) (bytes more : List ℕ) (out
 outer_of_more first None bytes more outer e = absurd cc
 outer_of_more first (Some apdu_type) bytes more outer e =
     let is = outer_by_more apdu_type (length_of bytes) bytes more outer e in
-    ap (λ (form : LengthForm). outer_behind apdu_type form (bytes ++ more)) (length_more bytes more is.0) ∙ is.1
+    ap (λ (form : LengthForm). outer_after apdu_type form (bytes ++ more)) (length_more bytes more is.0) ∙ is.1
 
 -- If `outer_at` reads `outer` from `bytes`, it reads `outer` from `bytes ++ more`.
 outer_more : (bytes more : List ℕ) (outer : Outer) → outer_at bytes ≡ Ok outer → outer_at (bytes ++ more) ≡ Ok outer
@@ -657,9 +657,9 @@ outer_more [] more outer e = absurd (no_value (Short 0) outer (sym e ∙ outer_n
 outer_more (first ∷ bytes) more outer e =
     outer_is first (bytes ++ more) ∙ outer_of_more first (type_with first) bytes more outer (sym (outer_is first bytes) ∙ e)
 
--- If `outer_behind` has a fault other than Short, the length is final, and `bytes ++ more` has the fault.
+-- If `outer_after` has a fault other than Short, the length is final, and `bytes ++ more` has the fault.
 outer_by_stays : (apdu_type : ApduType) (form : LengthForm) (bytes more : List ℕ) (d : DerFault) → IfShort d ⊥
-    → outer_behind apdu_type form bytes ≡ Err d → IsFinal form × (outer_behind apdu_type form (bytes ++ more) ≡ Err d)
+    → outer_after apdu_type form bytes ≡ Err d → IsFinal form × (outer_after apdu_type form (bytes ++ more) ≡ Err d)
 outer_by_stays apdu_type Truncated bytes more d other e =
     absurd (subst (λ (f : DerFault). IfShort f ⊥) (sym (fault_is (Short (length bytes + 1)) d e)) other)
 outer_by_stays apdu_type Invalid bytes more d other e = (tt, e)
@@ -678,7 +678,7 @@ outer_of_stays : (o : Option ApduType) (bytes more : List ℕ) (d : DerFault) �
 outer_of_stays None bytes more d other e = e
 outer_of_stays (Some apdu_type) bytes more d other e =
     let is = outer_by_stays apdu_type (length_of bytes) bytes more d other e in
-    ap (λ (form : LengthForm). outer_behind apdu_type form (bytes ++ more)) (length_more bytes more is.0) ∙ is.1
+    ap (λ (form : LengthForm). outer_after apdu_type form (bytes ++ more)) (length_more bytes more is.0) ∙ is.1
 
 -- If `outer_at` has a fault of `bytes` other than Short, it has that fault of `bytes ++ more`.
 outer_stays : (bytes more : List ℕ) (d : DerFault) → IfShort d ⊥ → outer_at bytes ≡ Err d → outer_at (bytes ++ more) ≡ Err d

@@ -31,36 +31,36 @@ decodes_err bytes (Err f) fault h = inl (let e : f ≡ fault = cc in ap Err e)
 -- If the proper prefixes of `bytes` are unfinished, and `apdu_at` reads `apdu`, all of `bytes` is its encoding.
 exact : Values → (bytes rest : List ℕ) (apdu : Apdu) → IsBytes bytes → AreUnfinished bytes
     → apdu_at bytes ≡ Ok (apdu, rest) → IsApdu apdu × (bytes ≡ spelling apdu)
-exact values bytes [] apdu fits fronts e =
+exact values bytes [] apdu fits prefixes e =
     let taken = apdu_takes values bytes apdu [] fits e in
     (taken.0, taken.1 ∙ append-nil (spelling apdu))
-exact values bytes (x ∷ rest) apdu fits fronts e =
+exact values bytes (x ∷ rest) apdu fits prefixes e =
     let taken = apdu_takes values bytes apdu (x ∷ rest) fits e in
     let text = spelling apdu in
     let longer : length text < length bytes = omega (arith, ap length taken.1, length-append text (x ∷ rest)) in
-    let front : take (length text) bytes ≡ text = ap (take (length text)) taken.1 ∙ take_at text (x ∷ rest) (length text) refl in
+    let prefix : take (length text) bytes ≡ text = ap (take (length text)) taken.1 ∙ take_at text (x ∷ rest) (length text) refl in
     let again : apdu_at text ≡ Ok (apdu, []) = ap apdu_at (sym (append-nil text)) ∙ apdu_again values apdu [] taken.0 in
-    absurd (no_value (Short (length (take (length text) bytes))) (apdu, []) (sym again ∙ ap apdu_at (sym front) ∙ fronts (length text) longer))
+    absurd (no_value (Short (length (take (length text) bytes))) (apdu, []) (sym again ∙ ap apdu_at (sym prefix) ∙ prefixes (length text) longer))
 
 -- If the proper prefixes of `bytes` are unfinished, and decoding gives an APDU, all of `bytes` is its encoding.
 pub spelled_exactly : Values → (bytes : List ℕ) (found : Apdu × ℕ) → IsBytes bytes → AreUnfinished bytes
     → Decodes bytes (apdu_at bytes) (Ok found) → IsApdu found.0 × (bytes ≡ spelling found.0)
-spelled_exactly values bytes found fits fronts h =
-    exact values bytes (drop found.1 bytes) found.0 fits fronts (decodes_ok bytes (apdu_at bytes) found h)
+spelled_exactly values bytes found fits prefixes h =
+    exact values bytes (drop found.1 bytes) found.0 fits prefixes (decodes_ok bytes (apdu_at bytes) found h)
 
 -- If the proper prefixes of `bytes` are unfinished, and memory ran out, `bytes` is the encoding of one APDU.
 pub spelled_without_memory : Values → (bytes : List ℕ) → IsBytes bytes → AreUnfinished bytes
     → Decodes bytes (apdu_at bytes) (Err OutOfMemory) → SpellsOne bytes
-spelled_without_memory values bytes fits fronts h =
+spelled_without_memory values bytes fits prefixes h =
     elim (decodes_err bytes (apdu_at bytes) OutOfMemory h) [
       | inl e ↦ absurd (apdu_memory values bytes e)
-      | inr e ↦ let is = exact values bytes e.1.0.1 e.1.0.0 fits fronts e.1.1 in (e.1.0.0, is.0, is.1)
+      | inr e ↦ let is = exact values bytes e.1.0.1 e.1.0.0 fits prefixes e.1.1 in (e.1.0.0, is.0, is.1)
     ]
 
 -- ---- reads one after another
 
--- If a reader gives `front` and then no bytes, it gives `front` in all.
-pub consumes_nothing : (old middle new : Option (List ℕ)) (front : List ℕ) → Consumes old middle front
-    → Consumes middle new [] → Consumes old new front
-consumes_nothing old middle new front first second =
-    subst (Consumes old new) (append-nil front) (Consumes-trans old middle new front [] first second)
+-- If a reader gives `prefix` and then no bytes, it gives `prefix` in all.
+pub consumes_nothing : (old middle new : Option (List ℕ)) (prefix : List ℕ) → Consumes old middle prefix
+    → Consumes middle new [] → Consumes old new prefix
+consumes_nothing old middle new prefix first second =
+    subst (Consumes old new) (append-nil prefix) (Consumes-trans old middle new prefix [] first second)

@@ -2,9 +2,9 @@
 use Rattle.std.specs.Prelude.{◌≡◌, ℕ, ◌<◌, List, ◌++◌, length}
 
 -- Holds if `new` is `old` and a proper prefix of `text`, which may be empty.
-pub record AddsFront (old new text : List ℕ) : Type 0 where
-  pub front : List ℕ
+pub record AddsPrefix (old new text : List ℕ) : Type 0 where
+  pub prefix : List ℕ
   pub rest : List ℕ
-  pub parts : text ≡ front ++ rest
-  pub added : new ≡ old ++ front
+  pub parts : text ≡ prefix ++ rest
+  pub added : new ≡ old ++ prefix
   pub lacks : 0 < length rest

@@ -156,10 +156,10 @@ body_of apdu_type left = read_body apdu_type left >>= λ body. ended body.1 >>= 
 -- Returns the APDU whose contents are all of `left`.
 unfoldable pub inside_of : ApduType → Cursor → Result Apdu DerFault
 inside_of apdu_type left =
-    head.read left >>= λ front. body_of apdu_type front.1 >>= λ body.
+    head.read left >>= λ prefix. body_of apdu_type prefix.1 >>= λ body.
     Ok (record {
-      txn = record { group = front.0.1.0.0; transaction = front.0.1.0.1 };
-      number = front.0.1.1;
+      txn = record { group = prefix.0.1.0.0; transaction = prefix.0.1.0.1 };
+      number = prefix.0.1.1;
       body = body;
     })
 

@@ -4,7 +4,7 @@ ghost use Rattle.std.specs.Prelude.{◌≡◌, ◌<◌, ◌≤◌, ◌++◌, ◌
 ghost use Rattle.ill_values.specs.Day.{IsDate};
 ghost use Rattle.ill_values.specs.TxnId.{AreQualifiers};
 ghost use Rattle.ill_values.specs.Apdu.{IsApdu, IsBody, IsNumber};
-ghost use Rattle.ill_der.specs.Adding.{AddsFront};
+ghost use Rattle.ill_der.specs.Adding.{AddsPrefix};
 ghost use Rattle.ill_der.specs.Contents.{answer_result, code_of, date, number, number_octets, yes_no};
 ghost use Rattle.ill_der.specs.Format.{element, length_octets, optional, required};
 ghost use Rattle.ill_der.specs.ShortForm.{due_date, grant, head_of, reply, spell_body, spelling, txn_id};
@@ -31,7 +31,7 @@ pub fn encode(alloc: Global, apdu: &Apdu) -> Result<Vec<u8>, OutOfMemory>
 #[tactic(auto, unfolding(crate::specs::ShortForm::spelling, crate::specs::Format::element))]
 pub fn encode_onto(bytes: &mut Vec<u8>, apdu: &Apdu) -> Result<(), OutOfMemory>
     ensures spelled { OnOk result (bytes.new.items ≡ bytes.old.items ++ spelling apdu.now) }
-    ensures front { OnErr result (AddsFront bytes.old.items bytes.new.items (spelling apdu.now)) }
+    ensures prefix { OnErr result (AddsPrefix bytes.old.items bytes.new.items (spelling apdu.now)) }
     ensures range { OnOk result (IsApdu apdu.now) }
 {
     push_start(
@@ -46,7 +46,7 @@ pub fn encode_onto(bytes: &mut Vec<u8>, apdu: &Apdu) -> Result<(), OutOfMemory>
 /// Appends the fields that each APDU has.
 fn push_head(bytes: &mut Vec<u8>, apdu: &Apdu) -> Result<(), OutOfMemory>
     ensures bytes { OnOk result (bytes.new.items ≡ bytes.old.items ++ head_of apdu.now) }
-    ensures front { OnErr result (AddsFront bytes.old.items bytes.new.items (head_of apdu.now)) }
+    ensures prefix { OnErr result (AddsPrefix bytes.old.items bytes.new.items (head_of apdu.now)) }
     ensures range { OnOk result (AreQualifiers apdu.now.txn × IsNumber apdu.now.number) }
 {
     push_element(bytes, tags::VERSION, &[1])?;
@@ -58,7 +58,7 @@ fn push_head(bytes: &mut Vec<u8>, apdu: &Apdu) -> Result<(), OutOfMemory>
 fn push_id(bytes: &mut Vec<u8>, id: &TxnId) -> Result<(), OutOfMemory>
     ensures bytes { OnOk result (bytes.new.items ≡ bytes.old.items
         ++ txn_id.spell (id.now.group, id.now.transaction)) }
-    ensures front { OnErr result (AddsFront bytes.old.items bytes.new.items
+    ensures prefix { OnErr result (AddsPrefix bytes.old.items bytes.new.items
         (txn_id.spell (id.now.group, id.now.transaction))) }
     ensures range { OnOk result (AreQualifiers id.now) }
 {
@@ -70,7 +70,7 @@ fn push_id(bytes: &mut Vec<u8>, id: &TxnId) -> Result<(), OutOfMemory>
 /// Appends the further fields of `body`.
 fn push_body(bytes: &mut Vec<u8>, body: &Body) -> Result<(), OutOfMemory>
     ensures bytes { OnOk result (bytes.new.items ≡ bytes.old.items ++ spell_body body.now) }
-    ensures front { OnErr result (AddsFront bytes.old.items bytes.new.items (spell_body body.now)) }
+    ensures prefix { OnErr result (AddsPrefix bytes.old.items bytes.new.items (spell_body body.now)) }
     ensures range { OnOk result (IsBody body.now) }
 {
     match body {
@@ -97,7 +97,7 @@ fn push_body(bytes: &mut Vec<u8>, body: &Body) -> Result<(), OutOfMemory>
 fn push_grant(bytes: &mut Vec<u8>, answers: Number, granted: Option<Day>) -> Result<(), OutOfMemory>
     ensures bytes { OnOk result (bytes.new.items ≡ bytes.old.items
         ++ grant.spell (answers, granted)) }
-    ensures front { OnErr result (AddsFront bytes.old.items bytes.new.items
+    ensures prefix { OnErr result (AddsPrefix bytes.old.items bytes.new.items
         (grant.spell (answers, granted))) }
     ensures range { OnOk result (IsNumber answers × IfSome granted IsDate) }
 {
@@ -107,7 +107,7 @@ fn push_grant(bytes: &mut Vec<u8>, answers: Number, granted: Option<Day>) -> Res
 
 fn push_reply(bytes: &mut Vec<u8>, answers: Number, yes: bool) -> Result<(), OutOfMemory>
     ensures bytes { OnOk result (bytes.new.items ≡ bytes.old.items ++ reply.spell (answers, yes)) }
-    ensures front { OnErr result (AddsFront bytes.old.items bytes.new.items
+    ensures prefix { OnErr result (AddsPrefix bytes.old.items bytes.new.items
         (reply.spell (answers, yes))) }
     ensures range { OnOk result (IsNumber answers) }
 {
@@ -118,7 +118,7 @@ fn push_reply(bytes: &mut Vec<u8>, answers: Number, yes: bool) -> Result<(), Out
 fn push_optional_date(bytes: &mut Vec<u8>, day: Option<Day>) -> Result<(), OutOfMemory>
     ensures bytes { OnOk result (bytes.new.items ≡ bytes.old.items
         ++ (optional 0x85 date).spell day) }
-    ensures front { OnErr result (AddsFront bytes.old.items bytes.new.items
+    ensures prefix { OnErr result (AddsPrefix bytes.old.items bytes.new.items
         ((optional 0x85 date).spell day)) }
     ensures range { OnOk result (IfSome day IsDate) }
 {
@@ -130,7 +130,7 @@ fn push_optional_date(bytes: &mut Vec<u8>, day: Option<Day>) -> Result<(), OutOf
 
 fn push_date(bytes: &mut Vec<u8>, day: Day) -> Result<(), OutOfMemory>
     ensures bytes { OnOk result (bytes.new.items ≡ bytes.old.items ++ due_date.spell day) }
-    ensures front { OnErr result (AddsFront bytes.old.items bytes.new.items (due_date.spell day)) }
+    ensures prefix { OnErr result (AddsPrefix bytes.old.items bytes.new.items (due_date.spell day)) }
     ensures range { OnOk result (IsDate day) }
 {
     push_element(bytes, tags::DATE, &day.digits())
@@ -140,7 +140,7 @@ fn push_date(bytes: &mut Vec<u8>, day: Day) -> Result<(), OutOfMemory>
 fn push_number(bytes: &mut Vec<u8>, identifier: u8, number: Number) -> Result<(), OutOfMemory>
     ensures bytes { OnOk result (bytes.new.items ≡ bytes.old.items
         ++ element identifier (number_octets number)) }
-    ensures front { OnErr result (AddsFront bytes.old.items bytes.new.items
+    ensures prefix { OnErr result (AddsPrefix bytes.old.items bytes.new.items
         (element identifier (number_octets number))) }
     ensures range { OnOk result (IsNumber number) }
 {
@@ -157,7 +157,7 @@ fn push_number(bytes: &mut Vec<u8>, identifier: u8, number: Number) -> Result<()
 fn push_element(bytes: &mut Vec<u8>, identifier: u8, contents: &[u8]) -> Result<(), OutOfMemory>
     requires { length contents.now < 65536 }
     ensures bytes { OnOk result (bytes.new.items ≡ bytes.old.items ++ element identifier contents.now) }
-    ensures front { OnErr result (AddsFront bytes.old.items bytes.new.items
+    ensures prefix { OnErr result (AddsPrefix bytes.old.items bytes.new.items
         (element identifier contents.now)) }
 {
     push_start(bytes, identifier, contents.len())?;
@@ -171,7 +171,7 @@ fn push_start(bytes: &mut Vec<u8>, identifier: u8, contents: usize) -> Result<()
     requires { contents < 65536 }
     ensures bytes { OnOk result (bytes.new.items ≡ bytes.old.items
         ++ identifier ∷ length_octets contents) }
-    ensures front { OnErr result (AddsFront bytes.old.items bytes.new.items
+    ensures prefix { OnErr result (AddsPrefix bytes.old.items bytes.new.items
         (identifier ∷ length_octets contents)) }
 {
     bytes.push(identifier)?;

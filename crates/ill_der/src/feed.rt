@@ -132,8 +132,8 @@ impl Feed {
         let filled = fill(&mut self.buffer, self.size, piece);
         match handle_first(self.alloc, &self.buffer[..filled], context, handler) {
             Ok(Ok(end)) => {
-                let behind = end - self.size;
-                self.go_on(&piece[behind..], context, handler)
+                let after = end - self.size;
+                self.go_on(&piece[after..], context, handler)
             }
             Ok(Err(fault)) => match closing(fault) {
                 None => {

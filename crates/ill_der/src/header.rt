@@ -36,8 +36,8 @@ pub fn header_at(bytes: &[u8]) -> Result<Header, DerFault>
 {
     match bytes {
         [] => Err(DerFault::Short(0)),
-        [identifier, behind @ ..] => match type_with(*identifier) {
-            Some(apdu_type) => header_by(apdu_type, behind),
+        [identifier, after @ ..] => match type_with(*identifier) {
+            Some(apdu_type) => header_by(apdu_type, after),
             None => Err(DerFault::Tag(0)),
         },
     }

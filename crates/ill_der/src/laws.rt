@@ -83,9 +83,9 @@ pub fn short_has_the_size()
 
 /// Two pushes, one after the other, give the APDUs and the feed of one push of both pieces.
 pub fn two_pushes()
-    ensures { (old middle new : Unread) (front piece : List ℕ) (first more : List Apdu) →
-        Feeds old front first middle → Feeds middle piece more new →
-        Feeds old (front ++ piece) (first ++ more) new }
+    ensures { (old middle new : Unread) (prefix piece : List ℕ) (first more : List Apdu) →
+        Feeds old prefix first middle → Feeds middle piece more new →
+        Feeds old (prefix ++ piece) (first ++ more) new }
 {}
 
 /// A feed gives equal APDUs for all ways to cut bytes into pieces, and comes to equal ends.

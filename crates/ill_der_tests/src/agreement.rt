@@ -15,7 +15,7 @@ pub fn differing_at_apdu(
     apdu: &Apdu,
     count: usize,
 ) -> Option<&'static [u8]> {
-    let Some((spelling, behind)) = bytes.split_at_checked(count) else {
+    let Some((spelling, after)) = bytes.split_at_checked(count) else {
         return Some(b"decode");
     };
     if quietly(alloc, || size(apdu)) != count {
@@ -26,7 +26,7 @@ pub fn differing_at_apdu(
         Some(b"encode_onto")
     } else if !is_written(alloc, apdu, spelling) {
         Some(b"write_apdu")
-    } else if !is_read(alloc, bytes, apdu, behind) {
+    } else if !is_read(alloc, bytes, apdu, after) {
         Some(b"read_apdu")
     } else {
         differing_value(alloc, apdu)
@@ -40,7 +40,7 @@ fn is_encoded(alloc: Global, apdu: &Apdu, spelling: &[u8]) -> bool {
     }
 }
 
-/// Returns true if the APDU is added behind what is there. Without memory a proper front of it may be added.
+/// Returns true if the APDU is added after what is there. Without memory a proper prefix of it may be added.
 fn is_added(alloc: Global, apdu: &Apdu, spelling: &[u8]) -> bool {
     for _ in 0..marks::TRIES {
         let Ok(mut bytes) = Vec::from_slice(alloc, b"#") else {
@@ -62,7 +62,7 @@ fn is_added(alloc: Global, apdu: &Apdu, spelling: &[u8]) -> bool {
     false
 }
 
-/// Returns true if the APDU is written behind what the writer has, and nothing is written without memory. The writer
+/// Returns true if the APDU is written after what the writer has, and nothing is written without memory. The writer
 /// has room, so that it takes no memory itself.
 fn is_written(alloc: Global, apdu: &Apdu, spelling: &[u8]) -> bool {
     let Ok(mut writer) = Vec::with_capacity(alloc, spelling.len() + 1) else {
@@ -79,11 +79,11 @@ fn is_written(alloc: Global, apdu: &Apdu, spelling: &[u8]) -> bool {
     }
 }
 
-/// Returns true if the APDU is read, and these bytes behind it are left. Without memory they are left too.
-fn is_read(alloc: Global, bytes: &[u8], apdu: &Apdu, behind: &[u8]) -> bool {
+/// Returns true if the APDU is read, and these bytes after it are left. Without memory they are left too.
+fn is_read(alloc: Global, bytes: &[u8], apdu: &Apdu, after: &[u8]) -> bool {
     let reading = Reading::of(alloc, bytes);
     match &reading.answer {
-        Ok(Some(found)) => *found == *apdu && reading.left == behind && reading.is_steady,
+        Ok(Some(found)) => *found == *apdu && reading.left == after && reading.is_steady,
         _ => false,
     }
 }
@@ -140,19 +140,19 @@ pub fn differing_at_fault(alloc: Global, bytes: &[u8], fault: DerFault) -> Optio
     }
 }
 
-/// Returns true if the bytes before those that are left are the shortest front with the fault. If the bytes are short,
+/// Returns true if the bytes before those that are left are the shortest prefix with the fault. If the bytes are short,
 /// nothing may be left.
 fn is_taken(alloc: Global, bytes: &[u8], left: &[u8], fault: DerFault) -> bool {
     if let DerFault::Short(_) = fault {
         return left.is_empty();
     }
-    let Some(front) = bytes.strip_suffix(left) else {
+    let Some(prefix) = bytes.strip_suffix(left) else {
         return false;
     };
-    let Some((_, shorter)) = front.split_last() else {
+    let Some((_, shorter)) = prefix.split_last() else {
         return false;
     };
-    has_fault(alloc, front, fault) && !has_fault(alloc, shorter, fault)
+    has_fault(alloc, prefix, fault) && !has_fault(alloc, shorter, fault)
 }
 
 fn has_fault(alloc: Global, bytes: &[u8], fault: DerFault) -> bool {

@@ -35,7 +35,7 @@ fn push_case(alloc: Global, output: &mut Page, line: &str) {
     if !line.is_empty() && !line.starts_with("#") {
         let mut answers = Page::new(alloc);
         push_answers(alloc, &mut answers, line);
-        output.page_behind(INDENT.as_bytes(), &answers);
+        output.page_after(INDENT.as_bytes(), &answers);
     }
 }
 
@@ -65,7 +65,7 @@ fn push_answers_to_bytes(alloc: Global, output: &mut Page, form: &str, words: &s
 fn push_form(alloc: Global, output: &mut Page, form: &str, bytes: &[u8]) {
     match form {
         "" => push_line(output, &answer_to(alloc, bytes)),
-        "each proper front" => push_fronts(alloc, output, bytes),
+        "each proper front" => push_prefixes(alloc, output, bytes),
         "one after another" => push_stream(alloc, output, bytes),
         "byte by byte" => push_singly(alloc, output, bytes),
         "cut in two at each place" => push_halves(alloc, output, bytes),
@@ -131,12 +131,12 @@ fn answer_to(alloc: Global, bytes: &[u8]) -> Page {
     answer
 }
 
-/// Adds the answers to the proper fronts that are not short at their ends, and how many fronts there are.
-fn push_fronts(alloc: Global, output: &mut Page, bytes: &[u8]) {
+/// Adds the answers to the proper prefixes that are not short at their ends, and how many prefixes there are.
+fn push_prefixes(alloc: Global, output: &mut Page, bytes: &[u8]) {
     for size in 0..bytes.len() {
-        let front = &bytes[..size];
-        if !is_short(alloc, front) {
-            push_line(output, &answer_to(alloc, front));
+        let prefix = &bytes[..size];
+        if !is_short(alloc, prefix) {
+            push_line(output, &answer_to(alloc, prefix));
         }
     }
     output.push(b"fronts, short at their ends but for those above: ");
@@ -158,12 +158,12 @@ fn is_short(alloc: Global, bytes: &[u8]) -> bool {
 /// Adds the answers with each octet in turn at this place, each with the first octet of those in a row
 /// that have it.
 fn push_octets(alloc: Global, output: &mut Page, place: usize, bytes: &[u8]) {
-    let Some((before, [_, behind @ ..])) = bytes.split_at_checked(place) else {
+    let Some((before, [_, after @ ..])) = bytes.split_at_checked(place) else {
         return output.line("no case");
     };
     let mut last = Page::new(alloc);
     for octet in 0..=u8::MAX {
-        let answer = answer_between(alloc, before, octet, behind);
+        let answer = answer_between(alloc, before, octet, after);
         if answer.so_far() != last.so_far() {
             push_from(output, octet);
             push_line(output, &answer);
@@ -173,11 +173,11 @@ fn push_octets(alloc: Global, output: &mut Page, place: usize, bytes: &[u8]) {
 }
 
 /// The answer to these bytes in a row.
-fn answer_between(alloc: Global, before: &[u8], octet: u8, behind: &[u8]) -> Page {
+fn answer_between(alloc: Global, before: &[u8], octet: u8, after: &[u8]) -> Page {
     let mut bytes = Page::new(alloc);
     bytes.push(before);
     bytes.octet(octet);
-    bytes.push(behind);
+    bytes.push(after);
     answer_to(alloc, bytes.so_far())
 }
 

@@ -40,9 +40,9 @@ pub fn cut<'a>(
     let mut pieces = Vec::new(alloc);
     let mut left = bytes;
     for _ in 0..bytes.len() {
-        let (piece, behind) = left.split_at(draws.size().min(left.len()));
+        let (piece, after) = left.split_at(draws.size().min(left.len()));
         pieces.push(piece)?;
-        left = behind;
+        left = after;
         if left.is_empty() {
             break;
         }

@@ -217,9 +217,9 @@ impl Handler<()> for Viewer<'_> {
 
     fn handle(&mut self, _alloc: Global, _context: &mut (), apdu: &ApduView<'_>) -> Result<(), ()> {
         match self.expected {
-            [first, behind @ ..] => {
+            [first, after @ ..] => {
                 self.is_right &= is_view_of(apdu, first);
-                self.expected = behind;
+                self.expected = after;
             }
             [] => self.is_right = false,
         }

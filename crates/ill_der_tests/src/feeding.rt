@@ -6,7 +6,7 @@ use crate::fed::{Fed, Given};
 use ill_test_kit::Page;
 use std::alloc::Global;
 
-/// Adds what each piece gives, and whether the bytes may end behind the last.
+/// Adds what each piece gives, and whether the bytes may end after the last.
 pub fn push_pieces(alloc: Global, output: &mut Page, words: &str) {
     let mut fed = Fed::new(alloc);
     for (index, words) in words.split("|").enumerate() {
@@ -20,7 +20,7 @@ pub fn push_pieces(alloc: Global, output: &mut Page, words: &str) {
     fed.push_end(output);
 }
 
-/// Adds what each byte gives as a piece, and whether the bytes may end behind the last.
+/// Adds what each byte gives as a piece, and whether the bytes may end after the last.
 pub fn push_singly(alloc: Global, output: &mut Page, bytes: &[u8]) {
     let mut fed = Fed::new(alloc);
     for (index, byte) in bytes.iter().enumerate() {
@@ -31,13 +31,13 @@ pub fn push_singly(alloc: Global, output: &mut Page, bytes: &[u8]) {
 
 /// Adds what a push gave, a line for each APDU and for the fault. The first push has the index 0.
 fn push_given(alloc: Global, output: &mut Page, index: usize, given: &Given) {
-    let mut front = Page::new(alloc);
-    front.push(b"push ");
-    front.show(&index.saturating_add(1));
-    front.push(b": ");
-    output.page_behind(front.so_far(), &given.apdus);
+    let mut prefix = Page::new(alloc);
+    prefix.push(b"push ");
+    prefix.show(&index.saturating_add(1));
+    prefix.push(b": ");
+    output.page_after(prefix.so_far(), &given.apdus);
     if let Some(fault) = given.fault {
-        output.push(front.so_far());
+        output.push(prefix.so_far());
         output.show(&fault);
         output.octet(b'\n');
     }
@@ -50,8 +50,8 @@ pub fn push_halves(alloc: Global, output: &mut Page, bytes: &[u8]) {
     push_whole(output, &whole);
     let mut same = 0_usize;
     for place in 0..=bytes.len() {
-        let (front, behind) = bytes.split_at(place);
-        if Fed::of(alloc, &[front, behind]).agrees_with(&whole) {
+        let (prefix, after) = bytes.split_at(place);
+        if Fed::of(alloc, &[prefix, after]).agrees_with(&whole) {
             same = same.saturating_add(1);
         } else {
             push_number(output, b"DIFFERS with a cut at ", place);

@@ -1,18 +1,18 @@
 //! Tests of the short form: each line of the input is a case, and below it is printed what the calls of
-//! `ill_der` answer, behind two spaces, in place of what stands there. The file `stdin` has the cases with
+//! `ill_der` answer, after two spaces, in place of what stands there. The file `stdin` has the cases with
 //! the answers that they should get, and `stdout` is the same.
 //!
 //! To try a case alone, in seconds: put its lines into a file, and `rt try < file | diff file -` prints
 //! nothing where all is right.
 //!
 //! The bytes of a case are words: an octet in hexadecimal, or ASCII in quotes that has no space and no
-//! star and no bar. `again` is all of the bytes before it once more. `*N` behind each of these repeats it N
+//! star and no bar. `again` is all of the bytes before it once more. `*N` after each of these repeats it N
 //! times. A line is one of these:
 //!
 //! - `# ..`, or nothing: printed as it is.
 //! - `BYTES`: the answer of `decode`, an APDU in words and its size, or the fault. All other calls must
 //!   agree with it; else the line ends with `DIFFERS` and the first call that does not.
-//! - `each proper front: BYTES`: each front must be short at its end; the answer to one that is not stands
+//! - `each proper prefix: BYTES`: each prefix must be short at its end; the answer to one that is not stands
 //!   on a line of its own.
 //! - `each octet at N: BYTES`: the answers with each octet in turn at this place, a line for all octets
 //!   in a row that have the same, with the first of them.

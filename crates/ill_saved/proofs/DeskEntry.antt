@@ -44,11 +44,11 @@ not_first true side found none = absurd (true≢false (ap is_some none))
 not_first false side found none = (refl, none)
 
 -- If `new` is empty whenever `old` is, a search that finds nothing with `old` finds nothing with `new`.
-none_behind : (is : Bool) (side : Side) (old new : Option Side) → is_none (cond is (Some side) old) ≡ true
+none_after : (is : Bool) (side : Side) (old new : Option Side) → is_none (cond is (Some side) old) ≡ true
     → (is_none old ≡ true → is_none new ≡ true)
     → is_none (cond is (Some side) new) ≡ true
-none_behind true side old new none further = none
-none_behind false side old new none further = further none
+none_after true side old new none further = none
+none_after false side old new none further = further none
 
 -- If no side is of `txn`, and neither is `side`, none of them together is.
 none_more : (txn : Qualifiers) (side : Side) (sides : List Side) → is_none (side_with txn sides) ≡ true
@@ -56,7 +56,7 @@ none_more : (txn : Qualifiers) (side : Side) (sides : List Side) → is_none (si
     → is_none (side_with txn (sides ++ side ∷ [])) ≡ true
 unfolding side_with
 none_more txn side [] none apart = ap (λ same. is_none (cond same (Some side) None)) apart
-none_more txn side (x ∷ sides) none apart = none_behind (is_same_txn txn (txn_of x)) x (side_with txn sides) _ none (λ there. none_more txn side sides there apart)
+none_more txn side (x ∷ sides) none apart = none_after (is_same_txn txn (txn_of x)) x (side_with txn sides) _ none (λ there. none_more txn side sides there apart)
 
 -- If sides are apart, and none is of the transaction of `side`, they are apart with `side` after them.
 pub apart_more : (side : Side) (sides : List Side) → side_with (txn_of side) sides ≡ None → are_apart sides ≡ true

@@ -78,7 +78,7 @@ none_more old new e = ([], e ∙ sym (append-nil old))
 
 -- A list has no more APDUs than a list of which it is a prefix.
 pub no_less : (old new : List Apdu) → IsPrefix old new → length old ≤ length new
-no_less old new front = omega (arith, ap length front.1 ∙ length-append old front.0)
+no_less old new prefix = omega (arith, ap length prefix.1 ∙ length-append old prefix.0)
 
 -- If the side of a result is `new`, the result is a record, and `new` is its side.
 done_is : {R : Type 0} (make : R → Side) (r : Result R Refusal) (new : Side) → done_by make r ≡ Ok new
@@ -237,14 +237,14 @@ refusals_stay requester responder (sides.Responder y) a refusal e = elim (respon
 ]
 
 -- A prefix of a prefix is a prefix.
-front_of_front : (old between new : List Apdu) → IsPrefix old between → IsPrefix between new → IsPrefix old new
-front_of_front old between new before after = (before.0 ++ after.0, after.1 ∙ (ap (λ l. l ++ after.0) before.1 ∙ append_assoc old before.0 after.0))
+prefix_of_prefix : (old between new : List Apdu) → IsPrefix old between → IsPrefix between new → IsPrefix old new
+prefix_of_prefix old between new before after = (before.0 ++ after.0, after.1 ∙ (ap (λ l. l ++ after.0) before.1 ∙ append_assoc old before.0 after.0))
 
 -- If a side follows from another by rows, it has issued all that the other has, as a prefix.
 pub follows_issues : RowsGrow → (old new : Side) → Follows old new → IsPrefix (issued_of old) (issued_of new)
 follows_issues grows old _ same = none_more (issued_of old) (issued_of old) refl
 follows_issues grows old _ (further between new follows row) =
-    front_of_front (issued_of old) (issued_of between) (issued_of new) (follows_issues grows old between follows) (grows between new row).1
+    prefix_of_prefix (issued_of old) (issued_of between) (issued_of new) (follows_issues grows old between follows) (grows between new row).1
 
 -- ---- the landed side backs the live one after a row
 
@@ -325,7 +325,7 @@ keeps_on kept old new released few grows keeps (inr (side, is, of)) =
       side,
       is,
       record {
-        front = front_of_front (issued_of side) (issued_of old) (issued_of new) of.front grows.1;
+        prefix = prefix_of_prefix (issued_of side) (issued_of old) (issued_of new) of.prefix grows.1;
         all = of.all;
         back = back_on (standing_of side) released old new side grows keeps few of.asked of.back;
         asked = λ asked. (keeps (of.asked asked)).0;
@@ -396,15 +396,15 @@ takes_alone held new a (Err refusal) takes = (ap (λ (r : Result Taking Refusal 
 -- ---- one APDU
 
 -- If bytes follow the APDU, the answer `Trailing` is right.
-behind_one : (a : Apdu) (rest : List ℕ) → 1 ≤ length rest → IsOneApdu (Ok (a, rest)) (Err faults.Trailing)
-behind_one a [] more = absurd (omega (arith, more))
-behind_one a (byte ∷ rest) more = tt
+one_after : (a : Apdu) (rest : List ℕ) → 1 ≤ length rest → IsOneApdu (Ok (a, rest)) (Err faults.Trailing)
+one_after a [] more = absurd (omega (arith, more))
+one_after a (byte ∷ rest) more = tt
 
 -- If the APDU that was read ends before the bytes do, the answer `Trailing` is right.
 pub trailing_alone : (bytes : List ℕ) (read : Result (Apdu × List ℕ) DerFault) (found : Apdu × ℕ)
     → found.1 + 1 ≤ length bytes → short_form.Decodes bytes read (Ok found) → IsOneApdu read (Err faults.Trailing)
 trailing_alone bytes (Ok apdu) found less decodes =
-    subst (λ r. IsOneApdu (Ok r) (Err faults.Trailing)) (sym decodes.1) (behind_one found.0 (drop found.1 bytes) (omega (arith, length-drop found.1 bytes, less)))
+    subst (λ r. IsOneApdu (Ok r) (Err faults.Trailing)) (sym decodes.1) (one_after found.0 (drop found.1 bytes) (omega (arith, length-drop found.1 bytes, less)))
 trailing_alone bytes (Err fault) found less decodes = search rules
 
 -- ---- saving
@@ -434,7 +434,7 @@ back_to_itself (sides.Responder y) count is all =
 pub keeps_whole : (kept : KeptBytes) (side : Side) (count : ℕ) → IsKept kept side → count ≡ length (issued_of side)
     → Keeps kept side count
 keeps_whole kept side count is all =
-    inr (side, is, record { front = none_more (issued_of side) (issued_of side) refl; all = all; back = back_to_itself side count is.0.0 all; asked = λ asked. asked })
+    inr (side, is, record { prefix = none_more (issued_of side) (issued_of side) refl; all = all; back = back_to_itself side count is.0.0 all; asked = λ asked. asked })
 
 -- A consistent side backs itself with all messages released.
 pub itself_backs : (side : Side) (count : ℕ) → IsConsistent side → count ≤ length (issued_of side) → IsBackedBy side side count
@@ -610,8 +610,8 @@ message_released kept live released (suc n) bytes (inl none) first e = absurd (s
 message_released kept live released (suc n) bytes (inr (side, is, of)) first e =
     let at : suc n - 1 ≡ n = omega arith in
     let piece : slice_get (map spelling (issued_of side)) n ≡ Some bytes = ap (slice_get (map spelling (issued_of side))) (sym at) ∙ subst (λ (k : KeptBytes). slice_get k.pieces (suc n - 1) ≡ Some bytes) is.1 e in
-    let found = message_kept (issued_of side) of.front.0 n bytes is.0.1.issued piece in
-    (found.0, subst (λ apdus. slice_get apdus n ≡ Some found.0) (sym of.front.1) found.1, found.2, found.3)
+    let found = message_kept (issued_of side) of.prefix.0 n bytes is.0.1.issued piece in
+    (found.0, subst (λ apdus. slice_get apdus n ≡ Some found.0) (sym of.prefix.1) found.1, found.2, found.3)
 
 -- If a released message is taken from the kept record, the answer is as `Sends` says.
 pub sends_released : {X : Type 0} (view : X → List ℕ) (value : X) (kept : KeptBytes) (live : Side) (released number : ℕ) (bytes : List ℕ)

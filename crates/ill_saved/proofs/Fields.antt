@@ -344,12 +344,12 @@ marked_takes : {V : Type 0} (P : V → Type 0) (f : Field V) → IsField P f
 marked_takes {V} P f fs left o rest fits e =
     let is = bind_ok (mark.read left) (λ is. cond is.0 (f.read is.1 >>= λ found. Ok (Some found.0, found.1)) (Ok (None, is.1))) (o, rest) e in
     let first = mark_is.takes left is.0.0 is.0.1 fits is.1 in
-    let behind_fits = rest_fits Any mark mark_is left is.0.0 is.0.1 fits is.1 in
+    let after_fits = rest_fits Any mark mark_is left is.0.0 is.0.1 fits is.1 in
     elim (chosen {A = Result (Option V × Cursor) LayoutFault} is.0.0 (f.read is.0.1 >>= λ found. Ok (Some found.0, found.1)) (Ok (None, is.0.1)) (Ok (o, rest)) is.2) [
       | inl h ↦
           let found = bind_ok (f.read is.0.1) (λ found. Ok (Some found.0, found.1)) (o, rest) h.1 in
           let both : (Some found.0.0, found.0.1) ≡ (o, rest) = ok_is (Some found.0.0, found.0.1) (o, rest) found.2 in
-          let second = fs.takes is.0.1 found.0.0 found.0.1 behind_fits found.1 in
+          let second = fs.takes is.0.1 found.0.0 found.0.1 after_fits found.1 in
           let parts : left.bytes ≡ (mark.spell true ++ f.spell found.0.0) ++ found.0.1.bytes =
           first.0 ∙ ap (λ (b : Bool). mark.spell b ++ is.0.1.bytes) h.0 ∙ ap (λ (x : List ℕ). mark.spell true ++ x) second.0 in
           subst (λ (x : Option V × Cursor). Takes (marked f) (λ o. IfSome o P) left.bytes x.0 x.1.bytes) both (parts, second.1)

@@ -12,19 +12,19 @@ use Rattle.std.proofs.lemmas.List.{at_drop_all, drop_more}
 use Rattle.ill_saved.specs.Ranges.{Each}
 
 -- Returns the reading of a list, with `values` before the values that it gives.
-abbrev pub behind : {V : Type 0} → List V → Result (List V × Cursor) LayoutFault → Result (List V × Cursor) LayoutFault
-behind values read = read >>= λ found. Ok (values ++ found.0, found.1)
+abbrev pub after : {V : Type 0} → List V → Result (List V × Cursor) LayoutFault → Result (List V × Cursor) LayoutFault
+after values read = read >>= λ found. Ok (values ++ found.0, found.1)
 
 -- If no value is before it, the reading stays.
-pub behind_none : {V : Type 0} (read : Result (List V × Cursor) LayoutFault) → behind [] read ≡ read
-behind_none (Ok found) = refl
-behind_none (Err fault) = refl
+pub after_none : {V : Type 0} (read : Result (List V × Cursor) LayoutFault) → after [] read ≡ read
+after_none (Ok found) = refl
+after_none (Err fault) = refl
 
 -- A value that comes before the others may as well be the last of `values`.
-behind_more : {V : Type 0} (values : List V) (v : V) (read : Result (List V × Cursor) LayoutFault)
-    → behind values (read >>= λ others. Ok (v ∷ others.0, others.1)) ≡ behind (values ++ v ∷ []) read
-behind_more values v (Ok others) = ap (λ vs. Ok (vs, others.1)) (sym (append_assoc values (v ∷ []) others.0))
-behind_more values v (Err fault) = refl
+after_more : {V : Type 0} (values : List V) (v : V) (read : Result (List V × Cursor) LayoutFault)
+    → after values (read >>= λ others. Ok (v ∷ others.0, others.1)) ≡ after (values ++ v ∷ []) read
+after_more values v (Ok others) = ap (λ vs. Ok (vs, others.1)) (sym (append_assoc values (v ∷ []) others.0))
+after_more values v (Err fault) = refl
 
 -- To read `n + 1` values is to read one, and then `n` others.
 read_more : {V : Type 0} (field : Field V) (n : ℕ) (left : Cursor)
@@ -39,46 +39,46 @@ read_none field left = refl
 
 -- If one value is read, it joins `values`, and `n` are left to read.
 one_read : {V : Type 0} (field : Field V) (values : List V) (n : ℕ) (left next : Cursor) (v : V) → field.read left ≡ Ok (v, next)
-    → behind values (read_all field (suc n) left) ≡ behind (values ++ v ∷ []) (read_all field n next)
+    → after values (read_all field (suc n) left) ≡ after (values ++ v ∷ []) (read_all field n next)
 one_read field values n left next v read =
-    ap (behind values) (read_more field n left ∙ ap (λ r. r >>= λ first. read_all field n first.1 >>= λ others. Ok (first.0 ∷ others.0, others.1)) read)
-    ∙ behind_more values v (read_all field n next)
+    ap (after values) (read_more field n left ∙ ap (λ r. r >>= λ first. read_all field n first.1 >>= λ others. Ok (first.0 ∷ others.0, others.1)) read)
+    ∙ after_more values v (read_all field n next)
 
 -- If a value cannot be read, the whole reading gives its fault.
 none_read : {V : Type 0} (field : Field V) (values : List V) (n : ℕ) (left : Cursor) (fault : LayoutFault)
     → field.read left ≡ Err fault
-    → behind values (read_all field (suc n) left) ≡ Err fault
+    → after values (read_all field (suc n) left) ≡ Err fault
 none_read field values n left fault read =
-    ap (behind values) (read_more field n left ∙ ap (λ r. r >>= λ first. read_all field n first.1 >>= λ others. Ok (first.0 ∷ others.0, others.1)) read)
+    ap (after values) (read_more field n left ∙ ap (λ r. r >>= λ first. read_all field n first.1 >>= λ others. Ok (first.0 ∷ others.0, others.1)) read)
 
 -- If no value is left to read, the reading gives `values`.
 all_read : {V : Type 0} (field : Field V) (values : List V) (left : Cursor)
-    → behind values (read_all field 0 left) ≡ Ok (values, left)
-all_read field values left = ap (behind values) (read_none field left) ∙ ap (λ vs. Ok (vs, left)) (append-nil values)
+    → after values (read_all field 0 left) ≡ Ok (values, left)
+all_read field values left = ap (after values) (read_none field left) ∙ ap (λ vs. Ok (vs, left)) (append-nil values)
 
 -- A loop that reads `count` values: `values`, and those from index `counter` on, make up `whole`.
 module _ {V : Type 0} (field : Field V) (values : List V) (count counter : ℕ) (left : Cursor) (whole : Result (List V × Cursor) LayoutFault)
-    (reads : behind values (read_all field (count - counter) left) ≡ whole) where
+    (reads : after values (read_all field (count - counter) left) ≡ whole) where
   -- If `counter` is less than `count`, one value is left, and those after it.
   one_less : counter < count → count - counter ≡ suc (count - (counter + 1))
   one_less within = omega (arith, within)
 
   -- If one more value is read, the values with it and the rest give the whole reading.
   pub one_more : counter < count → (v : V) (next : Cursor) → field.read left ≡ Ok (v, next)
-      → behind (values ++ v ∷ []) (read_all field (count - (counter + 1)) next) ≡ whole
+      → after (values ++ v ∷ []) (read_all field (count - (counter + 1)) next) ≡ whole
   one_more within v next read =
-      sym (one_read field values (count - (counter + 1)) left next v read) ∙ (ap (λ n. behind values (read_all field n left)) (sym (one_less within)) ∙ reads)
+      sym (one_read field values (count - (counter + 1)) left next v read) ∙ (ap (λ n. after values (read_all field n left)) (sym (one_less within)) ∙ reads)
 
   -- If a value cannot be read, the whole reading gives its fault.
   pub none_more : counter < count → (fault : LayoutFault) → field.read left ≡ Err fault → whole ≡ Err fault
   none_more within fault read =
-      sym reads ∙ (ap (λ n. behind values (read_all field n left)) (one_less within) ∙ none_read field values (count - (counter + 1)) left fault read)
+      sym reads ∙ (ap (λ n. after values (read_all field n left)) (one_less within) ∙ none_read field values (count - (counter + 1)) left fault read)
 
   -- If `counter` has reached `count`, the whole reading gives `values`.
   pub all_there : count ≤ counter → whole ≡ Ok (values, left)
   all_there done =
       let none : count - counter ≡ 0 = omega (arith, done) in
-      sym reads ∙ (ap (λ n. behind values (read_all field n left)) none ∙ all_read field values left)
+      sym reads ∙ (ap (λ n. after values (read_all field n left)) none ∙ all_read field values left)
 
 -- If the second reading keeps each fault of the first, a reader's fault that fits the first fits it too.
 pub fault_kept : {X Y V W : Type 0} (f : X → V) (g : Y → W) (fault : RecordFault) (left next : Cursor) (first : Result (V × Cursor) LayoutFault) (then_read : Result (W × Cursor) LayoutFault)
@@ -112,17 +112,17 @@ pub one_spelled : {V : Type 0} (spell : V → List ℕ) (bytes : List ℕ) (valu
     → i < length values → v ≡ get_or values i v
     → (bytes ++ spell v) ++ spell_all spell (drop (i + 1) values) ≡ bytes ++ spell_all spell (drop i values)
 one_spelled spell bytes values i v within there =
-    let front : drop i values ≡ v ∷ drop (i + 1) values = drop_more values i v within ∙ ap (λ x. x ∷ drop (i + 1) values) (sym there) in
+    let prefix : drop i values ≡ v ∷ drop (i + 1) values = drop_more values i v within ∙ ap (λ x. x ∷ drop (i + 1) values) (sym there) in
     append_assoc bytes (spell v) (spell_all spell (drop (i + 1) values))
-    ∙ ap (λ t. bytes ++ t) (sym (spell_more spell v (drop (i + 1) values)) ∙ ap (spell_all spell) (sym front))
+    ∙ ap (λ t. bytes ++ t) (sym (spell_more spell v (drop (i + 1) values)) ∙ ap (spell_all spell) (sym prefix))
 
 -- If `P` holds of value `i` and of each value after it, it holds of each value from `i` on.
 pub one_each : {V : Type 0} (P : V → Type 0) (values : List V) (i : ℕ) (v : V) → i < length values
     → v ≡ get_or values i v → P v → Each P (drop (i + 1) values) → Each P (drop i values)
 unfolding Each
 one_each P values i v within there is others =
-    let front : drop i values ≡ v ∷ drop (i + 1) values = drop_more values i v within ∙ ap (λ x. x ∷ drop (i + 1) values) (sym there) in
-    subst (Each P) (sym front) (is, others)
+    let prefix : drop i values ≡ v ∷ drop (i + 1) values = drop_more values i v within ∙ ap (λ x. x ∷ drop (i + 1) values) (sym there) in
+    subst (Each P) (sym prefix) (is, others)
 
 -- If index `i` is past the last value, `P` holds of each value from `i` on.
 pub none_each : {V : Type 0} (P : V → Type 0) (values : List V) (i : ℕ) → length values ≤ i → Each P (drop i values)
@@ -130,17 +130,17 @@ unfolding Each
 none_each P values i all = subst (Each P) (sym (at_drop_all (λ xs. xs) values i all)) tt
 
 -- The encoding of two lists together is that of the first, and then that of the second.
-pub spell_both : {V : Type 0} (spell : V → List ℕ) (front rest : List V)
-    → spell_all spell (front ++ rest) ≡ spell_all spell front ++ spell_all spell rest
+pub spell_both : {V : Type 0} (spell : V → List ℕ) (prefix rest : List V)
+    → spell_all spell (prefix ++ rest) ≡ spell_all spell prefix ++ spell_all spell rest
 unfolding spell_all
 spell_both spell [] rest = refl
-spell_both spell (v ∷ front) rest = ap (λ t. spell v ++ t) (spell_both spell front rest) ∙ sym (append_assoc (spell v) (spell_all spell front) (spell_all spell rest))
+spell_both spell (v ∷ prefix) rest = ap (λ t. spell v ++ t) (spell_both spell prefix rest) ∙ sym (append_assoc (spell v) (spell_all spell prefix) (spell_all spell rest))
 
 -- If `P` holds of each value in two lists, it holds of each value in both together.
-pub each_both : {V : Type 0} (P : V → Type 0) (front rest : List V) → Each P front → Each P rest → Each P (front ++ rest)
+pub each_both : {V : Type 0} (P : V → Type 0) (prefix rest : List V) → Each P prefix → Each P rest → Each P (prefix ++ rest)
 unfolding Each
-each_both P [] rest of_front of_rest = of_rest
-each_both P (v ∷ front) rest of_front of_rest = (of_front.0, each_both P front rest of_front.1 of_rest)
+each_both P [] rest of_prefix of_rest = of_rest
+each_both P (v ∷ prefix) rest of_prefix of_rest = (of_prefix.0, each_both P prefix rest of_prefix.1 of_rest)
 
 -- An index within a list has an element.
 pub none_past : {V : Type 0} (values : List V) (i : ℕ) → i < length values → slice_get values i ≡ None → ⊥

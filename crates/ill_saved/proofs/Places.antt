@@ -10,7 +10,7 @@ use Rattle.ill_saved.specs.declared.role.Role.TheVariants as roles
 use Rattle.ill_saved.specs.declared.side.Side.{Side}
 use Rattle.ill_saved.specs.declared.side.Side.TheVariants as sides
 use Rattle.ill_saved.specs.Layout.{spell_all, apdu, ill_request, mark, marked, counted, optional_number}
-use Rattle.ill_saved.specs.Records.{due_octets, front, requester_states, responder_states, requester_rest, responder_rest, spell_start, record_spelling}
+use Rattle.ill_saved.specs.Records.{due_octets, heading, requester_states, responder_states, requester_rest, responder_rest, spell_start, record_spelling}
 use Rattle.ill_saved.specs.declared.side.Standing.{Standing}
 use Rattle.ill_saved.specs.Side.{issued_of, standing_of}
 use Rattle.ill_saved.specs.Kept.{KeptBytes, none_kept, IsKept, Keeps, piece_at, IsWithin, EndsWith}
@@ -20,20 +20,20 @@ use Rattle.ill_values.specs.Apdu.{IsApdu}
 use Rattle.ill_saved.proofs.Lists.{spell_none, spell_more, spell_both, each_both}
 
 -- A place within a prefix has the bytes there that it has in the whole.
-piece_of_front : (front more : List ℕ) (place : Place) → IsWithin (length front) place
-    → piece_at (front ++ more) place ≡ piece_at front place
-piece_of_front front more place within =
-    let start : place.start ≤ length front = omega (arith, within) in
-    let size : place.size ≤ length (drop place.start front) = omega (arith, within, length-drop place.start front) in
-    ap (take place.size) (drop-append-le place.start front more start) ∙ take-append-le place.size (drop place.start front) more size
+piece_of_prefix : (prefix more : List ℕ) (place : Place) → IsWithin (length prefix) place
+    → piece_at (prefix ++ more) place ≡ piece_at prefix place
+piece_of_prefix prefix more place within =
+    let start : place.start ≤ length prefix = omega (arith, within) in
+    let size : place.size ≤ length (drop place.start prefix) = omega (arith, within, length-drop place.start prefix) in
+    ap (take place.size) (drop-append-le place.start prefix more start) ∙ take-append-le place.size (drop place.start prefix) more size
 
 -- Places within a prefix have the bytes there that they have in the whole.
-pieces_of_front : (front more : List ℕ) (places : List Place) → All (IsWithin (length front)) places
-    → map (piece_at (front ++ more)) places ≡ map (piece_at front) places
-pieces_of_front front more [] within = refl
-pieces_of_front front more (place ∷ places) within =
-    let first = piece_of_front front more place (All-head (IsWithin (length front)) place places within) in
-    let others = pieces_of_front front more places (All-tail (IsWithin (length front)) place places within) in
+pieces_of_prefix : (prefix more : List ℕ) (places : List Place) → All (IsWithin (length prefix)) places
+    → map (piece_at (prefix ++ more)) places ≡ map (piece_at prefix) places
+pieces_of_prefix prefix more [] within = refl
+pieces_of_prefix prefix more (place ∷ places) within =
+    let first = piece_of_prefix prefix more place (All-head (IsWithin (length prefix)) place places within) in
+    let others = pieces_of_prefix prefix more places (All-tail (IsWithin (length prefix)) place places within) in
     cc
 
 -- Each message up to offset `end` has its place in `whole`, and the encodings of those in `left` follow.
@@ -54,7 +54,7 @@ first_placed messages pieces places apdus end e within are =
       rest = drop_at messages (spell_all spelling apdus) end (sym e);
       reached = omega (arith, e, longer);
       within = All-weaker (IsWithin (length messages)) (IsWithin (length (messages ++ spell_all spelling apdus))) (λ place is. omega (arith, is, longer)) places within;
-      pieces = ap (λ pieces. pieces ++ map spelling apdus) (pieces_of_front messages (spell_all spelling apdus) places within ∙ are);
+      pieces = ap (λ pieces. pieces ++ map spelling apdus) (pieces_of_prefix messages (spell_all spelling apdus) places within ∙ are);
     }
 
 -- If the next message gets the place at `end`, all messages up to the end of that place have theirs.
@@ -78,7 +78,7 @@ next_placed whole end places a left all placed =
 
 -- The bytes from offset `first` on are the messages, each at its place.
 pub record ArePlacedIn (bytes : List ℕ) (first : ℕ) (whole : List ℕ) (places : List Place) (all : List (List ℕ)) : Type 0 where
-  pub behind : first ≤ length bytes
+  pub after : first ≤ length bytes
   pub messages : drop first bytes ≡ whole
   pub within : All (IsWithin (length (drop first bytes))) places
   pub pieces : map (piece_at (drop first bytes)) places ≡ all
@@ -90,11 +90,11 @@ pub all_placed : (bytes whole : List ℕ) (first end : ℕ) (places : List Place
 all_placed bytes whole first end places left all none placed ends e =
     let rest : drop end whole ≡ [] = placed.rest ∙ (ap (spell_all spelling) none ∙ spell_none spelling) in
     let reached : end ≡ length whole = omega (arith, placed.reached, sym (length-drop end whole) ∙ ap length rest) in
-    let behind : length ends.0 ≡ first = omega (arith, e, reached, ap length ends.1 ∙ length-append ends.0 whole) in
-    let messages : drop first bytes ≡ whole = ap (drop first) ends.1 ∙ drop_at ends.0 whole first behind in
+    let after : length ends.0 ≡ first = omega (arith, e, reached, ap length ends.1 ∙ length-append ends.0 whole) in
+    let messages : drop first bytes ≡ whole = ap (drop first) ends.1 ∙ drop_at ends.0 whole first after in
     let pieces : map (piece_at whole) places ≡ all = sym (append-nil (map (piece_at whole) places)) ∙ (ap (λ apdus. map (piece_at whole) places ++ map spelling apdus) (sym none) ∙ placed.pieces) in
     record {
-      behind = omega (arith, e);
+      after = omega (arith, e);
       messages = messages;
       within = subst (λ part. All (IsWithin (length part)) places) (sym messages) placed.within;
       pieces = subst (λ part. map (piece_at part) places ≡ all) (sym messages) pieces;
@@ -103,8 +103,8 @@ all_placed bytes whole first end places left all none placed ends e =
 -- ---- the messages are the last part of a record
 
 -- If bytes end with `end`, they do with anything before them.
-ends_behind : (front end bytes : List ℕ) → EndsWith end bytes → EndsWith end (front ++ bytes)
-ends_behind front end bytes ends = (front ++ ends.0, ap (λ t. front ++ t) ends.1 ∙ sym (append_assoc front ends.0 end))
+ends_after : (prefix end bytes : List ℕ) → EndsWith end bytes → EndsWith end (prefix ++ bytes)
+ends_after prefix end bytes ends = (prefix ++ ends.0, ap (λ t. prefix ++ t) ends.1 ∙ sym (append_assoc prefix ends.0 end))
 
 -- A counted list of APDUs ends with their encodings.
 ends_counted : (apdus : List Apdu) → EndsWith (spell_all spelling apdus) ((counted apdu).spell apdus)
@@ -117,19 +117,19 @@ ends_with_messages (sides.Requester x) =
     let messages = spell_all spelling x.issued in
     let due = (due_octets x.due) ++ (counted apdu).spell x.issued in
     let rest = requester_rest.spell (x.held, (x.checked_in, (x.due, x.issued))) in
-    let head = (front requester_states).spell (x.state, (x.txn.group, x.txn.transaction)) in
-    let behind_due : EndsWith messages due = ends_behind (due_octets x.due) messages ((counted apdu).spell x.issued) (ends_counted x.issued) in
-    let behind_held : EndsWith messages rest = ends_behind (optional_number.spell x.held ++ mark.spell x.checked_in) messages due behind_due in
-    ends_behind (spell_start roles.Requester) messages (head ++ rest) (ends_behind head messages rest behind_held)
+    let head = (heading requester_states).spell (x.state, (x.txn.group, x.txn.transaction)) in
+    let after_due : EndsWith messages due = ends_after (due_octets x.due) messages ((counted apdu).spell x.issued) (ends_counted x.issued) in
+    let after_held : EndsWith messages rest = ends_after (optional_number.spell x.held ++ mark.spell x.checked_in) messages due after_due in
+    ends_after (spell_start roles.Requester) messages (head ++ rest) (ends_after head messages rest after_held)
 ends_with_messages (sides.Responder y) =
     let messages = spell_all spelling y.issued in
     let request = (marked ill_request).spell y.request ++ (counted apdu).spell y.issued in
     let rest = responder_rest.spell (y.accepted, (y.last_cancel, (y.last_renew, (y.received, (y.request, y.issued))))) in
-    let head = (front responder_states).spell (y.state, (y.txn.group, y.txn.transaction)) in
-    let behind_request : EndsWith messages request = ends_behind ((marked ill_request).spell y.request) messages ((counted apdu).spell y.issued) (ends_counted y.issued) in
-    let behind_numbers : EndsWith messages rest =
-    ends_behind (optional_number.spell y.accepted ++ (optional_number.spell y.last_cancel ++ (optional_number.spell y.last_renew ++ mark.spell y.received))) messages request behind_request in
-    ends_behind (spell_start roles.Responder) messages (head ++ rest) (ends_behind head messages rest behind_numbers)
+    let head = (heading responder_states).spell (y.state, (y.txn.group, y.txn.transaction)) in
+    let after_request : EndsWith messages request = ends_after ((marked ill_request).spell y.request) messages ((counted apdu).spell y.issued) (ends_counted y.issued) in
+    let after_numbers : EndsWith messages rest =
+    ends_after (optional_number.spell y.accepted ++ (optional_number.spell y.last_cancel ++ (optional_number.spell y.last_renew ++ mark.spell y.received))) messages request after_request in
+    ends_after (spell_start roles.Responder) messages (head ++ rest) (ends_after head messages rest after_numbers)
 
 -- ---- a side that begins with the messages kept
 
@@ -140,9 +140,9 @@ pub record Continues (kept : KeptBytes) (issued others : List Apdu) : Type 0 whe
   pub range : Each IsApdu others → Each IsApdu issued
 
 -- If the record of a side is kept, it continues with any messages issued after that side's.
-continues_front : (kept : KeptBytes) (side : Side) (more : List Apdu) → IsKept kept side
+continues_prefix : (kept : KeptBytes) (side : Side) (more : List Apdu) → IsKept kept side
     → Continues kept (issued_of side ++ more) more
-continues_front kept side more is = record {
+continues_prefix kept side more is = record {
   messages = ap (λ (k : KeptBytes). k.messages ++ spell_all spelling more) is.1 ∙ sym (spell_both spelling (issued_of side) more);
   pieces = ap (λ (k : KeptBytes). k.pieces ++ map spelling more) is.1 ∙ sym (map-append spelling (issued_of side) more);
   range = λ others. each_both IsApdu (issued_of side) more is.0.1.issued others;
@@ -162,8 +162,8 @@ pub kept_continues : (kept : KeptBytes) (live : Side) (released : ℕ) (others :
 kept_continues kept live released others (inl none) e =
     subst (λ more. Continues kept (issued_of live) more) (sym (e ∙ ap (λ n. drop n (issued_of live)) none.1)) (continues_none kept (issued_of live) none.0)
 kept_continues kept live released others (inr (side, is, of)) e =
-    let same : others ≡ of.front.0 = e ∙ (ap (drop released) of.front.1 ∙ drop_at (issued_of side) of.front.0 released (sym of.all)) in
-    subst (λ more. Continues kept (issued_of live) more) (sym same) (subst (λ issued. Continues kept issued of.front.0) (sym of.front.1) (continues_front kept side of.front.0 is))
+    let same : others ≡ of.prefix.0 = e ∙ (ap (drop released) of.prefix.1 ∙ drop_at (issued_of side) of.prefix.0 released (sym of.all)) in
+    subst (λ more. Continues kept (issued_of live) more) (sym same) (subst (λ issued. Continues kept issued of.prefix.0) (sym of.prefix.1) (continues_prefix kept side of.prefix.0 is))
 
 -- Kept bytes that gain the encodings of `others`, and the standing and record of `side`, are those of `side`.
 pub next_kept : {E : Type 0} (result : Result KeptBytes E) (kept : KeptBytes) (side : Side) (standing : Standing) (others : List Apdu) (bytes : List ℕ)

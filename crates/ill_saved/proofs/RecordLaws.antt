@@ -28,7 +28,7 @@ use Rattle.ill_saved.specs.declared.side.Side.{Side}
 use Rattle.ill_saved.specs.declared.side.Side.TheVariants as sides
 use Rattle.ill_saved.specs.Side.{role_of}
 use Rattle.ill_saved.specs.Layout.{ended, apdu, ill_request, marked, counted, counted_text, optional_number, mark, constant, followed_by}
-use Rattle.ill_saved.specs.Records.{no_date, due_octets, due_from, found_date, due, front, requester_states, responder_states, requester_rest, responder_rest, requester_fields, responder_fields, version, role, start, spell_start, spell_fields, record_spelling, read_requester, read_responder, read_fields, side_at, side_spelled, record_at, state_in}
+use Rattle.ill_saved.specs.Records.{no_date, due_octets, due_from, found_date, due, heading, requester_states, responder_states, requester_rest, responder_rest, requester_fields, responder_fields, version, role, start, spell_start, spell_fields, record_spelling, read_requester, read_responder, read_fields, side_at, side_spelled, record_at, state_in}
 use Rattle.ill_saved.specs.Ranges.{IsInRange, IsSide}
 use Rattle.ill_saved.proofs.Steps.{bind_ok, chosen, passed, ok_is}
 use Rattle.ill_saved.proofs.Fields.{Below, IsField, Any, Both, Counted, IsAmong, IsRequest, rest_fits, sized_is, constant_is, optional_number_is, mark_is, role_is, state_is, followed_is, counted_text_is, apdu_is, ill_request_is, marked_is, counted_is}
@@ -82,12 +82,12 @@ due_is below = sized_is (λ o. IfSome o IsDate) 8 _ (record { takes = due_takes 
 -- ---- whole records
 
 -- The state is among `states`, and both texts are qualifiers.
-abbrev FrontParts : List State → State × (List ℕ × List ℕ) → Type 0
-FrontParts states = Both (IsAmong states) (Both IsQualifier IsQualifier)
+abbrev HeadingParts : List State → State × (List ℕ × List ℕ) → Type 0
+HeadingParts states = Both (IsAmong states) (Both IsQualifier IsQualifier)
 
 -- The field of a state and two qualifiers keeps the laws.
-front_is : Below → (states : List State) → IsField (FrontParts states) (front states)
-front_is below states =
+heading_is : Below → (states : List State) → IsField (HeadingParts states) (heading states)
+heading_is below states =
     followed_is (IsAmong states) (Both IsQualifier IsQualifier) (state_in states) (followed_by counted_text counted_text) (state_is states)
     (followed_is IsQualifier IsQualifier counted_text counted_text (counted_text_is below) (counted_text_is below))
 
@@ -100,9 +100,9 @@ abbrev RequesterRest : Option ℕ × (Bool × (Option Date × List Apdu)) → Ty
 RequesterRest = Both IsOptionalNumber (Both Any (Both (λ o. IfSome o IsDate) (Counted IsApdu)))
 
 -- The fields of a requester keep the laws.
-requester_fields_is : Below → IsField (Both (FrontParts requester_states) RequesterRest) requester_fields
+requester_fields_is : Below → IsField (Both (HeadingParts requester_states) RequesterRest) requester_fields
 requester_fields_is below =
-    followed_is (FrontParts requester_states) RequesterRest (front requester_states) requester_rest (front_is below requester_states)
+    followed_is (HeadingParts requester_states) RequesterRest (heading requester_states) requester_rest (heading_is below requester_states)
     (followed_is IsOptionalNumber (Both Any (Both (λ o. IfSome o IsDate) (Counted IsApdu))) optional_number (followed_by mark (followed_by due (counted apdu))) optional_number_is
     (followed_is Any (Both (λ o. IfSome o IsDate) (Counted IsApdu)) mark (followed_by due (counted apdu)) mark_is
     (followed_is (λ o. IfSome o IsDate) (Counted IsApdu) due (counted apdu) (due_is below) (counted_is IsApdu apdu (apdu_is below)))))
@@ -116,9 +116,9 @@ abbrev ResponderRest : Option ℕ × (Option ℕ × (Option ℕ × (Bool × (Opt
 ResponderRest = Both IsOptionalNumber (Both IsOptionalNumber (Both IsOptionalNumber (Both Any RequestAndIssued)))
 
 -- The fields of a responder keep the laws.
-responder_fields_is : Below → IsField (Both (FrontParts responder_states) ResponderRest) responder_fields
+responder_fields_is : Below → IsField (Both (HeadingParts responder_states) ResponderRest) responder_fields
 responder_fields_is below =
-    followed_is (FrontParts responder_states) ResponderRest (front responder_states) responder_rest (front_is below responder_states)
+    followed_is (HeadingParts responder_states) ResponderRest (heading responder_states) responder_rest (heading_is below responder_states)
     (followed_is IsOptionalNumber _ optional_number _ optional_number_is
     (followed_is IsOptionalNumber _ optional_number _ optional_number_is
     (followed_is IsOptionalNumber _ optional_number _ optional_number_is
@@ -210,11 +210,11 @@ unfolding side_spelled record_spelling
 side_takes below bytes side fits e =
     let begun = bind_ok (start.read (cursor_at 0 bytes)) (λ start. side_at start.0.1 start.1) side e in
     let first = start_is.takes (cursor_at 0 bytes) begun.0.0 begun.0.1 fits begun.1 in
-    let behind_fits = rest_fits _ start start_is (cursor_at 0 bytes) begun.0.0 begun.0.1 fits begun.1 in
+    let after_fits = rest_fits _ start start_is (cursor_at 0 bytes) begun.0.0 begun.0.1 fits begun.1 in
     let found = bind_ok (read_fields begun.0.0.1 begun.0.1) (λ found. ended found.1 >>= λ _. Ok found.0) side begun.2 in
     let last = bind_ok (ended found.0.1) (λ _. Ok found.0.0) side found.2 in
     let same : found.0.0 ≡ side = ok_is found.0.0 side last.2 in
-    let fields = fields_take below begun.0.0.1 begun.0.1 found.0.0 found.0.1 behind_fits found.1 in
+    let fields = fields_take below begun.0.0.1 begun.0.1 found.0.0 found.0.1 after_fits found.1 in
     let parts : bytes ≡ spell_start (role_of found.0.0) ++ spell_fields found.0.0 =
     first.0 ∙ ap (λ (r : Role). spell_start r ++ begun.0.1.bytes) (sym fields.0)
     ∙ ap (λ (x : List ℕ). spell_start (role_of found.0.0) ++ x) (fields.1 ∙ ap (λ (x : List ℕ). spell_fields found.0.0 ++ x) (ends found.0.1 last.0 last.1) ∙ append-nil (spell_fields found.0.0)) in

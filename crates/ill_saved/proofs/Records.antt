@@ -9,22 +9,22 @@ use Rattle.ill_saved.specs.declared.fault.RecordFault.TheVariants as faults
 use Rattle.ill_saved.specs.declared.role.Role.{Role}
 use Rattle.ill_saved.specs.declared.side.Side.{Side}
 use Rattle.ill_saved.specs.Side.{is_consistent, IsConsistent}
-use Rattle.ill_saved.specs.Records.{start, side_at, side_spelled, judged, record_at, has_front, has_front_behind, begins_as_record, Decodes, record_spelling}
+use Rattle.ill_saved.specs.Records.{start, side_at, side_spelled, judged, record_at, has_prefix, has_prefix_after, begins_as_record, Decodes, record_spelling}
 use Rattle.ill_saved.specs.Ranges.{IsSide}
 use Rattle.ill_saved.proofs.Steps.{ok_is}
 
 -- If a version and a role are read first, an answer that decodes the rest decodes the whole record.
-pub decodes_behind : (bytes : List ℕ) (first left : Cursor) (found role : Role) (result : Result Side RecordFault)
+pub decodes_after : (bytes : List ℕ) (first left : Cursor) (found role : Role) (result : Result Side RecordFault)
     → first ≡ cursor_at 0 bytes → found ≡ role
     → start.read first ≡ Ok (((tt, (tt, (tt, tt))), found), left)
-    → Decodes (judged (side_at role left)) (has_front role left) result
+    → Decodes (judged (side_at role left)) (has_prefix role left) result
     → Decodes (record_at bytes) (begins_as_record bytes) result
 unfolding record_at side_spelled begins_as_record
-decodes_behind bytes first left found role result begun is read_first decodes =
+decodes_after bytes first left found role result begun is read_first decodes =
     let read : start.read (cursor_at 0 bytes) ≡ Ok (((tt, (tt, (tt, tt))), role), left) =
     ap start.read (sym begun) ∙ read_first ∙ ap (λ (r : Role). Ok (((tt, (tt, (tt, tt))), r), left)) is in
     let same : record_at bytes ≡ judged (side_at role left) = ap (λ r. judged (r >>= λ start. side_at start.0.1 start.1)) read in
-    let begins : begins_as_record bytes ≡ has_front role left = ap has_front_behind read in
+    let begins : begins_as_record bytes ≡ has_prefix role left = ap has_prefix_after read in
     subst (λ r. Decodes r (begins_as_record bytes) result) (sym same) (subst (λ b. Decodes (judged (side_at role left)) b result) (sym begins) decodes)
 
 -- If reading gives only sides in range with these bytes as their encoding, so does decoding.

@@ -96,8 +96,8 @@ part_takes one left side rest fits e =
     let size = bind_ok (bad_at left.at (two_octets.read left)) (λ size. bad_at size.1.at ((sized size.0 one_record).read size.1)) (side, rest) e in
     let read = good_at left.at (two_octets.read left) size.0 size.1 in
     let first = two_octets_is.takes left size.0.0 size.0.1 fits read in
-    let behind_fits = rest_fits (λ n. n < 65536) two_octets two_octets_is left size.0.0 size.0.1 fits read in
-    let second = (sized_is _ size.0.0 one_record (record_sized one size.0.0)).takes size.0.1 side rest behind_fits (good_at size.0.1.at _ (side, rest) size.2) in
+    let after_fits = rest_fits (λ n. n < 65536) two_octets two_octets_is left size.0.0 size.0.1 fits read in
+    let second = (sized_is _ size.0.0 one_record (record_sized one size.0.0)).takes size.0.1 side rest after_fits (good_at size.0.1.at _ (side, rest) size.2) in
     let parts : left.bytes ≡ (two_octets.spell (length (record_spelling side)) ++ record_spelling side) ++ rest.bytes =
     first.0 ∙ ap (λ (x : List ℕ). two_octets.spell size.0.0 ++ x) second.0 ∙ ap (λ (n : ℕ). two_octets.spell n ++ (record_spelling side ++ rest.bytes)) (sym second.1.1)
     ∙ sym (append_assoc (two_octets.spell (length (record_spelling side))) (record_spelling side) rest.bytes) in
@@ -149,16 +149,16 @@ seven_first a b c d e f g rest = omega arith
 unsealed_again : (held : SidesOf) → unsealed (sides_spelling held) ≡ Ok (octets_of held)
 unfolding unsealed sides_spelling
 unsealed_again held =
-    let front = body_of held in
-    let digest = sha256 front in
-    let bytes = front ++ digest in
-    let closed : length digest ≡ 32 = length-sha256 front in
-    let all = length-append front digest in
-    let seven : 7 ≤ length front = seven_first 73 76 76 50 (role_octet held.role) (byte_at 1 (length held.sides)) (byte_at 0 (length held.sides)) (spell_all part.spell held.sides) in
+    let prefix = body_of held in
+    let digest = sha256 prefix in
+    let bytes = prefix ++ digest in
+    let closed : length digest ≡ 32 = length-sha256 prefix in
+    let all = length-append prefix digest in
+    let seven : 7 ≤ length prefix = seven_first 73 76 76 50 (role_octet held.role) (byte_at 1 (length held.sides)) (byte_at 0 (length held.sides)) (spell_all part.spell held.sides) in
     let long : ltb (length bytes) 39 ≡ false = le-ltb (length bytes) 39 (omega (arith, closed, all, seven)) in
-    let at_digest : length front ≡ length bytes - 32 = omega (arith, closed, all) in
-    let taken : body bytes ≡ front = take_at front digest (length bytes - 32) at_digest in
-    let dropped : drop (length bytes - 32) bytes ≡ digest = drop_at front digest (length bytes - 32) at_digest in
+    let at_digest : length prefix ≡ length bytes - 32 = omega (arith, closed, all) in
+    let taken : body bytes ≡ prefix = take_at prefix digest (length bytes - 32) at_digest in
+    let dropped : drop (length bytes - 32) bytes ≡ digest = drop_at prefix digest (length bytes - 32) at_digest in
     let sealed : bytes_eq (drop (length bytes - 32) bytes) (sha256 (body bytes)) ≡ true = same_bytes _ _ (dropped ∙ ap sha256 (sym taken)) in
     rw (long, sealed) (ap (λ (x : List ℕ). Ok (drop 4 x)) taken)
 
@@ -223,12 +223,12 @@ unsealed_is bytes octets fits e =
     let begins : starts_with nat_eq bytes version_2 ≡ true = not_not (starts_with nat_eq bytes version_2) begun.0 in
     let version : version_2 ≡ take 4 bytes = (bytes_eq-Decides version_2 (take 4 bytes)).0 begins in
     let digest : drop size bytes ≡ sha256 (body bytes) = (bytes_eq-Decides (drop size bytes) (sha256 (body bytes))).0 closed.0 in
-    let behind : drop 4 (body bytes) ≡ octets = ok_is (drop 4 (body bytes)) octets closed.1 in
+    let after : drop 4 (body bytes) ≡ octets = ok_is (drop 4 (body bytes)) octets closed.1 in
     let first : take 4 (body bytes) ≡ version_2 = take-take 4 size bytes (omega (arith, enough)) ∙ sym version in
-    let front : body bytes ≡ version_2 ++ octets =
-    sym (take-append-drop 4 (body bytes)) ∙ ap (λ (x : List ℕ). x ++ drop 4 (body bytes)) first ∙ ap (λ (x : List ℕ). version_2 ++ x) behind in
+    let prefix : body bytes ≡ version_2 ++ octets =
+    sym (take-append-drop 4 (body bytes)) ∙ ap (λ (x : List ℕ). x ++ drop 4 (body bytes)) first ∙ ap (λ (x : List ℕ). version_2 ++ x) after in
     let whole : bytes ≡ body bytes ++ sha256 (body bytes) = sym (take-append-drop size bytes) ∙ ap (λ (x : List ℕ). body bytes ++ x) digest in
-    (subst (λ (x : List ℕ). bytes ≡ x ++ sha256 x) front whole, IsBytes-rest (body bytes) version_2 octets front (IsBytes-take size bytes fits))
+    (subst (λ (x : List ℕ). bytes ≡ x ++ sha256 x) prefix whole, IsBytes-rest (body bytes) version_2 octets prefix (IsBytes-take size bytes fits))
   where
     not_not : (b : Bool) → not b ≡ false → b ≡ true
     not_not true e = refl

@@ -21,7 +21,7 @@ use Rattle.ill_core.specs.Requester.{begins_with_request}
 use Rattle.ill_saved.specs.declared.side.Side.{Side}
 use Rattle.ill_saved.specs.declared.side.Side.TheVariants as sides
 use Rattle.ill_saved.specs.Layout.{apdu, ill_request, marked, counted, spell_all}
-use Rattle.ill_saved.specs.Records.{due_octets, front, requester_states, responder_states, requester_rest, responder_rest, record_spelling}
+use Rattle.ill_saved.specs.Records.{due_octets, heading, requester_states, responder_states, requester_rest, responder_rest, record_spelling}
 use Rattle.ill_saved.specs.Ranges.{Each, IsSide}
 use Rattle.ill_saved.specs.Sides.{SidesOf}
 use Rattle.ill_saved.specs.Records2.{two_octets, part, body_of, sides_spelling, AreSides}
@@ -83,9 +83,9 @@ none_requested (a ∷ apdus) role =
 -- ---- records
 
 -- If both qualifiers have at most 64 bytes, a state and the two have at most 131.
-front_bound : (states : List State) (state : State) (group transaction : List ℕ) → length group ≤ 64
-    → length transaction ≤ 64 → length ((front states).spell (state, (group, transaction))) ≤ 131
-front_bound states state group transaction eg et = omega (arith, eg, et, length-append group (length transaction ∷ transaction))
+prefix_bound : (states : List State) (state : State) (group transaction : List ℕ) → length group ≤ 64
+    → length transaction ≤ 64 → length ((heading states).spell (state, (group, transaction))) ≤ 131
+prefix_bound states state group transaction eg et = omega (arith, eg, et, length-append group (length transaction ∷ transaction))
 
 -- The text of a due date, or of none, has eight bytes.
 due_length : (o : Option Date) → length (due_octets o) ≡ 8
@@ -102,11 +102,11 @@ pub record_bound : Bounds → (side : Side) → IsSide side → length (record_s
 unfolding record_spelling
 record_bound bounds (sides.Requester x) is =
     let txn = is.1.parts.txn in
-    let head = (front requester_states).spell (x.state, (x.txn.group, x.txn.transaction)) in
+    let head = (heading requester_states).spell (x.state, (x.txn.group, x.txn.transaction)) in
     let issued = spell_all spelling x.issued in
     omega (
       arith,
-      front_bound requester_states x.state x.txn.group x.txn.transaction (bounds.qualifier x.txn.group txn.group).1 (bounds.qualifier x.txn.transaction txn.transaction).1,
+      prefix_bound requester_states x.state x.txn.group x.txn.transaction (bounds.qualifier x.txn.group txn.group).1 (bounds.qualifier x.txn.transaction txn.transaction).1,
       length-append head (requester_rest.spell (x.held, (x.checked_in, (x.due, x.issued)))),
       length-append (due_octets x.due) ((counted apdu).spell x.issued),
       due_length x.due,
@@ -115,11 +115,11 @@ record_bound bounds (sides.Requester x) is =
     )
 record_bound bounds (sides.Responder y) is =
     let txn = is.1.parts.txn in
-    let head = (front responder_states).spell (y.state, (y.txn.group, y.txn.transaction)) in
+    let head = (heading responder_states).spell (y.state, (y.txn.group, y.txn.transaction)) in
     let request = (marked ill_request).spell y.request in
     omega (
       arith,
-      front_bound responder_states y.state y.txn.group y.txn.transaction (bounds.qualifier y.txn.group txn.group).1 (bounds.qualifier y.txn.transaction txn.transaction).1,
+      prefix_bound responder_states y.state y.txn.group y.txn.transaction (bounds.qualifier y.txn.group txn.group).1 (bounds.qualifier y.txn.transaction txn.transaction).1,
       length-append head (responder_rest.spell (y.accepted, (y.last_cancel, (y.last_renew, (y.received, (y.request, y.issued)))))),
       length-append request ((counted apdu).spell y.issued),
       request_bound bounds y.request is.1.parts.request,

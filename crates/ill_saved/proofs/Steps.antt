@@ -62,8 +62,8 @@ IsBytes-take n bytes h i =
       | inr le ↦ rw (get_or_past (take n bytes) i 0 (omega (arith, length-take n bytes))) (omega arith)
     ]
 
--- If bytes begin with `front`, the rest after it is bytes.
-pub IsBytes-rest : (bytes front rest : List ℕ) → bytes ≡ front ++ rest → IsBytes bytes → IsBytes rest
-IsBytes-rest bytes front rest e h =
-    let behind : IsBytes (drop (length front) bytes) = λ i. rw get_or-drop (h (length front + i)) in
-    subst IsBytes (ap (drop (length front)) e ∙ drop_at front rest (length front) refl) behind
+-- If bytes begin with `prefix`, the rest after it is bytes.
+pub IsBytes-rest : (bytes prefix rest : List ℕ) → bytes ≡ prefix ++ rest → IsBytes bytes → IsBytes rest
+IsBytes-rest bytes prefix rest e h =
+    let after : IsBytes (drop (length prefix) bytes) = λ i. rw get_or-drop (h (length prefix + i)) in
+    subst IsBytes (ap (drop (length prefix)) e ∙ drop_at prefix rest (length prefix) refl) after

@@ -16,7 +16,7 @@ use Rattle.ill_saved.specs.declared.fault.SidesFault.TheVariants as refusals
 use Rattle.ill_saved.specs.Side.{role_of, txn_of, is_idle}
 use Rattle.ill_saved.specs.Sides.{SidesOf, side_with, is_same_role, is_begun, are_apart, may_be_held, most_sides, put_refusal}
 use Rattle.ill_saved.specs.Layout.{counted_by, read_all, ended}
-use Rattle.ill_saved.specs.Records.{role, front, start, has_front, has_front_behind, requester_fields, responder_fields, requester_states, responder_states, read_fields, side_at, side_spelled, record_at, begins_as_record, Decodes}
+use Rattle.ill_saved.specs.Records.{role, heading, start, has_prefix, has_prefix_after, requester_fields, responder_fields, requester_states, responder_states, read_fields, side_at, side_spelled, record_at, begins_as_record, Decodes}
 use Rattle.ill_saved.specs.Records2.{part, side_count, role_and_sides, unsealed, together, judged_together, sides_at, read_alone, is_version_1, counts_any, has_sides, records_at, begins_as_records, PutsRead}
 use Rattle.ill_saved.proofs.Steps.{bind_ok}
 use Rattle.ill_saved.proofs.Records.{judged_ok}
@@ -31,21 +31,21 @@ first_apart true found x none = absurd (true≢false (sym none))
 first_apart false found x none = (refl, none)
 
 -- If no side in a list is of `txn`, none of its elements is.
-apart_of : (txn : Qualifiers) (front : List Side) (side : Side) (rest : List Side)
-    → is_none (side_with txn (front ++ side ∷ rest)) ≡ true → is_same_txn txn (txn_of side) ≡ false
+apart_of : (txn : Qualifiers) (prefix : List Side) (side : Side) (rest : List Side)
+    → is_none (side_with txn (prefix ++ side ∷ rest)) ≡ true → is_same_txn txn (txn_of side) ≡ false
 unfolding side_with
 apart_of txn [] side rest none = (first_apart (is_same_txn txn (txn_of side)) (side_with txn rest) side none).0
-apart_of txn (x ∷ front) side rest none = apart_of txn front side rest (first_apart (is_same_txn txn (txn_of x)) (side_with txn (front ++ side ∷ rest)) x none).1
+apart_of txn (x ∷ prefix) side rest none = apart_of txn prefix side rest (first_apart (is_same_txn txn (txn_of x)) (side_with txn (prefix ++ side ∷ rest)) x none).1
 
 -- If sides are apart, none before `side` is of its transaction.
-not_before : (front : List Side) (side : Side) (rest : List Side) → are_apart (front ++ side ∷ rest) ≡ true
-    → is_some (side_with (txn_of side) front) ≡ false
+not_before : (prefix : List Side) (side : Side) (rest : List Side) → are_apart (prefix ++ side ∷ rest) ≡ true
+    → is_some (side_with (txn_of side) prefix) ≡ false
 unfolding side_with are_apart
 not_before [] side rest apart = refl
-not_before (x ∷ front) side rest apart =
-    let parts = and_parts (is_none (side_with (txn_of x) (front ++ side ∷ rest))) (are_apart (front ++ side ∷ rest)) apart in
-    let differs : is_same_txn (txn_of side) (txn_of x) ≡ false = apart_back (txn_of x) (txn_of side) (apart_of (txn_of x) front side rest parts.0) in
-    ap (λ same. is_some (cond same (Some x) (side_with (txn_of side) front))) differs ∙ not_before front side rest parts.1
+not_before (x ∷ prefix) side rest apart =
+    let parts = and_parts (is_none (side_with (txn_of x) (prefix ++ side ∷ rest))) (are_apart (prefix ++ side ∷ rest)) apart in
+    let differs : is_same_txn (txn_of side) (txn_of x) ≡ false = apart_back (txn_of x) (txn_of side) (apart_of (txn_of x) prefix side rest parts.0) in
+    ap (λ same. is_some (cond same (Some x) (side_with (txn_of side) prefix))) differs ∙ not_before prefix side rest parts.1
 
 -- If `a` is less than `b`, the test of order is true.
 less : (a b : ℕ) → a < b → nat_lt a b ≡ true
@@ -57,18 +57,18 @@ none_refused : (same idle twice room : Bool) → same ≡ true → idle ≡ fals
 none_refused same idle twice room is_same no_idle once free = rw (is_same, no_idle, once, free) refl
 
 -- If sides within the limit may be held together, each may be put after those before it.
-stands_last : (role : Role) (front : List Side) (side : Side) (rest : List Side) → length (front ++ side ∷ rest) ≤ most_sides
-    → may_be_held (record { role = role; sides = front ++ side ∷ rest }) ≡ true
-    → put_refusal (record { role = role; sides = front }) side ≡ None
-stands_last role front side rest few held =
-    let parts = and_parts (list_all (is_begun role) (front ++ side ∷ rest)) (are_apart (front ++ side ∷ rest)) held in
-    let all : list_all (is_begun role) front && list_all (is_begun role) (side ∷ rest) ≡ true = sym (list_all-append (is_begun role) front (side ∷ rest)) ∙ parts.0 in
-    let behind = and_parts (list_all (is_begun role) front) (list_all (is_begun role) (side ∷ rest)) all in
-    let stands = and_parts (is_begun role side) (list_all (is_begun role) rest) behind.1 in
+stands_last : (role : Role) (prefix : List Side) (side : Side) (rest : List Side) → length (prefix ++ side ∷ rest) ≤ most_sides
+    → may_be_held (record { role = role; sides = prefix ++ side ∷ rest }) ≡ true
+    → put_refusal (record { role = role; sides = prefix }) side ≡ None
+stands_last role prefix side rest few held =
+    let parts = and_parts (list_all (is_begun role) (prefix ++ side ∷ rest)) (are_apart (prefix ++ side ∷ rest)) held in
+    let all : list_all (is_begun role) prefix && list_all (is_begun role) (side ∷ rest) ≡ true = sym (list_all-append (is_begun role) prefix (side ∷ rest)) ∙ parts.0 in
+    let after = and_parts (list_all (is_begun role) prefix) (list_all (is_begun role) (side ∷ rest)) all in
+    let stands = and_parts (is_begun role side) (list_all (is_begun role) rest) after.1 in
     let one = and_parts (is_same_role role (role_of side)) (not (is_idle side)) stands.0 in
-    let room : length front < most_sides = omega (arith, few, length-append front (side ∷ rest)) in
-    none_refused (is_same_role role (role_of side)) (is_idle side) (is_some (side_with (txn_of side) front)) (nat_lt (length front) most_sides)
-    one.0 (not-true (is_idle side) one.1) (not_before front side rest parts.1) (less (length front) most_sides room)
+    let room : length prefix < most_sides = omega (arith, few, length-append prefix (side ∷ rest)) in
+    none_refused (is_same_role role (role_of side)) (is_idle side) (is_some (side_with (txn_of side) prefix)) (nat_lt (length prefix) most_sides)
+    one.0 (not-true (is_idle side) one.1) (not_before prefix side rest parts.1) (less (length prefix) most_sides room)
 
 -- If sides may not be held together, the answer is `Inconsistent`.
 inconsistent : (held : Bool) (all : SidesOf) → (held ≡ true → ⊥)
@@ -97,15 +97,15 @@ ok_begins (Ok v) f w e = refl
 ok_begins (Err fault) f w e = absurd cc
 
 -- If a side of role `r` is read, the bytes begin with a state of `r` and two qualifiers.
-fields_begin : (r : Role) (left : Cursor) (side : Side) → side_at r left ≡ Ok side → has_front r left ≡ true
+fields_begin : (r : Role) (left : Cursor) (side : Side) → side_at r left ≡ Ok side → has_prefix r left ≡ true
 fields_begin roles.Requester left side e =
     let found = bind_ok (read_fields roles.Requester left) _ side e in
     let fields = bind_ok (requester_fields.read left) _ found.0 found.1 in
-    ok_begins ((front requester_states).read left) _ fields.0 fields.1
+    ok_begins ((heading requester_states).read left) _ fields.0 fields.1
 fields_begin roles.Responder left side e =
     let found = bind_ok (read_fields roles.Responder left) _ side e in
     let fields = bind_ok (responder_fields.read left) _ found.0 found.1 in
-    ok_begins ((front responder_states).read left) _ fields.0 fields.1
+    ok_begins ((heading responder_states).read left) _ fields.0 fields.1
 
 -- If bytes are read as a side, they begin as a record.
 read_begins : (bytes : List ℕ) (side : Side) → record_at bytes ≡ Ok side → begins_as_record bytes ≡ true
@@ -113,7 +113,7 @@ unfolding record_at side_spelled begins_as_record
 read_begins bytes side e =
     let read = judged_ok (side_spelled bytes) side e in
     let begun = bind_ok (start.read (cursor_at 0 bytes)) (λ start. side_at start.0.1 start.1) side read.0 in
-    ap has_front_behind begun.1 ∙ fields_begin begun.0.0.1 begun.0.1 side begun.2
+    ap has_prefix_after begun.1 ∙ fields_begin begun.0.0.1 begun.0.1 side begun.2
 
 -- Each role is equal to itself.
 own_role : (r : Role) → is_same_role r r ≡ true
@@ -136,28 +136,28 @@ alone_fails bytes side fault new read begun puts = absurd puts
 -- ---- a record of many sides
 
 -- If the number of sides is `n`, decoding takes memory exactly if `n` is above 0.
-count_tells : (octets : List ℕ) (first behind_role behind_count : Cursor) (of_role : Role) (n : ℕ)
-    → first ≡ cursor_at 4 octets → role.read first ≡ Ok (of_role, behind_role)
-    → side_count.read behind_role ≡ Ok (n, behind_count) → has_sides octets ≡ nat_lt 0 n
-count_tells octets first behind_role behind_count of_role n begun read_role read_count =
-    let role_read : role.read (cursor_at 4 octets) ≡ Ok (of_role, behind_role) = ap role.read (sym begun) ∙ read_role in
+count_tells : (octets : List ℕ) (first after_role after_count : Cursor) (of_role : Role) (n : ℕ)
+    → first ≡ cursor_at 4 octets → role.read first ≡ Ok (of_role, after_role)
+    → side_count.read after_role ≡ Ok (n, after_count) → has_sides octets ≡ nat_lt 0 n
+count_tells octets first after_role after_count of_role n begun read_role read_count =
+    let role_read : role.read (cursor_at 4 octets) ≡ Ok (of_role, after_role) = ap role.read (sym begun) ∙ read_role in
     ap (λ r. counts_any (r >>= λ a. side_count.read a.1 >>= λ b. Ok ((a.0, b.0), b.1))) role_read ∙ ap (λ r. counts_any (r >>= λ b. Ok ((of_role, b.0), b.1))) read_count
 
 -- If the sides after their number are read to the end, an answer that decodes them together decodes the octets.
-pub all_held : (octets : List ℕ) (first behind_role behind_count last : Cursor) (of_role : Role) (n : ℕ) (sides : List Side) (x : Unit {0}) (result : Result SidesOf RecordFault)
+pub all_held : (octets : List ℕ) (first after_role after_count last : Cursor) (of_role : Role) (n : ℕ) (sides : List Side) (x : Unit {0}) (result : Result SidesOf RecordFault)
     → first ≡ cursor_at 4 octets
-    → role.read first ≡ Ok (of_role, behind_role) → side_count.read behind_role ≡ Ok (n, behind_count)
-    → read_all part n behind_count ≡ Ok (sides, last) → length sides ≡ n → ended last ≡ Ok x
+    → role.read first ≡ Ok (of_role, after_role) → side_count.read after_role ≡ Ok (n, after_count)
+    → read_all part n after_count ≡ Ok (sides, last) → length sides ≡ n → ended last ≡ Ok x
     → Decodes (together (record { role = of_role; sides = sides })) (nat_lt 0 (length sides)) result
     → Decodes (sides_at octets) (has_sides octets) result
-all_held octets first behind_role behind_count last of_role n sides x result begun read_role read_count read_sides so_many at_end decodes =
-    let role_read : role.read (cursor_at 4 octets) ≡ Ok (of_role, behind_role) = ap role.read (sym begun) ∙ read_role in
-    let counted : (counted_by side_count part).read behind_role ≡ Ok (sides, last) = ap (λ r. r >>= λ n. read_all part n.0 n.1) read_count ∙ read_sides in
+all_held octets first after_role after_count last of_role n sides x result begun read_role read_count read_sides so_many at_end decodes =
+    let role_read : role.read (cursor_at 4 octets) ≡ Ok (of_role, after_role) = ap role.read (sym begun) ∙ read_role in
+    let counted : (counted_by side_count part).read after_role ≡ Ok (sides, last) = ap (λ r. r >>= λ n. read_all part n.0 n.1) read_count ∙ read_sides in
     let whole : role_and_sides.read (cursor_at 4 octets) ≡ Ok ((of_role, sides), last) =
     ap (λ r. r >>= λ a. (counted_by side_count part).read a.1 >>= λ b. Ok ((a.0, b.0), b.1)) role_read ∙ ap (λ r. r >>= λ b. Ok ((of_role, b.0), b.1)) counted in
     let same : sides_at octets ≡ together (record { role = of_role; sides = sides }) =
     ap (λ r. judged_together (r >>= λ found. ended found.1 >>= λ _. Ok found.0)) whole ∙ ap (λ r. judged_together (r >>= λ _. Ok (of_role, sides))) at_end in
-    let begins : has_sides octets ≡ nat_lt 0 (length sides) = count_tells octets first behind_role behind_count of_role n begun read_role read_count ∙ ap (nat_lt 0) (sym so_many) in
+    let begins : has_sides octets ≡ nat_lt 0 (length sides) = count_tells octets first after_role after_count of_role n begun read_role read_count ∙ ap (nat_lt 0) (sym so_many) in
     subst (λ r. Decodes r (has_sides octets) result) (sym same) (subst (λ b. Decodes (together (record { role = of_role; sides = sides })) b result) (sym begins) decodes)
 
 -- Unless the bytes are of version 1, a fault of their version or digest is one of the record.

@@ -36,7 +36,7 @@ IsKept kept side = IsSide side × (kept ≡ kept_of side)
 -- `side` has issued just the released messages, and they are a prefix of the live side's.
 -- The live side can go back to `side`. If `side` was asked, so was the live one.
 pub record IsReleased (live : Side) (released : ℕ) (side : Side) : Type 0 where
-  pub front : IsPrefix (issued_of side) (issued_of live)
+  pub prefix : IsPrefix (issued_of side) (issued_of live)
   pub all : released ≡ length (issued_of side)
   pub back : back_to (standing_of side) released live ≡ Some side
   pub asked : is_asked side ≡ true → is_asked live ≡ true
@@ -64,4 +64,4 @@ IsWithin size place = place.start + place.size ≤ size
 
 -- `bytes` ends with `end`.
 abbrev pub EndsWith : List ℕ → List ℕ → Type 0
-EndsWith end bytes = (front : List ℕ) × (bytes ≡ front ++ end)
+EndsWith end bytes = (prefix : List ℕ) × (bytes ≡ prefix ++ end)

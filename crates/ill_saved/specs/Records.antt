@@ -81,8 +81,8 @@ abbrev pub due : Field (Option Date)
 due = sized 8 (record { spell = due_octets; read = due_from })
 
 -- Returns the field with which the record of either role begins: the state and the two qualifiers.
-abbrev pub front : List State → Field (State × (List ℕ × List ℕ))
-front states = followed_by (state_in states) (followed_by counted_text counted_text)
+abbrev pub heading : List State → Field (State × (List ℕ × List ℕ))
+heading states = followed_by (state_in states) (followed_by counted_text counted_text)
 
 -- The rest of a requester's record. It has the number of the ILL-Answer whose conditions stand, the mark, the due
 -- date, and the issued APDUs.
@@ -128,12 +128,12 @@ spell_start role = start.spell ((tt, (tt, (tt, tt))), role)
 -- The fields of a requester's record, after the version and the role.
 abbrev pub requester_fields : Field ((State × (List ℕ × List ℕ))
     × (Option ℕ × (Bool × (Option Date × List Apdu))))
-requester_fields = followed_by (front requester_states) requester_rest
+requester_fields = followed_by (heading requester_states) requester_rest
 
 -- The fields of a responder's record, after the version and the role.
 abbrev pub responder_fields : Field ((State × (List ℕ × List ℕ))
     × (Option ℕ × (Option ℕ × (Option ℕ × (Bool × (Option Apdu × List Apdu))))))
-responder_fields = followed_by (front responder_states) responder_rest
+responder_fields = followed_by (heading responder_states) responder_rest
 
 -- Returns the encoding of requester `x`, after the version and the role.
 abbrev pub spell_requester : RequesterRecord → List ℕ
@@ -164,10 +164,10 @@ record_spelling side = spell_start (role_of side) ++ spell_fields side
 abbrev pub read_requester : Cursor → Result (Side × Cursor) LayoutFault
 read_requester left =
     requester_fields.read left >>= λ found.
-    let front = found.0.0 in
+    let heading = found.0.0 in
     let rest = found.0.1 in
     Ok (
-      sides.Requester (requester_of (record { group = front.1.0; transaction = front.1.1 }) front.0
+      sides.Requester (requester_of (record { group = heading.1.0; transaction = heading.1.1 }) heading.0
           rest.0 rest.1.0 rest.1.1.0 rest.1.1.1),
       found.1,
     )
@@ -176,10 +176,10 @@ read_requester left =
 abbrev pub read_responder : Cursor → Result (Side × Cursor) LayoutFault
 read_responder left =
     responder_fields.read left >>= λ found.
-    let front = found.0.0 in
+    let heading = found.0.0 in
     let rest = found.0.1 in
     Ok (
-      sides.Responder (responder_of (record { group = front.1.0; transaction = front.1.1 }) front.0
+      sides.Responder (responder_of (record { group = heading.1.0; transaction = heading.1.1 }) heading.0
           rest.0 rest.1.0 rest.1.1.0 rest.1.1.1.0 rest.1.1.1.1.0 rest.1.1.1.1.1),
       found.1,
     )
@@ -216,18 +216,18 @@ states_of roles.Requester = requester_states
 states_of roles.Responder = responder_states
 
 -- Returns true if a state of this role and two qualifiers stand next. Decoding then takes its first memory.
-abbrev pub has_front : Role → Cursor → Bool
-has_front role left = is_ok ((front (states_of role)).read left)
+abbrev pub has_prefix : Role → Cursor → Bool
+has_prefix role left = is_ok ((heading (states_of role)).read left)
 
 -- Returns true if a version and a role were read, and a state and two qualifiers stand after them.
-abbrev pub has_front_behind : Result (((Unit {0} × (Unit {0} × (Unit {0} × Unit {0}))) × Role) × Cursor)
+abbrev pub has_prefix_after : Result (((Unit {0} × (Unit {0} × (Unit {0} × Unit {0}))) × Role) × Cursor)
     LayoutFault → Bool
-has_front_behind (Ok start) = has_front start.0.1 start.1
-has_front_behind (Err fault) = false
+has_prefix_after (Ok start) = has_prefix start.0.1 start.1
+has_prefix_after (Err fault) = false
 
 -- Returns true if the bytes begin as a record, up to its qualifiers. Decoding then takes its first memory.
 unfoldable pub begins_as_record : List ℕ → Bool
-begins_as_record bytes = has_front_behind (start.read (cursor_at 0 bytes))
+begins_as_record bytes = has_prefix_after (start.read (cursor_at 0 bytes))
 
 -- The answer of decoding is `read`. Memory can run out only if `begins` is true.
 abbrev pub Decodes : {X : Type 0} → Result X RecordFault → Bool → Result X RecordFault → Type 0

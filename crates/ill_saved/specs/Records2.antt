@@ -123,15 +123,15 @@ abbrev pub has_sides : List ℕ → Bool
 has_sides octets = counts_any ((followed_by role side_count).read (cursor_at 4 octets))
 
 -- Returns true if version and digest are right, with a role and a number of sides above 0 between.
-abbrev pub has_sides_behind : Result (List ℕ) RecordFault → Bool
-has_sides_behind (Ok octets) = has_sides octets
-has_sides_behind (Err fault) = false
+abbrev pub has_sides_after : Result (List ℕ) RecordFault → Bool
+has_sides_after (Ok octets) = has_sides octets
+has_sides_after (Err fault) = false
 
 -- Returns true if the bytes begin so that decoding takes memory: up to a number of sides above 0.
 -- In version 1, they begin as a record, up to its qualifiers.
 unfoldable pub begins_as_records : List ℕ → Bool
 begins_as_records bytes =
-    if is_version_1 bytes then begins_as_record bytes else has_sides_behind (unsealed bytes)
+    if is_version_1 bytes then begins_as_record bytes else has_sides_after (unsealed bytes)
 
 -- The sides may be held together, each is consistent and in range, and they are within the limit.
 pub record AreSides (all : SidesOf) : Type 0 where

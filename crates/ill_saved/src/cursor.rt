@@ -41,7 +41,7 @@ impl<'a> Cursor<'a> {
     }
 
     /// Returns the cursor at offset `at` of a record, whose rest is `bytes`.
-    pub fn behind(at: u32, bytes: &'a [u8]) -> Cursor<'a>
+    pub fn after(at: u32, bytes: &'a [u8]) -> Cursor<'a>
         ensures { result ≡ cursor_at at bytes.entry.now }
     {
         Cursor { at, bytes }
@@ -88,9 +88,9 @@ impl<'a> Cursor<'a> {
         ensures near { OnOk result (self.new.at ≡ self.old.at + 1) }
     {
         match self.bytes {
-            [octet, behind @ ..] => {
+            [octet, after @ ..] => {
                 self.at += 1;
-                self.bytes = behind;
+                self.bytes = after;
                 Ok(*octet)
             }
             [] => Err(LayoutFault::Short),

@@ -3,7 +3,7 @@
 ghost use Rattle.std.specs.Prelude.{◌≡◌, ◌+◌, ◌≤◌, true, is_ok, Err, OnOk};
 ghost use Rattle.ill_saved.specs.declared.fault.RecordFault.TheVariants as faults;
 ghost use Rattle.ill_saved.specs.Layout.{Reads, ReadsInMemory, followed_by, counted_text, counted, apdu, read_all};
-ghost use Rattle.ill_saved.specs.Records.{start, front, requester_states, responder_states, read_requester, read_responder, all_of, judged, record_at, begins_as_record, Decodes};
+ghost use Rattle.ill_saved.specs.Records.{start, heading, requester_states, responder_states, read_requester, read_responder, all_of, judged, record_at, begins_as_record, Decodes};
 
 use crate::cursor::Cursor;
 use crate::fault::{LayoutFault, RecordFault};
@@ -45,7 +45,7 @@ fn role(cursor: &mut Cursor<'_>) -> Result<Role, LayoutFault>
 fn requester(alloc: Global, cursor: &mut Cursor<'_>) -> Result<Side, RecordFault>
     requires room { cursor.old.at ≤ 1000 }
     ensures { Decodes (judged (all_of (read_requester cursor.old)))
-        (is_ok ((front requester_states).read cursor.old)) result }
+        (is_ok ((heading requester_states).read cursor.old)) result }
 {
     let state = cursor.requester_state()?;
     let txn = read_txn(alloc, cursor)?;
@@ -64,7 +64,7 @@ fn requester(alloc: Global, cursor: &mut Cursor<'_>) -> Result<Side, RecordFault
 fn responder(alloc: Global, cursor: &mut Cursor<'_>) -> Result<Side, RecordFault>
     requires room { cursor.old.at ≤ 1000 }
     ensures { Decodes (judged (all_of (read_responder cursor.old)))
-        (is_ok ((front responder_states).read cursor.old)) result }
+        (is_ok ((heading responder_states).read cursor.old)) result }
 {
     let state = cursor.responder_state()?;
     let txn = read_txn(alloc, cursor)?;
@@ -116,7 +116,7 @@ fn read_issued(alloc: Global, cursor: &mut Cursor<'_>) -> Result<Vec<Apdu>, Reco
 }
 
 /// Reads `count` APDUs.
-#[tactic(auto, using(crate::proofs::Lists::behind_none))]
+#[tactic(auto, using(crate::proofs::Lists::after_none))]
 fn read_apdus(alloc: Global, cursor: &mut Cursor<'_>, count: u8) -> Result<Vec<Apdu>, RecordFault>
     requires room { cursor.old.at ≤ 10001 }
     ensures { ReadsInMemory (λ apdus. apdus.items) result cursor.new

@@ -73,7 +73,7 @@ fn unsealed(bytes: &[u8]) -> Result<&[u8], RecordFault>
 fn many_sides(alloc: Global, octets: &[u8]) -> Result<Sides, RecordFault>
     ensures { Decodes (sides_at octets.now) (has_sides octets.now) result }
 {
-    let mut cursor = Cursor::behind(4, octets);
+    let mut cursor = Cursor::after(4, octets);
     let role = cursor.role()?;
     let count = cursor.side_count()?;
     let sides = parts(alloc, &mut cursor, count)?;
@@ -82,7 +82,7 @@ fn many_sides(alloc: Global, octets: &[u8]) -> Result<Sides, RecordFault>
 }
 
 /// Reads `count` records, each after its length.
-#[tactic(auto, using(crate::proofs::Lists::behind_none))]
+#[tactic(auto, using(crate::proofs::Lists::after_none))]
 fn parts(alloc: Global, cursor: &mut Cursor<'_>, count: u16) -> Result<Vec<Side>, RecordFault>
     requires room { cursor.old.at ≤ 7 }
     requires few { count ≤ most_sides }

@@ -9,7 +9,7 @@ ghost use Rattle.ill_core.specs.Requester.{IsRequester};
 ghost use Rattle.ill_core.specs.Responder.{IsResponder};
 ghost use Rattle.ill_saved.specs.declared.role.Role.TheVariants as roles;
 ghost use Rattle.ill_saved.specs.Layout.{spell_all, number_octet, mark, marked, counted, counted_text, apdu, ill_request};
-ghost use Rattle.ill_saved.specs.Records.{state_code, due, due_octets, front, requester_states, spell_start, spell_requester, spell_responder, record_spelling};
+ghost use Rattle.ill_saved.specs.Records.{state_code, due, due_octets, heading, requester_states, spell_start, spell_requester, spell_responder, record_spelling};
 ghost use Rattle.ill_saved.specs.Side.{issued_of};
 ghost use Rattle.ill_saved.specs.Ranges.{Each, RequesterInRange, ResponderInRange, IsSide};
 
@@ -24,12 +24,12 @@ pub fn encode_record(alloc: Global, side: &Side) -> Result<Vec<u8>, OutOfMemory>
     ensures bytes { IfOk result (λ bytes. bytes.items ≡ record_spelling side.now) }
     ensures side { OnOk result (IsSide side.now) }
 {
-    encode_behind(alloc, side, &[], side.all_issued())
+    encode_after(alloc, side, &[], side.all_issued())
 }
 
 /// Encodes `side` as a saved record. Copies `known`, the encodings of its first messages, and encodes `others`
 /// after them.
-pub fn encode_behind(
+pub fn encode_after(
     alloc: Global,
     side: &Side,
     known: &[u8],
@@ -46,7 +46,7 @@ pub fn encode_behind(
     Ok(bytes)
 }
 
-/// Appends the record of `side` to `bytes`, with `known` and `others` as in `encode_behind`.
+/// Appends the record of `side` to `bytes`, with `known` and `others` as in `encode_after`.
 #[tactic(auto, unfolding(crate::specs::Records::record_spelling))]
 pub fn push_record(
     bytes: &mut Vec<u8>,
@@ -78,7 +78,7 @@ fn push_requester(bytes: &mut Vec<u8>, requester: &Requester) -> Result<(), OutO
 {
     let state = requester.state();
     bytes.extend_from_slice(b"ILL1\x00")?;
-    push_front(bytes, state, requester.txn())?;
+    push_heading(bytes, state, requester.txn())?;
     let mark = u8::from(requester.is_checked_in());
     bytes.extend_from_slice(&[number_octet(requester.held()), mark])?;
     push_due_octets(bytes, requester.due())
@@ -93,7 +93,7 @@ fn push_responder(bytes: &mut Vec<u8>, responder: &Responder) -> Result<(), OutO
 {
     let state = responder.state();
     bytes.extend_from_slice(b"ILL1\x01")?;
-    push_front(bytes, state, responder.txn())?;
+    push_heading(bytes, state, responder.txn())?;
     let numbers = [
         number_octet(responder.accepted()),
         number_octet(responder.last_cancel()),
@@ -105,9 +105,9 @@ fn push_responder(bytes: &mut Vec<u8>, responder: &Responder) -> Result<(), OutO
 }
 
 /// Appends the state and the qualifiers of the transaction.
-fn push_front(bytes: &mut Vec<u8>, state: State, txn: &TxnId) -> Result<(), OutOfMemory>
+fn push_heading(bytes: &mut Vec<u8>, state: State, txn: &TxnId) -> Result<(), OutOfMemory>
     ensures bytes { OnOk result (bytes.new.items ≡ bytes.old.items
-        ++ (front requester_states).spell (state, (txn.now.group, txn.now.transaction))) }
+        ++ (heading requester_states).spell (state, (txn.now.group, txn.now.transaction))) }
     ensures range { OnOk result (AreQualifiers txn.now) }
 {
     bytes.push(state_code(state))?;

@@ -8,7 +8,7 @@ ghost use Rattle.ill_saved.specs.Side.{issued_of};
 ghost use Rattle.ill_saved.specs.Records.{record_spelling};
 ghost use Rattle.ill_saved.specs.Kept.{KeptBytes, none_kept, kept_of, IsKept, Keeps, GoesBackTo, piece_at, IsWithin, EndsWith};
 
-use crate::encoding::encode_behind;
+use crate::encoding::encode_after;
 use crate::side::{Side, Standing};
 use ill_der::size;
 use ill_values::{Apdu, Number, OutOfMemory};
@@ -73,8 +73,8 @@ impl KeptRecord {
         requires keeps { Keeps self.now side.now released }
         ensures { IfOk result (λ kept. IsKept kept side.now) }
     {
-        let others = issued_behind(side, released);
-        let bytes = encode_behind(alloc, side, self.messages(), others)?;
+        let others = issued_after(side, released);
+        let bytes = encode_after(alloc, side, self.messages(), others)?;
         self.followed_by(alloc, side.standing(), bytes, others)
     }
 
@@ -158,7 +158,7 @@ fn piece(messages: &[u8], place: Place) -> &[u8]
 }
 
 /// Returns the messages of `side` after the first `count`.
-fn issued_behind(side: &Side, count: u8) -> &[Apdu]
+fn issued_after(side: &Side, count: u8) -> &[Apdu]
     requires { count ≤ length (issued_of side.now) }
     ensures { result.now ≡ drop count (issued_of side.now) }
 {

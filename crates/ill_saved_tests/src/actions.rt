@@ -6,7 +6,7 @@ use ill_test_kit::named;
 use ill_values::{AnswerResult, Day, Item};
 use std::alloc::Global;
 
-/// The action that these words say: a deed behind its day, or a wish.
+/// The action that these words say: a deed after its day, or a wish.
 pub fn action(alloc: Global, words: &str) -> Option<Action> {
     let (first, others) = words.split_once(' ').unwrap_or((words, ""));
     match day(first) {

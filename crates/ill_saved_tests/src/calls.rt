@@ -25,13 +25,13 @@ pub enum RecordCall {
     Record,
     /// `#` stands for the number of the case.
     Octets,
-    /// The cases are the fronts of the bytes.
-    Fronts,
+    /// The cases are the prefixes of the bytes.
+    Prefixes,
     /// As a record of many sides.
     Records,
-    /// The same, of the fronts of the bytes.
-    RecordsFronts,
-    /// The same, of the bytes with their SHA-256 behind them.
+    /// The same, of the prefixes of the bytes.
+    RecordsPrefixes,
+    /// The same, of the bytes with their SHA-256 after them.
     Sealed,
 }
 
@@ -93,11 +93,11 @@ static CALLS: [(&str, Call); 39] = [
     ("let", Call::Let),
     ("record", Call::Case(CaseCall::Record(RecordCall::Record))),
     ("octets", Call::Case(CaseCall::Record(RecordCall::Octets))),
-    ("fronts", Call::Case(CaseCall::Record(RecordCall::Fronts))),
+    ("fronts", Call::Case(CaseCall::Record(RecordCall::Prefixes))),
     ("records", Call::Case(CaseCall::Record(RecordCall::Records))),
     (
         "records-fronts",
-        Call::Case(CaseCall::Record(RecordCall::RecordsFronts)),
+        Call::Case(CaseCall::Record(RecordCall::RecordsPrefixes)),
     ),
     ("sealed", Call::Case(CaseCall::Record(RecordCall::Sealed))),
     ("save", Call::Case(CaseCall::Bytes(BytesCall::Save))),

@@ -184,7 +184,7 @@ pub fn call_with<H: Sided, S: Store>(
     Some(())
 }
 
-/// `act WORDS`, behind the transaction where the desk has many.
+/// `act WORDS`, after the transaction where the desk has many.
 pub fn act<H: Sided, S: Store>(
     alloc: Global,
     line: &mut Line,
@@ -254,7 +254,7 @@ fn hand<H: Sided, S: Store>(
     Some(())
 }
 
-/// `message NUMBER`, behind the transaction where the desk has many: its octets, or why there are none.
+/// `message NUMBER`, after the transaction where the desk has many: its octets, or why there are none.
 fn message<H: Sided, S: Store>(
     alloc: Global,
     line: &mut Line,
@@ -268,7 +268,7 @@ fn message<H: Sided, S: Store>(
     Some(())
 }
 
-/// `messages BYTES`: whether these bytes are all released messages of the desk's transaction, one behind
+/// `messages BYTES`: whether these bytes are all released messages of the desk's transaction, one after
 /// another.
 fn messages<H: Sided, S: Store>(
     alloc: Global,
@@ -283,7 +283,7 @@ fn messages<H: Sided, S: Store>(
     Some(())
 }
 
-/// All released messages, one behind another.
+/// All released messages, one after another.
 fn released<H: Sided, S: Store>(
     alloc: Global,
     desk: &AnyDesk<H, S>,

@@ -19,7 +19,7 @@ pub fn idle(alloc: Global, words: &str) -> Option<Side>
     Some(idle_side(alloc, role, txn))
 }
 
-/// The transaction that these words begin with, `GROUP TRANSACTION`, and the words behind it.
+/// The transaction that these words begin with, `GROUP TRANSACTION`, and the words after it.
 pub fn split_txn<'a>(alloc: Global, words: &'a str) -> Option<(TxnId, &'a str)> {
     let (group, words) = words.split_once(' ')?;
     let (transaction, words) = words.split_once(' ').unwrap_or((words, ""));

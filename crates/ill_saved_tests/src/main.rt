@@ -1,6 +1,6 @@
 //! Tests of saved records, stores and desks, whose cases are lines.
 //!
-//! Each line of standard input is a case. It is written again with the library's answer behind it, in place
+//! Each line of standard input is a case. It is written again with the library's answer after it, in place
 //! of the one that stands there; what a family of cases is answered stands below it. Notes, which begin
 //! with `# `, empty lines, and lines `let`, which give bytes a name, are written as they are. So `stdin` has
 //! the cases with the answers that they should get, and `stdout` is the same. Files stand in a folder that

@@ -18,7 +18,7 @@ pub fn write_records(alloc: Global, line: &mut Line, bytes: &[u8]) {
     }
 }
 
-/// The same of the bytes with their SHA-256 behind them.
+/// The same of the bytes with their SHA-256 after them.
 pub fn write_sealed(alloc: Global, line: &mut Line, bytes: &[u8]) -> Option<()> {
     let mut sealed = Vec::from_slice(alloc, bytes).ok()?;
     sealed.extend_from_slice(&Sha256::digest(bytes)).ok()?;

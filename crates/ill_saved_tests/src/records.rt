@@ -82,7 +82,7 @@ fn write_number(line: &mut Line, label: &str, number: Option<Number>) {
     }
 }
 
-/// Writes a day behind its label, if there is one.
+/// Writes a day after its label, if there is one.
 pub fn write_day(line: &mut Line, label: &str, day: Option<Day>) {
     if let Some(day) = day {
         line.text(label);
@@ -123,7 +123,7 @@ fn write_reply(line: &mut Line, answers: Number, yes: bool) {
     line.show(&answers.get());
 }
 
-/// Writes the messages that a side has issued, each behind its number.
+/// Writes the messages that a side has issued, each after its number.
 fn write_issued(alloc: Global, line: &mut Line, side: &Side) {
     let mut run = Run::new(alloc, "; ", 1);
     for index in 0..side.issued_count() {

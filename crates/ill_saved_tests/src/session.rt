@@ -51,7 +51,7 @@ impl<B: Answers> Session<B> {
         }
     }
 
-    /// Writes the answer of a line, or of each case of a family behind its number, from 0.
+    /// Writes the answer of a line, or of each case of a family after its number, from 0.
     fn cases(&mut self, line: &mut Line, call: CaseCall, words: &str) {
         line.text(":");
         let count = self.count(call, words);
@@ -72,9 +72,9 @@ impl<B: Answers> Session<B> {
         run.write(line);
     }
 
-    /// How many cases a line has. Those of `fronts` are fronts, which have the sizes from 0 on.
+    /// How many cases a line has. Those of `prefixes` are prefixes, which have the sizes from 0 on.
     fn count(&self, call: CaseCall, words: &str) -> usize {
-        if let CaseCall::Record(RecordCall::Fronts | RecordCall::RecordsFronts) = call {
+        if let CaseCall::Record(RecordCall::Prefixes | RecordCall::RecordsPrefixes) = call {
             if let Some(bytes) = self.names.bytes(words, 0) {
                 return bytes.len().saturating_add(1);
             }
@@ -100,14 +100,14 @@ impl<B: Answers> Session<B> {
             }
             CaseCall::Record(call) => {
                 let bytes = self.names.bytes(words, case)?;
-                write_bytes(self.alloc, line, call, front_of(call, &bytes, case))
+                write_bytes(self.alloc, line, call, prefix_of(call, &bytes, case))
             }
         }
     }
 }
 
 impl<B: Answers> Lines for Session<B> {
-    /// Performs a line. An answer that stands there, behind a case or below a family, is left out.
+    /// Performs a line. An answer that stands there, after a case or below a family, is left out.
     fn perform(&mut self, page: &mut Page, text: &str) {
         if !text.starts_with(INDENT) {
             let mut line = Line::new(self.alloc, None);
@@ -124,16 +124,16 @@ impl<B: Answers> Lines for Session<B> {
 /// Writes what bytes are as a record, of one side or of many.
 fn write_bytes(alloc: Global, line: &mut Line, call: RecordCall, bytes: &[u8]) -> Option<()> {
     match call {
-        RecordCall::Record | RecordCall::Octets | RecordCall::Fronts => {
+        RecordCall::Record | RecordCall::Octets | RecordCall::Prefixes => {
             write_record(alloc, line, bytes);
         }
-        RecordCall::Records | RecordCall::RecordsFronts => write_records(alloc, line, bytes),
+        RecordCall::Records | RecordCall::RecordsPrefixes => write_records(alloc, line, bytes),
         RecordCall::Sealed => write_sealed(alloc, line, bytes)?,
     }
     Some(())
 }
 
-/// A case without the answer behind it. Notes stay as they are.
+/// A case without the answer after it. Notes stay as they are.
 fn without_answer(text: &str) -> &str {
     if text.starts_with('#') {
         return text;
@@ -150,10 +150,10 @@ fn octet_of(call: CaseCall, case: usize) -> Option<u8> {
     }
 }
 
-/// The bytes of a case: a front of these, where the cases are fronts.
-fn front_of(call: RecordCall, bytes: &[u8], case: usize) -> &[u8] {
+/// The bytes of a case: a prefix of these, where the cases are prefixes.
+fn prefix_of(call: RecordCall, bytes: &[u8], case: usize) -> &[u8] {
     match call {
-        RecordCall::Fronts | RecordCall::RecordsFronts => bytes.get(..case).unwrap_or(bytes),
+        RecordCall::Prefixes | RecordCall::RecordsPrefixes => bytes.get(..case).unwrap_or(bytes),
         _ => bytes,
     }
 }

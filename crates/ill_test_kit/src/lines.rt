@@ -13,7 +13,7 @@ pub trait Lines {
     /// Performs a line, and adds what is printed of it to `page`.
     fn perform(&mut self, page: &mut Page, line: &str);
 
-    /// Ends behind the last line. Returns `None` if that fails.
+    /// Ends after the last line. Returns `None` if that fails.
     fn end(&mut self, page: &mut Page) -> Option<()>;
 }
 

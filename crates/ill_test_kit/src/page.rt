@@ -63,7 +63,7 @@ impl Page {
         self.octet(b'\n');
     }
 
-    /// Adds text, and spaces behind it until both have `width` bytes.
+    /// Adds text, and spaces after it until both have `width` bytes.
     pub fn text_to(&mut self, width: usize, text: &str) {
         self.text(text);
         for _ in text.len()..width {
@@ -77,10 +77,10 @@ impl Page {
         self.is_whole = self.is_whole && other.is_whole;
     }
 
-    /// Adds the lines of another page, each behind `front`.
-    pub fn page_behind(&mut self, front: &[u8], other: &Page) {
+    /// Adds the lines of another page, each after `prefix`.
+    pub fn page_after(&mut self, prefix: &[u8], other: &Page) {
         for line in other.bytes.split_inclusive(|byte| *byte == b'\n') {
-            self.push(front);
+            self.push(prefix);
             self.push(line);
         }
         self.is_whole = self.is_whole && other.is_whole;

@@ -77,12 +77,12 @@ impl Bytes {
     }
 }
 
-/// A reader that gives bytes, may fail behind them, and then gives others.
+/// A reader that gives bytes, may fail after them, and then gives others.
 #[derive(Drop)]
 pub struct TestReader {
     before: Bytes,
     failure: Failure,
-    behind: Bytes,
+    after: Bytes,
     is_slow: bool,
     has_bar: bool,
     has_failed: bool,
@@ -90,12 +90,12 @@ pub struct TestReader {
 }
 
 impl TestReader {
-    /// A reader that gives the bytes of `before`, fails, and then gives those of `behind`.
-    pub fn new(before: Vec<u8>, failure: Failure, behind: Vec<u8>) -> TestReader {
+    /// A reader that gives the bytes of `before`, fails, and then gives those of `after`.
+    pub fn new(before: Vec<u8>, failure: Failure, after: Vec<u8>) -> TestReader {
         TestReader {
             before: Bytes::new(before),
             failure,
-            behind: Bytes::new(behind),
+            after: Bytes::new(after),
             is_slow: false,
             has_bar: false,
             has_failed: false,
@@ -149,11 +149,11 @@ impl Read for TestReader {
                 None => Ok(0),
             };
         }
-        self.behind.read(&mut buffer[..count])
+        self.after.read(&mut buffer[..count])
     }
 }
 
-/// A writer that takes bytes, may refuse behind some, and then takes all.
+/// A writer that takes bytes, may refuse after some, and then takes all.
 #[derive(Drop)]
 pub struct TestWriter {
     /// The bytes that it took.

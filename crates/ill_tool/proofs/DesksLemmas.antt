@@ -29,9 +29,9 @@ joined_more : {X : Type 0} (form : Form) (text : X → List ℕ) (done : List X)
     → join_by text (between form false) (done ++ one ∷ []) ≡ join_by text (between form false) done ++ (between form (is_nothing done) ++ text one)
 joined_more form text [] one = append-nil (text one) ∙ ap (λ lead. lead ++ text one) (sym (lead form))
 joined_more {X} form text (first ∷ done) one =
-    let behind : X → List ℕ = λ item. between form false ++ text item in
-    ap (λ more. text first ++ more) (flat_map-append behind done (one ∷ []) ∙ ap (λ more. flat_map behind done ++ more) (append-nil (behind one)))
-    ∙ sym (append_assoc (text first) (flat_map behind done) (behind one))
+    let later : X → List ℕ = λ item. between form false ++ text item in
+    ap (λ more. text first ++ more) (flat_map-append later done (one ∷ []) ∙ ap (λ more. flat_map later done ++ more) (append-nil (later one)))
+    ∙ sym (append_assoc (text first) (flat_map later done) (later one))
 
 -- A place after another one is not the first.
 not_first : (place : ℕ) → (suc place == 0) ≡ false

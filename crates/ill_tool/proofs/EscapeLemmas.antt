@@ -46,21 +46,21 @@ first_stays escaping first second third rest pass passes =
     ∙ ap (λ (act : Bool). if act then escape escaping (number_of_three first second third) ++ written escaping rest else byte_text escaping first ++ written escaping (second ∷ third ∷ rest)) passes
 
 -- The last byte of a text is written by itself.
-pub last_stays : (escaping : Escaping) (first : ℕ) (behind : List ℕ) → behind ≡ []
-    → written escaping (first ∷ behind) ≡ byte_text escaping first ++ written escaping behind
+pub last_stays : (escaping : Escaping) (first : ℕ) (after : List ℕ) → after ≡ []
+    → written escaping (first ∷ after) ≡ byte_text escaping first ++ written escaping after
 unfolding written
-last_stays escaping first behind none =
-    subst (λ (behind : List ℕ). written escaping (first ∷ behind) ≡ byte_text escaping first ++ written escaping behind) (sym none)
+last_stays escaping first after none =
+    subst (λ (after : List ℕ). written escaping (first ∷ after) ≡ byte_text escaping first ++ written escaping after) (sym none)
     (sym (append-nil (byte_text escaping first)))
 
 -- If two bytes end a text and do not act, the first is written by itself.
-pub first_of_two_stays : (escaping : Escaping) (first second : ℕ) (behind rest : List ℕ) → behind ≡ second ∷ rest
+pub first_of_two_stays : (escaping : Escaping) (first second : ℕ) (after rest : List ℕ) → after ≡ second ∷ rest
     → rest ≡ [] → two_act first second ≡ false
-    → written escaping (first ∷ behind) ≡ byte_text escaping first ++ written escaping behind
+    → written escaping (first ∷ after) ≡ byte_text escaping first ++ written escaping after
 unfolding written
-first_of_two_stays escaping first second behind rest is none pass =
+first_of_two_stays escaping first second after rest is none pass =
     let both = ap (λ (act : Bool). if act then escape escaping (number_of_two first second) else byte_text escaping first ++ byte_text escaping second) pass in
-    subst (λ (behind : List ℕ). written escaping (first ∷ behind) ≡ byte_text escaping first ++ written escaping behind) (ap (λ (rest : List ℕ). second ∷ rest) (sym none) ∙ sym is) both
+    subst (λ (after : List ℕ). written escaping (first ∷ after) ≡ byte_text escaping first ++ written escaping after) (ap (λ (rest : List ℕ). second ∷ rest) (sym none) ∙ sym is) both
 
 -- If no byte is left to write, the text that was written is all of it.
 pub none_left : (escaping : Escaping) (shown all rest : List ℕ) → shown ++ written escaping rest ≡ all → rest ≡ [] → shown ≡ all

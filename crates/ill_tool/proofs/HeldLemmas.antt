@@ -24,15 +24,15 @@ unfolding side_with
 hidden_by txn sides held none found = true≢false (sym none ∙ ap is_none (found_mapped txn_held txn_of side_of (λ h. refl) txn sides ∙ ap (option_map side_of) found))
 
 -- If no later side has the transaction of `first`, a later side is found after it by its own transaction.
-found_behind : (first held : DeskEntry) (sides : List DeskEntry) (same : Bool)
+found_after : (first held : DeskEntry) (sides : List DeskEntry) (same : Bool)
     → is_same_txn (txn_held held) (txn_held first) ≡ same
     → is_none (side_with (txn_held first) (map side_of sides)) ≡ true
     → found_by txn_held (txn_held held) sides ≡ Some held
     → cond same (Some first) (found_by txn_held (txn_held held) sides) ≡ Some held
-found_behind first held sides true same none found =
+found_after first held sides true same none found =
     let of : txn_held held ≡ txn_held first = same_is (txn_held held) (txn_held first) same in
     absurd (hidden_by (txn_held first) sides held none (ap (λ t. found_by txn_held t sides) (sym of) ∙ found))
-found_behind first held sides false same none found = found
+found_after first held sides false same none found = found
 
 -- If no two sides are of one transaction, the side at `place` is found by its own.
 apart_found : (sides : List DeskEntry) (place : ℕ) (held : DeskEntry) → are_apart (map side_of sides) ≡ true
@@ -43,7 +43,7 @@ apart_found (first ∷ sides) zero held apart at =
     subst (λ (h : DeskEntry). found_by txn_held (txn_held h) (first ∷ sides) ≡ Some h) (some_is first held at) (ap (λ same. cond same (Some first) (found_by txn_held (txn_held first) sides)) (same_self (txn_held first)))
 apart_found (first ∷ sides) (suc place) held apart at =
     let parts = and_parts _ _ apart in
-    found_behind first held sides (is_same_txn (txn_held held) (txn_held first)) refl parts.0 (apart_found sides place held parts.1 at)
+    found_after first held sides (is_same_txn (txn_held held) (txn_held first)) refl parts.0 (apart_found sides place held parts.1 at)
 
 -- If no two sides are of one transaction, the side at `place` is the one held for its own.
 pub held_at_place : (live : DeskContents) (place : ℕ) (held : DeskEntry) → are_apart (sides_held live).sides ≡ true

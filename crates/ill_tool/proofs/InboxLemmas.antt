@@ -15,15 +15,15 @@ use Rattle.ill_tool.specs.declared.fault.ToolFault.{ToolFault}
 use Rattle.ill_tool.specs.Inbox.{EndedWell, RunsInbox, Sorting, answered_with, concluded, inbox_text, one_message, tally_line, tally_of}
 
 -- An APDU with further bytes after it is no message.
-behind_message : (a : Apdu) (rest : List ℕ) → 1 ≤ length rest → one_message (Ok (a, rest)) ≡ Err Trailing
-behind_message a [] some = absurd (omega (arith, some))
-behind_message a (byte ∷ rest) some = refl
+some_after : (a : Apdu) (rest : List ℕ) → 1 ≤ length rest → one_message (Ok (a, rest)) ≡ Err Trailing
+some_after a [] some = absurd (omega (arith, some))
+some_after a (byte ∷ rest) some = refl
 
 -- If an APDU is shorter than the bytes that it begins, the bytes are no message.
 pub trailing_unfit : (bytes : List ℕ) (read : Result (Apdu × List ℕ) DerFault) (found : Apdu × ℕ)
     → found.1 + 1 ≤ length bytes → Views bytes read (Ok found) → Err Trailing ≡ one_message read
 trailing_unfit bytes read found less viewed =
-    sym (ap one_message viewed.1 ∙ behind_message found.0 (drop found.1 bytes) (omega (arith, length-drop found.1 bytes, less)))
+    sym (ap one_message viewed.1 ∙ some_after found.0 (drop found.1 bytes) (omega (arith, length-drop found.1 bytes, less)))
 
 -- Sorted mails, with the line of their counts after their lines, are the concluded ones.
 pub concluded_is : {L : Type 0} (waiting : ℕ) (sorted end : Sorting L) (verdicts : List Verdict) (tally : Tally) (told : List ℕ)

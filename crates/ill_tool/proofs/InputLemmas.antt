@@ -79,11 +79,11 @@ each_as handles seen view as_seen old piece before (Ok fault) new after is = (is
 each_as handles seen view as_seen old piece before (Err fault) new after is = (is.0, fails_as handles seen view as_seen old piece before after fault is.1)
 
 -- APDUs handled to a state, and more handled from it, are handled together.
-handled_join : {S F : Type 0} (handles : Handles S F) (before middle after : S) (front more : List Apdu)
-    → Handled handles before front middle → Handled handles middle more after
-    → Handled handles before (front ++ more) after
+handled_join : {S F : Type 0} (handles : Handles S F) (before middle after : S) (prefix more : List Apdu)
+    → Handled handles before prefix middle → Handled handles middle more after
+    → Handled handles before (prefix ++ more) after
 handled_join handles before middle after [] more first second = subst (λ s. Handled handles s more after) first second
-handled_join handles before middle after (apdu ∷ front) more first second = (first.0, first.1, handled_join handles first.0 middle after front more first.2 second)
+handled_join handles before middle after (apdu ∷ prefix) more first second = (first.0, first.1, handled_join handles first.0 middle after prefix more first.2 second)
 
 -- APDUs that were handled and counted raise the count by their number, to 100,000 at most, and are handled.
 counted_on : {S : Type 0} (handles : Handles S ToolFault) (before after : ℕ × S) (apdus : List Apdu)
@@ -115,10 +115,10 @@ each_counted {H = H} {C = C} handles old feed piece before result new after same
 -- ---- lists of APDUs
 
 -- If all of two lists are APDUs, so are all of their join.
-all_join : (front more : List Apdu) → AllByRecursion IsApdu front → AllByRecursion IsApdu more
-    → AllByRecursion IsApdu (front ++ more)
+all_join : (prefix more : List Apdu) → AllByRecursion IsApdu prefix → AllByRecursion IsApdu more
+    → AllByRecursion IsApdu (prefix ++ more)
 all_join [] more all others = others
-all_join (apdu ∷ front) more all others = (all.0, all_join front more all.1 others)
+all_join (apdu ∷ prefix) more all others = (all.0, all_join prefix more all.1 others)
 
 -- If all of a list and one more are APDUs, so are all of the list, and the last.
 last_of : (apdus : List Apdu) (apdu : Apdu) → AllByRecursion IsApdu (apdus ++ apdu ∷ [])
@@ -127,9 +127,9 @@ last_of [] apdu all = (tt, all.0)
 last_of (first ∷ apdus) apdu all = (let others = last_of apdus apdu all.1 in ((all.0, others.0), others.1))
 
 -- The encodings of two lists, one after the other, are those of their join.
-spelled_join : (front more : List Apdu) (rest : List ℕ)
-    → spellings front ++ (spellings more ++ rest) ≡ spellings (front ++ more) ++ rest
-spelled_join front more rest = sym (append_assoc (spellings front) (spellings more) rest) ∙ ap (λ (x : List ℕ). x ++ rest) (sym (flat_map-append spelling front more))
+spelled_join : (prefix more : List Apdu) (rest : List ℕ)
+    → spellings prefix ++ (spellings more ++ rest) ≡ spellings (prefix ++ more) ++ rest
+spelled_join prefix more rest = sym (append_assoc (spellings prefix) (spellings more) rest) ∙ ap (λ (x : List ℕ). x ++ rest) (sym (flat_map-append spelling prefix more))
 
 -- ---- the APDUs so far
 

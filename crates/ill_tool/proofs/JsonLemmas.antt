@@ -10,7 +10,7 @@ pub one_joined : {X : Type 0} (text : X → List ℕ) (before shown : List ℕ) 
 unfolding joined
 one_joined text before shown items place item there =
     let left = joined text (codes ",") (drop (place + 1) items) in
-    ap (λ front. front ++ left) (append_assoc shown before (text item))
+    ap (λ prefix. prefix ++ left) (append_assoc shown before (text item))
     ∙ append_assoc shown (before ++ text item) left
     ∙ ap (λ items. shown ++ joined text before items) (sym there)
 
@@ -47,6 +47,6 @@ joined_further text before old shown first items more so_far =
     let this = before ++ text first in
     let middle = joined text (codes ",") items in
     let left = joined text (codes ",") more in
-    ap (λ front. front ++ left) so_far
+    ap (λ prefix. prefix ++ left) so_far
     ∙ append_assoc old (this ++ middle) left
-    ∙ ap (λ behind. old ++ behind) (append_assoc this middle left ∙ ap (λ behind. this ++ behind) (sym (joined_more text items more)))
+    ∙ ap (λ after. old ++ after) (append_assoc this middle left ∙ ap (λ after. this ++ after) (sym (joined_more text items more)))

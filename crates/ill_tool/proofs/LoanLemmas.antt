@@ -28,7 +28,7 @@ pub one_named : {X Y : Type 0} (text : Y → List ℕ) (name : X → List ℕ) (
     → text word ≡ name item
     → map text (named ++ word ∷ []) ++ map name (drop (place + 1) items) ≡ map text named ++ map name (drop place items)
 one_named text name named items place item word within there is =
-    ap (λ front. front ++ map name (drop (place + 1) items)) (map-append text named (word ∷ []))
+    ap (λ prefix. prefix ++ map name (drop (place + 1) items)) (map-append text named (word ∷ []))
     ∙ append_assoc (map text named) (text word ∷ []) (map name (drop (place + 1) items))
     ∙ ap (λ first. map text named ++ (first ∷ map name (drop (place + 1) items))) is
     ∙ ap (λ left. map text named ++ map name left) (sym (from_place items place item within there))

@@ -11,7 +11,7 @@ use Rattle.ill_tool.specs.Waiting.{placed, ordered}
 placed_one : {X Y : Type 0} (f : X → Y) (lt : Y → Y → Bool) (item first : X) (others : List X) (is_first : Bool)
     → map f (placed (λ (a b : X). lt (f a) (f b)) item others) ≡ placed lt (f item) (map f others)
     → map f (cond is_first (first ∷ placed (λ (a b : X). lt (f a) (f b)) item others) (item ∷ first ∷ others)) ≡ cond is_first (f first ∷ placed lt (f item) (map f others)) (f item ∷ f first ∷ map f others)
-placed_one f lt item first others true further = ap (λ behind. f first ∷ behind) further
+placed_one f lt item first others true further = ap (λ after. f first ∷ after) further
 placed_one f lt item first others false further = refl
 
 -- If items are placed by a function `f`, their images are placed by the order of images.
@@ -35,10 +35,10 @@ module _ {X : Type 0} (lt : X → X → Bool) (o : IsStrictWeakOrder lt) where
 
   -- If `y` does not come before `x`, and none of `ys` before `y`, none of `ys` comes before `x`.
   none_before : (x y : X) (ys : List X) → lt y x ≡ false → list_any (λ z. lt z y) ys ≡ false → list_any (λ z. lt z x) ys ≡ false
-  none_before x y [] behind none = refl
-  none_before x y (z ∷ zs) behind none =
+  none_before x y [] after none = refl
+  none_before x y (z ∷ zs) after none =
       let parts = or_parts (lt z y) (list_any (λ z. lt z y) zs) none in
-      or_from (lt z x) (list_any (λ z. lt z x) zs) (o.chain z y x parts.0 behind) (none_before x y zs behind parts.1)
+      or_from (lt z x) (list_any (λ z. lt z x) zs) (o.chain z y x parts.0 after) (none_before x y zs after parts.1)
 
   -- One step of `none_placed`: with `x` past `y` or before it, no item passes the test.
   none_of_two : (test : X → Bool) (x y : X) (ys : List X) (is_first : Bool) → test x ≡ false → (test y || list_any test ys) ≡ false → list_any test (placed lt x ys) ≡ false
@@ -77,18 +77,18 @@ module _ {X : Type 0} (lt : X → X → Bool) (o : IsStrictWeakOrder lt) where
       true≢false (sym is ∙ o.chain y w x to_w from_w)
 
   -- If not both of two items are kept, the kept part of them does not depend on their order.
-  kept_alike : (x y : X) (behind : List X) (keeps_x keeps_y : Bool) → (keeps_y ≡ true → keeps_x ≡ true → ⊥)
-      → cond keeps_y (y ∷ cond keeps_x (x ∷ behind) behind) (cond keeps_x (x ∷ behind) behind) ≡ cond keeps_x (x ∷ cond keeps_y (y ∷ behind) behind) (cond keeps_y (y ∷ behind) behind)
-  kept_alike x y behind true true never = absurd (never refl refl)
-  kept_alike x y behind true false never = refl
-  kept_alike x y behind false true never = refl
-  kept_alike x y behind false false never = refl
+  kept_alike : (x y : X) (after : List X) (keeps_x keeps_y : Bool) → (keeps_y ≡ true → keeps_x ≡ true → ⊥)
+      → cond keeps_y (y ∷ cond keeps_x (x ∷ after) after) (cond keeps_x (x ∷ after) after) ≡ cond keeps_x (x ∷ cond keeps_y (y ∷ after) after) (cond keeps_y (y ∷ after) after)
+  kept_alike x y after true true never = absurd (never refl refl)
+  kept_alike x y after true false never = refl
+  kept_alike x y after false true never = refl
+  kept_alike x y after false false never = refl
 
   -- One step of `placed_stable`: placed past `y` or before it, an item leaves those that tie in their order.
   placed_one_stable : (w x y : X) (ys : List X) (is_first : Bool) → lt y x ≡ is_first → filter (ties lt w) (placed lt x ys) ≡ filter (ties lt w) (x ∷ ys)
       → filter (ties lt w) (cond is_first (y ∷ placed lt x ys) (x ∷ y ∷ ys)) ≡ filter (ties lt w) (x ∷ y ∷ ys)
   placed_one_stable w x y ys true is further =
-      ap (λ behind. cond (ties lt w y) (y ∷ behind) behind) further
+      ap (λ after. cond (ties lt w y) (y ∷ after) after) further
       ∙ kept_alike x y (filter (ties lt w) ys) (ties lt w x) (ties lt w y) (not_both w x y is)
   placed_one_stable w x y ys false is further = refl
 
@@ -100,7 +100,7 @@ module _ {X : Type 0} (lt : X → X → Bool) (o : IsStrictWeakOrder lt) where
   -- Ordered items have those that tie with any `w` in their old order.
   ordered_stable : (w : X) (xs : List X) → filter (ties lt w) (ordered lt xs) ≡ filter (ties lt w) xs
   ordered_stable w [] = refl
-  ordered_stable w (x ∷ xs) = placed_stable w x (ordered lt xs) ∙ ap (λ behind. cond (ties lt w x) (x ∷ behind) behind) (ordered_stable w xs)
+  ordered_stable w (x ∷ xs) = placed_stable w x (ordered lt xs) ∙ ap (λ after. cond (ties lt w x) (x ∷ after) after) (ordered_stable w xs)
 
   -- ---- there is one such order
 
@@ -139,9 +139,9 @@ module _ {X : Type 0} (lt : X → X → Bool) (o : IsStrictWeakOrder lt) where
   stands_first keeps x xs kept = ap (λ (is_kept : Bool). cond is_kept (x ∷ filter keeps xs) (filter keeps xs)) kept
 
   -- If the kept parts of two lists with one head are equal, the kept parts of their tails are.
-  behind_first : (x : X) (ys zs : List X) (is_kept : Bool) → cond is_kept (x ∷ ys) ys ≡ cond is_kept (x ∷ zs) zs → ys ≡ zs
-  behind_first x ys zs true same = cc
-  behind_first x ys zs false same = same
+  after_first : (x : X) (ys zs : List X) (is_kept : Bool) → cond is_kept (x ∷ ys) ys ≡ cond is_kept (x ∷ zs) zs → ys ≡ zs
+  after_first x ys zs true same = cc
+  after_first x ys zs false same = same
 
   -- Two lists in order are one, if those that tie with any item stand in both alike.
   alike : (ys zs : List X) → IsInOrder ys → IsInOrder zs → ((w : X) → filter (ties lt w) ys ≡ filter (ties lt w) zs) → ys ≡ zs
@@ -155,8 +155,8 @@ module _ {X : Type 0} (lt : X → X → Bool) (o : IsStrictWeakOrder lt) where
       let not_z = first_kept (ties lt z) (λ v. lt v y) z (filter (ties lt z) zs) (y ∷ ys) of_z (or_from (lt y y) (list_any (λ v. lt v y) ys) (not_self y) y_order.0) in
       let both = sym of_y ∙ stands_first (ties lt y) z zs (both_tie y z not_y not_z) in
       let is : y ≡ z = cc in
-      let behind = alike ys zs y_order.1 z_order.1 (λ w. behind_first y (filter (ties lt w) ys) (filter (ties lt w) zs) (ties lt w y) (same w ∙ ap (λ (x : X). filter (ties lt w) (x ∷ zs)) (sym is))) in
-      ap (λ (x : X). x ∷ ys) is ∙ ap (λ (rest : List X). z ∷ rest) behind
+      let after = alike ys zs y_order.1 z_order.1 (λ w. after_first y (filter (ties lt w) ys) (filter (ties lt w) zs) (ties lt w y) (same w ∙ ap (λ (x : X). filter (ties lt w) (x ∷ zs)) (sym is))) in
+      ap (λ (x : X). x ∷ ys) is ∙ ap (λ (rest : List X). z ∷ rest) after
 
   -- Sorted items are in order.
   in_order_from_sorted : (xs : List X) → IsSortedBy lt xs → IsInOrder xs

@@ -10,7 +10,7 @@ use Rattle.ill_saved.proofs.Finding.{some_is}
 use Rattle.ill_tool.specs.declared.fault.ToolFault.{ToolFault}
 use Rattle.ill_tool.specs.declared.verdict.Mail.{Mail}
 use Rattle.ill_tool.specs.declared.verdict.Verdict.{Verdict}
-use Rattle.ill_tool.specs.Output.{WritesFront}
+use Rattle.ill_tool.specs.Output.{WritesPrefix}
 use Rattle.ill_tool.specs.declared.outbox.Leaving.{Leaving}
 use Rattle.ill_tool.specs.Outbox.{Letter, RunsOutbox, StreamsOutbox, after_all, after_one, asked_by, asks_at, issue_of, letter_of, letters_of, stream_of}
 use Rattle.std.specs.List.{fold}
@@ -44,7 +44,7 @@ stream_has letters start bytes empty put =
 pub stream_written : (asking : List ℕ) (held : List DeskEntry) (start bytes gathered : List ℕ) (count : ℕ) (before after : Option (List ℕ)) (result : Result (Unit {0}) ToolFault)
     → start ≡ [] → gathered ≡ bytes
     → RunsOutbox (λ there letter. there ++ letter.bytes) asking held (Some start) (Some bytes) (Ok count)
-    → WritesFront before after gathered result → StreamsOutbox asking held before after result
+    → WritesPrefix before after gathered result → StreamsOutbox asking held before after result
 stream_written asking held start bytes gathered count before after (Ok done) empty same (a, are, (counted, put)) written =
     (a, are, subst (λ text. Appends before after text) (same ∙ stream_has (letters_of a held) start bytes empty put) written)
 stream_written asking held start bytes gathered count before after (Err fault) empty same (a, are, (counted, put)) (failed, (size, written)) =

@@ -88,10 +88,10 @@ refused_on (Some value) next (Fault OutOfMemory) right = right
 refused_on (Some value) next (Fault other) right = search rules
 
 -- A refusal for the argument after one that was read is a refusal for all.
-pub refused_behind : {A B C : Type 0} (first : Option A) (value : A) (second : Option B) (next : A → B → Option C) (refusal : Refusal)
+pub refused_after : {A B C : Type 0} (first : Option A) (value : A) (second : Option B) (next : A → B → Option C) (refusal : Refusal)
     → first ≡ Some value
     → IsRefusal (is_none second) refusal → IsRefusal (is_none (first >>= λ value. second >>= next value)) refusal
-refused_behind {A} first value second next refusal is right =
+refused_after {A} first value second next refusal is right =
     subst (λ (first : Option A). IsRefusal (is_none (first >>= λ value. second >>= next value)) refusal) (sym is) (refused_on second (next value) refusal right)
 
 -- A refusal for the argument after two that were read is a refusal for all.
@@ -100,4 +100,4 @@ pub refused_third : {A B C D : Type 0} (first : Option A) (a : A) (second : Opti
     → second ≡ Some b → IsRefusal (is_none third) refusal
     → IsRefusal (is_none (first >>= λ a. second >>= λ b. third >>= next a b)) refusal
 refused_third {A} first a second b third next refusal is also right =
-    subst (λ (first : Option A). IsRefusal (is_none (first >>= λ a. second >>= λ b. third >>= next a b)) refusal) (sym is) (refused_behind second b third (next a) refusal also right)
+    subst (λ (first : Option A). IsRefusal (is_none (first >>= λ a. second >>= λ b. third >>= next a b)) refusal) (sym is) (refused_after second b third (next a) refusal also right)

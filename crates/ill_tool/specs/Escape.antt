@@ -86,9 +86,9 @@ escaped text = written Screen text
 
 -- A text begins with a character that is escaped, given by its number and the text after it. Or it begins
 -- with a byte.
-abbrev pub IsFront : Escaping → ℕ → List ℕ → Option (ℕ × List ℕ) → Type 0
-IsFront escaping first behind (Some (number, rest)) =
-    (written escaping (first ∷ behind) ≡ escape escaping number ++ written escaping rest)
-    × (length rest ≤ length behind)
-IsFront escaping first behind None =
-    written escaping (first ∷ behind) ≡ byte_text escaping first ++ written escaping behind
+abbrev pub IsActingPrefix : Escaping → ℕ → List ℕ → Option (ℕ × List ℕ) → Type 0
+IsActingPrefix escaping first after (Some (number, rest)) =
+    (written escaping (first ∷ after) ≡ escape escaping number ++ written escaping rest)
+    × (length rest ≤ length after)
+IsActingPrefix escaping first after None =
+    written escaping (first ∷ after) ≡ byte_text escaping first ++ written escaping after

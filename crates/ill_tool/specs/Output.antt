@@ -5,10 +5,10 @@ use Rattle.ill_tool.specs.declared.fault.ToolFault.{ToolFault}
 use Rattle.ill_tool.specs.declared.fault.ToolFault.TheVariants.{Write, OutOfMemory}
 
 -- All bytes were written, or a prefix of them if the writer failed.
-abbrev pub WritesFront : Option (List ℕ) → Option (List ℕ) → List ℕ →
+abbrev pub WritesPrefix : Option (List ℕ) → Option (List ℕ) → List ℕ →
     Result (Unit {0}) ToolFault → Type 0
-WritesFront before after bytes (Ok done) = Appends before after bytes
-WritesFront before after bytes (Err fault) =
+WritesPrefix before after bytes (Ok done) = Appends before after bytes
+WritesPrefix before after bytes (Err fault) =
     (fault ≡ Write) × ((size : ℕ) × Appends before after (take size bytes))
 
 -- A text was written, or a prefix of it if the writer failed, or nothing without memory for it.

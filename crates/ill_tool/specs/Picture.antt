@@ -11,7 +11,7 @@ use Rattle.ill_saved.specs.declared.side.Side.TheVariants.{Requester, Responder}
 use Rattle.ill_saved.specs.Side.{issued_of}
 use Rattle.ill_saved.specs.Holdings.{DeskEntry}
 use Rattle.ill_tool.specs.declared.picture.Link.{Link}
-use Rattle.ill_tool.specs.declared.picture.Link.TheVariants.{Before, Behind}
+use Rattle.ill_tool.specs.declared.picture.Link.TheVariants.{Before, After}
 use Rattle.ill_tool.specs.Escape.{is_within}
 use Rattle.ill_values.specs.Types.{type_name}
 use Rattle.ill_tool.specs.Lines.{shown_fields}
@@ -82,7 +82,7 @@ comes_before their own = false
 -- Returns true if one of theirs stands before an own message, or answers it.
 abbrev pub is_linked : Link → Apdu → Apdu → Bool
 is_linked Before own their = comes_before their.body own.body || answers own.body their.number
-is_linked Behind own their = answers their.body own.number
+is_linked After own their = answers their.body own.number
 
 -- The number of messages of theirs that were passed, and the number up to the last that is linked.
 pub record Reached : Type 0 where
@@ -110,17 +110,17 @@ abbrev pub linked : Link → Apdu → List Apdu → List Apdu
 linked link own theirs = take (through link own theirs) theirs
 
 -- Returns the messages of theirs after the last that is linked.
-abbrev pub behind : Link → Apdu → List Apdu → List Apdu
-behind link own theirs = drop (through link own theirs) theirs
+abbrev pub not_linked : Link → Apdu → List Apdu → List Apdu
+not_linked link own theirs = drop (through link own theirs) theirs
 
 -- Returns the drawing after an own message. The messages of theirs that stand before it come first, and those
 -- that answer it come after it.
 abbrev pub with_own : Drawing → Apdu → Drawing
 with_own so_far own =
-    let left = behind Before own so_far.left in
+    let left = not_linked Before own so_far.left in
     record {
-      lines = so_far.lines ++ (arrows (linked Before own so_far.left) ++ (arrow own ++ arrows (linked Behind own left)));
-      left = behind Behind own left;
+      lines = so_far.lines ++ (arrows (linked Before own so_far.left) ++ (arrow own ++ arrows (linked After own left)));
+      left = not_linked After own left;
     }
 
 -- ---- the picture

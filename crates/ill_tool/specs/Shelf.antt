@@ -82,16 +82,16 @@ abbrev pub gravest : List Stop → Result Bool ToolFault
 gravest stops = fold graver (Ok true) (map (λ stop. stop.answer) stops)
 
 -- A desk was visited after the line of its path; or that line could not be written.
-abbrev pub Behind : (Option (List ℕ) → Option (List ℕ) → Result Bool ToolFault → Type 0) → Result (Unit {0}) ToolFault →
+abbrev pub RunsAfter : (Option (List ℕ) → Option (List ℕ) → Result Bool ToolFault → Type 0) → Result (Unit {0}) ToolFault →
     Option (List ℕ) → Option (List ℕ) → Result Bool ToolFault → Type 0
-Behind Runs (Ok done) between after answer = Runs between after answer
-Behind Runs (Err fault) between after answer = (answer ≡ Err fault) × (after ≡ between)
+RunsAfter Runs (Ok done) between after answer = Runs between after answer
+RunsAfter Runs (Err fault) between after answer = (answer ≡ Err fault) × (after ≡ between)
 
 -- The line of its path was written if `is_headed`, and then a desk was visited.
 abbrev pub Headed : Bool → (Option (List ℕ) → Option (List ℕ) → Result Bool ToolFault → Type 0) → Stop → Type 0
 Headed is_headed Runs stop =
     (between : Option (List ℕ)) × (told : Result (Unit {0}) ToolFault)
-    × WritesText stop.before between (heading is_headed stop.path) told × Behind Runs told between stop.after stop.answer
+    × WritesText stop.before between (heading is_headed stop.path) told × RunsAfter Runs told between stop.after stop.answer
 
 -- Returns true for the form in which a line of its path stands before each desk.
 abbrev pub is_lines : Form → Bool

@@ -33,11 +33,11 @@ kept_text false a = []
 
 -- A text was written and flushed. Or a prefix of it was written, and that is a failure of the store. Or
 -- memory ran out for it.
-abbrev pub KeepsFront : List ℕ → Option (List ℕ) → Option (List ℕ) → Result (Unit {0}) ToolFault → Type 0
-KeepsFront text before after (Ok done) = Appends before after text
-KeepsFront text before after (Err (Desk (desks.Store Failed))) = (size : ℕ) × Appends before after (take size text)
-KeepsFront text before after (Err OutOfMemory) = Appends before after []
-KeepsFront text before after (Err other) = ⊥
+abbrev pub KeepsPrefix : List ℕ → Option (List ℕ) → Option (List ℕ) → Result (Unit {0}) ToolFault → Type 0
+KeepsPrefix text before after (Ok done) = Appends before after text
+KeepsPrefix text before after (Err (Desk (desks.Store Failed))) = (size : ℕ) × Appends before after (take size text)
+KeepsPrefix text before after (Err OutOfMemory) = Appends before after []
+KeepsPrefix text before after (Err other) = ⊥
 
 -- A text is kept before more has landed: all of it is, or a prefix of it, and nothing more has landed.
 abbrev pub KeepsBefore : {L X : Type 0} → List ℕ → Result X ToolFault → Option (List ℕ) → Option (List ℕ) →

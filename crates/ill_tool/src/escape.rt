@@ -1,7 +1,7 @@
 //! Texts on which no terminal acts.
 
 ghost use Rattle.std.specs.Prelude.{◌≡◌, ◌≤◌, ◌++◌, ◌∷◌, length, option_map, IfOk, OnOk};
-ghost use Rattle.ill_tool.specs.Escape.{IsFront, byte_text, escape, escaped, goes_on, is_acting, is_control, is_marked, number_of_three, number_of_two, three_act, two_act, written};
+ghost use Rattle.ill_tool.specs.Escape.{IsActingPrefix, byte_text, escape, escaped, goes_on, is_acting, is_control, is_marked, number_of_three, number_of_two, three_act, two_act, written};
 ghost use Rattle.ill_tool.specs.declared.escape.Escaping.TheVariants as escapings;
 
 use ill_values::OutOfMemory;
@@ -32,41 +32,41 @@ pub(crate) fn push_written(
     ensures { OnOk result (text.new.items ≡ text.old.items ++ written escaping item.now) }
 {
     let mut rest = item;
-    while let Some((first, behind)) = rest.split_first() {
-        rest = push_front(text, escaping, *first, behind)?;
+    while let Some((first, after)) = rest.split_first() {
+        rest = push_heading(text, escaping, *first, after)?;
     }
     Ok(())
 }
 
 /// Appends the first character, or its first byte, and returns the bytes after it.
-fn push_front<'a>(
+fn push_heading<'a>(
     text: &mut Vec<u8>,
     escaping: Escaping,
     first: u8,
-    behind: &'a [u8],
+    after: &'a [u8],
 ) -> Result<&'a [u8], OutOfMemory>
-    ensures front { IfOk result (λ rest. text.new.items ++ written escaping rest.now
-        ≡ text.old.items ++ written escaping (first ∷ behind.now)) }
-    ensures shorter { IfOk result (λ rest. length rest.now ≤ length behind.now) }
+    ensures prefix { IfOk result (λ rest. text.new.items ++ written escaping rest.now
+        ≡ text.old.items ++ written escaping (first ∷ after.now)) }
+    ensures shorter { IfOk result (λ rest. length rest.now ≤ length after.now) }
 {
-    match acting_front(escaping, first, behind) {
+    match acting_prefix(escaping, first, after) {
         Some((number, rest)) => {
             push_escape(text, escaping, number)?;
             Ok(rest)
         }
         None => {
             push_byte(text, escaping, first)?;
-            Ok(behind)
+            Ok(after)
         }
     }
 }
 
 /// Returns the number of the first character and the bytes after it, if a terminal may act on it.
 #[tactic(auto, using(crate::proofs::EscapeLemmas::two_escape, crate::proofs::EscapeLemmas::three_escape, crate::proofs::EscapeLemmas::first_stays))]
-fn acting_front(_escaping: Escaping, first: u8, behind: &[u8]) -> Option<(u32, &[u8])>
-    ensures { IsFront _escaping first behind.now (option_map (λ found. (found.0, found.1.now)) result) }
+fn acting_prefix(_escaping: Escaping, first: u8, after: &[u8]) -> Option<(u32, &[u8])>
+    ensures { IsActingPrefix _escaping first after.now (option_map (λ found. (found.0, found.1.now)) result) }
 {
-    let Some((second, rest)) = behind.split_first() else {
+    let Some((second, rest)) = after.split_first() else {
         return None;
     };
     if two_act(first, *second) {

@@ -1,6 +1,6 @@
 //! The part of all commands that writes.
 
-ghost use Rattle.ill_tool.specs.Output.{WritesFront};
+ghost use Rattle.ill_tool.specs.Output.{WritesPrefix};
 
 use crate::fault::ToolFault;
 use ill_der::write_bytes;
@@ -8,7 +8,7 @@ use std::io::Write;
 
 /// Writes all of `bytes`, or a prefix of them if the writer fails.
 pub fn write_whole<W: Write>(writer: &mut W, bytes: &[u8]) -> Result<(), ToolFault>
-    ensures { WritesFront (W.contents writer.old) (W.contents writer.new) bytes.now result }
+    ensures { WritesPrefix (W.contents writer.old) (W.contents writer.new) bytes.now result }
 {
     match write_bytes(writer, bytes) {
         Ok(()) => Ok(()),
@@ -18,7 +18,7 @@ pub fn write_whole<W: Write>(writer: &mut W, bytes: &[u8]) -> Result<(), ToolFau
 
 /// Writes all of `bytes` and flushes the writer, so that they do not wait in it.
 pub fn write_and_flush<W: Write>(writer: &mut W, bytes: &[u8]) -> Result<(), ToolFault>
-    ensures { WritesFront (W.contents writer.old) (W.contents writer.new) bytes.now result }
+    ensures { WritesPrefix (W.contents writer.old) (W.contents writer.new) bytes.now result }
 {
     write_whole(writer, bytes)?;
     let Ok(()) = writer.flush() else {

@@ -4,7 +4,7 @@ ghost use Rattle.std.specs.Prelude.{◌≡◌, ◌≤◌, ◌++◌, length, IfOk
 ghost use Rattle.ill_saved.specs.Side.{txn_of, issued_of};
 ghost use Rattle.ill_saved.specs.ManySides.{found_by, txn_held};
 ghost use Rattle.ill_tool.specs.Kept.{RunsKeptLoan, WritesKept};
-ghost use Rattle.ill_tool.specs.Picture.{answers, arrow, arrows, behind, comes_before, drawn, drawn_byte, is_linked, is_plain, label_of, linked, picture, picture_of, theirs_of, through, way_of, with_own, with_request, without_last};
+ghost use Rattle.ill_tool.specs.Picture.{answers, arrow, arrows, not_linked, comes_before, drawn, drawn_byte, is_linked, is_plain, label_of, linked, picture, picture_of, theirs_of, through, way_of, with_own, with_request, without_last};
 
 use crate::fault::ToolFault;
 use crate::kept::{apdus_in, is_among, kept_of};
@@ -108,7 +108,7 @@ fn push_own<'a>(
     let (before, left) = theirs.split_at(through(Link::Before, own, theirs));
     push_arrows(lines, before)?;
     push_arrow(lines, own)?;
-    let (answers, left) = left.split_at(through(Link::Behind, own, left));
+    let (answers, left) = left.split_at(through(Link::After, own, left));
     push_arrows(lines, answers)?;
     Ok(left)
 }
@@ -119,7 +119,7 @@ enum Link {
     /// It stands before it.
     Before,
     /// It answers it.
-    Behind,
+    After,
 }
 
 /// Returns the number of messages in `theirs` up to the last that has the relation `link` to `own`. Without one it is
@@ -143,7 +143,7 @@ fn is_linked(link: Link, own: &Apdu, their: &Apdu) -> bool
 {
     match link {
         Link::Before => comes_before(&their.body, &own.body) || answers(&own.body, their.number),
-        Link::Behind => answers(&their.body, own.number),
+        Link::After => answers(&their.body, own.number),
     }
 }
 

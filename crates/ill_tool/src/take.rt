@@ -5,7 +5,7 @@ ghost use Rattle.ill_der.specs.ShortForm.{spelling};
 ghost use Rattle.ill_saved.specs.OneSide.{one_side};
 ghost use Rattle.ill_saved.specs.ManySides.{many_sides};
 ghost use Rattle.ill_tool.specs.Performing.{view_of, CountsToolFailure};
-ghost use Rattle.ill_tool.specs.Take.{CountsTaking, KeepsBefore, KeepsDesk, KeepsFront, KeepsTaken, RunsKeptTake, RunsTake, RunsTaking, SavesTaken, TakesAndSaves, kept_text, progress, takes_each};
+ghost use Rattle.ill_tool.specs.Take.{CountsTaking, KeepsBefore, KeepsDesk, KeepsPrefix, KeepsTaken, RunsKeptTake, RunsTake, RunsTaking, SavesTaken, TakesAndSaves, kept_text, progress, takes_each};
 ghost use Rattle.ill_tool.specs.Telling.{long, short, wording};
 
 use crate::came::STORE_FAILED;
@@ -310,7 +310,7 @@ fn keep_and_save<H: Holdings, S: Store, F: Write, const KEEP: bool>(
 
 /// Keeps the message `apdu`: its bytes are written and flushed.
 fn keep<F: Write>(alloc: Global, came: &mut F, apdu: &Apdu) -> Result<(), ToolFault>
-    ensures { KeepsFront (spelling apdu.now) (F.contents came.old) (F.contents came.new) result }
+    ensures { KeepsPrefix (spelling apdu.now) (F.contents came.old) (F.contents came.new) result }
 {
     let bytes = encode(alloc, apdu)?;
     keep_bytes(came, &bytes)
@@ -318,7 +318,7 @@ fn keep<F: Write>(alloc: Global, came: &mut F, apdu: &Apdu) -> Result<(), ToolFa
 
 /// Keeps `bytes` of messages: they are written and flushed.
 pub(crate) fn keep_bytes<F: Write>(came: &mut F, bytes: &[u8]) -> Result<(), ToolFault>
-    ensures { KeepsFront bytes.now (F.contents came.old) (F.contents came.new) result }
+    ensures { KeepsPrefix bytes.now (F.contents came.old) (F.contents came.new) result }
 {
     match write_and_flush(came, bytes) {
         Ok(()) => Ok(()),

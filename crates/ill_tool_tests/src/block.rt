@@ -62,7 +62,7 @@ impl Block {
         cases
     }
 
-    /// The values of this case, one behind another.
+    /// The values of this case, one after another.
     pub fn values(&self, case: usize) -> Option<String> {
         let mut marks = String::new(self.alloc);
         for variable in &self.variables {

@@ -157,9 +157,9 @@ impl<'a> Call<'a> {
         match on {
             MemoryCall::Take => {
                 let bytes = bytes_of(names, self.input)?;
-                let front = bytes.get(..ends(alloc, &bytes)?.get(count).copied()?)?;
-                let front = Vec::from_slice(alloc, front).ok()?;
-                self.source = TestReader::new(front, Failure::NEVER, Vec::new(alloc));
+                let prefix = bytes.get(..ends(alloc, &bytes)?.get(count).copied()?)?;
+                let prefix = Vec::from_slice(alloc, prefix).ok()?;
+                self.source = TestReader::new(prefix, Failure::NEVER, Vec::new(alloc));
             }
             _ => self.words = self.words.get(..count)?,
         }
@@ -190,8 +190,8 @@ pub fn input_of(names: &Names, words: &[Word]) -> Option<Vec<u8>> {
     bytes_of(names, Parts::of(words).input.unwrap_or(&[]))
 }
 
-/// Returns how many fronts there are of the messages or mails of a call. Those of another call are none.
-pub fn front_count(alloc: Global, names: &Names, on: MemoryCall, words: &[Word]) -> usize {
+/// Returns how many prefixes there are of the messages or mails of a call. Those of another call are none.
+pub fn prefix_count(alloc: Global, names: &Names, on: MemoryCall, words: &[Word]) -> usize {
     match on {
         MemoryCall::Take => input_of(names, words)
             .and_then(|bytes| ends(alloc, &bytes))
@@ -201,7 +201,7 @@ pub fn front_count(alloc: Global, names: &Names, on: MemoryCall, words: &[Word])
     }
 }
 
-/// Returns the size of each front of whole messages, from 0 on.
+/// Returns the size of each prefix of whole messages, from 0 on.
 fn ends(alloc: Global, bytes: &[u8]) -> Option<Vec<usize>> {
     let mut ends = Vec::new(alloc);
     let mut end = 0;

@@ -79,7 +79,7 @@ fn perform_once(
 fn tell_faults(page: &mut Page, tries: &[Seen<'_>], last: &Seen<'_>) {
     for seen in tries {
         let is_fine = if seen.call.says_memory {
-            is_front(&seen.call.output.taken, &last.call.output.taken)
+            is_prefix(&seen.call.output.taken, &last.call.output.taken)
         } else {
             seen.answer.bytes() == last.answer.bytes()
         };
@@ -90,9 +90,9 @@ fn tell_faults(page: &mut Page, tries: &[Seen<'_>], last: &Seen<'_>) {
 }
 
 /// Returns true if bytes are the first lines of others, or all of them.
-fn is_front(front: &[u8], whole: &[u8]) -> bool {
-    let is_whole = front.is_empty() || front.ends_with(b"\n") || front.len() == whole.len();
-    is_whole && whole.starts_with(front)
+fn is_prefix(prefix: &[u8], whole: &[u8]) -> bool {
+    let is_whole = prefix.is_empty() || prefix.ends_with(b"\n") || prefix.len() == whole.len();
+    is_whole && whole.starts_with(prefix)
 }
 
 /// Performs a call, and tells its answer.
@@ -149,7 +149,7 @@ fn simulate(alloc: Global, page: &mut Page, names: &Names, call: &mut Call<'_>) 
     Some(())
 }
 
-/// `read TIMES`: one APDU behind another, by as many calls.
+/// `read TIMES`: one APDU after another, by as many calls.
 fn read(alloc: Global, page: &mut Page, names: &Names, call: &mut Call<'_>) -> Option<()> {
     let times = call.words.first()?.text.parse::<u32>().ok()?;
     for _ in 0..times {

@@ -159,7 +159,7 @@ impl<'a, R: LockFiles> Folder<'a, R> {
         Some(line)
     }
 
-    /// A word, or the path of the file that is named behind `@`.
+    /// A word, or the path of the file that is named after `@`.
     fn word(&self, word: &Word) -> Option<String> {
         let text = word.text.as_str();
         match text.strip_prefix('@') {
@@ -197,7 +197,7 @@ fn tell_seen(page: &mut Page, seen: &Seen) {
     page.text("\n");
 }
 
-/// Tells the bytes of a file; behind `is BYTES` whether it has just these.
+/// Tells the bytes of a file; after `is BYTES` whether it has just these.
 fn tell_file(page: &mut Page, names: &Names, bytes: &[u8], words: &[Word]) -> Option<()> {
     match words {
         [word, wanted @ ..] if word.is("is") => {

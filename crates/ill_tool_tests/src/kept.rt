@@ -87,7 +87,7 @@ pub trait Kept {
 impl<S: Store> Kept for Desk1<S> {
     fn act(&mut self, alloc: Global, call: &mut Call<'_>) -> Option<Result<bool, ToolFault>> {
         let today = day(call.words)?;
-        let words: Vec<&str> = texts(alloc, words_behind(call.words))?;
+        let words: Vec<&str> = texts(alloc, words_after(call.words))?;
         call.begin(alloc);
         let answer = run_act(alloc, self, today, &words, &mut call.output);
         Some(call.end(alloc, answer))
@@ -190,7 +190,7 @@ impl<S: Store> Kept for Desk<S> {
     fn act(&mut self, alloc: Global, call: &mut Call<'_>) -> Option<Result<bool, ToolFault>> {
         let (txn, words) = txn_before(alloc, call.words)?;
         let today = day(words)?;
-        let words: Vec<&str> = texts(alloc, words_behind(words))?;
+        let words: Vec<&str> = texts(alloc, words_after(words))?;
         call.begin(alloc);
         let answer = run_desk_act(alloc, self, &txn, today, &words, &mut call.output);
         Some(call.end(alloc, answer))
@@ -346,7 +346,7 @@ fn day(words: &[Word]) -> Option<Option<Day>> {
 }
 
 /// The words of an action.
-fn words_behind(words: &[Word]) -> &[Word] {
+fn words_after(words: &[Word]) -> &[Word] {
     match words {
         [option, _, words @ ..] if option.is("--today") => words,
         _ => words,

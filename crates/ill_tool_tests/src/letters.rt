@@ -42,7 +42,7 @@ impl Letters {
     }
 
     /// Returns true if its mails are the first ones of the other.
-    pub fn is_front_of(&self, other: &Letters) -> bool {
+    pub fn is_prefix_of(&self, other: &Letters) -> bool {
         let mut others = other.letters.iter();
         for letter in &self.letters {
             if !others.next().is_some_and(|other| letter.is(other)) {

@@ -15,7 +15,7 @@
 //! streams. If it is refused a growth, it is made again from the beginning. A try that came to what it may not is told
 //! by a line `  = a refused try: ..`, which no case has.
 //!
-//! Behind a check, `rt run < stdin | diff stdin -` does the same for all of them. They are too long for `rt try`.
+//! After a check, `rt run < stdin | diff stdin -` does the same for all of them. They are too long for `rt try`.
 #![tactic(auto)]
 
 mod beginning;

@@ -1,7 +1,7 @@
 //! Bytes as the lines write them.
 //!
 //! They are words: octets are hexadecimal digits, text stands in quotes, and a name stands for the bytes
-//! that a line `let` gave it. `NAME[..9]` are its first nine bytes, and `NAME[9..]` those behind them;
+//! that a line `let` gave it. `NAME[..9]` are its first nine bytes, and `NAME[9..]` those after them;
 //! `1000*NAME` are its bytes a thousand times.
 
 use crate::words::Word;
@@ -109,9 +109,9 @@ impl Names {
 
 /// The part of these bytes that `..9]` or `9..]` says.
 fn part<'a>(bytes: &'a [u8], range: &str) -> Option<&'a [u8]> {
-    let (first, behind) = range.strip_suffix(']')?.split_once("..")?;
+    let (first, after) = range.strip_suffix(']')?.split_once("..")?;
     if first.is_empty() {
-        bytes.get(..behind.parse::<usize>().ok()?)
+        bytes.get(..after.parse::<usize>().ok()?)
     } else {
         bytes.get(first.parse::<usize>().ok()?..)
     }
@@ -125,14 +125,14 @@ fn times_over(bytes: &[u8], piece: &[u8]) -> Option<u32> {
         if rest.is_empty() {
             break;
         }
-        rest = behind(rest, piece)?;
+        rest = after(rest, piece)?;
         times = times.saturating_add(1);
     }
     if rest.is_empty() { Some(times) } else { None }
 }
 
-/// What stands behind a piece at the front of these bytes.
-fn behind<'a>(bytes: &'a [u8], piece: &[u8]) -> Option<&'a [u8]> {
+/// What stands after a piece at the beginning of these bytes.
+fn after<'a>(bytes: &'a [u8], piece: &[u8]) -> Option<&'a [u8]> {
     if bytes.starts_with(piece) {
         bytes.get(piece.len()..)
     } else {

@@ -4,7 +4,7 @@
 //! So each try begins with just what lay in memory. At the end each try is judged that was refused a growth.
 
 use crate::beginning::begin;
-use crate::call::{Call, front_count, input_of};
+use crate::call::{Call, prefix_count, input_of};
 use crate::memory::{Beginning, Memory, MemoryCall};
 use crate::names::Names;
 use crate::tries::{Extent, Seen, fault};
@@ -92,14 +92,14 @@ impl Past {
         words: &[Word],
     ) -> Option<()> {
         let mut tries = Vec::new(self.alloc);
-        let mut fronts = Vec::new(self.alloc);
+        let mut prefixes = Vec::new(self.alloc);
         let mut done = self.try_often(page, names, on, words, &mut tries);
         if !tries.is_empty() {
-            done = done.and(self.push_fronts(names, on, words, &mut fronts));
-            tell_faults(page, on, &tries, &fronts);
+            done = done.and(self.push_prefixes(names, on, words, &mut prefixes));
+            tell_faults(page, on, &tries, &prefixes);
         }
         drop(tries);
-        drop(fronts);
+        drop(prefixes);
         done
     }
 
@@ -127,36 +127,36 @@ impl Past {
         None
     }
 
-    /// Adds what is seen if the call is not made, if it is whole, and if it is made with each front of its messages.
-    fn push_fronts<'a>(
+    /// Adds what is seen if the call is not made, if it is whole, and if it is made with each prefix of its messages.
+    fn push_prefixes<'a>(
         &mut self,
         names: &Names,
         on: MemoryCall,
         words: &'a [Word],
-        fronts: &mut Vec<Seen<'a>>,
+        prefixes: &mut Vec<Seen<'a>>,
     ) -> Option<()> {
-        self.push_front(names, on, words, Extent::Nothing, fronts)?;
-        self.push_front(names, on, words, Extent::Whole, fronts)?;
-        for count in 0..front_count(self.alloc, names, on, words) {
-            self.push_front(names, on, words, Extent::First(count), fronts)?;
+        self.push_heading(names, on, words, Extent::Nothing, prefixes)?;
+        self.push_heading(names, on, words, Extent::Whole, prefixes)?;
+        for count in 0..prefix_count(self.alloc, names, on, words) {
+            self.push_heading(names, on, words, Extent::First(count), prefixes)?;
         }
         Some(())
     }
 
     /// Adds what is seen of so much of the call.
-    fn push_front<'a>(
+    fn push_heading<'a>(
         &mut self,
         names: &Names,
         on: MemoryCall,
         words: &'a [Word],
         extent: Extent,
-        fronts: &mut Vec<Seen<'a>>,
+        prefixes: &mut Vec<Seen<'a>>,
     ) -> Option<()> {
         let memory = &mut self.ample;
         again(self.alloc, names, self.lines.as_ref()?, memory)?;
         let mut seen = Seen::of(self.alloc, names, on, words, extent, memory)?;
         let looked = seen.look(self.alloc, memory);
-        fronts.push(seen).ok().and(looked)
+        prefixes.push(seen).ok().and(looked)
     }
 
     /// Adds a line that was performed.
@@ -178,9 +178,9 @@ impl Past {
 }
 
 /// Tells each try that came to what it may not.
-fn tell_faults(page: &mut Page, on: MemoryCall, tries: &[Seen<'_>], fronts: &[Seen<'_>]) {
+fn tell_faults(page: &mut Page, on: MemoryCall, tries: &[Seen<'_>], prefixes: &[Seen<'_>]) {
     for seen in tries {
-        if let Some(words) = fault(on, seen, fronts) {
+        if let Some(words) = fault(on, seen, prefixes) {
             page.text("  = a refused try: ");
             page.line(words);
         }

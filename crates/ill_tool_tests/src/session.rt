@@ -86,7 +86,7 @@ impl<'a, B: Performs> Session<'a, B> {
         self.perform_block(page, &block)
     }
 
-    /// Writes a block with the answers in its first case, and behind it each case in which they are
+    /// Writes a block with the answers in its first case, and after it each case in which they are
     /// others.
     fn perform_block(&mut self, page: &mut Page, block: &Block) -> Option<()> {
         let first = self.bench.perform_block(block, 0)?;

@@ -33,33 +33,33 @@ pub fn reader_of(alloc: Global, names: &Names, words: &[Word]) -> Option<TestRea
     let is_slow = is_slow(words);
     let words = words.get(usize::from(is_slow)..)?;
     let (before, failing) = cut(words, "then");
-    let (failure, behind) = cut(failing.unwrap_or(&[]), "then");
+    let (failure, after) = cut(failing.unwrap_or(&[]), "then");
     let failure = match failing {
         Some(_) => failure_of(failure)?,
         None => Failure::NEVER,
     };
-    let behind = names.bytes(behind.unwrap_or(&[]))?;
-    let mut reader = reader_with(alloc, names, before, failure, behind)?;
+    let after = names.bytes(after.unwrap_or(&[]))?;
+    let mut reader = reader_with(alloc, names, before, failure, after)?;
     if is_slow {
         reader.set_slow();
     }
     Some(reader)
 }
 
-/// The reader of `BYTES [| BYTES]`, which then fails, and gives the bytes behind that.
+/// The reader of `BYTES [| BYTES]`, which then fails, and gives the bytes after that.
 fn reader_with(
     alloc: Global,
     names: &Names,
     before: &[Word],
     failure: Failure,
-    behind: Vec<u8>,
+    after: Vec<u8>,
 ) -> Option<TestReader> {
     let (first, second) = cut(before, "|");
     let mut bytes = Vec::new(alloc);
     names.push(&mut bytes, first)?;
     let bar = bytes.len();
     names.push(&mut bytes, second.unwrap_or(&[]))?;
-    let mut reader = TestReader::new(bytes, failure, behind);
+    let mut reader = TestReader::new(bytes, failure, after);
     if second.is_some() {
         reader.set_bar(bar);
     }
@@ -89,7 +89,7 @@ pub fn writer_of(
 ) -> Option<(TestWriter, Telling)> {
     let mut writer = TestWriter::new(alloc);
     let mut telling = Telling::Whole;
-    let words = set_front(&mut writer, &mut telling, words.unwrap_or(&[]))?;
+    let words = set_prefix(&mut writer, &mut telling, words.unwrap_or(&[]))?;
     match words {
         [] => {}
         [word, failure @ ..] if word.is("flush") => writer.set_flush(failure_of(failure)?),
@@ -100,8 +100,8 @@ pub fn writer_of(
     Some((writer, telling))
 }
 
-/// Takes the words at the front, and gives those behind them.
-fn set_front<'a>(
+/// Takes the words at the beginning, and gives those after them.
+fn set_prefix<'a>(
     writer: &mut TestWriter,
     telling: &mut Telling,
     words: &'a [Word],
@@ -135,9 +135,9 @@ fn set_room(
     match text {
         [] => Some(()),
         [word, text @ ..] if word.is("of") => {
-            let mut front = names.bytes(text)?;
-            front.truncate(room);
-            drop(std::mem::replace(telling, Telling::Just(front)));
+            let mut prefix = names.bytes(text)?;
+            prefix.truncate(room);
+            drop(std::mem::replace(telling, Telling::Just(prefix)));
             Some(())
         }
         _ => None,

@@ -1,4 +1,4 @@
-//! How answers are told: each line behind two spaces and a mark.
+//! How answers are told: each line after two spaces and a mark.
 
 use crate::names::Names;
 use ill_test_kit::{Page, TestReader, TestWriter};
@@ -9,13 +9,13 @@ pub enum Telling {
     Whole,
     /// Whether there was anything.
     Any,
-    /// So many bytes at its front.
+    /// So many bytes at its beginning.
     First(usize),
     /// Whether it is just these bytes.
     Just(Vec<u8>),
 }
 
-/// Tells what a writer took, behind this mark.
+/// Tells what a writer took, after this mark.
 pub fn tell_writer(
     page: &mut Page,
     names: &Names,
@@ -28,8 +28,8 @@ pub fn tell_writer(
         Telling::Whole => tell_bytes(page, names, mark, taken),
         Telling::Any => tell_any(page, mark, taken),
         Telling::First(count) => {
-            let front = taken.get(..*count).unwrap_or(taken);
-            tell_bytes(page, names, mark, front);
+            let prefix = taken.get(..*count).unwrap_or(taken);
+            tell_bytes(page, names, mark, prefix);
         }
         Telling::Just(wanted) => tell_whether(page, names, mark, taken, wanted),
     }
@@ -94,7 +94,7 @@ fn tell_name(page: &mut Page, mark: &str, times: u32, name: &str) {
     page.line("]");
 }
 
-/// Tells the lines of a text. Behind a last line that does not end stands a backslash.
+/// Tells the lines of a text. After a last line that does not end stands a backslash.
 fn tell_text(page: &mut Page, mark: &str, text: &str) {
     for line in text.split_inclusive('\n') {
         begin(page, mark);
@@ -112,7 +112,7 @@ fn tell_octets(page: &mut Page, mark: &str, bytes: &[u8]) {
     page.line("]");
 }
 
-/// Tells a line behind this mark.
+/// Tells a line after this mark.
 pub fn tell_line(page: &mut Page, mark: &str, text: &str) {
     begin(page, mark);
     page.line(text);

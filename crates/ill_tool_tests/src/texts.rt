@@ -34,7 +34,7 @@ const FAULTS: [ToolFault; 25] = [
     ToolFault::OutOfMemory,
 ];
 
-/// Tells each fault and its text; and behind those of a command, want of memory of bytes and of a side.
+/// Tells each fault and its text; and after those of a command, want of memory of bytes and of a side.
 pub fn tell_texts(page: &mut Page) {
     for fault in &FAULTS {
         tell_text(page, fault);

@@ -1,7 +1,7 @@
 //! The judgement on a call that was refused a growth.
 //!
 //! It answers want of memory, or does without and is as ever. At want of memory each part is as it was before the call,
-//! as it is behind it, or as it is behind some of its messages.
+//! as it is after it, or as it is after some of its messages.
 
 use crate::call::Call;
 use crate::memory::{Memory, MemoryCall};
@@ -125,10 +125,10 @@ impl<'a> Seen<'a> {
     }
 }
 
-/// Returns the words of the first part that is as it may not be, of a call that was refused a growth. The fronts are
-/// what is seen if the call is not made, if it is whole, and if it is made with each front of its messages.
-pub fn fault(on: MemoryCall, seen: &Seen<'_>, fronts: &[Seen<'_>]) -> Option<&'static str> {
-    let [before, after, between @ ..] = fronts else {
+/// Returns the words of the first part that is as it may not be, of a call that was refused a growth. The prefixes are
+/// what is seen if the call is not made, if it is whole, and if it is made with each prefix of its messages.
+pub fn fault(on: MemoryCall, seen: &Seen<'_>, prefixes: &[Seen<'_>]) -> Option<&'static str> {
+    let [before, after, between @ ..] = prefixes else {
         return Some("its fronts");
     };
     if !seen.call.says_memory {
@@ -147,7 +147,7 @@ pub fn fault(on: MemoryCall, seen: &Seen<'_>, fronts: &[Seen<'_>]) -> Option<&'s
     if !seen.live.releases_as(&before.live) && !seen.live.releases_as(&seen.landed) {
         return Some("what may leave");
     }
-    if seen.call.spoils_copy || !seen.call.letters.is_front_of(&after.call.letters) {
+    if seen.call.spoils_copy || !seen.call.letters.is_prefix_of(&after.call.letters) {
         return Some("what has left");
     }
     None
@@ -158,7 +158,7 @@ pub fn fault(on: MemoryCall, seen: &Seen<'_>, fronts: &[Seen<'_>]) -> Option<&'s
 fn is_between(on: MemoryCall, part: Part, seen: &Seen<'_>, between: &[Seen<'_>]) -> bool {
     match (on, part) {
         (MemoryCall::Take, _) | (MemoryCall::Inbox, Part::Live) => {
-            between.iter().any(|front| seen.is_alike(part, front))
+            between.iter().any(|prefix| seen.is_alike(part, prefix))
         }
         (MemoryCall::Dates, Part::Live) => true,
         _ => false,

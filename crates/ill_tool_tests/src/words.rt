@@ -36,7 +36,7 @@ pub fn texts(alloc: Global, words: &[Word]) -> Option<Vec<&str>> {
         .ok()
 }
 
-/// The words before the first bare `mark`, and those behind it, if it stands there.
+/// The words before the first bare `mark`, and those after it, if it stands there.
 pub fn cut<'a>(words: &'a [Word], mark: &str) -> (&'a [Word], Option<&'a [Word]>) {
     for (index, word) in words.iter().enumerate() {
         if word.is(mark) {
@@ -53,9 +53,9 @@ enum Place {
     Between,
     Bare,
     Quoted,
-    /// Behind a backslash in quotes.
+    /// After a backslash in quotes.
     Escape,
-    /// Behind `\x`, and behind its first digit.
+    /// After `\x`, and after its first digit.
     FirstDigit,
     SecondDigit(u32),
 }
@@ -159,7 +159,7 @@ impl Splitter {
     }
 }
 
-/// The letter that a letter behind a backslash stands for.
+/// The letter that a letter after a backslash stands for.
 fn meaning(letter: char) -> Option<char> {
     match letter {
         'n' => Some('\n'),

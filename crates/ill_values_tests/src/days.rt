@@ -167,7 +167,7 @@ fn texts_that_are_no_days(rt: HostRuntime) {
     }
 }
 
-/// So many days after a day, and the day that it is. `None`: it would be behind the last day.
+/// So many days after a day, and the day that it is. `None`: it would be after the last day.
 struct LaterRow {
     start: &'static str,
     days: u32,

@@ -23,7 +23,7 @@ use Rattle.ill_world.specs.Agreement.{AnswersOnce, EndsOnce, Facing, AcceptedBy,
 use Rattle.ill_world.specs.Invariant.{RequesterStands, ResponderStands, RequesterSideStands, ResponderSideStands, SendsSaved, Invariant}
 use Rattle.ill_core.proofs.GrantLemmas.{granted_not_later}
 use Rattle.ill_core.proofs.MessageLemmas.{message_says, says_message}
-use Rattle.ill_world.proofs.Sendings.{front_message}
+use Rattle.ill_world.proofs.Sendings.{prefix_message}
 use Rattle.ill_world.proofs.Uniqueness.{message_number, answers_once, one_end}
 use Rattle.ill_world.proofs.Claims.{AreIssued, tells_grant, is_in_cancelled, has_issued, not_supplied_faces, shipped_by, landed_issues, live_issues}
 
@@ -246,7 +246,7 @@ accepted_by txn w (sides.Responder y) saved stands =
     λ c e.
     let known = stands.knows (responder.Accepted c) e in
     let sent = known.1 in
-    let live = front_message (issued_of w.requester.landed) (issued_of w.requester.live) sent.0 known.0 saved.front (saved.landed sent.0 known.0 sent.1) in
+    let live = prefix_message (issued_of w.requester.landed) (issued_of w.requester.live) sent.0 known.0 saved.prefix (saved.landed sent.0 known.0 sent.1) in
     (sent.0, known.0, sent.1, live, tells_accepted known.0.number c known.0.body known.2)
 accepted_by txn w (sides.Requester x) saved stands = absurd stands
 

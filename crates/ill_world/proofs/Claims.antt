@@ -21,7 +21,7 @@ use Rattle.ill_world.specs.World.{Party, Parties}
 use Rattle.ill_world.specs.Safety.{OfBoth, EndsAlike, WasShipped, WasGranted}
 use Rattle.ill_world.specs.Invariant.{WasSent, RequesterStands, ResponderStands, RequesterSideStands, ResponderSideStands, SendsSaved, Invariant}
 use Rattle.ill_core.proofs.MessageLemmas.{message_says}
-use Rattle.ill_world.proofs.Sendings.{front_message}
+use Rattle.ill_world.proofs.Sendings.{prefix_message}
 
 -- ---- evidence
 
@@ -145,7 +145,7 @@ landed_issues p saved = λ a was. (was.0, saved.landed was.0 a was.1)
 
 -- A party that sends only what it has saved has sent only messages of its live side.
 pub live_issues : (p : Party) → SendsSaved p → AreIssued p.sent (issued_of p.live)
-live_issues p saved = λ a was. (was.0, front_message (issued_of p.landed) (issued_of p.live) was.0 a saved.front (saved.landed was.0 a was.1))
+live_issues p saved = λ a was. (was.0, prefix_message (issued_of p.landed) (issued_of p.live) was.0 a saved.prefix (saved.landed was.0 a was.1))
 
 of_both : (P : Side → Side → Type 0) → Pair P → (txn : Qualifiers) (w : Parties) → Invariant txn w → OfBoth P w
 of_both P pair txn w stands =

@@ -4,9 +4,9 @@ use Rattle.ill_saved.specs.Side.{IsPrefix}
 use Rattle.ill_world.specs.World.{run_by}
 use Rattle.ill_world.specs.Desks.{DeskParties, first_desks, desks_happen, desks_run}
 use Rattle.ill_world.specs.DeskScript.{EventIn}
-use Rattle.ill_world.specs.DeskSimulation.{two_desks, desk_events, desk_trace_of, desk_line_behind}
+use Rattle.ill_world.specs.DeskSimulation.{two_desks, desk_events, desk_trace_of, desk_line_after}
 use Rattle.ill_world.specs.Trace.{desk_line}
-use Rattle.ill_world.proofs.Simulations.{run_more, trace_line, trace_front}
+use Rattle.ill_world.proofs.Simulations.{run_more, trace_line, trace_prefix}
 
 -- Returns the desks after events, each with its transaction in use.
 abbrev run_in : DeskParties → List EventIn → DeskParties
@@ -25,14 +25,14 @@ run_in_none w = refl
 
 -- One event more adds its line to the trace.
 pub desks_line : (events : List EventIn) (event : EventIn)
-    → desk_trace_of (events ++ event ∷ []) ≡ desk_trace_of events ++ desk_line_behind events event
+    → desk_trace_of (events ++ event ∷ []) ≡ desk_trace_of events ++ desk_line_after events event
 desks_line events event =
     let after = run_in first_desks events in
     let number : 1 + length events ≡ length events + 1 = omega arith in
-    let text : two_desks.text (1 + length events) after event ≡ desk_line_behind events event =
+    let text : two_desks.text (1 + length events) after event ≡ desk_line_after events event =
     ap (λ m. desk_line m event.txn (desks_happen after event.event).0 (desks_happen after event.event).1) number
     ∙ ap (desk_line (length events + 1) event.txn (desks_happen after event.event).0) (sym (run_more two_desks run_in run_in_none run_in_next first_desks events event)) in
     trace_line two_desks run_in run_in_none run_in_next 1 first_desks events event ∙ ap (λ t. desk_trace_of events ++ t) text
 
-pub desks_front : (events more : List EventIn) → IsPrefix (desk_trace_of events) (desk_trace_of (events ++ more))
-desks_front events more = trace_front two_desks run_in run_in_none run_in_next 1 first_desks events more
+pub desks_prefix : (events more : List EventIn) → IsPrefix (desk_trace_of events) (desk_trace_of (events ++ more))
+desks_prefix events more = trace_prefix two_desks run_in run_in_none run_in_next 1 first_desks events more

@@ -32,12 +32,12 @@ module _ {R : Type 0} (take : R → Apdu → R) where
     stays_heard r (b ∷ apdus) number body none heard = stays_heard (take r b) apdus number body (λ i c at. none (suc i) c at) (hears.stays r b number body (none zero b refl) heard)
 
     -- After a record takes all APDUs, it has heard each that no later one reopens.
-    pub heard_behind : (r : R) (apdus : List Apdu) (i : ℕ) (a : Apdu) → Is r → slice_get apdus i ≡ Some a → Of a
+    pub heard_later : (r : R) (apdus : List Apdu) (i : ℕ) (a : Apdu) → Is r → slice_get apdus i ≡ Some a → Of a
         → ((j : ℕ) (b : Apdu) → slice_get apdus j ≡ Some b → i < j → reopens b.body a.body ≡ false) → has_heard (taking r apdus) a.number a.body ≡ true
     unfolding taking
-    heard_behind r [] i a is at of none = search rules
-    heard_behind r (b ∷ apdus) zero a is at of none =
+    heard_later r [] i a is at of none = search rules
+    heard_later r (b ∷ apdus) zero a is at of none =
         let same : b ≡ a = same_apdu b a at in
         stays_heard (take r b) apdus a.number a.body (λ j c there. none (suc j) c there (omega arith)) (subst (λ c. has_heard (take r c) a.number a.body ≡ true) (sym same) (hears.takes r a is of))
-    heard_behind r (b ∷ apdus) (suc i) a is at of none =
-        heard_behind (take r b) apdus i a (hears.keeps r b is) at of (λ j c there later. none (suc j) c there (omega (arith, later)))
+    heard_later r (b ∷ apdus) (suc i) a is at of none =
+        heard_later (take r b) apdus i a (hears.keeps r b is) at of (λ j c there later. none (suc j) c there (omega (arith, later)))

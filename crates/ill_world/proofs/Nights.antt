@@ -129,7 +129,7 @@ nothing_passes w [] is none = ap (λ (l : List Apdu). (run_of w (Save who.Reques
 nothing_passes w (a ∷ apdus) is none = search rules
 
 module _ (txn : Qualifiers) (after : (w : Parties) (event : Event) → Invariant txn w → Invariant txn (happens w event).1) where
-  -- The responder wants sending behind the half of a requester that wants it.
+  -- The responder wants sending after the half of a requester that wants it.
   responder_wants : (w : Parties) → Invariant txn w → is_over w.requester.live ≡ false → wants_sending (asks w.requester.live) (run_of w (half_of who.Requester w)).responder.live ≡ true
   responder_wants w stands is_open = go (is_none (issued_of w.requester.live)) refl
     where

@@ -36,11 +36,11 @@ use Rattle.ill_world.specs.Invariant.{RequesterStands, ResponderStands, Requeste
 use Rattle.ill_world.specs.Round.{half_of, round_of, InStep, AreInStep, CanAnswer}
 use Rattle.ill_core.proofs.MessageLemmas.{message_says, says_message}
 use Rattle.ill_world.proofs.Claims.{AreIssued, live_issues}
-use Rattle.ill_world.proofs.Hearing.{taking, keeps_all, heard_behind}
+use Rattle.ill_world.proofs.Hearing.{taking, keeps_all, heard_later}
 use Rattle.ill_world.proofs.Pairs.{HaveHeard, in_step}
 use Rattle.ill_world.proofs.Rounds.{takes_all, round_passes}
 use Rattle.ill_world.proofs.Runs.{run_stands}
-use Rattle.ill_world.proofs.Sendings.{front_of_front, front_of_itself}
+use Rattle.ill_world.proofs.Sendings.{prefix_of_prefix, prefix_of_itself}
 use Rattle.ill_world.proofs.Uniqueness.{message_number}
 
 -- Returns requester `x` after it takes `a`.
@@ -113,10 +113,10 @@ first_alone : (apdus : List Apdu) (j : ℕ) (b : Apdu) → begins_with_request a
 first_alone [] j b begins at = search rules
 first_alone (a ∷ apdus) j b begins at = none_there is_ill_request apdus j b (not-true _ (and_parts _ _ begins).1) at
 
--- A list says all that a front of it says.
-has_front : (says : Body → Bool) (front apdus : List Apdu) → IsPrefix front apdus → has says front ≡ true → has says apdus ≡ true
-has_front says front apdus is there =
-    ap (has says) is.1 ∙ (list_any-append (λ (a : Apdu). says a.body) front is.0 ∙ ap (λ (b : Bool). b || has says is.0) there)
+-- A list says all that a prefix of it says.
+has_prefix : (says : Body → Bool) (prefix apdus : List Apdu) → IsPrefix prefix apdus → has says prefix ≡ true → has says apdus ≡ true
+has_prefix says prefix apdus is there =
+    ap (has says) is.1 ∙ (list_any-append (λ (a : Apdu). says a.body) prefix is.0 ∙ ap (λ (b : Bool). b || has says is.0) there)
 
 -- ---- messages that reopen others
 
@@ -148,8 +148,8 @@ module _ (rows : RowsHear) where
   -- A responder that takes APDUs keeps all that it has issued.
   responder_grows : (y : ResponderRecord) (apdus : List Apdu) → IsPrefix y.issued (taking lends y apdus).issued
   unfolding taking
-  responder_grows y [] = front_of_itself y.issued
-  responder_grows y (a ∷ apdus) = front_of_front y.issued (lends y a).issued _ (grown (rows.responder_issues y a)) (responder_grows (lends y a) apdus)
+  responder_grows y [] = prefix_of_itself y.issued
+  responder_grows y (a ∷ apdus) = prefix_of_prefix y.issued (lends y a).issued _ (grown (rows.responder_issues y a)) (responder_grows (lends y a) apdus)
     where
       grown : IssuesUnfilled y a.body (lends y a) → IsPrefix y.issued (lends y a).issued
       grown (inl same) = ([], same ∙ sym (append-nil y.issued))
@@ -202,7 +202,7 @@ module _ (rows : RowsHear) where
       requester_heard : (i : ℕ) (a : Apdu) → slice_get lender_new.issued i ≡ Some a → ((j : ℕ) (b : Apdu) → slice_get lender_new.issued j ≡ Some b → i < j → notices.reopens b.body a.body ≡ false)
           → notices.has_heard borrower_new a.number a.body ≡ true
       requester_heard i a at none =
-          heard_behind asks (λ r. r.txn ≡ txn) (λ b. (is_same_txn b.txn txn ≡ true) × (is_requesters b.body ≡ false)) notices.has_heard notices.reopens (record {
+          heard_later asks (λ r. r.txn ≡ txn) (λ b. (is_same_txn b.txn txn ≡ true) × (is_requesters b.body ≡ false)) notices.has_heard notices.reopens (record {
             keeps = λ r b is. rows.requester_txn r b ∙ is;
             takes = λ r b is of. rows.requester_takes r b (subst (λ t. is_same_txn b.txn t ≡ true) (sym is) of.0) of.1;
             stays = rows.requester_stays;
@@ -214,7 +214,7 @@ module _ (rows : RowsHear) where
       -- The responder has heard message i + 1 of the requester.
       responder_heard : (i : ℕ) (a : Apdu) → slice_get x.issued i ≡ Some a → records.has_heard lender_new a.number a.body ≡ true
       responder_heard i a at =
-          heard_behind lends (λ r. r.txn ≡ txn) (λ b. (is_same_txn b.txn txn ≡ true) × (is_requesters b.body ≡ true)) records.has_heard records.reopens (record {
+          heard_later lends (λ r. r.txn ≡ txn) (λ b. (is_same_txn b.txn txn ≡ true) × (is_requesters b.body ≡ true)) records.has_heard records.reopens (record {
             keeps = λ r b is. rows.responder_txn r b ∙ is;
             takes = λ r b is of. rows.responder_takes r b (subst (λ t. is_same_txn b.txn t ≡ true) (sym is) of.0) of.1;
             stays = rows.responder_stays;
@@ -258,7 +258,7 @@ module _ (rows : RowsHear) where
 
       -- If the responder could answer before it took the messages, and is still undecided, it has a number left.
       number_left : (has is_end y.issued ≡ true) ⊎ (length y.issued < 255) → is_among records.undecided lender_new.state ≡ true → length lender_new.issued < 255
-      number_left (inl ended) undecided = absurd (ended_decides (has_front is_end y.issued lender_new.issued (responder_grows y x.issued) ended) undecided)
+      number_left (inl ended) undecided = absurd (ended_decides (has_prefix is_end y.issued lender_new.issued (responder_grows y x.issued) ended) undecided)
       number_left (inr left) undecided = subst (λ l. length l < 255) (sym (issues_nothing y x.issued undecided)) left
 
       -- If the responder could answer before the round, each record has heard all that the other has issued.

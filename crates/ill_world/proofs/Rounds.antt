@@ -32,10 +32,10 @@ put_here [] i a within = absurd (omega (arith, within))
 put_here (slot ∷ slots) zero a within = refl
 put_here (slot ∷ slots) (suc i) a within = put_here slots i a (omega (arith, within))
 
--- In a list of `front`, `a` and more, `a` stands at the place that is the length of `front`.
-at_front : (front more : List Apdu) (a : Apdu) → slice_get (front ++ a ∷ more) (length front) ≡ Some a
-at_front [] more a = refl
-at_front (b ∷ front) more a = at_front front more a
+-- In a list of `prefix`, `a` and more, `a` stands at the place that is the length of `prefix`.
+at_prefix : (prefix more : List Apdu) (a : Apdu) → slice_get (prefix ++ a ∷ more) (length prefix) ≡ Some a
+at_prefix [] more a = refl
+at_prefix (b ∷ prefix) more a = at_prefix prefix more a
 
 -- If message n is issued as `a`, and released, a Send of n adds `a` to the messages sent.
 sent_is : (p : Party) (n : ℕ) (a : Apdu) (found : Option Apdu) (released : Bool) → found ≡ Some a → released ≡ true
@@ -99,20 +99,20 @@ unfolding takes_all
 passed_on who.Requester w new n a apdus has = record { live = has.live; taken = has.taken }
 passed_on who.Responder w new n a apdus has = record { live = has.live; taken = has.taken }
 
--- If a party may send `front ++ rest`, the events of `passes_on` from the end of `front` on pass `rest`.
-pass_all : (of : Who) (w : Parties) (n : ℕ) (front rest : List Apdu) → n ≡ length front + 1
-    → MaySend (party w of) (front ++ rest) → HasPassed of w (run_of w (passes_on of n (length rest))) rest
+-- If a party may send `prefix ++ rest`, the events of `passes_on` from the end of `prefix` on pass `rest`.
+pass_all : (of : Who) (w : Parties) (n : ℕ) (prefix rest : List Apdu) → n ≡ length prefix + 1
+    → MaySend (party w of) (prefix ++ rest) → HasPassed of w (run_of w (passes_on of n (length rest))) rest
 unfolding passes_on run_by takes_all
-pass_all of w n front [] is may = record { live = refl; taken = refl }
-pass_all of w n front (a ∷ rest) is may =
+pass_all of w n prefix [] is may = record { live = refl; taken = refl }
+pass_all of w n prefix (a ∷ rest) is may =
     let p = party w of in
-    let size = length-append front (a ∷ rest) in
-    let place : n ≡ suc (length front) = omega (arith, is) in
-    let at : message (issued_of p.live) n ≡ Some a = ap (λ l. message l n) may.issued ∙ ap (message (front ++ a ∷ rest)) place ∙ at_front front rest a in
+    let size = length-append prefix (a ∷ rest) in
+    let place : n ≡ suc (length prefix) = omega (arith, is) in
+    let at : message (issued_of p.live) n ≡ Some a = ap (λ l. message l n) may.issued ∙ ap (message (prefix ++ a ∷ rest)) place ∙ at_prefix prefix rest a in
     let free : nat_le n p.released ≡ true = le-leb n p.released (omega (arith, is, size, may.released)) in
-    let there : sent_message (with_sent p.sent n a) n ≡ Some a = subst (λ k. sent_message (with_sent p.sent k a) k ≡ Some a) (sym place) (put_here p.sent (length front) a (omega (arith, size, may.few, may.places))) in
-    let may_more = subst (MaySend (party (passed w of n a) of)) (sym (append_assoc front (a ∷ []) rest)) (may_still of w n a (front ++ a ∷ rest) may) in
-    let more = pass_all of (passed w of n a) (n + 1) (front ++ a ∷ []) rest (omega (arith, is, length-append front (a ∷ []))) may_more in
+    let there : sent_message (with_sent p.sent n a) n ≡ Some a = subst (λ k. sent_message (with_sent p.sent k a) k ≡ Some a) (sym place) (put_here p.sent (length prefix) a (omega (arith, size, may.few, may.places))) in
+    let may_more = subst (MaySend (party (passed w of n a) of)) (sym (append_assoc prefix (a ∷ []) rest)) (may_still of w n a (prefix ++ a ∷ rest) may) in
+    let more = pass_all of (passed w of n a) (n + 1) (prefix ++ a ∷ []) rest (omega (arith, is, length-append prefix (a ∷ []))) may_more in
     subst (λ v. HasPassed of w (run_of v (passes_on of (n + 1) (length rest))) (a ∷ rest)) (sym (passes of w n a at free there))
     (passed_on of w (run_of (passed w of n a) (passes_on of (n + 1) (length rest))) n a rest more)
 
@@ -182,16 +182,16 @@ passes_none before of n (suc count) none = absurd (omega (arith, none))
 
 module _ {W E O M : Type 0} (happening : W → E → O × W) where
   -- Events are performed if memory ran out and the first of them have led here.
-  pub performs_front : (events first : List E) (old new : W) (result : Result (Unit {0}) M) → IsErr result → IsPrefix first events → new ≡ run_by happening old first → Performs (run_by happening) events old result new
-  performs_front events first old new (Ok done) failed front is = search rules
-  performs_front events first old new (Err memory) failed front is = (first, front, is)
+  pub performs_prefix : (events first : List E) (old new : W) (result : Result (Unit {0}) M) → IsErr result → IsPrefix first events → new ≡ run_by happening old first → Performs (run_by happening) events old result new
+  performs_prefix events first old new (Ok done) failed prefix is = search rules
+  performs_prefix events first old new (Err memory) failed prefix is = (first, prefix, is)
 
   -- If `first` has led to a world, and `second` was performed from there, both joined were performed.
   pub performs_both : (first second : List E) (old between new : W) (result : Result (Unit {0}) M) → between ≡ run_by happening old first → Performs (run_by happening) second between result new
       → Performs (run_by happening) (first ++ second) old result new
   performs_both first second old between new (Ok done) led performs = performs ∙ ap (λ w. run_by happening w second) led ∙ sym (run_both happening old first second)
-  performs_both first second old between new (Err memory) led (some, front, is) =
-      (first ++ some, (front.0, ap (λ l. first ++ l) front.1 ∙ sym (append_assoc first some front.0)), is ∙ ap (λ w. run_by happening w some) led ∙ sym (run_both happening old first some))
+  performs_both first second old between new (Err memory) led (some, prefix, is) =
+      (first ++ some, (prefix.0, ap (λ l. first ++ l) prefix.1 ∙ sym (append_assoc first some prefix.0)), is ∙ ap (λ w. run_by happening w some) led ∙ sym (run_both happening old first some))
 
   -- A fact of the world to which events lead holds after they were performed, if memory did not run out.
   pub performed : (P : W → Type 0) (events : List E) (old new : W) (result : Result (Unit {0}) M) → Performs (run_by happening) events old result new → P (run_by happening old events) → OnOk result (P new)
@@ -199,5 +199,5 @@ module _ {W E O M : Type 0} (happening : W → E → O × W) where
   performed P events old new (Err memory) performs there = tt
 
 -- The first events of some are the first of more.
-pub front_further : {E : Type 0} (first events more : List E) → IsPrefix first events → IsPrefix first (events ++ more)
-front_further first events more front = (front.0 ++ more, ap (λ l. l ++ more) front.1 ∙ append_assoc first front.0 more)
+pub prefix_further : {E : Type 0} (first events more : List E) → IsPrefix first events → IsPrefix first (events ++ more)
+prefix_further first events more prefix = (prefix.0 ++ more, ap (λ l. l ++ more) prefix.1 ∙ append_assoc first prefix.0 more)

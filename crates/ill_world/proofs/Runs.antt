@@ -48,8 +48,8 @@ module _ {W E O : Type 0} (happening : W → E → O × W) where
       ap (run_by happening w) next ∙ run_both w (take i events) (event ∷ []) ∙ run_one (run_by happening w (take i events)) event ∙ ap (λ (after : O × W). after.1) happened
 
   -- A fact of each world on the way through `before ++ after` holds of the world after `before`.
-  pub run_front : (P : W → Type 0) (w : W) (before after : List E) → ((n : ℕ) → P (run_by happening w (take n (before ++ after)))) → P (run_by happening w before)
-  run_front P w before after each = subst (λ events. P (run_by happening w events)) (take_at before after (length before) refl) (each (length before))
+  pub run_prefix : (P : W → Type 0) (w : W) (before after : List E) → ((n : ℕ) → P (run_by happening w (take n (before ++ after)))) → P (run_by happening w before)
+  run_prefix P w before after each = subst (λ events. P (run_by happening w events)) (take_at before after (length before) refl) (each (length before))
 
 -- ---- facts of every world of a run
 

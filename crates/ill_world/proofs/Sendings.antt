@@ -43,37 +43,37 @@ pub places_kept : (sent : List (Option Apdu)) (n : ℕ) (a : Apdu) → length (w
 places_kept sent zero a = refl
 places_kept sent (suc n) a = set_length sent n (Some a)
 
--- An APDU at a place of `front` stands at this place of a longer list.
-get_front : (front more : List Apdu) (i : ℕ) (a : Apdu) → slice_get front i ≡ Some a → slice_get (front ++ more) i ≡ Some a
-get_front [] more i a e = search rules
-get_front (b ∷ front) more zero a e = e
-get_front (b ∷ front) more (suc i) a e = get_front front more i a e
+-- An APDU at a place of `prefix` stands at this place of a longer list.
+get_prefix : (prefix more : List Apdu) (i : ℕ) (a : Apdu) → slice_get prefix i ≡ Some a → slice_get (prefix ++ more) i ≡ Some a
+get_prefix [] more i a e = search rules
+get_prefix (b ∷ prefix) more zero a e = e
+get_prefix (b ∷ prefix) more (suc i) a e = get_prefix prefix more i a e
 
--- An APDU at a place within `front` of a longer list stands at this place of `front`.
-get_within : (front more : List Apdu) (i : ℕ) (a : Apdu) → i + 1 ≤ length front → slice_get (front ++ more) i ≡ Some a
-    → slice_get front i ≡ Some a
+-- An APDU at a place within `prefix` of a longer list stands at this place of `prefix`.
+get_within : (prefix more : List Apdu) (i : ℕ) (a : Apdu) → i + 1 ≤ length prefix → slice_get (prefix ++ more) i ≡ Some a
+    → slice_get prefix i ≡ Some a
 get_within [] more i a less e = absurd (omega (arith, less))
-get_within (b ∷ front) more zero a less e = e
-get_within (b ∷ front) more (suc i) a less e = get_within front more i a (omega (arith, less)) e
+get_within (b ∷ prefix) more zero a less e = e
+get_within (b ∷ prefix) more (suc i) a less e = get_within prefix more i a (omega (arith, less)) e
 
--- a message of the front is that of the whole
-pub front_message : (front apdus : List Apdu) (n : ℕ) (a : Apdu) → IsPrefix front apdus → message front n ≡ Some a → message apdus n ≡ Some a
-front_message front apdus zero a is e = search rules
-front_message front apdus (suc n) a is e = subst (λ l. slice_get l n ≡ Some a) (sym is.1) (get_front front is.0 n a e)
+-- a message of the prefix is that of the whole
+pub prefix_message : (prefix apdus : List Apdu) (n : ℕ) (a : Apdu) → IsPrefix prefix apdus → message prefix n ≡ Some a → message apdus n ≡ Some a
+prefix_message prefix apdus zero a is e = search rules
+prefix_message prefix apdus (suc n) a is e = subst (λ l. slice_get l n ≡ Some a) (sym is.1) (get_prefix prefix is.0 n a e)
 
--- and a message of the whole that of the front, where it is as long
-within_front : (front apdus : List Apdu) (n : ℕ) (a : Apdu) → IsPrefix front apdus → n ≤ length front → message apdus n ≡ Some a → message front n ≡ Some a
-within_front front apdus zero a is few e = search rules
-within_front front apdus (suc n) a is few e = get_within front is.0 n a (omega (arith, few)) (subst (λ l. slice_get l n ≡ Some a) is.1 e)
+-- and a message of the whole that of the prefix, where it is as long
+within_prefix : (prefix apdus : List Apdu) (n : ℕ) (a : Apdu) → IsPrefix prefix apdus → n ≤ length prefix → message apdus n ≡ Some a → message prefix n ≡ Some a
+within_prefix prefix apdus zero a is few e = search rules
+within_prefix prefix apdus (suc n) a is few e = get_within prefix is.0 n a (omega (arith, few)) (subst (λ l. slice_get l n ≡ Some a) is.1 e)
 
-pub front_of_front : (a b c : List Apdu) → IsPrefix a b → IsPrefix b c → IsPrefix a c
-front_of_front a b c first second = (first.0 ++ second.0, second.1 ∙ ap (λ l. l ++ second.0) first.1 ∙ append_assoc a first.0 second.0)
+pub prefix_of_prefix : (a b c : List Apdu) → IsPrefix a b → IsPrefix b c → IsPrefix a c
+prefix_of_prefix a b c first second = (first.0 ++ second.0, second.1 ∙ ap (λ l. l ++ second.0) first.1 ∙ append_assoc a first.0 second.0)
 
-pub front_of_itself : (a : List Apdu) → IsPrefix a a
-front_of_itself a = ([], sym (append-nil a))
+pub prefix_of_itself : (a : List Apdu) → IsPrefix a a
+prefix_of_itself a = ([], sym (append-nil a))
 
-front_is_shorter : (a b : List Apdu) → IsPrefix a b → length a ≤ length b
-front_is_shorter a b is = omega (arith, ap length is.1, length-append a is.0)
+prefix_is_shorter : (a b : List Apdu) → IsPrefix a b → length a ≤ length b
+prefix_is_shorter a b is = omega (arith, ap length is.1, length-append a is.0)
 
 -- Two options that are equal have equal APDUs.
 some_is : (a b : Apdu) → ◌≡◌ {A = Option Apdu} (Some a) (Some b) → a ≡ b
@@ -84,7 +84,7 @@ some_is a b e = search rules
 pub live_grows : (p : Party) (new : Side) → IsPrefix (issued_of p.live) (issued_of new) → SendsSaved p → SendsSaved (record p { live = new })
 live_grows p new grows saved = record {
   landed = saved.landed;
-  front = front_of_front (issued_of p.landed) (issued_of p.live) (issued_of new) saved.front grows;
+  prefix = prefix_of_prefix (issued_of p.landed) (issued_of p.live) (issued_of new) saved.prefix grows;
   released = saved.released;
   places = saved.places;
 }
@@ -92,8 +92,8 @@ live_grows p new grows saved = record {
 -- A party still sends only what it has saved, after it saves.
 pub saved_now : (p : Party) → SendsSaved p → SendsSaved (saves p)
 saved_now p saved = record {
-  landed = λ n a e. front_message (issued_of p.landed) (issued_of p.live) n a saved.front (saved.landed n a e);
-  front = front_of_itself (issued_of p.live);
+  landed = λ n a e. prefix_message (issued_of p.landed) (issued_of p.live) n a saved.prefix (saved.landed n a e);
+  prefix = prefix_of_itself (issued_of p.live);
   released = omega arith;
   places = saved.places;
 }
@@ -101,21 +101,21 @@ saved_now p saved = record {
 -- A party still sends only what it has saved, after a save that fails.
 pub saved_by_fault : (p : Party) (landed : Bool) → SendsSaved p → SendsSaved (fails_to_save p landed)
 saved_by_fault p true saved = record {
-  landed = λ n a e. front_message (issued_of p.landed) (issued_of p.live) n a saved.front (saved.landed n a e);
-  front = front_of_itself (issued_of p.live);
-  released = omega (arith, saved.released, front_is_shorter (issued_of p.landed) (issued_of p.live) saved.front);
+  landed = λ n a e. prefix_message (issued_of p.landed) (issued_of p.live) n a saved.prefix (saved.landed n a e);
+  prefix = prefix_of_itself (issued_of p.live);
+  released = omega (arith, saved.released, prefix_is_shorter (issued_of p.landed) (issued_of p.live) saved.prefix);
   places = saved.places;
 }
 saved_by_fault p false saved = saved
 
 -- A party still sends only what it has saved, after a restart.
 pub saved_at_restart : (p : Party) → SendsSaved p → SendsSaved (restarts p)
-saved_at_restart p saved = record { landed = saved.landed; front = front_of_itself (issued_of p.landed); released = omega arith; places = saved.places }
+saved_at_restart p saved = record { landed = saved.landed; prefix = prefix_of_itself (issued_of p.landed); released = omega arith; places = saved.places }
 
 -- A message that is issued and released has landed.
 sent_landed : (p : Party) (n : ℕ) (a : Apdu) → SendsSaved p → message (issued_of p.live) n ≡ Some a
     → nat_le n p.released ≡ true → message (issued_of p.landed) n ≡ Some a
-sent_landed p n a saved is released = within_front (issued_of p.landed) (issued_of p.live) n a saved.front (omega (arith, leb-true n p.released released, saved.released)) is
+sent_landed p n a saved is released = within_prefix (issued_of p.landed) (issued_of p.live) n a saved.prefix (omega (arith, leb-true n p.released released, saved.released)) is
 
 -- A message among those sent, after `a` was sent as message n, is `a` as message n, or was sent before.
 sent_with : (sent : List (Option Apdu)) (n m : ℕ) (a b : Apdu) → sent_message (with_sent sent n a) m ≡ Some b
@@ -142,7 +142,7 @@ saved_by_send p n (Some a) true is e saved = record {
         | inl here ↦ subst (λ x. message (issued_of p.landed) m ≡ Some x) (sym here.1) (subst (λ k. message (issued_of p.landed) k ≡ Some a) (sym here.0) (sent_landed p n a saved is e))
         | inr before ↦ saved.landed m b before
       ];
-  front = saved.front;
+  prefix = saved.prefix;
   released = saved.released;
   places = places_kept p.sent n a ∙ saved.places;
 }

@@ -12,7 +12,7 @@ use Rattle.ill_world.specs.declared.fault.SimFault.TheVariants.{Script, Read, Wr
 use Rattle.ill_world.specs.World.{Parties, first_world, happens, run_by, run_of}
 use Rattle.ill_world.specs.Trace.{line}
 use Rattle.ill_world.specs.Play.{Play, Said, line_at, then_says, ends, breaks_off, says_on, trace_from, Answers, Plays}
-use Rattle.ill_world.specs.Simulation.{two_sides, trace_of, line_behind}
+use Rattle.ill_world.specs.Simulation.{two_sides, trace_of, line_after}
 use Rattle.ill_world.specs.Simulating.{IsLine, PerformsLine, StepsLine}
 use Rattle.ill_world.proofs.Scripts.{says_line}
 
@@ -65,8 +65,8 @@ module _ {W E C : Type 0} (play : Play W E C) (run : W → List E → W) (none :
   trace_line n w events event =
       trace_more n w events (event ∷ []) ∙ ap (λ t. trace_from play n w events ++ t) (trace_of_one play (n + length events) (run w events) event)
 
-  pub trace_front : (n : ℕ) (w : W) (events more : List E) → IsPrefix (trace_from play n w events) (trace_from play n w (events ++ more))
-  trace_front n w events more = (trace_from play (n + length events) (run w events) more, trace_more n w events more)
+  pub trace_prefix : (n : ℕ) (w : W) (events more : List E) → IsPrefix (trace_from play n w events) (trace_from play n w (events ++ more))
+  trace_prefix n w events more = (trace_from play (n + length events) (run w events) more, trace_more n w events more)
 
 -- ---- the trace of two sides
 
@@ -82,18 +82,18 @@ run_of_none w = refl
 
 -- One event more adds its line to the trace.
 pub sides_line : (txn : Qualifiers) (events : List Event) (event : Event)
-    → trace_of txn (events ++ event ∷ []) ≡ trace_of txn events ++ line_behind txn events event
+    → trace_of txn (events ++ event ∷ []) ≡ trace_of txn events ++ line_after txn events event
 sides_line txn events event =
     let first = first_world txn in
     let after = run_of first events in
     let number : 1 + length events ≡ length events + 1 = omega arith in
-    let text : two_sides.text (1 + length events) after event ≡ line_behind txn events event =
+    let text : two_sides.text (1 + length events) after event ≡ line_after txn events event =
     ap (λ m. line m (happens after event).0 (happens after event).1) number
     ∙ ap (line (length events + 1) (happens after event).0) (sym (run_more two_sides run_of run_of_none run_of_next first events event)) in
     trace_line two_sides run_of run_of_none run_of_next 1 first events event ∙ ap (λ t. trace_of txn events ++ t) text
 
-pub sides_front : (txn : Qualifiers) (events more : List Event) → IsPrefix (trace_of txn events) (trace_of txn (events ++ more))
-sides_front txn events more = trace_front two_sides run_of run_of_none run_of_next 1 (first_world txn) events more
+pub sides_prefix : (txn : Qualifiers) (events more : List Event) → IsPrefix (trace_of txn events) (trace_of txn (events ++ more))
+sides_prefix txn events more = trace_prefix two_sides run_of run_of_none run_of_next 1 (first_world txn) events more
 
 -- ---- events, and the rest after them
 
@@ -101,16 +101,16 @@ sides_front txn events more = trace_front two_sides run_of run_of_none run_of_ne
 abbrev pub with_events : {E : Type 0} → List E → Said E → Said E
 with_events events more = record { events = events ++ more.events; bad = more.bad }
 
--- If `front` says `events`, and `shown` shows them, an answer that fits the rest of a text fits the whole.
+-- If `prefix` says `events`, and `shown` shows them, an answer that fits the rest of a text fits the whole.
 answers_on : {E : Type 0}
-    → (whole broken rest rest_broken : List ℕ → Said E) (trace trace_on : List E → List ℕ) (count next_count : ℕ) (front shown : List ℕ) (events : List E)
-    → ((text : List ℕ) → whole (front ++ text) ≡ with_events events (rest text))
-    → ((text : List ℕ) → broken (front ++ text) ≡ with_events events (rest_broken text))
+    → (whole broken rest rest_broken : List ℕ → Said E) (trace trace_on : List E → List ℕ) (count next_count : ℕ) (prefix shown : List ℕ) (events : List E)
+    → ((text : List ℕ) → whole (prefix ++ text) ≡ with_events events (rest text))
+    → ((text : List ℕ) → broken (prefix ++ text) ≡ with_events events (rest_broken text))
     → ((more : List E) → trace (events ++ more) ≡ shown ++ trace_on more) → next_count ≡ count + length events
     → (result : Result ℕ SimFault) (text : List ℕ) (left : Option (List ℕ)) (written : List ℕ)
     → Answers rest rest_broken trace_on next_count result text left written
-    → Answers whole broken trace count result (front ++ text) left (shown ++ written)
-answers_on whole broken rest rest_broken trace trace_on count next_count front shown events says breaks shows counts (Ok total) text left written answers =
+    → Answers whole broken trace count result (prefix ++ text) left (shown ++ written)
+answers_on whole broken rest rest_broken trace trace_on count next_count prefix shown events says breaks shows counts (Ok total) text left written answers =
     let es = (rest text).events in
     let sum : total ≡ count + length (events ++ es) = omega (arith, answers.3, counts, length-append events es) in (
       answers.0,
@@ -118,26 +118,26 @@ answers_on whole broken rest rest_broken trace trace_on count next_count front s
       ap (λ t. shown ++ t) answers.2 ∙ sym (shows es) ∙ ap (λ (s : Said _). trace s.events) (sym (says text)),
       sum ∙ ap (λ (s : Said _). count + length s.events) (sym (says text)),
     )
-answers_on whole broken rest rest_broken trace trace_on count next_count front shown events says breaks shows counts (Err (Script m)) text left written answers =
+answers_on whole broken rest rest_broken trace trace_on count next_count prefix shown events says breaks shows counts (Err (Script m)) text left written answers =
     λ more e.
     let told = answers more e in
-    let said = ap whole (append_assoc front text more) ∙ says (text ++ more) in
+    let said = ap whole (append_assoc prefix text more) ∙ says (text ++ more) in
     subst (λ (s : Said _). (s.bad ≡ Some m) × (shown ++ written ≡ trace s.events)) (sym said)
     (told.0, ap (λ t. shown ++ t) told.1 ∙ sym (shows (rest (text ++ more)).events))
-answers_on whole broken rest rest_broken trace trace_on count next_count front shown events says breaks shows counts (Err Read) text left written answers = (
+answers_on whole broken rest rest_broken trace trace_on count next_count prefix shown events says breaks shows counts (Err Read) text left written answers = (
   ap (λ (s : Said _). s.bad) (breaks text) ∙ answers.0,
   ap (λ t. shown ++ t) answers.1 ∙ sym (shows (rest_broken text).events) ∙ ap (λ (s : Said _). trace s.events) (sym (breaks text)),
 )
-answers_on whole broken rest rest_broken trace trace_on count next_count front shown events says breaks shows counts (Err Write) text left written answers =
+answers_on whole broken rest rest_broken trace trace_on count next_count prefix shown events says breaks shows counts (Err Write) text left written answers =
     λ more e.
     let told = answers more e in
-    let said = ap whole (append_assoc front text more) ∙ says (text ++ more) in
+    let said = ap whole (append_assoc prefix text more) ∙ says (text ++ more) in
     subst (λ (s : Said _). IsPrefix (shown ++ written) (trace s.events)) (sym said)
     (told.0, shows (rest (text ++ more)).events ∙ ap (λ t. shown ++ t) told.1 ∙ sym (append_assoc shown written told.0))
-answers_on whole broken rest rest_broken trace trace_on count next_count front shown events says breaks shows counts (Err OutOfMemory) text left written answers =
+answers_on whole broken rest rest_broken trace trace_on count next_count prefix shown events says breaks shows counts (Err OutOfMemory) text left written answers =
     λ more e.
     let told = answers more e in
-    let said = ap whole (append_assoc front text more) ∙ says (text ++ more) in
+    let said = ap whole (append_assoc prefix text more) ∙ says (text ++ more) in
     subst (λ (s : Said _). (es : List _) × IsPrefix es s.events × (shown ++ written ≡ trace es)) (sym said) (
       events ++ told.0,
       (told.1.0, ap (λ es. events ++ es) told.1.1 ∙ sym (append_assoc events told.0 told.1.0)),
@@ -147,17 +147,17 @@ answers_on whole broken rest rest_broken trace trace_on count next_count front s
 -- ---- a line, and the rest after it
 
 module _ {W E C : Type 0} (play : Play W E C) where
-  -- If `front` was read, and its events were shown, performing the rest of the script performs the whole.
-  plays_behind : (c kept : C) (n m : ℕ) (w next : W) (count next_count : ℕ) (front shown : List ℕ) (events : List E) (old middle new before between after : Option (List ℕ)) (result : Result ℕ SimFault)
-      → ((end : C → ℕ → List ℕ → Said E) (text : List ℕ) → says_on play end c n (front ++ text) ≡ with_events events (says_on play end kept m text))
+  -- If `prefix` was read, and its events were shown, performing the rest of the script performs the whole.
+  plays_after : (c kept : C) (n m : ℕ) (w next : W) (count next_count : ℕ) (prefix shown : List ℕ) (events : List E) (old middle new before between after : Option (List ℕ)) (result : Result ℕ SimFault)
+      → ((end : C → ℕ → List ℕ → Said E) (text : List ℕ) → says_on play end c n (prefix ++ text) ≡ with_events events (says_on play end kept m text))
       → ((more : List E) → trace_from play (count + 1) w (events ++ more) ≡ shown ++ trace_from play (next_count + 1) next more) → next_count ≡ count + length events
-      → Consumes old middle front → Appends before between shown → Plays play kept m next next_count middle new between after result → Plays play c n w count old new before after result
-  plays_behind c kept n m w next count next_count front shown events old middle new before between after result says shows counts read written rest = (
-    front ++ rest.0,
+      → Consumes old middle prefix → Appends before between shown → Plays play kept m next next_count middle new between after result → Plays play c n w count old new before after result
+  plays_after c kept n m w next count next_count prefix shown events old middle new before between after result says shows counts read written rest = (
+    prefix ++ rest.0,
     shown ++ rest.1,
-    Consumes-trans old middle new front rest.0 read rest.2,
+    Consumes-trans old middle new prefix rest.0 read rest.2,
     Appends-trans before between after shown rest.1 written rest.3,
-    answers_on (says_on play (ends play) c n) (says_on play breaks_off c n) (says_on play (ends play) kept m) (says_on play breaks_off kept m) (trace_from play (count + 1) w) (trace_from play (next_count + 1) next) count next_count front shown events (says (ends play)) (says breaks_off) shows counts result rest.0 new rest.1 rest.4,
+    answers_on (says_on play (ends play) c n) (says_on play breaks_off c n) (says_on play (ends play) kept m) (says_on play breaks_off kept m) (trace_from play (count + 1) w) (trace_from play (next_count + 1) next) count next_count prefix shown events (says (ends play)) (says breaks_off) shows counts result rest.0 new rest.1 rest.4,
   )
 
   -- what a line says that an LF closes, and then the rest
@@ -174,14 +174,14 @@ module _ {W E C : Type 0} (play : Play W E C) where
   line_first c kept n w next count next_count bytes lines.Skipped old middle new before between after result is e leaves read done rest =
       let stays : (more : List E) → trace_from play (count + 1) w more ≡ trace_from play (next_count + 1) next more =
       λ more. ap (λ k. trace_from play (k + 1) w more) (sym done.1) ∙ ap (λ v. trace_from play (next_count + 1) v more) (sym done.0) in
-      plays_behind c kept n (n + 1) w next count next_count (bytes ++ 10 ∷ []) [] [] old middle new before between after result (says_closed c kept n bytes lines.Skipped is e leaves) stays
+      plays_after c kept n (n + 1) w next count next_count (bytes ++ 10 ∷ []) [] [] old middle new before between after result (says_closed c kept n bytes lines.Skipped is e leaves) stays
       (omega (arith, done.1)) read done.2 rest
   line_first c kept n w next count next_count bytes (lines.Event event) old middle new before between after result is e leaves read done rest =
       let text = play.text (count + 1) w event in
       let shows : (more : List E) → trace_from play (count + 1) w (event ∷ more) ≡ text ++ trace_from play (next_count + 1) next more =
       λ more. trace_next play (count + 1) w event more ∙ ap (λ k. text ++ trace_from play (k + 1) (play.next w event) more) (sym done.1)
       ∙ ap (λ v. text ++ trace_from play (next_count + 1) v more) (sym done.0) in
-      plays_behind c kept n (n + 1) w next count next_count (bytes ++ 10 ∷ []) text (event ∷ []) old middle new before between after result (says_closed c kept n bytes (lines.Event event) is e leaves) shows
+      plays_after c kept n (n + 1) w next count next_count (bytes ++ 10 ∷ []) text (event ∷ []) old middle new before between after result (says_closed c kept n bytes (lines.Event event) is e leaves) shows
       (omega (arith, done.1)) read done.2 rest
   line_first c kept n w next count next_count bytes lines.Bad old middle new before between after result is e leaves read done rest = absurd done
 

@@ -34,7 +34,7 @@ use Rattle.ill_saved.specs.declared.role.Role.TheVariants as who
 use Rattle.ill_world.specs.declared.event.Event.{Event}
 use Rattle.ill_world.specs.Invariant.{WasSent, RequesterStands, ResponderStands, RequesterSideStands, ResponderSideStands, PartyStands, Invariant}
 use Rattle.ill_world.proofs.DueDates.{RowsKeepDue, due_after}
-use Rattle.ill_world.proofs.Sendings.{front_of_itself}
+use Rattle.ill_world.proofs.Sendings.{prefix_of_itself}
 use Rattle.ill_world.proofs.Kept.{RowsGrow, Keeps, party_kept, told_more, was_sent_still}
 use Rattle.ill_core.specs.declared.state.State.{State}
 use Rattle.ill_core.specs.declared.state.State.TheVariants.{Idle, CancelPending, Cancelled}
@@ -268,7 +268,7 @@ first_stands : (K : Side → List (Option Apdu) → Type 0) (idle : Side) (told 
 first_stands K idle told stands = record {
   saved = record {
     landed = λ n a e. absurd (none_sent n a e);
-    front = front_of_itself (issued_of idle);
+    prefix = prefix_of_itself (issued_of idle);
     released = omega arith;
     places = refl;
   };

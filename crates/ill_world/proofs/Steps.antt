@@ -55,9 +55,9 @@ module _ {W E C : Type 0} (play : Play W E C) where
   no_memory : (c : C) (n : ℕ) (w : W) (count : ℕ) (text : List ℕ) (left before after : Option (List ℕ)) → Appends before after [] → Fails c n w count OutOfMemory text left before after
   no_memory c n w count text left before after nothing = ([], nothing, λ more e. ([], ((says_on play (ends play) c n (text ++ more)).events, refl), sym (trace_of_none play (count + 1) w)))
 
-  -- the front of a line is the front of the trace
-  front_of : (w : W) (count size : ℕ) (event : E) (events : List E) → IsPrefix (take size (play.text (count + 1) w event)) (trace_from play (count + 1) w (event ∷ events))
-  front_of w count size event events =
+  -- the prefix of a line is the prefix of the trace
+  prefix_of : (w : W) (count size : ℕ) (event : E) (events : List E) → IsPrefix (take size (play.text (count + 1) w event)) (trace_from play (count + 1) w (event ∷ events))
+  prefix_of w count size event events =
       let shown = play.text (count + 1) w event in
       let rest = trace_from play (count + 1 + 1) (play.next w event) events in (
         drop size shown ++ rest,
@@ -75,7 +75,7 @@ module _ {W E C : Type 0} (play : Play W E C) where
     λ more e.
         let said = begins more e in
         subst (λ (s : Said E). IsPrefix (take fails.0 (play.text (count + 1) w event)) (trace_from play (count + 1) w s.events)) (sym (said.1 ∙ ap (λ l. then_says l n said.0) is))
-        (front_of w count fails.0 event said.0.events),
+        (prefix_of w count fails.0 event said.0.events),
   )
   line_fails c n w next count next_count bytes text left before after lines.Bad (Script m) is begins fails = (
     [],

@@ -22,13 +22,13 @@ lf_stands (byte ∷ bytes) rest from place is = go (byte == 10) place refl is (l
   where
     go : (is_lf : Bool) (place : Option ℕ) → (byte == 10) ≡ is_lf → cond is_lf (Some from) (position_from (λ b. b == 10) (from + 1) bytes) ≡ place
         → ((later : Option ℕ) → position_from (λ b. b == 10) (from + 1) bytes ≡ later → FirstLf bytes rest (from + 1) later) → FirstLf (byte ∷ bytes) rest from place
-    go true None is_lf is behind = search rules
-    go true (Some at) is_lf is behind =
+    go true None is_lf is after = search rules
+    go true (Some at) is_lf is after =
         let here : at ≡ from + 0 = search (arith, rules) in
         (0, here, omega arith, refl, ap (λ b. b ∷ (bytes ++ rest)) (eqb-true byte 10 is_lf))
-    go false None no_lf is behind = ap (λ (b : Bool). b || has_lf bytes) no_lf ∙ behind None is
-    go false (Some at) no_lf is behind =
-        let stands = behind (Some at) is in (
+    go false None no_lf is after = ap (λ (b : Bool). b || has_lf bytes) no_lf ∙ after None is
+    go false (Some at) no_lf is after =
+        let stands = after (Some at) is in (
           suc stands.0,
           omega (arith, stands.1),
           omega (arith, stands.2),
@@ -53,36 +53,36 @@ no_lf bytes is = lf_stands bytes [] 0 None is
 -- ---- a part of a line
 
 -- up to its LF
-pub takes_line : (before ahead front line : List ℕ) (most at : ℕ) → length front ≤ 1024 → most ≤ 1025 - length front → lf_place (take most before) ≡ Some at
-    → line ≡ front ++ take at (take most before) → ahead ≡ drop (at + 1) before → TakesPart before ahead front line (Ok (Some found.Line))
-takes_line before ahead front line most at few within is line_is ahead_is =
+pub takes_line : (before ahead prefix line : List ℕ) (most at : ℕ) → length prefix ≤ 1024 → most ≤ 1025 - length prefix → lf_place (take most before) ≡ Some at
+    → line ≡ prefix ++ take at (take most before) → ahead ≡ drop (at + 1) before → TakesPart before ahead prefix line (Ok (Some found.Line))
+takes_line before ahead prefix line most at few within is line_is ahead_is =
     let part = take most before in
     let first = first_lf part (drop most before) at is in
     let whole : part ++ drop most before ≡ before = take-append-drop most before in
     let bytes = take at part in
     let parts = subst (λ l. l ≡ bytes ++ 10 ∷ drop (at + 1) l) whole first.2 in
-    let size : length (front ++ bytes) ≤ 1024 = omega (arith, length-append front bytes, length-take at part, length-take most before, first.0, few, within) in
+    let size : length (prefix ++ bytes) ≤ 1024 = omega (arith, length-append prefix bytes, length-take at part, length-take most before, first.0, few, within) in
     (bytes, parts ∙ ap (λ l. bytes ++ 10 ∷ l) (sym ahead_is), first.1, line_is, subst (λ l. length l ≤ 1024) (sym line_is) size)
 
 -- If no LF is within the limit, and more bytes are ahead, the line is too long.
-pub takes_too_long : (before ahead front line : List ℕ) (most : ℕ) → length front ≤ 1024
-    → most ≡ min (length before) (1024 - length front + 1) → 1024 - length front < most
-    → lf_place (take most before) ≡ None → ahead ≡ drop most before → TakesPart before ahead front line (Ok (Some found.TooLong))
-takes_too_long before ahead front line most few most_is long is ahead_is =
+pub takes_too_long : (before ahead prefix line : List ℕ) (most : ℕ) → length prefix ≤ 1024
+    → most ≡ min (length before) (1024 - length prefix + 1) → 1024 - length prefix < most
+    → lf_place (take most before) ≡ None → ahead ≡ drop most before → TakesPart before ahead prefix line (Ok (Some found.TooLong))
+takes_too_long before ahead prefix line most few most_is long is ahead_is =
     let bytes = take most before in
-    let size : length (front ++ bytes) ≡ 1025 = omega (arith, length-append front bytes, length-take most before, few, most_is, long) in
+    let size : length (prefix ++ bytes) ≡ 1025 = omega (arith, length-append prefix bytes, length-take most before, few, most_is, long) in
     (bytes, sym (take-append-drop most before) ∙ ap (λ l. bytes ++ l) (sym ahead_is), no_lf bytes is, size)
 
 -- If the bytes ahead are within the limit, and have no LF, all of them join the line.
-pub takes_all : (before ahead front line : List ℕ) (most : ℕ) → length front ≤ 1024
-    → most ≡ min (length before) (1024 - length front + 1) → most ≤ 1024 - length front
-    → lf_place (take most before) ≡ None → line ≡ front ++ take most before → ahead ≡ drop most before
-    → TakesPart before ahead front line (Ok None)
-takes_all before ahead front line most few most_is short is line_is ahead_is =
+pub takes_all : (before ahead prefix line : List ℕ) (most : ℕ) → length prefix ≤ 1024
+    → most ≡ min (length before) (1024 - length prefix + 1) → most ≤ 1024 - length prefix
+    → lf_place (take most before) ≡ None → line ≡ prefix ++ take most before → ahead ≡ drop most before
+    → TakesPart before ahead prefix line (Ok None)
+takes_all before ahead prefix line most few most_is short is line_is ahead_is =
     let all : length before ≤ most = omega (arith, most_is, short) in
     let same : take most before ≡ before = take_all most before all in
-    let line_all : line ≡ front ++ before = line_is ∙ ap (λ l. front ++ l) same in
-    let size : length (front ++ before) ≤ 1024 = omega (arith, length-append front before, few, all, short) in
+    let line_all : line ≡ prefix ++ before = line_is ∙ ap (λ l. prefix ++ l) same in
+    let size : length (prefix ++ before) ≤ 1024 = omega (arith, length-append prefix before, few, all, short) in
     (ahead_is ∙ drop_of_length-le before all, ap has_lf (sym same) ∙ no_lf (take most before) is, line_all, subst (λ l. length l ≤ 1024) (sym line_all) size)
 
 -- ---- the lines of a text

@@ -8,6 +8,6 @@ pub data Leaves (written trace : List ℕ) : Type 0 where
       trace ≡ common ++ other ∷ more → (byte ≡ other → ⊥) → Leaves written trace
 
 -- The bytes written are the trace of no prefix of `events`.
-abbrev pub IsOfNoFront : {E : Type 0} → (List E → List ℕ) → List E → List ℕ → Type 0
-IsOfNoFront {E = E} trace_of events written =
-    (front more : List E) → events ≡ front ++ more → written ≡ trace_of front → ⊥
+abbrev pub IsOfNoPrefix : {E : Type 0} → (List E → List ℕ) → List E → List ℕ → Type 0
+IsOfNoPrefix {E = E} trace_of events written =
+    (prefix more : List E) → events ≡ prefix ++ more → written ≡ trace_of prefix → ⊥

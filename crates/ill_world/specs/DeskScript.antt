@@ -68,7 +68,7 @@ line_in (Some txn) (lines.Event event) = lines.Event (record { txn = txn; event 
 line_in None (lines.Event event) = lines.Bad
 line_in in_use lines.Bad = lines.Bad
 
--- what a line says with the transaction in use, and the one in use behind it
+-- what a line says with the transaction in use, and the one in use after it
 abbrev pub says_in : Option Qualifiers → DeskLine → ScriptLine EventIn × Option Qualifiers
 says_in in_use (Use txn) = (lines.Skipped, Some txn)
 says_in in_use (Plain line) = (line_in in_use line, in_use)

@@ -30,8 +30,8 @@ desk_events events = map (λ e. e.event) events
 
 -- Returns the line of `event` in a trace, after `events`. It has its number, its outcome, and both sides of its
 -- transaction after it.
-abbrev pub desk_line_behind : List EventIn → EventIn → List ℕ
-desk_line_behind events event =
+abbrev pub desk_line_after : List EventIn → EventIn → List ℕ
+desk_line_after events event =
     desk_line (length events + 1) event.txn
     (desks_happen (desks_run first_desks (desk_events events)) event.event).0
     (desks_run first_desks (desk_events (events ++ event ∷ [])))

@@ -90,7 +90,7 @@ ResponderSideStands txn (sides.Responder y) sent = ResponderStands txn y sent
 -- There is a place for each number.
 pub record SendsSaved (p : Party) : Type 0 where
   pub landed : (n : ℕ) (a : Apdu) → sent_message p.sent n ≡ Some a → message (issued_of p.landed) n ≡ Some a
-  pub front : IsPrefix (issued_of p.landed) (issued_of p.live)
+  pub prefix : IsPrefix (issued_of p.landed) (issued_of p.live)
   pub released : p.released ≤ length (issued_of p.landed)
   pub places : length p.sent ≡ 255
 

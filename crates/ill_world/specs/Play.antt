@@ -34,7 +34,7 @@ is_within n bytes = nat_le n 100000 && nat_le (length bytes) 1024
 abbrev pub line_at : {W E C : Type 0} → Play W E C → C → ℕ → List ℕ → ScriptLine E × C
 line_at play c n bytes = if is_within n bytes then play.says c bytes else (lines.Bad, c)
 
--- line n, and what the lines behind it say
+-- line n, and what the lines after it say
 abbrev pub then_says : {E : Type 0} → ScriptLine E → ℕ → Said E → Said E
 then_says lines.Skipped n more = more
 then_says (lines.Event event) n more = record { events = event ∷ more.events; bad = more.bad }

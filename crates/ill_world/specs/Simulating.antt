@@ -44,19 +44,19 @@ lf_place bytes = position_from (λ byte. byte == 10) 0 bytes
 abbrev pub IsLine : List ℕ → Type 0
 IsLine bytes = (has_lf bytes ≡ false) × (length bytes ≤ 1024)
 
--- Bytes of `before` join `front`, the begin of a line: up to an LF, beyond the limit, or all. If memory runs out, none
+-- Bytes of `before` join `prefix`, the begin of a line: up to an LF, beyond the limit, or all. If memory runs out, none
 -- are taken.
 abbrev pub TakesPart : List ℕ → List ℕ → List ℕ → List ℕ → Result (Option Found) AllocError → Type 0
-TakesPart before ahead front line (Ok (Some found.Line)) =
+TakesPart before ahead prefix line (Ok (Some found.Line)) =
     (bytes : List ℕ) × (before ≡ bytes ++ 10 ∷ ahead) × (has_lf bytes ≡ false)
-    × (line ≡ front ++ bytes) × (length line ≤ 1024)
-TakesPart before ahead front line (Ok (Some found.Rest)) = ⊥
-TakesPart before ahead front line (Ok (Some found.TooLong)) =
+    × (line ≡ prefix ++ bytes) × (length line ≤ 1024)
+TakesPart before ahead prefix line (Ok (Some found.Rest)) = ⊥
+TakesPart before ahead prefix line (Ok (Some found.TooLong)) =
     (bytes : List ℕ) × (before ≡ bytes ++ ahead) × (has_lf bytes ≡ false)
-    × (length (front ++ bytes) ≡ 1025)
-TakesPart before ahead front line (Ok None) =
-    (ahead ≡ []) × (has_lf before ≡ false) × (line ≡ front ++ before) × (length line ≤ 1024)
-TakesPart before ahead front line (Err fault) = ahead ≡ before
+    × (length (prefix ++ bytes) ≡ 1025)
+TakesPart before ahead prefix line (Ok None) =
+    (ahead ≡ []) × (has_lf before ≡ false) × (line ≡ prefix ++ before) × (length line ≤ 1024)
+TakesPart before ahead prefix line (Err fault) = ahead ≡ before
 
 -- A line was read: with its LF, to the end of the text, or beyond the limit. A failing reader or want of memory cuts
 -- it off.
@@ -87,7 +87,7 @@ TellsLine play says number w shown (Ok told) new carried new_shown =
     PerformsOne play says.0 number w shown told new new_shown × (carried ≡ says.1)
 TellsLine play says number w shown (Err memory) new carried new_shown = Unit {0}
 
--- A line that says this was performed behind so many events, and its text written: whole, a front of it where
+-- A line that says this was performed after so many events, and its text written: whole, a prefix of it where
 -- the writer failed, or nothing for want of memory.
 abbrev pub PerformsLine : {W E C : Type 0} → Play W E C → ScriptLine E → ℕ → W → ℕ → Option (List ℕ) →
     Option (List ℕ) → Result (Unit {0}) SimFault → W → ℕ → Type 0

@@ -29,8 +29,8 @@ abbrev pub trace_of : Qualifiers → List Event → List ℕ
 trace_of txn events = trace_from two_sides 1 (first_world txn) events
 
 -- Returns the line of `event` in a trace, after `events`: its number, its outcome, and the world after it.
-abbrev pub line_behind : Qualifiers → List Event → Event → List ℕ
-line_behind txn events event =
+abbrev pub line_after : Qualifiers → List Event → Event → List ℕ
+line_after txn events event =
     line (length events + 1) (happens (run_of (first_world txn) events) event).0
     (run_of (first_world txn) (events ++ event ∷ []))
 

@@ -20,12 +20,12 @@ ghost use Rattle.ill_world.specs.declared.script.ScriptLine.TheVariants as lines
 ghost use Rattle.ill_world.specs.declared.desk_script.DeskLine.TheVariants as desk_lines;
 ghost use Rattle.ill_world.specs.Desks.{DeskParties, plain, first_desks, desks_happen, desks_run, project, events_for, Projects};
 ghost use Rattle.ill_world.specs.DeskScript.{EventIn, in_txn, says_in, IsInTxn};
-ghost use Rattle.ill_world.specs.DeskSimulation.{desk_script, desk_trace_of, desk_line_behind, SimulatesDesks};
+ghost use Rattle.ill_world.specs.DeskSimulation.{desk_script, desk_trace_of, desk_line_after, SimulatesDesks};
 ghost use Rattle.ill_world.specs.World.{Parties, run_of};
 ghost use Rattle.ill_world.specs.Safety.{Safe};
 ghost use Rattle.ill_world.specs.Agreement.{Agrees, KeepsDates};
 ghost use Rattle.ill_world.specs.BadDesks.{Names, IsNotReached, MissesHeld, ChangesUnreached, ArrivesInVainAt};
-ghost use Rattle.ill_world.specs.BadTraces.{Leaves, IsOfNoFront};
+ghost use Rattle.ill_world.specs.BadTraces.{Leaves, IsOfNoPrefix};
 ghost use Rattle.ill_world.specs.Changes.{KeepsSent};
 ghost use Rattle.ill_world.specs.DeskChanges.{DeskMayChange, ReachesSide, ProjectsTo};
 ghost use Rattle.ill_world.specs.Round.{round_of, CanAnswer, AreInStep};
@@ -183,7 +183,7 @@ pub fn no_bad_desk_trace_is_written()
         Leaves written (desk_trace_of (desk_script text).events) →
         SimulatesDesks (Some text) (Some left) (Some []) (Some written) (Err Write) → ⊥ }
     ensures memory { (text left written : List ℕ) →
-        IsOfNoFront desk_trace_of (desk_script text).events written →
+        IsOfNoPrefix desk_trace_of (desk_script text).events written →
         SimulatesDesks (Some text) (Some left) (Some []) (Some written) (Err OutOfMemory) → ⊥ }
 {}
 
@@ -253,7 +253,7 @@ pub fn events_are_in_the_transaction_in_use()
 pub fn desk_traces_show_runs()
     ensures first { desk_trace_of [] ≡ [] }
     ensures next { (events : List EventIn) (event : EventIn) →
-        desk_trace_of (events ++ event ∷ []) ≡ desk_trace_of events ++ desk_line_behind events event }
-    ensures front { (events more : List EventIn) →
+        desk_trace_of (events ++ event ∷ []) ≡ desk_trace_of events ++ desk_line_after events event }
+    ensures prefix { (events more : List EventIn) →
         IsPrefix (desk_trace_of events) (desk_trace_of (events ++ more)) }
 {}

@@ -23,11 +23,11 @@ ghost use Rattle.ill_world.specs.declared.event.Event.{Event};
 ghost use Rattle.ill_world.specs.declared.event.Event.TheVariants.{Save};
 ghost use Rattle.ill_world.specs.declared.fault.SimFault.TheVariants.{Write, OutOfMemory};
 ghost use Rattle.ill_world.specs.World.{Parties, first_world, happens, run_of};
-ghost use Rattle.ill_world.specs.Simulation.{script, trace_of, line_behind, Simulates};
+ghost use Rattle.ill_world.specs.Simulation.{script, trace_of, line_after, Simulates};
 ghost use Rattle.ill_world.specs.Safety.{OfBoth, EndsAlike, WasShipped, WasGranted, Safe, IsSafeRun};
 ghost use Rattle.ill_world.specs.Agreement.{Agrees, IsAgreeingRun, KeepsDates, Arrives};
 ghost use Rattle.ill_world.specs.BadWorlds.{IsUnsafe, Disagrees, TakesBack, ArrivesInVain};
-ghost use Rattle.ill_world.specs.BadTraces.{Leaves, IsOfNoFront};
+ghost use Rattle.ill_world.specs.BadTraces.{Leaves, IsOfNoPrefix};
 ghost use Rattle.ill_world.specs.BadRounds.{cut_round, last_unheard};
 ghost use Rattle.ill_world.specs.Changes.{MayChange, OnlyLandedChanges, KeepsSent, can_be_seen};
 ghost use Rattle.ill_world.specs.Round.{round_of, CanAnswer, AreInStep, InStep, OutOfStep};
@@ -284,8 +284,8 @@ pub fn runs_have_each_world()
 pub fn traces_show_runs()
     ensures first { (txn : Qualifiers) → trace_of txn [] ≡ [] }
     ensures next { (txn : Qualifiers) (events : List Event) (event : Event) →
-        trace_of txn (events ++ event ∷ []) ≡ trace_of txn events ++ line_behind txn events event }
-    ensures front { (txn : Qualifiers) (events more : List Event) →
+        trace_of txn (events ++ event ∷ []) ≡ trace_of txn events ++ line_after txn events event }
+    ensures prefix { (txn : Qualifiers) (events more : List Event) →
         IsPrefix (trace_of txn events) (trace_of txn (events ++ more)) }
 {}
 
@@ -296,7 +296,7 @@ pub fn no_bad_trace_is_written()
         Leaves written (trace_of txn (script text).events) →
         Simulates txn (Some text) (Some left) (Some []) (Some written) (Err Write) → ⊥ }
     ensures memory { (txn : Qualifiers) (text left written : List ℕ) →
-        IsOfNoFront (trace_of txn) (script text).events written →
+        IsOfNoPrefix (trace_of txn) (script text).events written →
         Simulates txn (Some text) (Some left) (Some []) (Some written) (Err OutOfMemory) → ⊥ }
 {}
 

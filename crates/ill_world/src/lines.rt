@@ -55,10 +55,10 @@ fn take_part(ahead: &mut Ahead, line: &mut Vec<u8>) -> Result<Option<Found>, Out
     let room = MAX_LINE - line.len();
     let bytes = ahead.bytes();
     let most = bytes.len().min(room + 1);
-    let front = &bytes[..most];
-    match find_lf(front) {
+    let prefix = &bytes[..most];
+    match find_lf(prefix) {
         Some(at) => {
-            line.extend_from_slice(&front[..at])?;
+            line.extend_from_slice(&prefix[..at])?;
             ahead.skip(at + 1);
             Ok(Some(Found::Line))
         }
@@ -67,7 +67,7 @@ fn take_part(ahead: &mut Ahead, line: &mut Vec<u8>) -> Result<Option<Found>, Out
             Ok(Some(Found::TooLong))
         }
         None => {
-            line.extend_from_slice(front)?;
+            line.extend_from_slice(prefix)?;
             ahead.skip(most);
             Ok(None)
         }

@@ -1,7 +1,7 @@
 //! The lines of a trace, which show the outcome of each event and both sides after it.
 
 ghost use Rattle.std.specs.Prelude.{◌≡◌, ◌++◌, OnOk, OnErr};
-ghost use Rattle.ill_der.specs.Adding.{AddsFront};
+ghost use Rattle.ill_der.specs.Adding.{AddsPrefix};
 ghost use Rattle.ill_world.specs.Trace.{line_of, event_text, sides_text, shown_text, side_text, due_text};
 
 use ill_saved::{Shown, Side};
@@ -53,7 +53,7 @@ fn push_sides(lines: &mut Vec<u8>, requester: Shown, responder: Shown) -> Result
 /// prefix of the text.
 pub fn push_side(lines: &mut Vec<u8>, side: &Side, released: u8) -> Result<(), OutOfMemory>
     ensures text { OnOk result (lines.new.items ≡ lines.old.items ++ side_text side.now released) }
-    ensures front { OnErr result (AddsFront lines.old.items lines.new.items
+    ensures prefix { OnErr result (AddsPrefix lines.old.items lines.new.items
         (side_text side.now released)) }
 {
     push_shown(lines, Shown::of(side, released))
@@ -63,7 +63,7 @@ pub fn push_side(lines: &mut Vec<u8>, side: &Side, released: u8) -> Result<(), O
 #[tactic(auto, unfolding(crate::specs::Trace::shown_text))]
 pub fn push_shown(lines: &mut Vec<u8>, shown: Shown) -> Result<(), OutOfMemory>
     ensures text { OnOk result (lines.new.items ≡ lines.old.items ++ shown_text shown) }
-    ensures front { OnErr result (AddsFront lines.old.items lines.new.items (shown_text shown)) }
+    ensures prefix { OnErr result (AddsPrefix lines.old.items lines.new.items (shown_text shown)) }
 {
     lines.extend_from_slice(shown.state.name().as_bytes())?;
     lines.push(b' ')?;
@@ -77,7 +77,7 @@ pub fn push_shown(lines: &mut Vec<u8>, shown: Shown) -> Result<(), OutOfMemory>
 /// Appends a due date as eight digits, or a dash if there is none.
 fn push_due(lines: &mut Vec<u8>, due: Option<Day>) -> Result<(), OutOfMemory>
     ensures text { OnOk result (lines.new.items ≡ lines.old.items ++ due_text due) }
-    ensures front { OnErr result (AddsFront lines.old.items lines.new.items (due_text due)) }
+    ensures prefix { OnErr result (AddsPrefix lines.old.items lines.new.items (due_text due)) }
 {
     match due {
         None => lines.push(b'-')?,
@@ -89,7 +89,7 @@ fn push_due(lines: &mut Vec<u8>, due: Option<Day>) -> Result<(), OutOfMemory>
 /// Appends a number in decimal.
 fn push_number<I: Integer>(lines: &mut Vec<u8>, number: I) -> Result<(), OutOfMemory>
     ensures text { OnOk result (lines.new.items ≡ lines.old.items ++ I.text number) }
-    ensures front { OnErr result (AddsFront lines.old.items lines.new.items (I.text number)) }
+    ensures prefix { OnErr result (AddsPrefix lines.old.items lines.new.items (I.text number)) }
 {
     lines.extend_from_slice(Buffer::new().format(number).as_bytes())?;
     Ok(())

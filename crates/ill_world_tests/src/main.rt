@@ -1,4 +1,4 @@
-//! Tests of two sides in one world: scripts, and below them, behind two spaces, the traces that `ill_world`
+//! Tests of two sides in one world: scripts, and below them, after two spaces, the traces that `ill_world`
 //! writes of them, in place of those that stand there. The file `stdin` has the scripts with what they
 //! should give, and says at its head how they are written; `stdout` is the same.
 //!

@@ -7,7 +7,7 @@ use ill_values::TxnId;
 use ill_world::{SimFault, simulate, simulate_desks};
 use std::alloc::Global;
 
-/// The most lines of a trace that is printed whole, and how many are printed of the front and the end of
+/// The most lines of a trace that is printed whole, and how many are printed of the beginning and the end of
 /// a longer one.
 const SHOWN: usize = 100;
 
@@ -44,7 +44,7 @@ pub struct Told {
 
 impl Told {
     /// Returns true if a script that was refused memory may come to this, and with ample memory to the other. It does
-    /// without, or it writes whole lines from the front of the trace.
+    /// without, or it writes whole lines from the beginning of the trace.
     fn may_be(&self, ample: &Told) -> bool {
         match self.answer {
             Err(SimFault::OutOfMemory) => {
@@ -146,19 +146,19 @@ pub fn line_count(text: &[u8]) -> usize {
     text.iter().filter(|byte| **byte == b'\n').count()
 }
 
-/// Prints the lines of a trace, or those of its front and its end.
+/// Prints the lines of a trace, or those of its beginning and its end.
 fn print_lines(page: &mut Page, trace: &[u8]) {
     let count = line_count(trace);
     if count <= SHOWN {
         return page.push(trace);
     }
-    let behind = count - AT_AN_END;
+    let after = count - AT_AN_END;
     for (index, line) in trace.split_inclusive(|byte| *byte == b'\n').enumerate() {
-        if index < AT_AN_END || index >= behind {
+        if index < AT_AN_END || index >= after {
             page.push(line);
         } else if index == AT_AN_END {
             page.text(".. ");
-            page.show(&(behind - AT_AN_END));
+            page.show(&(after - AT_AN_END));
             page.line(" lines ..");
         }
     }

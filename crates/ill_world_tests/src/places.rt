@@ -46,11 +46,11 @@ impl Answers {
 
 /// Lets the reader fail before each byte of the script in turn, and at its end; and then be interrupted.
 pub fn print_readers(alloc: Global, page: &mut Page, script: Script<'_>) -> Option<()> {
-    print_fronts(alloc, page, script, End::Fails, "it fails, ")?;
-    print_fronts(alloc, page, script, End::Interrupts, "it is interrupted, ")
+    print_prefixes(alloc, page, script, End::Fails, "it fails, ")?;
+    print_prefixes(alloc, page, script, End::Interrupts, "it is interrupted, ")
 }
 
-fn print_fronts(
+fn print_prefixes(
     alloc: Global,
     page: &mut Page,
     script: Script<'_>,
@@ -60,11 +60,11 @@ fn print_fronts(
     let whole = perform(alloc, script, Streams::Reader(End::Stops))?;
     let mut answers = Answers::new(alloc, label);
     for place in 0..=script.bytes.len() {
-        let front = Script {
+        let prefix = Script {
             bytes: &script.bytes[..place],
             ..script
         };
-        let told = perform(alloc, front, Streams::Reader(end))?;
+        let told = perform(alloc, prefix, Streams::Reader(end))?;
         answers.push(page, place, &told, Some(line_count(&told.trace)));
         if !is_whole_lines(&told.trace) || !whole.trace.starts_with(&told.trace) {
             page.line("ANOTHER TRACE");

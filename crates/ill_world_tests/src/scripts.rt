@@ -1,6 +1,6 @@
 //! The bytes of a script, from the lines that say them.
 
-/// Adds a line of a script, and its LF: once, or as often as it says at its front. A line that is not
+/// Adds a line of a script, and its LF: once, or as often as it says at its beginning. A line that is not
 /// understood is none.
 pub fn push_line(script: &mut Vec<u8>, line: &str) -> Option<()> {
     let (times, line) = repeated(line).unwrap_or((1, line));

@@ -64,7 +64,7 @@ impl Session {
         page.line(line);
         let mut answers = Page::new(self.alloc);
         let understood = self.answer(&mut answers, line);
-        page.page_behind(INDENT.as_bytes(), &answers);
+        page.page_after(INDENT.as_bytes(), &answers);
         understood
     }
 

@@ -47,12 +47,12 @@ impl Streams {
             Streams::Reader(end) | Streams::Slow(end) => end,
             Streams::Writer(_, _) => End::Stops,
         };
-        let behind = match end {
+        let after = match end {
             End::Stops => Vec::new(alloc),
             End::Fails | End::Interrupts => Vec::from_slice(alloc, BEHIND).ok()?,
         };
         let bytes = Vec::from_slice(alloc, bytes).ok()?;
-        let mut reader = TestReader::new(bytes, end.failure(), behind);
+        let mut reader = TestReader::new(bytes, end.failure(), after);
         if matches!(self, Streams::Slow(_)) {
             reader.set_slow();
         }

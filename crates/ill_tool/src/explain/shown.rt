@@ -24,8 +24,8 @@ impl fmt::Display for Shown<'_> {
         let word = self.word;
         match word.char_indices().nth(MOST) {
             Some((end, _)) => {
-                let front = word.get(..end).unwrap_or_default();
-                write!(f, "{front:?}..")
+                let prefix = word.get(..end).unwrap_or_default();
+                write!(f, "{prefix:?}..")
             }
             None => write!(f, "{word:?}"),
         }

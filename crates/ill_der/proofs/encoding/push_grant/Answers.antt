@@ -1,23 +1,23 @@
--- Proves the clause `front` of `encoding::push_grant`: at an error, a proper prefix of both fields was appended.
+-- Proves the clause `prefix` of `encoding::push_grant`: at an error, a proper prefix of both fields was appended.
 use Rattle.std.proofs.Common.{rules, ◌≡◌, ◌++◌, OnErr, is_some, subst, append_assoc}
-use Rattle.ill_der.specs.Adding.{AddsFront}
+use Rattle.ill_der.specs.Adding.{AddsPrefix}
 use Rattle.ill_der.specs.Contents.{number_octets, yes_no, date}
 use Rattle.ill_der.specs.Format.{element, optional}
 use Rattle.ill_der.proofs.AddingLemmas.{adds_first, adds_last, at_err}
 use Rattle.ill_der.proofs.encoding.push_grant.Goals as goal
 
-pub returns-in_err-push_reply-clause-front : goal.returns-in_err-push_reply-clause-front
-returns-in_err-push_reply-clause-front c =
+pub returns-in_err-push_reply-clause-prefix : goal.returns-in_err-push_reply-clause-prefix
+returns-in_err-push_reply-clause-prefix c =
     let old = c.args.bytes.now.items in
     let new = c.push_reply.new.bytes.items in
     let answers = element 131 (number_octets c.args.answers) in
     let yes = element 132 (yes_no.spell (is_some c.args.granted)) in
     let day = (optional 133 date).spell c.args.granted in
-    let front : AddsFront old new (answers ++ yes) = search rules in
-    at_err c.from_residual.result (subst (AddsFront old new) (append_assoc answers yes day) (adds_first old new (answers ++ yes) day front))
+    let prefix : AddsPrefix old new (answers ++ yes) = search rules in
+    at_err c.from_residual.result (subst (AddsPrefix old new) (append_assoc answers yes day) (adds_first old new (answers ++ yes) day prefix))
 
-pub returns-clause-front : goal.returns-clause-front
-returns-clause-front c =
+pub returns-clause-prefix : goal.returns-clause-prefix
+returns-clause-prefix c =
     let old = c.args.bytes.now.items in
     let middle = c.push_reply.new.bytes.items in
     let new = c.push_optional_date.new.bytes.items in
@@ -26,4 +26,4 @@ returns-clause-front c =
     let yes = element 132 (yes_no.spell (is_some c.args.granted)) in
     let day = (optional 133 date).spell c.args.granted in
     let all : middle ≡ old ++ (answers ++ yes) = search rules in
-    subst (λ text. OnErr result (AddsFront old new text)) (append_assoc answers yes day) (adds_last result old middle new (answers ++ yes) day all c.push_optional_date.ensures.front)
+    subst (λ text. OnErr result (AddsPrefix old new text)) (append_assoc answers yes day) (adds_last result old middle new (answers ++ yes) day all c.push_optional_date.ensures.prefix)

@@ -1,4 +1,4 @@
--- Proves the clause `front` of `encoding::push_head`: at an error, a proper prefix of the head was appended.
+-- Proves the clause `prefix` of `encoding::push_head`: at an error, a proper prefix of the head was appended.
 use Rattle.std.proofs.Common.{ℕ, List, [], ◌∷◌, ◌++◌}
 use Rattle.ill_values.specs.declared.apdu.Apdu.{Apdu}
 use Rattle.ill_der.specs.Contents.{number_octets}
@@ -19,20 +19,20 @@ txn_field apdu = txn_id.spell (apdu.txn.group, apdu.txn.transaction)
 abbrev number_field : Apdu → List ℕ
 number_field apdu = element 130 (number_octets apdu.number)
 
-pub returns-in_err-push_element-clause-front : goal.returns-in_err-push_element-clause-front
-returns-in_err-push_element-clause-front c =
+pub returns-in_err-push_element-clause-prefix : goal.returns-in_err-push_element-clause-prefix
+returns-in_err-push_element-clause-prefix c =
     let apdu = c.args.apdu.now in
-    at_err c.from_residual.result (adds_first _ _ version_field (txn_field apdu ++ number_field apdu) c.in_err-push_element.ensures.front)
+    at_err c.from_residual.result (adds_first _ _ version_field (txn_field apdu ++ number_field apdu) c.in_err-push_element.ensures.prefix)
 
-pub returns-in_err-push_id-clause-front : goal.returns-in_err-push_id-clause-front
-returns-in_err-push_id-clause-front c =
+pub returns-in_err-push_id-clause-prefix : goal.returns-in_err-push_id-clause-prefix
+returns-in_err-push_id-clause-prefix c =
     let apdu = c.args.apdu.now in
     at_err c.from_residual-in_err-push_id.result
-    (adds_second _ _ _ version_field (txn_field apdu ++ number_field apdu) c.in_ok-push_element.ensures.bytes (adds_first _ _ (txn_field apdu) (number_field apdu) c.in_err-push_id.ensures.front))
+    (adds_second _ _ _ version_field (txn_field apdu ++ number_field apdu) c.in_ok-push_element.ensures.bytes (adds_first _ _ (txn_field apdu) (number_field apdu) c.in_err-push_id.ensures.prefix))
 
-pub returns-clause-front : goal.returns-clause-front
-returns-clause-front c =
+pub returns-clause-prefix : goal.returns-clause-prefix
+returns-clause-prefix c =
     let apdu = c.args.apdu.now in
     let result = c.push_number.result in
     adds_last result _ _ _ version_field (txn_field apdu ++ number_field apdu) c.in_ok-push_element.ensures.bytes
-    (adds_last result _ _ _ (txn_field apdu) (number_field apdu) c.in_ok-push_id.ensures.bytes c.push_number.ensures.front)
+    (adds_last result _ _ _ (txn_field apdu) (number_field apdu) c.in_ok-push_id.ensures.bytes c.push_number.ensures.prefix)

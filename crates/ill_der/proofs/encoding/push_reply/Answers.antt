@@ -1,17 +1,17 @@
--- Proves the clause `front` of `encoding::push_reply`: at an error, a proper prefix of both fields was appended.
+-- Proves the clause `prefix` of `encoding::push_reply`: at an error, a proper prefix of both fields was appended.
 use Rattle.std.proofs.Common.{rules, OnErr}
-use Rattle.ill_der.specs.Adding.{AddsFront}
+use Rattle.ill_der.specs.Adding.{AddsPrefix}
 use Rattle.ill_der.specs.Contents.{number_octets, yes_no}
 use Rattle.ill_der.specs.Format.{element}
 use Rattle.ill_der.proofs.AddingLemmas.{adds_first, adds_last, at_err}
 use Rattle.ill_der.proofs.encoding.push_reply.Goals as goal
 
-pub returns-in_err-push_number-clause-front : goal.returns-in_err-push_number-clause-front
-returns-in_err-push_number-clause-front c =
-    at_err c.from_residual.result (adds_first _ _ (element 131 (number_octets c.args.answers)) (element 132 (yes_no.spell c.args.yes)) c.in_err-push_number.ensures.front)
+pub returns-in_err-push_number-clause-prefix : goal.returns-in_err-push_number-clause-prefix
+returns-in_err-push_number-clause-prefix c =
+    at_err c.from_residual.result (adds_first _ _ (element 131 (number_octets c.args.answers)) (element 132 (yes_no.spell c.args.yes)) c.in_err-push_number.ensures.prefix)
 
-pub returns-clause-front : goal.returns-clause-front
-returns-clause-front c =
+pub returns-clause-prefix : goal.returns-clause-prefix
+returns-clause-prefix c =
     let result = c.push_element.result in
-    let yes : OnErr result (AddsFront c.push_number.new.bytes.items c.push_element.new.bytes.items (element 132 (yes_no.spell c.args.yes))) = search rules in
+    let yes : OnErr result (AddsPrefix c.push_number.new.bytes.items c.push_element.new.bytes.items (element 132 (yes_no.spell c.args.yes))) = search rules in
     adds_last result _ _ _ (element 131 (number_octets c.args.answers)) (element 132 (yes_no.spell c.args.yes)) c.in_ok-push_number.ensures.bytes yes

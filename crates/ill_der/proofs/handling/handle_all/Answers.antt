@@ -2,7 +2,7 @@
 use Rattle.std.proofs.Common.{Result, ℕ, Ok, length, ◌-◌, take, drop, subst}
 use Rattle.ill_der.specs.declared.fault.DerFault.{DerFault}
 use Rattle.ill_der.specs.FeedView.{HandlesFirst}
-use Rattle.ill_der.proofs.FeedLemmas.{one_more_handled, fails_behind}
+use Rattle.ill_der.proofs.FeedLemmas.{one_more_handled, fails_after}
 use Rattle.ill_der.proofs.handling.handle_all.Goals as goal
 
 pub loop-size-preserved : goal.loop-size-preserved
@@ -19,5 +19,5 @@ loop-size-preserved g c =
 
 pub returns-in-Err : goal.returns-in-Err
 returns-in-Err g c =
-    fails_behind g.H.Handler.handles c.args.bytes.now c.loop-size.at (c.args.handler.now, c.args.context.now) (c.loop-size.handler, c.loop-size.context)
+    fails_after g.H.Handler.handles c.args.bytes.now c.loop-size.at (c.args.handler.now, c.args.context.now) (c.loop-size.handler, c.loop-size.context)
     (c.handle_first.new.handler, c.handle_first.new.context) c.in-Err.fault c.loop-size.invariant.so_far c.in-Err.ensures

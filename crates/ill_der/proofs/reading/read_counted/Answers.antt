@@ -11,30 +11,30 @@ use Rattle.ill_der.proofs.reading.read_counted.Goals as goal
 
 pub overflow_add-size : goal.overflow_add-size
 overflow_add-size g c =
-    let front = take c.loop.size c.loop.bytes in
-    let most = most_missing front (omega (arith, c.missing-missing.ensures, c.if-missing-eq0.false)) in
+    let prefix = take c.loop.size c.loop.bytes in
+    let most = most_missing prefix (omega (arith, c.missing-missing.ensures, c.if-missing-eq0.false)) in
     omega (arith, most, c.missing-missing.ensures, c.loop.invariant.size)
 
 pub slice_bounds-bytes-end-in-loop : goal.slice_bounds-bytes-end-in-loop
 slice_bounds-bytes-end-in-loop g c =
-    let front = take c.loop.size c.loop.bytes in
+    let prefix = take c.loop.size c.loop.bytes in
     let is = c.loop.invariant in
     let long = length-take-le c.loop.size c.loop.bytes (omega (arith, is.room, is.size)) in
-    let most = most_missing front (omega (arith, c.missing-missing.ensures, c.if-missing-eq0.false)) in
+    let most = most_missing prefix (omega (arith, c.missing-missing.ensures, c.if-missing-eq0.false)) in
     let within : c.loop.size + c.missing-missing.result ≤ length c.loop.bytes = omega (arith, most, long, c.missing-missing.ensures, is.room) in
     omega arith
 
 pub returns-in-Ok-eq0-2-clause-read : goal.returns-in-Ok-eq0-2-clause-read
 returns-in-Ok-eq0-2-clause-read g c =
     let remaining = g.R.CountedRead.remaining in
-    let front = take c.loop.size c.loop.bytes in
+    let prefix = take c.loop.size c.loop.bytes in
     let is = c.loop.invariant in
     let long = length-take-le c.loop.size c.loop.bytes (omega (arith, is.room, is.size)) in
     let room : length c.read_once.new.buffer ≡ c.missing-missing.result = search rules in
-    let alone = unfinished_alone front (omega (arith, c.missing-missing.ensures, c.if-missing-eq0.false)) in
+    let alone = unfinished_alone prefix (omega (arith, c.missing-missing.ensures, c.if-missing-eq0.false)) in
     let taken = subst (λ (n : ℕ). Consumes (remaining c.loop.reader) (remaining c.read_once.new.self) (take n c.read_once.new.buffer)) c.in-Ok-eq0.field-0-test c.in-Ok-eq0.ensures.bytes.0 in (
-      front,
-      consumes_nothing _ _ _ front is.read taken,
+      prefix,
+      consumes_nothing _ _ _ prefix is.read taken,
       (
         alone ∙ ap (λ (n : ℕ). Err (Short n)) long,
         is.unfinished,
@@ -44,14 +44,14 @@ returns-in-Ok-eq0-2-clause-read g c =
 
 pub returns-in-Err-clause-read : goal.returns-in-Err-clause-read
 returns-in-Err-clause-read g c =
-    let front = take c.loop.size c.loop.bytes in
-    let alone = unfinished_alone front (omega (arith, c.missing-missing.ensures, c.if-missing-eq0.false)) in
-    (front, Consumes-kept _ _ _ front c.loop.invariant.read c.in-Err.ensures.bytes, alone)
+    let prefix = take c.loop.size c.loop.bytes in
+    let alone = unfinished_alone prefix (omega (arith, c.missing-missing.ensures, c.if-missing-eq0.false)) in
+    (prefix, Consumes-kept _ _ _ prefix c.loop.invariant.read c.in-Err.ensures.bytes, alone)
 
 pub loop-preserved : goal.loop-preserved
 loop-preserved g c =
     let remaining = g.R.CountedRead.remaining in
-    let front = take c.loop.size c.loop.bytes in
+    let prefix = take c.loop.size c.loop.bytes in
     let is = c.loop.invariant in
     let count = c.in-Ok.count in
     let more = take count c.read_once.new.buffer in
@@ -59,7 +59,7 @@ loop-preserved g c =
     let room : length c.read_once.new.buffer ≡ c.missing-missing.result = search rules in
     let few : count ≤ length c.read_once.new.buffer = search rules in
     let some : count ≡ 0 → ⊥ = search rules in
-    let most = most_missing front (omega (arith, c.missing-missing.ensures, c.if-missing-eq0.false)) in
+    let most = most_missing prefix (omega (arith, c.missing-missing.ensures, c.if-missing-eq0.false)) in
     let now = filled c.loop.size (c.loop.size + c.missing-missing.result - c.loop.size) count c.loop.bytes c.read_once.new.buffer (omega (arith, is.room, is.size)) few in
     record {
       room =
@@ -68,6 +68,6 @@ loop-preserved g c =
       size = omega (arith, most, long, room, few, c.missing-missing.ensures);
       turns = omega (arith, is.turns, some);
       ticks = omega (arith, c.read_once.ensures.count, is.ticks);
-      read = subst (Consumes (remaining c.args.reader.now) (remaining c.read_once.new.self)) (sym now) (Consumes-trans _ _ _ front more is.read c.in-Ok.ensures.bytes.0);
-      unfinished = subst AreUnfinished (sym now) (read_on front more is.unfinished (omega (arith, length-take-le count c.read_once.new.buffer few, few, room, c.missing-missing.ensures)));
+      read = subst (Consumes (remaining c.args.reader.now) (remaining c.read_once.new.self)) (sym now) (Consumes-trans _ _ _ prefix more is.read c.in-Ok.ensures.bytes.0);
+      unfinished = subst AreUnfinished (sym now) (read_on prefix more is.unfinished (omega (arith, length-take-le count c.read_once.new.buffer few, few, room, c.missing-missing.ensures)));
     }

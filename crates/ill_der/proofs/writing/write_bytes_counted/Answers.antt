@@ -13,7 +13,7 @@ loop-preserved g c =
     let rest = whole_rest written bytes in
     let taken = subst (λ (x : List ℕ). Appends (g.W.CountedWrite.contents c.loop.writer) (g.W.CountedWrite.contents c.write_once.new.self) (take count x)) rest c.in-Ok.ensures.bytes in
     record {
-      front = omega (arith, c.in-Ok.ensures.bound, ap length rest, length-drop written bytes);
+      prefix = omega (arith, c.in-Ok.ensures.bound, ap length rest, length-drop written bytes);
       turns = omega arith;
       ticks = omega (arith, c.write_once.ensures.count, c.loop.invariant.ticks);
       appended = appends_from _ _ _ written count bytes c.loop.invariant.appended taken;

@@ -2,7 +2,7 @@
 use Rattle.std.proofs.Common.{rules, ap, ◌∙◌, arith, Vec, Global, ◌-◌, ◌+◌}
 use Rattle.ill_values.specs.declared.apdu.Apdu.{Apdu}
 use Rattle.ill_saved.specs.Layout.{apdu, read_all}
-use Rattle.ill_saved.proofs.Lists.{behind, one_more, none_more, all_there, fault_kept}
+use Rattle.ill_saved.proofs.Lists.{after, one_more, none_more, all_there, fault_kept}
 use Rattle.ill_saved.proofs.decoding.read_apdus.Goals as goal
 
 -- A fault of one APDU is the fault of the whole list.
@@ -19,7 +19,7 @@ loop-preserved c =
     record {
       turns = omega (arith, c.loop-test.true);
       room = omega (arith, c.loop.invariant.room, c.in_ok-apdu.ensures.near);
-      read = ap (λ vs. behind vs (read_all apdu (c.args.count - (c.loop.counter + 1)) c.apdu.new.self)) c.in_ok-push.ensures.items ∙ next c.in_ok-apdu.field-0 c.apdu.new.self c.in_ok-apdu.ensures.read;
+      read = ap (λ vs. after vs (read_all apdu (c.args.count - (c.loop.counter + 1)) c.apdu.new.self)) c.in_ok-push.ensures.items ∙ next c.in_ok-apdu.field-0 c.apdu.new.self c.in_ok-apdu.ensures.read;
     }
 
 -- After `count` APDUs, the list is the one that is read.

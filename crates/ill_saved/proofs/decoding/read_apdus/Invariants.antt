@@ -1,6 +1,6 @@
 use Rattle.std.proofs.Common.{◌≡◌, ◌+◌, ◌-◌, ◌*◌, ◌≤◌}
 use Rattle.ill_saved.specs.Layout.{apdu, read_all}
-use Rattle.ill_saved.proofs.Lists.{behind}
+use Rattle.ill_saved.proofs.Lists.{after}
 use Rattle.ill_saved.proofs.decoding.read_apdus.Given as goal
 
 -- The APDUs so far, and the reading of those that are left, make up the whole reading.
@@ -8,5 +8,5 @@ abbrev pub invariant-loop : goal.invariant-loop
 invariant-loop l = record {
   turns : l.counter ≤ l.count;
   room : l.cursor.at ≤ l.fn.cursor.at + 359 * l.counter;
-  read : behind l.apdus.items (read_all apdu (l.count - l.counter) l.cursor) ≡ read_all apdu l.count l.fn.cursor;
+  read : after l.apdus.items (read_all apdu (l.count - l.counter) l.cursor) ≡ read_all apdu l.count l.fn.cursor;
 }

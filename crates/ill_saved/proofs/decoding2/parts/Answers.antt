@@ -3,7 +3,7 @@ use Rattle.std.proofs.Common.{rules, ap, ◌∙◌, arith, Vec, Global, [], ◌�
 use Rattle.ill_saved.specs.declared.side.Side.{Side}
 use Rattle.ill_saved.specs.Layout.{read_all}
 use Rattle.ill_saved.specs.Records2.{part}
-use Rattle.ill_saved.proofs.Lists.{behind, one_more, none_more, all_there, fault_kept}
+use Rattle.ill_saved.proofs.Lists.{after, one_more, none_more, all_there, fault_kept}
 use Rattle.ill_saved.proofs.decoding2.parts.Goals as goal
 
 -- A fault of one part is the fault of the whole list.
@@ -21,7 +21,7 @@ loop-preserved c =
       turns = omega (arith, c.loop-test.true);
       so_many = omega (arith, ap length c.in_ok-push.ensures.items, length-append c.loop.sides.items (c.in_ok-part.field-0 ∷ []), c.loop.invariant.so_many);
       room = omega (arith, c.loop.invariant.room, c.in_ok-part.ensures.near);
-      read = ap (λ vs. behind vs (read_all part (c.args.count - (c.loop.counter + 1)) c.part.new.cursor)) c.in_ok-push.ensures.items ∙ next c.in_ok-part.field-0 c.part.new.cursor c.in_ok-part.ensures.read;
+      read = ap (λ vs. after vs (read_all part (c.args.count - (c.loop.counter + 1)) c.part.new.cursor)) c.in_ok-push.ensures.items ∙ next c.in_ok-part.field-0 c.part.new.cursor c.in_ok-part.ensures.read;
     }
 
 -- After `count` parts, the list is the one that is read.

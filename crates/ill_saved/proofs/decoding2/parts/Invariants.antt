@@ -1,7 +1,7 @@
 use Rattle.std.proofs.Common.{◌≡◌, ◌+◌, ◌-◌, ◌*◌, ◌≤◌, length}
 use Rattle.ill_saved.specs.Layout.{read_all}
 use Rattle.ill_saved.specs.Records2.{part}
-use Rattle.ill_saved.proofs.Lists.{behind}
+use Rattle.ill_saved.proofs.Lists.{after}
 use Rattle.ill_saved.proofs.decoding2.parts.Given as goal
 
 -- The sides so far, and the reading of those that are left, make up the whole reading.
@@ -10,5 +10,5 @@ invariant-loop l = record {
   turns : l.counter ≤ l.count;
   so_many : length l.sides.items ≡ l.counter;
   room : l.cursor.at ≤ l.fn.cursor.at + 65537 * l.counter;
-  read : behind l.sides.items (read_all part (l.count - l.counter) l.cursor) ≡ read_all part l.count l.fn.cursor;
+  read : after l.sides.items (read_all part (l.count - l.counter) l.cursor) ≡ read_all part l.count l.fn.cursor;
 }

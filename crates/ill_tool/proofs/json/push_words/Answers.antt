@@ -27,5 +27,5 @@ returns c =
     let shown = sym (all_joined text c.loop-word.before.now c.loop-word.text.items words c.loop-word.word-index all) ∙ c.loop-word.invariant.shown in
     let mapped = joined_map quoted (λ (word : Bor (List ℕ)). word.now) [] words in
     c.in_ok-push-2.ensures.items
-    ∙ ap (λ shown. shown ++ 93 ∷ []) (shown ∙ ap (λ front. front ++ joined text [] words) c.in_ok-push.ensures.items ∙ append_assoc c.args.text.now.items (91 ∷ []) (joined text [] words) ∙ ap (λ texts. c.args.text.now.items ++ 91 ∷ texts) mapped)
+    ∙ ap (λ shown. shown ++ 93 ∷ []) (shown ∙ ap (λ prefix. prefix ++ joined text [] words) c.in_ok-push.ensures.items ∙ append_assoc c.args.text.now.items (91 ∷ []) (joined text [] words) ∙ ap (λ texts. c.args.text.now.items ++ 91 ∷ texts) mapped)
     ∙ append_assoc c.args.text.now.items (91 ∷ joined quoted [] _) (93 ∷ [])

@@ -4,14 +4,14 @@ use Rattle.ill_saved.specs.Sides.{SidesOf}
 use Rattle.ill_saved.specs.ManySides.{sides_held}
 use Rattle.ill_tool.specs.declared.fault.ToolFault.{ToolFault}
 use Rattle.ill_tool.specs.Listing.{list_lines}
-use Rattle.ill_tool.specs.Output.{WritesFront, WritesText}
+use Rattle.ill_tool.specs.Output.{WritesPrefix, WritesText}
 use Rattle.ill_tool.proofs.list.run_desk_list.Goals as goal
 
 -- A text that was written whole, or in part by a writer that failed, was written as `WritesText` has it.
 text_written : (before after : Option (List ℕ)) (bytes : List ℕ) (result : Result (Unit {0}) ToolFault)
-    → WritesFront before after bytes result → WritesText before after bytes result
+    → WritesPrefix before after bytes result → WritesText before after bytes result
 text_written before after bytes (Ok done) written = written
-text_written before after bytes (Err fault) (is, front) = subst (λ (fault : ToolFault). WritesText before after bytes (Err fault)) (sym is) front
+text_written before after bytes (Err fault) (is, prefix) = subst (λ (fault : ToolFault). WritesText before after bytes (Err fault)) (sym is) prefix
 
 pub returns : goal.returns
 returns g c =

@@ -25,5 +25,5 @@ returns c =
     let all : length apdus ≤ c.loop-apdu.apdu-index = omega (arith, c.loop-apdu-test.false) in
     let shown = sym (all_joined text c.loop-apdu.before.now c.loop-apdu.text.items apdus c.loop-apdu.apdu-index all) ∙ c.loop-apdu.invariant.shown in
     c.in_ok-push-2.ensures.items
-    ∙ ap (λ shown. shown ++ 93 ∷ []) (shown ∙ ap (λ front. front ++ joined text [] apdus) c.in_ok-push.ensures.items ∙ append_assoc old (91 ∷ []) (joined text [] apdus))
+    ∙ ap (λ shown. shown ++ 93 ∷ []) (shown ∙ ap (λ prefix. prefix ++ joined text [] apdus) c.in_ok-push.ensures.items ∙ append_assoc old (91 ∷ []) (joined text [] apdus))
     ∙ append_assoc old (91 ∷ joined text [] apdus) (93 ∷ [])

@@ -1,11 +1,11 @@
 -- Answers the contract of `no_bad_trace_is_written` (`src/laws.rt`).
 use Rattle.ill_world.specs.World.{first_world}
 use Rattle.ill_world.specs.Simulation.{two_sides}
-use Rattle.ill_world.proofs.BadTraces.{none_leaves, some_front}
+use Rattle.ill_world.proofs.BadTraces.{none_leaves, some_prefix}
 use Rattle.ill_world.proofs.laws.no_bad_trace_is_written.Goals as goal
 
 pub returns-clause-write : goal.returns-clause-write
 returns-clause-write c = λ txn. none_leaves two_sides tt (first_world txn)
 
 pub returns-clause-memory : goal.returns-clause-memory
-returns-clause-memory c = λ txn. some_front two_sides tt (first_world txn)
+returns-clause-memory c = λ txn. some_prefix two_sides tt (first_world txn)

@@ -2,11 +2,11 @@
 use Rattle.ill_world.specs.World.{happens}
 use Rattle.ill_world.specs.Safety.{Safe}
 use Rattle.ill_world.specs.Agreement.{Agrees}
-use Rattle.ill_world.proofs.Runs.{run_front}
+use Rattle.ill_world.proofs.Runs.{run_prefix}
 use Rattle.ill_world.proofs.laws.runs_have_each_world.Goals as goal
 
 pub returns-clause-safe : goal.returns-clause-safe
-returns-clause-safe c = run_front happens Safe
+returns-clause-safe c = run_prefix happens Safe
 
 pub returns-clause-agrees : goal.returns-clause-agrees
-returns-clause-agrees c = run_front happens Agrees
+returns-clause-agrees c = run_prefix happens Agrees

@@ -1,7 +1,7 @@
 -- Answers the contract of `traces_show_runs` (`src/laws.rt`).
 use Rattle.ill_world.specs.World.{first_world}
 use Rattle.ill_world.specs.Simulation.{two_sides}
-use Rattle.ill_world.proofs.Simulations.{trace_of_none, sides_line, sides_front}
+use Rattle.ill_world.proofs.Simulations.{trace_of_none, sides_line, sides_prefix}
 use Rattle.ill_world.proofs.laws.traces_show_runs.Goals as goal
 
 pub returns-clause-first : goal.returns-clause-first
@@ -10,5 +10,5 @@ returns-clause-first c = λ txn. trace_of_none two_sides 1 (first_world txn)
 pub returns-clause-next : goal.returns-clause-next
 returns-clause-next c = sides_line
 
-pub returns-clause-front : goal.returns-clause-front
-returns-clause-front c = sides_front
+pub returns-clause-prefix : goal.returns-clause-prefix
+returns-clause-prefix c = sides_prefix

@@ -5,18 +5,18 @@ use Rattle.ill_der.specs.ShortForm.{apdu_at}
 use Rattle.ill_der.specs.Stream.{IfShort}
 use Rattle.ill_der.specs.Handling.{HandlesEach}
 use Rattle.ill_der.specs.FeedView.{held_of, HandlesFirst, GoesOn}
-use Rattle.ill_der.proofs.FeedLemmas.{closing_some, is_open, holds_front, holds_still, short_held, goes_on_from, goes_on_behind, goes_on_alone, all_left, fault_of_all, fails_first, still_held}
+use Rattle.ill_der.proofs.FeedLemmas.{closing_some, is_open, holds_prefix, holds_still, short_held, goes_on_from, goes_on_after, goes_on_alone, all_left, fault_of_all, fails_first, still_held}
 use Rattle.ill_der.proofs.feed.Feed.complete.Goals as goal
 
 pub returns-then-self-eq0 : goal.returns-then-self-eq0
 returns-then-self-eq0 g c =
     let held = take c.self.inside.size c.self.inside.buffer in
-    let opened = holds_front c.self.inside.closed held c.args.self.now c.self.view_is c.requires in
+    let opened = holds_prefix c.self.inside.closed held c.args.self.now c.self.view_is c.requires in
     let none : held ≡ [] = rw c.if-self-eq0.true refl in
     goes_on_alone g.H.Handler.handles held c.args.piece.now _ _ c.args.self.now c.go_on.result c.go_on.new.self opened none c.go_on.ensures
 
-pub overflow_sub-behind : goal.overflow_sub-behind
-overflow_sub-behind g c =
+pub overflow_sub-after : goal.overflow_sub-after
+overflow_sub-after g c =
     let handles = g.H.Handler.handles in
     let old = c.self.inside.buffer in
     let new = c.fill-filled.new.buffer in
@@ -55,7 +55,7 @@ returns-in-Ok-Ok g c =
     let filled = c.fill-filled.result in
     let size = c.self.inside.size in
     let closed = c.self.inside.closed in
-    let was = holds_front closed (take size old) c.args.self.now c.self.view_is c.requires in
+    let was = holds_prefix closed (take size old) c.args.self.now c.self.view_is c.requires in
     let first =
     subst (λ (r : Result ℕ DerFault). HandlesFirst handles (take filled new) (c.args.handler.now, c.args.context.now) (Ok r) (c.handle_first.new.handler, c.handle_first.new.context)) c.in-Ok-Ok.field-0-is
     c.in-Ok-Ok.ensures in
@@ -63,7 +63,7 @@ returns-in-Ok-Ok g c =
     let on =
     subst (λ (k : Option DerFault). GoesOn handles (held_of k (take size new)) (take (length c.args.piece.now - (c.in-Ok-Ok.end - size)) (drop (c.in-Ok-Ok.end - size) c.args.piece.now)) (c.handle_first.new.handler, c.handle_first.new.context) c.go_on-in-Ok-Ok.result c.go_on-in-Ok-Ok.new.self (c.go_on-in-Ok-Ok.new.handler, c.go_on-in-Ok-Ok.new.context))
     opened c.go_on-in-Ok-Ok.ensures in
-    goes_on_behind handles c.read_again.ensures old new c.args.piece.now size filled c.in-Ok-Ok.end _ _ _ c.args.self.now c.go_on-in-Ok-Ok.result c.go_on-in-Ok-Ok.new.self c.fill-filled.ensures c.self.invariant was first on
+    goes_on_after handles c.read_again.ensures old new c.args.piece.now size filled c.in-Ok-Ok.end _ _ _ c.args.self.now c.go_on-in-Ok-Ok.result c.go_on-in-Ok-Ok.new.self c.fill-filled.ensures c.self.invariant was first on
 
 pub returns-in-None : goal.returns-in-None
 returns-in-None g c =
@@ -72,7 +72,7 @@ returns-in-None g c =
     let filled = c.fill-filled.result in
     let size = c.self.inside.size in
     let closed = c.self.inside.closed in
-    let was = holds_front closed (take size old) c.args.self.now c.self.view_is c.requires in
+    let was = holds_prefix closed (take size old) c.args.self.now c.self.view_is c.requires in
     let opened = is_open closed (take size old) c.args.self.now c.self.view_is c.requires in
     let first =
     subst (λ (r : Result ℕ DerFault). HandlesFirst g.H.Handler.handles (take filled new) (c.args.handler.now, c.args.context.now) (Ok r) (c.handle_first.new.handler, c.handle_first.new.context))
@@ -88,7 +88,7 @@ returns-in-Some g c =
     let new = c.fill-filled.new.buffer in
     let filled = c.fill-filled.result in
     let size = c.self.inside.size in
-    let was = holds_front c.self.inside.closed (take size old) c.args.self.now c.self.view_is c.requires in
+    let was = holds_prefix c.self.inside.closed (take size old) c.args.self.now c.self.view_is c.requires in
     let first =
     subst (λ (r : Result ℕ DerFault). HandlesFirst g.H.Handler.handles (take filled new) (c.args.handler.now, c.args.context.now) (Ok r) (c.handle_first.new.handler, c.handle_first.new.context))
     c.in-Ok-Err.field-0-is c.in-Ok-Err.ensures in
@@ -105,7 +105,7 @@ returns-in-Err g c =
     let filled = c.fill-filled.result in
     let size = c.self.inside.size in
     let closed = c.self.inside.closed in
-    let was = holds_front closed (take size old) c.args.self.now c.self.view_is c.requires in
+    let was = holds_prefix closed (take size old) c.args.self.now c.self.view_is c.requires in
     let still = still_held old new c.args.piece.now size filled c.fill-filled.ensures in
     let same : held_of closed (take size new) ≡ c.args.self.now = ap (held_of closed) still ∙ c.self.view_is in (
       same,

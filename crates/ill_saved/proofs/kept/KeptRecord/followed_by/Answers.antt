@@ -29,9 +29,9 @@ loop-apdu-preserved c =
     let index = c.loop-apdu.apdu-index in
     let a = c.apdu-item.result in
     let left = drop (index + 1) apdus in
-    let front : drop index apdus ≡ a ∷ left = drop_more apdus index a c.loop-apdu-test.true ∙ ap (λ x. x ∷ left) (sym c.apdu-item.is) in
+    let prefix : drop index apdus ≡ a ∷ left = drop_more apdus index a c.loop-apdu-test.true ∙ ap (λ x. x ∷ left) (sym c.apdu-item.is) in
     let placed : ArePlaced whole c.loop-apdu.end c.loop-apdu.places.items (a ∷ left) all =
-    subst (λ rest. ArePlaced whole c.loop-apdu.end c.loop-apdu.places.items rest all) front c.loop-apdu.invariant.placed in
+    subst (λ rest. ArePlaced whole c.loop-apdu.end c.loop-apdu.places.items rest all) prefix c.loop-apdu.invariant.placed in
     let next = next_placed whole c.loop-apdu.end c.loop-apdu.places.items a left all placed in
     record { placed = search (rules, next) }
 
@@ -51,7 +51,7 @@ all_are_placed c =
 pub invariant_of-result : goal.invariant_of-result
 invariant_of-result c =
     let placed = all_are_placed c in
-    (placed.behind, placed.within)
+    (placed.after, placed.within)
 
 -- The new record has all messages, each at its place.
 pub returns : goal.returns

@@ -5,7 +5,7 @@ use Rattle.ill_saved.specs.declared.role.Role.TheVariants.{Requester, Responder}
 use Rattle.ill_world.specs.Desks.{DeskParties, desks_happen, desks_run, project}
 use Rattle.ill_world.specs.Round.{Performs, CanAnswer, AreInStep}
 use Rattle.ill_world.specs.DeskRound.{desk_half_of, desk_round_of}
-use Rattle.ill_world.proofs.Rounds.{performs_front, performs_both, performed, front_further}
+use Rattle.ill_world.proofs.Rounds.{performs_prefix, performs_both, performed, prefix_further}
 use Rattle.ill_world.proofs.desk_world.DeskWorld.exchange.Goals as goal
 
 pub returns-in_err-pass_on-clause-performs : goal.returns-in_err-pass_on-clause-performs
@@ -14,7 +14,7 @@ returns-in_err-pass_on-clause-performs c =
     let first = desk_half_of Requester w in
     let second = desk_half_of Responder (desks_run w first) in
     let done = c.in_err-pass_on.ensures in
-    performs_front desks_happen (first ++ second) done.0 w c.pass_on.new.self c.from_residual.result c.from_residual.ensures.0 (front_further done.0 first second done.1) done.2
+    performs_prefix desks_happen (first ++ second) done.0 w c.pass_on.new.self c.from_residual.result c.from_residual.ensures.0 (prefix_further done.0 first second done.1) done.2
 
 pub returns-clause-performs : goal.returns-clause-performs
 returns-clause-performs c =

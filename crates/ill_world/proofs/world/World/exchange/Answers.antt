@@ -3,7 +3,7 @@ use Rattle.std.proofs.Common.{◌++◌, subst}
 use Rattle.ill_saved.specs.declared.role.Role.TheVariants.{Requester, Responder}
 use Rattle.ill_world.specs.World.{Parties, happens, run_of}
 use Rattle.ill_world.specs.Round.{half_of, round_of, Performs, CanAnswer, AreInStep}
-use Rattle.ill_world.proofs.Rounds.{performs_front, performs_both, performed, front_further}
+use Rattle.ill_world.proofs.Rounds.{performs_prefix, performs_both, performed, prefix_further}
 use Rattle.ill_world.proofs.world.World.exchange.Goals as goal
 
 pub returns-in_err-pass_on-clause-performs : goal.returns-in_err-pass_on-clause-performs
@@ -12,7 +12,7 @@ returns-in_err-pass_on-clause-performs c =
     let first = half_of Requester w in
     let second = half_of Responder (run_of w first) in
     let done = c.in_err-pass_on.ensures in
-    performs_front happens (first ++ second) done.0 w c.pass_on.new.self c.from_residual.result c.from_residual.ensures.0 (front_further done.0 first second done.1) done.2
+    performs_prefix happens (first ++ second) done.0 w c.pass_on.new.self c.from_residual.result c.from_residual.ensures.0 (prefix_further done.0 first second done.1) done.2
 
 pub returns-clause-performs : goal.returns-clause-performs
 returns-clause-performs c =

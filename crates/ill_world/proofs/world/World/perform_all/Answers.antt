@@ -2,7 +2,7 @@
 use Rattle.std.proofs.Common.{arith, sym, ap, ◌∙◌, drop, take, refl}
 use Rattle.std.proofs.Math.ListN.{take-append-drop}
 use Rattle.ill_world.specs.World.{happens, run_by}
-use Rattle.ill_world.proofs.Rounds.{performs_front}
+use Rattle.ill_world.proofs.Rounds.{performs_prefix}
 use Rattle.ill_world.proofs.Runs.{run_taken}
 use Rattle.ill_world.proofs.world.World.perform_all.Goals as goal
 
@@ -19,5 +19,5 @@ pub returns-in_err-step : goal.returns-in_err-step
 returns-in_err-step c =
     let events = c.args.events.now in
     let first = take c.loop-event.event-index events in
-    performs_front happens events first c.args.self.now c.step.new.self c.from_residual.result c.from_residual.ensures.0 (drop c.loop-event.event-index events, sym (take-append-drop c.loop-event.event-index events))
+    performs_prefix happens events first c.args.self.now c.step.new.self c.from_residual.result c.from_residual.ensures.0 (drop c.loop-event.event-index events, sym (take-append-drop c.loop-event.event-index events))
     (c.in_err-step.ensures.gives ∙ c.loop-event.invariant)
